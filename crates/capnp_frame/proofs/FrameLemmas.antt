@@ -1,0 +1,77 @@
+-- The plain requests of a message are its frame.
+use Rattle.std.proofs.Common.{◌≡◌, ℕ, ◌+◌, ◌-◌, ◌*◌, ◌/◌, List, [], ◌∷◌, ◌++◌, length, take, drop, replicate, refl, sym, ap, ◌∙◌, subst, arith, ◌↔◌, append_assoc, length-append}
+use Rattle.std.proofs.lemmas.List.{take-append-drop, length-take-le, length-drop, length-replicate}
+use Rattle.std.specs.List.{concat, flat_map, AllByRecursion}
+use Rattle.capnp_frame.specs.Message.{IsWholeWords, word_count, lengths, size_in_words}
+use Rattle.capnp_frame.specs.SegmentTable.{field, padding_len, zero_padded_table, HasTable, IsTable}
+use Rattle.capnp_frame.specs.Frame.{IsFrame, frame_text}
+use Rattle.capnp_frame.specs.Source.{Splits}
+use Rattle.capnp_frame.specs.Requests.{Stands}
+use Rattle.capnp_frame.specs.Splitting.{same_front, splitting}
+use Rattle.capnp_frame.proofs.TableLemmas.{length-fields}
+use Rattle.capnp_frame.proofs.RequestLemmas.{Stands-once}
+use Rattle.std.proofs.lemmas.List.Sums.{sum_by-cons}
+
+length-table : (text ns : List ℕ) → IsTable text ns → length text ≡ 8 + 8 * (length ns / 2)
+length-table text ns table =
+    let some = table.can.some in
+    let padded = table.padded in
+    omega (arith, ap length table.spelled, length-append (field (length ns - 1) ++ flat_map field ns) table.padding, length-append (field (length ns - 1)) (flat_map field ns), length-fields ns)
+
+length-segments : (segments : List (List ℕ)) → AllByRecursion IsWholeWords segments → length (concat segments) ≡ 8 * size_in_words segments
+length-segments [] whole = refl
+length-segments (s ∷ ss) whole =
+    let here = whole.0 in
+    let total : size_in_words (s ∷ ss) ≡ word_count s + size_in_words ss = sum_by-cons (λ x. x) (word_count s) (lengths ss) in
+    omega (arith, length-append s (concat ss), length-segments ss whole.1)
+
+pub Stands-from_frame : (text rest : List ℕ) (segments : List (List ℕ)) → IsFrame text segments → Stands Splits segments (text ++ rest) rest
+Stands-from_frame text rest segments frame =
+    let head = frame.table in
+    let long = length-table head (lengths segments) frame.lengths_told in
+    let whole : take 8 head ++ drop 8 head ≡ head = take-append-drop 8 head in
+    record {
+      between = concat segments ++ rest;
+      table = record {
+        first = take 8 head;
+        others = drop 8 head;
+        between = drop 8 head ++ (concat segments ++ rest);
+        first_given = (ap (λ l. l ++ rest) frame.spelled ∙ append_assoc head (concat segments) rest ∙ ap (λ l. l ++ (concat segments ++ rest)) (sym whole) ∙ append_assoc (take 8 head) (drop 8 head) (concat segments ++ rest), length-take-le 8 head (omega arith));
+        others_given = (refl, omega (arith, length-drop 8 head));
+        table = subst (λ l. IsTable l (lengths segments)) (sym whole) frame.lengths_told;
+      };
+      given = (refl, length-segments segments frame.whole);
+      whole = frame.whole;
+    }
+
+pub frame_from_requests : (raw rest : List ℕ) (segments : List (List ℕ)) → Stands Splits segments raw rest → (text : List ℕ) × IsFrame text segments × (raw ≡ text ++ rest)
+frame_from_requests raw rest segments sent =
+    let head = sent.table.first ++ sent.table.others in (
+      head ++ concat segments,
+      record { table = head; lengths_told = sent.table.table; whole = sent.whole; spelled = refl },
+      sent.table.first_given.0 ∙ ap (λ l. sent.table.first ++ l) (sent.table.others_given.0 ∙ ap (λ l. sent.table.others ++ l) sent.given.0)
+          ∙ sym (append_assoc sent.table.first sent.table.others (concat segments ++ rest)) ∙ sym (append_assoc head (concat segments) rest),
+    )
+
+-- the frame that is written is one
+pub frame_text_is : (segments : List (List ℕ)) → HasTable (lengths segments) → AllByRecursion IsWholeWords segments → IsFrame (frame_text segments) segments
+frame_text_is segments can whole = record {
+  table = zero_padded_table (lengths segments);
+  lengths_told = record { can = can; padding = replicate (padding_len (lengths segments)) 0; padded = length-replicate (padding_len (lengths segments)) 0; spelled = refl };
+  whole = whole;
+  spelled = refl;
+}
+
+-- no frame begins a different one
+pub frames_part : (text other rest left : List ℕ) (segments others : List (List ℕ)) → IsFrame text segments → IsFrame other others → text ++ rest ≡ other ++ left → (text ≡ other) × (segments ≡ others) × (rest ≡ left)
+frames_part text other rest left segments others frame also e =
+    let stands : Stands Splits others (text ++ rest) left = subst (λ l. Stands Splits others l left) (sym e) (Stands-from_frame other left others also) in
+    let same = Stands-once Splits (text ++ rest) rest left segments others splitting.unique splitting.gives_all (Stands-from_frame text rest segments frame) stands in
+    let long : length text ≡ length other = omega (arith, ap length e, ap length same.1, length-append text rest, length-append other left) in
+    ((same_front text other rest left long e).0, same.0, same.1)
+
+pub plain_requests : (segments : List (List ℕ)) (raw rest : List ℕ) → Stands Splits segments raw rest ↔ ((text : List ℕ) × IsFrame text segments × (raw ≡ text ++ rest))
+plain_requests segments raw rest = (
+  frame_from_requests raw rest segments,
+  λ (text, frame, e). subst (λ l. Stands Splits segments l rest) (sym e) (Stands-from_frame text rest segments frame),
+)

@@ -1,0 +1,5 @@
+use Rattle.capnp_frame.proofs.FrameLemmas.{plain_requests}
+use Rattle.capnp_frame.proofs.laws.plain_requests_take_a_frame.Goals as goal
+
+pub returns : goal.returns
+returns c = plain_requests

@@ -1,0 +1,16 @@
+-- Framed messages. Encoding document, "Serialization Over a Stream".
+use Rattle.std.specs.Prelude.{◌≡◌, List, ◌++◌, ℕ}
+use Rattle.std.specs.List.{concat, AllByRecursion}
+use Rattle.capnp_frame.specs.Message.{IsWholeWords, lengths}
+use Rattle.capnp_frame.specs.SegmentTable.{IsTable, zero_padded_table}
+
+-- The text is a segment table, then the bytes of the segments in order.
+pub record IsFrame (text : List ℕ) (segments : List (List ℕ)) : Type 0 where
+  pub table : List ℕ
+  pub lengths_told : IsTable table (lengths segments)
+  pub whole : AllByRecursion IsWholeWords segments
+  pub spelled : text ≡ table ++ concat segments
+
+-- the frame whose padding is zero, which is the one that is written
+abbrev pub frame_text : List (List ℕ) → List ℕ
+frame_text segments = zero_padded_table (lengths segments) ++ concat segments

@@ -1,0 +1,13 @@
+pub mod Message
+pub mod SegmentTable
+pub mod SegmentLengths
+pub mod Frame
+pub mod Limits
+pub mod Errors
+pub mod Numbers
+pub mod Source
+pub mod Sink
+pub mod Requests
+pub mod Refusals
+pub mod Lending
+pub mod Splitting

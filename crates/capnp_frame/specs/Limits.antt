@@ -1,0 +1,20 @@
+-- What a reader accepts (ReaderOptions and SEGMENTS_COUNT_LIMIT).
+use Rattle.std.specs.Prelude.{ℕ, ◌<◌, ◌≤◌, List, length, sum, Option, IfSome}
+use Rattle.std.specs.List.{AllByRecursion}
+use Rattle.capnp_frame.specs.Message.{lengths}
+use Rattle.capnp_frame.specs.SegmentTable.{FitsField}
+
+-- no more words than the limit, where there is one
+abbrev pub KeepsLimit : List ℕ → Option ℕ → Type 0
+KeepsLimit lengths limit = IfSome limit (λ most. sum lengths ≤ most)
+
+-- lengths that a reader accepts: 1 to 511, each below 2 ^ 32, of no more words than the limit
+pub record AreWithin (lengths : List ℕ) (limit : Option ℕ) : Type 0 where
+  pub some : 0 < length lengths
+  pub few : length lengths < 512
+  pub each : AllByRecursion FitsField lengths
+  pub size : KeepsLimit lengths limit
+
+-- a message that a reader accepts
+abbrev pub IsWithin : List (List ℕ) → Option ℕ → Type 0
+IsWithin segments limit = AreWithin (lengths segments) limit

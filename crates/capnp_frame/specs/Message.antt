@@ -1,0 +1,18 @@
+-- Messages as lists of segments (src/message.rt).
+-- In the encoding document's terms: a message is segments, a segment is words, and a word is 8 bytes.
+use Rattle.std.specs.Prelude.{◌≡◌, ℕ, ◌/◌, ◌%◌, List, length, map, sum}
+
+-- A message is a list of segments, and a segment a list of bytes in whole words.
+abbrev pub IsWholeWords : List ℕ → Type 0
+IsWholeWords bytes = length bytes % 8 ≡ 0
+
+abbrev pub word_count : List ℕ → ℕ
+word_count bytes = length bytes / 8
+
+-- the length of each segment, in words
+abbrev pub lengths : List (List ℕ) → List ℕ
+lengths segments = map word_count segments
+
+-- how many words a message has
+abbrev pub size_in_words : List (List ℕ) → ℕ
+size_in_words segments = sum (lengths segments)

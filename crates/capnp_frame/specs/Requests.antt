@@ -1,0 +1,22 @@
+-- A message as three requests of a source: the first word of its table, the table's other words, all segments together.
+use Rattle.std.specs.Prelude.{ℕ, ◌*◌, ◌/◌, List, ◌++◌, length}
+use Rattle.std.specs.List.{concat, AllByRecursion}
+use Rattle.capnp_frame.specs.Message.{IsWholeWords, lengths, size_in_words}
+use Rattle.capnp_frame.specs.SegmentTable.{IsTable}
+use Rattle.capnp_frame.specs.Source.{Giving}
+
+-- a table of these lengths stands at the front, by two requests
+pub record TableStands (gives : Giving) (lengths raw rest : List ℕ) : Type 0 where
+  pub first : List ℕ
+  pub others : List ℕ
+  pub between : List ℕ
+  pub first_given : gives raw 8 first between
+  pub others_given : gives between (8 * (length lengths / 2)) others rest
+  pub table : IsTable (first ++ others) lengths
+
+-- the segments stand at the front: their table, and by a third request all of them
+pub record Stands (gives : Giving) (segments : List (List ℕ)) (raw rest : List ℕ) : Type 0 where
+  pub between : List ℕ
+  pub table : TableStands gives (lengths segments) raw between
+  pub given : gives between (8 * size_in_words segments) (concat segments) rest
+  pub whole : AllByRecursion IsWholeWords segments

@@ -1,0 +1,41 @@
+-- The segment table at the front of a framed message.
+-- Encoding document, "Serialization Over a Stream".
+use Rattle.std.specs.Prelude.{◌≡◌, ℕ, ◌+◌, ◌-◌, ◌*◌, ◌/◌, ◌%◌, ◌^◌, ◌<◌, ◌≤◌, List, ◌++◌, length, replicate}
+use Rattle.std.specs.List.{flat_map, AllByRecursion}
+use Rattle.std.specs.Int.{w32, to_le_bytes}
+
+-- a number in four bytes, least significant first
+abbrev pub field : ℕ → List ℕ
+field n = to_le_bytes w32 n
+
+abbrev pub FitsField : ℕ → Type 0
+FitsField n = n < 2 ^ 32
+
+-- four bytes exactly where the number of segments is even
+abbrev pub padding_len : List ℕ → ℕ
+padding_len lengths = 4 * ((length lengths + 1) % 2)
+
+-- the number of segments less one, the length of each, and padding
+abbrev pub table_text : List ℕ → List ℕ → List ℕ
+table_text lengths padding = field (length lengths - 1) ++ flat_map field lengths ++ padding
+
+-- the table whose padding is zero
+abbrev pub zero_padded_table : List ℕ → List ℕ
+zero_padded_table lengths = table_text lengths (replicate (padding_len lengths) 0)
+
+-- the bytes of a table of so many segments
+abbrev pub table_size : ℕ → ℕ
+table_size count = 8 * (count / 2 + 1)
+
+-- what has a table: one segment at least, and each number fits its field
+pub record HasTable (lengths : List ℕ) : Type 0 where
+  pub some : 0 < length lengths
+  pub count : length lengths ≤ 2 ^ 32
+  pub each : AllByRecursion FitsField lengths
+
+-- The text is a segment table of these lengths, in words. Its padding may hold anything.
+pub record IsTable (text lengths : List ℕ) : Type 0 where
+  pub can : HasTable lengths
+  pub padding : List ℕ
+  pub padded : length padding ≡ padding_len lengths
+  pub spelled : text ≡ table_text lengths padding

@@ -1,0 +1,36 @@
+-- What pieces add to a sink (the trait Write).
+use Rattle.std.specs.Prelude.{◌≡◌, ℕ, ◌≤◌, List, [], ◌∷◌, ◌++◌, Option}
+use Rattle.capnp_frame.specs.declared.error.ErrorKind.{ErrorKind}
+use Rattle.capnp_frame.specs.declared.error.ErrorKind.TheVariants.{OutOfMemory}
+use Rattle.capnp_frame.specs.Source.{Known, IsFront}
+
+-- A piece adds a text: appends piece text.
+abbrev pub Appending : Type 1
+Appending = List ℕ → List ℕ → Type 0
+
+-- A piece may be refused by a kind beside the device's: refuses piece kind.
+abbrev pub Declining : Type 1
+Declining = List ℕ → ErrorKind → Type 0
+
+-- a plain sink adds the piece itself
+abbrev pub AppendsSame : Appending
+AppendsSame piece text = text ≡ piece
+
+-- a sink that grows lacks memory
+abbrev pub LacksMemory : Declining
+LacksMemory piece kind = kind ≡ OutOfMemory
+
+-- after is before with a text that P holds of
+abbrev pub Adds : (List ℕ → Type 0) → List ℕ → List ℕ → Type 0
+Adds P before after = (text : List ℕ) × P text × (after ≡ before ++ text)
+
+-- the texts of the pieces, joined
+abbrev pub AppendsAll : Appending → List (List ℕ) → List ℕ → Type 0
+AppendsAll appends [] text = text ≡ []
+AppendsAll appends (piece ∷ pieces) text = (first others : List ℕ) × appends piece first × AppendsAll appends pieces others × (text ≡ first ++ others)
+
+-- What each call keeps of a sink: what was written stays at the front, no failure is taken back, and it is the same sink.
+pub record Grows {S : Type 0} (written : S → Option (List ℕ)) (failures : S → ℕ) (same : S → S → Type 0) (old new : S) : Type 0 where
+  pub front : Known (written old) (written new) IsFront
+  pub counted : failures old ≤ failures new
+  pub same_sink : same old new

@@ -1,0 +1,82 @@
+-- What requests of a source take from its unread bytes (the traits Read and BufRead).
+use Rattle.std.specs.Prelude.{◌≡◌, ℕ, ◌+◌, ◌-◌, ◌^◌, ◌<◌, ◌≤◌, ◌↔◌, min, List, [], ◌++◌, length, Option, Some, None, IfSome, IsSomeAnd, Result, IfOk, OnErr}
+use denote.Ref.{Bor}
+use Rattle.capnp_frame.specs.declared.error.Error.{Error}
+use Rattle.capnp_frame.specs.declared.error.ErrorKind.{ErrorKind}
+use Rattle.capnp_frame.specs.declared.error.ErrorKind.TheVariants.{FailedToFillTheWholeBuffer}
+
+-- A request of n bytes takes `bytes` from `raw` and leaves `rest`: gives raw n bytes rest.
+abbrev pub Giving : Type 1
+Giving = List ℕ → ℕ → List ℕ → List ℕ → Type 0
+
+-- A request of n bytes is refused by a kind where `raw` is unread: refuses raw n kind.
+abbrev pub Refusing : Type 1
+Refusing = List ℕ → ℕ → ErrorKind → Type 0
+
+-- a plain request takes the first n bytes
+abbrev pub Splits : Giving
+Splits raw n bytes rest = (raw ≡ bytes ++ rest) × (length bytes ≡ n)
+
+-- and is refused where fewer are unread
+abbrev pub RunsShort : Refusing
+RunsShort raw n kind = (length raw < n) × (kind ≡ FailedToFillTheWholeBuffer)
+
+abbrev pub IsPlain : Giving → Type 0
+IsPlain gives = (raw : List ℕ) (n : ℕ) (bytes rest : List ℕ) → Splits raw n bytes rest → gives raw n bytes rest
+
+-- What every source's requests keep.
+pub record IsSource (gives : Giving) (refuses : Refusing) : Type 0 where
+  -- a request of no bytes takes nothing
+  pub takes_nothing : (raw : List ℕ) → gives raw 0 [] raw
+  -- and where nothing is unread no other is given
+  pub none_from_nothing : (n : ℕ) (bytes rest : List ℕ) → gives [] n bytes rest → n ≡ 0
+  pub gives_all : (raw : List ℕ) (n : ℕ) (bytes rest : List ℕ) → gives raw n bytes rest → length bytes ≡ n
+  -- there is one answer at most
+  pub unique : (raw : List ℕ) (n : ℕ) (bytes rest others left : List ℕ) → gives raw n bytes rest → gives raw n others left → (bytes ≡ others) × (rest ≡ left)
+  -- what is given isn't refused, and nothing is refused by two kinds
+  pub apart : (raw : List ℕ) (n : ℕ) (bytes rest : List ℕ) (kind : ErrorKind) → gives raw n bytes rest → refuses raw n kind → ⊥
+  pub one_kind : (raw : List ℕ) (n : ℕ) (kind other : ErrorKind) → refuses raw n kind → refuses raw n other → kind ≡ other
+
+-- Two states of one source, or of one sink: each call goes from the first to the second.
+pub record IsPreorder {S : Type 0} (same : S → S → Type 0) : Type 0 where
+  pub reflexive : (s : S) → same s s
+  pub transitive : (s t u : S) → same s t → same t u → same s u
+
+-- a failure is counted, up to the last count
+abbrev pub Fails : ℕ → ℕ → Type 0
+Fails old new = min (old + 1) (2 ^ 64 - 1) ≤ new
+
+-- what is known before is known after, and P holds of both
+abbrev pub Known : Option (List ℕ) → Option (List ℕ) → (List ℕ → List ℕ → Type 0) → Type 0
+Known old new P = IfSome old (λ before. IsSomeAnd new (P before))
+
+abbrev pub IsTail : List ℕ → List ℕ → Type 0
+IsTail all tail = (front : List ℕ) × (all ≡ front ++ tail)
+
+abbrev pub IsFront : List ℕ → List ℕ → Type 0
+IsFront front all = (tail : List ℕ) × (all ≡ front ++ tail)
+
+-- What each call keeps of a source: what stays unread is a tail of what was, no failure is taken back, and it is the same source.
+pub record Advances {S : Type 0} (unread : S → Option (List ℕ)) (failures : S → ℕ) (same : S → S → Type 0) (old new : S) : Type 0 where
+  pub tail : Known (unread old) (unread new) IsTail
+  pub counted : failures old ≤ failures new
+  pub same_source : same old new
+
+-- What `fill_buf` leaves once its answer is dropped.
+pub record Fills {S : Type 0} (unread : S → Option (List ℕ)) (failures : S → ℕ) (same : S → S → Type 0) (shown : S → List ℕ) (result : Result (Bor (List ℕ)) Error) (old new : S) : Type 0 where
+  pub kept : unread new ≡ unread old
+  pub shows : IfOk result (λ bytes. shown new ≡ bytes.now)
+  pub failed : OnErr result (Fails (failures old) (failures new))
+  pub counted : failures old ≤ failures new
+  pub same_source : same old new
+
+-- A request of n bytes is refused by this kind; where the unread bytes aren't known, some request of some bytes is.
+abbrev pub IsRefused : Refusing → ℕ → Option (List ℕ) → ErrorKind → Type 0
+IsRefused refuses n None kind = (raw : List ℕ) × (m : ℕ) × refuses raw m kind
+IsRefused refuses n (Some raw) kind = refuses raw n kind
+
+-- Of a request of n bytes `got` is answered and `left` stays unread. The other bytes are given afterwards, and only there, and they are refused by the kind that the request is refused by.
+pub record Takes (gives : Giving) (refuses : Refusing) (n : ℕ) (got raw left : List ℕ) : Type 0 where
+  pub joins : (more rest : List ℕ) → gives left (n - length got) more rest → gives raw n (got ++ more) rest
+  pub splits : (bytes rest : List ℕ) → gives raw n bytes rest → (more : List ℕ) × (bytes ≡ got ++ more) × gives left (n - length got) more rest
+  pub refusals : (kind : ErrorKind) → refuses left (n - length got) kind ↔ refuses raw n kind

@@ -1,0 +1,159 @@
+//! Why a call is refused.
+ghost use Rattle.std.specs.Prelude.{◌≡◌};
+ghost use Rattle.capnp_frame.specs.declared.error.ErrorKind.TheVariants.{OutOfMemory};
+ghost use Rattle.capnp_frame.specs.Numbers.{number_of};
+
+use std::alloc::{AllocError, AllocFailed};
+
+/// What a call answers that may be refused.
+pub type Result<T> = std::result::Result<T, Error>;
+
+/// What a refusal is, and where it has numbers, these.
+///
+/// Its text is its name, with its numbers behind it in parentheses.
+#[derive(Clone, Copy, Debug, PartialEq, Eq, thiserror::Error)]
+pub enum ErrorKind {
+    /// The source ended within a piece.
+    #[error("FailedToFillTheWholeBuffer")]
+    FailedToFillTheWholeBuffer,
+    /// A lent buffer has too few bytes for what was to be put there.
+    #[error("BufferNotLargeEnough")]
+    BufferNotLargeEnough,
+    /// A buffer that was to hold a message has no bytes.
+    #[error("EmptyBuffer")]
+    EmptyBuffer,
+    /// A slice that was to begin with a message has no bytes.
+    #[error("EmptySlice")]
+    EmptySlice,
+    /// A segment table has this number of segments, which is not from 1 to 511.
+    #[error("InvalidNumberOfSegments({0})")]
+    InvalidNumberOfSegments(usize),
+    /// The segments have this many words, and the input only so many behind the table. Where the
+    /// table itself is cut, a field of four bytes is wanted and so many of its bytes are there.
+    #[error("MessageEndsPrematurely({0}, {1})")]
+    MessageEndsPrematurely(usize, usize),
+    /// A number of words or bytes does not fit `usize`.
+    #[error("MessageSizeOverflow")]
+    MessageSizeOverflow,
+    /// The segments have this many words, more than the reader's limit.
+    #[error("MessageTooLarge({0})")]
+    MessageTooLarge(usize),
+    /// The source ended where a message was to begin.
+    #[error("PrematureEndOfFile")]
+    PrematureEndOfFile,
+    /// Packed input ended within a group, or before one that its piece still wants.
+    #[error("PrematureEndOfPackedInput")]
+    PrematureEndOfPackedInput,
+    /// A run of packed words goes past the end of its piece.
+    #[error("PackedInputDidNotEndCleanlyOnASegmentBoundary")]
+    PackedInputDidNotEndCleanlyOnASegmentBoundary,
+    /// A growth was refused.
+    #[error("OutOfMemory")]
+    OutOfMemory,
+    /// The device behind a source or a sink failed.
+    #[error("DeviceFailed")]
+    DeviceFailed,
+    /// A piece to be packed or unpacked is not of whole words.
+    #[error("NotWholeWords")]
+    NotWholeWords,
+    /// An object or a segment of this many words can't be had.
+    #[error("AllocationTooLarge({0})")]
+    AllocationTooLarge(u32),
+    /// The allocator's one segment is handed out already.
+    #[error("SegmentTaken")]
+    SegmentTaken,
+    /// A pointer, or what it points to, lies outside of its segment.
+    #[error("PointerOutOfBounds")]
+    PointerOutOfBounds,
+    /// A message has no segment of this number.
+    #[error("InvalidSegmentId({0})")]
+    InvalidSegmentId(u32),
+    /// Objects are nested deeper than the reader's limit.
+    #[error("NestingLimitExceeded")]
+    NestingLimitExceeded,
+    /// More words are visited than the reader's limit allows.
+    #[error("ReadLimitExceeded")]
+    ReadLimitExceeded,
+    /// A message has a pointer to a capability.
+    #[error("CapabilityRefused")]
+    CapabilityRefused,
+    /// A pointer leads to another kind of object than was asked for.
+    #[error("WrongPointerKind")]
+    WrongPointerKind,
+    /// A text has no zero byte at its end.
+    #[error("TextNotTerminated")]
+    TextNotTerminated,
+    /// A canonical form has more words than a segment may.
+    #[error("CanonicalTooLarge")]
+    CanonicalTooLarge,
+    /// What was to be canonical does not stand in one segment.
+    #[error("NotOneSegment")]
+    NotOneSegment,
+}
+
+impl ErrorKind {
+    /// The number of this kind, from 1 to 25, under which it is listed in docs/REFUSALS.md.
+    pub fn number(&self) -> u8
+        ensures { result ≡ number_of self.now }
+    {
+        match self {
+            ErrorKind::FailedToFillTheWholeBuffer => 1,
+            ErrorKind::BufferNotLargeEnough => 2,
+            ErrorKind::EmptyBuffer => 3,
+            ErrorKind::EmptySlice => 4,
+            ErrorKind::InvalidNumberOfSegments(_) => 5,
+            ErrorKind::MessageEndsPrematurely(_, _) => 6,
+            ErrorKind::MessageSizeOverflow => 7,
+            ErrorKind::MessageTooLarge(_) => 8,
+            ErrorKind::PrematureEndOfFile => 9,
+            ErrorKind::PrematureEndOfPackedInput => 10,
+            ErrorKind::PackedInputDidNotEndCleanlyOnASegmentBoundary => 11,
+            ErrorKind::OutOfMemory => 12,
+            ErrorKind::DeviceFailed => 13,
+            ErrorKind::NotWholeWords => 14,
+            ErrorKind::AllocationTooLarge(_) => 15,
+            ErrorKind::SegmentTaken => 16,
+            ErrorKind::PointerOutOfBounds => 17,
+            ErrorKind::InvalidSegmentId(_) => 18,
+            ErrorKind::NestingLimitExceeded => 19,
+            ErrorKind::ReadLimitExceeded => 20,
+            ErrorKind::CapabilityRefused => 21,
+            ErrorKind::WrongPointerKind => 22,
+            ErrorKind::TextNotTerminated => 23,
+            ErrorKind::CanonicalTooLarge => 24,
+            ErrorKind::NotOneSegment => 25,
+        }
+    }
+}
+
+/// A refusal.
+#[derive(Clone, Debug, Drop, thiserror::Error)]
+#[error("{kind}")]
+pub struct Error {
+    pub kind: ErrorKind,
+}
+
+impl Error {
+    /// The refusal of this kind.
+    pub fn from_kind(kind: ErrorKind) -> Error
+        ensures { result.kind ≡ kind }
+    {
+        Error { kind }
+    }
+}
+
+impl From<AllocError> for Error {
+    ghost from_gives = { λ _ error. error.kind ≡ OutOfMemory };
+
+    fn from(_: AllocError) -> Error {
+        Error::from_kind(ErrorKind::OutOfMemory)
+    }
+}
+
+impl<T: Drop> From<AllocFailed<T>> for Error {
+    ghost from_gives = { λ _ error. error.kind ≡ OutOfMemory };
+
+    fn from(_: AllocFailed<T>) -> Error {
+        Error::from_kind(ErrorKind::OutOfMemory)
+    }
+}

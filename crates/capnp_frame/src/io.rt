@@ -1,0 +1,147 @@
+//! Sources and sinks of bytes, as far as messages need them.
+//!
+//! Contracts see of a source the bytes that are unread, how often its device failed, and what a
+//! request takes; of a sink what was written, and what a piece adds. How many bytes one `read`
+//! answers is free: what is proved over a `Read` holds however its bytes are cut.
+ghost use Rattle.std.specs.Prelude.{◌≡◌, ℕ, ◌<◌, ◌≤◌, List, [], ◌⊎◌, length, take, drop, Option, Some, IfSome, IfOk, OnOk, IfErr, ◌↔◌};
+ghost use Rattle.std.specs.Borrow.{sem};
+ghost use Rattle.std.specs.Io.BufRead.{Rests};
+ghost use Rattle.capnp_frame.specs.declared.error.ErrorKind.{ErrorKind};
+ghost use Rattle.capnp_frame.specs.Message.{IsWholeWords};
+ghost use Rattle.capnp_frame.specs.Source.{Giving, Refusing, IsSource, IsPreorder, IsPlain, Splits, RunsShort, Fails, Known, Advances, Fills, IsFront, IsRefused, Takes};
+ghost use Rattle.capnp_frame.specs.Sink.{Appending, Declining, Adds, Grows};
+
+mod references;
+mod slices;
+
+use crate::error::{Error, ErrorKind, Result};
+
+/// A source of bytes.
+///
+/// For implementers: `gives` says which bytes a request of n bytes takes, and `refuses` by which kind
+/// it is refused where no bytes are given. A `read` answers some of the bytes that are given, and
+/// what it leaves is given to the requests behind it.
+pub trait Read {
+    /// The bytes that no read has taken yet, where they are known.
+    ghost unread: { Self → Option (List ℕ) };
+
+    /// How often the device behind it failed, up to 2^64 - 1.
+    ghost failures: { Self → ℕ };
+
+    /// Which bytes a request takes, and what it leaves.
+    ghost gives: { Giving };
+
+    /// By which kind a request is refused.
+    ghost refuses: { Refusing };
+
+    /// What each call keeps, as the reference that a source stands on.
+    ghost same: { Self → Self → Type 0 };
+
+    /// Fills some front of `buffer`, and answers how many bytes: none only where nothing is unread
+    /// or `buffer` is empty.
+    fn read(&mut self, buffer: &mut [u8]) -> Result<usize>
+        ensures within { IfOk result (λ count. count ≤ length buffer.new) }
+        ensures taken { IfOk result (λ count. Known (unread self.old) (unread self.new)
+            (Takes gives refuses (length buffer.new) (take count buffer.new))) }
+        ensures end { IfOk result (λ count. IfSome (unread self.old)
+            (λ raw. 0 < length buffer.new → (count ≡ 0) ↔ (raw ≡ []))) }
+        // Where `read` answers no byte, `read_exact` is refused by this kind.
+        ensures spent { IfOk result (λ count. count ≡ 0 → 0 < length buffer.new →
+            IsRefused refuses (length buffer.new) (unread self.old)
+            ErrorKind.FailedToFillTheWholeBuffer) }
+
+        // A refusal.
+        ensures failed { IfErr result (λ error. error.kind ≡ ErrorKind.DeviceFailed →
+            Fails (failures self.old) (failures self.new)) }
+        ensures refused { IfErr result (λ error. (error.kind ≡ ErrorKind.DeviceFailed)
+            ⊎ IsRefused refuses (length buffer.new) (unread self.old) error.kind) }
+        ensures at_end { IfErr result (λ error. unread self.old ≡ Some [] →
+            IsWholeWords buffer.new → error.kind ≡ ErrorKind.DeviceFailed) }
+        ensures plain { IfErr result (λ error. IsPlain gives → error.kind ≡ ErrorKind.DeviceFailed) }
+
+        ensures advances { Advances unread failures same self.old self.new };
+
+    /// Fills `buffer`. It is refused by `FailedToFillTheWholeBuffer` where `read` answers no byte
+    /// before that.
+    fn read_exact(&mut self, buffer: &mut [u8]) -> Result<()>
+        ensures given { OnOk result (Known (unread self.old) (unread self.new)
+            (λ raw rest. gives raw (length buffer.new) buffer.new rest)) }
+        ensures failed { IfErr result (λ error. error.kind ≡ ErrorKind.DeviceFailed →
+            Fails (failures self.old) (failures self.new)) }
+        ensures refused { IfErr result (λ error. (error.kind ≡ ErrorKind.DeviceFailed)
+            ⊎ IsRefused refuses (length buffer.new) (unread self.old) error.kind) }
+        ensures advances { Advances unread failures same self.old self.new }
+    {
+        let mut filled = 0;
+        while filled < buffer.len() {
+            let count = self.read(&mut buffer[filled..])?;
+            if count == 0 {
+                return Err(Error::from_kind(ErrorKind::FailedToFillTheWholeBuffer));
+            }
+            filled += count;
+        }
+        Ok(())
+    }
+
+    ghost lawful: { IsSource gives refuses };
+
+    ghost keeps: { IsPreorder same };
+}
+
+/// A plain source that shows what it will give.
+pub trait BufRead: Read {
+    /// The bytes that `fill_buf` showed and `consume` may take.
+    ghost shown: { Self → List ℕ };
+
+    /// Shows some front of what is unread, and no byte only at the end. It consumes nothing.
+    fn fill_buf(&mut self) -> Result<&[u8]>
+        ensures front { IfOk result (λ bytes. IfSome (Self.unread self.old) (IsFront bytes.now)) }
+        ensures end { IfOk result (λ bytes. bytes.now ≡ [] →
+            IfSome (Self.unread self.old) (λ raw. raw ≡ [])) }
+        ensures plain { IfErr result (λ error. error.kind ≡ ErrorKind.DeviceFailed) }
+        ensures* after_borrow { sem 𝓛 (Rests Self.row self.entry
+            (Fills Self.unread Self.failures Self.same shown result self.entry.now)) };
+
+    /// Takes the first `amount` bytes that were shown.
+    fn consume(&mut self, amount: usize)
+        requires { amount ≤ length (shown self.old) }
+        ensures taken { Known (Self.unread self.old) (Self.unread self.new)
+            (λ raw left. left ≡ drop amount raw) }
+        ensures shown { shown self.new ≡ drop amount (shown self.old) }
+        ensures kept { Self.failures self.new ≡ Self.failures self.old }
+        ensures advances { Advances Self.unread Self.failures Self.same self.old self.new };
+
+    ghost plain: { (raw : List ℕ) (n : ℕ) (bytes rest : List ℕ) → Splits raw n bytes rest ↔ Self.gives raw n bytes rest };
+
+    ghost plain_refusals: { (raw : List ℕ) (n : ℕ) (kind : ErrorKind) → RunsShort raw n kind ↔ Self.refuses raw n kind };
+}
+
+/// A sink: it takes whole pieces, or refuses them.
+pub trait Write {
+    /// The bytes taken so far, where the sink keeps them.
+    ghost written: { Self → Option (List ℕ) };
+
+    /// How often the device behind it failed, up to 2^64 - 1.
+    ghost failures: { Self → ℕ };
+
+    /// What a piece adds to the bytes taken so far.
+    ghost appends: { Appending };
+
+    /// By which kinds a piece may be refused, beside the device's.
+    ghost refuses: { Declining };
+
+    /// What each call keeps, as the reference that a sink stands on.
+    ghost same: { Self → Self → Type 0 };
+
+    /// Takes all of `piece`. What a refused call leaves begins with what was written before.
+    fn write_all(&mut self, piece: &[u8]) -> Result<()>
+        ensures added { OnOk result (Known (written self.old) (written self.new)
+            (Adds (appends piece.now))) }
+        ensures failed { IfErr result (λ error. error.kind ≡ ErrorKind.DeviceFailed →
+            Fails (failures self.old) (failures self.new)) }
+        ensures refused { IfErr result (λ error. (error.kind ≡ ErrorKind.DeviceFailed)
+            ⊎ refuses piece.now error.kind) }
+        ensures grows { Grows written failures same self.old self.new };
+
+    ghost keeps: { IsPreorder same };
+}

@@ -1,0 +1,74 @@
+//! Slices as sources, and vectors as sinks.
+ghost use Rattle.std.specs.Prelude.{◌≡◌, ◌++◌, Some, IfErr, OnOk, ⊤};
+ghost use Rattle.capnp_frame.specs.Source.{Splits, RunsShort};
+ghost use Rattle.capnp_frame.specs.Sink.{AppendsSame, LacksMemory};
+ghost use Rattle.capnp_frame.specs.Splitting.{splitting, always};
+
+use crate::error::{ErrorKind, Result};
+use crate::io::{BufRead, Read, Write};
+
+/// The slice moves past what was read. No call is refused, but `read_exact` where it is too short.
+impl Read for &[u8] {
+    ghost unread = { λ bytes. Some bytes.now };
+
+    ghost failures = { λ _. 0 };
+
+    ghost gives = { Splits };
+
+    ghost refuses = { RunsShort };
+
+    ghost same = { λ _ _. ⊤ };
+
+    fn read(&mut self, buffer: &mut [u8]) -> Result<usize> {
+        let all: &[u8] = *self;
+        let count = all.len().min(buffer.len());
+        buffer[..count].copy_from_slice(&all[..count]);
+        *self = &all[count..];
+        Ok(count)
+    }
+
+    ghost lawful = { splitting };
+
+    ghost keeps = { always };
+}
+
+impl BufRead for &[u8] {
+    ghost shown = { λ bytes. bytes.now };
+
+    fn fill_buf(&mut self) -> Result<&[u8]> {
+        Ok(*self)
+    }
+
+    fn consume(&mut self, amount: usize) {
+        let all: &[u8] = *self;
+        *self = &all[amount..];
+    }
+
+    ghost plain = { λ _ _ _ _. (λ p. p, λ p. p) };
+
+    ghost plain_refusals = { λ _ _ _. (λ p. p, λ p. p) };
+}
+
+/// A piece goes to the end. Where memory is refused the vector is unchanged.
+impl Write for Vec<u8> {
+    ghost written = { λ sink. Some sink.items };
+
+    ghost failures = { λ _. 0 };
+
+    ghost appends = { AppendsSame };
+
+    ghost refuses = { LacksMemory };
+
+    ghost same = { λ _ _. ⊤ };
+
+    fn write_all(&mut self, piece: &[u8]) -> Result<()>
+        ensures added { OnOk result (self.new.items ≡ self.old.items ++ piece.now) }
+        ensures refused { IfErr result (λ error. (error.kind ≡ ErrorKind.OutOfMemory)
+            × (self.new.items ≡ self.old.items)) }
+    {
+        self.extend_from_slice(piece)?;
+        Ok(())
+    }
+
+    ghost keeps = { always };
+}

@@ -1,0 +1,6 @@
+//! Messages as lists of segments, and what a reader accepts of them.
+mod options;
+mod segments;
+
+pub use options::{DEFAULT_READER_OPTIONS, ReaderOptions};
+pub use segments::ReaderSegments;

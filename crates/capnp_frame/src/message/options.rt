@@ -1,0 +1,56 @@
+//! What a reader accepts.
+ghost use Rattle.std.specs.Prelude.{◌≡◌};
+ghost use Rattle.capnp_frame.specs.declared.message.options.TheConstants.{DEFAULT_READER_OPTIONS};
+
+/// Limits against messages that would cost a reader too much.
+#[derive(Clone, Copy, Debug)]
+pub struct ReaderOptions {
+    /// A message of more words than this is refused, and so is a reader that visits more words than
+    /// this. A message may lead a reader to the same words again and again, so a size alone is no
+    /// limit. `None` sets none.
+    pub traversal_limit_in_words: Option<usize>,
+
+    /// How deep objects may be nested. The limit keeps a message from using up the machine's stack.
+    pub nesting_limit: i32,
+}
+
+/// 8 * 1024 * 1024 words, which are 64 MiB, and 64 levels.
+pub const DEFAULT_READER_OPTIONS: ReaderOptions = ReaderOptions {
+    traversal_limit_in_words: Some(8 * 1024 * 1024),
+    nesting_limit: 64,
+};
+
+impl ReaderOptions {
+    /// The default options.
+    pub const fn new() -> ReaderOptions
+        ensures { result ≡ DEFAULT_READER_OPTIONS }
+    {
+        DEFAULT_READER_OPTIONS
+    }
+
+    /// Sets how deep objects may be nested.
+    pub fn nesting_limit(&mut self, value: i32) -> &mut Self
+        ensures same { result.ghost_name ≡ self.entry.ghost_name }
+        ensures set { result.now ≡ record self.old { nesting_limit = value } }
+    {
+        self.nesting_limit = value;
+        self
+    }
+
+    /// Sets how many words a message may have, and a reader visit.
+    pub fn traversal_limit_in_words(&mut self, value: Option<usize>) -> &mut Self
+        ensures same { result.ghost_name ≡ self.entry.ghost_name }
+        ensures set { result.now ≡ record self.old { traversal_limit_in_words = value } }
+    {
+        self.traversal_limit_in_words = value;
+        self
+    }
+}
+
+impl Default for ReaderOptions {
+    ghost is_default = { λ options. options ≡ DEFAULT_READER_OPTIONS };
+
+    fn default() -> ReaderOptions {
+        DEFAULT_READER_OPTIONS
+    }
+}

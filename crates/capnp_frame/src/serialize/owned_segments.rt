@@ -1,0 +1,78 @@
+//! Segments that own their bytes.
+ghost use Rattle.std.specs.Prelude.{◌≡◌, ℕ, ◌*◌, List, length, map, sum, vec_len};
+ghost use Rattle.std.specs.List.{concat};
+ghost use Rattle.capnp_frame.specs.SegmentLengths.{ranges, range_len, cut};
+
+use crate::message::ReaderSegments;
+use std::marker::Model;
+
+/// The segments of a message in one piece of memory.
+#[derive(Drop)]
+pub struct OwnedSegments {
+    segment_indices: Vec<(usize, usize)>,
+    bytes: Vec<u8>,
+}
+
+// Clauses see the segments, each its bytes.
+impl Model for OwnedSegments {
+    ghost Value = { List (List ℕ) };
+
+    ghost view = { λ segments. cut (map range_len segments.segment_indices.items) segments.bytes.items };
+
+    ghost invariant = { λ segments.
+        (segments.segment_indices.items ≡ ranges (map range_len segments.segment_indices.items))
+        × (length segments.bytes.items ≡ 8 * sum (map range_len segments.segment_indices.items)) };
+}
+
+impl OwnedSegments {
+    /// The parts of `bytes` that lie between these indices, in words.
+    pub(crate) fn from_parts(segment_indices: Vec<(usize, usize)>, bytes: Vec<u8>) -> OwnedSegments
+        requires running { segment_indices.items ≡ ranges (map range_len segment_indices.items) }
+        requires room { vec_len bytes ≡ 8 * sum (map range_len segment_indices.items) }
+        ensures { result ≡ cut (map range_len segment_indices.items) bytes.items }
+    {
+        OwnedSegments {
+            segment_indices,
+            bytes,
+        }
+    }
+
+    /// All segments, joined.
+    pub fn as_bytes(&self) -> &[u8]
+        ensures { result.now ≡ concat self.now }
+    {
+        &self.bytes
+    }
+}
+
+impl OwnedSegments {
+    ghost use Rattle.std.specs.Prelude.{◌≡◌};
+    ghost use Rattle.std.specs.List.{concat};
+    ghost use Rattle.std.specs.Borrow.{sem};
+    ghost use Rattle.capnp_frame.specs.Lending.{LendsBytes};
+
+    /// All segments, joined. What is written there is in the segments.
+    pub fn as_bytes_mut(&mut self) -> &mut [u8]
+        ensures* writes_back { sem 𝓛 (LendsBytes self.entry result) }
+        ensures value { result.now ≡ concat self.old }
+    {
+        &mut self.bytes
+    }
+}
+
+impl ReaderSegments for OwnedSegments {
+    ghost segments = { λ segments. segments };
+
+    fn get_segment(&self, id: u32) -> Option<&[u8]> {
+        let index = id as usize;
+        if index >= self.segment_indices.len() {
+            return None;
+        }
+        let (start, end) = self.segment_indices[index];
+        Some(&self.bytes[8 * start..8 * end])
+    }
+
+    fn len(&self) -> usize {
+        self.segment_indices.len()
+    }
+}

@@ -1,0 +1,85 @@
+//! The lengths of segments that stand behind one another.
+ghost use Rattle.std.specs.Prelude.{◌≡◌, ℕ, ◌+◌, ◌*◌, ◌<◌, ◌≤◌, ◌^◌, ◌↔◌, List, [], ◌∷◌, ◌++◌, map, sum, replicate, IfOk, OnOk, OnErr, IfErr, ◌⊎◌, vec_len};
+ghost use Rattle.capnp_frame.specs.SegmentLengths.{ranges, range_len, cut, AreRanges};
+ghost use Rattle.capnp_frame.specs.Errors.{IsRefusedBy};
+
+use crate::error::{Error, ErrorKind, Result};
+use crate::serialize::owned_segments::OwnedSegments;
+use std::alloc::Global;
+use std::marker::Model;
+
+/// The lengths of segments in words, one pushed behind the other, and what is made of them.
+#[derive(Drop)]
+pub struct SegmentLengthsBuilder {
+    segment_indices: Vec<(usize, usize)>,
+    total_words: usize,
+}
+
+// Clauses see the lengths, in the order of the segments.
+impl Model for SegmentLengthsBuilder {
+    ghost Value = { List ℕ };
+
+    ghost view = { λ builder. map range_len builder.segment_indices.items };
+
+    ghost invariant = { λ builder. AreRanges builder.segment_indices.items builder.total_words };
+}
+
+impl SegmentLengthsBuilder {
+    /// No lengths yet, with room for `capacity` of them.
+    pub fn with_capacity(alloc: Global, capacity: usize) -> Result<SegmentLengthsBuilder>
+        ensures ok { IfOk result (λ builder. builder ≡ []) }
+        ensures memory { IfErr result (λ error. error.kind ≡ ErrorKind.OutOfMemory) }
+    {
+        let segment_indices = Vec::with_capacity(alloc, capacity)?;
+        Ok(SegmentLengthsBuilder {
+            segment_indices,
+            total_words: 0,
+        })
+    }
+
+    /// Adds the length of the next segment, in words.
+    pub fn try_push_segment(&mut self, length_in_words: usize) -> Result<()>
+        ensures ok { OnOk result (self.new ≡ self.old ++ length_in_words ∷ []) }
+        ensures err { OnErr result (self.new ≡ self.old) }
+        ensures overflow { IsRefusedBy result ErrorKind.MessageSizeOverflow
+            ↔ (2 ^ 64 ≤ sum self.old + length_in_words) }
+        ensures kinds { IfErr result (λ error. (error.kind ≡ ErrorKind.OutOfMemory)
+            ⊎ (error.kind ≡ ErrorKind.MessageSizeOverflow)) }
+    {
+        let Some(end) = self.total_words.checked_add(length_in_words) else {
+            return Err(Error::from_kind(ErrorKind::MessageSizeOverflow));
+        };
+        self.segment_indices.push((self.total_words, end))?;
+        self.total_words = end;
+        Ok(())
+    }
+
+    /// The sum of the lengths so far.
+    pub fn total_words(&self) -> usize
+        ensures { result ≡ sum self.now }
+    {
+        self.total_words
+    }
+
+    /// Where each segment begins and ends, in words from the start of the first.
+    pub fn to_segment_indices(self) -> Vec<(usize, usize)>
+        ensures { result.items ≡ ranges self }
+    {
+        self.segment_indices
+    }
+
+    /// Segments of these lengths, of zeros.
+    pub fn into_owned_segments(self) -> Result<OwnedSegments>
+        ensures ok { IfOk result (λ segments. segments ≡ cut self (replicate (8 * sum self) 0)) }
+        ensures overflow { IsRefusedBy result ErrorKind.MessageSizeOverflow
+            ↔ (2 ^ 64 ≤ 8 * sum self) }
+        ensures kinds { IfErr result (λ error. (error.kind ≡ ErrorKind.OutOfMemory)
+            ⊎ (error.kind ≡ ErrorKind.MessageSizeOverflow)) }
+    {
+        let Some(length) = self.total_words().checked_mul(8) else {
+            return Err(Error::from_kind(ErrorKind::MessageSizeOverflow));
+        };
+        let bytes = vec![in *self.segment_indices.allocator(); 0; length]?;
+        Ok(OwnedSegments::from_parts(self.to_segment_indices(), bytes))
+    }
+}
