@@ -12,7 +12,7 @@ use Rattle.capnp_frame.proofs.TableLemmas.{length-fields}
 use Rattle.capnp_frame.proofs.RequestLemmas.{Stands-once}
 use Rattle.std.proofs.lemmas.List.Sums.{sum_by-cons}
 
-length-table : (text ns : List ℕ) → IsTable text ns → length text ≡ 8 + 8 * (length ns / 2)
+pub length-table : (text ns : List ℕ) → IsTable text ns → length text ≡ 8 + 8 * (length ns / 2)
 length-table text ns table =
     let some = table.can.some in
     let padded = table.padded in

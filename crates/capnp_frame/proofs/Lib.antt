@@ -4,4 +4,5 @@ pub mod TableLemmas
 pub mod RequestLemmas
 pub mod FrameLemmas
 pub mod RefusalLemmas
+pub mod TextLemmas
 pub mod WorkedRows

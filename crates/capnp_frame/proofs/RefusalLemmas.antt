@@ -117,19 +117,23 @@ Unless-map : {S L A B : Type 0} → (A → B) → Unless S L A → Unless S L B
 Unless-map f (inl p) = inl p
 Unless-map f (inr p) = inr (p.0, f p.1)
 
-Asks-map : (gives : Giving) (refuses : Refusing) (kind : ErrorKind) (raw : List ℕ) (n : ℕ) (F G : List ℕ → List ℕ → Type 0) → ((bytes rest : List ℕ) → F bytes rest → G bytes rest) → Asks gives refuses kind raw n F → Asks gives refuses kind raw n G
-Asks-map gives refuses kind raw n F G f (inl p) = inl p
-Asks-map gives refuses kind raw n F G f (inr p) = inr (p.0, p.1, p.2, f p.0 p.1 p.3)
+Asks-map : {gives others : Giving} {refuses also : Refusing} (given : (raw : List ℕ) (n : ℕ) (bytes rest : List ℕ) → gives raw n bytes rest → others raw n bytes rest) (refused : (raw : List ℕ) (n : ℕ) (kind : ErrorKind) → refuses raw n kind → also raw n kind) (kind : ErrorKind) (raw : List ℕ) (n : ℕ) (F G : List ℕ → List ℕ → Type 0) → ((bytes rest : List ℕ) → F bytes rest → G bytes rest) → Asks gives refuses kind raw n F → Asks others also kind raw n G
+Asks-map given refused kind raw n F G f (inl p) = inl (refused raw n kind p)
+Asks-map given refused kind raw n F G f (inr p) = inr (p.0, p.1, given raw n p.0 p.1 p.2, f p.0 p.1 p.3)
 
-pub Meets-map : (gives : Giving) (refuses : Refusing) (limit room : Option ℕ) (kind : ErrorKind) (A B : List ℕ → List ℕ → Type 0) (raw left : List ℕ) → ((ns behind : List ℕ) → A ns behind → B ns behind) → Meets gives refuses limit room kind A raw left → Meets gives refuses limit room kind B raw left
-Meets-map gives refuses limit room kind A B raw left f =
-    Unless-map (λ x. (x.0, Asks-map gives refuses kind raw 8 (MeetsCount gives refuses limit room kind A left) (MeetsCount gives refuses limit room kind B left) counted x.1))
+-- the lines of one source are those of another that gives and refuses what it does
+pub Meets-map : {gives others : Giving} {refuses also : Refusing} (given : (raw : List ℕ) (n : ℕ) (bytes rest : List ℕ) → gives raw n bytes rest → others raw n bytes rest) (refused : (raw : List ℕ) (n : ℕ) (kind : ErrorKind) → refuses raw n kind → also raw n kind) (limit room : Option ℕ) (kind : ErrorKind) (A B : List ℕ → List ℕ → Type 0) (raw left : List ℕ) → ((ns behind : List ℕ) → A ns behind → B ns behind) → Meets gives refuses limit room kind A raw left → Meets others also limit room kind B raw left
+Meets-map {gives} {others} {refuses} {also} given refused limit room kind A B raw left f =
+    Unless-map (λ x. (x.0, Asks-map given refused kind raw 8 (MeetsCount gives refuses limit room kind A left) (MeetsCount others also limit room kind B left) counted x.1))
   where
-    limited : (word others behind : List ℕ) → MeetsLimit limit kind A left word others behind → MeetsLimit limit kind B left word others behind
-    limited word others behind x = (x.0, x.1, Unless-map (f x.0 behind) x.2)
+    limited : (word read behind : List ℕ) → MeetsLimit limit kind A left word read behind → MeetsLimit limit kind B left word read behind
+    limited word read behind x = (x.0, x.1, Unless-map (f x.0 behind) x.2)
 
-    counted : (word between : List ℕ) → MeetsCount gives refuses limit room kind A left word between → MeetsCount gives refuses limit room kind B left word between
-    counted word between x = (x.0, x.1, Unless-map (Unless-map (Asks-map gives refuses kind between (8 * (x.0 / 2)) (MeetsLimit limit kind A left word) (MeetsLimit limit kind B left word) (limited word))) x.2)
+    counted : (word between : List ℕ) → MeetsCount gives refuses limit room kind A left word between → MeetsCount others also limit room kind B left word between
+    counted word between x = (x.0, x.1, Unless-map (Unless-map (Asks-map given refused kind between (8 * (x.0 / 2)) (MeetsLimit limit kind A left word) (MeetsLimit limit kind B left word) (limited word))) x.2)
+
+pub RefusesStream-map : {gives others : Giving} {refuses also : Refusing} (given : (raw : List ℕ) (n : ℕ) (bytes rest : List ℕ) → gives raw n bytes rest → others raw n bytes rest) (refused : (raw : List ℕ) (n : ℕ) (kind : ErrorKind) → refuses raw n kind → also raw n kind) (limit room : Option ℕ) (kind : ErrorKind) (raw left : List ℕ) → RefusesStream gives refuses limit room kind raw left → RefusesStream others also limit room kind raw left
+RefusesStream-map given refused limit room kind raw left = Meets-map given refused limit room kind _ _ raw left (λ ns behind. Unless-map (refused behind (8 * sum ns) kind))
 
 given_some : {gives : Giving} {refuses : Refusing} (laws : IsSource gives refuses) (raw : List ℕ) (n : ℕ) (bytes rest : List ℕ) → gives raw n bytes rest → 0 < n → raw ≡ [] → ⊥
 given_some {gives} laws raw n bytes rest given some none =
@@ -190,7 +194,7 @@ table_met F G gives refuses limit kind old new (inl p) = inl p
 table_met F G gives refuses limit kind old new (inr (inl p)) = inr (inl p)
 table_met F G gives refuses limit kind None new (inr (inr p)) = inr (inr tt)
 table_met F G gives refuses limit kind (Some raw) None (inr (inr p)) = absurd p
-table_met F G gives refuses limit kind (Some raw) (Some left) (inr (inr p)) = inr (inr (Meets-map gives refuses limit None kind _ _ raw left (λ ns behind never. absurd never) p))
+table_met F G gives refuses limit kind (Some raw) (Some left) (inr (inr p)) = inr (inr (Meets-map {gives = gives} {refuses = refuses} (λ raw n bytes rest given. given) (λ raw n kind refused. refused) limit None kind _ _ raw left (λ ns behind never. absurd never) p))
 
 pub segments_met : {gives : Giving} {refuses : Refusing} (laws : IsSource gives refuses) (F G : Type 0) (limit : Option ℕ) (kind : ErrorKind) (old mid new : Option (List ℕ)) (ns : List ℕ) (len : ℕ) → Known old mid (TableStands gives ns) → AreWithin ns limit → Known mid new IsTail → len ≡ 8 * sum ns → F ⊎ IsRefused refuses len mid kind → F ⊎ G ⊎ Known old new (RefusesStream gives refuses limit None kind)
 segments_met laws F G limit kind old mid new ns len sent accepts tail long (inl p) = inl p

@@ -92,3 +92,19 @@ pub unfailing_exact : {X : Type 0} (kind : ErrorKind) (r : Result X Error) → I
 unfailing_exact kind (Ok x) failed exact = exact
 unfailing_exact kind (Err e) failed (inl device) = let count : Fails 0 0 = failed device in absurd (omega arith)
 unfailing_exact kind (Err e) failed (inr exact) = exact
+
+-- a message stands by the requests of one source where it does by another's
+pub Stands-map : {gives others : Giving} (given : (raw : List ℕ) (n : ℕ) (bytes rest : List ℕ) → gives raw n bytes rest → others raw n bytes rest) (segments : List (List ℕ)) (raw rest : List ℕ) → Stands gives segments raw rest → Stands others segments raw rest
+Stands-map given segments raw rest stands = record {
+  between = stands.between;
+  table = record {
+    first = stands.table.first;
+    others = stands.table.others;
+    between = stands.table.between;
+    first_given = given _ _ _ _ stands.table.first_given;
+    others_given = given _ _ _ _ stands.table.others_given;
+    table = stands.table.table;
+  };
+  given = given _ _ _ _ stands.given;
+  whole = stands.whole;
+}

@@ -9,5 +9,6 @@ pub mod Source
 pub mod Sink
 pub mod Requests
 pub mod Refusals
+pub mod Texts
 pub mod Lending
 pub mod Splitting

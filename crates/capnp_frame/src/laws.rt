@@ -1,10 +1,11 @@
 //! Facts about framed messages, each the contract of a function that does nothing.
 ghost use Rattle.std.specs.Prelude.{◌≡◌, ℕ, List, ◌++◌, ◌↔◌};
-ghost use Rattle.std.specs.List.{AllByRecursion};
+ghost use Rattle.std.specs.List.{AllByRecursion, concat};
 ghost use Rattle.capnp_frame.specs.Message.{IsWholeWords, lengths};
 ghost use Rattle.capnp_frame.specs.SegmentTable.{HasTable};
 ghost use Rattle.capnp_frame.specs.Frame.{IsFrame, frame_text};
 ghost use Rattle.capnp_frame.specs.Source.{Splits};
+ghost use Rattle.capnp_frame.specs.Sink.{AppendsSame, AppendsAll};
 ghost use Rattle.capnp_frame.specs.Requests.{Stands};
 
 /// A message has a framed text: the one that is written.
@@ -26,3 +27,10 @@ pub fn plain_requests_take_a_frame()
     ensures { (segments : List (List ℕ)) (raw rest : List ℕ) → Stands Splits segments raw rest
         ↔ ((text : List ℕ) × IsFrame text segments × (raw ≡ text ++ rest)) }
 {}
+
+/// Pieces that a plain sink takes are joined there.
+pub fn plain_pieces_are_joined()
+    ensures { (pieces : List (List ℕ)) (text : List ℕ) → AppendsAll AppendsSame pieces text
+        ↔ (text ≡ concat pieces) }
+{
+}

@@ -1,0 +1,73 @@
+-- A stream parts into texts in one way.
+use Rattle.std.proofs.Common.{◌≡◌, ℕ, ◌+◌, ◌<◌, ◌≤◌, Option, Some, None, List, [], ◌∷◌, ◌++◌, length, refl, sym, ap, ◌∙◌, subst, arith, append_assoc, length-append, ◌↔◌}
+use Rattle.std.proofs.lemmas.List.{append-nil}
+use Rattle.std.specs.List.{concat}
+use Rattle.capnp_frame.specs.declared.error.ErrorKind.{ErrorKind}
+use Rattle.capnp_frame.specs.Frame.{IsFrame}
+use Rattle.capnp_frame.specs.Source.{Giving, Refusing, Splits, RunsShort}
+use Rattle.capnp_frame.specs.Requests.{Stands}
+use Rattle.capnp_frame.specs.Sink.{AppendsSame, AppendsAll}
+use Rattle.capnp_frame.specs.Texts.{Grammar, BeginsWith, AreTexts, Ends}
+use Rattle.capnp_frame.specs.Splitting.{splitting}
+use Rattle.capnp_frame.proofs.FrameLemmas.{Stands-from_frame, frames_part, length-table}
+use Rattle.capnp_frame.proofs.RefusalLemmas.{RefusesStream-apart}
+
+-- What a grammar's texts have with its source's requests: one message begins a stream, and none does where it ends.
+pub record PartsStreams (IsText : Grammar) (gives : Giving) (refuses : Refusing) (limit : Option ℕ) : Type 0 where
+  pub begins_once : (m n : List (List ℕ)) (raw rest left : List ℕ) → BeginsWith IsText limit m raw rest → BeginsWith IsText limit n raw left → (m ≡ n) × (rest ≡ left)
+  pub ends_apart : (ending : Option ErrorKind) (m : List (List ℕ)) (raw rest : List ℕ) → Ends gives refuses limit ending raw → BeginsWith IsText limit m raw rest → ⊥
+
+-- more texts are none behind an end
+pub AreTexts-most : {IsText : Grammar} {gives : Giving} {refuses : Refusing} {limit : Option ℕ} (parts : PartsStreams IsText gives refuses limit) (ending : Option ErrorKind) (ms ns : List (List (List ℕ))) (raw rest left : List ℕ) → AreTexts IsText limit ms raw rest → Ends gives refuses limit ending rest → AreTexts IsText limit ns raw left → length ns ≤ length ms
+AreTexts-most parts ending ms [] raw rest left texts ends others = omega arith
+AreTexts-most {gives = gives} {refuses = refuses} {limit = limit} parts ending [] (n ∷ ns) raw rest left texts ends others =
+    absurd (parts.ends_apart ending n raw others.0 (subst (λ l. Ends gives refuses limit ending l) texts ends) others.1)
+AreTexts-most {IsText} {limit = limit} parts ending (m ∷ ms) (n ∷ ns) raw rest left texts ends others =
+    let same = parts.begins_once n m raw others.0 texts.0 others.1 texts.1 in
+    let inner = AreTexts-most parts ending ms ns texts.0 rest left texts.2 ends (subst (λ l. AreTexts IsText limit ns l left) same.1 others.2) in
+    omega arith
+
+-- up to an end there is one list of messages
+pub AreTexts-once : {IsText : Grammar} {gives : Giving} {refuses : Refusing} {limit : Option ℕ} (parts : PartsStreams IsText gives refuses limit) (ending other : Option ErrorKind) (ms ns : List (List (List ℕ))) (raw rest left : List ℕ) → AreTexts IsText limit ms raw rest → Ends gives refuses limit ending rest → AreTexts IsText limit ns raw left → Ends gives refuses limit other left → (ms ≡ ns) × (rest ≡ left)
+AreTexts-once parts ending other [] [] raw rest left texts ends others also = (refl, texts ∙ sym others)
+AreTexts-once {gives = gives} {refuses = refuses} {limit = limit} parts ending other [] (n ∷ ns) raw rest left texts ends others also =
+    absurd (parts.ends_apart ending n raw others.0 (subst (λ l. Ends gives refuses limit ending l) texts ends) others.1)
+AreTexts-once {gives = gives} {refuses = refuses} {limit = limit} parts ending other (m ∷ ms) [] raw rest left texts ends others also =
+    absurd (parts.ends_apart other m raw texts.0 (subst (λ l. Ends gives refuses limit other l) others also) texts.1)
+AreTexts-once {IsText} {limit = limit} parts ending other (m ∷ ms) (n ∷ ns) raw rest left texts ends others also =
+    let same = parts.begins_once n m raw others.0 texts.0 others.1 texts.1 in
+    let inner = AreTexts-once parts ending other ms ns texts.0 rest left texts.2 ends (subst (λ l. AreTexts IsText limit ns l left) same.1 others.2) also in
+    (ap (λ x. x ∷ ms) (sym same.0) ∙ ap (λ l. n ∷ l) inner.0, inner.1)
+
+-- one more text
+pub AreTexts-push : (IsText : Grammar) (limit : Option ℕ) (ms : List (List (List ℕ))) (m : List (List ℕ)) (raw between rest : List ℕ) → AreTexts IsText limit ms raw between → BeginsWith IsText limit m between rest → AreTexts IsText limit (ms ++ m ∷ []) raw rest
+AreTexts-push IsText limit [] m raw between rest texts begins = (rest, subst (λ l. BeginsWith IsText limit m l rest) texts begins, refl)
+AreTexts-push IsText limit (n ∷ ns) m raw between rest texts begins = (texts.0, texts.1, AreTexts-push IsText limit ns m texts.0 between rest texts.2 begins)
+
+-- framed texts
+no_frame_at_end : (limit : Option ℕ) (ending : Option ErrorKind) (m : List (List ℕ)) (raw rest : List ℕ) → Ends Splits RunsShort limit ending raw → BeginsWith IsFrame limit m raw rest → ⊥
+no_frame_at_end limit None m raw rest ends begins =
+    let none : ◌≡◌ {A = ℕ} (length begins.text) 0 = omega (arith, ap length ends, ap length begins.spelled, length-append begins.text rest) in
+    let long = length-table begins.is_text.table _ begins.is_text.lengths_told in
+    absurd (omega (arith, ap length begins.is_text.spelled, length-append begins.is_text.table (concat m)))
+no_frame_at_end limit (Some kind) m raw rest ends begins =
+    RefusesStream-apart splitting limit None kind raw ends.0 rest m (subst (λ l. Stands Splits m l rest) (sym begins.spelled) (Stands-from_frame begins.text rest m begins.is_text)) begins.within (λ x. x) ends.1
+
+pub frames_part_streams : (limit : Option ℕ) → PartsStreams IsFrame Splits RunsShort limit
+frames_part_streams limit = record {
+  begins_once = λ m n raw rest left p q. let parts = frames_part p.text q.text rest left m n p.is_text q.is_text (sym p.spelled ∙ q.spelled) in (parts.1, parts.2);
+  ends_apart = no_frame_at_end limit;
+}
+
+-- pieces behind one another
+pub AppendsAll-push : (appends : List ℕ → List ℕ → Type 0) (pieces : List (List ℕ)) (piece text more : List ℕ) → AppendsAll appends pieces text → appends piece more → AppendsAll appends (pieces ++ piece ∷ []) (text ++ more)
+AppendsAll-push appends [] piece text more all here = (more, [], here, refl, ap (λ l. l ++ more) all ∙ sym (append-nil more))
+AppendsAll-push appends (p ∷ ps) piece text more all here =
+    (all.0, all.1 ++ more, all.2, AppendsAll-push appends ps piece all.1 more all.3 here, ap (λ l. l ++ more) all.4 ∙ append_assoc all.0 all.1 more)
+
+pub pieces_joined : (pieces : List (List ℕ)) (text : List ℕ) → AppendsAll AppendsSame pieces text ↔ (text ≡ concat pieces)
+pieces_joined [] text = (λ all. all, λ all. all)
+pieces_joined (p ∷ ps) text = (
+  λ (first, others, here, all, spelled). spelled ∙ ap (λ l. l ++ others) here ∙ ap (λ l. p ++ l) ((pieces_joined ps others).0 all),
+  λ spelled. (p, concat ps, refl, (pieces_joined ps (concat ps)).1 refl, spelled),
+)

@@ -1,0 +1,5 @@
+use Rattle.capnp_frame.proofs.TextLemmas.{pieces_joined}
+use Rattle.capnp_frame.proofs.laws.plain_pieces_are_joined.Goals as goal
+
+pub returns : goal.returns
+returns c = pieces_joined

@@ -1,0 +1,27 @@
+-- Texts of messages behind one another, as a stream has them.
+use Rattle.std.specs.Prelude.{◌≡◌, ℕ, List, [], ◌∷◌, ◌++◌, Option, Some, None}
+use Rattle.capnp_frame.specs.declared.error.ErrorKind.{ErrorKind}
+use Rattle.capnp_frame.specs.Limits.{IsWithin}
+use Rattle.capnp_frame.specs.Source.{Giving, Refusing}
+use Rattle.capnp_frame.specs.Refusals.{RefusesStream}
+
+-- A text is one of a message: IsText text segments.
+abbrev pub Grammar : Type 1
+Grammar = List ℕ → List (List ℕ) → Type 0
+
+-- a text of the message stands at the front, and the message is within the limit
+pub record BeginsWith (IsText : Grammar) (limit : Option ℕ) (segments : List (List ℕ)) (raw rest : List ℕ) : Type 0 where
+  pub text : List ℕ
+  pub is_text : IsText text segments
+  pub within : IsWithin segments limit
+  pub spelled : raw ≡ text ++ rest
+
+-- texts of these messages stand at the front, one behind the other, and then the rest
+abbrev pub AreTexts : Grammar → Option ℕ → List (List (List ℕ)) → List ℕ → List ℕ → Type 0
+AreTexts IsText limit [] raw rest = rest ≡ raw
+AreTexts IsText limit (m ∷ ms) raw rest = (between : List ℕ) × BeginsWith IsText limit m raw between × AreTexts IsText limit ms between rest
+
+-- why no text of a message stands there: nothing is left, or a reader refuses by this kind
+abbrev pub Ends : Giving → Refusing → Option ℕ → Option ErrorKind → List ℕ → Type 0
+Ends gives refuses limit None rest = rest ≡ []
+Ends gives refuses limit (Some kind) rest = (left : List ℕ) × RefusesStream gives refuses limit None kind rest left

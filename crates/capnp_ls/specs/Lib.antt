@@ -1,0 +1,3 @@
+pub mod Commands
+pub mod Output
+pub mod Runs

@@ -1,0 +1,1 @@
+//! What the program does, over any source and sink.
