@@ -106,6 +106,10 @@ Meets-after {gives} {refuses} laws P limit room kind A raw left ns behind sent a
         let few = accepts.few in
         Unless-after (in_range x.0 (omega arith) (omega arith)) (Unless-after (subst (λ k. LacksRoom room (table_size k) → ⊥) (sym same) fits) (Asks-after laws kind sent.between (8 * (x.0 / 2)) sent.others behind (MeetsLimit limit kind A left sent.first) (subst (λ k. gives sent.between (8 * (k / 2)) sent.others behind) (sym same) sent.others_given) limited)) x.2
 
+-- where nothing is unread no line holds, but for a lent buffer's
+pub RefusesStream-some : (gives : Giving) (refuses : Refusing) (limit room : Option ℕ) (kind : ErrorKind) (raw left : List ℕ) → RefusesStream gives refuses limit room kind raw left → (LacksRoom room 8 → ⊥) → raw ≡ [] → ⊥
+RefusesStream-some gives refuses limit room kind raw left refused fits none = Unless-after fits (λ x. absurd (x.0 none)) refused
+
 -- a message that stands there and is accepted isn't refused
 pub RefusesStream-apart : {gives : Giving} {refuses : Refusing} (laws : IsSource gives refuses) (limit room : Option ℕ) (kind : ErrorKind) (raw left rest : List ℕ) (segments : List (List ℕ)) → Stands gives segments raw rest → IsWithin segments limit → (LacksRoom room (table_size (length (lengths segments)) + 8 * size_in_words segments) → ⊥) → RefusesStream gives refuses limit room kind raw left → ⊥
 RefusesStream-apart laws limit room kind raw left rest segments sent within fits =

@@ -4,7 +4,8 @@ use Rattle.std.proofs.lemmas.List.{append-nil, length-take, length-drop, take_at
 use borrow.Rule.Slice.PartMut.{put_mid, post_of}
 use lib.Seq.{take-add, take-append-le}
 use Rattle.capnp_frame.specs.declared.error.ErrorKind.{ErrorKind}
-use Rattle.capnp_frame.specs.Source.{Giving, Refusing, Fails, Known, IsTail, Advances, IsRefused, Takes}
+use Rattle.capnp_frame.specs.Source.{Giving, Refusing, Fails, Known, IsTail, IsFront, Advances, IsRefused, Takes}
+use Rattle.capnp_frame.specs.Sink.{Grows}
 
 pub Known-join : {P Q R : List ℕ → List ℕ → Type 0} (a b c : Option (List ℕ)) → ((x y z : List ℕ) → P x y → Q y z → R x z) → Known a b P → Known b c Q → Known a c R
 Known-join None b c join p q = tt
@@ -162,3 +163,15 @@ Takes-given gives refuses n got raw left takes_nothing gives_nothing unique apar
         λ h. absurd (apart raw n got left kind given h),
       );
     }
+
+-- Pieces one after another.
+
+IsFront-join : (x y z : List ℕ) → IsFront x y → IsFront y z → IsFront x z
+IsFront-join x y z (a, p) (b, q) = (a ++ b, q ∙ ap (λ l. l ++ b) p ∙ append_assoc x a b)
+
+pub Grows-join : {S : Type 0} {written : S → Option (List ℕ)} {failures : S → ℕ} {same : S → S → Type 0} (a b c : S) → (same a b → same b c → same a c) → Grows written failures same a b → Grows written failures same b c → Grows written failures same a c
+Grows-join {written = written} a b c join p q = record {
+  front = Known-join (written a) (written b) (written c) IsFront-join p.front q.front;
+  counted = omega arith;
+  same_sink = join p.same_sink q.same_sink;
+}

@@ -4,13 +4,14 @@ use Rattle.std.proofs.lemmas.List.{append-nil}
 use Rattle.std.specs.List.{concat}
 use Rattle.capnp_frame.specs.declared.error.ErrorKind.{ErrorKind}
 use Rattle.capnp_frame.specs.Frame.{IsFrame}
-use Rattle.capnp_frame.specs.Source.{Giving, Refusing, Splits, RunsShort}
+use Rattle.capnp_frame.specs.Limits.{IsWithin}
+use Rattle.capnp_frame.specs.Source.{Giving, Refusing, IsSource, Splits, RunsShort}
 use Rattle.capnp_frame.specs.Requests.{Stands}
 use Rattle.capnp_frame.specs.Sink.{AppendsSame, AppendsAll}
 use Rattle.capnp_frame.specs.Texts.{Grammar, BeginsWith, AreTexts, Ends}
 use Rattle.capnp_frame.specs.Splitting.{splitting}
-use Rattle.capnp_frame.proofs.FrameLemmas.{Stands-from_frame, frames_part, length-table}
-use Rattle.capnp_frame.proofs.RefusalLemmas.{RefusesStream-apart}
+use Rattle.capnp_frame.proofs.FrameLemmas.{Stands-from_frame, frame_from_requests, frames_part, length-table}
+use Rattle.capnp_frame.proofs.RefusalLemmas.{RefusesStream-apart, RefusesStream-once, RefusesStream-some}
 
 -- What a grammar's texts have with its source's requests: one message begins a stream, and none does where it ends.
 pub record PartsStreams (IsText : Grammar) (gives : Giving) (refuses : Refusing) (limit : Option ℕ) : Type 0 where
@@ -71,3 +72,16 @@ pieces_joined (p ∷ ps) text = (
   λ (first, others, here, all, spelled). spelled ∙ ap (λ l. l ++ others) here ∙ ap (λ l. p ++ l) ((pieces_joined ps others).0 all),
   λ spelled. (p, concat ps, refl, (pieces_joined ps (concat ps)).1 refl, spelled),
 )
+
+-- a stream ends in one way
+pub Ends-once : {gives : Giving} {refuses : Refusing} (laws : IsSource gives refuses) (limit : Option ℕ) (ending other : Option ErrorKind) (rest : List ℕ) → Ends gives refuses limit ending rest → Ends gives refuses limit other rest → ending ≡ other
+Ends-once laws limit None None rest p q = refl
+Ends-once {gives} {refuses} laws limit None (Some kind) rest p q = absurd (RefusesStream-some gives refuses limit None kind rest q.0 q.1 (λ x. x) p)
+Ends-once {gives} {refuses} laws limit (Some kind) None rest p q = absurd (RefusesStream-some gives refuses limit None kind rest p.0 p.1 (λ x. x) q)
+Ends-once laws limit (Some kind) (Some other) rest p q = ap Some (RefusesStream-once laws limit None kind other rest p.0 q.0 p.1 q.1)
+
+-- a message that stands by the requests of a plain source begins its stream
+pub begins_from_requests : (limit : Option ℕ) (segments : List (List ℕ)) (raw rest : List ℕ) → IsWithin segments limit → Stands Splits segments raw rest → BeginsWith IsFrame limit segments raw rest
+begins_from_requests limit segments raw rest within stands =
+    let frame = frame_from_requests raw rest segments stands in
+    record { text = frame.0; is_text = frame.1; within = within; spelled = frame.2 }

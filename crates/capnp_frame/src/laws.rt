@@ -32,5 +32,4 @@ pub fn plain_requests_take_a_frame()
 pub fn plain_pieces_are_joined()
     ensures { (pieces : List (List ℕ)) (text : List ℕ) → AppendsAll AppendsSame pieces text
         ↔ (text ≡ concat pieces) }
-{
-}
+{}

@@ -37,7 +37,7 @@ pub IsListed-bound : (segments : List (List ℕ)) (count total : ℕ) (text segm
 IsListed-bound segments count total text segment listed here =
     let next = IsListed-next segments count total text (text ++ spaced (word_count segment)) segment listed here refl in
     let part : size_in_words (take (count + 1) segments) ≤ size_in_words segments =
-        omega (arith, sum-map word_count (take (count + 1) segments), sum-map word_count segments, sum_by-take-le word_count segments (count + 1)) in
+    omega (arith, sum-map word_count (take (count + 1) segments), sum-map word_count segments, sum_by-take-le word_count segments (count + 1)) in
     let total_is = next.total_is in
     (omega arith, slice_get_within segments count segment (sym here))
 

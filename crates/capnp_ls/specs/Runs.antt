@@ -6,10 +6,10 @@ use Rattle.capnp_frame.specs.declared.error.ErrorKind.TheVariants.{DeviceFailed,
 use Rattle.capnp_frame.specs.Frame.{IsFrame}
 use Rattle.capnp_frame.specs.Source.{Splits, RunsShort, Known, IsFront}
 use Rattle.capnp_frame.specs.Sink.{Appending, Declining, Adds, AppendsAll}
-use Rattle.capnp_frame.specs.Texts.{AreTexts, Ends}
+use Rattle.capnp_frame.specs.Texts.{BeginsWith, AreTexts, Ends}
 use Rattle.capnp_ls.specs.declared.stop.Stop.{Stop}
 use Rattle.capnp_ls.specs.declared.stop.Stop.TheVariants.{Usage, Refused}
-use Rattle.capnp_ls.specs.Output.{lines}
+use Rattle.capnp_ls.specs.Output.{line, lines}
 
 -- the default options' limit, in words
 abbrev pub limit : Option ℕ
@@ -20,6 +20,12 @@ pub record IsStream (messages : List (List (List ℕ))) (ending : Option ErrorKi
   pub rest : List ℕ
   pub texts : AreTexts IsFrame limit messages raw rest
   pub ends : Ends Splits RunsShort limit ending rest
+
+-- the next message of a stream was listed under this index: a sink was given its line
+pub record HasListedNext (appends : Appending) (index : ℕ) (before after : Option (List ℕ)) (raw rest : List ℕ) : Type 0 where
+  pub message : List (List ℕ)
+  pub begins : BeginsWith IsFrame limit message raw rest
+  pub listed : Known before after (Adds (appends (line index message)))
 
 -- A sink was given the lines of so many messages from the front of raw, and then rest is unread.
 pub record HasListed (appends : Appending) (count : ℕ) (before after : Option (List ℕ)) (raw rest : List ℕ) : Type 0 where
@@ -36,11 +42,11 @@ IsFault refuses kind = (kind ≡ DeviceFailed) ⊎ (kind ≡ OutOfMemory) ⊎ ((
 abbrev pub most_messages : ℕ
 most_messages = 2 ^ 64 - 1
 
--- Of a run over raw: all messages are listed; or it stopped behind the messages listed, where no text of a message stands; or it stopped by a fault, and at least their lines are written.
-abbrev pub HasRun : Appending → Declining → Result (Unit {0}) Stop → Option (List ℕ) → Option (List ℕ) → List ℕ → Type 0
-HasRun appends refuses (Ok done) before after raw = (count : ℕ) × (rest : List ℕ) × HasListed appends count before after raw rest × ((rest ≡ []) ⊎ (count ≡ most_messages))
-HasRun appends refuses (Err Usage) before after raw = ⊥
-HasRun appends refuses (Err (Refused message error)) before after raw = (rest : List ℕ) × (
+-- Of a run over raw, which leaves `left` unread: all messages are listed; or it stopped behind the messages listed, where no text of a message stands; or it stopped by a fault, and at least their lines are written.
+abbrev pub HasRun : Appending → Declining → Result (Unit {0}) Stop → Option (List ℕ) → Option (List ℕ) → Option (List ℕ) → List ℕ → Type 0
+HasRun appends refuses (Ok done) left before after raw = (count : ℕ) × (rest : List ℕ) × (left ≡ Some rest) × HasListed appends count before after raw rest × ((rest ≡ []) ⊎ (count ≡ most_messages))
+HasRun appends refuses (Err Usage) left before after raw = ⊥
+HasRun appends refuses (Err (Refused message error)) left before after raw = (rest : List ℕ) × (
     (HasListed appends message before after raw rest × Ends Splits RunsShort limit (Some error.kind) rest)
     ⊎ (IsFault refuses error.kind × ((between : Option (List ℕ)) × HasListed appends message before between raw rest × Known between after IsFront)))
 
