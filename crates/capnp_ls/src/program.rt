@@ -121,3 +121,6 @@ fn list_next<R: BufRead, W: Write>(
     sink.write_all(line.as_bytes())?;
     Ok(true)
 }
+
+#[cfg(test)]
+mod tests;

@@ -1,11 +1,74 @@
-//! Why the program stops.
-use capnp_frame::Error;
+//! Why the program stops before the end of its input.
+ghost use Rattle.std.specs.Prelude.{◌≡◌, ◌⊎◌, List, ℕ, IfOk, IfErr, OnOk, string_bytes};
+ghost use Rattle.capnp_frame.specs.declared.error.ErrorKind.{ErrorKind};
+ghost use Rattle.capnp_frame.specs.Source.{Fails, Known};
+ghost use Rattle.capnp_frame.specs.Sink.{Adds, Grows};
+ghost use Rattle.capnp_ls.specs.declared.stop.Stop.TheVariants.{Refused};
+ghost use Rattle.capnp_ls.specs.Stop.{IsLineOf, status_of};
 
-/// Why the program stops before its input ends.
+use capnp_frame::io::Write;
+use capnp_frame::{Error, ErrorKind, Result};
+use std::alloc::{AllocError, Global};
+
+const USAGE: &str = "usage: capnp_ls list [--packed] | pack | unpack | canon [--packed]\n";
+
+/// Why the program stops before the end of its input.
 #[derive(Debug, Drop)]
 pub enum Stop {
-    /// The words are no command.
+    /// The words behind the program's name are none of its commands.
     Usage,
-    /// Behind this many messages a call was refused.
+    /// `error` came up when `message` messages were done.
     Refused { message: u64, error: Error },
 }
+
+impl Stop {
+    /// The status that the program ends with.
+    pub fn status(&self) -> u8
+        ensures { result ≡ status_of self.now }
+    {
+        match self {
+            Stop::Usage => 2,
+            Stop::Refused { .. } => 1,
+        }
+    }
+}
+
+/// Writes the stop as one line, in one piece.
+///
+/// It is refused as the sink refuses that piece, or by `OutOfMemory` where the line has no room.
+pub fn report<W: Write>(alloc: Global, stop: &Stop, sink: &mut W) -> Result<()>
+    ensures line { OnOk result (Known (W.written sink.old) (W.written sink.new)
+        (Adds (λ text. (line : List ℕ) × IsLineOf stop.now line × W.appends line text))) }
+    ensures failed { IfErr result (λ error. error.kind ≡ ErrorKind.DeviceFailed →
+        Fails (W.failures sink.old) (W.failures sink.new)) }
+    ensures refused { IfErr result (λ error. (error.kind ≡ ErrorKind.DeviceFailed)
+        ⊎ (error.kind ≡ ErrorKind.OutOfMemory)
+        ⊎ ((line : List ℕ) × IsLineOf stop.now line × W.refuses line error.kind)) }
+    ensures grows { Grows W.written W.failures W.same sink.old sink.new }
+{
+    match stop {
+        Stop::Usage => sink.write_all(USAGE.as_bytes()),
+        Stop::Refused { message, error } => {
+            let line = refusal_line(alloc, *message, error)?;
+            sink.write_all(line.as_bytes())
+        }
+    }
+}
+
+fn refusal_line(
+    alloc: Global,
+    message: u64,
+    error: &Error,
+) -> std::result::Result<String, AllocError>
+    ensures { IfOk result (λ line. IsLineOf (Refused message error.now) (string_bytes line)) }
+{
+    let number = error.kind.number();
+    let text = error.to_string(alloc)?;
+    let mut line = format!(in alloc; "capnp_ls: message {message}: error {number} ")?;
+    line.push_str(&text)?;
+    line.push('\n')?;
+    Ok(line)
+}
+
+#[cfg(test)]
+mod tests;

@@ -1,0 +1,32 @@
+-- The line that a stop is reported by.
+use Rattle.std.specs.Prelude.{◌≡◌, ℕ, List, [], ◌∷◌, ◌++◌, codes, decimal}
+use Rattle.capnp_frame.specs.Numbers.{number_of}
+use Rattle.capnp_frame.specs.declared.error.ErrorKind.{ErrorKind}
+use Rattle.capnp_frame.specs.declared.error.Error.{Error}
+use Rattle.capnp_ls.specs.declared.stop.Stop.{Stop}
+use Rattle.capnp_ls.specs.declared.stop.Stop.TheVariants.{Usage, Refused}
+
+-- a line's end
+abbrev pub newline : List ℕ
+newline = 10 ∷ []
+
+abbrev pub usage_line : List ℕ
+usage_line = codes "usage: capnp_ls list [--packed] | pack | unpack | canon [--packed]" ++ newline
+
+-- how the line of a refusal begins: the message's index and the number of the kind
+abbrev pub refusal_front : ℕ → ErrorKind → List ℕ
+refusal_front message kind = codes "capnp_ls: message " ++ (decimal message ++ (codes ": error " ++ (decimal (number_of kind) ++ codes " ")))
+
+-- `line` reports the stop; the text of a refusal's error is free
+abbrev pub IsLineOf : Stop → List ℕ → Type 0
+IsLineOf Usage line = line ≡ usage_line
+IsLineOf (Refused message error) line = (text : List ℕ) × (line ≡ refusal_front message error.kind ++ (text ++ newline))
+
+-- the status that the program ends with
+abbrev pub status_of : Stop → ℕ
+status_of Usage = 2
+status_of (Refused message error) = 1
+
+-- the stop is a refusal of this kind before the first message
+abbrev pub IsAtStart : Stop → ErrorKind → Type 0
+IsAtStart stop kind = (error : Error) × (stop ≡ Refused 0 error) × (error.kind ≡ kind)

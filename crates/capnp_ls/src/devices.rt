@@ -1,0 +1,44 @@
+//! Standard input and output as a source and a sink of messages.
+//!
+//! Both are buffered, both try an interrupted call again, and both answer any other fault by
+//! `DeviceFailed`.
+ghost use Rattle.std.specs.Prelude.{◌≡◌, ◌+◌, ◌-◌, ◌^◌, ◌≤◌, min};
+ghost use Rattle.capnp_frame.specs.declared.error.ErrorKind.{ErrorKind};
+
+#[cfg(test)]
+pub mod choppy;
+mod input;
+mod output;
+mod retried;
+
+use capnp_frame::{Error, ErrorKind};
+pub use input::Input;
+pub use output::Output;
+
+/// The size in bytes of the buffer before a device.
+pub const BUFFER_BYTES: usize = 4096;
+
+/// How often a device failed, up to 2^64 - 1.
+#[derive(Clone, Copy, Debug, PartialEq, Eq)]
+pub struct Failures {
+    count: u64,
+}
+
+impl Failures {
+    /// The count of a device that has not failed.
+    fn none() -> Failures
+        ensures { result.count ≡ 0 }
+    {
+        Failures { count: 0 }
+    }
+
+    /// Counts a failure, and answers the error that it is refused by.
+    fn add(&mut self) -> Error
+        ensures kind { result.kind ≡ ErrorKind.DeviceFailed }
+        ensures counted { self.new.count ≡ min (self.old.count + 1) (2 ^ 64 - 1) }
+        ensures none_back { self.old.count ≤ self.new.count }
+    {
+        self.count = self.count.saturating_add(1);
+        Error::from_kind(ErrorKind::DeviceFailed)
+    }
+}

@@ -1,0 +1,92 @@
+//! Standard output or standard error, or another device that is written, as a sink.
+ghost use Rattle.std.specs.Prelude.{◌≡◌, ◌≤◌, [], IfOk, IfErr, OnOk, OnErr, IsOk, ⊤};
+ghost use Rattle.std.specs.Io.Buffered.{writer_capacity};
+ghost use Rattle.std.specs.Io.KnownBytes.{Keeps};
+ghost use Rattle.capnp_frame.specs.declared.error.ErrorKind.{ErrorKind};
+ghost use Rattle.capnp_frame.specs.Source.{Fails};
+ghost use Rattle.capnp_frame.specs.Sink.{AppendsSame};
+ghost use Rattle.capnp_frame.specs.Splitting.{always};
+ghost use Rattle.capnp_ls.specs.Devices.{pending, taken_so_far};
+
+use crate::devices::Failures;
+use crate::devices::retried::Retried;
+use capnp_frame::io::Write;
+use capnp_frame::{Error, ErrorKind, Result};
+use std::alloc::Global;
+use std::io;
+use std::io::BufWriter;
+
+/// A device as a sink, with a buffer before it, which `flush` empties.
+#[derive(Drop)]
+pub struct Output<W: io::Write + Drop> {
+    buffered: BufWriter<Retried<W>>,
+    failures: Failures,
+}
+
+impl<W: io::Write + Drop> Output<W> {
+    /// The device, with nothing written, and a buffer of `capacity` bytes. With no capacity each
+    /// piece goes straight to the device, and no memory is taken.
+    ///
+    /// The only refusal is `OutOfMemory`, for the buffer.
+    pub fn new(alloc: Global, capacity: usize, device: W) -> Result<Output<W>>
+        ensures taken { IfOk result (λ output.
+            Keeps (W.contents device) (taken_so_far W.contents output)) }
+        ensures pending { IfOk result (λ output. pending output ≡ []) }
+        ensures capacity { IfOk result (λ output. writer_capacity output.buffered ≡ capacity) }
+        ensures failures { IfOk result (λ output. output.failures.count ≡ 0) }
+        ensures memory { IfErr result (λ error. error.kind ≡ ErrorKind.OutOfMemory) }
+        ensures unbuffered { capacity ≡ 0 → IsOk result }
+    {
+        let Ok(buffered) = BufWriter::with_capacity(alloc, capacity, Retried::new(device)) else {
+            return Err(Error::from_kind(ErrorKind::OutOfMemory));
+        };
+        Ok(Output {
+            buffered,
+            failures: Failures::none(),
+        })
+    }
+
+    /// Hands what is pending to the device. The only refusal is `DeviceFailed`.
+    pub fn flush(&mut self) -> Result<()>
+        ensures flushed { OnOk result (pending self.new ≡ []) }
+        ensures kept { Keeps (taken_so_far W.contents self.old) (taken_so_far W.contents self.new) }
+        ensures device { IfErr result (λ error. error.kind ≡ ErrorKind.DeviceFailed) }
+        ensures failed { OnErr result (Fails self.old.failures.count self.new.failures.count) }
+        ensures unfailed { OnOk result (self.new.failures ≡ self.old.failures) }
+        ensures counted { self.old.failures.count ≤ self.new.failures.count }
+    {
+        match io::Write::flush(&mut self.buffered) {
+            Ok(()) => Ok(()),
+            Err(_) => Err(self.failures.add()),
+        }
+    }
+}
+
+impl<W: io::Write + Drop> Write for Output<W> {
+    ghost written = { taken_so_far W.contents };
+
+    ghost failures = { λ output. output.failures.count };
+
+    ghost appends = { AppendsSame };
+
+    ghost refuses = { λ _ _. ⊥ };
+
+    ghost same = { λ _ _. ⊤ };
+
+    // `write_all` of std says nothing of what a refused call leaves.
+    fn write_all(&mut self, piece: &[u8]) -> Result<()> {
+        let mut done = 0;
+        while done < piece.len() {
+            match io::Write::write(&mut self.buffered, &piece[done..]) {
+                Ok(count) if count > 0 => done += count,
+                _ => return Err(self.failures.add()),
+            }
+        }
+        Ok(())
+    }
+
+    ghost keeps = { always };
+}
+
+#[cfg(test)]
+mod tests;

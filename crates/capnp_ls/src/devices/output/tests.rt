@@ -1,0 +1,62 @@
+use crate::devices::Output;
+use crate::devices::choppy::taking;
+use capnp_frame::ErrorKind;
+use capnp_frame::io::Write;
+use std::test::*;
+
+fn is_device_failed(answer: capnp_frame::Result<()>) -> bool {
+    answer.is_err_and(|error| error.kind == ErrorKind::DeviceFailed)
+}
+
+#[test]
+fn parts_and_interruptions_lose_nothing(rt: HostRuntime) -> Result<(), Fail> {
+    for capacity in [0, 4, 64] {
+        let mut device = taking(rt.alloc(), 2);
+        device.interruptions = 3;
+        let mut output = Output::new(rt.alloc(), capacity, &mut device)?;
+        for piece in ["abc", "", "defgh", "i"] {
+            output.write_all(piece.as_bytes())?;
+        }
+        output.flush()?;
+        assert_eq!(rt; output.failures.count, 0);
+        drop(output);
+        assert_eq!(rt;
+            device.got.as_slice(),
+            b"abcdefghi".as_slice(),
+            "with {capacity} bytes"
+        );
+    }
+    Ok(())
+}
+
+#[test]
+fn a_fault_of_a_write_is_answered(rt: HostRuntime) -> Result<(), Fail> {
+    let mut device = taking(rt.alloc(), 4);
+    device.bad_write = 2;
+    let mut unbuffered = Output::new(rt.alloc(), 0, &mut device)?;
+    assert!(rt; is_device_failed(unbuffered.write_all(b"abcdef")));
+    assert_eq!(rt; unbuffered.failures.count, 1);
+    drop(unbuffered);
+    assert_eq!(rt; device.got.as_slice(), b"abcd".as_slice());
+
+    let mut full = Output::new(rt.alloc(), 0, taking(rt.alloc(), 0))?;
+    assert!(rt; is_device_failed(full.write_all(b"abcdef")));
+    Ok(())
+}
+
+#[test]
+fn a_fault_of_the_last_flush_is_answered(rt: HostRuntime) -> Result<(), Fail> {
+    let mut device = taking(rt.alloc(), 4);
+    device.bad_write = 2;
+    let mut output = Output::new(rt.alloc(), 64, &mut device)?;
+    output.write_all(b"abcdef")?;
+    assert!(rt; is_device_failed(output.flush()));
+    assert_eq!(rt; output.failures.count, 1);
+
+    let mut stuck = taking(rt.alloc(), 4);
+    stuck.fails_to_flush = true;
+    let mut output = Output::new(rt.alloc(), 64, &mut stuck)?;
+    output.write_all(b"abcdef")?;
+    assert!(rt; is_device_failed(output.flush()));
+    Ok(())
+}

@@ -1,0 +1,171 @@
+use crate::devices::choppy::{giving, taking};
+use crate::devices::{Input, Output};
+use crate::program::run;
+use crate::stop::Stop;
+use capnp_frame::ErrorKind;
+use std::alloc::{AllocError, Global};
+use std::process::Abort;
+use std::test::*;
+
+// Three messages: segments [] and [1, 2, 3, 4, 5, 6, 7, 8]; one empty segment; one of two words.
+const STREAM: [u8; 56] = [
+    1, 0, 0, 0, 0, 0, 0, 0, 1, 0, 0, 0, 9, 9, 9, 9, 1, 2, 3, 4, 5, 6, 7, 8, 0, 0, 0, 0, 0, 0, 0, 0,
+    0, 0, 0, 0, 2, 0, 0, 0, 1, 1, 1, 1, 1, 1, 1, 1, 2, 2, 2, 2, 2, 2, 2, 2,
+];
+
+// Their lines, and the lines before each message.
+const LINES: [&str; 4] = [
+    "",
+    "0 2 1 0 1\n",
+    "0 2 1 0 1\n1 1 0 0\n",
+    "0 2 1 0 1\n1 1 0 0\n2 1 2 2\n",
+];
+
+fn words(alloc: Global, texts: &[&str]) -> Result<Vec<String>, AllocError> {
+    let mut words = Vec::new(alloc);
+    for text in texts {
+        words.push(String::from_str(alloc, text)?)?;
+    }
+    Ok(words)
+}
+
+// The message and the number of a refusal's kind.
+fn refusal(answer: Result<(), Stop>) -> Option<(u64, u8)> {
+    match answer {
+        Err(Stop::Refused { message, error }) => Some((message, error.kind.number())),
+        _ => None,
+    }
+}
+
+#[test]
+fn messages_are_listed(rt: HostRuntime) -> Result<(), Fail> {
+    let words = words(rt.alloc(), &["list"])?;
+    for (bytes, messages) in [
+        (&STREAM[..0], 0),
+        (&STREAM[..24], 1),
+        (&STREAM[..32], 2),
+        (&STREAM[..], 3),
+    ] {
+        let mut source = bytes;
+        let mut sink = Vec::new(rt.alloc());
+        assert!(rt; run(rt.alloc(), &words, &mut source, &mut sink).is_ok());
+        assert_eq!(rt; sink.as_slice(), LINES[messages].as_bytes());
+        assert!(rt; source.is_empty());
+    }
+    Ok(())
+}
+
+// What stands behind the first message stops the run: cut, of too many segments, or too large.
+#[test]
+fn lines_before_a_refusal_stay(rt: HostRuntime) -> Result<(), Fail> {
+    let words = words(rt.alloc(), &["list"])?;
+    let refused: [(&[u8], u8, usize); 4] = [
+        (&[0, 0, 0, 0], 1, 0),
+        (&[0, 0, 0, 0, 1, 0, 0, 0, 1], 1, 0),
+        (&[255, 1, 0, 0, 7, 7, 7, 7, 5], 5, 1),
+        (&[0, 0, 0, 0, 1, 0, 128, 0, 5], 8, 1),
+    ];
+    for (behind, number, unread) in refused {
+        let mut bytes = STREAM[..24].to_vec(rt.alloc())?;
+        bytes.extend_from_slice(behind)?;
+        let mut source = bytes.as_slice();
+        let mut sink = Vec::new(rt.alloc());
+        let answer = run(rt.alloc(), &words, &mut source, &mut sink);
+        assert_eq!(rt; refusal(answer), Some((1, number)));
+        assert_eq!(rt; sink.as_slice(), LINES[1].as_bytes());
+        assert_eq!(rt; source.len(), unread, "kind {number}");
+    }
+    Ok(())
+}
+
+#[test]
+fn other_words_read_nothing(rt: HostRuntime) -> Result<(), Fail> {
+    let others: [&[&str]; 6] = [
+        &[],
+        &["lists"],
+        &["list", "list"],
+        &["list", ""],
+        &["pack"],
+        &["LIST"],
+    ];
+    for texts in others {
+        let words = words(rt.alloc(), texts)?;
+        let mut source = STREAM.as_slice();
+        let mut sink = Vec::new(rt.alloc());
+        let answer = run(rt.alloc(), &words, &mut source, &mut sink);
+        assert!(rt; matches!(&answer, Err(Stop::Usage)), "{texts:?}");
+        assert_eq!(rt; source.len(), STREAM.len());
+        assert!(rt; sink.is_empty());
+    }
+    Ok(())
+}
+
+// The device fails at its nth read of at most 8 bytes, one of the 8 that the stream and its end take.
+#[test]
+fn a_failed_read_stops_behind_the_messages_done(rt: HostRuntime) -> Result<(), Fail> {
+    let words = words(rt.alloc(), &["list"])?;
+    let done = [0, 0, 0, 1, 2, 2, 2, 3];
+    for (bad_read, messages) in (1..).zip(done) {
+        let mut device = giving(&STREAM, 8);
+        device.bad_read = bad_read;
+        let mut source = Input::new(rt.alloc(), device)?;
+        let mut sink = Vec::new(rt.alloc());
+        let answer = run(rt.alloc(), &words, &mut source, &mut sink);
+        assert_eq!(rt; refusal(answer), Some((messages, 13)), "read {bad_read}");
+        assert_eq!(rt; sink.as_slice(), LINES[messages as usize % 4].as_bytes());
+    }
+    let mut source = Input::new(rt.alloc(), giving(&STREAM, 8))?;
+    let mut sink = Vec::new(rt.alloc());
+    assert!(rt; run(rt.alloc(), &words, &mut source, &mut sink).is_ok());
+    assert_eq!(rt; sink.as_slice(), LINES[3].as_bytes());
+    Ok(())
+}
+
+#[test]
+fn a_failed_write_stops_at_its_message(rt: HostRuntime) -> Result<(), Fail> {
+    let words = words(rt.alloc(), &["list"])?;
+    for bad_write in 1..=3 {
+        let mut device = taking(rt.alloc(), 64);
+        device.bad_write = bad_write;
+        let mut sink = Output::new(rt.alloc(), 0, &mut device)?;
+        let mut source = STREAM.as_slice();
+        let answer = run(rt.alloc(), &words, &mut source, &mut sink);
+        assert_eq!(rt; refusal(answer), Some((bad_write - 1, 13)));
+        drop(sink);
+        assert_eq!(rt;
+            device.got.as_slice(),
+            LINES[bad_write as usize - 1].as_bytes()
+        );
+    }
+    Ok(())
+}
+
+// `rt try --test --fail-alloc N` refuses one growth: the run then stops at its message by 12, and a
+// second one lists them all.
+#[test]
+fn a_refused_growth_stops_at_its_message(rt: HostRuntime) -> Result<(), Fail> {
+    let words = words(rt.alloc(), &["list"]).or_else(|_| words(rt.alloc(), &["list"]))?;
+    list_or_lack_memory(&rt, &words).or_else(|_| list_or_lack_memory(&rt, &words))?;
+    Ok(())
+}
+
+fn list_or_lack_memory(
+    rt: &(impl Abort + AllocGlobal),
+    words: &[String],
+) -> Result<(), AllocError> {
+    let mut source = STREAM.as_slice();
+    let mut sink = Vec::new(rt.alloc());
+    let answer = run(rt.alloc(), words, &mut source, &mut sink);
+    if answer.is_ok() {
+        assert_eq!(rt; sink.as_slice(), LINES[3].as_bytes());
+        return Ok(());
+    }
+    let stopped = refusal(answer);
+    assert!(rt; stopped.is_some_and(|(message, number)| message < 3 && number == 12));
+    if let Some((message, _)) = stopped
+        && let Some(lines) = LINES.get(message as usize)
+    {
+        assert_eq!(rt; sink.as_slice(), lines.as_bytes());
+    }
+    Err(AllocError)
+}
