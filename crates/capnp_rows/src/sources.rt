@@ -1,0 +1,91 @@
+//! Sources that answer little at a time, or fail.
+ghost use Rattle.std.specs.Prelude.{◌≡◌, ◌<◌, Some, ⊤};
+ghost use Rattle.capnp_frame.specs.Source.{Splits, RunsShort};
+ghost use Rattle.capnp_frame.specs.Splitting.{splitting, always};
+
+use capnp_frame::io::Read;
+use capnp_frame::{Error, ErrorKind, Result};
+
+/// A slice that answers at most so many bytes a read.
+#[derive(Drop)]
+pub struct Trickle<'a> {
+    pub bytes: &'a [u8],
+    pub most: usize,
+    ghost some: { 0 < most },
+}
+
+impl<'a> Trickle<'a> {
+    pub fn new(bytes: &'a [u8], most: usize) -> Trickle<'a>
+        requires { 0 < most }
+    {
+        Trickle { bytes, most }
+    }
+}
+
+impl Read for Trickle<'_> {
+    ghost unread = { λ source. Some source.bytes.now };
+
+    ghost failures = { λ _. 0 };
+
+    ghost gives = { Splits };
+
+    ghost refuses = { RunsShort };
+
+    ghost same = { λ _ _. ⊤ };
+
+    fn read(&mut self, buffer: &mut [u8]) -> Result<usize> {
+        let count = self.bytes.len().min(buffer.len()).min(self.most);
+        buffer[..count].copy_from_slice(&self.bytes[..count]);
+        self.bytes = &self.bytes[count..];
+        Ok(count)
+    }
+
+    ghost lawful = { splitting };
+
+    ghost keeps = { always };
+}
+
+/// A source whose reads are counted from 1, and one of which fails. That one takes nothing.
+#[derive(Drop)]
+pub struct Faulty<'a> {
+    pub source: Trickle<'a>,
+    pub calls: u64,
+    pub fails_at: u64,
+    pub failures: u64,
+}
+
+impl<'a> Faulty<'a> {
+    pub fn new(source: Trickle<'a>, fails_at: u64) -> Faulty<'a> {
+        Faulty {
+            source,
+            calls: 0,
+            fails_at,
+            failures: 0,
+        }
+    }
+}
+
+impl Read for Faulty<'_> {
+    ghost unread = { λ source. Some source.source.bytes.now };
+
+    ghost failures = { λ source. source.failures };
+
+    ghost gives = { Splits };
+
+    ghost refuses = { RunsShort };
+
+    ghost same = { λ _ _. ⊤ };
+
+    fn read(&mut self, buffer: &mut [u8]) -> Result<usize> {
+        self.calls = self.calls.saturating_add(1);
+        if self.calls == self.fails_at {
+            self.failures = self.failures.saturating_add(1);
+            return Err(Error::from_kind(ErrorKind::DeviceFailed));
+        }
+        self.source.read(buffer)
+    }
+
+    ghost lawful = { splitting };
+
+    ghost keeps = { always };
+}
