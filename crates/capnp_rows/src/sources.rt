@@ -1,16 +1,17 @@
 //! Sources that answer little at a time, or fail.
-ghost use Rattle.std.specs.Prelude.{◌≡◌, ◌<◌, Some, ⊤};
+ghost use Rattle.std.specs.Prelude.{◌≡◌, ◌<◌, Some, take, ⊤};
 ghost use Rattle.capnp_frame.specs.Source.{Splits, RunsShort};
 ghost use Rattle.capnp_frame.specs.Splitting.{splitting, always};
 
-use capnp_frame::io::Read;
+use capnp_frame::io::{BufRead, Read};
 use capnp_frame::{Error, ErrorKind, Result};
 
-/// A slice that answers at most so many bytes a read.
+/// A slice that answers, or shows, at most so many bytes at once.
 #[derive(Drop)]
 pub struct Trickle<'a> {
     pub bytes: &'a [u8],
     pub most: usize,
+    shown: usize,
     ghost some: { 0 < most },
 }
 
@@ -18,7 +19,11 @@ impl<'a> Trickle<'a> {
     pub fn new(bytes: &'a [u8], most: usize) -> Trickle<'a>
         requires { 0 < most }
     {
-        Trickle { bytes, most }
+        Trickle {
+            bytes,
+            most,
+            shown: 0,
+        }
     }
 }
 
@@ -43,6 +48,24 @@ impl Read for Trickle<'_> {
     ghost lawful = { splitting };
 
     ghost keeps = { always };
+}
+
+impl BufRead for Trickle<'_> {
+    ghost shown = { λ source. take source.shown source.bytes.now };
+
+    fn fill_buf(&mut self) -> Result<&[u8]> {
+        self.shown = self.bytes.len().min(self.most);
+        Ok(&self.bytes[..self.shown])
+    }
+
+    fn consume(&mut self, amount: usize) {
+        self.shown -= amount;
+        self.bytes = &self.bytes[amount..];
+    }
+
+    ghost plain = { λ _ _ _ _. (λ p. p, λ p. p) };
+
+    ghost plain_refusals = { λ _ _ _. (λ p. p, λ p. p) };
 }
 
 /// A source whose reads are counted from 1, and one of which fails. That one takes nothing.

@@ -111,6 +111,17 @@ fn a_slice_is_shown(rt: HostRuntime) -> Result<()> {
 }
 
 #[test]
+fn a_source_shows_little(rt: HostRuntime) -> Result<()> {
+    let mut source = Trickle::new(&[1, 2, 3], 2);
+    assert_eq!(rt; source.fill_buf()?, [1, 2].as_slice());
+    for (count, left) in [(2, 1), (1, 0), (0, 0)] {
+        assert_eq!(rt; skip_shown(&mut source)?, count);
+        assert_eq!(rt; source.bytes.len(), left);
+    }
+    Ok(())
+}
+
+#[test]
 fn a_message_through_a_reference(rt: HostRuntime) -> Result<()> {
     read_through_a_reference(&rt).or_else(|_| read_through_a_reference(&rt))
 }
