@@ -1,7 +1,8 @@
 //! Worked rows over the public calls of the other crates. It holds tests alone.
 //!
 //! Expected values come from the [encoding document] and from rows worked by hand, never from what
-//! the calls answer. Each call that may lack memory is called so that it also succeeds.
+//! the calls answer. `rt try --test --fail-alloc N` refuses one growth of each test: a body that
+//! answers an error is run once more, and has to succeed then.
 //!
 //! [encoding document]: https://capnproto.org/encoding.html
 #![tactic(auto)]
