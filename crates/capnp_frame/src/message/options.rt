@@ -51,6 +51,6 @@ impl Default for ReaderOptions {
     ghost is_default = { λ options. options ≡ DEFAULT_READER_OPTIONS };
 
     fn default() -> ReaderOptions {
-        DEFAULT_READER_OPTIONS
+        ReaderOptions::new()
     }
 }

@@ -72,7 +72,9 @@ impl ReaderSegments for OwnedSegments {
         Some(&self.bytes[8 * start..8 * end])
     }
 
-    fn len(&self) -> usize {
+    fn len(&self) -> usize
+        ensures { result ≡ length self.now }
+    {
         self.segment_indices.len()
     }
 }

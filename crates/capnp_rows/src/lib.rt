@@ -1,0 +1,23 @@
+//! Worked rows over the public calls of the other crates. It holds tests alone.
+//!
+//! Expected values come from the [encoding document] and from rows worked by hand, never from what
+//! the calls answer. `rt try --test --fail-alloc N` refuses one growth of each test: a body that
+//! answers an error is run once more, and has to succeed then.
+//!
+//! [encoding document]: https://capnproto.org/encoding.html
+#![tactic(auto)]
+
+#[cfg(test)]
+mod faults;
+#[cfg(test)]
+mod framed;
+#[cfg(test)]
+mod memory;
+#[cfg(test)]
+mod rows;
+#[cfg(test)]
+mod sources;
+#[cfg(test)]
+mod texts;
+#[cfg(test)]
+mod values;

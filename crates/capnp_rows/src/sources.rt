@@ -1,0 +1,114 @@
+//! Sources that answer little at a time, or fail.
+ghost use Rattle.std.specs.Prelude.{◌≡◌, ◌<◌, Some, take, ⊤};
+ghost use Rattle.capnp_frame.specs.Source.{Splits, RunsShort};
+ghost use Rattle.capnp_frame.specs.Splitting.{splitting, always};
+
+use capnp_frame::io::{BufRead, Read};
+use capnp_frame::{Error, ErrorKind, Result};
+
+/// A slice that answers, or shows, at most so many bytes at once.
+#[derive(Drop)]
+pub struct Trickle<'a> {
+    pub bytes: &'a [u8],
+    pub most: usize,
+    shown: usize,
+    ghost some: { 0 < most },
+}
+
+impl<'a> Trickle<'a> {
+    pub fn new(bytes: &'a [u8], most: usize) -> Trickle<'a>
+        requires { 0 < most }
+    {
+        Trickle {
+            bytes,
+            most,
+            shown: 0,
+        }
+    }
+}
+
+impl Read for Trickle<'_> {
+    ghost unread = { λ source. Some source.bytes.now };
+
+    ghost failures = { λ _. 0 };
+
+    ghost gives = { Splits };
+
+    ghost refuses = { RunsShort };
+
+    ghost same = { λ _ _. ⊤ };
+
+    fn read(&mut self, buffer: &mut [u8]) -> Result<usize> {
+        let count = self.bytes.len().min(buffer.len()).min(self.most);
+        buffer[..count].copy_from_slice(&self.bytes[..count]);
+        self.bytes = &self.bytes[count..];
+        Ok(count)
+    }
+
+    ghost lawful = { splitting };
+
+    ghost keeps = { always };
+}
+
+impl BufRead for Trickle<'_> {
+    ghost shown = { λ source. take source.shown source.bytes.now };
+
+    fn fill_buf(&mut self) -> Result<&[u8]> {
+        self.shown = self.bytes.len().min(self.most);
+        Ok(&self.bytes[..self.shown])
+    }
+
+    fn consume(&mut self, amount: usize) {
+        self.shown -= amount;
+        self.bytes = &self.bytes[amount..];
+    }
+
+    ghost plain = { λ _ _ _ _. (λ p. p, λ p. p) };
+
+    ghost plain_refusals = { λ _ _ _. (λ p. p, λ p. p) };
+}
+
+/// A source whose reads are counted from 1, and one of which fails. That one takes nothing.
+#[derive(Drop)]
+pub struct Faulty<'a> {
+    pub source: Trickle<'a>,
+    pub calls: u64,
+    pub fails_at: u64,
+    pub failures: u64,
+}
+
+impl<'a> Faulty<'a> {
+    pub fn new(source: Trickle<'a>, fails_at: u64) -> Faulty<'a> {
+        Faulty {
+            source,
+            calls: 0,
+            fails_at,
+            failures: 0,
+        }
+    }
+}
+
+impl Read for Faulty<'_> {
+    ghost unread = { λ source. Some source.source.bytes.now };
+
+    ghost failures = { λ source. source.failures };
+
+    ghost gives = { Splits };
+
+    ghost refuses = { RunsShort };
+
+    ghost same = { λ _ _. ⊤ };
+
+    fn read(&mut self, buffer: &mut [u8]) -> Result<usize> {
+        self.calls = self.calls.saturating_add(1);
+        if self.calls == self.fails_at {
+            self.failures = self.failures.saturating_add(1);
+            return Err(Error::from_kind(ErrorKind::DeviceFailed));
+        }
+        self.source.read(buffer)
+    }
+
+    ghost lawful = { splitting };
+
+    ghost keeps = { always };
+}
