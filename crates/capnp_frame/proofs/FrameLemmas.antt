@@ -7,9 +7,7 @@ use Rattle.capnp_frame.specs.SegmentTable.{field, padding_len, zero_padded_table
 use Rattle.capnp_frame.specs.Frame.{IsFrame, frame_text}
 use Rattle.capnp_frame.specs.Source.{Splits}
 use Rattle.capnp_frame.specs.Requests.{Stands}
-use Rattle.capnp_frame.specs.Splitting.{same_front, splitting}
 use Rattle.capnp_frame.proofs.TableLemmas.{length-fields}
-use Rattle.capnp_frame.proofs.RequestLemmas.{Stands-once}
 use Rattle.std.proofs.lemmas.List.Sums.{sum_by-cons}
 
 pub length-table : (text ns : List ℕ) → IsTable text ns → length text ≡ 8 + 8 * (length ns / 2)
@@ -18,7 +16,7 @@ length-table text ns table =
     let padded = table.padded in
     omega (arith, ap length table.spelled, length-append (field (length ns - 1) ++ flat_map field ns) table.padding, length-append (field (length ns - 1)) (flat_map field ns), length-fields ns)
 
-length-segments : (segments : List (List ℕ)) → AllByRecursion IsWholeWords segments → length (concat segments) ≡ 8 * size_in_words segments
+pub length-segments : (segments : List (List ℕ)) → AllByRecursion IsWholeWords segments → length (concat segments) ≡ 8 * size_in_words segments
 length-segments [] whole = refl
 length-segments (s ∷ ss) whole =
     let here = whole.0 in
@@ -53,22 +51,18 @@ frame_from_requests raw rest segments sent =
           ∙ sym (append_assoc sent.table.first sent.table.others (concat segments ++ rest)) ∙ sym (append_assoc head (concat segments) rest),
     )
 
+-- the table that is written is one
+pub zero_padded_is : (ns : List ℕ) → HasTable ns → IsTable (zero_padded_table ns) ns
+zero_padded_is ns can = record { can = can; padding = replicate (padding_len ns) 0; padded = length-replicate (padding_len ns) 0; spelled = refl }
+
 -- the frame that is written is one
 pub frame_text_is : (segments : List (List ℕ)) → HasTable (lengths segments) → AllByRecursion IsWholeWords segments → IsFrame (frame_text segments) segments
 frame_text_is segments can whole = record {
   table = zero_padded_table (lengths segments);
-  lengths_told = record { can = can; padding = replicate (padding_len (lengths segments)) 0; padded = length-replicate (padding_len (lengths segments)) 0; spelled = refl };
+  lengths_told = zero_padded_is (lengths segments) can;
   whole = whole;
   spelled = refl;
 }
-
--- no frame begins a different one
-pub frames_part : (text other rest left : List ℕ) (segments others : List (List ℕ)) → IsFrame text segments → IsFrame other others → text ++ rest ≡ other ++ left → (text ≡ other) × (segments ≡ others) × (rest ≡ left)
-frames_part text other rest left segments others frame also e =
-    let stands : Stands Splits others (text ++ rest) left = subst (λ l. Stands Splits others l left) (sym e) (Stands-from_frame other left others also) in
-    let same = Stands-once Splits (text ++ rest) rest left segments others splitting.unique splitting.gives_all (Stands-from_frame text rest segments frame) stands in
-    let long : length text ≡ length other = omega (arith, ap length e, ap length same.1, length-append text rest, length-append other left) in
-    ((same_front text other rest left long e).0, same.0, same.1)
 
 pub plain_requests : (segments : List (List ℕ)) (raw rest : List ℕ) → Stands Splits segments raw rest ↔ ((text : List ℕ) × IsFrame text segments × (raw ≡ text ++ rest))
 plain_requests segments raw rest = (

@@ -6,3 +6,12 @@ pub mod FrameLemmas
 pub mod RefusalLemmas
 pub mod TextLemmas
 pub mod WorkedRows
+pub mod WritingLemmas
+pub mod SizeLemmas
+pub mod FrontLemmas
+pub mod FlatLemmas
+pub mod HeldLemmas
+pub mod LentLemmas
+pub mod AgreementLemmas
+pub mod AnswerLemmas
+pub mod PartLemmas

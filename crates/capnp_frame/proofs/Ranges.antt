@@ -38,7 +38,7 @@ pub concat-cut : (ns bytes : List ℕ) → length bytes ≡ 8 * sum ns → conca
 concat-cut [] bytes all = sym (nil_from_length bytes all)
 concat-cut (n ∷ ns) bytes all = ap (λ l. take (8 * n) bytes ++ l) (concat-cut ns (drop (8 * n) bytes) (omega (arith, length-drop (8 * n) bytes, sum-cons n ns))) ∙ take-append-drop (8 * n) bytes
 
-length-cut : (ns bytes : List ℕ) → length (cut ns bytes) ≡ length ns
+pub length-cut : (ns bytes : List ℕ) → length (cut ns bytes) ≡ length ns
 length-cut [] bytes = refl
 length-cut (n ∷ ns) bytes = ap suc (length-cut ns (drop (8 * n) bytes))
 

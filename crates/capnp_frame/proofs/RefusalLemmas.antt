@@ -1,28 +1,25 @@
 -- The refusal table: each line is the first that holds at most once.
-use Rattle.std.proofs.Common.{◌≡◌, ℕ, ◌+◌, ◌-◌, ◌*◌, ◌/◌, ◌%◌, ◌<◌, ◌≤◌, ◌^◌, Option, Some, None, IfSome, ◌⊎◌, inl, inr, List, [], ◌∷◌, ◌++◌, length, take, drop, refl, sym, ap, ◌∙◌, subst, arith, Result, Ok, Err, IfErr}
-use Rattle.std.specs.Prelude.{sum, ◌≢◌, IsSomeAnd, IfOk, IfNone}
-use Rattle.std.specs.Result.{IsErrAnd}
+use Rattle.std.proofs.Common.{◌≡◌, ℕ, ◌+◌, ◌-◌, ◌*◌, ◌/◌, ◌%◌, ◌<◌, ◌≤◌, ◌^◌, Option, Some, None, ◌⊎◌, inl, inr, List, [], ◌∷◌, ◌++◌, length, take, refl, sym, ap, ◌∙◌, subst, arith}
+use Rattle.std.specs.Prelude.{sum, IsSomeAnd}
 use Rattle.std.specs.List.{concat}
 use lib.Seq.{take-append-le}
-use Rattle.std.proofs.lemmas.Option.{none-some, same_Some}
-use Rattle.capnp_frame.specs.declared.error.Error.{Error}
 use Rattle.capnp_frame.specs.declared.error.ErrorKind.{ErrorKind}
-use Rattle.capnp_frame.specs.declared.error.ErrorKind.TheVariants.{BufferNotLargeEnough, InvalidNumberOfSegments, MessageTooLarge, DeviceFailed, OutOfMemory}
+use Rattle.capnp_frame.specs.declared.error.ErrorKind.TheVariants.{BufferNotLargeEnough, InvalidNumberOfSegments, MessageTooLarge, DeviceFailed}
 use Rattle.capnp_frame.specs.Message.{lengths, size_in_words}
 use Rattle.capnp_frame.specs.SegmentTable.{field, table_size, IsTable}
 use Rattle.capnp_frame.specs.Limits.{KeepsLimit, AreWithin, IsWithin}
 use Rattle.capnp_frame.specs.Source.{Giving, Refusing, IsSource, Known, IsTail, IsRefused}
 use Rattle.capnp_frame.specs.Requests.{TableStands, Stands}
-use Rattle.capnp_frame.specs.Refusals.{Unless, Asks, Tells, IsOutOfRange, IsTooLarge, LacksRoom, Stops, MeetsLimit, MeetsCount, Meets, RefusesTable, RefusesStream, IsReaderKind}
+use Rattle.capnp_frame.specs.Refusals.{Unless, Asks, Tells, IsOutOfRange, IsTooLarge, LacksRoom, Stops, MeetsLimit, MeetsCount, Meets, RefusesTable, RefusesStream}
 use Rattle.capnp_frame.proofs.TableLemmas.{IsTable-once, field-once, count_told}
 
-Unless-once : {S L A M B P : Type 0} → (L → M → P) → (A → B → P) → Unless S L A → Unless S M B → P
+pub Unless-once : {S L A M B P : Type 0} → (L → M → P) → (A → B → P) → Unless S L A → Unless S M B → P
 Unless-once line after (inl p) (inl q) = line p.1 q.1
 Unless-once line after (inr p) (inr q) = after p.1 q.1
 Unless-once line after (inl p) (inr q) = absurd (q.0 p.0)
 Unless-once line after (inr p) (inl q) = absurd (p.0 q.0)
 
-Unless-after : {S L A P : Type 0} → (S → ⊥) → (A → P) → Unless S L A → P
+pub Unless-after : {S L A P : Type 0} → (S → ⊥) → (A → P) → Unless S L A → P
 Unless-after never after (inl p) = absurd (never p.0)
 Unless-after never after (inr p) = after p.1
 
@@ -82,7 +79,7 @@ pub within_limit : (ns : List ℕ) (limit : Option ℕ) → KeepsLimit ns limit 
 within_limit ns None keeps over = over
 within_limit ns (Some most) keeps over = absurd (omega arith)
 
-small_room : (room : Option ℕ) (m n : ℕ) → m ≤ n → (LacksRoom room n → ⊥) → LacksRoom room m → ⊥
+pub small_room : (room : Option ℕ) (m n : ℕ) → m ≤ n → (LacksRoom room n → ⊥) → LacksRoom room m → ⊥
 small_room None m n less fits lacks = lacks
 small_room (Some len) m n less fits lacks = fits (omega arith)
 
@@ -139,7 +136,7 @@ Meets-map {gives} {others} {refuses} {also} given refused limit room kind A B ra
 pub RefusesStream-map : {gives others : Giving} {refuses also : Refusing} (given : (raw : List ℕ) (n : ℕ) (bytes rest : List ℕ) → gives raw n bytes rest → others raw n bytes rest) (refused : (raw : List ℕ) (n : ℕ) (kind : ErrorKind) → refuses raw n kind → also raw n kind) (limit room : Option ℕ) (kind : ErrorKind) (raw left : List ℕ) → RefusesStream gives refuses limit room kind raw left → RefusesStream others also limit room kind raw left
 RefusesStream-map given refused limit room kind raw left = Meets-map given refused limit room kind _ _ raw left (λ ns behind. Unless-map (refused behind (8 * sum ns) kind))
 
-given_some : {gives : Giving} {refuses : Refusing} (laws : IsSource gives refuses) (raw : List ℕ) (n : ℕ) (bytes rest : List ℕ) → gives raw n bytes rest → 0 < n → raw ≡ [] → ⊥
+pub given_some : {gives : Giving} {refuses : Refusing} (laws : IsSource gives refuses) (raw : List ℕ) (n : ℕ) (bytes rest : List ℕ) → gives raw n bytes rest → 0 < n → raw ≡ [] → ⊥
 given_some {gives} laws raw n bytes rest given some none =
     let zero_len : n ≡ 0 = laws.none_from_nothing n bytes rest (subst (λ l. gives l n bytes rest) none given) in
     absurd (omega arith)
@@ -155,85 +152,74 @@ table_tells word others ns table few long =
     same k some few = omega arith
 
 -- what comes after a table that is accepted
-pub Meets-from : {gives : Giving} {refuses : Refusing} (laws : IsSource gives refuses) (limit : Option ℕ) (kind : ErrorKind) (A : List ℕ → List ℕ → Type 0) (raw left ns behind : List ℕ) → TableStands gives ns raw behind → AreWithin ns limit → A ns behind → Meets gives refuses limit None kind A raw left
-Meets-from laws limit kind A raw left ns behind sent accepts after =
+pub Meets-from : {gives : Giving} {refuses : Refusing} (laws : IsSource gives refuses) (limit room : Option ℕ) (kind : ErrorKind) (A : List ℕ → List ℕ → Type 0) (raw left ns behind : List ℕ) → (LacksRoom room (table_size (length ns)) → ⊥) → TableStands gives ns raw behind → AreWithin ns limit → A ns behind → Meets gives refuses limit room kind A raw left
+Meets-from laws limit room kind A raw left ns behind fits sent accepts after =
     let some = accepts.some in
     let few = accepts.few in
-    inr (λ x. x, (given_some laws raw 8 sent.first sent.between sent.first_given (omega arith), inr (sent.first, sent.between, sent.first_given, (length ns, table_tells sent.first sent.others ns sent.table few (laws.gives_all raw 8 sent.first sent.between sent.first_given), inr (in_range (length ns) some few, inr (λ x. x, inr (sent.others, behind, sent.others_given, (ns, sent.table, inr (within_limit ns limit accepts.size, after)))))))))
+    inr (small_room room 8 (table_size (length ns)) (omega arith) fits, (given_some laws raw 8 sent.first sent.between sent.first_given (omega arith), inr (sent.first, sent.between, sent.first_given, (length ns, table_tells sent.first sent.others ns sent.table few (laws.gives_all raw 8 sent.first sent.between sent.first_given), inr (in_range (length ns) some few, inr (fits, inr (sent.others, behind, sent.others_given, (ns, sent.table, inr (within_limit ns limit accepts.size, after)))))))))
 
--- the lines, as a reader that grows meets them
+-- the lines, as a reader meets them
 
-pub word_met : (G : Type 0) (gives : Giving) (refuses : Refusing) (limit : Option ℕ) (kind : ErrorKind) (old new : Option (List ℕ)) → (old ≡ Some [] → kind ≡ DeviceFailed) → Known old new IsTail → (kind ≡ DeviceFailed) ⊎ IsRefused refuses 8 old kind → (kind ≡ DeviceFailed) ⊎ G ⊎ Known old new (RefusesTable gives refuses limit kind)
-word_met G gives refuses limit kind old new end tail (inl failed) = inl failed
-word_met G gives refuses limit kind None new end tail (inr refused) = inr (inr tt)
-word_met G gives refuses limit kind (Some raw) None end tail (inr refused) = absurd tail
-word_met G gives refuses limit kind (Some []) (Some left) end tail (inr refused) = inl (end refl)
-word_met G gives refuses limit kind (Some (byte ∷ raw)) (Some left) end tail (inr refused) = inr (inr (inr (λ x. x, (λ e. cc, inl refused))))
+pub word_met : (gives : Giving) (refuses : Refusing) (limit room : Option ℕ) (kind : ErrorKind) (old new : Option (List ℕ)) → (LacksRoom room 8 → ⊥) → (old ≡ Some [] → kind ≡ DeviceFailed) → Known old new IsTail → (kind ≡ DeviceFailed) ⊎ IsRefused refuses 8 old kind → (kind ≡ DeviceFailed) ⊎ Known old new (RefusesTable gives refuses limit room kind)
+word_met gives refuses limit room kind old new fits end tail (inl failed) = inl failed
+word_met gives refuses limit room kind None new fits end tail (inr refused) = inr tt
+word_met gives refuses limit room kind (Some raw) None fits end tail (inr refused) = absurd tail
+word_met gives refuses limit room kind (Some []) (Some left) fits end tail (inr refused) = inl (end refl)
+word_met gives refuses limit room kind (Some (byte ∷ raw)) (Some left) fits end tail (inr refused) = inr (inr (fits, (λ e. cc, inl refused)))
 
-pub count_met : {gives : Giving} {refuses : Refusing} (laws : IsSource gives refuses) (limit : Option ℕ) (old mid : Option (List ℕ)) (word : List ℕ) (n count : ℕ) → Known old mid (λ raw rest. gives raw 8 word rest) → field n ≡ take 4 word → n < 2 ^ 32 → count ≡ (n + 1) % 2 ^ 32 → IsOutOfRange count → Known old mid (RefusesTable gives refuses limit (InvalidNumberOfSegments count))
-count_met laws limit None mid word n count given told fits is out = tt
-count_met laws limit (Some raw) None word n count given told fits is out = absurd given
-count_met laws limit (Some raw) (Some left) word n count given told fits is out =
-    inr (λ x. x, (given_some laws raw 8 word left given (omega arith), inr (word, left, given, (count, (n, fits, told, is), inl (out, (refl, refl))))))
+-- a count that is accepted is the one that the word tells
+pub Tells-accepted : (word : List ℕ) (count : ℕ) → 0 < count → count < 512 → field (count - 1) ≡ take 4 word → Tells word count
+Tells-accepted word count some few told = (count - 1, omega arith, told, omega arith)
 
-pub others_met : {gives : Giving} {refuses : Refusing} (laws : IsSource gives refuses) (F G : Type 0) (limit : Option ℕ) (kind : ErrorKind) (old mid new : Option (List ℕ)) (word : List ℕ) (n count len : ℕ) → Known old mid (λ raw rest. gives raw 8 word rest) → Known mid new IsTail → field n ≡ take 4 word → n < 2 ^ 32 → count ≡ (n + 1) % 2 ^ 32 → (IsOutOfRange count → ⊥) → len ≡ 8 * (count / 2) → F ⊎ IsRefused refuses len mid kind → F ⊎ G ⊎ Known old new (RefusesTable gives refuses limit kind)
-others_met laws F G limit kind old mid new word n count len given tail told fits is range long (inl failed) = inl failed
-others_met laws F G limit kind None mid new word n count len given tail told fits is range long (inr refused) = inr (inr tt)
-others_met laws F G limit kind (Some raw) None new word n count len given tail told fits is range long (inr refused) = absurd given
-others_met laws F G limit kind (Some raw) (Some mid) None word n count len given tail told fits is range long (inr refused) = absurd tail
-others_met {gives} {refuses} laws F G limit kind (Some raw) (Some mid) (Some left) word n count len given tail told fits is range long (inr refused) =
-    inr (inr (inr (λ x. x, (given_some laws raw 8 word mid given (omega arith), inr (word, mid, given, (count, (n, fits, told, is), inr (range, inr (λ x. x, inl (subst (λ k. refuses mid k kind) long refused)))))))))
+pub count_met : {gives : Giving} {refuses : Refusing} (laws : IsSource gives refuses) (limit room : Option ℕ) (kind : ErrorKind) (old mid : Option (List ℕ)) (word : List ℕ) → (LacksRoom room 8 → ⊥) → Known old mid (λ raw rest. gives raw 8 word rest) → (count : ℕ) × Tells word count × IsOutOfRange count × (kind ≡ InvalidNumberOfSegments count) → Known old mid (RefusesTable gives refuses limit room kind)
+count_met laws limit room kind None mid word holds given refused = tt
+count_met laws limit room kind (Some raw) None word holds given refused = absurd given
+count_met laws limit room kind (Some raw) (Some left) word holds given (count, tells, out, is) =
+    inr (holds, (given_some laws raw 8 word left given (omega arith), inr (word, left, given, (count, tells, inl (out, (is, refl))))))
 
-pub limit_met : {gives : Giving} {refuses : Refusing} (laws : IsSource gives refuses) (limit : Option ℕ) (old mid new : Option (List ℕ)) (word others ns : List ℕ) (most total : ℕ) → Known old mid (λ raw rest. gives raw 8 word rest) → Known mid new (λ raw rest. gives raw (length others) others rest) → length others ≡ 8 * (length ns / 2) → length ns < 512 → IsTable (word ++ others) ns → limit ≡ Some most → most < total → total ≡ sum ns → Known old new (RefusesTable gives refuses limit (MessageTooLarge total))
-limit_met laws limit None mid new word others ns most total given others_given long few table is over sums = tt
-limit_met laws limit (Some raw) None new word others ns most total given others_given long few table is over sums = absurd given
-limit_met laws limit (Some raw) (Some mid) None word others ns most total given others_given long few table is over sums = absurd others_given
-limit_met {gives} {refuses} laws limit (Some raw) (Some mid) (Some left) word others ns most total given others_given long few table is over sums =
+pub others_met : {gives : Giving} {refuses : Refusing} (laws : IsSource gives refuses) (F : Type 0) (limit room : Option ℕ) (kind : ErrorKind) (old mid new : Option (List ℕ)) (word : List ℕ) (count len : ℕ) → (LacksRoom room 8 → ⊥) → (LacksRoom room (table_size count) → ⊥) → Known old mid (λ raw rest. gives raw 8 word rest) → Known mid new IsTail → 0 < count → count < 512 → field (count - 1) ≡ take 4 word → len ≡ 8 * (count / 2) → F ⊎ IsRefused refuses len mid kind → F ⊎ Known old new (RefusesTable gives refuses limit room kind)
+others_met laws F limit room kind old mid new word count len holds table given tail some few told long (inl failed) = inl failed
+others_met laws F limit room kind None mid new word count len holds table given tail some few told long (inr refused) = inr tt
+others_met laws F limit room kind (Some raw) None new word count len holds table given tail some few told long (inr refused) = absurd given
+others_met laws F limit room kind (Some raw) (Some mid) None word count len holds table given tail some few told long (inr refused) = absurd tail
+others_met {gives} {refuses} laws F limit room kind (Some raw) (Some mid) (Some left) word count len holds table given tail some few told long (inr refused) =
+    inr (inr (holds, (given_some laws raw 8 word mid given (omega arith), inr (word, mid, given, (count, Tells-accepted word count some few told, inr (in_range count some few, inr (table, inl (subst (λ k. refuses mid k kind) long refused))))))))
+
+pub limit_met : {gives : Giving} {refuses : Refusing} (laws : IsSource gives refuses) (limit room : Option ℕ) (kind : ErrorKind) (old mid new : Option (List ℕ)) (word others ns : List ℕ) (total : ℕ) → (LacksRoom room (table_size (length ns)) → ⊥) → Known old mid (λ raw rest. gives raw 8 word rest) → Known mid new (λ raw rest. gives raw (length others) others rest) → length others ≡ 8 * (length ns / 2) → length ns < 512 → IsTable (word ++ others) ns → total ≡ sum ns → IsSomeAnd limit (λ most. most < total) × (kind ≡ MessageTooLarge total) → Known old new (RefusesTable gives refuses limit room kind)
+limit_met laws limit room kind None mid new word others ns total fits given others_given long few table sums over = tt
+limit_met laws limit room kind (Some raw) None new word others ns total fits given others_given long few table sums over = absurd given
+limit_met laws limit room kind (Some raw) (Some mid) None word others ns total fits given others_given long few table sums over = absurd others_given
+limit_met {gives} {refuses} laws limit room kind (Some raw) (Some mid) (Some left) word others ns total fits given others_given long few table sums (over, is) =
     let some = table.can.some in
-    let large : IsTooLarge ns limit = subst (λ l. IsTooLarge ns l) (sym is) (subst (λ k. most < k) sums over) in
-    inr (λ x. x, (given_some laws raw 8 word mid given (omega arith), inr (word, mid, given, (length ns, table_tells word others ns table few (laws.gives_all raw 8 word mid given), inr (in_range (length ns) some few, inr (λ x. x, inr (others, left, subst (λ k. gives mid k others left) long others_given, (ns, table, inl (large, (ap MessageTooLarge sums, refl))))))))))
+    let large : IsTooLarge ns limit = subst (λ k. IsSomeAnd limit (λ most. most < k)) sums over in
+    inr (small_room room 8 (table_size (length ns)) (omega arith) fits, (given_some laws raw 8 word mid given (omega arith), inr (word, mid, given, (length ns, table_tells word others ns table few (laws.gives_all raw 8 word mid given), inr (in_range (length ns) some few, inr (fits, inr (others, left, subst (λ k. gives mid k others left) long others_given, (ns, table, inl (large, (is ∙ ap MessageTooLarge sums, refl))))))))))
 
-pub table_met : (F G : Type 0) (gives : Giving) (refuses : Refusing) (limit : Option ℕ) (kind : ErrorKind) (old new : Option (List ℕ)) → F ⊎ G ⊎ Known old new (RefusesTable gives refuses limit kind) → F ⊎ G ⊎ Known old new (RefusesStream gives refuses limit None kind)
-table_met F G gives refuses limit kind old new (inl p) = inl p
-table_met F G gives refuses limit kind old new (inr (inl p)) = inr (inl p)
-table_met F G gives refuses limit kind None new (inr (inr p)) = inr (inr tt)
-table_met F G gives refuses limit kind (Some raw) None (inr (inr p)) = absurd p
-table_met F G gives refuses limit kind (Some raw) (Some left) (inr (inr p)) = inr (inr (Meets-map {gives = gives} {refuses = refuses} (λ raw n bytes rest given. given) (λ raw n kind refused. refused) limit None kind _ _ raw left (λ ns behind never. absurd never) p))
+pub table_met : (F : Type 0) (gives : Giving) (refuses : Refusing) (limit room : Option ℕ) (kind : ErrorKind) (old new : Option (List ℕ)) → F ⊎ Known old new (RefusesTable gives refuses limit room kind) → F ⊎ Known old new (RefusesStream gives refuses limit room kind)
+table_met F gives refuses limit room kind old new (inl p) = inl p
+table_met F gives refuses limit room kind None new (inr p) = inr tt
+table_met F gives refuses limit room kind (Some raw) None (inr p) = absurd p
+table_met F gives refuses limit room kind (Some raw) (Some left) (inr p) = inr (Meets-map {gives = gives} {refuses = refuses} (λ raw n bytes rest given. given) (λ raw n kind refused. refused) limit room kind _ _ raw left (λ ns behind never. absurd never) p)
 
-pub segments_met : {gives : Giving} {refuses : Refusing} (laws : IsSource gives refuses) (F G : Type 0) (limit : Option ℕ) (kind : ErrorKind) (old mid new : Option (List ℕ)) (ns : List ℕ) (len : ℕ) → Known old mid (TableStands gives ns) → AreWithin ns limit → Known mid new IsTail → len ≡ 8 * sum ns → F ⊎ IsRefused refuses len mid kind → F ⊎ G ⊎ Known old new (RefusesStream gives refuses limit None kind)
-segments_met laws F G limit kind old mid new ns len sent accepts tail long (inl p) = inl p
-segments_met laws F G limit kind None mid new ns len sent accepts tail long (inr p) = inr (inr tt)
-segments_met laws F G limit kind (Some raw) None new ns len sent accepts tail long (inr p) = absurd sent
-segments_met laws F G limit kind (Some raw) (Some mid) None ns len sent accepts tail long (inr p) = absurd tail
-segments_met {gives} {refuses} laws F G limit kind (Some raw) (Some mid) (Some left) ns len sent accepts tail long (inr p) =
-    inr (inr (Meets-from laws limit kind _ raw left ns mid sent accepts (inr (λ x. x, subst (λ k. refuses mid k kind) long p))))
+-- a lent buffer has no room for the segments
+pub body_met : {gives : Giving} {refuses : Refusing} (laws : IsSource gives refuses) (limit room : Option ℕ) (old mid : Option (List ℕ)) (ns : List ℕ) → (LacksRoom room (table_size (length ns)) → ⊥) → LacksRoom room (table_size (length ns) + 8 * sum ns) → Known old mid (TableStands gives ns) → AreWithin ns limit → Known old mid (RefusesStream gives refuses limit room BufferNotLargeEnough)
+body_met laws limit room None mid ns fits lacks sent accepts = tt
+body_met laws limit room (Some raw) None ns fits lacks sent accepts = absurd sent
+body_met laws limit room (Some raw) (Some left) ns fits lacks sent accepts = Meets-from laws limit room BufferNotLargeEnough _ raw left ns left fits sent accepts (inl (lacks, (refl, refl)))
 
--- what the answers of a reader come to
+pub segments_met : {gives : Giving} {refuses : Refusing} (laws : IsSource gives refuses) (F : Type 0) (limit room : Option ℕ) (kind : ErrorKind) (old mid new : Option (List ℕ)) (ns : List ℕ) (len : ℕ) → (LacksRoom room (table_size (length ns) + 8 * sum ns) → ⊥) → Known old mid (TableStands gives ns) → AreWithin ns limit → Known mid new IsTail → len ≡ 8 * sum ns → F ⊎ IsRefused refuses len mid kind → F ⊎ Known old new (RefusesStream gives refuses limit room kind)
+segments_met laws F limit room kind old mid new ns len fits sent accepts tail long (inl p) = inl p
+segments_met laws F limit room kind None mid new ns len fits sent accepts tail long (inr p) = inr tt
+segments_met laws F limit room kind (Some raw) None new ns len fits sent accepts tail long (inr p) = absurd sent
+segments_met laws F limit room kind (Some raw) (Some mid) None ns len fits sent accepts tail long (inr p) = absurd tail
+segments_met {gives} {refuses} laws F limit room kind (Some raw) (Some mid) (Some left) ns len fits sent accepts tail long (inr p) =
+    inr (Meets-from laws limit room kind _ raw left ns mid (small_room room (table_size (length ns)) (table_size (length ns) + 8 * sum ns) (omega arith) fits) sent accepts (inr (fits, subst (λ k. refuses mid k kind) long p)))
 
-pub message_accepted : {gives : Giving} {refuses : Refusing} (laws : IsSource gives refuses) (limit : Option ℕ) (kind : ErrorKind) (old new : Option (List ℕ)) → (kind ≡ DeviceFailed) ⊎ (kind ≡ OutOfMemory) ⊎ Known old new (RefusesStream gives refuses limit None kind) → IfSome old (λ raw. (segments : List (List ℕ)) (rest : List ℕ) → Stands gives segments raw rest → IsWithin segments limit → (kind ≡ DeviceFailed) ⊎ (kind ≡ OutOfMemory))
-message_accepted laws limit kind None new refused = tt
-message_accepted laws limit kind (Some raw) new (inl p) = λ segments rest sent within. inl p
-message_accepted laws limit kind (Some raw) new (inr (inl p)) = λ segments rest sent within. inr p
-message_accepted laws limit kind (Some raw) None (inr (inr p)) = absurd p
-message_accepted laws limit kind (Some raw) (Some left) (inr (inr p)) = λ segments rest sent within. absurd (RefusesStream-apart laws limit None kind raw left rest segments sent within (λ x. x) p)
+-- want of memory is the refusal of a reader that grows
+pub or_memory : {F G R : Type 0} → F ⊎ R → F ⊎ G ⊎ R
+or_memory (inl p) = inl p
+or_memory (inr p) = inr (inr p)
 
-pub accepted : {gives : Giving} {refuses : Refusing} (laws : IsSource gives refuses) {X : Type 0} (limit : Option ℕ) (old new : Option (List ℕ)) (r : Result X Error) → IfErr r (λ e. (e.kind ≡ DeviceFailed) ⊎ (e.kind ≡ OutOfMemory) ⊎ Known old new (RefusesStream gives refuses limit None e.kind)) → IfErr r (λ e. IfSome old (λ raw. (segments : List (List ℕ)) (rest : List ℕ) → Stands gives segments raw rest → IsWithin segments limit → (e.kind ≡ DeviceFailed) ⊎ (e.kind ≡ OutOfMemory)))
-accepted laws limit old new (Ok x) refused = tt
-accepted laws limit old new (Err e) refused = message_accepted laws limit e.kind old new refused
-
--- each line is answered where it is the first that holds
-pub exact : {gives : Giving} {refuses : Refusing} (laws : IsSource gives refuses) (limit : Option ℕ) (old new : Option (List ℕ)) (r : Result (Option (List (List ℕ))) Error) → IfOk r (λ found. IfSome found (λ segments. Known old new (Stands gives segments))) → IfOk r (λ found. IfSome found (λ segments. IsWithin segments limit)) → IfOk r (λ found. IfNone found (IfSome old (λ raw. raw ≡ []))) → IfErr r (λ e. (e.kind ≡ DeviceFailed) ⊎ (e.kind ≡ OutOfMemory) ⊎ Known old new (RefusesStream gives refuses limit None e.kind)) → IfSome old (λ raw. (kind : ErrorKind) (left : List ℕ) → RefusesStream gives refuses limit None kind raw left → IsErrAnd r (λ e. (e.kind ≡ DeviceFailed) ⊎ (e.kind ≡ OutOfMemory) ⊎ (e.kind ≡ kind)))
-exact laws limit None new r found within none refused = tt
-exact laws limit (Some raw) new (Ok None) found within none refused = λ kind left p. Unless-after (λ x. x) (λ x. absurd (x.0 none)) p
-exact laws limit (Some raw) None (Ok (Some segments)) found within none refused = absurd found
-exact laws limit (Some raw) (Some rest) (Ok (Some segments)) found within none refused = λ kind left p. RefusesStream-apart laws limit None kind raw left rest segments found within (λ x. x) p
-exact laws limit (Some raw) new (Err e) found within none (inl p) = λ kind left q. inl p
-exact laws limit (Some raw) new (Err e) found within none (inr (inl p)) = λ kind left q. inr (inl p)
-exact laws limit (Some raw) None (Err e) found within none (inr (inr p)) = absurd p
-exact laws limit (Some raw) (Some left) (Err e) found within none (inr (inr p)) = λ kind rest q. inr (inr (RefusesStream-once laws limit None e.kind kind raw left rest p q))
-
--- a source's refusal is one of its kinds
-pub source_kind : (refuses : Refusing) (n : ℕ) (unread : Option (List ℕ)) (kind : ErrorKind) → (kind ≡ DeviceFailed) ⊎ IsRefused refuses n unread kind → IsReaderKind refuses kind
-source_kind refuses n unread kind (inl p) = inl p
-source_kind refuses n None kind (inr p) = inr (inr (inr (inr p)))
-source_kind refuses n (Some raw) kind (inr p) = inr (inr (inr (inr (raw, n, p))))
+pub table_met_growing : (F G : Type 0) (gives : Giving) (refuses : Refusing) (limit room : Option ℕ) (kind : ErrorKind) (old new : Option (List ℕ)) → F ⊎ G ⊎ Known old new (RefusesTable gives refuses limit room kind) → F ⊎ G ⊎ Known old new (RefusesStream gives refuses limit room kind)
+table_met_growing F G gives refuses limit room kind old new (inl p) = inl p
+table_met_growing F G gives refuses limit room kind old new (inr (inl p)) = inr (inl p)
+table_met_growing F G gives refuses limit room kind old new (inr (inr p)) = or_memory (table_met F gives refuses limit room kind old new (inr p))

@@ -166,7 +166,7 @@ Takes-given gives refuses n got raw left takes_nothing gives_nothing unique apar
 
 -- Pieces one after another.
 
-IsFront-join : (x y z : List ℕ) → IsFront x y → IsFront y z → IsFront x z
+pub IsFront-join : (x y z : List ℕ) → IsFront x y → IsFront y z → IsFront x z
 IsFront-join x y z (a, p) (b, q) = (a ++ b, q ∙ ap (λ l. l ++ b) p ∙ append_assoc x a b)
 
 pub Grows-join : {S : Type 0} {written : S → Option (List ℕ)} {failures : S → ℕ} {same : S → S → Type 0} (a b c : S) → (same a b → same b c → same a c) → Grows written failures same a b → Grows written failures same b c → Grows written failures same a c

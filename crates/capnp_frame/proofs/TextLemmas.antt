@@ -1,17 +1,18 @@
 -- A stream parts into texts in one way.
-use Rattle.std.proofs.Common.{◌≡◌, ℕ, ◌+◌, ◌<◌, ◌≤◌, Option, Some, None, List, [], ◌∷◌, ◌++◌, length, refl, sym, ap, ◌∙◌, subst, arith, append_assoc, length-append, ◌↔◌}
+use Rattle.std.proofs.Common.{◌≡◌, ℕ, ◌≤◌, Option, Some, None, List, [], ◌∷◌, ◌++◌, length, refl, sym, ap, ◌∙◌, subst, arith, lit<, append_assoc, length-append, ◌↔◌}
 use Rattle.std.proofs.lemmas.List.{append-nil}
 use Rattle.std.specs.List.{concat}
 use Rattle.capnp_frame.specs.declared.error.ErrorKind.{ErrorKind}
-use Rattle.capnp_frame.specs.Frame.{IsFrame}
 use Rattle.capnp_frame.specs.Limits.{IsWithin}
-use Rattle.capnp_frame.specs.Source.{Giving, Refusing, IsSource, Splits, RunsShort}
+use Rattle.capnp_frame.specs.Source.{Giving, Refusing, IsSource}
 use Rattle.capnp_frame.specs.Requests.{Stands}
 use Rattle.capnp_frame.specs.Sink.{AppendsSame, AppendsAll}
 use Rattle.capnp_frame.specs.Texts.{Grammar, BeginsWith, AreTexts, Ends}
-use Rattle.capnp_frame.specs.Splitting.{splitting}
-use Rattle.capnp_frame.proofs.FrameLemmas.{Stands-from_frame, frame_from_requests, frames_part, length-table}
-use Rattle.capnp_frame.proofs.RefusalLemmas.{RefusesStream-apart, RefusesStream-once, RefusesStream-some}
+use Rattle.capnp_frame.specs.Frame.{IsFrame}
+use Rattle.capnp_frame.specs.Splitting.{same_front, splitting}
+use Rattle.capnp_frame.proofs.FrameLemmas.{plain_requests}
+use Rattle.capnp_frame.proofs.RequestLemmas.{Stands-once}
+use Rattle.capnp_frame.proofs.RefusalLemmas.{given_some, RefusesStream-apart, RefusesStream-once, RefusesStream-some}
 
 -- What a grammar's texts have with its source's requests: one message begins a stream, and none does where it ends.
 pub record PartsStreams (IsText : Grammar) (gives : Giving) (refuses : Refusing) (limit : Option ℕ) : Type 0 where
@@ -45,20 +46,36 @@ pub AreTexts-push : (IsText : Grammar) (limit : Option ℕ) (ms : List (List (Li
 AreTexts-push IsText limit [] m raw between rest texts begins = (rest, subst (λ l. BeginsWith IsText limit m l rest) texts begins, refl)
 AreTexts-push IsText limit (n ∷ ns) m raw between rest texts begins = (texts.0, texts.1, AreTexts-push IsText limit ns m texts.0 between rest texts.2 begins)
 
--- framed texts
-no_frame_at_end : (limit : Option ℕ) (ending : Option ErrorKind) (m : List (List ℕ)) (raw rest : List ℕ) → Ends Splits RunsShort limit ending raw → BeginsWith IsFrame limit m raw rest → ⊥
-no_frame_at_end limit None m raw rest ends begins =
-    let none : ◌≡◌ {A = ℕ} (length begins.text) 0 = omega (arith, ap length ends, ap length begins.spelled, length-append begins.text rest) in
-    let long = length-table begins.is_text.table _ begins.is_text.lengths_told in
-    absurd (omega (arith, ap length begins.is_text.spelled, length-append begins.is_text.table (concat m)))
-no_frame_at_end limit (Some kind) m raw rest ends begins =
-    RefusesStream-apart splitting limit None kind raw ends.0 rest m (subst (λ l. Stands Splits m l rest) (sym begins.spelled) (Stands-from_frame begins.text rest m begins.is_text)) begins.within (λ x. x) ends.1
+-- a grammar's texts are what three requests of a source take
+abbrev pub AreRequested : Grammar → Giving → Type 0
+AreRequested IsText gives = (segments : List (List ℕ)) (raw rest : List ℕ) → Stands gives segments raw rest ↔ ((text : List ℕ) × IsText text segments × (raw ≡ text ++ rest))
 
-pub frames_part_streams : (limit : Option ℕ) → PartsStreams IsFrame Splits RunsShort limit
-frames_part_streams limit = record {
-  begins_once = λ m n raw rest left p q. let parts = frames_part p.text q.text rest left m n p.is_text q.is_text (sym p.spelled ∙ q.spelled) in (parts.1, parts.2);
-  ends_apart = no_frame_at_end limit;
+requested : {IsText : Grammar} {gives : Giving} {limit : Option ℕ} (texts : AreRequested IsText gives) (m : List (List ℕ)) (raw rest : List ℕ) → BeginsWith IsText limit m raw rest → Stands gives m raw rest
+requested texts m raw rest begins = (texts m raw rest).1 (begins.text, begins.is_text, begins.spelled)
+
+nothing_at_end : {IsText : Grammar} {gives : Giving} {refuses : Refusing} (laws : IsSource gives refuses) (texts : AreRequested IsText gives) (limit : Option ℕ) (ending : Option ErrorKind) (m : List (List ℕ)) (raw rest : List ℕ) → Ends gives refuses limit ending raw → BeginsWith IsText limit m raw rest → ⊥
+nothing_at_end laws texts limit None m raw rest ends begins =
+    let stands = requested texts m raw rest begins in
+    given_some laws raw 8 stands.table.first stands.table.between stands.table.first_given (lit< tt) ends
+nothing_at_end laws texts limit (Some kind) m raw rest ends begins =
+    RefusesStream-apart laws limit None kind raw ends.0 rest m (requested texts m raw rest begins) begins.within (λ x. x) ends.1
+
+pub parts_streams : {IsText : Grammar} {gives : Giving} {refuses : Refusing} (laws : IsSource gives refuses) (texts : AreRequested IsText gives) (limit : Option ℕ) → PartsStreams IsText gives refuses limit
+parts_streams {gives = gives} laws texts limit = record {
+  begins_once = λ m n raw rest left p q. Stands-once gives raw rest left m n laws.unique laws.gives_all (requested texts m raw rest p) (requested texts n raw left q);
+  ends_apart = nothing_at_end laws texts limit;
 }
+
+-- no text begins a different one
+pub texts_part : {IsText : Grammar} {gives : Giving} {refuses : Refusing} (laws : IsSource gives refuses) (texts : AreRequested IsText gives) (text other rest left : List ℕ) (segments others : List (List ℕ)) → IsText text segments → IsText other others → text ++ rest ≡ other ++ left → (text ≡ other) × (segments ≡ others) × (rest ≡ left)
+texts_part {gives = gives} laws texts text other rest left segments others is also e =
+    let same = Stands-once gives (text ++ rest) rest left segments others laws.unique laws.gives_all ((texts segments (text ++ rest) rest).1 (text, is, refl)) ((texts others (text ++ rest) left).1 (other, also, e)) in
+    let long : length text ≡ length other = omega (arith, ap length e, ap length same.1, length-append text rest, length-append other left) in
+    ((same_front text other rest left long e).0, same.0, same.1)
+
+-- no frame begins a different one
+pub frames_part : (text other rest left : List ℕ) (segments others : List (List ℕ)) → IsFrame text segments → IsFrame other others → text ++ rest ≡ other ++ left → (text ≡ other) × (segments ≡ others) × (rest ≡ left)
+frames_part text other rest left segments others = texts_part splitting plain_requests text other rest left segments others
 
 -- pieces behind one another
 pub AppendsAll-push : (appends : List ℕ → List ℕ → Type 0) (pieces : List (List ℕ)) (piece text more : List ℕ) → AppendsAll appends pieces text → appends piece more → AppendsAll appends (pieces ++ piece ∷ []) (text ++ more)
@@ -80,8 +97,8 @@ Ends-once {gives} {refuses} laws limit None (Some kind) rest p q = absurd (Refus
 Ends-once {gives} {refuses} laws limit (Some kind) None rest p q = absurd (RefusesStream-some gives refuses limit None kind rest p.0 p.1 (λ x. x) q)
 Ends-once laws limit (Some kind) (Some other) rest p q = ap Some (RefusesStream-once laws limit None kind other rest p.0 q.0 p.1 q.1)
 
--- a message that stands by the requests of a plain source begins its stream
-pub begins_from_requests : (limit : Option ℕ) (segments : List (List ℕ)) (raw rest : List ℕ) → IsWithin segments limit → Stands Splits segments raw rest → BeginsWith IsFrame limit segments raw rest
-begins_from_requests limit segments raw rest within stands =
-    let frame = frame_from_requests raw rest segments stands in
-    record { text = frame.0; is_text = frame.1; within = within; spelled = frame.2 }
+-- a message that stands by its requests begins the stream
+pub begins_from_requests : {IsText : Grammar} {gives : Giving} (texts : AreRequested IsText gives) (limit : Option ℕ) (segments : List (List ℕ)) (raw rest : List ℕ) → IsWithin segments limit → Stands gives segments raw rest → BeginsWith IsText limit segments raw rest
+begins_from_requests texts limit segments raw rest within stands =
+    let text = (texts segments raw rest).0 stands in
+    record { text = text.0; is_text = text.1; within = within; spelled = text.2 }

@@ -12,3 +12,9 @@ pub mod Refusals
 pub mod Texts
 pub mod Lending
 pub mod Splitting
+pub mod Writing
+pub mod Words
+pub mod Views
+pub mod Front
+pub mod FlatRefusals
+pub mod KeptTables

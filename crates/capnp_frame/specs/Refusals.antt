@@ -1,5 +1,5 @@
 -- Which refusal a stream reader answers: the lines of its table in their order (docs/REFUSALS.md).
-use Rattle.std.specs.Prelude.{◌≡◌, ◌≢◌, ℕ, ◌+◌, ◌*◌, ◌/◌, ◌%◌, ◌^◌, ◌<◌, ◌≤◌, ◌⊎◌, List, [], ◌++◌, length, take, sum, Option, Some, None, IfSome, IsSomeAnd}
+use Rattle.std.specs.Prelude.{◌≡◌, ◌≢◌, ℕ, ◌+◌, ◌*◌, ◌/◌, ◌%◌, ◌^◌, ◌<◌, ◌≤◌, ◌⊎◌, List, [], ◌++◌, length, take, sum, Option, IsSomeAnd}
 use Rattle.capnp_frame.specs.declared.error.ErrorKind.{ErrorKind}
 use Rattle.capnp_frame.specs.declared.error.ErrorKind.TheVariants.{DeviceFailed, OutOfMemory, BufferNotLargeEnough, InvalidNumberOfSegments, MessageTooLarge}
 use Rattle.capnp_frame.specs.SegmentTable.{field, FitsField, IsTable, table_size}
@@ -51,15 +51,22 @@ Meets gives refuses limit room kind after raw left =
     Unless (LacksRoom room 8) (Stops BufferNotLargeEnough kind raw left) (
     (raw ≢ []) × Asks gives refuses kind raw 8 (MeetsCount gives refuses limit room kind after left))
 
--- the table's lines alone, for a reader that grows
-abbrev pub RefusesTable : Giving → Refusing → Option ℕ → ErrorKind → List ℕ → List ℕ → Type 0
-RefusesTable gives refuses limit kind raw left = Meets gives refuses limit None kind (λ ns behind. ⊥) raw left
+-- the table's lines alone
+abbrev pub RefusesTable : Giving → Refusing → Option ℕ → Option ℕ → ErrorKind → List ℕ → List ℕ → Type 0
+RefusesTable gives refuses limit room kind raw left = Meets gives refuses limit room kind (λ ns behind. ⊥) raw left
 
 -- all lines
 abbrev pub RefusesStream : Giving → Refusing → Option ℕ → Option ℕ → ErrorKind → List ℕ → List ℕ → Type 0
 RefusesStream gives refuses limit room kind raw left = Meets gives refuses limit room kind (λ ns behind.
     Unless (LacksRoom room (table_size (length ns) + 8 * sum ns)) (Stops BufferNotLargeEnough kind behind left) (
     refuses behind (8 * sum ns) kind)) raw left
+
+-- the kinds of a reader into a lent buffer, also where the unread bytes aren't known
+abbrev pub IsLentReaderKind : Refusing → ErrorKind → Type 0
+IsLentReaderKind refuses kind = (kind ≡ DeviceFailed) ⊎ (kind ≡ BufferNotLargeEnough)
+    ⊎ ((count : ℕ) × IsOutOfRange count × (kind ≡ InvalidNumberOfSegments count))
+    ⊎ ((total : ℕ) × (kind ≡ MessageTooLarge total))
+    ⊎ ((raw : List ℕ) × (n : ℕ) × refuses raw n kind)
 
 -- the kinds of a reader that grows, also where the unread bytes aren't known: the device's, want of memory, its own, or one of the source
 abbrev pub IsReaderKind : Refusing → ErrorKind → Type 0

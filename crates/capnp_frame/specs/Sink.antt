@@ -1,7 +1,7 @@
 -- What pieces add to a sink (the trait Write).
-use Rattle.std.specs.Prelude.{◌≡◌, ℕ, ◌≤◌, List, [], ◌∷◌, ◌++◌, Option}
+use Rattle.std.specs.Prelude.{◌≡◌, ℕ, ◌≤◌, ◌⊎◌, List, [], ◌∷◌, ◌++◌, Option}
 use Rattle.capnp_frame.specs.declared.error.ErrorKind.{ErrorKind}
-use Rattle.capnp_frame.specs.declared.error.ErrorKind.TheVariants.{OutOfMemory}
+use Rattle.capnp_frame.specs.declared.error.ErrorKind.TheVariants.{OutOfMemory, BufferNotLargeEnough}
 use Rattle.capnp_frame.specs.Source.{Known, IsFront}
 
 -- A piece adds a text: appends piece text.
@@ -19,6 +19,19 @@ AppendsSame piece text = text ≡ piece
 -- a sink that grows lacks memory
 abbrev pub LacksMemory : Declining
 LacksMemory piece kind = kind ≡ OutOfMemory
+
+-- a lent sink has too little room
+abbrev pub LacksPlace : Declining
+LacksPlace piece kind = kind ≡ BufferNotLargeEnough
+
+-- a piece may be refused by this kind
+abbrev pub DeclinesAny : Declining → ErrorKind → Type 0
+DeclinesAny refuses kind = (piece : List ℕ) × refuses piece kind
+
+-- one of these pieces is refused by this kind
+abbrev pub DeclinesSome : Declining → List (List ℕ) → ErrorKind → Type 0
+DeclinesSome refuses [] kind = ⊥
+DeclinesSome refuses (piece ∷ pieces) kind = refuses piece kind ⊎ DeclinesSome refuses pieces kind
 
 -- after is before with a text that P holds of
 abbrev pub Adds : (List ℕ → Type 0) → List ℕ → List ℕ → Type 0

@@ -1,5 +1,5 @@
 //! Facts about framed messages, each the contract of a function that does nothing.
-ghost use Rattle.std.specs.Prelude.{◌≡◌, ℕ, List, ◌++◌, ◌↔◌};
+ghost use Rattle.std.specs.Prelude.{◌≡◌, ℕ, ◌*◌, ◌<◌, List, ◌++◌, ◌↔◌, Option, length, slice_get, IsSome};
 ghost use Rattle.std.specs.List.{AllByRecursion, concat};
 ghost use Rattle.capnp_frame.specs.Message.{IsWholeWords, lengths};
 ghost use Rattle.capnp_frame.specs.SegmentTable.{HasTable};
@@ -7,6 +7,10 @@ ghost use Rattle.capnp_frame.specs.Frame.{IsFrame, frame_text};
 ghost use Rattle.capnp_frame.specs.Source.{Splits};
 ghost use Rattle.capnp_frame.specs.Sink.{AppendsSame, AppendsAll};
 ghost use Rattle.capnp_frame.specs.Requests.{Stands};
+ghost use Rattle.capnp_frame.specs.Writing.{IsWritable, pieces, serialized_words};
+ghost use Rattle.capnp_frame.specs.Front.{HasFrame};
+ghost use Rattle.capnp_frame.specs.FlatRefusals.{FlatForm, RefusesFlat};
+ghost use Rattle.capnp_frame.specs.declared.error.ErrorKind.{ErrorKind};
 
 /// A message has a framed text: the one that is written.
 pub fn message_has_a_frame()
@@ -32,4 +36,30 @@ pub fn plain_requests_take_a_frame()
 pub fn plain_pieces_are_joined()
     ensures { (pieces : List (List ℕ)) (text : List ℕ) → AppendsAll AppendsSame pieces text
         ↔ (text ≡ concat pieces) }
+{}
+
+/// The pieces that are handed to a sink are the framed text, joined, and `serialized_size_in_words`
+/// tells its length.
+pub fn pieces_are_the_frame()
+    ensures joined { (segments : List (List ℕ)) → concat (pieces segments) ≡ frame_text segments }
+    ensures size { (segments : List (List ℕ)) → IsWritable segments →
+        length (concat (pieces segments)) ≡ 8 * serialized_words segments }
+{}
+
+/// The readers of slices and buffers accept the same bytes with the same segments: what one form
+/// refuses the other refuses, and one message alone stands at a front.
+pub fn flat_readers_agree()
+    ensures refused { (form other : FlatForm) (limit : Option ℕ) (kind : ErrorKind)
+        (bytes : List ℕ) → AllByRecursion (λ byte. byte < 256) bytes →
+        RefusesFlat form limit kind bytes →
+        (own : ErrorKind) × RefusesFlat other limit own bytes }
+    ensures found { (bytes rest left : List ℕ) (segments others : List (List ℕ)) →
+        HasFrame bytes segments rest → HasFrame bytes others left →
+        (segments ≡ others) × (rest ≡ left) }
+{}
+
+/// The indexes at which a list of segments answers are those below its length.
+pub fn indexes_are_below_the_length()
+    ensures { (segments : List (List ℕ)) (index : ℕ) →
+        IsSome (slice_get segments index) ↔ (index < length segments) }
 {}

@@ -11,5 +11,10 @@ pub mod io;
 pub mod laws;
 pub mod message;
 pub mod serialize;
+#[cfg(test)]
+mod tests;
+mod words;
 
 pub use crate::error::{Error, ErrorKind, Result};
+pub use crate::words::Word;
+pub use crate::words::literal::word;

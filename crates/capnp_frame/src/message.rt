@@ -3,4 +3,4 @@ mod options;
 mod segments;
 
 pub use options::{DEFAULT_READER_OPTIONS, ReaderOptions};
-pub use segments::ReaderSegments;
+pub use segments::{AsBytes, ReaderSegments, SegmentArray};

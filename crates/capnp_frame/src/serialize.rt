@@ -4,12 +4,22 @@
 //! long each is.
 //!
 //! [standard stream framing]: https://capnproto.org/encoding.html#serialization-over-a-stream
+mod buffer_segments;
+mod lent_stream;
+mod no_alloc_buffer_segments;
 mod owned_segments;
 mod segment_lengths;
 mod segment_table;
+mod segment_table_info;
 mod stream;
+mod writing;
 
+pub use buffer_segments::{BufferSegments, take_segments};
+pub use lent_stream::try_read_segments_into;
+pub use no_alloc_buffer_segments::{NoAllocBufferSegments, NoAllocSliceSegments};
 pub use owned_segments::OwnedSegments;
 pub use segment_lengths::SegmentLengthsBuilder;
 pub use segment_table::SEGMENTS_COUNT_LIMIT;
+pub use segment_table_info::{NoAllocSegmentTableInfo, describes};
 pub use stream::try_read_segments;
+pub use writing::{segments_to_words, serialized_size_in_words, write_segments};

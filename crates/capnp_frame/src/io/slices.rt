@@ -1,10 +1,10 @@
-//! Slices as sources, and vectors as sinks.
-ghost use Rattle.std.specs.Prelude.{◌≡◌, ◌++◌, Some, IfErr, OnOk, ⊤};
-ghost use Rattle.capnp_frame.specs.Source.{Splits, RunsShort};
-ghost use Rattle.capnp_frame.specs.Sink.{AppendsSame, LacksMemory};
+//! Slices as sources and sinks, and vectors as sinks.
+ghost use Rattle.std.specs.Prelude.{◌≡◌, ◌<◌, ◌≤◌, ◌⊎◌, ◌++◌, length, drop, Some, None, IfErr, OnOk, ⊤};
+ghost use Rattle.capnp_frame.specs.Source.{Splits, RunsShort, Known, Fails};
+ghost use Rattle.capnp_frame.specs.Sink.{AppendsSame, LacksMemory, LacksPlace, Adds, Grows};
 ghost use Rattle.capnp_frame.specs.Splitting.{splitting, always};
 
-use crate::error::{ErrorKind, Result};
+use crate::error::{Error, ErrorKind, Result};
 use crate::io::{BufRead, Read, Write};
 
 /// The slice moves past what was read. No call is refused, but `read_exact` where it is too short.
@@ -67,6 +67,42 @@ impl Write for Vec<u8> {
             × (self.new.items ≡ self.old.items)) }
     {
         self.extend_from_slice(piece)?;
+        Ok(())
+    }
+
+    ghost keeps = { always };
+}
+
+/// The slice moves past what was written, so what is left of it doesn't show that. A piece that
+/// does not fit is refused by `BufferNotLargeEnough`, and nothing of it is written.
+impl Write for &mut [u8] {
+    ghost written = { λ _. None };
+
+    ghost failures = { λ _. 0 };
+
+    ghost appends = { AppendsSame };
+
+    ghost refuses = { LacksPlace };
+
+    ghost same = { λ _ _. ⊤ };
+
+    fn write_all(&mut self, piece: &[u8]) -> Result<()>
+        ensures added { OnOk result (Known None None (Adds (AppendsSame piece.now))) }
+        ensures failed { IfErr result (λ error. error.kind ≡ ErrorKind.DeviceFailed → Fails 0 0) }
+        ensures moved { OnOk result (self.new.now ≡ drop (length piece.now) self.old.now) }
+        ensures fits { OnOk result (length piece.now ≤ length self.old.now) }
+        ensures refused { IfErr result (λ error. (error.kind ≡ ErrorKind.DeviceFailed)
+            ⊎ LacksPlace piece.now error.kind) }
+        ensures grows { Grows (λ _. None) (λ _. 0) (λ _ _. ⊤) self.old self.new }
+        ensures short { IfErr result (λ error. (error.kind ≡ ErrorKind.BufferNotLargeEnough)
+            × (length self.old.now < length piece.now) × (self.new.now ≡ self.old.now)) }
+    {
+        if self.len() < piece.len() {
+            return Err(Error::from_kind(ErrorKind::BufferNotLargeEnough));
+        }
+        let all = std::mem::take(self);
+        all[..piece.len()].copy_from_slice(piece);
+        *self = &mut all[piece.len()..];
         Ok(())
     }
 

@@ -1,5 +1,8 @@
 //! The segments of a message.
-ghost use Rattle.std.specs.Prelude.{◌≡◌, ℕ, ◌<◌, ◌^◌, ◌↔◌, List, [], length, slice_get, option_copied, IsTrue};
+ghost use Rattle.std.specs.Prelude.{◌≡◌, ℕ, ◌<◌, ◌^◌, ◌↔◌, List, [], length, map, slice_get, option_copied, IsTrue};
+ghost use Rattle.capnp_frame.specs.Views.{shown};
+
+use std::marker::Model;
 
 /// The segments of a message, numbered from 0, each its bytes.
 ///
@@ -29,5 +32,102 @@ pub trait ReaderSegments {
         ensures { IsTrue result ↔ (segments self.now ≡ []) }
     {
         self.get_segment(0).is_none()
+    }
+}
+
+impl<S: ReaderSegments> ReaderSegments for &S {
+    ghost segments = { λ segments. S.segments segments.now };
+
+    fn get_segment(&self, id: u32) -> Option<&[u8]> {
+        (**self).get_segment(id)
+    }
+
+    fn len(&self) -> usize {
+        (**self).len()
+    }
+
+    fn is_empty(&self) -> bool {
+        (**self).is_empty()
+    }
+}
+
+/// Segments that lie anywhere, each a slice.
+#[derive(Drop)]
+pub struct SegmentArray<'a> {
+    segments: &'a [&'a [u8]],
+}
+
+// Clauses see the segments, each its bytes.
+impl<'a> Model for SegmentArray<'a> {
+    ghost Value = { List (List ℕ) };
+
+    ghost view = { λ array. map shown array.segments.now };
+}
+
+impl<'a> SegmentArray<'a> {
+    /// These segments, in this order.
+    pub fn new(segments: &'a [&'a [u8]]) -> SegmentArray<'a>
+        ensures { result ≡ map shown segments.now }
+    {
+        SegmentArray { segments }
+    }
+}
+
+impl ReaderSegments for SegmentArray<'_> {
+    ghost segments = { λ segments. segments };
+
+    fn get_segment(&self, id: u32) -> Option<&[u8]> {
+        self.segments.get(id as usize).copied()
+    }
+
+    fn len(&self) -> usize
+        ensures { result ≡ length self.now }
+    {
+        self.segments.len()
+    }
+}
+
+/// What shows bytes.
+pub trait AsBytes {
+    /// The bytes that are shown.
+    ghost bytes: { Self → List ℕ };
+
+    /// The bytes, which stay the same.
+    fn as_bytes(&self) -> &[u8]
+        ensures { result.now ≡ bytes self.now };
+}
+
+impl AsBytes for &[u8] {
+    ghost bytes = { λ slice. slice.now };
+
+    fn as_bytes(&self) -> &[u8] {
+        *self
+    }
+}
+
+impl AsBytes for Vec<u8> {
+    ghost bytes = { λ vector. vector.items };
+
+    fn as_bytes(&self) -> &[u8] {
+        self
+    }
+}
+
+/// Each item shows a segment.
+impl<I: AsBytes> ReaderSegments for Vec<I> {
+    ghost segments = { λ vector. map I.bytes vector.items };
+
+    fn get_segment(&self, id: u32) -> Option<&[u8]> {
+        let index = id as usize;
+        if index >= Vec::len(self) {
+            return None;
+        }
+        Some(self[index].as_bytes())
+    }
+
+    fn len(&self) -> usize
+        ensures { result ≡ length (map I.bytes self.now.items) }
+    {
+        Vec::len(self)
     }
 }

@@ -1,9 +1,10 @@
 //! The lengths of segments that stand behind one another.
-ghost use Rattle.std.specs.Prelude.{◌≡◌, ℕ, ◌+◌, ◌*◌, ◌<◌, ◌≤◌, ◌^◌, ◌↔◌, List, [], ◌∷◌, ◌++◌, map, sum, replicate, IfOk, OnOk, OnErr, IfErr, ◌⊎◌, vec_len};
+ghost use Rattle.std.specs.Prelude.{◌≡◌, ℕ, ◌+◌, ◌*◌, ◌<◌, ◌≤◌, ◌^◌, ◌↔◌, List, [], ◌∷◌, ◌++◌, length, map, drop, sum, replicate, IfOk, OnOk, OnErr, IfErr, ◌⊎◌, vec_len};
 ghost use Rattle.capnp_frame.specs.SegmentLengths.{ranges, range_len, cut, AreRanges};
 ghost use Rattle.capnp_frame.specs.Errors.{IsRefusedBy};
 
 use crate::error::{Error, ErrorKind, Result};
+use crate::serialize::buffer_segments::BufferSegments;
 use crate::serialize::owned_segments::OwnedSegments;
 use std::alloc::Global;
 use std::marker::Model;
@@ -81,5 +82,14 @@ impl SegmentLengthsBuilder {
         };
         let bytes = vec![in *self.segment_indices.allocator(); 0; length]?;
         Ok(OwnedSegments::from_parts(self.to_segment_indices(), bytes))
+    }
+
+    /// The parts of these lengths of `slice` behind its first `table_len` bytes.
+    pub fn into_slice_segments(self, slice: &[u8], table_len: usize) -> BufferSegments<&[u8]>
+        requires { table_len + 8 * sum self ≤ length slice.now }
+        ensures buffer { result.buffer.now ≡ slice.now }
+        ensures segments { result.segments ≡ cut self (drop table_len slice.now) }
+    {
+        BufferSegments::from_parts(slice, table_len, self.to_segment_indices())
     }
 }

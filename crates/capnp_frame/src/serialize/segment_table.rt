@@ -1,8 +1,10 @@
 //! The segment table at the front of a framed message: its fields, and the lengths that they tell.
-ghost use Rattle.std.specs.Prelude.{◌≡◌, ◌+◌, ◌-◌, ◌*◌, ◌/◌, ◌<◌, ◌≤◌, ◌^◌, [], ◌++◌, length, take, drop, sum, OnOk, IfErr};
-ghost use Rattle.capnp_frame.specs.SegmentTable.{field, IsTable};
+ghost use Rattle.std.specs.Prelude.{◌≡◌, ◌+◌, ◌-◌, ◌*◌, ◌/◌, ◌<◌, ◌≤◌, ◌^◌, [], ◌++◌, length, take, drop, sum, ℕ, OnOk, IfOk, IfErr, IfSome, IsSomeAnd};
+ghost use Rattle.capnp_frame.specs.SegmentTable.{field, IsTable, table_size};
+ghost use Rattle.capnp_frame.specs.Refusals.{Tells, IsOutOfRange};
+ghost use Rattle.capnp_frame.specs.Front.{told_lengths, SpellsLengths};
 
-use crate::error::{ErrorKind, Result};
+use crate::error::{Error, ErrorKind, Result};
 use crate::serialize::segment_lengths::SegmentLengthsBuilder;
 
 /// A message that is read has fewer segments than this.
@@ -13,12 +15,65 @@ pub const SEGMENTS_COUNT_LIMIT: usize = 512;
 /// The bytes behind the first word of the longest table that is read.
 pub(crate) const LONGEST_TABLE_REST: usize = 2040;
 
+/// The bytes of a table of so many segments.
+pub(crate) fn table_len(count: usize) -> usize
+    requires { count < 2 ^ 32 }
+    ensures { result ≡ table_size count }
+{
+    8 * (count / 2 + 1)
+}
+
 /// The number in the four bytes at `at`.
 pub(crate) fn field_at(table: &[u8], at: usize) -> u32
     requires { at + 4 ≤ length table.now }
     ensures { field result ≡ take 4 (drop at table.now) }
 {
     u32::from_le_bytes([table[at], table[at + 1], table[at + 2], table[at + 3]])
+}
+
+/// The number of segments that the first word of a table tells. One that no reader accepts is refused
+/// by `InvalidNumberOfSegments`; its field holds one less, so `ff ff ff ff` tells 0.
+pub(crate) fn accepted_count(first: &[u8; 8]) -> Result<usize>
+    ensures some { IfOk result (λ count. 0 < count) }
+    ensures few { IfOk result (λ count. count < SEGMENTS_COUNT_LIMIT) }
+    ensures told { IfOk result (λ count. field (count - 1) ≡ take 4 first.now) }
+    ensures refused { IfErr result (λ error. (count : ℕ) × Tells first.now count
+        × IsOutOfRange count × (error.kind ≡ ErrorKind.InvalidNumberOfSegments count)) }
+{
+    let count = field_at(first, 0).wrapping_add(1) as usize;
+    if count == 0 || count >= SEGMENTS_COUNT_LIMIT {
+        return Err(Error::from_kind(ErrorKind::InvalidNumberOfSegments(count)));
+    }
+    Ok(count)
+}
+
+/// Refuses more words than the limit by `MessageTooLarge`.
+pub(crate) fn keep_limit(total: usize, limit: Option<usize>) -> Result<()>
+    ensures kept { OnOk result (IfSome limit (λ most. total ≤ most)) }
+    ensures refused { IfErr result (λ error. IsSomeAnd limit (λ most. most < total)
+        × (error.kind ≡ ErrorKind.MessageTooLarge total)) }
+{
+    if let Some(most) = limit
+        && total > most
+    {
+        return Err(Error::from_kind(ErrorKind::MessageTooLarge(total)));
+    }
+    Ok(())
+}
+
+/// The sum of the lengths of the first `count` segments.
+pub(crate) fn lengths_total(table: &[u8], count: usize) -> usize
+    requires few { count < SEGMENTS_COUNT_LIMIT }
+    requires room { 4 * (count + 1) ≤ length table.now }
+    ensures total { result ≡ sum (told_lengths count table.now) }
+    ensures bound { result < 2 ^ 42 }
+    ensures lengths { SpellsLengths table.now count }
+{
+    let mut total = 0;
+    for index in 0..count {
+        total += field_at(table, 4 * (index + 1)) as usize;
+    }
+    total
 }
 
 /// Pushes the lengths in a table of so many segments: `first` is its first word, `others` are its

@@ -1,6 +1,8 @@
 //! Reading messages from a source.
 ghost use Rattle.std.specs.Prelude.{◌≡◌, ℕ, ◌<◌, ◌≤◌, ◌^◌, List, [], ◌++◌, sum, IfOk, IfErr, IfSome, IfNone, ◌⊎◌, Option, Some, None};
+ghost use Rattle.std.specs.List.{AllByRecursion};
 ghost use Rattle.std.specs.Result.{IsErrAnd};
+ghost use Rattle.capnp_frame.specs.Message.{IsWholeWords};
 ghost use Rattle.capnp_frame.specs.Limits.{AreWithin, IsWithin};
 ghost use Rattle.capnp_frame.specs.Source.{Known, Advances, Fails, IsRefused};
 ghost use Rattle.capnp_frame.specs.Requests.{TableStands, Stands};
@@ -13,7 +15,7 @@ use crate::message::ReaderOptions;
 use crate::serialize::owned_segments::OwnedSegments;
 use crate::serialize::segment_lengths::SegmentLengthsBuilder;
 use crate::serialize::segment_table::{
-    LONGEST_TABLE_REST, SEGMENTS_COUNT_LIMIT, field_at, push_lengths,
+    LONGEST_TABLE_REST, accepted_count, keep_limit, push_lengths,
 };
 use std::alloc::Global;
 
@@ -32,6 +34,7 @@ pub fn try_read_segments<R: Read>(
         Known (R.unread source.old) (R.unread source.new) (Stands R.gives segments))) }
     ensures within { IfOk result (λ found. IfSome found (λ segments.
         IsWithin segments options.traversal_limit_in_words)) }
+    ensures whole { IfOk result (λ found. IfSome found (AllByRecursion IsWholeWords)) }
     ensures none { IfOk result (λ found. IfNone found
         (IfSome (R.unread source.old) (λ raw. raw ≡ []))) }
 
@@ -71,6 +74,7 @@ fn next_segments<R: Read>(
     ensures found { IfOk result (λ found. IfSome found (λ segments.
         Known (R.unread source.old) (R.unread source.new) (Stands R.gives segments))) }
     ensures within { IfOk result (λ found. IfSome found (λ segments. IsWithin segments limit)) }
+    ensures whole { IfOk result (λ found. IfSome found (AllByRecursion IsWholeWords)) }
     ensures none { IfOk result (λ found. IfNone found
         (IfSome (R.unread source.old) (λ raw. raw ≡ []))) }
     ensures refused { IfErr result (λ error. (error.kind ≡ ErrorKind.DeviceFailed)
@@ -93,7 +97,7 @@ fn next_segments<R: Read>(
 }
 
 // The lengths in the next table, or none at the source's end.
-fn read_table<R: Read>(
+pub(crate) fn read_table<R: Read>(
     alloc: Global,
     source: &mut R,
     limit: Option<usize>,
@@ -107,7 +111,7 @@ fn read_table<R: Read>(
     ensures refused { IfErr result (λ error. (error.kind ≡ ErrorKind.DeviceFailed)
         ⊎ (error.kind ≡ ErrorKind.OutOfMemory)
         ⊎ Known (R.unread source.old) (R.unread source.new)
-        (RefusesTable R.gives R.refuses limit error.kind)) }
+        (RefusesTable R.gives R.refuses limit None error.kind)) }
     ensures kinds { IfErr result (λ error. IsReaderKind R.refuses error.kind) }
     ensures end { IfErr result (λ error. R.unread source.old ≡ Some [] →
         error.kind ≡ ErrorKind.DeviceFailed) }
@@ -118,26 +122,19 @@ fn read_table<R: Read>(
     let Some(first) = read_first(source)? else {
         return Ok(None);
     };
-    let count = field_at(&first, 0).wrapping_add(1) as usize;
-    if count == 0 || count >= SEGMENTS_COUNT_LIMIT {
-        return Err(Error::from_kind(ErrorKind::InvalidNumberOfSegments(count)));
-    }
+    let count = accepted_count(&first)?;
     let mut lengths = SegmentLengthsBuilder::with_capacity(alloc, count)?;
     let mut rest = [0; LONGEST_TABLE_REST];
     let others = &mut rest[..8 * (count / 2)];
     source.read_exact(others)?;
     push_lengths(&mut lengths, &first, others, count)?;
     let total = lengths.total_words();
-    if let Some(most) = limit
-        && total > most
-    {
-        return Err(Error::from_kind(ErrorKind::MessageTooLarge(total)));
-    }
+    keep_limit(total, limit)?;
     Ok(Some(lengths))
 }
 
 // The next word, or none at the source's end.
-fn read_first<R: Read>(source: &mut R) -> Result<Option<[u8; 8]>>
+pub(crate) fn read_first<R: Read>(source: &mut R) -> Result<Option<[u8; 8]>>
     ensures found { IfOk result (λ found. IfSome found (λ word.
         Known (R.unread source.old) (R.unread source.new) (λ raw rest. R.gives raw 8 word rest))) }
     ensures none { IfOk result (λ found. IfNone found

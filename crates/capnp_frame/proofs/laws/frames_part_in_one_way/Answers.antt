@@ -1,4 +1,4 @@
-use Rattle.capnp_frame.proofs.FrameLemmas.{frames_part}
+use Rattle.capnp_frame.proofs.TextLemmas.{frames_part}
 use Rattle.capnp_frame.proofs.laws.frames_part_in_one_way.Goals as goal
 
 pub returns : goal.returns

@@ -1,5 +1,5 @@
 -- Each line of the table is answered, and a message that is accepted meets none.
-use Rattle.capnp_frame.proofs.RefusalLemmas.{accepted, exact}
+use Rattle.capnp_frame.proofs.AnswerLemmas.{accepted, exact}
 use Rattle.capnp_frame.proofs.serialize.stream.try_read_segments.Goals as goal
 
 pub returns-clause-exact : goal.returns-clause-exact

@@ -1,0 +1,135 @@
+-- The two forms of reading a slice refuse the same bytes.
+use Rattle.std.proofs.Common.{◌≡◌, ℕ, ◌+◌, ◌-◌, ◌*◌, ◌/◌, ◌%◌, ◌<◌, ◌≤◌, ◌^◌, zero, suc, Option, Some, None, ◌⊎◌, inl, inr, ◌↔◌, List, [], ◌∷◌, length, refl, sym, ap, ◌∙◌, subst, arith}
+use Rattle.std.specs.Prelude.{sum, slice_get, IsSome}
+use Rattle.std.specs.List.{AllByRecursion}
+use Rattle.std.proofs.lemmas.Bool.{cases_lt, false≢true}
+use Rattle.capnp_frame.specs.declared.error.ErrorKind.{ErrorKind}
+use Rattle.capnp_frame.specs.declared.error.ErrorKind.TheVariants.{InvalidNumberOfSegments, MessageTooLarge, MessageEndsPrematurely}
+use Rattle.capnp_frame.specs.SegmentTable.{table_size}
+use Rattle.capnp_frame.specs.Limits.{KeepsLimit}
+use Rattle.capnp_frame.specs.Refusals.{Unless, IsOutOfRange, IsTooLarge}
+use Rattle.capnp_frame.specs.Front.{HasFrame, number, told_lengths}
+use Rattle.capnp_frame.specs.FlatRefusals.{FlatForm, by_words, by_fields, empty_kind, cut_kind, count_end, count_of, lengths_end, RefusesLengths, RefusesFlat}
+use Rattle.capnp_frame.proofs.RefusalLemmas.{Unless-after, in_range, within_limit}
+use Rattle.capnp_frame.proofs.TextLemmas.{frames_part}
+use Rattle.capnp_frame.proofs.FlatLemmas.{cut_first, count_out, cut_lengths, past_lengths, cut_segments}
+
+-- what every form accepts
+record Accepts (limit : Option ℕ) (bytes : List ℕ) (count : ℕ) : Type 0 where
+  pub counted : number bytes + 1 ≡ count
+  pub few : count < 512
+  pub keeps : KeepsLimit (told_lengths count bytes) limit
+  pub room : table_size count + 8 * sum (told_lengths count bytes) ≤ length bytes
+
+first_end_some : (form : FlatForm) → 0 < count_end form
+first_end_some (by_words empty) = omega arith
+first_end_some by_fields = omega arith
+
+first_end_within : (form : FlatForm) (count : ℕ) → 0 < count → count_end form ≤ lengths_end form count
+first_end_within (by_words empty) count some = omega arith
+first_end_within by_fields count some = omega arith
+
+lengths_within : (form : FlatForm) (count : ℕ) → lengths_end form count ≤ table_size count
+lengths_within (by_words empty) count = omega arith
+lengths_within by_fields count = omega arith
+
+count_within : (form : FlatForm) (last : ℕ) → last + 1 < 512 → count_of form last ≡ last + 1
+count_within (by_words empty) last few = omega arith
+count_within by_fields last few = refl
+
+count_past : (form : FlatForm) (last : ℕ) → 512 ≤ last + 1 → last < 2 ^ 32 → IsOutOfRange (count_of form last)
+count_past (by_words empty) last many fits = elim (cases_lt 0 ((last + 1) % 2 ^ 32)) [ inl some ↦ inr (omega arith) | inr none ↦ inl (omega arith) ]
+count_past by_fields last many fits = inr many
+
+refused_not_accepted : (form : FlatForm) (limit : Option ℕ) (kind : ErrorKind) (bytes : List ℕ) (count : ℕ) → RefusesFlat form limit kind bytes → Accepts limit bytes count → ⊥
+refused_not_accepted form limit kind bytes count refused a =
+    let told : count_of form (number bytes) ≡ count = count_within form (number bytes) (omega (arith, a.counted, a.few)) ∙ a.counted in
+    let some : 0 < count = omega (arith, a.counted) in
+    let first = first_end_within form count some in
+    let lens = lengths_within form count in
+    let room = a.room in
+    Unless-after (λ none. absurd (omega (arith, ap length none))) (Unless-after (λ short. absurd (omega arith)) (λ x. Unless-after (in_range count some a.few) (Unless-after (λ short. absurd (omega arith)) (Unless-after (within_limit (told_lengths count bytes) limit a.keeps) (Unless-after (λ short. absurd (omega arith)) (λ cuts. let short = cuts.0 in absurd (omega arith))))) (subst (λ k. Unless (IsOutOfRange k) (kind ≡ InvalidNumberOfSegments k) (Unless (length bytes < lengths_end form k) (kind ≡ cut_kind form (length bytes)) (RefusesLengths form limit kind bytes k (told_lengths k bytes)))) told x))) refused
+
+-- the limit is kept or passed
+limit_cases : (ns : List ℕ) (limit : Option ℕ) → IsTooLarge ns limit ⊎ KeepsLimit ns limit
+limit_cases ns None = inr tt
+limit_cases ns (Some most) = elim (cases_lt most (sum ns)) [ inl over ↦ inl over | inr keeps ↦ inr keeps ]
+
+abbrev Refused : FlatForm → Option ℕ → List ℕ → Type 0
+Refused form limit bytes = (kind : ErrorKind) × RefusesFlat form limit kind bytes
+
+number_fits : (bytes : List ℕ) → AllByRecursion (λ byte. byte < 256) bytes → 4 ≤ length bytes → number bytes < 2 ^ 32
+number_fits [] each long = absurd (omega arith)
+number_fits (a ∷ []) each long = absurd (omega arith)
+number_fits (a ∷ b ∷ []) each long = absurd (omega arith)
+number_fits (a ∷ b ∷ c ∷ []) each long = absurd (omega arith)
+number_fits (a ∷ b ∷ c ∷ d ∷ bytes) each long =
+    let first = each.0 in
+    let second = each.1.0 in
+    let third = each.1.1.0 in
+    let fourth = each.1.1.1.0 in
+    omega arith
+
+-- behind the limit: the padding and the segments
+behind_limit : (form : FlatForm) (limit : Option ℕ) (bytes : List ℕ) (count : ℕ) → count_end form ≤ length bytes → number bytes + 1 ≡ count → count < 512 → lengths_end form count ≤ length bytes → KeepsLimit (told_lengths count bytes) limit → Refused form limit bytes ⊎ Accepts limit bytes count
+behind_limit form limit bytes count first told few lens keeps =
+    let counted : count_of form (number bytes) ≡ count = count_within form (number bytes) (omega arith) ∙ told in
+    let some : 0 < count = omega arith in
+    let start = first_end_some form in
+    elim (cases_lt (length bytes) (table_size count)) [
+      | inl short ↦ inl (cut_kind form (length bytes), past_lengths form limit (cut_kind form (length bytes)) bytes count first start counted some few lens (inr (within_limit (told_lengths count bytes) limit keeps, inl (short, refl))))
+      | inr table ↦ elim (cases_lt (length bytes) (table_size count + 8 * sum (told_lengths count bytes))) [
+        | inl short ↦ inl (MessageEndsPrematurely (sum (told_lengths count bytes)) ((length bytes - table_size count) / 8), past_lengths form limit (MessageEndsPrematurely (sum (told_lengths count bytes)) ((length bytes - table_size count) / 8)) bytes count first start counted some few lens (cut_segments form limit bytes count (sum (told_lengths count bytes)) keeps table refl short))
+        | inr room ↦ inr (record { counted = told; few = few; keeps = keeps; room = room })
+      ]
+    ]
+
+-- behind the number of segments
+behind_count : (form : FlatForm) (limit : Option ℕ) (bytes : List ℕ) (count : ℕ) → count_end form ≤ length bytes → number bytes + 1 ≡ count → count < 512 → Refused form limit bytes ⊎ Accepts limit bytes count
+behind_count form limit bytes count first told few =
+    let counted : count_of form (number bytes) ≡ count = count_within form (number bytes) (omega arith) ∙ told in
+    let some : 0 < count = omega arith in
+    let start = first_end_some form in
+    elim (cases_lt (length bytes) (lengths_end form count)) [
+      | inl short ↦ inl (cut_kind form (length bytes), cut_lengths form limit bytes count first start counted some few short)
+      | inr lens ↦ elim (limit_cases (told_lengths count bytes) limit) [
+        | inl over ↦ inl (MessageTooLarge (sum (told_lengths count bytes)), past_lengths form limit (MessageTooLarge (sum (told_lengths count bytes))) bytes count first start counted some few lens (inl (over, refl)))
+        | inr keeps ↦ behind_limit form limit bytes count first told few lens keeps
+      ]
+    ]
+
+refused_or_accepted : (form : FlatForm) (limit : Option ℕ) (bytes : List ℕ) → AllByRecursion (λ byte. byte < 256) bytes → Refused form limit bytes ⊎ Accepts limit bytes (number bytes + 1)
+refused_or_accepted form limit [] each = inl (empty_kind form, inl (refl, refl))
+refused_or_accepted form limit (byte ∷ bytes) each =
+    let all = byte ∷ bytes in
+    let start = first_end_some form in
+    let least = first_least form in
+    elim (cases_lt (length all) (count_end form)) [
+      | inl short ↦ inl (cut_kind form (length all), cut_first form limit all (omega arith) short)
+      | inr first ↦ elim (cases_lt (number all + 1) 512) [
+        | inl few ↦ behind_count form limit all (number all + 1) first refl few
+        | inr many ↦ inl (InvalidNumberOfSegments (count_of form (number all)), count_out form limit all (count_of form (number all)) first start refl (count_past form (number all) many (number_fits all each (omega arith))))
+      ]
+    ]
+  where
+    first_least : (form : FlatForm) → 4 ≤ count_end form
+    first_least (by_words empty) = omega arith
+    first_least by_fields = omega arith
+
+pub flat_agree : (form other : FlatForm) (limit : Option ℕ) (kind : ErrorKind) (bytes : List ℕ) → AllByRecursion (λ byte. byte < 256) bytes → RefusesFlat form limit kind bytes → (own : ErrorKind) × RefusesFlat other limit own bytes
+flat_agree form other limit kind bytes each refused = elim (refused_or_accepted other limit bytes each) [
+  | inl met ↦ met
+  | inr accepts ↦ absurd (refused_not_accepted form limit kind bytes (number bytes + 1) refused accepts)
+]
+
+pub one_at_a_front : (bytes rest left : List ℕ) (segments others : List (List ℕ)) → HasFrame bytes segments rest → HasFrame bytes others left → (segments ≡ others) × (rest ≡ left)
+one_at_a_front bytes rest left segments others (text, frame, is) (other, also, so) =
+    let parts = frames_part text other rest left segments others frame also (sym is ∙ so) in
+    (parts.1, parts.2)
+
+pub index_below : (segments : List (List ℕ)) (index : ℕ) → IsSome (slice_get segments index) ↔ (index < length segments)
+index_below [] index = (λ some. absurd (false≢true some), λ less. absurd (omega arith))
+index_below (segment ∷ segments) zero = (λ some. omega arith, λ less. refl)
+index_below (segment ∷ segments) (suc index) =
+    let inner = index_below segments index in
+    (λ some. let less : index < length segments = inner.0 some in omega arith, λ less. inner.1 (omega arith))

@@ -1,0 +1,139 @@
+-- The lines of the readers of slices and buffers.
+use Rattle.std.proofs.Common.{◌≡◌, ℕ, ◌+◌, ◌-◌, ◌*◌, ◌/◌, ◌%◌, ◌<◌, ◌≤◌, ◌^◌, Option, None, inl, inr, List, ◌++◌, length, take, refl, sym, ap, ◌∙◌, subst, arith, append_assoc, length-append}
+use Rattle.std.specs.Prelude.{sum}
+use lib.Seq.{take-append-le}
+use Rattle.std.proofs.lemmas.Bool.{cases_lt}
+use Rattle.capnp_frame.specs.declared.error.ErrorKind.{ErrorKind}
+use Rattle.capnp_frame.specs.declared.error.ErrorKind.TheVariants.{BufferNotLargeEnough, InvalidNumberOfSegments, MessageEndsPrematurely}
+use Rattle.capnp_frame.specs.SegmentTable.{field, table_size}
+use Rattle.capnp_frame.specs.Limits.{KeepsLimit, IsWithin}
+use Rattle.capnp_frame.specs.Source.{Splits, RunsShort}
+use Rattle.capnp_frame.specs.Requests.{TableStands}
+use Rattle.capnp_frame.specs.Refusals.{Unless, Asks, Stops, LacksRoom, MeetsLimit, IsOutOfRange, RefusesTable}
+use Rattle.capnp_frame.specs.Front.{HasFrame, number, told_lengths}
+use Rattle.capnp_frame.specs.FlatRefusals.{FlatForm, by_words, by_fields, cut_kind, count_end, count_of, lengths_end, CutsSegments, RefusesLengths, RefusesCount, RefusesFlat}
+use Rattle.capnp_frame.proofs.TableLemmas.{count_told}
+use Rattle.capnp_frame.proofs.FrameLemmas.{length-table}
+use Rattle.capnp_frame.proofs.FrontLemmas.{number-field, Told, told_from_table, held_from_begins}
+use Rattle.capnp_frame.proofs.RefusalLemmas.{Unless-once, Unless-after, in_range, within_limit}
+
+-- one line at most is the first that holds
+pub RefusesFlat-once : (form : FlatForm) (limit : Option ℕ) (kind other : ErrorKind) (bytes : List ℕ) → RefusesFlat form limit kind bytes → RefusesFlat form limit other bytes → kind ≡ other
+RefusesFlat-once form limit kind other bytes =
+    Unless-once same (Unless-once same (Unless-once same (Unless-once same (Unless-once same (Unless-once same (λ x y. x.1 ∙ sym y.1))))))
+  where
+    same : {own : ErrorKind} → kind ≡ own → other ≡ own → kind ≡ other
+    same p q = p ∙ sym q
+
+-- the lines behind a test that fails
+
+past_empty : (form : FlatForm) (limit : Option ℕ) (kind : ErrorKind) (bytes : List ℕ) → count_end form ≤ length bytes → 0 < count_end form → RefusesCount form limit kind bytes (count_of form (number bytes)) → RefusesFlat form limit kind bytes
+past_empty form limit kind bytes there some after = inr (λ none. absurd (omega (arith, ap length none)), inr (λ short. absurd (omega arith), after))
+
+-- the first field, or the first word, is cut
+pub cut_first : (form : FlatForm) (limit : Option ℕ) (bytes : List ℕ) → 0 < length bytes → length bytes < count_end form → RefusesFlat form limit (cut_kind form (length bytes)) bytes
+cut_first form limit bytes some short = inr (λ none. absurd (omega (arith, ap length none)), inl (short, refl))
+
+-- the number of segments is out of range
+pub count_out : (form : FlatForm) (limit : Option ℕ) (bytes : List ℕ) (count : ℕ) → count_end form ≤ length bytes → 0 < count_end form → count_of form (number bytes) ≡ count → IsOutOfRange count → RefusesFlat form limit (InvalidNumberOfSegments count) bytes
+count_out form limit bytes count there some is out = past_empty form limit (InvalidNumberOfSegments count) bytes there some (subst (RefusesCount form limit (InvalidNumberOfSegments count) bytes) (sym is) (inl (out, refl)))
+
+-- the lengths are cut
+pub cut_lengths : (form : FlatForm) (limit : Option ℕ) (bytes : List ℕ) (count : ℕ) → count_end form ≤ length bytes → 0 < count_end form → count_of form (number bytes) ≡ count → 0 < count → count < 512 → length bytes < lengths_end form count → RefusesFlat form limit (cut_kind form (length bytes)) bytes
+cut_lengths form limit bytes count there first is some few short = past_empty form limit (cut_kind form (length bytes)) bytes there first (subst (RefusesCount form limit (cut_kind form (length bytes)) bytes) (sym is) (inr (in_range count some few, inl (short, refl))))
+
+-- what is met behind the lengths
+pub past_lengths : (form : FlatForm) (limit : Option ℕ) (kind : ErrorKind) (bytes : List ℕ) (count : ℕ) → count_end form ≤ length bytes → 0 < count_end form → count_of form (number bytes) ≡ count → 0 < count → count < 512 → lengths_end form count ≤ length bytes → RefusesLengths form limit kind bytes count (told_lengths count bytes) → RefusesFlat form limit kind bytes
+past_lengths form limit kind bytes count there first is some few all after = past_empty form limit kind bytes there first (subst (RefusesCount form limit kind bytes) (sym is) (inr (in_range count some few, inr (λ short. absurd (omega arith), after))))
+
+-- the segments are cut
+pub cut_segments : (form : FlatForm) (limit : Option ℕ) (bytes : List ℕ) (count total : ℕ) → KeepsLimit (told_lengths count bytes) limit → table_size count ≤ length bytes → total ≡ sum (told_lengths count bytes) → length bytes < table_size count + 8 * total → RefusesLengths form limit (MessageEndsPrematurely total ((length bytes - table_size count) / 8)) bytes count (told_lengths count bytes)
+cut_segments form limit bytes count total keeps room is short =
+    inr (within_limit (told_lengths count bytes) limit keeps, inr (λ cut. absurd (omega arith), subst (CutsSegments (MessageEndsPrematurely total ((length bytes - table_size count) / 8)) bytes count) is (short, refl)))
+
+-- a message that stands at the front and is accepted isn't refused
+pub RefusesFlat-apart : (form : FlatForm) (limit : Option ℕ) (kind : ErrorKind) (bytes : List ℕ) (segments : List (List ℕ)) (rest : List ℕ) → HasFrame bytes segments rest → IsWithin segments limit → RefusesFlat form limit kind bytes → ⊥
+RefusesFlat-apart form limit kind bytes segments rest begins within =
+    let held = held_from_begins bytes segments rest limit begins within in
+    let count = length segments in
+    let told = held.count in
+    let few = held.holds.table.few in
+    let some = held.holds.table.some in
+    let room = held.holds.room in
+    let told_count : count_of form (number bytes) ≡ count = counted form (number bytes) count told few in
+    let keeps : KeepsLimit (told_lengths count bytes) limit = subst (λ l. KeepsLimit l limit) (sym held.lengths_are) within.size in
+    let fewest = first_end form count some in
+    let less = within_table form count in
+    Unless-after (λ none. absurd (omega (arith, ap length none)))
+    (Unless-after (λ short. absurd (omega arith)) (λ x.
+    let counted_so : RefusesCount form limit kind bytes count = subst (RefusesCount form limit kind bytes) told_count x in
+    Unless-after (in_range count some few) (Unless-after (λ short. absurd (omega arith)) (Unless-after (within_limit (told_lengths count bytes) limit keeps) (Unless-after (λ short. absurd (omega arith)) (λ cuts. let short = cuts.0 in absurd (omega arith))))) counted_so))
+  where
+    counted : (form : FlatForm) (last count : ℕ) → last + 1 ≡ count → count < 512 → count_of form last ≡ count
+    counted (by_words empty) last count told few = omega arith
+    counted by_fields last count told few = told
+
+    first_end : (form : FlatForm) (count : ℕ) → 0 < count → count_end form ≤ table_size count
+    first_end (by_words empty) count some = omega arith
+    first_end by_fields count some = omega arith
+
+    within_table : (form : FlatForm) (count : ℕ) → lengths_end form count ≤ table_size count
+    within_table (by_words empty) count = omega arith
+    within_table by_fields count = omega arith
+
+-- what the answers of a reader without memory come to
+
+-- and of one that grows
+
+-- the stream reader's table over a slice
+
+pub told_by_requests : (bytes ns rest : List ℕ) → TableStands Splits ns bytes rest → length ns < 512 → Told bytes ns × (length bytes ≡ table_size (length ns) + length rest)
+told_by_requests bytes ns rest stands few =
+    let table = stands.first ++ stands.others in
+    let bytes_are : bytes ≡ table ++ rest = stands.first_given.0 ∙ ap (λ l. stands.first ++ l) stands.others_given.0 ∙ sym (append_assoc stands.first stands.others rest) in
+    let long = length-table table ns stands.table in
+    (subst (λ l. Told l ns) (sym bytes_are) (told_from_table table rest ns stands.table few), ap length bytes_are ∙ length-append table rest ∙ omega arith)
+
+below_range : (count : ℕ) → (IsOutOfRange count → ⊥) → count < 512
+below_range count range = elim (cases_lt count 512) [ inl few ↦ few | inr many ↦ absurd (range (inr many)) ]
+
+above_range : (count : ℕ) → (IsOutOfRange count → ⊥) → 0 < count
+above_range count range = elim (cases_lt 0 count) [ inl some ↦ some | inr none ↦ absurd (range (inl (omega arith))) ]
+
+counts : (last count many : ℕ) → count ≡ (last + 1) % 2 ^ 32 → last + 1 ≡ many → many ≤ 2 ^ 32 → count < 512 → 0 < count → count ≡ many
+counts last count many is told most few some = omega arith
+
+pub words_refused : (empty : ErrorKind) (limit : Option ℕ) (kind : ErrorKind) (bytes left : List ℕ) → RefusesTable Splits RunsShort limit None kind bytes left → RefusesFlat (by_words empty) limit kind bytes
+words_refused empty limit kind bytes left (inl lacks) = absurd lacks.0
+words_refused empty limit kind bytes left (inr (room, (some, inl (short, is)))) = inr (some, inl (short, is))
+words_refused empty limit kind bytes left (inr (room, (some, inr (word, between, given, (count, tells, after))))) = inr (some, inr (λ short. absurd (omega (arith, long)), subst (RefusesCount (by_words empty) limit kind bytes) (sym same) (counted after)))
+  where
+    long : length bytes ≡ 8 + length between
+    long = ap length given.0 ∙ length-append word between ∙ ap (λ k. k + length between) given.1
+
+    word_long : length word ≡ 8
+    word_long = given.1
+
+    front : field tells.0 ≡ take 4 bytes
+    front = tells.2 ∙ sym (take-append-le 4 word between (omega arith)) ∙ ap (take 4) (sym given.0)
+
+    same : count_of (by_words empty) (number bytes) ≡ count
+    same = ap (λ k. (k + 1) % 2 ^ 32) (number-field tells.0 bytes tells.1 front) ∙ sym tells.3
+
+    limited : (others behind : List ℕ) → (IsOutOfRange count → ⊥) → Splits between (8 * (count / 2)) others behind → MeetsLimit limit kind (λ ns behind. ⊥) left word others behind → RefusesCount (by_words empty) limit kind bytes count
+    limited others behind range split (ns, table, inr met) = absurd met.1
+    limited others behind range split (ns, table, inl (over, stops)) =
+        let few = below_range count range in
+        let many = count_told word others ns tells.0 table word_long tells.2 tells.1 in
+        let exact : count ≡ length ns = counts tells.0 count (length ns) tells.3 many table.can.count few (above_range count range) in
+        let stands : TableStands Splits ns bytes behind = record { first = word; others = others; between = between; first_given = given; others_given = subst (λ k. Splits between (8 * (k / 2)) others behind) exact split; table = table } in
+        let told = told_by_requests bytes ns behind stands (omega arith) in
+        let lens : told_lengths count bytes ≡ ns = ap (λ k. told_lengths k bytes) exact ∙ told.0.lengths in
+        let room = told.1 in
+        inr (range, inr (λ short. absurd (omega arith), subst (RefusesLengths (by_words empty) limit kind bytes count) (sym lens) (inl (over, stops.0))))
+
+    counted : Unless (IsOutOfRange count) (Stops (InvalidNumberOfSegments count) kind between left) (Unless (LacksRoom None (table_size count)) (Stops BufferNotLargeEnough kind between left) (Asks Splits RunsShort kind between (8 * (count / 2)) (MeetsLimit limit kind (λ ns behind. ⊥) left word))) → RefusesCount (by_words empty) limit kind bytes count
+    counted (inl (out, stops)) = inl (out, stops.0)
+    counted (inr (range, inl lacks)) = absurd lacks.0
+    counted (inr (range, inr (room, inl (short, is)))) = inr (range, inl (omega (arith, long), is))
+    counted (inr (range, inr (room, inr (others, behind, split, met)))) = limited others behind range split met

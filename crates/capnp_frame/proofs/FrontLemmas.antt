@@ -1,0 +1,228 @@
+-- Tables and messages at the front of bytes, by the numbers in their fields.
+use Rattle.std.proofs.Common.{◌≡◌, ℕ, ◌+◌, ◌-◌, ◌*◌, ◌%◌, ◌<◌, ◌≤◌, ◌^◌, zero, suc, Option, Some, List, [], ◌∷◌, ◌++◌, length, take, drop, refl, sym, ap, ◌∙◌, subst, arith, append_assoc, length-append, add-one}
+use Rattle.std.proofs.lemmas.List.{take-append-drop, length-drop, length-take-le, take_at, drop-take, drop-drop}
+use Rattle.std.proofs.lemmas.List.Concat.{flat_map-append}
+use Rattle.std.proofs.lemmas.List.Sums.{sum_by-cons}
+use Rattle.std.proofs.lemmas.Nat.{from_le_bytes-to_le_bytes_4}
+use lib.Seq.{take-add}
+use Rattle.std.specs.Prelude.{sum, slice_get}
+use Rattle.std.specs.List.{concat, flat_map, AllByRecursion}
+use Rattle.std.specs.Int.{w32, from_le_bytes}
+use Rattle.capnp_frame.specs.Message.{IsWholeWords, lengths, size_in_words}
+use Rattle.capnp_frame.specs.SegmentTable.{field, FitsField, table_size, padding_len, IsTable}
+use Rattle.capnp_frame.specs.SegmentLengths.{cut}
+use Rattle.capnp_frame.specs.Limits.{KeepsLimit, AreWithin, IsWithin}
+use Rattle.capnp_frame.specs.Front.{HasFrame, number, numbers, told_lengths, told_segments, SpellsLengths, TellsTable, HoldsMessage}
+use Rattle.capnp_frame.proofs.Ranges.{concat-cut, length-cut, sum_push}
+use Rattle.capnp_frame.proofs.TableLemmas.{length-fields, AllByRecursion-push}
+use Rattle.capnp_frame.proofs.RequestLemmas.{lengths-cut}
+use Rattle.capnp_frame.proofs.FrameLemmas.{length-table, length-segments}
+use Rattle.capnp_frame.proofs.TextLemmas.{frames_part}
+use Rattle.capnp_frame.proofs.WritingLemmas.{length-lengths}
+
+-- numbers in fields
+
+pub number-field : (n : ℕ) (bytes : List ℕ) → n < 2 ^ 32 → field n ≡ take 4 bytes → number bytes ≡ n
+number-field n bytes fits read = ap (from_le_bytes w32) (sym read) ∙ from_le_bytes-to_le_bytes_4 n fits
+
+numbers-suc : (count : ℕ) (bytes : List ℕ) → numbers (suc count) bytes ≡ numbers count bytes ++ number (drop (4 * count) bytes) ∷ []
+numbers-suc zero bytes = refl
+numbers-suc (suc count) bytes =
+    let further : 4 + 4 * count ≡ 4 * suc count = omega arith in
+    ap (λ l. number bytes ∷ l) (numbers-suc count (drop 4 bytes))
+    ∙ ap (λ l. number bytes ∷ (numbers count (drop 4 bytes) ++ number l ∷ [])) (drop-drop (4 * count) 4 bytes ∙ ap (λ k. drop k bytes) further)
+
+pub length-numbers : (count : ℕ) (bytes : List ℕ) → length (numbers count bytes) ≡ count
+length-numbers zero bytes = refl
+length-numbers (suc count) bytes = ap suc (length-numbers count (drop 4 bytes))
+
+-- the first numbers of more
+pub numbers-take : (index count : ℕ) (bytes : List ℕ) → index ≤ count → take index (numbers count bytes) ≡ numbers index bytes
+numbers-take zero count bytes less = refl
+numbers-take (suc index) zero bytes less = absurd (omega arith)
+numbers-take (suc index) (suc count) bytes less = ap (λ l. number bytes ∷ l) (numbers-take index count (drop 4 bytes) (omega arith))
+
+pub number_at : (index count : ℕ) (bytes : List ℕ) → index < count → slice_get (numbers count bytes) index ≡ Some (number (drop (4 * index) bytes))
+number_at index zero bytes less = absurd (omega arith)
+number_at zero (suc count) bytes less = refl
+number_at (suc index) (suc count) bytes less =
+    let further : 4 + 4 * index ≡ 4 * suc index = omega arith in
+    number_at index count (drop 4 bytes) (omega arith) ∙ ap (λ l. Some (number l)) (drop-drop (4 * index) 4 bytes ∙ ap (λ k. drop k bytes) further)
+
+-- the numbers of fields are what they spell
+numbers_told : (ns rest : List ℕ) → AllByRecursion FitsField ns → numbers (length ns) (flat_map field ns ++ rest) ≡ ns
+numbers_told [] rest fits = refl
+numbers_told (n ∷ ns) rest fits =
+    ap (λ k. k ∷ numbers (length ns) (flat_map field ns ++ rest)) (from_le_bytes-to_le_bytes_4 n fits.0)
+    ∙ ap (λ l. n ∷ l) (numbers_told ns rest fits.1)
+
+-- a length more
+pub record TellsMore (bytes : List ℕ) (index n : ℕ) : Type 0 where
+  pub lengths : SpellsLengths bytes (index + 1)
+  pub total : sum (told_lengths (index + 1) bytes) ≡ sum (told_lengths index bytes) + n
+
+pub tells_more : (bytes : List ℕ) (index n : ℕ) → n < 2 ^ 32 → field n ≡ take 4 (drop (4 * (index + 1)) bytes) → SpellsLengths bytes index → TellsMore bytes index n
+tells_more bytes index n fits read before =
+    let place : 4 + 4 * index ≡ 4 * (index + 1) = omega arith in
+    let there : drop (4 * index) (drop 4 bytes) ≡ drop (4 * (index + 1)) bytes = drop-drop (4 * index) 4 bytes ∙ ap (λ k. drop k bytes) place in
+    let here : number (drop (4 * index) (drop 4 bytes)) ≡ n = ap number there ∙ number-field n (drop (4 * (index + 1)) bytes) fits read in
+    let next : told_lengths (index + 1) bytes ≡ told_lengths index bytes ++ n ∷ [] = ap (λ k. numbers k (drop 4 bytes)) (add-one index) ∙ numbers-suc index (drop 4 bytes) ∙ ap (λ k. told_lengths index bytes ++ k ∷ []) here in
+    let more : 4 * index + 4 ≡ 4 * (index + 1) = omega arith in
+    record {
+      lengths = record {
+        each = subst (AllByRecursion FitsField) (sym next) (AllByRecursion-push FitsField (told_lengths index bytes) n before.each fits);
+        spelled = ap (flat_map field) next ∙ flat_map-append field (told_lengths index bytes) (n ∷ []) ∙ ap (λ l. l ++ field n) before.spelled ∙ ap (λ l. take (4 * index) (drop 4 bytes) ++ l) (read ∙ ap (take 4) (sym there)) ∙ sym (take-add (4 * index) 4 (drop 4 bytes)) ∙ ap (λ k. take k (drop 4 bytes)) more;
+      };
+      total = ap sum next ∙ sum_push (told_lengths index bytes) n;
+    }
+
+-- tables
+
+pub length-told : (count : ℕ) (bytes : List ℕ) → length (told_lengths count bytes) ≡ count
+length-told count bytes = length-numbers count (drop 4 bytes)
+
+-- the bytes of the table are one
+pub table_is : (bytes : List ℕ) (count : ℕ) → TellsTable bytes count → IsTable (take (table_size count) bytes) (told_lengths count bytes)
+table_is bytes count tells =
+    let ns = told_lengths count bytes in
+    let len = length-told count bytes in
+    let some = tells.some in
+    let few = tells.few in
+    let room = tells.room in
+    let more = table_size count - (4 + 4 * count) in
+    let padding = take more (drop (4 + 4 * count) bytes) in
+    let whole : 4 + 4 * count + more ≡ table_size count = omega arith in
+    let front : take (4 + 4 * count) bytes ≡ field (length ns - 1) ++ flat_map field ns = take-add 4 (4 * count) bytes ∙ ap (λ l. l ++ take (4 * count) (drop 4 bytes)) (sym tells.counted) ∙ ap (λ l. field (count - 1) ++ l) (sym tells.lengths.spelled) ∙ ap (λ k. field (k - 1) ++ flat_map field ns) (sym len) in
+    let padded : length padding ≡ padding_len ns = length-take-le more (drop (4 + 4 * count) bytes) (omega (arith, length-drop (4 + 4 * count) bytes)) ∙ padding_is count (length ns) (sym len) in
+    record {
+      can = record { some = omega arith; count = omega arith; each = tells.lengths.each };
+      padding = padding;
+      padded = padded;
+      spelled = ap (λ k. take k bytes) (sym whole) ∙ take-add (4 + 4 * count) more bytes ∙ ap (λ l. l ++ padding) front;
+    }
+  where
+    padding_is : (count many : ℕ) → count ≡ many → table_size count - (4 + 4 * count) ≡ 4 * ((many + 1) % 2)
+    padding_is count many same = omega arith
+
+-- a table at the front is told
+pub record Told (bytes ns : List ℕ) : Type 0 where
+  pub tells : TellsTable bytes (length ns)
+  pub lengths : told_lengths (length ns) bytes ≡ ns
+  pub count : number bytes + 1 ≡ length ns
+
+pub told_from_table : (table rest ns : List ℕ) → IsTable table ns → length ns < 512 → Told (table ++ rest) ns
+told_from_table table rest ns is few =
+    let count = length ns in
+    let some = is.can.some in
+    let behind = flat_map field ns ++ (is.padding ++ rest) in
+    let bytes_are : table ++ rest ≡ field (count - 1) ++ behind = ap (λ l. l ++ rest) is.spelled ∙ append_assoc (field (count - 1) ++ flat_map field ns) is.padding rest ∙ append_assoc (field (count - 1)) (flat_map field ns) (is.padding ++ rest) in
+    let first : field (count - 1) ≡ take 4 (table ++ rest) = ap (take 4) (sym bytes_are) in
+    let others : drop 4 (table ++ rest) ≡ behind = ap (drop 4) bytes_are in
+    let told : told_lengths count (table ++ rest) ≡ ns = ap (numbers count) others ∙ numbers_told ns (is.padding ++ rest) is.can.each in
+    let number_is = number-field (count - 1) (table ++ rest) (omega arith) first in
+    record {
+      tells = record {
+        some = some;
+        few = few;
+        counted = first;
+        lengths = record {
+          each = subst (AllByRecursion FitsField) (sym told) is.can.each;
+          spelled = ap (flat_map field) told ∙ sym (take_at (flat_map field ns) (is.padding ++ rest) (4 * count) (length-fields ns)) ∙ ap (take (4 * count)) (sym others);
+        };
+        room = omega (arith, length-table table ns is, length-append table rest);
+      };
+      lengths = told;
+      count = omega arith;
+    }
+
+-- segments
+
+take-take : {X : Type 0} (m n : ℕ) (xs : List X) → m ≤ n → take m (take n xs) ≡ take m xs
+take-take zero n xs less = refl
+take-take (suc m) zero xs less = absurd (omega arith)
+take-take (suc m) (suc n) [] less = refl
+take-take (suc m) (suc n) (x ∷ xs) less = ap (λ l. x ∷ l) (take-take m n xs (omega arith))
+
+-- only so many bytes are cut
+pub cut-take : (ns bytes : List ℕ) → cut ns bytes ≡ cut ns (take (8 * sum ns) bytes)
+cut-take [] bytes = refl
+cut-take (n ∷ ns) bytes =
+    let total : sum (n ∷ ns) ≡ n + sum ns = sum_by-cons (λ x. x) n ns in
+    let all : 8 * sum (n ∷ ns) ≡ 8 * n + 8 * sum ns = omega arith in
+    let first : take (8 * n) (take (8 * sum (n ∷ ns)) bytes) ≡ take (8 * n) bytes = take-take (8 * n) (8 * sum (n ∷ ns)) bytes (omega arith) in
+    let others : drop (8 * n) (take (8 * sum (n ∷ ns)) bytes) ≡ take (8 * sum ns) (drop (8 * n) bytes) = ap (λ k. drop (8 * n) (take k bytes)) all ∙ drop-take (8 * n) (8 * sum ns) bytes in
+    ap (λ l. take (8 * n) bytes ∷ l) (cut-take ns (drop (8 * n) bytes)) ∙ ap (λ l. take (8 * n) bytes ∷ cut ns l) (sym others) ∙ ap (λ l. l ∷ cut ns (drop (8 * n) (take (8 * sum (n ∷ ns)) bytes))) (sym first)
+
+-- a message that is held stands at the front
+pub record Found (bytes : List ℕ) (count : ℕ) : Type 0 where
+  pub begins : HasFrame bytes (told_segments count bytes) (drop (table_size count + 8 * sum (told_lengths count bytes)) bytes)
+  pub lengths_are : lengths (told_segments count bytes) ≡ told_lengths count bytes
+
+pub found_from_held : (bytes : List ℕ) (count : ℕ) → HoldsMessage bytes count → Found bytes count
+found_from_held bytes count holds =
+    let ns = told_lengths count bytes in
+    let size = table_size count in
+    let total = 8 * sum ns in
+    let room = holds.room in
+    let body = take total (drop size bytes) in
+    let long : length body ≡ total = length-take-le total (drop size bytes) (omega (arith, length-drop size bytes)) in
+    let same : told_segments count bytes ≡ cut ns body = cut-take ns (drop size bytes) in
+    let parts = lengths-cut ns body long in
+    let are : lengths (told_segments count bytes) ≡ ns = ap lengths same ∙ parts.0 in
+    let joined : concat (told_segments count bytes) ≡ body = ap concat same ∙ concat-cut ns body long in
+    let text = take (size + total) bytes in
+    record {
+      begins = (
+        text,
+        record {
+          table = take size bytes;
+          lengths_told = subst (IsTable (take size bytes)) (sym are) (table_is bytes count holds.table);
+          whole = subst (AllByRecursion IsWholeWords) (sym same) parts.1;
+          spelled = take-add size total bytes ∙ ap (λ l. take size bytes ++ l) (sym joined);
+        },
+        sym (take-append-drop (size + total) bytes),
+      );
+      lengths_are = are;
+    }
+
+-- and a message that stands at the front is held
+pub record Held (bytes : List ℕ) (segments : List (List ℕ)) : Type 0 where
+  pub holds : HoldsMessage bytes (length segments)
+  pub lengths_are : told_lengths (length segments) bytes ≡ lengths segments
+  pub count : number bytes + 1 ≡ length segments
+  pub segments_are : told_segments (length segments) bytes ≡ segments
+  pub rest_is : (rest : List ℕ) → HasFrame bytes segments rest → rest ≡ drop (table_size (length segments) + 8 * size_in_words segments) bytes
+
+pub held_from_begins : (bytes : List ℕ) (segments : List (List ℕ)) (rest : List ℕ) (limit : Option ℕ) → HasFrame bytes segments rest → IsWithin segments limit → Held bytes segments
+held_from_begins bytes segments rest limit (text, frame, is) within =
+    let many = length-lengths segments in
+    let few = within.few in
+    let bytes_are : bytes ≡ frame.table ++ (concat segments ++ rest) = is ∙ ap (λ l. l ++ rest) frame.spelled ∙ append_assoc frame.table (concat segments) rest in
+    let told : Told bytes (lengths segments) = subst (λ l. Told l (lengths segments)) (sym bytes_are) (told_from_table frame.table (concat segments ++ rest) (lengths segments) frame.lengths_told few) in
+    let told_are : told_lengths (length segments) bytes ≡ lengths segments = subst (λ k. told_lengths k bytes ≡ lengths segments) many told.lengths in
+    let tells : TellsTable bytes (length segments) = subst (TellsTable bytes) many told.tells in
+    let long : length bytes ≡ length frame.table + (length (concat segments) + length rest) = ap length bytes_are ∙ length-append frame.table (concat segments ++ rest) ∙ ap (λ k. length frame.table + k) (length-append (concat segments) rest) in
+    let table_len = length-table frame.table (lengths segments) frame.lengths_told in
+    let body_len = length-segments segments frame.whole in
+    let total : sum (told_lengths (length segments) bytes) ≡ size_in_words segments = ap sum told_are in
+    let holds : HoldsMessage bytes (length segments) = record { table = tells; room = omega arith } in
+    let found = found_from_held bytes (length segments) holds in
+    let parts = λ (left : List ℕ) (begins : HasFrame bytes segments left). frames_part found.begins.0 begins.0 (drop (table_size (length segments) + 8 * sum (told_lengths (length segments) bytes)) bytes) left (told_segments (length segments) bytes) segments found.begins.1 begins.1 (sym found.begins.2 ∙ begins.2) in
+    record {
+      holds = holds;
+      lengths_are = told_are;
+      count = told.count ∙ many;
+      segments_are = (parts rest (text, frame, is)).1;
+      rest_is = λ left begins. sym (parts left begins).2 ∙ ap (λ k. drop (table_size (length segments) + 8 * k) bytes) total;
+    }
+
+-- what is told is within, where it keeps the limit
+pub within_told : (bytes : List ℕ) (count : ℕ) (limit : Option ℕ) → HoldsMessage bytes count → KeepsLimit (told_lengths count bytes) limit → IsWithin (told_segments count bytes) limit
+within_told bytes count limit holds keeps =
+    let len = length-told count bytes in
+    let some = holds.table.some in
+    let few = holds.table.few in
+    subst (λ l. AreWithin l limit) (sym (found_from_held bytes count holds).lengths_are) (record { some = omega arith; few = omega arith; each = holds.table.lengths.each; size = keeps })
+
+pub length-told_segments : (count : ℕ) (bytes : List ℕ) → length (told_segments count bytes) ≡ count
+length-told_segments count bytes = length-cut (told_lengths count bytes) (drop (table_size count) bytes) ∙ length-told count bytes

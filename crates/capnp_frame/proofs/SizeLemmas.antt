@@ -1,0 +1,73 @@
+-- What is written of a message: its text and its size.
+use Rattle.std.proofs.Common.{◌≡◌, ℕ, ◌+◌, ◌*◌, ◌/◌, ◌<◌, ◌≤◌, ◌^◌, ◌⊎◌, ◌↔◌, inl, inr, List, [], ◌∷◌, ◌++◌, length, take, drop, sym, ap, ◌∙◌, arith, length-append}
+use Rattle.std.proofs.lemmas.List.{append-nil, take_all, take-append-drop}
+use Rattle.std.proofs.lemmas.List.Folds.{concat-append}
+use Rattle.std.proofs.lemmas.Bool.{cases_lt}
+use Rattle.std.specs.Prelude.{Some}
+use Rattle.std.specs.List.{concat}
+use Rattle.capnp_frame.specs.declared.error.ErrorKind.{ErrorKind}
+use Rattle.capnp_frame.specs.declared.error.ErrorKind.TheVariants.{DeviceFailed, OutOfMemory, MessageSizeOverflow}
+use Rattle.capnp_frame.specs.Message.{lengths, size_in_words}
+use Rattle.capnp_frame.specs.SegmentTable.{zero_padded_table, HasTable}
+use Rattle.capnp_frame.specs.Frame.{frame_text}
+use Rattle.capnp_frame.specs.Source.{Known, Fails}
+use Rattle.capnp_frame.specs.Sink.{Adds, AppendsAll, AppendsSame, LacksMemory, DeclinesSome}
+use Rattle.capnp_frame.specs.Writing.{IsWritable, word_and_rest, pieces, serialized_words}
+use Rattle.capnp_frame.proofs.FrameLemmas.{zero_padded_is, length-table, length-segments}
+use Rattle.capnp_frame.proofs.WritingLemmas.{parts_one, parts_two, length-lengths}
+
+pub HasTable-writable : (segments : List (List ℕ)) → IsWritable segments → HasTable (lengths segments)
+HasTable-writable segments writable =
+    let count = length-lengths segments in
+    let some = writable.some in
+    let few = writable.few in
+    record { some = omega arith; count = omega arith; each = writable.each }
+
+-- a frame takes so many words
+pub length-frame_text : (segments : List (List ℕ)) → IsWritable segments → length (frame_text segments) ≡ 8 * serialized_words segments
+length-frame_text segments writable =
+    let table = zero_padded_table (lengths segments) in
+    let long = length-table table (lengths segments) (zero_padded_is (lengths segments) (HasTable-writable segments writable)) in
+    let body = length-segments segments writable.whole in
+    let count = length-lengths segments in
+    length-append table (concat segments) ∙ sizes (length table) (length (concat segments)) (length (lengths segments)) (length segments) (size_in_words segments) long body count
+  where
+    sizes : (table body many count words : ℕ) → table ≡ 8 + 8 * (many / 2) → body ≡ 8 * words → many ≡ count → table + body ≡ 8 * (count / 2 + 1 + words)
+    sizes table body many count words long all same = omega arith
+
+concat-word_and_rest : (table : List ℕ) → concat (word_and_rest table) ≡ table
+concat-word_and_rest table = elim (cases_lt 8 (length table)) [
+  | inl more ↦ ap concat (parts_two table more) ∙ ap (λ l. take 8 table ++ l) (append-nil (drop 8 table)) ∙ take-append-drop 8 table
+  | inr no_more ↦ ap concat (parts_one table no_more) ∙ append-nil (take 8 table) ∙ take_all 8 table no_more
+]
+
+-- the pieces, joined, are the frame
+pub concat-pieces : (segments : List (List ℕ)) → concat (pieces segments) ≡ frame_text segments
+concat-pieces segments =
+    let table = zero_padded_table (lengths segments) in
+    concat-append (word_and_rest table) segments ∙ ap (λ l. l ++ concat segments) (concat-word_and_rest table)
+
+appended_same : (xs : List (List ℕ)) (text : List ℕ) → AppendsAll AppendsSame xs text → text ≡ concat xs
+appended_same [] text p = p
+appended_same (x ∷ xs) text p = p.4 ∙ ap (λ l. l ++ p.1) p.2 ∙ ap (λ l. x ++ l) (appended_same xs p.1 p.3)
+
+-- what a plain sink has after the pieces of a message
+pub written_frame : (segments : List (List ℕ)) (old new : List ℕ) → old ≡ [] → Known (Some old) (Some new) (Adds (AppendsAll AppendsSame (pieces segments))) → new ≡ frame_text segments
+written_frame segments old new empty p = p.2 ∙ ap (λ l. l ++ p.0) empty ∙ appended_same (pieces segments) p.0 p.1 ∙ concat-pieces segments
+
+declines_memory : (xs : List (List ℕ)) (kind : ErrorKind) → DeclinesSome LacksMemory xs kind → kind ≡ OutOfMemory
+declines_memory [] kind p = absurd p
+declines_memory (x ∷ xs) kind (inl p) = p
+declines_memory (x ∷ xs) kind (inr p) = declines_memory xs kind p
+
+-- a vector refuses pieces for want of memory alone
+pub lacks_memory_alone : {F : Type 0} (xs : List (List ℕ)) (kind : ErrorKind) → (kind ≡ DeviceFailed → Fails 0 0) → (kind ≡ DeviceFailed) ⊎ DeclinesSome LacksMemory xs kind ⊎ (F × (kind ≡ OutOfMemory)) → kind ≡ OutOfMemory
+lacks_memory_alone xs kind failed (inl device) = let count : Fails 0 0 = failed device in absurd (omega arith)
+lacks_memory_alone xs kind failed (inr (inl declined)) = declines_memory xs kind declined
+lacks_memory_alone xs kind failed (inr (inr memory)) = memory.1
+
+pub overflown : (kind : ErrorKind) (total : ℕ) → kind ≡ MessageSizeOverflow → 2 ^ 64 ≤ total → (kind ≡ MessageSizeOverflow) ↔ (2 ^ 64 ≤ total)
+overflown kind total is over = (λ _. over, λ _. is)
+
+pub not_overflown : (kind : ErrorKind) (total : ℕ) → kind ≡ OutOfMemory → total < 2 ^ 64 → (kind ≡ MessageSizeOverflow) ↔ (2 ^ 64 ≤ total)
+not_overflown kind total memory fits = (λ is. let never : OutOfMemory ≡ MessageSizeOverflow = sym memory ∙ is in cc, λ over. absurd (omega arith))

@@ -1,0 +1,5 @@
+use Rattle.capnp_frame.proofs.AgreementLemmas.{index_below}
+use Rattle.capnp_frame.proofs.laws.indexes_are_below_the_length.Goals as goal
+
+pub returns : goal.returns
+returns c = index_below

@@ -1,0 +1,65 @@
+-- Messages at the front of bytes: what the readers of slices and of lent buffers find there.
+use Rattle.std.specs.Prelude.{◌≡◌, ℕ, ◌+◌, ◌*◌, ◌-◌, ◌<◌, ◌≤◌, zero, suc, List, [], ◌∷◌, ◌++◌, length, take, drop, sum, None}
+use Rattle.std.specs.List.{flat_map, AllByRecursion}
+use Rattle.std.specs.Int.{w32, from_le_bytes}
+use Rattle.capnp_frame.specs.Message.{size_in_words}
+use Rattle.capnp_frame.specs.SegmentTable.{field, FitsField, table_size}
+use Rattle.capnp_frame.specs.SegmentLengths.{cut}
+use Rattle.capnp_frame.specs.Frame.{IsFrame}
+use Rattle.capnp_frame.specs.Limits.{IsWithin}
+use Rattle.capnp_frame.specs.declared.serialize.segment_table_info.NoAllocSegmentTableInfo.{NoAllocSegmentTableInfo}
+
+-- a frame of the message stands at the front, and `rest` behind it
+abbrev pub HasFrame : List ℕ → List (List ℕ) → List ℕ → Type 0
+HasFrame bytes segments rest = (text : List ℕ) × IsFrame text segments × (bytes ≡ text ++ rest)
+
+-- The bytes begin with a message of 1 to 511 segments, and these are the numbers of its table.
+pub record IsDescribed (bytes : List ℕ) (info : NoAllocSegmentTableInfo) : Type 0 where
+  pub segments : List (List ℕ)
+  pub rest : List ℕ
+  pub begins : HasFrame bytes segments rest
+  pub within : IsWithin segments None
+  pub count : info.segments_count ≡ length segments
+  pub table : info.segment_table_length_bytes ≡ table_size (length segments)
+  pub total : info.total_segments_length_bytes ≡ 8 * size_in_words segments
+
+-- two tables' numbers are the same
+pub record HaveSameNumbers (found info : NoAllocSegmentTableInfo) : Type 0 where
+  pub count : found.segments_count ≡ info.segments_count
+  pub table : found.segment_table_length_bytes ≡ info.segment_table_length_bytes
+  pub total : found.total_segments_length_bytes ≡ info.total_segments_length_bytes
+
+-- the number in the first four bytes
+abbrev pub number : List ℕ → ℕ
+number bytes = from_le_bytes w32 (take 4 bytes)
+
+-- the numbers in so many fields of four bytes
+abbrev pub numbers : ℕ → List ℕ → List ℕ
+numbers zero bytes = []
+numbers (suc count) bytes = number bytes ∷ numbers count (drop 4 bytes)
+
+-- the lengths of so many segments, as the fields behind the first tell them
+abbrev pub told_lengths : ℕ → List ℕ → List ℕ
+told_lengths count bytes = numbers count (drop 4 bytes)
+
+-- the parts of these lengths behind the table
+abbrev pub told_segments : ℕ → List ℕ → List (List ℕ)
+told_segments count bytes = cut (told_lengths count bytes) (drop (table_size count) bytes)
+
+-- the lengths in so many fields are spelled there
+pub record SpellsLengths (bytes : List ℕ) (count : ℕ) : Type 0 where
+  pub each : AllByRecursion FitsField (told_lengths count bytes)
+  pub spelled : flat_map field (told_lengths count bytes) ≡ take (4 * count) (drop 4 bytes)
+
+-- a table of so many segments stands at the front
+pub record TellsTable (bytes : List ℕ) (count : ℕ) : Type 0 where
+  pub some : 0 < count
+  pub few : count < 512
+  pub counted : field (count - 1) ≡ take 4 bytes
+  pub lengths : SpellsLengths bytes count
+  pub room : table_size count ≤ length bytes
+
+-- and the segments behind it
+pub record HoldsMessage (bytes : List ℕ) (count : ℕ) : Type 0 where
+  pub table : TellsTable bytes count
+  pub room : table_size count + 8 * sum (told_lengths count bytes) ≤ length bytes

@@ -1,0 +1,29 @@
+-- What is written of a message, and in which pieces (src/serialize/writing.rt).
+-- Encoding document, "Serialization Over a Stream".
+use Rattle.std.specs.Prelude.{ℕ, ◌+◌, ◌/◌, ◌^◌, ◌<◌, List, [], ◌∷◌, ◌++◌, length, take, drop, nat_lt, if◌then◌else◌}
+use Rattle.std.specs.List.{AllByRecursion}
+use Rattle.capnp_frame.specs.Message.{IsWholeWords, lengths, size_in_words}
+use Rattle.capnp_frame.specs.SegmentTable.{FitsField, zero_padded_table}
+
+-- what a writer takes: 1 to 2 ^ 32 - 1 segments, each of whole words and fewer than 2 ^ 32 of them
+pub record IsWritable (segments : List (List ℕ)) : Type 0 where
+  pub some : 0 < length segments
+  pub few : length segments < 2 ^ 32
+  pub whole : AllByRecursion IsWholeWords segments
+  pub each : AllByRecursion FitsField (lengths segments)
+
+-- the first word, and where there are more the other words
+abbrev pub word_and_rest : List ℕ → List (List ℕ)
+word_and_rest table = if nat_lt 8 (length table) then take 8 table ∷ drop 8 table ∷ [] else take 8 table ∷ []
+
+-- the pieces of a table
+abbrev pub table_pieces : List ℕ → List (List ℕ)
+table_pieces ns = word_and_rest (zero_padded_table ns)
+
+-- what is handed to a sink, in order
+abbrev pub pieces : List (List ℕ) → List (List ℕ)
+pieces segments = table_pieces (lengths segments) ++ segments
+
+-- how many words a message takes with its table; the table of no segments is one word
+abbrev pub serialized_words : List (List ℕ) → ℕ
+serialized_words segments = length segments / 2 + 1 + size_in_words segments

@@ -1,0 +1,192 @@
+//! Segments that stay in the buffer in which their message stands.
+ghost use Rattle.std.specs.Prelude.{◌≡◌, ℕ, ◌+◌, ◌*◌, ◌≤◌, List, length, map, take, drop, sum, ◌⊎◌, IfOk, IfErr, OnErr};
+ghost use Rattle.std.specs.Result.{IsErrAnd};
+ghost use Rattle.capnp_frame.specs.SegmentLengths.{ranges, range_len, cut};
+ghost use Rattle.capnp_frame.specs.Limits.{AreWithin, IsWithin};
+ghost use Rattle.capnp_frame.specs.SegmentTable.{IsTable, table_size};
+ghost use Rattle.capnp_frame.specs.Front.{HasFrame, HoldsMessage, told_lengths};
+ghost use Rattle.capnp_frame.specs.FlatRefusals.{by_words, RefusesFlat};
+ghost use Rattle.capnp_frame.specs.declared.error.ErrorKind.{ErrorKind};
+
+use crate::error::{Error, ErrorKind, Result};
+use crate::message::{AsBytes, ReaderOptions, ReaderSegments};
+use crate::serialize::segment_lengths::SegmentLengthsBuilder;
+use crate::serialize::stream::read_table;
+use std::alloc::Global;
+use std::marker::Model;
+
+/// A message's segments in a buffer that holds its table and behind it the segments.
+///
+/// Where each segment begins and ends is kept, so no segment is copied and the table is read once.
+#[derive(Drop)]
+pub struct BufferSegments<T: AsBytes> {
+    buffer: T,
+    table_len: usize,
+    segment_indices: Vec<(usize, usize)>,
+}
+
+// Clauses see the buffer and the segments.
+impl<T: AsBytes> Model for BufferSegments<T> {
+    ghost use Rattle.std.specs.Prelude.{◌≡◌, ◌+◌, ◌*◌, ◌≤◌, length, map, drop, sum};
+    ghost use Rattle.capnp_frame.specs.SegmentLengths.{ranges, range_len, cut};
+    ghost use Rattle.capnp_frame.specs.Views.{Held};
+
+    ghost Value = { Held T };
+
+    ghost view = { λ held. record {
+      buffer = held.buffer;
+      segments = cut (map range_len held.segment_indices.items) (drop held.table_len (T.bytes held.buffer));
+    } };
+
+    ghost invariant = { λ held.
+        (held.segment_indices.items ≡ ranges (map range_len held.segment_indices.items))
+        × (held.table_len + 8 * sum (map range_len held.segment_indices.items) ≤ length (T.bytes held.buffer)) };
+}
+
+impl<T: AsBytes> BufferSegments<T> {
+    /// The parts of `buffer` behind its first `table_len` bytes that lie between these indices, in
+    /// words.
+    pub(crate) fn from_parts(
+        buffer: T,
+        table_len: usize,
+        segment_indices: Vec<(usize, usize)>,
+    ) -> BufferSegments<T>
+        requires running { segment_indices.items ≡ ranges (map range_len segment_indices.items) }
+        requires room { table_len + 8 * sum (map range_len segment_indices.items)
+            ≤ length (T.bytes buffer) }
+        ensures buffer { result.buffer ≡ buffer }
+        ensures segments { result.segments
+            ≡ cut (map range_len segment_indices.items) (drop table_len (T.bytes buffer)) }
+    {
+        BufferSegments {
+            buffer,
+            table_len,
+            segment_indices,
+        }
+    }
+
+    /// The buffer.
+    pub fn into_buffer(self) -> T
+        ensures { result ≡ self.buffer }
+    {
+        self.buffer
+    }
+}
+
+impl<T: AsBytes + Drop> BufferSegments<T> {
+    /// Finds the message at the front of a buffer. Behind it anything may stand.
+    ///
+    /// Memory is taken for the lengths of the segments alone, once their number is accepted.
+    pub fn new(alloc: Global, buffer: T, options: ReaderOptions) -> Result<BufferSegments<T>>
+        ensures buffer { IfOk result (λ found. found.buffer ≡ buffer) }
+        ensures found { IfOk result (λ found. (rest : List ℕ)
+            × HasFrame (T.bytes buffer) found.segments rest) }
+        ensures within { IfOk result (λ found.
+            IsWithin found.segments options.traversal_limit_in_words) }
+        ensures accepted { IfErr result (λ error. (segments : List (List ℕ)) (rest : List ℕ) →
+            HasFrame (T.bytes buffer) segments rest →
+            IsWithin segments options.traversal_limit_in_words →
+            error.kind ≡ ErrorKind.OutOfMemory) }
+
+        // A refusal is want of memory or a line of the table, and the line that is met is answered.
+        ensures refused { IfErr result (λ error. (error.kind ≡ ErrorKind.OutOfMemory)
+            ⊎ RefusesFlat (by_words ErrorKind.EmptyBuffer) options.traversal_limit_in_words
+            error.kind (T.bytes buffer)) }
+        ensures exact { (kind : ErrorKind) → RefusesFlat (by_words ErrorKind.EmptyBuffer)
+            options.traversal_limit_in_words kind (T.bytes buffer) →
+            IsErrAnd result (λ error. (error.kind ≡ ErrorKind.OutOfMemory) ⊎ (error.kind ≡ kind)) }
+    {
+        let (lengths, table_len) = find_message(
+            alloc,
+            buffer.as_bytes(),
+            options.traversal_limit_in_words,
+            ErrorKind::EmptyBuffer,
+        )?;
+        Ok(BufferSegments::from_parts(buffer, table_len, lengths.to_segment_indices()))
+    }
+}
+
+impl<T: AsBytes> ReaderSegments for BufferSegments<T> {
+    ghost segments = { λ held. held.segments };
+
+    fn get_segment(&self, id: u32) -> Option<&[u8]> {
+        let index = id as usize;
+        if index >= self.segment_indices.len() {
+            return None;
+        }
+        let (start, end) = self.segment_indices[index];
+        let bytes = self.buffer.as_bytes();
+        Some(&bytes[self.table_len + 8 * start..self.table_len + 8 * end])
+    }
+
+    fn len(&self) -> usize
+        ensures { result ≡ length self.now.segments }
+    {
+        self.segment_indices.len()
+    }
+}
+
+/// Finds the message at the front of a slice, and moves the slice behind it. A slice that is refused
+/// stays as it was.
+///
+/// No segment is copied. Memory is taken for the lengths of the segments, once their number is
+/// accepted.
+pub fn take_segments<'a>(
+    alloc: Global,
+    slice: &mut &'a [u8],
+    options: ReaderOptions,
+) -> Result<BufferSegments<&'a [u8]>>
+    ensures found { IfOk result (λ found.
+        HasFrame slice.old.now found.segments slice.new.now) }
+    ensures within { IfOk result (λ found.
+        IsWithin found.segments options.traversal_limit_in_words) }
+    ensures unchanged { OnErr result (slice.new.now ≡ slice.old.now) }
+    ensures accepted { IfErr result (λ error. (segments : List (List ℕ)) (rest : List ℕ) →
+        HasFrame slice.old.now segments rest →
+        IsWithin segments options.traversal_limit_in_words →
+        error.kind ≡ ErrorKind.OutOfMemory) }
+
+    // A refusal is want of memory or a line of the table, and the line that is met is answered.
+    ensures refused { IfErr result (λ error. (error.kind ≡ ErrorKind.OutOfMemory)
+        ⊎ RefusesFlat (by_words ErrorKind.EmptySlice) options.traversal_limit_in_words
+        error.kind slice.old.now) }
+    ensures exact { (kind : ErrorKind) → RefusesFlat (by_words ErrorKind.EmptySlice)
+        options.traversal_limit_in_words kind slice.old.now →
+        IsErrAnd result (λ error. (error.kind ≡ ErrorKind.OutOfMemory) ⊎ (error.kind ≡ kind)) }
+{
+    let all: &'a [u8] = *slice;
+    let (lengths, table_len) = find_message(
+        alloc,
+        all,
+        options.traversal_limit_in_words,
+        ErrorKind::EmptySlice,
+    )?;
+    *slice = &all[table_len + 8 * lengths.total_words()..];
+    Ok(lengths.into_slice_segments(all, table_len))
+}
+
+// The lengths of the segments of the message at the front of these bytes, in words, and the length
+// of its table, in bytes. No bytes are refused by `empty`.
+fn find_message(
+    alloc: Global,
+    bytes: &[u8],
+    limit: Option<usize>,
+    empty: ErrorKind,
+) -> Result<(SegmentLengthsBuilder, usize)>
+    ensures holds { IfOk result (λ found. HoldsMessage bytes.now (length found.0)) }
+    ensures lengths { IfOk result (λ found. told_lengths (length found.0) bytes.now ≡ found.0) }
+    ensures table { IfOk result (λ found. found.1 ≡ table_size (length found.0)) }
+    ensures within { IfOk result (λ found. AreWithin found.0 limit) }
+    ensures refused { IfErr result (λ error. (error.kind ≡ ErrorKind.OutOfMemory)
+        ⊎ RefusesFlat (by_words empty) limit error.kind bytes.now) }
+{
+    let mut rest = bytes;
+    let Some(lengths) = read_table(alloc, &mut rest, limit)? else {
+        return Err(Error::from_kind(empty));
+    };
+    let total = lengths.total_words();
+    if rest.len() < 8 * total {
+        return Err(Error::from_kind(ErrorKind::MessageEndsPrematurely(total, rest.len() / 8)));
+    }
+    Ok((lengths, bytes.len() - rest.len()))
+}

@@ -1,0 +1,162 @@
+//! Writing messages to a sink.
+ghost use Rattle.std.specs.Prelude.{◌≡◌, ℕ, ◌+◌, ◌*◌, ◌<◌, ◌≤◌, ◌^◌, ◌↔◌, ◌⊎◌, length, take, drop, replicate, sum, ◌++◌, IfOk, OnOk, IfErr};
+ghost use Rattle.std.specs.List.{AllByRecursion};
+ghost use Rattle.capnp_frame.specs.Message.{IsWholeWords, lengths};
+ghost use Rattle.capnp_frame.specs.SegmentTable.{field, zero_padded_table, table_size};
+ghost use Rattle.capnp_frame.specs.Frame.{frame_text};
+ghost use Rattle.capnp_frame.specs.Writing.{IsWritable, word_and_rest, table_pieces, pieces, serialized_words};
+ghost use Rattle.capnp_frame.specs.Errors.{IsRefusedBy};
+ghost use Rattle.capnp_frame.specs.Source.{Known, Fails};
+ghost use Rattle.capnp_frame.specs.Sink.{Adds, AppendsAll, DeclinesSome, Grows};
+
+use crate::error::{Error, ErrorKind, Result};
+use crate::io::Write;
+use crate::message::ReaderSegments;
+use crate::serialize::segment_table::table_len;
+use std::alloc::Global;
+
+/// Writes a message: the first word of its table, with two segments or more the table's other words
+/// as one piece, and then each segment as a piece.
+///
+/// Memory is taken for a table of four segments or more, before anything is written.
+pub fn write_segments<W: Write, S: ReaderSegments>(
+    alloc: Global,
+    sink: &mut W,
+    segments: &S,
+) -> Result<()>
+    requires { IsWritable (S.segments segments.now) }
+    ensures written { OnOk result (Known (W.written sink.old) (W.written sink.new)
+        (Adds (AppendsAll W.appends (pieces (S.segments segments.now))))) }
+    ensures refused { IfErr result (λ error. (error.kind ≡ ErrorKind.DeviceFailed)
+        ⊎ DeclinesSome W.refuses (pieces (S.segments segments.now)) error.kind
+        ⊎ (4 ≤ length (S.segments segments.now)) × (error.kind ≡ ErrorKind.OutOfMemory)) }
+    ensures failed { IfErr result (λ error. error.kind ≡ ErrorKind.DeviceFailed →
+        Fails (W.failures sink.old) (W.failures sink.new)) }
+    ensures grows { Grows W.written W.failures W.same sink.old sink.new }
+{
+    write_table(alloc, sink, segments)?;
+    write_each(sink, segments)
+}
+
+/// The framed text of a message. It is refused by `MessageSizeOverflow` only where the number of
+/// its bytes does not fit `usize`.
+pub fn segments_to_words<S: ReaderSegments>(alloc: Global, segments: &S) -> Result<Vec<u8>>
+    requires { IsWritable (S.segments segments.now) }
+    ensures text { IfOk result (λ text. text.items ≡ frame_text (S.segments segments.now)) }
+    ensures overflow { IsRefusedBy result ErrorKind.MessageSizeOverflow
+        ↔ (2 ^ 64 ≤ 8 * serialized_words (S.segments segments.now)) }
+    ensures kinds { IfErr result (λ error. (error.kind ≡ ErrorKind.OutOfMemory)
+        ⊎ (error.kind ≡ ErrorKind.MessageSizeOverflow)) }
+{
+    let words = serialized_size_in_words(segments)?;
+    let Some(length) = words.checked_mul(8) else {
+        return Err(Error::from_kind(ErrorKind::MessageSizeOverflow));
+    };
+    let mut text = Vec::with_capacity(alloc, length)?;
+    write_segments(alloc, &mut text, segments)?;
+    Ok(text)
+}
+
+/// How many words a message takes with its table. The table of no segments is one word.
+pub fn serialized_size_in_words<S: ReaderSegments>(segments: &S) -> Result<usize>
+    requires few { length (S.segments segments.now) < 2 ^ 32 }
+    requires whole { AllByRecursion IsWholeWords (S.segments segments.now) }
+    ensures size { IfOk result (λ words. words ≡ serialized_words (S.segments segments.now)) }
+    ensures overflow { IsRefusedBy result ErrorKind.MessageSizeOverflow
+        ↔ (2 ^ 64 ≤ serialized_words (S.segments segments.now)) }
+    ensures kinds { IfErr result (λ error. error.kind ≡ ErrorKind.MessageSizeOverflow) }
+{
+    let mut words = segments.len() / 2 + 1;
+    let mut index = 0;
+    while let Some(segment) = segments.get_segment(index) {
+        let Some(more) = words.checked_add(segment.len() / 8) else {
+            return Err(Error::from_kind(ErrorKind::MessageSizeOverflow));
+        };
+        words = more;
+        index += 1;
+    }
+    Ok(words)
+}
+
+// Writes the table, with memory for it from four segments on.
+fn write_table<W: Write, S: ReaderSegments>(alloc: Global, sink: &mut W, segments: &S) -> Result<()>
+    requires { IsWritable (S.segments segments.now) }
+    ensures written { OnOk result (Known (W.written sink.old) (W.written sink.new)
+        (Adds (AppendsAll W.appends (table_pieces (lengths (S.segments segments.now)))))) }
+    ensures refused { IfErr result (λ error. (error.kind ≡ ErrorKind.DeviceFailed)
+        ⊎ DeclinesSome W.refuses (table_pieces (lengths (S.segments segments.now))) error.kind
+        ⊎ (4 ≤ length (S.segments segments.now)) × (error.kind ≡ ErrorKind.OutOfMemory)) }
+    ensures failed { IfErr result (λ error. error.kind ≡ ErrorKind.DeviceFailed →
+        Fails (W.failures sink.old) (W.failures sink.new)) }
+    ensures grows { Grows W.written W.failures W.same sink.old sink.new }
+{
+    let count = segments.len();
+    if count < 4 {
+        let mut table = [0; 16];
+        let table = &mut table[..table_len(count)];
+        fill_table(table, segments);
+        return write_in_parts(sink, table);
+    }
+    let mut table = vec![in alloc; 0; table_len(count)]?;
+    fill_table(&mut table, segments);
+    write_in_parts(sink, &table)
+}
+
+// Writes the first word of a table, and where it has more the others.
+fn write_in_parts<W: Write>(sink: &mut W, table: &[u8]) -> Result<()>
+    requires { 8 ≤ length table.now }
+    ensures written { OnOk result (Known (W.written sink.old) (W.written sink.new)
+        (Adds (AppendsAll W.appends (word_and_rest table.now)))) }
+    ensures refused { IfErr result (λ error. (error.kind ≡ ErrorKind.DeviceFailed)
+        ⊎ DeclinesSome W.refuses (word_and_rest table.now) error.kind) }
+    ensures failed { IfErr result (λ error. error.kind ≡ ErrorKind.DeviceFailed →
+        Fails (W.failures sink.old) (W.failures sink.new)) }
+    ensures grows { Grows W.written W.failures W.same sink.old sink.new }
+{
+    sink.write_all(&table[..8])?;
+    if table.len() > 8 {
+        sink.write_all(&table[8..])?;
+    }
+    Ok(())
+}
+
+// Writes each segment as a piece.
+fn write_each<W: Write, S: ReaderSegments>(sink: &mut W, segments: &S) -> Result<()>
+    requires { length (S.segments segments.now) < 2 ^ 32 }
+    ensures written { OnOk result (Known (W.written sink.old) (W.written sink.new)
+        (Adds (AppendsAll W.appends (S.segments segments.now)))) }
+    ensures refused { IfErr result (λ error. (error.kind ≡ ErrorKind.DeviceFailed)
+        ⊎ DeclinesSome W.refuses (S.segments segments.now) error.kind) }
+    ensures failed { IfErr result (λ error. error.kind ≡ ErrorKind.DeviceFailed →
+        Fails (W.failures sink.old) (W.failures sink.new)) }
+    ensures grows { Grows W.written W.failures W.same sink.old sink.new }
+{
+    let mut index = 0;
+    while let Some(segment) = segments.get_segment(index) {
+        sink.write_all(segment)?;
+        index += 1;
+    }
+    Ok(())
+}
+
+// Fills a table of zeros with the number of segments and their lengths.
+fn fill_table<S: ReaderSegments>(table: &mut [u8], segments: &S)
+    requires writable { IsWritable (S.segments segments.now) }
+    requires zero { table.old ≡ replicate (table_size (length (S.segments segments.now))) 0 }
+    ensures { table.new ≡ zero_padded_table (lengths (S.segments segments.now)) }
+{
+    put_field(table, 0, (segments.len() - 1) as u32);
+    let mut index = 0;
+    while let Some(segment) = segments.get_segment(index) {
+        put_field(table, 4 * (index as usize + 1), (segment.len() / 8) as u32);
+        index += 1;
+    }
+}
+
+// Writes a number into the four bytes at `at`.
+fn put_field(table: &mut [u8], at: usize, number: u32)
+    requires { at + 4 ≤ length table.old }
+    ensures { table.new ≡ take at table.old ++ field number ++ drop (at + 4) table.old }
+{
+    table[at..at + 4].copy_from_slice(&number.to_le_bytes());
+}

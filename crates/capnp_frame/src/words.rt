@@ -1,0 +1,45 @@
+//! Words, the unit in which messages are measured.
+use crate::error::{Error, ErrorKind, Result};
+use std::alloc::Global;
+
+pub mod literal;
+
+/// Eight bytes, as they stand in a message.
+#[derive(Clone, Copy, Debug, PartialEq, Eq)]
+pub struct Word {
+    bytes: [u8; 8],
+}
+
+impl Word {
+    ghost use Rattle.std.specs.Prelude.{◌≡◌, ℕ, ◌*◌, ◌≤◌, ◌^◌, ◌↔◌, ◌⊎◌, replicate, map, IfOk, IfErr};
+    ghost use Rattle.capnp_frame.specs.Errors.{IsRefusedBy};
+    ghost use Rattle.capnp_frame.specs.Words.{bytes_of};
+
+    /// The word of these bytes.
+    pub(crate) fn from_bytes(bytes: [u8; 8]) -> Word
+        ensures { bytes_of result ≡ bytes }
+    {
+        Word { bytes }
+    }
+
+    /// So many zero words.
+    pub fn allocate_zeroed_vec(alloc: Global, length: usize) -> Result<Vec<Word>>
+        ensures zero { IfOk result (λ words.
+            map bytes_of words.items ≡ replicate length (replicate 8 0)) }
+        ensures overflow { IsRefusedBy result ErrorKind.MessageSizeOverflow ↔ (2 ^ 64 ≤ 8 * length) }
+        ensures kinds { IfErr result (λ error. (error.kind ≡ ErrorKind.OutOfMemory)
+            ⊎ (error.kind ≡ ErrorKind.MessageSizeOverflow)) }
+    {
+        if length.checked_mul(8).is_none() {
+            return Err(Error::from_kind(ErrorKind::MessageSizeOverflow));
+        }
+        Ok(vec![in alloc; Word::from_bytes([0; 8]); length]?)
+    }
+
+    /// Its bytes, the first in memory first.
+    pub fn bytes(&self) -> [u8; 8]
+        ensures { result ≡ bytes_of self.now }
+    {
+        self.bytes
+    }
+}
