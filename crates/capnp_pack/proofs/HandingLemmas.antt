@@ -1,0 +1,69 @@
+-- What is handed on to a sink, and what a buffer keeps.
+use Rattle.std.proofs.Common.{◌≡◌, ℕ, ◌⊎◌, inl, inr, Option, Result, Ok, Err, IfErr, OnOk, List, [], ◌∷◌, ◌++◌, refl, sym, ap, ◌∙◌, subst, append_assoc}
+use Rattle.std.specs.List.{concat, flat_map}
+use Rattle.std.proofs.lemmas.List.{append-nil}
+use Rattle.std.proofs.lemmas.List.Folds.{concat-append}
+use Rattle.std.proofs.lemmas.List.Concat.{concat_is}
+use Rattle.capnp_frame.specs.declared.error.ErrorKind.{ErrorKind}
+use Rattle.capnp_frame.specs.Source.{Known}
+use Rattle.capnp_frame.specs.Sink.{DeclinesAny, Appending, Declining, Adds, AppendsAll}
+use Rattle.capnp_frame.proofs.SourceLemmas.{Known-join, Known-weaker}
+use Rattle.capnp_pack.specs.PackedSink.{DeclinesPacked}
+use Rattle.capnp_frame.specs.declared.error.Error.{Error}
+use Rattle.capnp_frame.specs.Message.{IsWholeWords}
+use Rattle.capnp_pack.specs.Steps.{Hands}
+
+AppendsAll-join : (appends : Appending) (xs ys : List (List ℕ)) (s t : List ℕ) → AppendsAll appends xs s → AppendsAll appends ys t → AppendsAll appends (xs ++ ys) (s ++ t)
+AppendsAll-join appends [] ys s t p q = subst (λ l. AppendsAll appends ys (l ++ t)) (sym p) q
+AppendsAll-join appends (x ∷ xs) ys s t p q = (p.0, p.1 ++ t, p.2, AppendsAll-join appends xs ys p.1 t p.3 q, ap (λ l. l ++ t) p.4 ∙ append_assoc p.0 p.1 t)
+
+pub Hands-join : (appends : Appending) (old s mid t new x y z : List ℕ) → Hands appends old s mid x y → Hands appends mid t new y z → Hands appends old (s ++ t) new x z
+Hands-join appends old s mid t new x y z p q = record {
+  parts = p.parts ++ q.parts;
+  handed = p.handed ++ q.handed;
+  told = AppendsAll-join appends p.parts q.parts p.handed q.handed p.told q.told;
+  added = q.added ∙ ap (λ l. l ++ q.handed) p.added ∙ append_assoc x p.handed q.handed;
+  kept = sym (append_assoc old s t) ∙ ap (λ l. l ++ t) p.kept ∙ append_assoc (concat p.parts) mid t ∙ ap (λ l. concat p.parts ++ l) q.kept ∙ sym (append_assoc (concat p.parts) (concat q.parts) new) ∙ ap (λ l. l ++ new) (sym (concat-append p.parts q.parts));
+}
+
+-- bytes that the buffer takes
+pub Hands-none : (appends : Appending) (old text new x : List ℕ) → new ≡ old ++ text → Hands appends old text new x x
+Hands-none appends old text new x e = record { parts = []; handed = []; told = refl; added = sym (append-nil x); kept = sym e }
+
+-- a piece behind an empty buffer, or the buffer itself
+pub Hands-one : (appends : Appending) (old text piece x y : List ℕ) → old ++ text ≡ piece → Adds (appends piece) x y → Hands appends old text [] x y
+Hands-one appends old text piece x y e added = record {
+  parts = piece ∷ [];
+  handed = added.0;
+  told = (added.0, [], added.1, refl, sym (append-nil added.0));
+  added = added.2;
+  kept = e ∙ sym (append-nil piece) ∙ sym (append-nil (piece ++ []));
+}
+
+pub Known-flush : (appends : Appending) (old piece : List ℕ) (a b : Option (List ℕ)) → old ≡ piece → Known a b (Adds (appends piece)) → Known a b (Hands appends old [] [])
+Known-flush appends old piece a b e added = Known-weaker a b (λ x y p. Hands-one appends old [] piece x y (append-nil old ∙ e) p) added
+
+pub Known-literal : (appends : Appending) (count : ℕ) (old pushed left flat : List ℕ) (words : List (List ℕ)) (a b c : Option (List ℕ)) → pushed ≡ old ++ count ∷ [] → left ≡ [] → flat ≡ flat_map (λ x. x) words → Known a b (Hands appends pushed [] left) → Known b c (Adds (appends flat)) → Known a c (Hands appends old (count ∷ concat words) left)
+Known-literal appends count old pushed left flat words a b c push none all flushed added =
+    Known-join a b c (λ x y z p q.
+    let first = Hands-join appends old (count ∷ []) pushed [] left x x y (Hands-none appends old (count ∷ []) pushed x push) p in
+    let piece : Hands appends left (concat words) [] y z = Hands-one appends left (concat words) flat y z (ap (λ l. l ++ concat words) none ∙ concat_is words ∙ sym all) q in
+    subst (λ l. Hands appends old (count ∷ concat words) l x z) (sym none) (Hands-join appends old (count ∷ []) left (concat words) [] x y z first piece)) flushed added
+
+pub on_ok_both : {P Q R X E : Type 0} (r : Result X E) → (P → Q → R) → OnOk r P → OnOk r Q → OnOk r R
+on_ok_both (Ok x) join p q = join p q
+on_ok_both (Err e) join p q = tt
+
+-- what a sink refuses
+pub declines_any : (F : Type 0) (refuses : Declining) (part : List ℕ) (kind : ErrorKind) → F ⊎ refuses part kind → F ⊎ DeclinesAny refuses kind
+declines_any F refuses part kind (inl failed) = inl failed
+declines_any F refuses part kind (inr refused) = inr (part, refused)
+
+-- of a piece of whole words
+declines : (F : Type 0) (refuses : Declining) (piece : List ℕ) (kind : ErrorKind) → IsWholeWords piece → F ⊎ DeclinesAny refuses kind → F ⊎ DeclinesPacked refuses piece kind
+declines F refuses piece kind whole (inl failed) = inl failed
+declines F refuses piece kind whole (inr refused) = inr (inr (λ part. part whole, refused))
+
+pub declines_whole : {X : Type 0} (F : ErrorKind → Type 0) (refuses : Declining) (piece : List ℕ) (r : Result X Error) → IsWholeWords piece → IfErr r (λ e. F e.kind ⊎ DeclinesAny refuses e.kind) → IfErr r (λ e. F e.kind ⊎ DeclinesPacked refuses piece e.kind)
+declines_whole F refuses piece (Ok x) whole refused = tt
+declines_whole F refuses piece (Err e) whole refused = declines (F e.kind) refuses piece e.kind whole refused

@@ -1,0 +1,134 @@
+-- Packed messages, by their pieces and by the requests of a source.
+use Rattle.std.proofs.Common.{◌≡◌, ℕ, ◌+◌, ◌-◌, ◌*◌, ◌%◌, List, [], ◌∷◌, ◌++◌, length, take, drop, replicate, refl, sym, ap, ◌∙◌, subst, arith, ◌↔◌, append_assoc, length-append}
+use Rattle.std.proofs.lemmas.List.{take-append-drop, length-take-le, length-drop, length-replicate}
+use Rattle.std.proofs.lemmas.List.Concat.{flat_map-append}
+use Rattle.std.proofs.lemmas.List.Folds.{concat-append}
+use Rattle.std.specs.List.{concat, flat_map, AllByRecursion}
+use Rattle.capnp_frame.specs.Message.{IsWholeWords, lengths}
+use Rattle.capnp_frame.specs.SegmentTable.{field, padding_len, zero_padded_table, HasTable, IsTable}
+use Rattle.capnp_frame.specs.Requests.{Stands}
+use Rattle.capnp_frame.specs.Sink.{AppendsAll}
+use Rattle.capnp_frame.proofs.TableLemmas.{length-fields}
+use Rattle.capnp_frame.proofs.FrameLemmas.{length-table, length-segments}
+use Rattle.capnp_pack.specs.Group.{IsGroup, group_text, group_words}
+use Rattle.capnp_pack.specs.Piece.{IsPiece, text_of, words_of}
+use Rattle.capnp_pack.specs.Packed.{Packs}
+use Rattle.capnp_pack.specs.PackedFrame.{IsPackedFrame, IsPackedText}
+use Rattle.capnp_pack.specs.PackedSource.{Unpacks}
+use Rattle.capnp_pack.proofs.AllLemmas.{AllByRecursion-append}
+use Rattle.capnp_pack.proofs.PackerLemmas.{Packs-some, Packs-whole}
+
+-- the three requests of a packed source are the three pieces
+
+frame_from_requests : (raw rest : List ℕ) (segments : List (List ℕ)) → Stands Unpacks segments raw rest → (text : List ℕ) × IsPackedFrame text segments × (raw ≡ text ++ rest)
+frame_from_requests raw rest segments stands =
+    let first = stands.table.first_given in
+    let others = stands.table.others_given in
+    let all = stands.given in (
+      first.0 ++ others.0 ++ all.0,
+      record {
+        first = stands.table.first;
+        others = stands.table.others;
+        one_word = first.3;
+        table = stands.table.table;
+        whole = stands.whole;
+        first_text = first.0;
+        others_text = others.0;
+        segments_text = all.0;
+        first_packed = first.1;
+        others_packed = others.1;
+        segments_packed = all.1;
+        spelled = refl;
+      },
+      first.2 ∙ ap (λ l. first.0 ++ l) (others.2 ∙ ap (λ l. others.0 ++ l) all.2)
+          ∙ sym (append_assoc first.0 others.0 (all.0 ++ rest)) ∙ sym (append_assoc (first.0 ++ others.0) all.0 rest),
+    )
+
+pub Stands-from_packed : (text rest : List ℕ) (segments : List (List ℕ)) → IsPackedFrame text segments → Stands Unpacks segments (text ++ rest) rest
+Stands-from_packed text rest segments frame =
+    let long = length-table (frame.first ++ frame.others) (lengths segments) frame.table in
+    let one = frame.one_word in
+    let a = frame.first_text in
+    let b = frame.others_text in
+    let c = frame.segments_text in
+    record {
+      between = c ++ rest;
+      table = record {
+        first = frame.first;
+        others = frame.others;
+        between = b ++ (c ++ rest);
+        first_given = (a, frame.first_packed, ap (λ l. l ++ rest) frame.spelled ∙ append_assoc (a ++ b) c rest ∙ append_assoc a b (c ++ rest), one);
+        others_given = (b, frame.others_packed, refl, omega (arith, length-append frame.first frame.others));
+        table = frame.table;
+      };
+      given = (c, frame.segments_packed, refl, length-segments segments frame.whole);
+      whole = frame.whole;
+    }
+
+pub packed_requests : (segments : List (List ℕ)) (raw rest : List ℕ) → Stands Unpacks segments raw rest ↔ ((text : List ℕ) × IsPackedFrame text segments × (raw ≡ text ++ rest))
+packed_requests segments raw rest = (
+  frame_from_requests raw rest segments,
+  λ (text, frame, e). subst (λ l. Stands Unpacks segments l rest) (sym e) (Stands-from_packed text rest segments frame),
+)
+
+-- what is written is a packed text of the message
+
+packed_piece : (bytes text : List ℕ) → Packs bytes text → IsPiece text bytes
+packed_piece bytes text p = record { groups = p.groups; each = p.each; spelled = p.spelled; unpacked = p.unpacked }
+
+IsPiece-join : (s t a b : List ℕ) → IsPiece s a → IsPiece t b → IsPiece (s ++ t) (a ++ b)
+IsPiece-join s t a b p q = record {
+  groups = p.groups ++ q.groups;
+  each = AllByRecursion-append IsGroup p.groups q.groups p.each q.each;
+  spelled = ap (λ l. l ++ t) p.spelled ∙ ap (λ l. text_of p.groups ++ l) q.spelled ∙ sym (flat_map-append group_text p.groups q.groups);
+  unpacked = ap (λ l. l ++ b) p.unpacked ∙ ap (λ l. concat (words_of p.groups) ++ l) q.unpacked ∙ sym (concat-append (words_of p.groups) (words_of q.groups)) ∙ ap concat (sym (flat_map-append group_words p.groups q.groups));
+}
+
+pieces_join : (segments : List (List ℕ)) (text : List ℕ) → AppendsAll Packs segments text → IsPiece text (concat segments) × AllByRecursion IsWholeWords segments
+pieces_join [] text all = (record { groups = []; each = tt; spelled = all; unpacked = refl }, tt)
+pieces_join (s ∷ ss) text (first, others, packed, more, e) =
+    let rest = pieces_join ss others more in
+    (subst (λ l. IsPiece l (s ++ concat ss)) (sym e) (IsPiece-join first others s (concat ss) (packed_piece s first packed) rest.0), (Packs-whole s first packed, rest.1))
+
+pub packed_text_is : (text : List ℕ) (segments : List (List ℕ)) → HasTable (lengths segments) → IsPackedText text segments → IsPackedFrame text segments
+packed_text_is text segments can packed =
+    let head = zero_padded_table (lengths segments) in
+    let table : IsTable head (lengths segments) = record { can = can; padding = replicate (padding_len (lengths segments)) 0; padded = length-replicate (padding_len (lengths segments)) 0; spelled = refl } in
+    let long = length-table head (lengths segments) table in
+    let whole : take 8 head ++ drop 8 head ≡ head = take-append-drop 8 head in
+    let body = pieces_join segments packed.segments_text packed.each_packed in
+    record {
+      first = take 8 head;
+      others = drop 8 head;
+      one_word = length-take-le 8 head (omega arith);
+      table = subst (λ l. IsTable l (lengths segments)) (sym whole) table;
+      whole = body.1;
+      first_text = packed.first_text;
+      others_text = packed.others_text;
+      segments_text = packed.segments_text;
+      first_packed = packed_piece (take 8 head) packed.first_text packed.first_packed;
+      others_packed = packed_piece (drop 8 head) packed.others_text packed.others_packed;
+      segments_packed = body.0;
+      spelled = packed.spelled;
+    }
+
+-- and there is one
+
+all_packed : (segments : List (List ℕ)) → AllByRecursion IsWholeWords segments → (text : List ℕ) × AppendsAll Packs segments text
+all_packed [] whole = ([], refl)
+all_packed (s ∷ ss) whole =
+    let first : (text : List ℕ) × Packs s text = Packs-some s whole.0 in
+    let rest : (text : List ℕ) × AppendsAll Packs ss text = all_packed ss whole.1 in
+    (first.0 ++ rest.0, (first.0, rest.0, first.1, rest.1, refl))
+
+length-zero_padded : (ns : List ℕ) → length (zero_padded_table ns) ≡ 4 + 4 * length ns + 4 * ((length ns + 1) % 2)
+length-zero_padded ns = omega (arith, length-append (field (length ns - 1) ++ flat_map field ns) (replicate (padding_len ns) 0), length-append (field (length ns - 1)) (flat_map field ns), length-fields ns, length-replicate {A = ℕ} (padding_len ns) 0)
+
+pub packed_text_some : (segments : List (List ℕ)) → AllByRecursion IsWholeWords segments → (text : List ℕ) × IsPackedText text segments
+packed_text_some segments whole =
+    let head = zero_padded_table (lengths segments) in
+    let long = length-zero_padded (lengths segments) in
+    let first : (text : List ℕ) × Packs (take 8 head) text = Packs-some (take 8 head) (ap (λ k. k % 8) (length-take-le 8 head (omega arith))) in
+    let others : (text : List ℕ) × Packs (drop 8 head) text = Packs-some (drop 8 head) (ap (λ k. k % 8) (length-drop 8 head) ∙ omega arith) in
+    let body : (text : List ℕ) × AppendsAll Packs segments text = all_packed segments whole in
+    (first.0 ++ others.0 ++ body.0, record { first_text = first.0; others_text = others.0; segments_text = body.0; first_packed = first.1; others_packed = others.1; each_packed = body.1; spelled = refl })

@@ -1,0 +1,82 @@
+-- What a plain sink gets.
+use Rattle.std.proofs.Common.{◌≡◌, ℕ, List, [], ◌∷◌, ◌++◌, refl, sym, ap, ◌∙◌, subst, ◌↔◌, append_assoc}
+use Rattle.std.proofs.lemmas.List.{append-nil}
+use Rattle.std.specs.List.{concat}
+use Rattle.capnp_frame.specs.Sink.{AppendsAll, AppendsSame}
+use Rattle.capnp_pack.specs.Packed.{Packs}
+use Rattle.capnp_pack.specs.PackedFrame.{IsPackedText, table_first, table_others}
+use Rattle.capnp_pack.specs.PackedSink.{AppendsPacked}
+use Rattle.capnp_pack.proofs.PackerLemmas.{Packs-once}
+
+-- over a plain sink the parts are joined
+all_same : (parts : List (List ℕ)) (text : List ℕ) → AppendsAll AppendsSame parts text → text ≡ concat parts
+all_same [] text all = all
+all_same (p ∷ ps) text all = all.4 ∙ ap (λ l. l ++ all.1) all.2 ∙ ap (λ l. p ++ l) (all_same ps all.1 all.3)
+
+pub packed_over_plain : (piece text : List ℕ) → AppendsPacked AppendsSame piece text ↔ Packs piece text
+packed_over_plain piece text = (
+  λ (parts, packed, all). subst (Packs piece) (sym (all_same parts text all)) packed,
+  λ packed. (text ∷ [], subst (Packs piece) (sym (append-nil text)) packed, (text, [], refl, refl, sym (append-nil text))),
+)
+
+each_packed : (pieces : List (List ℕ)) (text : List ℕ) → AppendsAll (AppendsPacked AppendsSame) pieces text ↔ AppendsAll Packs pieces text
+each_packed pieces text = (there pieces text, back pieces text)
+  where
+    there : (pieces : List (List ℕ)) (text : List ℕ) → AppendsAll (AppendsPacked AppendsSame) pieces text → AppendsAll Packs pieces text
+    there [] text all = all
+    there (p ∷ ps) text (first, others, packed, more, e) = (first, others, (packed_over_plain p first).0 packed, there ps others more, e)
+
+    back : (pieces : List (List ℕ)) (text : List ℕ) → AppendsAll Packs pieces text → AppendsAll (AppendsPacked AppendsSame) pieces text
+    back [] text all = all
+    back (p ∷ ps) text (first, others, packed, more, e) = (first, others, (packed_over_plain p first).1 packed, back ps others more, e)
+
+pub packed_message : (segments : List (List ℕ)) (text : List ℕ) → AppendsAll (AppendsPacked AppendsSame) (table_first segments ∷ table_others segments ∷ segments) text ↔ IsPackedText text segments
+packed_message segments text = (
+  λ all. there ((each_packed (table_first segments ∷ table_others segments ∷ segments) text).0 all),
+  λ packed. (each_packed (table_first segments ∷ table_others segments ∷ segments) text).1 (back packed),
+)
+  where
+    there : AppendsAll Packs (table_first segments ∷ table_others segments ∷ segments) text → IsPackedText text segments
+    there (a, rest, first, (b, c, others, each, behind), e) = record {
+      first_text = a;
+      others_text = b;
+      segments_text = c;
+      first_packed = first;
+      others_packed = others;
+      each_packed = each;
+      spelled = e ∙ ap (λ l. a ++ l) behind ∙ sym (append_assoc a b c);
+    }
+
+    back : IsPackedText text segments → AppendsAll Packs (table_first segments ∷ table_others segments ∷ segments) text
+    back p = (
+      p.first_text,
+      p.others_text ++ p.segments_text,
+      p.first_packed,
+      (p.others_text, p.segments_text, p.others_packed, p.each_packed, refl),
+      p.spelled ∙ append_assoc p.first_text p.others_text p.segments_text,
+    )
+
+packs_nothing : Packs [] []
+packs_nothing = record { groups = []; each = tt; longest = tt; spelled = refl; unpacked = refl }
+
+pub packed_short_message : (segments : List (List ℕ)) (text : List ℕ) → table_others segments ≡ [] → AppendsAll (AppendsPacked AppendsSame) (table_first segments ∷ segments) text ↔ IsPackedText text segments
+packed_short_message segments text none = (
+  λ all. there ((each_packed (table_first segments ∷ segments) text).0 all),
+  λ packed. (each_packed (table_first segments ∷ segments) text).1 (back packed),
+)
+  where
+    there : AppendsAll Packs (table_first segments ∷ segments) text → IsPackedText text segments
+    there (a, c, first, each, e) = record {
+      first_text = a;
+      others_text = [];
+      segments_text = c;
+      first_packed = first;
+      others_packed = subst (λ l. Packs l []) (sym none) packs_nothing;
+      each_packed = each;
+      spelled = e ∙ ap (λ l. l ++ c) (sym (append-nil a));
+    }
+
+    back : IsPackedText text segments → AppendsAll Packs (table_first segments ∷ segments) text
+    back p =
+        let gone : p.others_text ≡ [] = Packs-once [] p.others_text [] (subst (λ l. Packs l p.others_text) none p.others_packed) packs_nothing in
+        (p.first_text, p.segments_text, p.first_packed, p.each_packed, p.spelled ∙ ap (λ l. (p.first_text ++ l) ++ p.segments_text) gone ∙ ap (λ l. l ++ p.segments_text) (append-nil p.first_text))

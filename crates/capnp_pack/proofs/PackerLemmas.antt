@@ -1,0 +1,136 @@
+-- The text that a packer makes of some words: there is one, and one alone.
+use Rattle.std.proofs.Common.{◌≡◌, ℕ, zero, suc, ◌/◌, ◌%◌, ◌≤◌, List, [], ◌∷◌, ◌++◌, length, take, drop, replicate, refl, sym, ap, ◌∙◌, subst, arith, length-append}
+use Rattle.std.specs.List.{concat, AllByRecursion}
+use Rattle.std.specs.Simd.{first_chunks}
+use Rattle.std.proofs.lemmas.List.{length-drop, take-append-drop, take_at, drop_at}
+use Rattle.capnp_frame.specs.Splitting.{same_front}
+use Rattle.capnp_pack.specs.Group.{Group, tagged, zeros, literal, IsGroup, IsWord, zero_word, group_text, group_words}
+use Rattle.capnp_pack.specs.Piece.{text_of, words_of}
+use Rattle.capnp_pack.specs.Packed.{Packs, IsLongest, AreLongest}
+use Rattle.capnp_pack.specs.Steps.{IsGroupOf}
+use Rattle.capnp_pack.specs.PackedSource.{Unpacks}
+use Rattle.capnp_pack.specs.Unpacking.{words_len, unpack_once, zero_words}
+use Rattle.capnp_pack.proofs.AllLemmas.{AllByRecursion-append, AllByRecursion-drop}
+use Rattle.capnp_pack.proofs.PackerGroups.{IsGroupOf-some, IsGroupOf-once, first_is}
+use Rattle.capnp_pack.proofs.Chunks.{chunks_whole}
+
+-- the text is the one that a packer makes of the words
+pub record PacksWords (words : List (List ℕ)) (text : List ℕ) : Type 0 where
+  pub groups : List Group
+  pub each : AllByRecursion IsGroup groups
+  pub longest : AreLongest groups
+  pub spelled : text ≡ text_of groups
+  pub unpacked : words_of groups ≡ words
+
+-- the text is the front of the packed words, up to where these are left
+abbrev pub PacksTo : List (List ℕ) → List ℕ → List (List ℕ) → Type 0
+PacksTo words text left = (more : List ℕ) → PacksWords left more → PacksWords words (text ++ more)
+
+pub PacksWords-more : (w : List ℕ) (os : List (List ℕ)) (n : ℕ) (g : Group) (text : List ℕ) → IsGroupOf w os n g → PacksWords (drop n os) text → PacksWords (w ∷ os) (group_text g ++ text)
+PacksWords-more w os n g text made p = record {
+  groups = g ∷ p.groups;
+  each = (made.is, p.each);
+  longest = (subst (IsLongest g) (sym p.unpacked) made.longest, p.longest);
+  spelled = ap (λ l. group_text g ++ l) p.spelled;
+  unpacked = ap (λ l. group_words g ++ l) p.unpacked ∙ ap (λ l. l ++ drop n os) made.words ∙ ap (λ l. w ∷ l) (take-append-drop n os);
+}
+
+pub PacksWords-none : PacksWords [] []
+PacksWords-none = record { groups = []; each = tt; longest = tt; spelled = refl; unpacked = refl }
+
+PacksWords-fuel : (fuel : ℕ) (ws : List (List ℕ)) → length ws ≤ fuel → AllByRecursion IsWord ws → (text : List ℕ) × PacksWords ws text
+PacksWords-fuel fuel [] short all = ([], PacksWords-none)
+PacksWords-fuel zero (w ∷ ws) short all = absurd (omega arith)
+PacksWords-fuel (suc fuel) (w ∷ ws) short all =
+    let made : (n : ℕ) × ((g : Group) × IsGroupOf w ws n g) = IsGroupOf-some w ws all.0 all.1 in
+    let left : (text : List ℕ) × PacksWords (drop made.0 ws) text = PacksWords-fuel fuel (drop made.0 ws) (omega (arith, length-drop made.0 ws)) (AllByRecursion-drop IsWord made.0 ws all.1) in
+    (group_text made.1.0 ++ left.0, PacksWords-more w ws made.0 made.1.0 left.0 made.1.1 left.1)
+
+-- there is a packed text
+pub PacksWords-some : (ws : List (List ℕ)) → AllByRecursion IsWord ws → (text : List ℕ) × PacksWords ws text
+PacksWords-some ws all = PacksWords-fuel (length ws) ws (omega arith) all
+
+-- a group's first word, and its others
+abbrev first_word : Group → List ℕ
+first_word (tagged tag word) = word
+first_word (zeros more) = zero_word
+first_word (literal word further) = word
+
+abbrev others : Group → List (List ℕ)
+others (tagged tag word) = []
+others (zeros more) = replicate more zero_word
+others (literal word further) = further
+
+group_parts : (g : Group) → group_words g ≡ first_word g ∷ others g
+group_parts (tagged tag word) = refl
+group_parts (zeros more) = refl
+group_parts (literal word further) = refl
+
+take_front : (xs ys : List (List ℕ)) → take (length xs) (xs ++ ys) ≡ xs
+take_front xs ys = take_at xs ys (length xs) refl
+
+drop_front : (xs ys : List (List ℕ)) → drop (length xs) (xs ++ ys) ≡ ys
+drop_front xs ys = drop_at xs ys (length xs) refl
+
+made_of : (g : Group) (left : List (List ℕ)) → IsGroup g → IsLongest g left → IsGroupOf (first_word g) (others g ++ left) (length (others g)) g
+made_of g left is longest = record {
+  within = omega (arith, length-append (others g) left);
+  is = is;
+  words = group_parts g ∙ ap (λ l. first_word g ∷ l) (sym (take_front (others g) left));
+  longest = subst (IsLongest g) (sym (drop_front (others g) left)) longest;
+}
+
+-- and one alone
+groups_once : (gs hs : List Group) → AllByRecursion IsGroup gs → AllByRecursion IsGroup hs → AreLongest gs → AreLongest hs → words_of gs ≡ words_of hs → gs ≡ hs
+groups_once [] [] p q r s e = refl
+groups_once [] (h ∷ hs) p q r s e = let parts : [] ≡ first_word h ∷ others h ++ words_of hs = e ∙ ap (λ l. l ++ words_of hs) (group_parts h) in cc
+groups_once (g ∷ gs) [] p q r s e = let parts : [] ≡ first_word g ∷ others g ++ words_of gs = sym e ∙ ap (λ l. l ++ words_of gs) (group_parts g) in cc
+groups_once (g ∷ gs) (h ∷ hs) p q r s e =
+    let whole : first_word g ∷ others g ++ words_of gs ≡ first_word h ∷ others h ++ words_of hs = ap (λ l. l ++ words_of gs) (sym (group_parts g)) ∙ e ∙ ap (λ l. l ++ words_of hs) (group_parts h) in
+    let parts = first_is (first_word g) (first_word h) (others g ++ words_of gs) (others h ++ words_of hs) whole in
+    let here = made_of g (words_of gs) p.0 r.0 in
+    let moved = subst (λ l. IsGroupOf (first_word h) l (length (others g)) g) parts.1 (subst (λ w. IsGroupOf w (others g ++ words_of gs) (length (others g)) g) parts.0 here) in
+    let one = IsGroupOf-once (first_word h) (others h ++ words_of hs) (length (others g)) (length (others h)) g h moved (made_of h (words_of hs) q.0 s.0) in
+    let left : words_of gs ≡ words_of hs = sym (drop_front (others g) (words_of gs)) ∙ ap (drop (length (others g))) parts.1 ∙ ap (λ k. drop k (others h ++ words_of hs)) one.0 ∙ drop_front (others h) (words_of hs) in
+    ap (λ k. k ∷ gs) one.1 ∙ ap (λ l. h ∷ l) (groups_once gs hs p.1 q.1 r.1 s.1 left)
+
+group_whole : (g : Group) → IsGroup g → AllByRecursion IsWord (group_words g)
+group_whole (tagged tag word) is = (is.2, tt)
+group_whole (zeros more) is = (refl, zero_words more)
+group_whole (literal word further) is = (is.0, is.1)
+
+pub words_whole : (gs : List Group) → AllByRecursion IsGroup gs → AllByRecursion IsWord (words_of gs)
+words_whole [] each = tt
+words_whole (g ∷ gs) each = AllByRecursion-append IsWord (group_words g) (words_of gs) (group_whole g each.0) (words_whole gs each.1)
+
+words_once : (xs ys : List (List ℕ)) → AllByRecursion IsWord xs → AllByRecursion IsWord ys → concat xs ≡ concat ys → xs ≡ ys
+words_once [] [] p q e = refl
+words_once [] (y ∷ ys) p q e = absurd (omega (arith, ap length e, length-append y (concat ys), q.0))
+words_once (x ∷ xs) [] p q e = absurd (omega (arith, ap length e, length-append x (concat xs), p.0))
+words_once (x ∷ xs) (y ∷ ys) p q e = let parts = same_front x y (concat xs) (concat ys) (p.0 ∙ sym q.0) e in ap (λ k. k ∷ xs) parts.0 ∙ ap (λ l. y ∷ l) (words_once xs ys p.1 q.1 parts.1)
+
+pub Packs-once : (bytes text other : List ℕ) → Packs bytes text → Packs bytes other → text ≡ other
+Packs-once bytes text other p q =
+    let same : words_of p.groups ≡ words_of q.groups = words_once (words_of p.groups) (words_of q.groups) (words_whole p.groups p.each) (words_whole q.groups q.each) (sym p.unpacked ∙ q.unpacked) in
+    p.spelled ∙ ap text_of (groups_once p.groups q.groups p.each q.each p.longest q.longest same) ∙ sym q.spelled
+
+pub Packs-words : (words : List (List ℕ)) (text : List ℕ) → PacksWords words text → Packs (concat words) text
+Packs-words words text p = record { groups = p.groups; each = p.each; longest = p.longest; spelled = p.spelled; unpacked = ap concat (sym p.unpacked) }
+
+pub Packs-some : (bytes : List ℕ) → length bytes % 8 ≡ 0 → (text : List ℕ) × Packs bytes text
+Packs-some bytes whole =
+    let cut = chunks_whole (length bytes / 8) bytes (omega arith) in
+    let words = first_chunks 8 (length bytes / 8) bytes in
+    let some : (text : List ℕ) × PacksWords words text = PacksWords-some words cut.1 in
+    (some.0, subst (λ b. Packs b some.0) cut.0 (Packs-words words some.0 some.1))
+
+pub Packs-whole : (bytes text : List ℕ) → Packs bytes text → length bytes % 8 ≡ 0
+Packs-whole bytes text p = let long = words_len p.groups p.each in omega (arith, ap length p.unpacked, long.1)
+
+-- packed words unpack to themselves, whatever follows
+pub Packs-unpacks : (bytes text rest : List ℕ) → Packs bytes text → Unpacks (text ++ rest) (length bytes) bytes rest
+Packs-unpacks bytes text rest p = (text, record { groups = p.groups; each = p.each; spelled = p.spelled; unpacked = p.unpacked }, refl, refl)
+
+-- and to nothing else
+pub Packs-unpacks-alone : (bytes text rest others left : List ℕ) → Packs bytes text → Unpacks (text ++ rest) (length bytes) others left → (others ≡ bytes) × (left ≡ rest)
+Packs-unpacks-alone bytes text rest others left p q = unpack_once (text ++ rest) (length bytes) others left bytes rest q (Packs-unpacks bytes text rest p)

@@ -1,0 +1,5 @@
+use Rattle.capnp_pack.specs.Unpacking.{unpack_once}
+use Rattle.capnp_pack.proofs.laws.packed_request_has_one_answer.Goals as goal
+
+pub returns : goal.returns
+returns c = λ raw bytes rest others left n given also. unpack_once raw n bytes rest others left given also

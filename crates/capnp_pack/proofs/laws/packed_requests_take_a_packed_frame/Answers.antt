@@ -1,0 +1,5 @@
+use Rattle.capnp_pack.proofs.PackedFrameLemmas.{packed_requests}
+use Rattle.capnp_pack.proofs.laws.packed_requests_take_a_packed_frame.Goals as goal
+
+pub returns : goal.returns
+returns c = packed_requests

@@ -1,0 +1,5 @@
+use Rattle.capnp_pack.proofs.PackedFrameLemmas.{packed_text_is}
+use Rattle.capnp_pack.proofs.laws.packed_text_is_a_packed_frame.Goals as goal
+
+pub returns : goal.returns
+returns c = packed_text_is

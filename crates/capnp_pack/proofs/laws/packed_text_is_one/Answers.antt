@@ -1,0 +1,5 @@
+use Rattle.capnp_pack.proofs.PackerLemmas.{Packs-once}
+use Rattle.capnp_pack.proofs.laws.packed_text_is_one.Goals as goal
+
+pub returns : goal.returns
+returns c = Packs-once

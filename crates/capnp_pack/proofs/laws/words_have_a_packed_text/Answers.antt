@@ -1,0 +1,5 @@
+use Rattle.capnp_pack.proofs.PackerLemmas.{Packs-some}
+use Rattle.capnp_pack.proofs.laws.words_have_a_packed_text.Goals as goal
+
+pub returns : goal.returns
+returns c = Packs-some

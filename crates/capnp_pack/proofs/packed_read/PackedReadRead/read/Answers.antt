@@ -1,0 +1,17 @@
+-- A part of a word is refused before anything is read.
+use Rattle.std.proofs.Common.{inr, ◌≡◌}
+use Rattle.capnp_pack.specs.Unpacking.{not_plain}
+use Rattle.capnp_frame.proofs.SourceLemmas.{IfErr-vacuous}
+use Rattle.capnp_pack.proofs.PieceLemmas.{part_refused}
+use Rattle.capnp_frame.specs.declared.error.Error.{Error}
+use Rattle.capnp_frame.specs.declared.error.ErrorKind.TheVariants.{DeviceFailed}
+use Rattle.capnp_pack.proofs.packed_read.PackedReadRead.read.Goals as goal
+
+pub returns-then-buffer-ne0-clause-refused : goal.returns-then-buffer-ne0-clause-refused
+returns-then-buffer-ne0-clause-refused g c = inr (part_refused _ _ _ c.if-buffer-ne0.true c.from_kind.ensures)
+
+pub returns-then-buffer-ne0-clause-plain : goal.returns-then-buffer-ne0-clause-plain
+returns-then-buffer-ne0-clause-plain g c = λ plain. absurd (not_plain plain)
+
+pub returns-clause-plain : goal.returns-clause-plain
+returns-clause-plain g c = IfErr-vacuous (λ (error : Error). error.kind ≡ DeviceFailed) _ not_plain

@@ -1,0 +1,8 @@
+-- Whole words are refused only as the sink refuses.
+use Rattle.std.proofs.Common.{◌≡◌}
+use Rattle.capnp_frame.specs.declared.error.ErrorKind.TheVariants.{DeviceFailed}
+use Rattle.capnp_pack.proofs.HandingLemmas.{declines_whole}
+use Rattle.capnp_pack.proofs.packed_write.PackedWriteWrite.write_all.Goals as goal
+
+pub returns-clause-refused : goal.returns-clause-refused
+returns-clause-refused g c = declines_whole (λ kind. kind ≡ DeviceFailed) g.W.Write.refuses _ c.pack.result c.if-piece-ne0.false c.pack.ensures.refused

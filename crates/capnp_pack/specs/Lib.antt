@@ -1,0 +1,9 @@
+pub mod Group
+pub mod Piece
+pub mod Packed
+pub mod PackedFrame
+pub mod PackedSource
+pub mod PackedSink
+pub mod Steps
+pub mod Unpacking
+pub mod Refusing

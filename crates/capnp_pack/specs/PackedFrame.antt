@@ -1,0 +1,45 @@
+-- Packed messages: the table's first word, its other words, and the segments are packed each by itself.
+-- Encoding document, "Packing" and "Serialization Over a Stream".
+use Rattle.std.specs.Prelude.{◌≡◌, ℕ, List, ◌++◌, length, take, drop}
+use Rattle.std.specs.List.{concat, AllByRecursion}
+use Rattle.capnp_frame.specs.Message.{IsWholeWords, lengths}
+use Rattle.capnp_frame.specs.SegmentTable.{IsTable, zero_padded_table}
+use Rattle.capnp_frame.specs.Sink.{AppendsAll}
+use Rattle.capnp_pack.specs.Piece.{IsPiece}
+use Rattle.capnp_pack.specs.Packed.{Packs}
+
+-- The text is three pieces joined: of the table's first word, of its other words, of all segments joined.
+pub record IsPackedFrame (text : List ℕ) (segments : List (List ℕ)) : Type 0 where
+  pub first : List ℕ
+  pub others : List ℕ
+  pub one_word : length first ≡ 8
+  pub table : IsTable (first ++ others) (lengths segments)
+  pub whole : AllByRecursion IsWholeWords segments
+  pub first_text : List ℕ
+  pub others_text : List ℕ
+  pub segments_text : List ℕ
+  pub first_packed : IsPiece first_text first
+  pub others_packed : IsPiece others_text others
+  pub segments_packed : IsPiece segments_text (concat segments)
+  pub spelled : text ≡ first_text ++ others_text ++ segments_text
+
+-- the table whose padding is zero: its first word, and its other words
+abbrev pub table_first : List (List ℕ) → List ℕ
+table_first segments = take 8 (zero_padded_table (lengths segments))
+
+abbrev pub table_others : List (List ℕ) → List ℕ
+table_others segments = drop 8 (zero_padded_table (lengths segments))
+
+-- The text that is written: what a packer makes of the first word of this table, of its other words, and of each segment.
+pub record IsPackedText (text : List ℕ) (segments : List (List ℕ)) : Type 0 where
+  pub first_text : List ℕ
+  pub others_text : List ℕ
+  pub segments_text : List ℕ
+  pub first_packed : Packs (table_first segments) first_text
+  pub others_packed : Packs (table_others segments) others_text
+  pub each_packed : AppendsAll Packs segments segments_text
+  pub spelled : text ≡ first_text ++ others_text ++ segments_text
+
+-- a packed text of the message stands at the front
+abbrev pub PackedStands : List (List ℕ) → List ℕ → List ℕ → Type 0
+PackedStands segments raw rest = (text : List ℕ) × IsPackedFrame text segments × (raw ≡ text ++ rest)

@@ -1,0 +1,16 @@
+-- What a packed piece adds to a sink, and by which kinds it may be refused.
+use Rattle.std.specs.Prelude.{◌≡◌, ℕ, List}
+use Rattle.std.specs.List.{concat}
+use Rattle.capnp_frame.specs.declared.error.ErrorKind.TheVariants.{NotWholeWords}
+use Rattle.capnp_frame.specs.Message.{IsWholeWords}
+use Rattle.capnp_frame.specs.Refusals.{Unless}
+use Rattle.capnp_frame.specs.Sink.{Appending, Declining, DeclinesAny, AppendsAll}
+use Rattle.capnp_pack.specs.Packed.{Packs}
+
+-- what the sink adds for the parts of the packed text, however it is cut
+abbrev pub AppendsPacked : Appending → Appending
+AppendsPacked appends piece text = (parts : List (List ℕ)) × Packs piece (concat parts) × AppendsAll appends parts text
+
+-- a part of a word, and else as the sink refuses
+abbrev pub DeclinesPacked : Declining → Declining
+DeclinesPacked refuses piece kind = Unless (IsWholeWords piece → ⊥) (kind ≡ NotWholeWords) (DeclinesAny refuses kind)

@@ -1,0 +1,78 @@
+-- Which packed request is given, and which is refused and by which kind.
+use Rattle.std.specs.Prelude.{◌≡◌, ◌≢◌, ℕ, ◌-◌, ◌%◌, ◌<◌, ◌≤◌, ◌⊎◌, List, [], ◌∷◌, ◌++◌, length}
+use Rattle.std.specs.List.{concat, AllByRecursion}
+use Rattle.capnp_frame.specs.declared.error.ErrorKind.{ErrorKind}
+use Rattle.capnp_frame.specs.declared.error.ErrorKind.TheVariants.{FailedToFillTheWholeBuffer, PrematureEndOfPackedInput, PackedInputDidNotEndCleanlyOnASegmentBoundary, NotWholeWords}
+use Rattle.capnp_frame.specs.Refusals.{Unless}
+use Rattle.capnp_frame.specs.Source.{Giving, Refusing}
+use Rattle.capnp_pack.specs.Group.{Group, tagged, zeros, literal, IsGroup, group_words, marked}
+use Rattle.capnp_pack.specs.Piece.{IsPiece, text_of, words_of}
+
+-- a packed request takes a piece of n bytes
+abbrev pub Unpacks : Giving
+Unpacks raw n bytes rest = (text : List ℕ) × IsPiece text bytes × (raw ≡ text ++ rest) × (length bytes ≡ n)
+
+-- A group's text is its head, and behind the count of a literal group its run.
+abbrev pub head_text : Group → List ℕ
+head_text (tagged tag word) = tag ∷ marked tag word
+head_text (zeros further) = 0 ∷ further ∷ []
+head_text (literal word further) = 255 ∷ word ++ length further ∷ []
+
+abbrev pub run_text : Group → List ℕ
+run_text (tagged tag word) = []
+run_text (zeros further) = []
+run_text (literal word further) = concat further
+
+-- how many bytes a group's words have
+abbrev pub group_size : Group → ℕ
+group_size group = length (concat (group_words group))
+
+-- The end stands in a group's head, or before it: a marked byte, a count or the group is missing.
+pub record IsHeadCut (left : List ℕ) : Type 0 where
+  pub group : Group
+  pub is : IsGroup group
+  pub missing : List ℕ
+  pub some : 0 < length missing
+  pub spelled : left ++ missing ≡ head_text group
+
+-- a group's head stands at the front
+pub record IsHeadAt (group : Group) (left behind : List ℕ) : Type 0 where
+  pub is : IsGroup group
+  pub spelled : left ≡ head_text group ++ behind
+
+-- its count is larger than what is still asked
+pub record Overruns (n : ℕ) (left : List ℕ) : Type 0 where
+  pub group : Group
+  pub behind : List ℕ
+  pub head : IsHeadAt group left behind
+  pub long : n < group_size group
+
+-- its count isn't, and the run is cut
+pub record IsRunCut (n : ℕ) (left : List ℕ) : Type 0 where
+  pub group : Group
+  pub behind : List ℕ
+  pub head : IsHeadAt group left behind
+  pub fits : group_size group ≤ n
+  pub short : length behind < length (run_text group)
+
+-- no group can be taken here, where n bytes are still asked
+abbrev pub IsFault : List ℕ → ℕ → ErrorKind → Type 0
+IsFault left n kind = (IsHeadCut left × (kind ≡ PrematureEndOfPackedInput))
+    ⊎ (Overruns n left × (kind ≡ PackedInputDidNotEndCleanlyOnASegmentBoundary))
+    ⊎ (IsRunCut n left × (kind ≡ FailedToFillTheWholeBuffer))
+
+-- The first fault: the groups before it are whole, and have fewer bytes than are asked.
+pub record MeetsFault (raw : List ℕ) (n : ℕ) (kind : ErrorKind) : Type 0 where
+  pub groups : List Group
+  pub each : AllByRecursion IsGroup groups
+  pub left : List ℕ
+  pub spelled : raw ≡ text_of groups ++ left
+  pub fewer : length (concat (words_of groups)) < n
+  pub fault : IsFault left (n - length (concat (words_of groups))) kind
+
+-- a packed request is refused: the lines of the table of a piece (docs/REFUSALS.md)
+abbrev pub RefusesPiece : Refusing
+RefusesPiece raw n kind =
+    Unless (n % 8 ≢ 0) (kind ≡ NotWholeWords) (
+    Unless (raw ≡ []) ((0 < n) × (kind ≡ FailedToFillTheWholeBuffer)) (
+    MeetsFault raw n kind))

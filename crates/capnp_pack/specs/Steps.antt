@@ -1,0 +1,80 @@
+-- What the steps of a reader and of a packer do.
+use Rattle.std.specs.Prelude.{◌≡◌, ℕ, ◌+◌, ◌*◌, ◌<◌, ◌≤◌, ◌⊎◌, List, [], ◌∷◌, ◌++◌, length, take, drop, replicate, not, ◌==◌, if◌then◌else◌, Option, IfSome}
+use Rattle.std.specs.List.{concat, filter, AllByRecursion}
+use Rattle.capnp_frame.specs.declared.error.ErrorKind.{ErrorKind}
+use Rattle.capnp_frame.specs.declared.error.ErrorKind.TheVariants.{PrematureEndOfPackedInput, PackedInputDidNotEndCleanlyOnASegmentBoundary}
+use Rattle.capnp_frame.specs.Sink.{Appending, AppendsAll}
+use Rattle.capnp_frame.specs.Source.{Refusing, RunsShort}
+use Rattle.capnp_pack.specs.Group.{Group, IsGroup, AreZero, group_text, group_words, marked, unmarked, zero_bytes, zero_word}
+use Rattle.capnp_pack.specs.Packed.{IfFirst, IsLongest}
+use Rattle.capnp_pack.specs.PackedSource.{MeetsFault}
+
+-- Reading
+
+-- a group of this tag and these bytes stands at the front, of which the tag is taken
+abbrev pub GroupAt : ℕ → List ℕ → List ℕ → List ℕ → Type 0
+GroupAt tag bytes raw left = (group : Group) × IsGroup group × (bytes ≡ concat (group_words group)) × (tag ∷ raw ≡ group_text group ++ left)
+
+-- the first fault, where the tag of the first group is taken
+abbrev pub FaultBehind : ℕ → Refusing
+FaultBehind tag raw n kind = MeetsFault (tag ∷ raw) n kind
+
+-- the bytes of a word that a tag marks stand at the front, and its others are zero
+abbrev pub MarkedAt : ℕ → List ℕ → List ℕ → List ℕ → Type 0
+MarkedAt tag word raw left = (raw ≡ marked tag word ++ left) × AreZero (unmarked tag word)
+
+-- how many of so many bytes a tag marks
+abbrev pub marked_count : ℕ → ℕ → ℕ
+marked_count tag n = length (marked tag (replicate n 0))
+
+-- fewer bytes than these are unread
+abbrev pub Lacks : ℕ → Option (List ℕ) → ErrorKind → Type 0
+Lacks n unread kind = IfSome unread (λ raw. length raw < n) × (kind ≡ PrematureEndOfPackedInput)
+
+-- a count of words and their bytes stand at the front
+abbrev pub RunAt : List ℕ → List ℕ → List ℕ → Type 0
+RunAt run raw left = (further : ℕ) × (further < 256) × (length run ≡ 8 * further) × (raw ≡ further ∷ run ++ left)
+
+-- the count is missing, or larger than what is asked, or its words are cut
+abbrev pub RefusesRun : Refusing
+RefusesRun raw n kind = ((raw ≡ []) × (kind ≡ PrematureEndOfPackedInput))
+    ⊎ ((further : ℕ) × (left : List ℕ) × (further < 256) × (raw ≡ further ∷ left)
+    × (((n < 8 * further) × (kind ≡ PackedInputDidNotEndCleanlyOnASegmentBoundary)) ⊎ ((8 * further ≤ n) × RunsShort left (8 * further) kind)))
+
+-- Packing
+
+abbrev pub IsZero : List ℕ → Type 0
+IsZero word = word ≡ zero_word
+
+abbrev pub HasFewZeros : List ℕ → Type 0
+HasFewZeros word = zero_bytes word ≤ 1
+
+-- a bit for each byte that isn't zero, the first byte's the least significant
+abbrev pub tag_of : List ℕ → ℕ
+tag_of [] = 0
+tag_of (byte ∷ bytes) = (if byte == 0 then 0 else 1) + 2 * tag_of bytes
+
+abbrev pub nonzero : List ℕ → List ℕ
+nonzero word = filter (λ byte. not (byte == 0)) word
+
+-- P holds of so many words at the front, and of no more of them, or they are 255.
+pub record IsRun (P : List ℕ → Type 0) (words : List (List ℕ)) (count : ℕ) : Type 0 where
+  pub most : count ≤ 255
+  pub within : count ≤ length words
+  pub each : AllByRecursion P (take count words)
+  pub ends : count < 255 → IfFirst (drop count words) (λ word. P word → ⊥)
+
+-- The group that a packer makes of a word and so many of those behind it.
+pub record IsGroupOf (word : List ℕ) (others : List (List ℕ)) (count : ℕ) (group : Group) : Type 0 where
+  pub within : count ≤ length others
+  pub is : IsGroup group
+  pub words : group_words group ≡ word ∷ take count others
+  pub longest : IsLongest group (drop count others)
+
+-- Of a buffer's bytes and a text behind them, some parts are handed on, and the buffer keeps the rest.
+pub record Hands (appends : Appending) (old text new before after : List ℕ) : Type 0 where
+  pub parts : List (List ℕ)
+  pub handed : List ℕ
+  pub told : AppendsAll appends parts handed
+  pub added : after ≡ before ++ handed
+  pub kept : old ++ text ≡ concat parts ++ new

@@ -1,0 +1,204 @@
+//! Reading a piece group by group.
+//!
+//! One byte is looked at at a time, so just what a group has is consumed, wherever the source cuts.
+ghost use Rattle.std.specs.Prelude.{◌≡◌, ℕ, ◌<◌, ◌≤◌, ◌%◌, List, [], ◌∷◌, length, take, Option, Some, IfOk, IfErr, IfSome, IfNone, OnErr, OnOk, ◌⊎◌, ◌↔◌};
+ghost use Rattle.capnp_frame.specs.declared.error.ErrorKind.{ErrorKind};
+ghost use Rattle.capnp_frame.specs.Message.{IsWholeWords};
+ghost use Rattle.capnp_frame.specs.Source.{Known, Advances, Fails, IsRefused, Takes};
+ghost use Rattle.capnp_pack.specs.PackedSource.{Unpacks, MeetsFault, RefusesPiece};
+ghost use Rattle.capnp_pack.specs.Steps.{GroupAt, FaultBehind, MarkedAt, marked_count, Lacks, RunAt, RefusesRun};
+
+use capnp_frame::io::{BufRead, Read};
+use capnp_frame::{Error, ErrorKind, Result};
+
+// Unpacks a piece of the buffer's length, or answers 0 at the end.
+pub(crate) fn read_piece<R: BufRead>(source: &mut R, buffer: &mut [u8]) -> Result<usize>
+    requires { IsWholeWords buffer.old }
+    ensures whole { IfOk result (λ count. (count ≡ 0) ⊎ (count ≡ length buffer.new)) }
+    ensures taken { IfOk result (λ count. Known (R.unread source.old) (R.unread source.new)
+        (Takes Unpacks RefusesPiece (length buffer.new) (take count buffer.new))) }
+    ensures end { IfOk result (λ count. IfSome (R.unread source.old)
+        (λ raw. 0 < length buffer.new → (count ≡ 0) ↔ (raw ≡ []))) }
+    ensures spent { IfOk result (λ count. count ≡ 0 → 0 < length buffer.new →
+        IsRefused RefusesPiece (length buffer.new) (R.unread source.old)
+        ErrorKind.FailedToFillTheWholeBuffer) }
+    ensures refused { IfErr result (λ error. (error.kind ≡ ErrorKind.DeviceFailed)
+        ⊎ IsRefused RefusesPiece (length buffer.new) (R.unread source.old) error.kind) }
+    ensures at_end { IfErr result (λ error. R.unread source.old ≡ Some [] →
+        error.kind ≡ ErrorKind.DeviceFailed) }
+    ensures failed { IfErr result (λ error. error.kind ≡ ErrorKind.DeviceFailed →
+        Fails (R.failures source.old) (R.failures source.new)) }
+    ensures advances { Advances R.unread R.failures R.same source.old source.new }
+{
+    let mut filled = 0;
+    while filled < buffer.len() {
+        match read_group(source, &mut buffer[filled..])? {
+            Some(count) => filled += count,
+            None if filled == 0 => return Ok(0),
+            None => return Err(Error::from_kind(ErrorKind::PrematureEndOfPackedInput)),
+        }
+    }
+    Ok(filled)
+}
+
+// Unpacks the next group into the front of the buffer, and answers how many bytes it has, or none
+// at the end.
+fn read_group<R: BufRead>(source: &mut R, buffer: &mut [u8]) -> Result<Option<usize>>
+    requires { 8 ≤ length buffer.old }
+    ensures found { IfOk result (λ found. IfSome found (λ count.
+        (0 < count) × (count ≤ length buffer.new) × (count % 8 ≡ 0)
+        × IfSome (R.unread source.old) (λ raw. raw ≡ [] → ⊥)
+        × Known (R.unread source.old) (R.unread source.new)
+        (Takes Unpacks MeetsFault (length buffer.new) (take count buffer.new)))) }
+    ensures none { IfOk result (λ found. IfNone found
+        (IfSome (R.unread source.old) (λ raw. raw ≡ []))) }
+    ensures refused { IfErr result (λ error. (error.kind ≡ ErrorKind.DeviceFailed)
+        ⊎ IsRefused MeetsFault (length buffer.new) (R.unread source.old) error.kind) }
+    ensures at_end { IfErr result (λ error. R.unread source.old ≡ Some [] →
+        error.kind ≡ ErrorKind.DeviceFailed) }
+    ensures failed { IfErr result (λ error. error.kind ≡ ErrorKind.DeviceFailed →
+        Fails (R.failures source.old) (R.failures source.new)) }
+    ensures advances { Advances R.unread R.failures R.same source.old source.new }
+{
+    let Some(tag) = next_byte(source)? else {
+        return Ok(None);
+    };
+    let count = match tag {
+        0 => read_zeros(source, buffer)?,
+        _ => read_words(source, tag, buffer)?,
+    };
+    Ok(Some(count))
+}
+
+// Unpacks zero words behind their tag.
+fn read_zeros<R: BufRead>(source: &mut R, buffer: &mut [u8]) -> Result<usize>
+    requires room { 8 ≤ length buffer.old }
+    ensures within { IfOk result (λ count. (0 < count) × (count ≤ length buffer.new)
+        × (count % 8 ≡ 0)) }
+    ensures found { IfOk result (λ count. Known (R.unread source.old) (R.unread source.new)
+        (GroupAt 0 (take count buffer.new))) }
+    ensures refused { IfErr result (λ error. (error.kind ≡ ErrorKind.DeviceFailed)
+        ⊎ IsRefused (FaultBehind 0) (length buffer.new) (R.unread source.old) error.kind) }
+    ensures failed { IfErr result (λ error. error.kind ≡ ErrorKind.DeviceFailed →
+        Fails (R.failures source.old) (R.failures source.new)) }
+    ensures advances { Advances R.unread R.failures R.same source.old source.new }
+{
+    let Some(further) = next_byte(source)? else {
+        return Err(Error::from_kind(ErrorKind::PrematureEndOfPackedInput));
+    };
+    let count = 8 * (further as usize + 1);
+    if count > buffer.len() {
+        return Err(Error::from_kind(ErrorKind::PackedInputDidNotEndCleanlyOnASegmentBoundary));
+    }
+    buffer[..count].fill(0);
+    Ok(count)
+}
+
+// Unpacks the words of another group behind its tag.
+fn read_words<R: BufRead>(source: &mut R, tag: u8, buffer: &mut [u8]) -> Result<usize>
+    requires tag { 0 < tag }
+    requires room { 8 ≤ length buffer.old }
+    ensures within { IfOk result (λ count. (0 < count) × (count ≤ length buffer.new)
+        × (count % 8 ≡ 0)) }
+    ensures found { IfOk result (λ count. Known (R.unread source.old) (R.unread source.new)
+        (GroupAt tag (take count buffer.new))) }
+    ensures refused { IfErr result (λ error. (error.kind ≡ ErrorKind.DeviceFailed)
+        ⊎ IsRefused (FaultBehind tag) (length buffer.new) (R.unread source.old) error.kind) }
+    ensures failed { IfErr result (λ error. error.kind ≡ ErrorKind.DeviceFailed →
+        Fails (R.failures source.old) (R.failures source.new)) }
+    ensures advances { Advances R.unread R.failures R.same source.old source.new }
+{
+    read_marked(source, tag, &mut buffer[..8])?;
+    if tag < 255 {
+        return Ok(8);
+    }
+    let count = read_run(source, &mut buffer[8..])?;
+    Ok(8 + count)
+}
+
+// Fills a word by the bytes that a tag marks.
+fn read_marked<R: BufRead>(source: &mut R, tag: u8, word: &mut [u8]) -> Result<()>
+    ensures found { OnOk result (Known (R.unread source.old) (R.unread source.new)
+        (MarkedAt tag word.new)) }
+    ensures refused { IfErr result (λ error. (error.kind ≡ ErrorKind.DeviceFailed)
+        ⊎ Lacks (marked_count tag (length word.new)) (R.unread source.old) error.kind) }
+    ensures failed { IfErr result (λ error. error.kind ≡ ErrorKind.DeviceFailed →
+        Fails (R.failures source.old) (R.failures source.new)) }
+    ensures advances { Advances R.unread R.failures R.same source.old source.new }
+{
+    let mut bits = tag;
+    for byte in word.iter_mut() {
+        *byte = read_byte(source, bits)?;
+        bits /= 2;
+    }
+    Ok(())
+}
+
+// Reads a byte where the lowest of the bits marks it, else answers zero.
+fn read_byte<R: BufRead>(source: &mut R, bits: u8) -> Result<u8>
+    ensures found { IfOk result (λ byte. Known (R.unread source.old) (R.unread source.new)
+        (MarkedAt bits (byte ∷ []))) }
+    ensures refused { IfErr result (λ error. (error.kind ≡ ErrorKind.DeviceFailed)
+        ⊎ Lacks (marked_count bits 1) (R.unread source.old) error.kind) }
+    ensures failed { IfErr result (λ error. error.kind ≡ ErrorKind.DeviceFailed →
+        Fails (R.failures source.old) (R.failures source.new)) }
+    ensures advances { Advances R.unread R.failures R.same source.old source.new }
+{
+    if bits % 2 == 0 {
+        return Ok(0);
+    }
+    required_byte(source)
+}
+
+// Reads the words behind the first of a literal group, and answers how many bytes they have.
+fn read_run<R: BufRead>(source: &mut R, buffer: &mut [u8]) -> Result<usize>
+    ensures within { IfOk result (λ count. (count ≤ length buffer.new) × (count % 8 ≡ 0)) }
+    ensures found { IfOk result (λ count. Known (R.unread source.old) (R.unread source.new)
+        (RunAt (take count buffer.new))) }
+    ensures refused { IfErr result (λ error. (error.kind ≡ ErrorKind.DeviceFailed)
+        ⊎ IsRefused RefusesRun (length buffer.new) (R.unread source.old) error.kind) }
+    ensures failed { IfErr result (λ error. error.kind ≡ ErrorKind.DeviceFailed →
+        Fails (R.failures source.old) (R.failures source.new)) }
+    ensures advances { Advances R.unread R.failures R.same source.old source.new }
+{
+    let further = required_byte(source)?;
+    let count = 8 * further as usize;
+    if count > buffer.len() {
+        return Err(Error::from_kind(ErrorKind::PackedInputDidNotEndCleanlyOnASegmentBoundary));
+    }
+    source.read_exact(&mut buffer[..count])?;
+    Ok(count)
+}
+
+// Takes the next byte of a group.
+fn required_byte<R: BufRead>(source: &mut R) -> Result<u8>
+    ensures found { IfOk result (λ byte.
+        Known (R.unread source.old) (R.unread source.new) (λ raw left. raw ≡ byte ∷ left)) }
+    ensures refused { IfErr result (λ error. (error.kind ≡ ErrorKind.DeviceFailed)
+        ⊎ Lacks 1 (R.unread source.old) error.kind) }
+    ensures failed { IfErr result (λ error. error.kind ≡ ErrorKind.DeviceFailed →
+        Fails (R.failures source.old) (R.failures source.new)) }
+    ensures advances { Advances R.unread R.failures R.same source.old source.new }
+{
+    match next_byte(source)? {
+        Some(byte) => Ok(byte),
+        None => Err(Error::from_kind(ErrorKind::PrematureEndOfPackedInput)),
+    }
+}
+
+// Takes the next byte, if there is one.
+fn next_byte<R: BufRead>(source: &mut R) -> Result<Option<u8>>
+    ensures found { IfOk result (λ found. IfSome found (λ byte.
+        Known (R.unread source.old) (R.unread source.new) (λ raw left. raw ≡ byte ∷ left))) }
+    ensures none { IfOk result (λ found. IfNone found
+        (IfSome (R.unread source.old) (λ raw. raw ≡ []))) }
+    ensures refused { IfErr result (λ error. error.kind ≡ ErrorKind.DeviceFailed) }
+    ensures failed { OnErr result (Fails (R.failures source.old) (R.failures source.new)) }
+    ensures advances { Advances R.unread R.failures R.same source.old source.new }
+{
+    let Some(byte) = source.fill_buf()?.first().copied() else {
+        return Ok(None);
+    };
+    source.consume(1);
+    Ok(Some(byte))
+}

@@ -1,0 +1,84 @@
+//! Facts about packed texts, each the contract of a function that does nothing.
+ghost use Rattle.std.specs.Prelude.{◌≡◌, ℕ, ◌+◌, ◌*◌, ◌/◌, ◌<◌, ◌≤◌, List, [], ◌∷◌, ◌++◌, length, ◌↔◌};
+ghost use Rattle.std.specs.List.{AllByRecursion};
+ghost use Rattle.capnp_frame.specs.Message.{IsWholeWords, lengths};
+ghost use Rattle.capnp_frame.specs.SegmentTable.{HasTable};
+ghost use Rattle.capnp_frame.specs.Requests.{Stands};
+ghost use Rattle.capnp_frame.specs.Sink.{AppendsAll, AppendsSame};
+ghost use Rattle.capnp_pack.specs.Packed.{Packs};
+ghost use Rattle.capnp_pack.specs.PackedFrame.{IsPackedFrame, IsPackedText, PackedStands, table_first, table_others};
+ghost use Rattle.capnp_pack.specs.PackedSource.{Unpacks};
+ghost use Rattle.capnp_pack.specs.PackedSink.{AppendsPacked};
+
+/// A packed request has one answer at most, and leaves one rest.
+pub fn packed_request_has_one_answer()
+    ensures { (raw bytes rest others left : List ℕ) (n : ℕ) →
+        Unpacks raw n bytes rest → Unpacks raw n others left → (bytes ≡ others) × (rest ≡ left) }
+{}
+
+/// The three requests of a packed source take just a packed text of the message.
+pub fn packed_requests_take_a_packed_frame()
+    ensures { (segments : List (List ℕ)) (raw rest : List ℕ) →
+        Stands Unpacks segments raw rest ↔ PackedStands segments raw rest }
+{}
+
+/// No packed text of a message begins a different one, and each is the text of one message alone.
+/// So texts that are joined part in one way.
+pub fn packed_frames_part_in_one_way()
+    ensures { (text other rest left : List ℕ) (segments others : List (List ℕ)) →
+        IsPackedFrame text segments → IsPackedFrame other others → text ++ rest ≡ other ++ left →
+        (text ≡ other) × (segments ≡ others) × (rest ≡ left) }
+{}
+
+/// What is written of a message is a packed text of it.
+pub fn packed_text_is_a_packed_frame()
+    ensures { (text : List ℕ) (segments : List (List ℕ)) → HasTable (lengths segments) →
+        IsPackedText text segments → IsPackedFrame text segments }
+{}
+
+/// And there is such a text of each message.
+pub fn message_has_a_packed_text()
+    ensures { (segments : List (List ℕ)) → AllByRecursion IsWholeWords segments →
+        (text : List ℕ) × IsPackedText text segments }
+{}
+
+/// Whole words have a packed text.
+pub fn words_have_a_packed_text()
+    ensures { (bytes : List ℕ) → IsWholeWords bytes → (text : List ℕ) × Packs bytes text }
+{}
+
+/// And they have one alone.
+pub fn packed_text_is_one()
+    ensures { (bytes text other : List ℕ) → Packs bytes text → Packs bytes other → text ≡ other }
+{}
+
+/// A request for as many bytes as were packed gives these, whatever follows, and takes their text
+/// alone.
+pub fn packed_text_unpacks()
+    ensures given { (bytes text rest : List ℕ) → Packs bytes text →
+        Unpacks (text ++ rest) (length bytes) bytes rest }
+    ensures alone { (bytes text rest others left : List ℕ) → Packs bytes text →
+        Unpacks (text ++ rest) (length bytes) others left → (others ≡ bytes) × (left ≡ rest) }
+{}
+
+/// Of n words, at least one, the packed text has at most `8 * n + (n + 3) / 2` bytes.
+pub fn packed_text_is_short()
+    ensures { (bytes text : List ℕ) (n : ℕ) → Packs bytes text → length bytes ≡ 8 * n → 0 < n →
+        length text ≤ 8 * n + (n + 3) / 2 }
+{}
+
+/// A plain sink that is written packed gets just the packed text of each piece.
+pub fn plain_sink_gets_the_packed_text()
+    ensures { (piece text : List ℕ) → AppendsPacked AppendsSame piece text ↔ Packs piece text }
+{}
+
+/// And of a message that is handed to it as the table's first word, its other words and each
+/// segment it gets the packed text, also where a table of one word is handed on alone.
+pub fn plain_sink_gets_the_packed_message()
+    ensures pieces { (segments : List (List ℕ)) (text : List ℕ) →
+        AppendsAll (AppendsPacked AppendsSame)
+        (table_first segments ∷ table_others segments ∷ segments) text ↔ IsPackedText text segments }
+    ensures one_word { (segments : List (List ℕ)) (text : List ℕ) → table_others segments ≡ [] →
+        AppendsAll (AppendsPacked AppendsSame) (table_first segments ∷ segments) text
+        ↔ IsPackedText text segments }
+{}

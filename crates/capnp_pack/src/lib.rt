@@ -1,0 +1,23 @@
+//! Packing of Cap'n Proto messages.
+//!
+//! Packing leaves out zero bytes. A packed text is groups behind one another: `specs/Group.antt`
+//! and `specs/Piece.antt` say so in the words of the [encoding document], "Packing", and
+//! `specs/Packed.antt` says which of the texts of some words is the one that is written.
+//!
+//! [encoding document]: https://capnproto.org/encoding.html#packing
+#![tactic(auto)]
+
+mod buffer;
+#[cfg(test)]
+mod dripping;
+mod group;
+pub mod laws;
+pub mod messages;
+mod packed_read;
+mod packed_write;
+mod runs;
+#[cfg(test)]
+mod tests;
+
+pub use crate::packed_read::PackedRead;
+pub use crate::packed_write::PackedWrite;

@@ -1,0 +1,89 @@
+//! Words that a source holds packed.
+ghost use Rattle.std.specs.Prelude.{◌≡◌, ◌<◌, ◌≤◌, ◌↔◌, ◌⊎◌, Some, [], IfOk, IfErr, IfSome, length, take, refl};
+ghost use Rattle.std.specs.Result.{IsErrAnd};
+ghost use Rattle.std.proofs.Common.{◌∙◌};
+ghost use Rattle.capnp_frame.specs.Message.{IsWholeWords};
+ghost use Rattle.capnp_frame.specs.Source.{Known, Takes, IsRefused, IsPlain, Advances, Fails};
+ghost use Rattle.capnp_frame.specs.declared.error.ErrorKind.{ErrorKind};
+ghost use Rattle.capnp_pack.specs.PackedSource.{Unpacks, RefusesPiece};
+ghost use Rattle.capnp_pack.specs.Refusing.{unpacking};
+
+use crate::group::read_piece;
+use capnp_frame::io::{BufRead, Read};
+use capnp_frame::{Error, ErrorKind, Result};
+
+/// A source of the words that another one holds packed.
+///
+/// Each request is a piece by itself: it takes groups from the front until it has its words, and
+/// consumes just these. A request that isn't whole words is refused by `NotWholeWords`, and nothing
+/// is read. Where a piece is cut or a run goes past its end, the first such place decides the
+/// refusal, however the source cuts its bytes.
+#[derive(Drop)]
+pub struct PackedRead<'a, R: BufRead> {
+    source: &'a mut R,
+}
+
+impl<'a, R: BufRead> PackedRead<'a, R> {
+    /// Reads what is packed in this source.
+    pub fn new(source: &'a mut R) -> PackedRead<'a, R>
+        ensures same_reference { result.source.ghost_name ≡ source.entry.ghost_name }
+        ensures source { result.source.now ≡ source.old }
+    {
+        PackedRead { source }
+    }
+}
+
+impl<'a, R: BufRead> Read for PackedRead<'a, R> {
+    ghost unread = { λ packed. R.unread packed.source.now };
+
+    ghost failures = { λ packed. R.failures packed.source.now };
+
+    ghost gives = { Unpacks };
+
+    ghost refuses = { RefusesPiece };
+
+    ghost same = { λ old new. (new.source.ghost_name ≡ old.source.ghost_name)
+        × R.same old.source.now new.source.now };
+
+    fn read(&mut self, buffer: &mut [u8]) -> Result<usize>
+        ensures within { IfOk result (λ count. count ≤ length buffer.new) }
+        ensures taken { IfOk result (λ count.
+            Known (R.unread self.old.source.now) (R.unread self.new.source.now)
+            (Takes Unpacks RefusesPiece (length buffer.new) (take count buffer.new))) }
+        ensures end { IfOk result (λ count. IfSome (R.unread self.old.source.now)
+            (λ raw. 0 < length buffer.new → (count ≡ 0) ↔ (raw ≡ []))) }
+        ensures spent { IfOk result (λ count. count ≡ 0 → 0 < length buffer.new →
+            IsRefused RefusesPiece (length buffer.new) (R.unread self.old.source.now)
+            ErrorKind.FailedToFillTheWholeBuffer) }
+
+        // A refusal.
+        ensures failed { IfErr result (λ error. error.kind ≡ ErrorKind.DeviceFailed →
+            Fails (R.failures self.old.source.now) (R.failures self.new.source.now)) }
+        ensures refused { IfErr result (λ error. (error.kind ≡ ErrorKind.DeviceFailed)
+            ⊎ IsRefused RefusesPiece (length buffer.new) (R.unread self.old.source.now) error.kind) }
+        ensures at_end { IfErr result (λ error. R.unread self.old.source.now ≡ Some [] →
+            IsWholeWords buffer.new → error.kind ≡ ErrorKind.DeviceFailed) }
+        ensures plain { IfErr result (λ error. IsPlain Unpacks → error.kind ≡ ErrorKind.DeviceFailed) }
+        // A part of a word is refused, and the source and the buffer are as they were.
+        ensures part { (IsWholeWords buffer.old → ⊥) →
+            IsErrAnd result (λ error. error.kind ≡ ErrorKind.NotWholeWords)
+            × (self.new.source.now ≡ self.old.source.now) × (buffer.new ≡ buffer.old) }
+
+        ensures advances { Advances (λ packed. R.unread packed.source.now)
+            (λ packed. R.failures packed.source.now)
+            (λ old new. (new.source.ghost_name ≡ old.source.ghost_name) × R.same old.source.now new.source.now)
+            self.old self.new }
+    {
+        if buffer.len() % 8 != 0 {
+            return Err(Error::from_kind(ErrorKind::NotWholeWords));
+        }
+        read_piece(self.source, buffer)
+    }
+
+    ghost lawful = { unpacking };
+
+    ghost keeps = { record {
+      reflexive = λ s. (refl, R.keeps.reflexive s.source.now);
+      transitive = λ s t u p q. (q.0 ∙ p.0, R.keeps.transitive s.source.now t.source.now u.source.now p.1 q.1);
+    } };
+}
