@@ -59,8 +59,9 @@ IsListed-line segments index count total text written listed none spelled =
     ∙ ap (λ k. decimal index ++ spaced (length segments) ++ spaced k ++ text ++ 10 ∷ []) (listed.total_is ∙ ap size_in_words all)
     ∙ ap (λ l. decimal index ++ spaced (length segments) ++ spaced (size_in_words segments) ++ l ++ 10 ∷ []) (listed.spelled ∙ ap (λ l. flat_map spaced (lengths l)) all)
 
--- a list of one element
-pub only_item : {X : Type 0} (xs : List X) (x : X) → 1 ≤ length xs → length xs < 2 → x ≡ get_or xs 0 x → xs ≡ x ∷ []
-only_item [] x some few here = absurd (omega arith)
-only_item (y ∷ []) x some few here = ap (λ z. z ∷ []) (sym here)
-only_item (y ∷ z ∷ zs) x some few here = absurd (omega arith)
+-- a list of two elements
+pub two_items : {X : Type 0} (xs : List X) (x y : X) → 2 ≤ length xs → length xs < 3 → x ≡ get_or xs 0 x → y ≡ get_or xs 1 y → xs ≡ x ∷ y ∷ []
+two_items [] x y some few first second = absurd (omega arith)
+two_items (a ∷ []) x y some few first second = absurd (omega arith)
+two_items (a ∷ b ∷ []) x y some few first second = ap (λ z. z ∷ b ∷ []) (sym first) ∙ ap (λ z. x ∷ z ∷ []) (sym second)
+two_items (a ∷ b ∷ c ∷ cs) x y some few first second = absurd (omega arith)

@@ -1,7 +1,12 @@
 -- What the program prints of messages.
-use Rattle.std.specs.Prelude.{ℕ, ◌+◌, List, [], ◌∷◌, ◌++◌, length, decimal}
+use Rattle.std.specs.Prelude.{◌≡◌, ℕ, ◌+◌, List, [], ◌∷◌, ◌++◌, length, decimal}
 use Rattle.std.specs.List.{flat_map}
 use Rattle.capnp_frame.specs.Message.{lengths, size_in_words}
+use Rattle.capnp_frame.specs.Sink.{Appending, AppendsAll}
+use Rattle.capnp_frame.specs.Writing.{pieces}
+use Rattle.capnp_pack.specs.PackedSink.{AppendsPacked}
+use Rattle.capnp_ls.specs.declared.command.Command.{Command}
+use Rattle.capnp_ls.specs.declared.command.Command.TheVariants.{Listing, Pack, Unpack}
 
 -- a space and a number
 abbrev pub spaced : ℕ → List ℕ
@@ -11,10 +16,16 @@ spaced n = 32 ∷ decimal n
 abbrev pub line : ℕ → List (List ℕ) → List ℕ
 line index segments = decimal index ++ spaced (length segments) ++ spaced (size_in_words segments) ++ flat_map spaced (lengths segments) ++ 10 ∷ []
 
--- the lines of messages, the first of this index
-abbrev pub lines_from : ℕ → List (List (List ℕ)) → List (List ℕ)
-lines_from index [] = []
-lines_from index (m ∷ ms) = line index m ∷ lines_from (index + 1) ms
+-- What a sink adds for the message of this index: its line, or its pieces, packed or as they are.
+abbrev pub Prints : Command → Appending → ℕ → List (List ℕ) → List ℕ → Type 0
+Prints (Listing format) appends index segments text = appends (line index segments) text
+Prints Pack appends index segments text = AppendsAll (AppendsPacked appends) (pieces segments) text
+Prints Unpack appends index segments text = AppendsAll appends (pieces segments) text
 
-abbrev pub lines : List (List (List ℕ)) → List (List ℕ)
-lines messages = lines_from 0 messages
+-- what it adds for messages, the first of this index
+abbrev pub PrintsFrom : Command → Appending → ℕ → List (List (List ℕ)) → List ℕ → Type 0
+PrintsFrom command appends index [] text = text ≡ []
+PrintsFrom command appends index (m ∷ ms) text = (first others : List ℕ) × Prints command appends index m first × PrintsFrom command appends (index + 1) ms others × (text ≡ first ++ others)
+
+abbrev pub PrintsAll : Command → Appending → List (List (List ℕ)) → List ℕ → Type 0
+PrintsAll command appends messages text = PrintsFrom command appends 0 messages text

@@ -1,13 +1,24 @@
 //! The words that the program takes.
 ghost use Rattle.std.specs.Prelude.{◌≡◌, map, string_bytes, IfSome, IfNone};
 ghost use Rattle.capnp_ls.specs.declared.command.Command.{Command};
-ghost use Rattle.capnp_ls.specs.Commands.{words_of};
+ghost use Rattle.capnp_ls.specs.Commands.{words_of, input_of};
+
+/// How messages stand in a stream.
+#[derive(Clone, Copy, Debug, PartialEq, Eq)]
+pub enum Format {
+    Framed,
+    Packed,
+}
 
 /// What the program is told to do.
 #[derive(Clone, Copy, Debug, PartialEq, Eq)]
 pub enum Command {
-    /// `list`: print a line for each message.
-    Listing,
+    /// `list`, and `list --packed`: print a line for each message.
+    Listing(Format),
+    /// `pack`: write each framed message packed.
+    Pack,
+    /// `unpack`: write each packed message framed.
+    Unpack,
 }
 
 impl Command {
@@ -18,8 +29,27 @@ impl Command {
             ((command : Command) → map string_bytes words.now ≡ words_of command → ⊥) }
     {
         match words {
-            [word] if word.as_str() == "list" => Some(Command::Listing),
+            [word] => match word.as_str() {
+                "list" => Some(Command::Listing(Format::Framed)),
+                "pack" => Some(Command::Pack),
+                "unpack" => Some(Command::Unpack),
+                _ => None,
+            },
+            [word, option] if word.as_str() == "list" && option.as_str() == "--packed" => {
+                Some(Command::Listing(Format::Packed))
+            }
             _ => None,
+        }
+    }
+
+    /// How the messages stand that the command reads.
+    pub fn input(self) -> Format
+        ensures { result ≡ input_of self }
+    {
+        match self {
+            Command::Listing(format) => format,
+            Command::Pack => Format::Framed,
+            Command::Unpack => Format::Packed,
         }
     }
 }

@@ -80,12 +80,14 @@ fn lines_before_a_refusal_stay(rt: HostRuntime) -> Result<(), Fail> {
 
 #[test]
 fn other_words_read_nothing(rt: HostRuntime) -> Result<(), Fail> {
-    let others: [&[&str]; 6] = [
+    let others: [&[&str]; 8] = [
         &[],
         &["lists"],
         &["list", "list"],
         &["list", ""],
-        &["pack"],
+        &["list", "--packed", "--packed"],
+        &["--packed", "list"],
+        &["pack", "--packed"],
         &["LIST"],
     ];
     for texts in others {
@@ -96,6 +98,67 @@ fn other_words_read_nothing(rt: HostRuntime) -> Result<(), Fail> {
         assert!(rt; matches!(&answer, Err(Stop::Usage)), "{texts:?}");
         assert_eq!(rt; source.len(), STREAM.len());
         assert!(rt; sink.is_empty());
+    }
+    Ok(())
+}
+
+// Segments [] and [1, 2, 3, 4, 5, 6, 7, 8], packed.
+const PACKED: [u8; 14] = [1, 1, 1, 1, 255, 1, 2, 3, 4, 5, 6, 7, 8, 0];
+
+#[test]
+fn each_command_prints_its_output(rt: HostRuntime) -> Result<(), Fail> {
+    let mut zero_padding = [0; 24];
+    zero_padding.copy_from_slice(&STREAM[..24]);
+    zero_padding[12..16].copy_from_slice(&[0; 4]);
+    let rows: [(&[&str], &[u8], &[u8]); 7] = [
+        (&["list", "--packed"], &PACKED, b"0 2 1 0 1\n"),
+        (
+            &["list", "--packed"],
+            &[0, 0, 17, 4, 1, 0, 1, 0, 0],
+            b"0 1 0 0\n1 5 1 1 0 0 0 0\n",
+        ),
+        (&["list", "--packed"], &[], &[]),
+        (&["pack"], &STREAM[..24], &PACKED),
+        (&["pack"], &[], &[]),
+        (&["unpack"], &PACKED, &zero_padding),
+        (&["unpack"], &[], &[]),
+    ];
+    for (texts, input, output) in rows {
+        let words = words(rt.alloc(), texts)?;
+        let mut source = input;
+        let mut sink = Vec::new(rt.alloc());
+        assert!(rt;
+            run(rt.alloc(), &words, &mut source, &mut sink).is_ok(),
+            "{texts:?}"
+        );
+        assert_eq!(rt; sink.as_slice(), output, "{texts:?}");
+        assert!(rt; source.is_empty(), "{texts:?}");
+    }
+    Ok(())
+}
+
+#[test]
+fn output_before_a_refusal_stays(rt: HostRuntime) -> Result<(), Fail> {
+    let rows: [(&[&str], &[u8], (u64, u8), &[u8]); 4] = [
+        (&["pack"], &[0; 12], (1, 1), &[0, 0]),
+        (
+            &["unpack"],
+            &[0, 0, 16, 1, 0, 0, 170],
+            (2, 10),
+            &[
+                0, 0, 0, 0, 0, 0, 0, 0, 0, 0, 0, 0, 1, 0, 0, 0, 0, 0, 0, 0, 0, 0, 0, 0,
+            ],
+        ),
+        (&["list", "--packed"], &[0, 0, 0, 1], (1, 11), b"0 1 0 0\n"),
+        (&["unpack"], &[255], (0, 10), &[]),
+    ];
+    for (texts, input, refused, output) in rows {
+        let words = words(rt.alloc(), texts)?;
+        let mut source = input;
+        let mut sink = Vec::new(rt.alloc());
+        let answer = run(rt.alloc(), &words, &mut source, &mut sink);
+        assert_eq!(rt; refusal(answer), Some(refused), "{texts:?}");
+        assert_eq!(rt; sink.as_slice(), output, "{texts:?}");
     }
     Ok(())
 }
