@@ -10,14 +10,42 @@
 #[cfg(test)]
 mod faults;
 #[cfg(test)]
+mod flat;
+#[cfg(test)]
+mod flat_rows;
+#[cfg(test)]
 mod framed;
+#[cfg(test)]
+mod lent;
 #[cfg(test)]
 mod memory;
 #[cfg(test)]
+mod messages;
+#[cfg(test)]
+mod no_memory;
+#[cfg(test)]
+mod packed;
+#[cfg(test)]
+mod packed_faults;
+#[cfg(test)]
+mod packed_rows;
+#[cfg(test)]
+mod pieces;
+#[cfg(test)]
 mod rows;
 #[cfg(test)]
+mod sink_faults;
+#[cfg(test)]
+mod sinks;
+#[cfg(test)]
 mod sources;
+#[cfg(test)]
+mod tables;
 #[cfg(test)]
 mod texts;
 #[cfg(test)]
 mod values;
+#[cfg(test)]
+mod words;
+#[cfg(test)]
+mod writing;

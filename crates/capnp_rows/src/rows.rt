@@ -1,5 +1,5 @@
 //! The worked rows of framed messages, as bytes and answers.
-use capnp_frame::message::ReaderSegments;
+use crate::messages::has_segments;
 use capnp_frame::serialize::OwnedSegments;
 use capnp_frame::{ErrorKind, Result};
 use std::process::Abort;
@@ -177,19 +177,20 @@ pub const ROWS: [Row; 18] = [
     },
 ];
 
-/// Whether these are the segments.
-pub fn has_segments(found: &OwnedSegments, wanted: &[&[u8]]) -> bool {
-    for id in 0..512u32 {
-        let there = match (found.get_segment(id), wanted.get(id as usize)) {
-            (None, None) => true,
-            (Some(segment), Some(bytes)) => segment == *bytes,
-            _ => false,
-        };
-        if !there {
-            return false;
+/// Whether this is the answer. One for want of memory is handed back.
+pub fn is_wanted(answer: Result<Option<OwnedSegments>>, wanted: Wanted) -> Result<bool> {
+    let found = match answer {
+        Ok(found) => found,
+        Err(error) if error.kind == ErrorKind::OutOfMemory => return Err(error),
+        Err(error) => {
+            return Ok(matches!(wanted, Wanted::Refused(kind) if kind == error.kind));
         }
-    }
-    found.len() == wanted.len()
+    };
+    Ok(match (&found, wanted) {
+        (None, Wanted::End) => true,
+        (Some(segments), Wanted::Segments(wanted)) => has_segments(segments, wanted),
+        _ => false,
+    })
 }
 
 /// Compares an answer with the row's. One for want of memory is handed back.
@@ -200,20 +201,9 @@ pub fn compare(
     answer: Result<Option<OwnedSegments>>,
 ) -> Result<()> {
     let name = row.name;
-    let found = match answer {
-        Ok(found) => found,
-        Err(error) if error.kind == ErrorKind::OutOfMemory => return Err(error),
-        Err(error) => {
-            let refused = matches!(row.wanted, Wanted::Refused(kind) if kind == error.kind);
-            assert!(rt; refused, "{name}, {most} bytes a read: {error}");
-            return Ok(());
-        }
-    };
-    let is_wanted = match (&found, row.wanted) {
-        (None, Wanted::End) => true,
-        (Some(segments), Wanted::Segments(wanted)) => has_segments(segments, wanted),
-        _ => false,
-    };
-    assert!(rt; is_wanted, "{name}, {most} bytes a read");
+    assert!(rt;
+        is_wanted(answer, row.wanted)?,
+        "{name}, {most} bytes a read"
+    );
     Ok(())
 }

@@ -68,7 +68,7 @@ impl BufRead for Trickle<'_> {
     ghost plain_refusals = { λ _ _ _. (λ p. p, λ p. p) };
 }
 
-/// A source whose reads are counted from 1, and one of which fails. That one takes nothing.
+/// A source whose calls are counted from 1, and one of which fails. That one takes nothing.
 #[derive(Drop)]
 pub struct Faulty<'a> {
     pub source: Trickle<'a>,
@@ -111,4 +111,26 @@ impl Read for Faulty<'_> {
     ghost lawful = { splitting };
 
     ghost keeps = { always };
+}
+
+impl BufRead for Faulty<'_> {
+    ghost shown = { λ source. take source.source.shown source.source.bytes.now };
+
+    fn fill_buf(&mut self) -> Result<&[u8]> {
+        self.calls = self.calls.saturating_add(1);
+        if self.calls == self.fails_at {
+            self.failures = self.failures.saturating_add(1);
+            return Err(Error::from_kind(ErrorKind::DeviceFailed));
+        }
+        self.source.shown = self.source.bytes.len().min(self.source.most);
+        Ok(&self.source.bytes[..self.source.shown])
+    }
+
+    fn consume(&mut self, amount: usize) {
+        self.source.consume(amount)
+    }
+
+    ghost plain = { λ _ _ _ _. (λ p. p, λ p. p) };
+
+    ghost plain_refusals = { λ _ _ _. (λ p. p, λ p. p) };
 }

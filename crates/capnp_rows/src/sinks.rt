@@ -1,0 +1,51 @@
+//! A sink that fails.
+ghost use Rattle.std.specs.Prelude.{Some, ⊤};
+ghost use Rattle.capnp_frame.specs.Sink.{AppendsSame, LacksMemory};
+ghost use Rattle.capnp_frame.specs.Splitting.{always};
+
+use capnp_frame::io::Write;
+use capnp_frame::{Error, ErrorKind, Result};
+
+/// A sink whose pieces are counted from 1, and one of which fails. Of that one nothing is written.
+#[derive(Drop)]
+pub struct FaultySink {
+    pub written: Vec<u8>,
+    pub calls: u64,
+    pub fails_at: u64,
+    pub failures: u64,
+}
+
+impl FaultySink {
+    /// These bytes are written already.
+    pub fn new(written: Vec<u8>, fails_at: u64) -> FaultySink {
+        FaultySink {
+            written,
+            calls: 0,
+            fails_at,
+            failures: 0,
+        }
+    }
+}
+
+impl Write for FaultySink {
+    ghost written = { λ sink. Some sink.written.items };
+
+    ghost failures = { λ sink. sink.failures };
+
+    ghost appends = { AppendsSame };
+
+    ghost refuses = { LacksMemory };
+
+    ghost same = { λ _ _. ⊤ };
+
+    fn write_all(&mut self, piece: &[u8]) -> Result<()> {
+        self.calls = self.calls.saturating_add(1);
+        if self.calls == self.fails_at {
+            self.failures = self.failures.saturating_add(1);
+            return Err(Error::from_kind(ErrorKind::DeviceFailed));
+        }
+        self.written.write_all(piece)
+    }
+
+    ghost keeps = { always };
+}
