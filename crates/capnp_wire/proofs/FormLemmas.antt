@@ -1,0 +1,101 @@
+-- What views show of objects.
+use Rattle.std.proofs.Common.{◌≡◌, ℕ, suc, ◌+◌, List, [], ◌∷◌, ◌++◌, length, take, slice_index_or, inr, refl, sym, ◌∙◌, ap, subst, arith, length-append}
+use Rattle.std.proofs.lemmas.List.{take_all}
+use Rattle.std.proofs.Math.Seq.{take-suc, get_or-append_seam}
+use Rattle.capnp_frame.specs.declared.error.ErrorKind.{ErrorKind}
+use Rattle.capnp_frame.specs.declared.error.ErrorKind.TheVariants.{WrongPointerKind, TextNotTerminated}
+use Rattle.capnp_wire.specs.Pointer.{words_of, words_from}
+use Rattle.capnp_wire.specs.Element.{code_of}
+use Rattle.capnp_wire.specs.Tree.{Form, numbers}
+use Rattle.capnp_wire.specs.Object.{elements, places}
+use Rattle.capnp_wire.specs.Landing.{shape_of}
+use Rattle.capnp_wire.specs.Views.{Pointer, at_place, Shows, IsText, HasData, TakesNumbers, TakesText, TakesStruct, DeclinesNumbers, DeclinesText, DeclinesStruct}
+use Rattle.capnp_wire.specs.Readers.{IsEntered, form_of}
+use Rattle.capnp_wire.specs.declared.layout.Place.{Place}
+use Rattle.capnp_wire.specs.declared.layout.element.ElementSize.{ElementSize}
+use Rattle.capnp_wire.specs.declared.layout.element.ElementSize.TheVariants.{Void, Bit, Byte, TwoBytes, FourBytes, EightBytes}
+use Rattle.capnp_wire.specs.declared.layout.object.Body.{Body}
+use Rattle.capnp_wire.specs.declared.layout.object.Body.TheVariants.{Struct, Numbers, Pointers, Structs}
+use Rattle.capnp_wire.specs.declared.layout.pointer.StructSize.{StructSize}
+use Rattle.capnp_wire.specs.declared.layout.object.Object.{Object as ReadObject}
+
+-- what holds of the form of an object that was entered is shown of its pointer
+pub entered_shows : (p : Pointer) (object : ReadObject) (fact : Form → Type 0) → IsEntered p object → fact (form_of object) → Shows p (λ shape. fact shape.form)
+entered_shows p object fact entered holds = (
+  record (shape_of (words_of object.segment.now) object.start object.body) { charge = object.charge },
+  at_place entered.stands entered.object_is.object (λ not. entered.level),
+  holds,
+)
+
+-- a list of numbers is not declined by what takes it
+pub numbers_form : (object : ReadObject) (sizes : ElementSize) (n : ℕ) (values : List ℕ) → object.body ≡ Numbers sizes n
+    → values ≡ elements (words_of object.segment.now) object.start.word (code_of sizes) n → form_of object ≡ numbers (code_of sizes) values
+numbers_form object sizes n values body values_are =
+    ap (λ (b : Body). (shape_of (words_of object.segment.now) object.start b).form) body ∙ ap (numbers (code_of sizes)) (sym values_are)
+
+-- sizes of elements, by their codes
+size_back : (size : ElementSize) → slice_index_or (Void ∷ Bit ∷ Byte ∷ TwoBytes ∷ FourBytes ∷ EightBytes ∷ []) (code_of size) Void ≡ size
+size_back Void = refl
+size_back Bit = refl
+size_back Byte = refl
+size_back TwoBytes = refl
+size_back FourBytes = refl
+size_back EightBytes = refl
+
+same_size : (a b : ElementSize) → code_of a ≡ code_of b → a ≡ b
+same_size a b e =
+    sym (size_back a) ∙ ap (λ (c : ℕ). slice_index_or (Void ∷ Bit ∷ Byte ∷ TwoBytes ∷ FourBytes ∷ EightBytes ∷ []) c Void) e ∙ size_back b
+
+other_numbers : (words : List ℕ) (start : Place) (body : Body) (wanted : ElementSize) → ((n : ℕ) → body ≡ Numbers wanted n → ⊥) → TakesNumbers (code_of wanted) (shape_of words start body).form → ⊥
+other_numbers words start (Struct size) wanted none t = t
+other_numbers words start (Numbers size n) wanted none t = none n (ap (λ x. Numbers x n) (same_size size wanted t))
+other_numbers words start (Pointers n) wanted none t = t
+other_numbers words start (Structs elements_there behind) wanted none t = t
+
+pub other_than_numbers : (object : ReadObject) (wanted : ElementSize) (refusal : ErrorKind) → ((n : ℕ) → object.body ≡ Numbers wanted n → ⊥) → refusal ≡ WrongPointerKind → DeclinesNumbers (code_of wanted) (form_of object) refusal
+other_than_numbers object wanted refusal none is = (other_numbers (words_of object.segment.now) object.start object.body wanted none, is)
+
+other_struct : (words : List ℕ) (start : Place) (body : Body) → ((size : StructSize) → body ≡ Struct size → ⊥) → TakesStruct (shape_of words start body).form → ⊥
+other_struct words start (Struct size) none t = none size refl
+other_struct words start (Numbers size n) none t = t
+other_struct words start (Pointers n) none t = t
+other_struct words start (Structs elements_there behind) none t = t
+
+pub other_than_struct : (object : ReadObject) (refusal : ErrorKind) → ((size : StructSize) → object.body ≡ Struct size → ⊥) → refusal ≡ WrongPointerKind → DeclinesStruct (form_of object) refusal
+other_than_struct object refusal none is = (other_struct (words_of object.segment.now) object.start object.body none, is)
+
+-- the fields of a struct that was entered
+pub struct_shows : (p : Pointer) (object : ReadObject) (size : StructSize) → IsEntered p object → object.body ≡ Struct size
+    → Shows p (λ shape. HasData shape.form (words_from (words_of object.segment.now) object.start.word size.data_words)
+    × (places object.start.segment (object.start.word + size.data_words) size.pointers ≡ shape.held))
+struct_shows p object size entered body =
+    let words = words_of object.segment.now in
+    let fact : Body → Type 0 = λ b. HasData (shape_of words object.start b).form (words_from words object.start.word size.data_words)
+    × (places object.start.segment (object.start.word + size.data_words) size.pointers ≡ (shape_of words object.start b).held) in (
+      record (shape_of words object.start object.body) { charge = object.charge },
+      at_place entered.stands entered.object_is.object (λ not. entered.level),
+      subst fact (sym body) (refl, refl),
+    )
+
+-- a list of bytes that ends with a zero, and one that does not
+pub zero_behind : (bytes : List ℕ) (n : ℕ) → suc n ≡ length bytes → slice_index_or bytes n 0 ≡ 0 → bytes ≡ take n bytes ++ 0 ∷ []
+zero_behind bytes n long zero_is =
+    let all : take (suc n) bytes ≡ bytes = take_all (suc n) bytes (omega arith) in
+    let split : take (suc n) bytes ≡ take n bytes ++ slice_index_or bytes n 0 ∷ [] = take-suc bytes n 0 (omega arith) in
+    sym all ∙ split ∙ ap (λ (x : ℕ). take n bytes ++ x ∷ []) zero_is
+
+pub no_zero_behind : (bytes text : List ℕ) (n : ℕ) → bytes ≡ text ++ 0 ∷ [] → suc n ≡ length bytes → slice_index_or bytes n 0 ≡ 0
+no_zero_behind bytes text n e long =
+    let one_more : length bytes ≡ length text + 1 = ap (λ (l : List ℕ). length l) e ∙ length-append text (0 ∷ []) in
+    let at : n ≡ length text = omega arith in
+    ap (λ (l : List ℕ). slice_index_or l n 0) e ∙ ap (λ (i : ℕ). slice_index_or (text ++ 0 ∷ []) i 0) at ∙ get_or-append_seam text 0 [] 0
+
+pub ends_with_zero : (form : Form) (bytes text : List ℕ) → form ≡ numbers 2 bytes → bytes ≡ text ++ 0 ∷ [] → IsText form text
+ends_with_zero form bytes text is ends = subst (λ f. IsText f text) (sym is) (refl, ends)
+
+pub no_zero_at_end : (form : Form) (bytes : List ℕ) (refusal : ErrorKind) → form ≡ numbers 2 bytes
+    → ((text : List ℕ) → bytes ≡ text ++ 0 ∷ [] → ⊥) → refusal ≡ TextNotTerminated → DeclinesText form refusal
+no_zero_at_end form bytes refusal form_is none is =
+    let declined : (TakesNumbers 2 (numbers 2 bytes)) × (TakesText (numbers 2 bytes) → ⊥) × (refusal ≡ TextNotTerminated) =
+    (refl, (λ t. none t.1.0 t.1.1), is) in
+    subst (λ f. DeclinesText f refusal) (sym form_is) (inr declined)

@@ -1,0 +1,14 @@
+use Rattle.std.proofs.Common.{◌≡◌}
+use Rattle.capnp_wire.specs.Views.{Measures}
+use Rattle.capnp_wire.specs.Readers.{pointer_of}
+use Rattle.capnp_wire.proofs.MeasureLemmas.{measured_is_ok, unmeasured_is_err}
+use Rattle.capnp_wire.proofs.any_pointer.reader.Reader.target_size.Goals as goal
+
+pub returns-clause-measured : goal.returns-clause-measured
+returns-clause-measured g c =
+    let p = pointer_of g.S.ReaderSegments.segments c.args.self.now in
+    measured_is_ok p (λ size. Measures p size.word_count × (size.cap_count ≡ 0)) c.measure.result c.measure.ensures.answer
+
+pub returns-clause-exact : goal.returns-clause-exact
+returns-clause-exact g c =
+    unmeasured_is_err (pointer_of g.S.ReaderSegments.segments c.args.self.now) c.measure.result c.measure.ensures.answer c.measure.ensures.bound

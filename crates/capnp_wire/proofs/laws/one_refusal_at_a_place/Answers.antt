@@ -1,0 +1,5 @@
+use Rattle.capnp_wire.proofs.RefusalLemmas as law
+use Rattle.capnp_wire.proofs.laws.one_refusal_at_a_place.Goals as goal
+
+pub returns : goal.returns
+returns c = law.one_refusal

@@ -1,0 +1,5 @@
+use Rattle.capnp_wire.proofs.ObjectLemmas as law
+use Rattle.capnp_wire.proofs.laws.one_tree_at_a_place.Goals as goal
+
+pub returns : goal.returns
+returns c = law.one_tree

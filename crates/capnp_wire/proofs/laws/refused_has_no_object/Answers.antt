@@ -1,0 +1,5 @@
+use Rattle.capnp_wire.proofs.FaultLemmas as law
+use Rattle.capnp_wire.proofs.laws.refused_has_no_object.Goals as goal
+
+pub returns : goal.returns
+returns c = law.refused_has_no_object

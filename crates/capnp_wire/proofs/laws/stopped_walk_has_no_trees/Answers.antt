@@ -1,0 +1,5 @@
+use Rattle.capnp_wire.proofs.StopLemmas as law
+use Rattle.capnp_wire.proofs.laws.stopped_walk_has_no_trees.Goals as goal
+
+pub returns : goal.returns
+returns c = law.stops_has_no_trees

@@ -1,0 +1,9 @@
+use Rattle.capnp_wire.specs.declared.layout.element.ElementSize.TheVariants.{Byte}
+use Rattle.capnp_wire.proofs.FormLemmas.{numbers_form, other_than_numbers}
+use Rattle.capnp_wire.proofs.layout.object.Object.bytes.Goals as goal
+
+pub returns-in-Some : goal.returns-in-Some
+returns-in-Some c = numbers_form c.args.self.now Byte c.in-Some.count _ c.in-Some.ensures c.bytes_at.ensures
+
+pub returns-in-None : goal.returns-in-None
+returns-in-None c = other_than_numbers c.args.self.now Byte _ c.in-None.ensures c.wrong_kind.ensures

@@ -1,0 +1,43 @@
+-- What a walk over trees may still be charged, and the words that it has counted (src/layout/walk.rt).
+use Rattle.std.specs.Prelude.{◌≡◌, ℕ, ◌+◌, ◌-◌, ◌^◌, ◌<◌, ◌≤◌, List, [], ◌∷◌, Option, Some, None, IfSome}
+use Rattle.capnp_wire.specs.Tree.{Trees, depth, total_words}
+use Rattle.capnp_wire.specs.Reached.{At}
+use Rattle.capnp_wire.specs.declared.layout.Place.{Place}
+
+-- a charge is within the limit, where there is one
+abbrev pub Within : Option ℕ → ℕ → Type 0
+Within limit charge = IfSome limit (λ most. charge ≤ most)
+
+-- what is left of the limit
+abbrev pub less : Option ℕ → ℕ → Option ℕ
+less None charge = None
+less (Some most) charge = Some (most - charge)
+
+-- a charge is past the limit
+abbrev pub Exceeds : Option ℕ → ℕ → Type 0
+Exceeds limit charge = (most : ℕ) × (limit ≡ Some most) × (most < charge)
+
+-- a number of words, which is not kept where it does not fit 64 bits
+abbrev pub Counts : Option ℕ → ℕ → Type 0
+Counts None words = 2 ^ 64 ≤ words
+Counts (Some kept) words = kept ≡ words
+
+-- so many words more have been counted
+abbrev pub CountsMore : Option ℕ → Option ℕ → ℕ → Type 0
+CountsMore kept kept_then more = (words : ℕ) → Counts kept words → Counts kept_then (words + more)
+
+-- trees stand at places, no deeper than a level, with a charge and with so many words
+pub record Stand (m : List (List ℕ)) (at : List Place) (level charge words : ℕ) : Type 0 where
+  pub trees : Trees
+  pub stand : At m at trees charge
+  pub shallow : depth trees ≤ level
+  pub words_are : total_words trees ≡ words
+
+-- What a walk from a place finds: the trees that stand there, within the level and the limit.
+pub record Walked (m : List (List ℕ)) (place : Place) (level : ℕ) (limit left words_before words_now : Option ℕ) : Type 0 where
+  pub charge : ℕ
+  pub words : ℕ
+  pub stand : Stand m (place ∷ []) level charge words
+  pub within : Within limit charge
+  pub left_is : left ≡ less limit charge
+  pub counted : CountsMore words_before words_now words

@@ -1,0 +1,67 @@
+-- What is read of an object on the way to it (src/layout/object.rt).
+use Rattle.std.specs.Prelude.{◌≡◌, ◌⊎◌, ℕ, ◌+◌, ◌*◌, ◌/◌, ◌≤◌, List, length, Some, MatchOption, slice_get, if◌then◌else◌, ◌==◌}
+use Rattle.capnp_frame.specs.declared.error.ErrorKind.{ErrorKind}
+use Rattle.capnp_frame.specs.declared.error.ErrorKind.TheVariants.{PointerOutOfBounds, CapabilityRefused}
+use Rattle.capnp_wire.specs.Pointer.{words_of, kind}
+use Rattle.capnp_wire.specs.Element.{code_of, width, words_for}
+use Rattle.capnp_wire.specs.Object.{Begins, Lands, Landing, Object, Shape, struct_shape, numbers_shape, pointers_shape, structs_shape}
+use Rattle.capnp_wire.specs.PointerWord.{IsNearShape}
+use Rattle.capnp_wire.specs.declared.layout.Place.{Place}
+use Rattle.capnp_wire.specs.declared.layout.object.Body.{Body}
+use Rattle.capnp_wire.specs.declared.layout.object.Body.TheVariants.{Struct, Numbers, Pointers, Structs}
+use Rattle.capnp_wire.specs.declared.layout.landing.Landing.{Landing as ReadLanding}
+use Rattle.capnp_wire.specs.declared.layout.object.Object.{Object as ReadObject}
+
+-- a pointer leads there, by way of its pads
+pub record IsLanding (m : List (List ℕ)) (place : Place) (read : ReadLanding) : Type 0 where
+  pub landing : Landing
+  pub lands : Lands m place landing
+  pub number : landing.segment ≡ read.number
+  pub content : slice_get m landing.segment ≡ Some (words_of read.segment.now)
+  pub shape : IsNearShape landing.tag read.shape
+  pub start : MatchOption read.start ((start : ℕ) → Begins landing.origin landing.tag start → ⊥)
+      (λ start. Begins landing.origin landing.tag start)
+  pub pads : landing.pads ≡ read.pads
+  pub few_pads : landing.pads ≤ 2
+
+-- the object that stands at a place
+abbrev pub shape_of : List ℕ → Place → Body → Shape
+shape_of words start (Struct size) = struct_shape words start size.data_words size.pointers
+shape_of words start (Numbers elements count) = numbers_shape words start (code_of elements) count
+shape_of words start (Pointers count) = pointers_shape start count
+shape_of words start (Structs elements behind) =
+    structs_shape words start elements.size.data_words elements.size.pointers elements.count behind
+
+-- the words that it takes up, and those of them that its elements need
+abbrev pub room_of : Body → ℕ
+room_of (Struct size) = size.data_words + size.pointers
+room_of (Numbers elements count) = words_for count (width (code_of elements))
+room_of (Pointers count) = count
+room_of (Structs elements behind) = 1 + behind
+
+abbrev pub words_in : Body → ℕ
+words_in (Struct size) = size.data_words + size.pointers
+words_in (Numbers elements count) = words_for count (width (code_of elements))
+words_in (Pointers count) = count
+words_in (Structs elements behind) = 1 + elements.count * (elements.size.data_words + elements.size.pointers)
+
+-- what it is charged, without pads
+abbrev pub charge_of : Body → ℕ
+charge_of (Struct size) = size.data_words + size.pointers
+charge_of (Numbers elements count) = if code_of elements == 0 then count else words_for count (width (code_of elements))
+charge_of (Pointers count) = count
+charge_of (Structs elements behind) =
+    1 + behind + (if elements.size.data_words + elements.size.pointers == 0 then elements.count else 0)
+
+-- the object to which the pointer at a place leads
+pub record IsObject (m : List (List ℕ)) (place : Place) (read : ReadObject) : Type 0 where
+  pub content : slice_get m read.start.segment ≡ Some (words_of read.segment.now)
+  pub object : Object m place (record (shape_of (words_of read.segment.now) read.start read.body) { charge = read.charge })
+  pub room : read.start.word + room_of read.body ≤ length read.segment.now / 8
+  pub elements : words_in read.body ≤ room_of read.body
+  pub charge : charge_of read.body ≤ read.charge
+
+-- a word is no struct or list pointer, and how that is refused
+abbrev pub NotNear : ℕ → ErrorKind → Type 0
+NotNear word refusal =
+    ((kind word ≡ 2) × (refusal ≡ PointerOutOfBounds)) ⊎ ((kind word ≡ 3) × (refusal ≡ CapabilityRefused))

@@ -1,0 +1,12 @@
+pub mod Pointer
+pub mod Element
+pub mod Tree
+pub mod Trim
+pub mod Object
+pub mod PointerWord
+pub mod Landing
+pub mod Reached
+pub mod Charge
+pub mod Faults
+pub mod Views
+pub mod Readers

@@ -1,0 +1,29 @@
+-- The trees of a message: what stands at places, and all that it leads to.
+use Rattle.std.specs.Prelude.{ℕ, ◌+◌, List, [], ◌∷◌}
+use Rattle.capnp_wire.specs.Tree.{Form, Trees, none, tree}
+use Rattle.capnp_wire.specs.Object.{Shape, Object}
+use Rattle.capnp_wire.specs.declared.layout.Place.{Place}
+
+-- the trees at places, and what all their objects are charged, each as often as it is joined
+pub data At (m : List (List ℕ)) : List Place → Trees → ℕ → Type 0 where
+  nowhere : At m [] none 0
+  at : {place : Place} {others : List Place} {shape : Shape} {held rest : Trees} {inside behind : ℕ} → Object m place shape
+      → At m shape.held held inside → At m others rest behind
+      → At m (place ∷ others) (tree shape.form held rest) (shape.charge + inside + behind)
+
+abbrev pub root : Place
+root = record { segment = 0; word = 0 }
+
+-- the tree at the first word of the first segment
+abbrev pub Root : List (List ℕ) → Form → Trees → ℕ → Type 0
+Root m form held charge = At m (root ∷ []) (tree form held none) charge
+
+-- a place is one of some places
+pub data IsIn (place : Place) : List Place → Type 0 where
+  here : {others : List Place} → IsIn place (place ∷ others)
+  there : {other : Place} {others : List Place} → IsIn place others → IsIn place (other ∷ others)
+
+-- the object at a place holds a pointer to the other, or one that leads on to it
+pub data Below (m : List (List ℕ)) : Place → Place → Type 0 where
+  directly : {place inner : Place} {shape : Shape} → Object m place shape → IsIn inner shape.held → Below m place inner
+  further : {place middle inner : Place} → Below m place middle → Below m middle inner → Below m place inner

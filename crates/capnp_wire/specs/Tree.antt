@@ -1,0 +1,47 @@
+-- The values of messages.
+use Rattle.std.specs.Prelude.{ℕ, ◌+◌, ◌*◌, max, Bool, true, false, if◌then◌else◌, List, length}
+use Rattle.capnp_wire.specs.Element.{width, words_for}
+
+-- what an object holds beside the trees of its pointers; a null pointer holds nothing
+pub data Form : Type 0 where
+  null : Form
+  -- its data words
+  struct : List ℕ → Form
+  -- a list of code 0 to 5: its elements' bits, lowest first, as numbers
+  numbers : ℕ → List ℕ → Form
+  -- a list of pointers
+  pointers : Form
+  -- a list of structs: words of data and of pointers of each, and the data of each
+  structs : ℕ → ℕ → List (List ℕ) → Form
+
+-- Trees, one after the other: the form of the first, the trees that it holds, the trees behind it.
+-- A list of structs holds the trees of its elements in order.
+pub data Trees : Type 0 where
+  none : Trees
+  tree : Form → Trees → Trees → Trees
+
+abbrev pub count : Trees → ℕ
+count none = 0
+count (tree form held rest) = count rest + 1
+
+abbrev pub is_null : Form → Bool
+is_null null = true
+is_null _ = false
+
+-- the longest chain of objects, each held by the one before
+abbrev pub depth : Trees → ℕ
+depth none = 0
+depth (tree form held rest) = max (if is_null form then 0 else depth held + 1) (depth rest)
+
+-- the words of an object that holds n pointers: of a list of structs its tag and its elements
+abbrev pub own_words : Form → ℕ → ℕ
+own_words null n = 0
+own_words (struct words) n = length words + n
+own_words (numbers code values) n = words_for (length values) (width code)
+own_words pointers n = n
+own_words (structs d p rows) n = 1 + length rows * (d + p)
+
+-- the words of trees, without pads
+abbrev pub total_words : Trees → ℕ
+total_words none = 0
+total_words (tree form held rest) = own_words form (count held) + total_words held + total_words rest

@@ -1,0 +1,125 @@
+//! Readers of pointers.
+ghost use Rattle.std.specs.Prelude.{◌≡◌, ◌≢◌, ◌↔◌, ◌<◌, ◌^◌, ℕ, List, None, IfOk, IfErr, IsOk, IsTrue, MatchOption, MatchResult};
+ghost use Rattle.std.specs.Result.{IsErrAnd};
+ghost use Rattle.capnp_frame.specs.declared.error.ErrorKind.{ErrorKind};
+ghost use Rattle.capnp_frame.specs.declared.error.ErrorKind.TheVariants.{ReadLimitExceeded};
+ghost use Rattle.capnp_wire.specs.Object.{nothing};
+ghost use Rattle.capnp_wire.specs.Views.{Pointer, Denotes, Barred, LeadsAstray, Measures, Unmeasured};
+ghost use Rattle.capnp_wire.specs.Readers.{pointer_of, IsEntered};
+
+use crate::arena::ReaderArena;
+use crate::layout::Place;
+use crate::layout::landing::pointer_at;
+use crate::layout::object::{Object, object_at};
+use crate::layout::walk::Walk;
+use crate::message_size::MessageSize;
+use crate::traits::FromPointerReader;
+use capnp_frame::message::ReaderSegments;
+use capnp_frame::{Error, ErrorKind, Result};
+
+/// A pointer of a message. One that a struct does not have, past its pointers, is null.
+#[derive(Drop)]
+pub struct Reader<'a, S> {
+    pub(crate) arena: &'a ReaderArena<S>,
+    pub(crate) place: Option<Place>,
+    pub(crate) level: u32,
+}
+
+impl<'a, S: ReaderSegments> Reader<'a, S> {
+    /// Whether the pointer is null, and so leads to no object. Nothing is read beside its own word.
+    pub fn is_null(&self) -> bool
+        ensures { IsTrue result ↔ Denotes (pointer_of S.segments self.now) nothing }
+    {
+        match self.place {
+            None => true,
+            Some(place) => match pointer_at(&self.arena.segments, place) {
+                Ok(word) => word == 0,
+                Err(_) => false,
+            },
+        }
+    }
+
+    /// The size of the object behind the pointer with all below it, without the pads of far pointers.
+    ///
+    /// It is refused where the walk over these objects stops: as a view of one of them is, or by
+    /// `ReadLimitExceeded` where they come to more words than the traversal limit. The walk counts
+    /// from 0, and what is read of the message by views stays as it was. A size past 64 bits is
+    /// refused by `AllocationTooLarge(4294967295)`.
+    pub fn target_size(&self) -> Result<MessageSize>
+        ensures answer { let pointer = pointer_of S.segments self.now in MatchResult result
+            (λ size. Measures pointer size.word_count × (size.cap_count ≡ 0))
+            (λ error. Unmeasured pointer error.kind) }
+        ensures measured { (words : ℕ) → Measures (pointer_of S.segments self.now) words →
+            words < 2 ^ 64 → IsOk result }
+        ensures exact { (kind : ErrorKind) → Unmeasured (pointer_of S.segments self.now) kind →
+            IsErrAnd result (λ error. error.kind ≡ kind) }
+    {
+        self.measure()
+    }
+
+    // The size of all that the pointer leads to.
+    fn measure(&self) -> Result<MessageSize>
+        ensures answer { let pointer = pointer_of S.segments self.now in MatchResult result
+            (λ size. Measures pointer size.word_count × (size.cap_count ≡ 0))
+            (λ error. Unmeasured pointer error.kind) }
+        ensures bound { IfOk result (λ size. size.word_count < 2 ^ 64) }
+    {
+        let mut walk = Walk::new(self.arena.options.traversal_limit_in_words);
+        let Some(place) = self.place else {
+            return Ok(MessageSize {
+                word_count: 0,
+                cap_count: 0,
+            });
+        };
+        walk.walk(&self.arena.segments, place, self.level)?;
+        match walk.words() {
+            Some(word_count) => Ok(MessageSize {
+                word_count,
+                cap_count: 0,
+            }),
+            None => Err(Error::from_kind(ErrorKind::AllocationTooLarge(u32::MAX))),
+        }
+    }
+
+    /// The object behind the pointer as a view, which borrows it from the segments.
+    ///
+    /// A view is refused by `InvalidSegmentId`, `PointerOutOfBounds` or `CapabilityRefused` where the
+    /// pointer leads to no object, by `NestingLimitExceeded` where the object lies deeper than the
+    /// nesting limit, by `ReadLimitExceeded` where it would bring what is read past the traversal
+    /// limit, and else by `WrongPointerKind` or `TextNotTerminated` as the type of the view says.
+    pub fn get_as<T: FromPointerReader<'a, S>>(&self) -> Result<T>
+        ensures answer { let pointer = pointer_of S.segments self.now in
+            MatchResult result (λ view. T.shows pointer view) (λ error. T.refuses pointer error.kind) }
+        ensures found { let pointer = pointer_of S.segments self.now in
+            pointer.limit ≡ None → T.accepts pointer → IsOk result }
+        ensures unlimited { let pointer = pointer_of S.segments self.now in
+            pointer.limit ≡ None → IfErr result (λ error. error.kind ≢ ReadLimitExceeded) }
+        // Where no object stands, and the pointer itself is no view, whatever was read before.
+        ensures exact { let pointer = pointer_of S.segments self.now in
+            (kind : ErrorKind) → LeadsAstray pointer kind → (T.accepts pointer → ⊥) →
+            IsErrAnd result (λ error. error.kind ≡ kind) }
+    {
+        T::get_from_pointer(Reader {
+            arena: self.arena,
+            place: self.place,
+            level: self.level,
+        })
+    }
+
+    /// The object that the pointer leads to, once it is charged; `None` for null.
+    pub(crate) fn enter(&self) -> Result<Option<Object<'a>>>
+        ensures found { let pointer = pointer_of S.segments self.now in
+            IfOk result (λ found. MatchOption found (Denotes pointer nothing) (λ object. IsEntered pointer object)) }
+        ensures refused { IfErr result (λ error. Barred (pointer_of S.segments self.now) error.kind) }
+    {
+        let Some(place) = self.place else {
+            return Ok(None);
+        };
+        let arena = self.arena;
+        let Some(object) = object_at(&arena.segments, place, self.level)? else {
+            return Ok(None);
+        };
+        arena.charge(object.charge)?;
+        Ok(Some(object))
+    }
+}

@@ -1,0 +1,37 @@
+//! The elements of lists of numbers.
+ghost use Rattle.std.specs.Prelude.{◌≡◌, ◌<◌};
+ghost use Rattle.capnp_wire.specs.Element.{code_of, width, words_for};
+
+/// How many bits an element of a list of numbers has.
+#[derive(Clone, Copy, Debug, PartialEq, Eq)]
+pub(crate) enum ElementSize {
+    Void,
+    Bit,
+    Byte,
+    TwoBytes,
+    FourBytes,
+    EightBytes,
+}
+
+impl ElementSize {
+    pub(crate) fn bits(self) -> u64
+        ensures bits { result ≡ width (code_of self) }
+        ensures few { result < 65 }
+    {
+        match self {
+            ElementSize::Void => 0,
+            ElementSize::Bit => 1,
+            ElementSize::Byte => 8,
+            ElementSize::TwoBytes => 16,
+            ElementSize::FourBytes => 32,
+            ElementSize::EightBytes => 64,
+        }
+    }
+
+    /// The words of a list of so many elements.
+    pub(crate) fn words_of_list(self, count: u32) -> u64
+        ensures { result ≡ words_for count (width (code_of self)) }
+    {
+        (count as u64 * self.bits()).div_ceil(64)
+    }
+}

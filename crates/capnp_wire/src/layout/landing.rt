@@ -1,0 +1,147 @@
+//! Where pointers lead, by way of pads.
+ghost use Rattle.std.specs.Prelude.{◌≡◌, ◌+◌, ◌*◌, ◌/◌, ◌^◌, ◌<◌, ℕ, List, slice_get, Some, None, IfOk, IfErr, MatchOption, MatchResult, false};
+ghost use Rattle.capnp_frame.specs.declared.error.ErrorKind.{ErrorKind};
+ghost use Rattle.capnp_wire.specs.Pointer.{words_of};
+ghost use Rattle.capnp_wire.specs.PointerWord.{IsNear, IsFarPointer};
+ghost use Rattle.capnp_wire.specs.Object.{message_of, word_at};
+ghost use Rattle.capnp_wire.specs.Landing.{IsLanding, NotNear};
+ghost use Rattle.capnp_wire.specs.Faults.{NoWord, BadPad, Fault};
+ghost use Rattle.capnp_wire.specs.declared.layout.Place.{Place};
+ghost use Rattle.capnp_wire.specs.declared.layout.pointer.FarPointer.{FarPointer};
+
+use crate::layout::Place;
+use crate::layout::pointer::{FarPointer, NearPointer, NearShape, PointerWord, word};
+use capnp_frame::message::ReaderSegments;
+use capnp_frame::{Error, ErrorKind, Result};
+
+/// Where an object begins, if its pointer doesn't lead to before the segment, and what its tag says.
+#[derive(Drop)]
+pub(crate) struct Landing<'a> {
+    pub segment: &'a [u8],
+    pub number: u32,
+    pub start: Option<usize>,
+    pub shape: NearShape,
+    pub pads: u64,
+}
+
+/// The pointer word at a place.
+pub(crate) fn pointer_at<S: ReaderSegments>(segments: &S, place: Place) -> Result<u64>
+    ensures { let m = message_of (S.segments segments.now) in
+        MatchResult result (λ word. word_at m place ≡ Some word) (λ error. NoWord m place error.kind) }
+{
+    let segment = segment(segments, place.segment)?;
+    let word = existing_word(segment, place.word)?;
+    Ok(word)
+}
+
+/// Where the pointer at a place leads; `None` for null.
+pub(crate) fn land<S: ReaderSegments>(segments: &S, place: Place) -> Result<Option<Landing<'_>>>
+    ensures found { let m = message_of (S.segments segments.now) in
+        IfOk result (λ found. MatchOption found (word_at m place ≡ Some 0) (λ landing. IsLanding m place landing)) }
+    ensures refused { IfErr result (λ error. (level : ℕ) →
+        Fault (message_of (S.segments segments.now)) place level error.kind) }
+{
+    let segment = segment(segments, place.segment)?;
+    let pointer = existing_word(segment, place.word)?;
+    if pointer == 0 {
+        return Ok(None);
+    }
+    match PointerWord::read(pointer) {
+        PointerWord::Near(near) => Ok(Some(land_near(segment, place, near, 0))),
+        PointerWord::Far(far) => Ok(Some(land_far(segments, far)?)),
+        PointerWord::Other => Err(Error::from_kind(ErrorKind::CapabilityRefused)),
+    }
+}
+
+// Where a struct or list pointer leads that stands at a place of this segment.
+fn land_near(segment: &[u8], place: Place, near: NearPointer, pads: u64) -> Landing<'_>
+    requires offset { near.offset.0 < 2 ^ 30 }
+    requires place { place.word < 2 ^ 61 }
+    ensures segment { result.segment.now ≡ segment.now }
+    ensures number { result.number ≡ place.segment }
+    ensures shape { result.shape ≡ near.shape }
+    ensures pads { result.pads ≡ pads }
+    ensures start { let leads_to = λ (start : ℕ). start + 2 ^ 30 * (near.offset.0 / 2 ^ 29) ≡ place.word + 1 + near.offset.0 in
+        MatchOption result.start ((start : ℕ) → leads_to start → ⊥) leads_to }
+{
+    Landing {
+        segment,
+        number: place.segment,
+        start: near.offset.target(place.word),
+        shape: near.shape,
+        pads,
+    }
+}
+
+// Where a far pointer leads.
+fn land_far<S: ReaderSegments>(segments: &S, far: FarPointer) -> Result<Landing<'_>>
+    ensures found { let m = message_of (S.segments segments.now) in
+        IfOk result (λ landing. (place : Place) (word : ℕ) → word_at m place ≡ Some word →
+        IsFarPointer word far → IsLanding m place landing) }
+    ensures refused { IfErr result (λ error. (word : ℕ) → IsFarPointer word far →
+        BadPad (message_of (S.segments segments.now)) word error.kind) }
+{
+    let pad = segment(segments, far.pad.segment)?;
+    let first = existing_word(pad, far.pad.word)?;
+    if !far.is_wide {
+        let near = near_pointer(first)?;
+        return Ok(land_near(pad, far.pad, near, 1));
+    }
+    let tag = existing_word(pad, far.pad.word + 1)?;
+    let content = content_pointer(first)?;
+    let segment = segment(segments, content.segment)?;
+    let near = near_pointer(tag)?;
+    Ok(Landing {
+        segment,
+        number: content.segment,
+        start: Some(content.word),
+        shape: near.shape,
+        pads: 2,
+    })
+}
+
+// What the first word of a pad of two words says: where the content is.
+fn content_pointer(first: u64) -> Result<Place>
+    ensures { let is_far = λ (far : FarPointer). IsFarPointer first far × (far.is_wide ≡ false) in
+        MatchResult result (λ place. (far : FarPointer) × is_far far × (place ≡ far.pad))
+        (λ error. ((far : FarPointer) → is_far far → ⊥) × (error.kind ≡ ErrorKind.PointerOutOfBounds)) }
+{
+    match PointerWord::read(first) {
+        PointerWord::Far(far) if !far.is_wide => Ok(far.pad),
+        _ => Err(Error::from_kind(ErrorKind::PointerOutOfBounds)),
+    }
+}
+
+// A struct or list pointer.
+fn near_pointer(word: u64) -> Result<NearPointer>
+    ensures found { IfOk result (λ near. IsNear word near) }
+    ensures refused { IfErr result (λ error. NotNear word error.kind) }
+{
+    match PointerWord::read(word) {
+        PointerWord::Near(near) => Ok(near),
+        PointerWord::Far(_) => Err(Error::from_kind(ErrorKind::PointerOutOfBounds)),
+        PointerWord::Other => Err(Error::from_kind(ErrorKind::CapabilityRefused)),
+    }
+}
+
+fn segment<S: ReaderSegments>(segments: &S, number: u32) -> Result<&[u8]>
+    ensures { let found = slice_get (S.segments segments.now) number in
+        MatchResult result (λ bytes. found ≡ Some bytes.now)
+        (λ error. (found ≡ None) × (error.kind ≡ ErrorKind.InvalidSegmentId number)) }
+{
+    match segments.get_segment(number) {
+        Some(bytes) => Ok(bytes),
+        None => Err(Error::from_kind(ErrorKind::InvalidSegmentId(number))),
+    }
+}
+
+pub(crate) fn existing_word(segment: &[u8], index: usize) -> Result<u64>
+    ensures { let found = slice_get (words_of segment.now) index in
+        MatchResult result (λ word. (found ≡ Some word) × (index < 2 ^ 61))
+        (λ error. (found ≡ None) × (error.kind ≡ ErrorKind.PointerOutOfBounds)) }
+{
+    match word(segment, index) {
+        Some(word) => Ok(word),
+        None => Err(Error::from_kind(ErrorKind::PointerOutOfBounds)),
+    }
+}

@@ -1,0 +1,177 @@
+//! Pointer words.
+ghost use Rattle.std.specs.Prelude.{◌≡◌, ◌+◌, ◌*◌, ◌/◌, ◌%◌, ◌^◌, ◌<◌, ℕ, length, slice_get, Some, OnSome, MatchOption, MatchResult};
+ghost use Rattle.capnp_wire.specs.Pointer.{words_of, kind, code, offset};
+ghost use Rattle.capnp_wire.specs.PointerWord.{IsPointerWord, IsNearShape, IsElementsTag};
+
+use crate::layout::Place;
+use crate::layout::element::ElementSize;
+
+/// What a word says that isn't null.
+#[derive(Clone, Copy)]
+pub(crate) enum PointerWord {
+    Near(NearPointer),
+    Far(FarPointer),
+    /// A capability, or what else there may be one day.
+    Other,
+}
+
+/// A struct or list pointer.
+#[derive(Clone, Copy)]
+pub(crate) struct NearPointer {
+    pub offset: Offset,
+    pub shape: NearShape,
+}
+
+/// A number of words with a sign, in 30 bits.
+#[derive(Clone, Copy)]
+pub(crate) struct Offset(pub u32);
+
+/// What a struct or list pointer leads to.
+#[derive(Clone, Copy)]
+pub(crate) enum NearShape {
+    Struct(StructSize),
+    Numbers(ElementSize, u32),
+    Pointers(u32),
+    /// A list of structs, by the words of its elements.
+    Structs(u32),
+}
+
+/// The words of a struct.
+#[derive(Clone, Copy)]
+pub(crate) struct StructSize {
+    pub data_words: u16,
+    pub pointers: u16,
+}
+
+/// The elements of a list of structs.
+#[derive(Clone, Copy)]
+pub(crate) struct Elements {
+    pub size: StructSize,
+    pub count: u32,
+}
+
+/// Where the pad of a far pointer is, and whether it has two words.
+#[derive(Clone, Copy)]
+pub(crate) struct FarPointer {
+    pub pad: Place,
+    pub is_wide: bool,
+}
+
+impl PointerWord {
+    pub(crate) fn read(word: u64) -> PointerWord
+        ensures { IsPointerWord word result }
+    {
+        match word % 4 {
+            0 => PointerWord::Near(NearPointer {
+                offset: Offset::read(word),
+                shape: NearShape::Struct(StructSize::read(word)),
+            }),
+            1 => PointerWord::Near(NearPointer {
+                offset: Offset::read(word),
+                shape: list_shape(word),
+            }),
+            2 => PointerWord::Far(FarPointer {
+                pad: Place {
+                    segment: (word / (1 << 32)) as u32,
+                    word: (word / 8 % (1 << 29)) as usize,
+                },
+                is_wide: word / 4 % 2 == 1,
+            }),
+            _ => PointerWord::Other,
+        }
+    }
+}
+
+impl Offset {
+    fn read(word: u64) -> Offset
+        ensures { result.0 ≡ offset word }
+    {
+        Offset((word / 4 % (1 << 30)) as u32)
+    }
+
+    /// The word at which the target of a pointer begins that stands at a word of the same segment.
+    pub(crate) fn target(self, word: usize) -> Option<usize>
+        requires bits { self.0 < 2 ^ 30 }
+        requires place { word < 2 ^ 61 }
+        ensures { let leads_to = λ (start : ℕ). start + 2 ^ 30 * (self.0 / 2 ^ 29) ≡ word + 1 + self.0 in
+            MatchOption result ((start : ℕ) → leads_to start → ⊥) leads_to }
+    {
+        let ahead = word + 1 + self.0 as usize;
+        if self.0 < 1 << 29 {
+            Some(ahead)
+        } else {
+            ahead.checked_sub(1 << 30)
+        }
+    }
+}
+
+impl StructSize {
+    pub(crate) fn read(word: u64) -> StructSize
+        ensures data { result.data_words ≡ word / 2 ^ 32 % 2 ^ 16 }
+        ensures pointers { result.pointers ≡ word / 2 ^ 48 }
+    {
+        StructSize {
+            data_words: (word / (1 << 32) % (1 << 16)) as u16,
+            pointers: (word / (1 << 48)) as u16,
+        }
+    }
+
+    pub(crate) fn words(self) -> u64
+        ensures { result ≡ self.data_words + self.pointers }
+    {
+        self.data_words as u64 + self.pointers as u64
+    }
+}
+
+impl Elements {
+    /// What the tag in front of the elements says; `None` where it isn't shaped like a struct pointer.
+    pub(crate) fn read(tag: u64) -> Option<Elements>
+        ensures { MatchOption result (0 < kind tag) (λ elements. IsElementsTag tag elements) }
+    {
+        if tag % 4 != 0 {
+            return None;
+        }
+        Some(Elements {
+            size: StructSize::read(tag),
+            count: Offset::read(tag).0,
+        })
+    }
+
+    /// The words of all elements.
+    pub(crate) fn words(self) -> u64
+        ensures words { result ≡ self.count * (self.size.data_words + self.size.pointers) }
+        ensures bound { result < 2 ^ 50 }
+    {
+        self.count as u64 * self.size.words()
+    }
+}
+
+// What a list pointer leads to.
+fn list_shape(word: u64) -> NearShape
+    requires { kind word ≡ 1 }
+    ensures { IsNearShape word result }
+{
+    let count = (word / (1 << 35)) as u32;
+    match word / (1 << 32) % 8 {
+        0 => NearShape::Numbers(ElementSize::Void, count),
+        1 => NearShape::Numbers(ElementSize::Bit, count),
+        2 => NearShape::Numbers(ElementSize::Byte, count),
+        3 => NearShape::Numbers(ElementSize::TwoBytes, count),
+        4 => NearShape::Numbers(ElementSize::FourBytes, count),
+        5 => NearShape::Numbers(ElementSize::EightBytes, count),
+        6 => NearShape::Pointers(count),
+        _ => NearShape::Structs(count),
+    }
+}
+
+/// A word of a segment.
+pub(crate) fn word(segment: &[u8], index: usize) -> Option<u64>
+    ensures value { result ≡ slice_get (words_of segment.now) index }
+    ensures within { OnSome result (index < length segment.now / 8) }
+{
+    let (words, _) = segment.as_chunks::<8>();
+    match words.get(index) {
+        Some(word) => Some(u64::from_le_bytes(*word)),
+        None => None,
+    }
+}

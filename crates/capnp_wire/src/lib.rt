@@ -1,0 +1,24 @@
+//! Objects of Cap'n Proto messages, read in place from the segments of a message.
+//!
+//! A [`ReaderArena`](arena::ReaderArena) holds the segments. From its root pointer on,
+//! [`any_pointer::Reader`] gives views of what pointers lead to: text, data, lists of numbers and
+//! structs, which borrow from the segments and take no memory. Whatever stands in the segments, a call
+//! answers a view of what stands there by the [encoding document], or says what is wrong there.
+//!
+//! [encoding document]: https://capnproto.org/encoding.html
+#![tactic(auto)]
+
+pub mod any_pointer;
+pub mod any_struct;
+pub mod arena;
+pub mod data;
+pub mod laws;
+mod layout;
+mod message_size;
+pub mod primitive_list;
+#[cfg(test)]
+mod tests;
+pub mod text;
+pub mod traits;
+
+pub use message_size::MessageSize;

@@ -1,0 +1,10 @@
+//! Sizes of what pointers lead to.
+
+/// The size of an object with all below it.
+#[derive(Clone, Copy, Debug)]
+pub struct MessageSize {
+    /// The number of words.
+    pub word_count: u64,
+    /// The number of capabilities, which is 0: a message with one is refused.
+    pub cap_count: u32,
+}
