@@ -1,5 +1,5 @@
 //! The segments that readers read.
-ghost use Rattle.std.specs.Prelude.{◌≡◌, ◌≢◌, ◌<◌, ◌^◌, ◌-◌, ℕ, List, length, min, Some, None, slice_get, IfErr, IsOk, MatchResult};
+ghost use Rattle.std.specs.Prelude.{◌≡◌, ◌≢◌, ◌<◌, ◌^◌, ◌-◌, ℕ, List, length, min, Some, None, slice_get, IfOk, IfErr, IsOk, MatchResult};
 ghost use Rattle.capnp_frame.specs.Message.{size_in_words};
 ghost use Rattle.capnp_frame.specs.declared.error.ErrorKind.{ErrorKind};
 ghost use Rattle.capnp_wire.specs.Object.{message_of, word_at};
@@ -36,7 +36,7 @@ impl<S: ReaderSegments> ReaderArena<S> {
 
     /// The root pointer, which is the first word of the first segment.
     pub fn get_root(&self) -> Result<any_pointer::Reader<'_, S>>
-        ensures { let m = message_of (S.segments self.now.segments) in
+        ensures answer { let m = message_of (S.segments self.now.segments) in
             MatchResult result
             (λ reader. pointer_of S.segments reader ≡ record {
               message = m;
@@ -45,6 +45,8 @@ impl<S: ReaderSegments> ReaderArena<S> {
               limit = self.now.options.traversal_limit_in_words;
             })
             (λ error. NoWord m root error.kind) }
+        ensures stands { IfOk result (λ reader. (word : ℕ)
+            × (word_at (message_of (S.segments self.now.segments)) root ≡ Some word)) }
     {
         let place = Place {
             segment: 0,
