@@ -48,7 +48,15 @@ refused_not_accepted form limit kind bytes count refused a =
     let first = first_end_within form count some in
     let lens = lengths_within form count in
     let room = a.room in
-    Unless-after (λ none. absurd (omega (arith, ap length none))) (Unless-after (λ short. absurd (omega arith)) (λ x. Unless-after (in_range count some a.few) (Unless-after (λ short. absurd (omega arith)) (Unless-after (within_limit (told_lengths count bytes) limit a.keeps) (Unless-after (λ short. absurd (omega arith)) (λ cuts. let short = cuts.0 in absurd (omega arith))))) (subst (λ k. Unless (IsOutOfRange k) (kind ≡ InvalidNumberOfSegments k) (Unless (length bytes < lengths_end form k) (kind ≡ cut_kind form (length bytes)) (RefusesLengths form limit kind bytes k (told_lengths k bytes)))) told x))) refused
+    Unless-after (λ none. absurd (omega (arith, ap length none)))
+    (Unless-after (λ short. absurd (omega arith))
+    (λ x. Unless-after (in_range count some a.few)
+    (Unless-after (λ short. absurd (omega arith))
+    (Unless-after (within_limit (told_lengths count bytes) limit a.keeps)
+    (Unless-after (λ short. absurd (omega arith)) (λ cuts. let short = cuts.0 in absurd (omega arith)))))
+    (subst (λ k. Unless (IsOutOfRange k) (kind ≡ InvalidNumberOfSegments k)
+    (Unless (length bytes < lengths_end form k) (kind ≡ cut_kind form (length bytes))
+    (RefusesLengths form limit kind bytes k (told_lengths k bytes)))) told x))) refused
 
 -- the limit is kept or passed
 limit_cases : (ns : List ℕ) (limit : Option ℕ) → IsTooLarge ns limit ⊎ KeepsLimit ns limit
@@ -71,21 +79,34 @@ number_fits (a ∷ b ∷ c ∷ d ∷ bytes) each long =
     omega arith
 
 -- behind the limit: the padding and the segments
-behind_limit : (form : FlatForm) (limit : Option ℕ) (bytes : List ℕ) (count : ℕ) → count_end form ≤ length bytes → number bytes + 1 ≡ count → count < 512 → lengths_end form count ≤ length bytes → KeepsLimit (told_lengths count bytes) limit → Refused form limit bytes ⊎ Accepts limit bytes count
+behind_limit : (form : FlatForm) (limit : Option ℕ) (bytes : List ℕ) (count : ℕ) → count_end form ≤ length bytes
+    → number bytes + 1 ≡ count → count < 512 → lengths_end form count ≤ length bytes
+    → KeepsLimit (told_lengths count bytes) limit → Refused form limit bytes ⊎ Accepts limit bytes count
 behind_limit form limit bytes count first told few lens keeps =
     let counted : count_of form (number bytes) ≡ count = count_within form (number bytes) (omega arith) ∙ told in
     let some : 0 < count = omega arith in
     let start = first_end_some form in
     elim (cases_lt (length bytes) (table_size count)) [
-      | inl short ↦ inl (cut_kind form (length bytes), past_lengths form limit (cut_kind form (length bytes)) bytes count first start counted some few lens (inr (within_limit (told_lengths count bytes) limit keeps, inl (short, refl))))
+      | inl short ↦ inl (
+        cut_kind form (length bytes),
+        past_lengths form limit (cut_kind form (length bytes)) bytes count first start counted some few lens
+            (inr (within_limit (told_lengths count bytes) limit keeps, inl (short, refl))),
+      )
       | inr table ↦ elim (cases_lt (length bytes) (table_size count + 8 * sum (told_lengths count bytes))) [
-        | inl short ↦ inl (MessageEndsPrematurely (sum (told_lengths count bytes)) ((length bytes - table_size count) / 8), past_lengths form limit (MessageEndsPrematurely (sum (told_lengths count bytes)) ((length bytes - table_size count) / 8)) bytes count first start counted some few lens (cut_segments form limit bytes count (sum (told_lengths count bytes)) keeps table refl short))
+        | inl short ↦ inl (
+          MessageEndsPrematurely (sum (told_lengths count bytes))
+              ((length bytes - table_size count) / 8),
+          past_lengths form limit (MessageEndsPrematurely (sum (told_lengths count bytes))
+              ((length bytes - table_size count) / 8)) bytes count first start counted some few lens
+              (cut_segments form limit bytes count (sum (told_lengths count bytes)) keeps table refl short),
+        )
         | inr room ↦ inr (record { counted = told; few = few; keeps = keeps; room = room })
       ]
     ]
 
 -- behind the number of segments
-behind_count : (form : FlatForm) (limit : Option ℕ) (bytes : List ℕ) (count : ℕ) → count_end form ≤ length bytes → number bytes + 1 ≡ count → count < 512 → Refused form limit bytes ⊎ Accepts limit bytes count
+behind_count : (form : FlatForm) (limit : Option ℕ) (bytes : List ℕ) (count : ℕ) → count_end form ≤ length bytes
+    → number bytes + 1 ≡ count → count < 512 → Refused form limit bytes ⊎ Accepts limit bytes count
 behind_count form limit bytes count first told few =
     let counted : count_of form (number bytes) ≡ count = count_within form (number bytes) (omega arith) ∙ told in
     let some : 0 < count = omega arith in
@@ -93,7 +114,11 @@ behind_count form limit bytes count first told few =
     elim (cases_lt (length bytes) (lengths_end form count)) [
       | inl short ↦ inl (cut_kind form (length bytes), cut_lengths form limit bytes count first start counted some few short)
       | inr lens ↦ elim (limit_cases (told_lengths count bytes) limit) [
-        | inl over ↦ inl (MessageTooLarge (sum (told_lengths count bytes)), past_lengths form limit (MessageTooLarge (sum (told_lengths count bytes))) bytes count first start counted some few lens (inl (over, refl)))
+        | inl over ↦ inl (
+          MessageTooLarge (sum (told_lengths count bytes)),
+          past_lengths form limit (MessageTooLarge (sum (told_lengths count bytes))) bytes count first start counted
+              some few lens (inl (over, refl)),
+        )
         | inr keeps ↦ behind_limit form limit bytes count first told few lens keeps
       ]
     ]
@@ -108,7 +133,11 @@ refused_or_accepted form limit (byte ∷ bytes) each =
       | inl short ↦ inl (cut_kind form (length all), cut_first form limit all (omega arith) short)
       | inr first ↦ elim (cases_lt (number all + 1) 512) [
         | inl few ↦ behind_count form limit all (number all + 1) first refl few
-        | inr many ↦ inl (InvalidNumberOfSegments (count_of form (number all)), count_out form limit all (count_of form (number all)) first start refl (count_past form (number all) many (number_fits all each (omega arith))))
+        | inr many ↦ inl (
+          InvalidNumberOfSegments (count_of form (number all)),
+          count_out form limit all (count_of form (number all)) first start refl
+              (count_past form (number all) many (number_fits all each (omega arith))),
+        )
       ]
     ]
   where
@@ -116,7 +145,9 @@ refused_or_accepted form limit (byte ∷ bytes) each =
     first_least (by_words empty) = omega arith
     first_least by_fields = omega arith
 
-pub flat_agree : (form other : FlatForm) (limit : Option ℕ) (kind : ErrorKind) (bytes : List ℕ) → AllByRecursion (λ byte. byte < 256) bytes → RefusesFlat form limit kind bytes → (own : ErrorKind) × RefusesFlat other limit own bytes
+pub flat_agree : (form other : FlatForm) (limit : Option ℕ) (kind : ErrorKind) (bytes : List ℕ)
+    → AllByRecursion (λ byte. byte < 256) bytes → RefusesFlat form limit kind bytes → (own : ErrorKind)
+    × RefusesFlat other limit own bytes
 flat_agree form other limit kind bytes each refused = elim (refused_or_accepted other limit bytes each) [
   | inl met ↦ met
   | inr accepts ↦ absurd (refused_not_accepted form limit kind bytes (number bytes + 1) refused accepts)

@@ -9,9 +9,9 @@ use Rattle.capnp_frame.specs.SegmentTable.{field, table_size}
 use Rattle.capnp_frame.specs.Limits.{KeepsLimit, IsWithin}
 use Rattle.capnp_frame.specs.Source.{Splits, RunsShort}
 use Rattle.capnp_frame.specs.Requests.{TableStands}
-use Rattle.capnp_frame.specs.Refusals.{Unless, Asks, Stops, LacksRoom, MeetsLimit, IsOutOfRange, RefusesTable}
+use Rattle.capnp_frame.specs.Refusals.{Unless, Asks, Tells, CountStands, StopsBy, LacksRoom, RefusesAtLimit, IsOutOfRange, RefusesTable}
 use Rattle.capnp_frame.specs.Front.{HasFrame, number, told_lengths}
-use Rattle.capnp_frame.specs.FlatRefusals.{FlatForm, by_words, by_fields, cut_kind, count_end, count_of, lengths_end, CutsSegments, RefusesLengths, RefusesCount, RefusesFlat}
+use Rattle.capnp_frame.specs.FlatRefusals.{FlatForm, by_words, by_fields, cut_kind, count_end, count_of, AcceptsCount, lengths_end, CutsSegments, RefusesLengths, RefusesCount, RefusesFlat}
 use Rattle.capnp_frame.proofs.TableLemmas.{count_told}
 use Rattle.capnp_frame.proofs.FrameLemmas.{length-table}
 use Rattle.capnp_frame.proofs.FrontLemmas.{number-field, Told, told_from_table, held_from_begins}
@@ -27,7 +27,9 @@ RefusesFlat-once form limit kind other bytes =
 
 -- the lines behind a test that fails
 
-past_empty : (form : FlatForm) (limit : Option ℕ) (kind : ErrorKind) (bytes : List ℕ) → count_end form ≤ length bytes → 0 < count_end form → RefusesCount form limit kind bytes (count_of form (number bytes)) → RefusesFlat form limit kind bytes
+past_empty : (form : FlatForm) (limit : Option ℕ) (kind : ErrorKind) (bytes : List ℕ) → count_end form ≤ length bytes
+    → 0 < count_end form → RefusesCount form limit kind bytes (count_of form (number bytes))
+    → RefusesFlat form limit kind bytes
 past_empty form limit kind bytes there some after = inr (λ none. absurd (omega (arith, ap length none)), inr (λ short. absurd (omega arith), after))
 
 -- the first field, or the first word, is cut
@@ -35,24 +37,49 @@ pub cut_first : (form : FlatForm) (limit : Option ℕ) (bytes : List ℕ) → 0 
 cut_first form limit bytes some short = inr (λ none. absurd (omega (arith, ap length none)), inl (short, refl))
 
 -- the number of segments is out of range
-pub count_out : (form : FlatForm) (limit : Option ℕ) (bytes : List ℕ) (count : ℕ) → count_end form ≤ length bytes → 0 < count_end form → count_of form (number bytes) ≡ count → IsOutOfRange count → RefusesFlat form limit (InvalidNumberOfSegments count) bytes
-count_out form limit bytes count there some is out = past_empty form limit (InvalidNumberOfSegments count) bytes there some (subst (RefusesCount form limit (InvalidNumberOfSegments count) bytes) (sym is) (inl (out, refl)))
+pub count_out : (form : FlatForm) (limit : Option ℕ) (bytes : List ℕ) (count : ℕ) → count_end form ≤ length bytes
+    → 0 < count_end form → count_of form (number bytes) ≡ count → IsOutOfRange count
+    → RefusesFlat form limit (InvalidNumberOfSegments count) bytes
+count_out form limit bytes count there some is out = past_empty form limit (InvalidNumberOfSegments count) bytes there
+    some (subst (RefusesCount form limit (InvalidNumberOfSegments count) bytes) (sym is) (inl (out, refl)))
 
 -- the lengths are cut
-pub cut_lengths : (form : FlatForm) (limit : Option ℕ) (bytes : List ℕ) (count : ℕ) → count_end form ≤ length bytes → 0 < count_end form → count_of form (number bytes) ≡ count → 0 < count → count < 512 → length bytes < lengths_end form count → RefusesFlat form limit (cut_kind form (length bytes)) bytes
-cut_lengths form limit bytes count there first is some few short = past_empty form limit (cut_kind form (length bytes)) bytes there first (subst (RefusesCount form limit (cut_kind form (length bytes)) bytes) (sym is) (inr (in_range count some few, inl (short, refl))))
+pub cut_lengths : (form : FlatForm) (limit : Option ℕ) (bytes : List ℕ) (count : ℕ) → count_end form ≤ length bytes
+    → 0 < count_end form → count_of form (number bytes) ≡ count → 0 < count → count < 512
+    → length bytes < lengths_end form count → RefusesFlat form limit (cut_kind form (length bytes)) bytes
+cut_lengths form limit bytes count there first is some few short = past_empty form limit (cut_kind form (length bytes))
+    bytes there first (subst (RefusesCount form limit (cut_kind form (length bytes)) bytes) (sym is)
+    (inr (in_range count some few, inl (short, refl))))
 
 -- what is met behind the lengths
-pub past_lengths : (form : FlatForm) (limit : Option ℕ) (kind : ErrorKind) (bytes : List ℕ) (count : ℕ) → count_end form ≤ length bytes → 0 < count_end form → count_of form (number bytes) ≡ count → 0 < count → count < 512 → lengths_end form count ≤ length bytes → RefusesLengths form limit kind bytes count (told_lengths count bytes) → RefusesFlat form limit kind bytes
-past_lengths form limit kind bytes count there first is some few all after = past_empty form limit kind bytes there first (subst (RefusesCount form limit kind bytes) (sym is) (inr (in_range count some few, inr (λ short. absurd (omega arith), after))))
+pub past_lengths : (form : FlatForm) (limit : Option ℕ) (kind : ErrorKind) (bytes : List ℕ) (count : ℕ)
+    → count_end form ≤ length bytes → 0 < count_end form → count_of form (number bytes) ≡ count → 0 < count
+    → count < 512 → lengths_end form count ≤ length bytes
+    → RefusesLengths form limit kind bytes count (told_lengths count bytes) → RefusesFlat form limit kind bytes
+past_lengths form limit kind bytes count there first is some few all after = past_empty form limit kind bytes there
+    first (subst (RefusesCount form limit kind bytes) (sym is)
+    (inr (in_range count some few, inr (λ short. absurd (omega arith), after))))
 
 -- the segments are cut
-pub cut_segments : (form : FlatForm) (limit : Option ℕ) (bytes : List ℕ) (count total : ℕ) → KeepsLimit (told_lengths count bytes) limit → table_size count ≤ length bytes → total ≡ sum (told_lengths count bytes) → length bytes < table_size count + 8 * total → RefusesLengths form limit (MessageEndsPrematurely total ((length bytes - table_size count) / 8)) bytes count (told_lengths count bytes)
+pub cut_segments : (form : FlatForm) (limit : Option ℕ) (bytes : List ℕ) (count total : ℕ)
+    → KeepsLimit (told_lengths count bytes) limit → table_size count ≤ length bytes
+    → total ≡ sum (told_lengths count bytes) → length bytes < table_size count + 8 * total
+    → RefusesLengths form limit (MessageEndsPrematurely total ((length bytes - table_size count) / 8)) bytes count
+    (told_lengths count bytes)
 cut_segments form limit bytes count total keeps room is short =
-    inr (within_limit (told_lengths count bytes) limit keeps, inr (λ cut. absurd (omega arith), subst (CutsSegments (MessageEndsPrematurely total ((length bytes - table_size count) / 8)) bytes count) is (short, refl)))
+    inr (
+      within_limit (told_lengths count bytes) limit keeps,
+      inr (
+        λ cut. absurd (omega arith),
+        subst (CutsSegments
+            (MessageEndsPrematurely total ((length bytes - table_size count) / 8)) bytes count) is (short, refl),
+      ),
+    )
 
 -- a message that stands at the front and is accepted isn't refused
-pub RefusesFlat-apart : (form : FlatForm) (limit : Option ℕ) (kind : ErrorKind) (bytes : List ℕ) (segments : List (List ℕ)) (rest : List ℕ) → HasFrame bytes segments rest → IsWithin segments limit → RefusesFlat form limit kind bytes → ⊥
+pub RefusesFlat-apart : (form : FlatForm) (limit : Option ℕ) (kind : ErrorKind) (bytes : List ℕ)
+    (segments : List (List ℕ)) (rest : List ℕ) → HasFrame bytes segments rest → IsWithin segments limit
+    → RefusesFlat form limit kind bytes → ⊥
 RefusesFlat-apart form limit kind bytes segments rest begins within =
     let held = held_from_begins bytes segments rest limit begins within in
     let count = length segments in
@@ -67,7 +94,10 @@ RefusesFlat-apart form limit kind bytes segments rest begins within =
     Unless-after (λ none. absurd (omega (arith, ap length none)))
     (Unless-after (λ short. absurd (omega arith)) (λ x.
     let counted_so : RefusesCount form limit kind bytes count = subst (RefusesCount form limit kind bytes) told_count x in
-    Unless-after (in_range count some few) (Unless-after (λ short. absurd (omega arith)) (Unless-after (within_limit (told_lengths count bytes) limit keeps) (Unless-after (λ short. absurd (omega arith)) (λ cuts. let short = cuts.0 in absurd (omega arith))))) counted_so))
+    Unless-after (in_range count some few) (Unless-after (λ short. absurd (omega arith))
+    (Unless-after (within_limit (told_lengths count bytes) limit keeps)
+    (Unless-after (λ short. absurd (omega arith)) (λ cuts. let short = cuts.0 in absurd (omega arith)))))
+    counted_so))
   where
     counted : (form : FlatForm) (last count : ℕ) → last + 1 ≡ count → count < 512 → count_of form last ≡ count
     counted (by_words empty) last count told few = omega arith
@@ -80,10 +110,6 @@ RefusesFlat-apart form limit kind bytes segments rest begins within =
     within_table : (form : FlatForm) (count : ℕ) → lengths_end form count ≤ table_size count
     within_table (by_words empty) count = omega arith
     within_table by_fields count = omega arith
-
--- what the answers of a reader without memory come to
-
--- and of one that grows
 
 -- the stream reader's table over a slice
 
@@ -103,36 +129,66 @@ above_range count range = elim (cases_lt 0 count) [ inl some ↦ some | inr none
 counts : (last count many : ℕ) → count ≡ (last + 1) % 2 ^ 32 → last + 1 ≡ many → many ≤ 2 ^ 32 → count < 512 → 0 < count → count ≡ many
 counts last count many is told most few some = omega arith
 
-pub words_refused : (empty : ErrorKind) (limit : Option ℕ) (kind : ErrorKind) (bytes left : List ℕ) → RefusesTable Splits RunsShort limit None kind bytes left → RefusesFlat (by_words empty) limit kind bytes
+-- the number of segments that the first word at the front tells
+first_tells : (empty : ErrorKind) (bytes word left : List ℕ) (count : ℕ) → Splits bytes 8 word left → Tells word count
+    → (length bytes ≡ 8 + length left) × (count_of (by_words empty) (number bytes) ≡ count)
+first_tells empty bytes word left count (split, long) (last, fits, read, is) =
+    let front : field last ≡ take 4 bytes = read ∙ sym (take-append-le 4 word left (omega arith)) ∙ ap (take 4) (sym split) in
+    (ap length split ∙ length-append word left ∙ ap (λ k. k + length left) long, ap (λ k. (k + 1) % 2 ^ 32) (number-field last bytes fits front) ∙ sym is)
+
+pub count_accepted : (empty : ErrorKind) (bytes left : List ℕ) → CountStands Splits bytes left → AcceptsCount (by_words empty) bytes
+count_accepted empty bytes left stands =
+    let told = first_tells empty bytes stands.word left stands.count stands.given stands.told in
+    let long = told.0 in
+    (omega arith, subst (λ k. IsOutOfRange k → ⊥) (sym told.1) stands.accepted)
+
+pub words_refused : (empty : ErrorKind) (limit : Option ℕ) (kind : ErrorKind) (bytes left : List ℕ)
+    → RefusesTable Splits RunsShort limit None kind bytes left → RefusesFlat (by_words empty) limit kind bytes
 words_refused empty limit kind bytes left (inl lacks) = absurd lacks.0
 words_refused empty limit kind bytes left (inr (room, (some, inl (short, is)))) = inr (some, inl (short, is))
-words_refused empty limit kind bytes left (inr (room, (some, inr (word, between, given, (count, tells, after))))) = inr (some, inr (λ short. absurd (omega (arith, long)), subst (RefusesCount (by_words empty) limit kind bytes) (sym same) (counted after)))
+words_refused empty limit kind bytes left (inr (room, (some, inr (word, between, given, (count, tells, after))))) = inr (
+  some,
+  inr (
+    λ short. absurd (omega (arith, long)),
+    subst (RefusesCount (by_words empty) limit kind bytes) (sym same) (counted after),
+  ),
+)
   where
+    told : (length bytes ≡ 8 + length between) × (count_of (by_words empty) (number bytes) ≡ count)
+    told = first_tells empty bytes word between count given tells
+
     long : length bytes ≡ 8 + length between
-    long = ap length given.0 ∙ length-append word between ∙ ap (λ k. k + length between) given.1
-
-    word_long : length word ≡ 8
-    word_long = given.1
-
-    front : field tells.0 ≡ take 4 bytes
-    front = tells.2 ∙ sym (take-append-le 4 word between (omega arith)) ∙ ap (take 4) (sym given.0)
+    long = told.0
 
     same : count_of (by_words empty) (number bytes) ≡ count
-    same = ap (λ k. (k + 1) % 2 ^ 32) (number-field tells.0 bytes tells.1 front) ∙ sym tells.3
+    same = told.1
 
-    limited : (others behind : List ℕ) → (IsOutOfRange count → ⊥) → Splits between (8 * (count / 2)) others behind → MeetsLimit limit kind (λ ns behind. ⊥) left word others behind → RefusesCount (by_words empty) limit kind bytes count
+    limited : (others behind : List ℕ) → (IsOutOfRange count → ⊥) → Splits between (8 * (count / 2)) others behind
+        → RefusesAtLimit limit kind (λ ns behind. ⊥) left word others behind
+        → RefusesCount (by_words empty) limit kind bytes count
     limited others behind range split (ns, table, inr met) = absurd met.1
     limited others behind range split (ns, table, inl (over, stops)) =
         let few = below_range count range in
-        let many = count_told word others ns tells.0 table word_long tells.2 tells.1 in
+        let many = count_told word others ns tells.0 table given.1 tells.2 tells.1 in
         let exact : count ≡ length ns = counts tells.0 count (length ns) tells.3 many table.can.count few (above_range count range) in
-        let stands : TableStands Splits ns bytes behind = record { first = word; others = others; between = between; first_given = given; others_given = subst (λ k. Splits between (8 * (k / 2)) others behind) exact split; table = table } in
+        let stands : TableStands Splits ns bytes behind = record {
+          first = word;
+          others = others;
+          between = between;
+          first_given = given;
+          others_given = subst
+              (λ k. Splits between (8 * (k / 2)) others behind) exact split;
+          table = table;
+        } in
         let told = told_by_requests bytes ns behind stands (omega arith) in
         let lens : told_lengths count bytes ≡ ns = ap (λ k. told_lengths k bytes) exact ∙ told.0.lengths in
         let room = told.1 in
         inr (range, inr (λ short. absurd (omega arith), subst (RefusesLengths (by_words empty) limit kind bytes count) (sym lens) (inl (over, stops.0))))
 
-    counted : Unless (IsOutOfRange count) (Stops (InvalidNumberOfSegments count) kind between left) (Unless (LacksRoom None (table_size count)) (Stops BufferNotLargeEnough kind between left) (Asks Splits RunsShort kind between (8 * (count / 2)) (MeetsLimit limit kind (λ ns behind. ⊥) left word))) → RefusesCount (by_words empty) limit kind bytes count
+    counted : Unless (IsOutOfRange count) (StopsBy (InvalidNumberOfSegments count) kind between left)
+        (Unless (LacksRoom None (table_size count)) (StopsBy BufferNotLargeEnough kind between left)
+        (Asks Splits RunsShort kind between (8 * (count / 2)) (RefusesAtLimit limit kind (λ ns behind. ⊥) left word)))
+        → RefusesCount (by_words empty) limit kind bytes count
     counted (inl (out, stops)) = inl (out, stops.0)
     counted (inr (range, inl lacks)) = absurd lacks.0
     counted (inr (range, inr (room, inl (short, is)))) = inr (range, inl (omega (arith, long), is))

@@ -6,7 +6,7 @@ use Rattle.capnp_frame.specs.Message.{IsWholeWords, word_count, lengths, size_in
 use Rattle.capnp_frame.specs.SegmentTable.{field, padding_len, zero_padded_table, HasTable, IsTable}
 use Rattle.capnp_frame.specs.Frame.{IsFrame, frame_text}
 use Rattle.capnp_frame.specs.Source.{Splits}
-use Rattle.capnp_frame.specs.Requests.{Stands}
+use Rattle.capnp_frame.specs.Requests.{MessageStands}
 use Rattle.capnp_frame.proofs.TableLemmas.{length-fields}
 use Rattle.std.proofs.lemmas.List.Sums.{sum_by-cons}
 
@@ -23,8 +23,8 @@ length-segments (s ∷ ss) whole =
     let total : size_in_words (s ∷ ss) ≡ word_count s + size_in_words ss = sum_by-cons (λ x. x) (word_count s) (lengths ss) in
     omega (arith, length-append s (concat ss), length-segments ss whole.1)
 
-pub Stands-from_frame : (text rest : List ℕ) (segments : List (List ℕ)) → IsFrame text segments → Stands Splits segments (text ++ rest) rest
-Stands-from_frame text rest segments frame =
+pub MessageStands-from_frame : (text rest : List ℕ) (segments : List (List ℕ)) → IsFrame text segments → MessageStands Splits segments (text ++ rest) rest
+MessageStands-from_frame text rest segments frame =
     let head = frame.table in
     let long = length-table head (lengths segments) frame.lengths_told in
     let whole : take 8 head ++ drop 8 head ≡ head = take-append-drop 8 head in
@@ -34,7 +34,12 @@ Stands-from_frame text rest segments frame =
         first = take 8 head;
         others = drop 8 head;
         between = drop 8 head ++ (concat segments ++ rest);
-        first_given = (ap (λ l. l ++ rest) frame.spelled ∙ append_assoc head (concat segments) rest ∙ ap (λ l. l ++ (concat segments ++ rest)) (sym whole) ∙ append_assoc (take 8 head) (drop 8 head) (concat segments ++ rest), length-take-le 8 head (omega arith));
+        first_given = (
+          ap (λ l. l ++ rest) frame.spelled ∙ append_assoc head (concat segments) rest
+              ∙ ap (λ l. l ++ (concat segments ++ rest)) (sym whole)
+              ∙ append_assoc (take 8 head) (drop 8 head) (concat segments ++ rest),
+          length-take-le 8 head (omega arith),
+        );
         others_given = (refl, omega (arith, length-drop 8 head));
         table = subst (λ l. IsTable l (lengths segments)) (sym whole) frame.lengths_told;
       };
@@ -42,7 +47,7 @@ Stands-from_frame text rest segments frame =
       whole = frame.whole;
     }
 
-pub frame_from_requests : (raw rest : List ℕ) (segments : List (List ℕ)) → Stands Splits segments raw rest → (text : List ℕ) × IsFrame text segments × (raw ≡ text ++ rest)
+pub frame_from_requests : (raw rest : List ℕ) (segments : List (List ℕ)) → MessageStands Splits segments raw rest → (text : List ℕ) × IsFrame text segments × (raw ≡ text ++ rest)
 frame_from_requests raw rest segments sent =
     let head = sent.table.first ++ sent.table.others in (
       head ++ concat segments,
@@ -64,8 +69,8 @@ frame_text_is segments can whole = record {
   spelled = refl;
 }
 
-pub plain_requests : (segments : List (List ℕ)) (raw rest : List ℕ) → Stands Splits segments raw rest ↔ ((text : List ℕ) × IsFrame text segments × (raw ≡ text ++ rest))
+pub plain_requests : (segments : List (List ℕ)) (raw rest : List ℕ) → MessageStands Splits segments raw rest ↔ ((text : List ℕ) × IsFrame text segments × (raw ≡ text ++ rest))
 plain_requests segments raw rest = (
   frame_from_requests raw rest segments,
-  λ (text, frame, e). subst (λ l. Stands Splits segments l rest) (sym e) (Stands-from_frame text rest segments frame),
+  λ (text, frame, e). subst (λ l. MessageStands Splits segments l rest) (sym e) (MessageStands-from_frame text rest segments frame),
 )

@@ -1,5 +1,6 @@
 -- Tables and messages at the front of bytes, by the numbers in their fields.
-use Rattle.std.proofs.Common.{◌≡◌, ℕ, ◌+◌, ◌-◌, ◌*◌, ◌%◌, ◌<◌, ◌≤◌, ◌^◌, zero, suc, Option, Some, List, [], ◌∷◌, ◌++◌, length, take, drop, refl, sym, ap, ◌∙◌, subst, arith, append_assoc, length-append, add-one}
+use Rattle.std.proofs.Common.{◌≡◌, ℕ, ◌+◌, ◌-◌, ◌*◌, ◌%◌, ◌<◌, ◌≤◌, ◌^◌, zero, suc, Option, Some, List, [], ◌∷◌, ◌++◌, length, take, drop, refl, sym}
+use Rattle.std.proofs.Common.{ap, ◌∙◌, subst, arith, append_assoc, length-append, add-one}
 use Rattle.std.proofs.lemmas.List.{take-append-drop, length-drop, length-take-le, take_at, drop-take, drop-drop}
 use Rattle.std.proofs.lemmas.List.Concat.{flat_map-append}
 use Rattle.std.proofs.lemmas.List.Sums.{sum_by-cons}
@@ -25,7 +26,7 @@ use Rattle.capnp_frame.proofs.WritingLemmas.{length-lengths}
 pub number-field : (n : ℕ) (bytes : List ℕ) → n < 2 ^ 32 → field n ≡ take 4 bytes → number bytes ≡ n
 number-field n bytes fits read = ap (from_le_bytes w32) (sym read) ∙ from_le_bytes-to_le_bytes_4 n fits
 
-numbers-suc : (count : ℕ) (bytes : List ℕ) → numbers (suc count) bytes ≡ numbers count bytes ++ number (drop (4 * count) bytes) ∷ []
+pub numbers-suc : (count : ℕ) (bytes : List ℕ) → numbers (suc count) bytes ≡ numbers count bytes ++ number (drop (4 * count) bytes) ∷ []
 numbers-suc zero bytes = refl
 numbers-suc (suc count) bytes =
     let further : 4 + 4 * count ≡ 4 * suc count = omega arith in
@@ -59,6 +60,7 @@ numbers_told (n ∷ ns) rest fits =
 -- a length more
 pub record TellsMore (bytes : List ℕ) (index n : ℕ) : Type 0 where
   pub lengths : SpellsLengths bytes (index + 1)
+  pub next : told_lengths (index + 1) bytes ≡ told_lengths index bytes ++ n ∷ []
   pub total : sum (told_lengths (index + 1) bytes) ≡ sum (told_lengths index bytes) + n
 
 pub tells_more : (bytes : List ℕ) (index n : ℕ) → n < 2 ^ 32 → field n ≡ take 4 (drop (4 * (index + 1)) bytes) → SpellsLengths bytes index → TellsMore bytes index n
@@ -66,13 +68,18 @@ tells_more bytes index n fits read before =
     let place : 4 + 4 * index ≡ 4 * (index + 1) = omega arith in
     let there : drop (4 * index) (drop 4 bytes) ≡ drop (4 * (index + 1)) bytes = drop-drop (4 * index) 4 bytes ∙ ap (λ k. drop k bytes) place in
     let here : number (drop (4 * index) (drop 4 bytes)) ≡ n = ap number there ∙ number-field n (drop (4 * (index + 1)) bytes) fits read in
-    let next : told_lengths (index + 1) bytes ≡ told_lengths index bytes ++ n ∷ [] = ap (λ k. numbers k (drop 4 bytes)) (add-one index) ∙ numbers-suc index (drop 4 bytes) ∙ ap (λ k. told_lengths index bytes ++ k ∷ []) here in
+    let next : told_lengths (index + 1) bytes ≡ told_lengths index bytes ++ n ∷ [] = ap (λ k. numbers k (drop 4 bytes))
+    (add-one index) ∙ numbers-suc index (drop 4 bytes) ∙ ap (λ k. told_lengths index bytes ++ k ∷ []) here in
     let more : 4 * index + 4 ≡ 4 * (index + 1) = omega arith in
     record {
       lengths = record {
         each = subst (AllByRecursion FitsField) (sym next) (AllByRecursion-push FitsField (told_lengths index bytes) n before.each fits);
-        spelled = ap (flat_map field) next ∙ flat_map-append field (told_lengths index bytes) (n ∷ []) ∙ ap (λ l. l ++ field n) before.spelled ∙ ap (λ l. take (4 * index) (drop 4 bytes) ++ l) (read ∙ ap (take 4) (sym there)) ∙ sym (take-add (4 * index) 4 (drop 4 bytes)) ∙ ap (λ k. take k (drop 4 bytes)) more;
+        spelled = ap (flat_map field) next ∙ flat_map-append field (told_lengths index bytes) (n ∷ [])
+            ∙ ap (λ l. l ++ field n) before.spelled ∙ ap (λ l. take (4 * index) (drop 4 bytes) ++ l)
+            (read ∙ ap (take 4) (sym there)) ∙ sym (take-add (4 * index) 4 (drop 4 bytes))
+            ∙ ap (λ k. take k (drop 4 bytes)) more;
       };
+      next = next;
       total = ap sum next ∙ sum_push (told_lengths index bytes) n;
     }
 
@@ -92,7 +99,10 @@ table_is bytes count tells =
     let more = table_size count - (4 + 4 * count) in
     let padding = take more (drop (4 + 4 * count) bytes) in
     let whole : 4 + 4 * count + more ≡ table_size count = omega arith in
-    let front : take (4 + 4 * count) bytes ≡ field (length ns - 1) ++ flat_map field ns = take-add 4 (4 * count) bytes ∙ ap (λ l. l ++ take (4 * count) (drop 4 bytes)) (sym tells.counted) ∙ ap (λ l. field (count - 1) ++ l) (sym tells.lengths.spelled) ∙ ap (λ k. field (k - 1) ++ flat_map field ns) (sym len) in
+    let front : take (4 + 4 * count) bytes ≡ field (length ns - 1) ++ flat_map field ns = take-add 4 (4 * count) bytes
+    ∙ ap (λ l. l ++ take (4 * count) (drop 4 bytes)) (sym tells.counted)
+    ∙ ap (λ l. field (count - 1) ++ l) (sym tells.lengths.spelled)
+    ∙ ap (λ k. field (k - 1) ++ flat_map field ns) (sym len) in
     let padded : length padding ≡ padding_len ns = length-take-le more (drop (4 + 4 * count) bytes) (omega (arith, length-drop (4 + 4 * count) bytes)) ∙ padding_is count (length ns) (sym len) in
     record {
       can = record { some = omega arith; count = omega arith; each = tells.lengths.each };
@@ -115,7 +125,9 @@ told_from_table table rest ns is few =
     let count = length ns in
     let some = is.can.some in
     let behind = flat_map field ns ++ (is.padding ++ rest) in
-    let bytes_are : table ++ rest ≡ field (count - 1) ++ behind = ap (λ l. l ++ rest) is.spelled ∙ append_assoc (field (count - 1) ++ flat_map field ns) is.padding rest ∙ append_assoc (field (count - 1)) (flat_map field ns) (is.padding ++ rest) in
+    let bytes_are : table ++ rest ≡ field (count - 1) ++ behind = ap (λ l. l ++ rest) is.spelled
+    ∙ append_assoc (field (count - 1) ++ flat_map field ns) is.padding rest
+    ∙ append_assoc (field (count - 1)) (flat_map field ns) (is.padding ++ rest) in
     let first : field (count - 1) ≡ take 4 (table ++ rest) = ap (take 4) (sym bytes_are) in
     let others : drop 4 (table ++ rest) ≡ behind = ap (drop 4) bytes_are in
     let told : told_lengths count (table ++ rest) ≡ ns = ap (numbers count) others ∙ numbers_told ns (is.padding ++ rest) is.can.each in
@@ -151,7 +163,9 @@ cut-take (n ∷ ns) bytes =
     let all : 8 * sum (n ∷ ns) ≡ 8 * n + 8 * sum ns = omega arith in
     let first : take (8 * n) (take (8 * sum (n ∷ ns)) bytes) ≡ take (8 * n) bytes = take-take (8 * n) (8 * sum (n ∷ ns)) bytes (omega arith) in
     let others : drop (8 * n) (take (8 * sum (n ∷ ns)) bytes) ≡ take (8 * sum ns) (drop (8 * n) bytes) = ap (λ k. drop (8 * n) (take k bytes)) all ∙ drop-take (8 * n) (8 * sum ns) bytes in
-    ap (λ l. take (8 * n) bytes ∷ l) (cut-take ns (drop (8 * n) bytes)) ∙ ap (λ l. take (8 * n) bytes ∷ cut ns l) (sym others) ∙ ap (λ l. l ∷ cut ns (drop (8 * n) (take (8 * sum (n ∷ ns)) bytes))) (sym first)
+    ap (λ l. take (8 * n) bytes ∷ l) (cut-take ns (drop (8 * n) bytes))
+    ∙ ap (λ l. take (8 * n) bytes ∷ cut ns l) (sym others)
+    ∙ ap (λ l. l ∷ cut ns (drop (8 * n) (take (8 * sum (n ∷ ns)) bytes))) (sym first)
 
 -- a message that is held stands at the front
 pub record Found (bytes : List ℕ) (count : ℕ) : Type 0 where
@@ -198,16 +212,21 @@ held_from_begins bytes segments rest limit (text, frame, is) within =
     let many = length-lengths segments in
     let few = within.few in
     let bytes_are : bytes ≡ frame.table ++ (concat segments ++ rest) = is ∙ ap (λ l. l ++ rest) frame.spelled ∙ append_assoc frame.table (concat segments) rest in
-    let told : Told bytes (lengths segments) = subst (λ l. Told l (lengths segments)) (sym bytes_are) (told_from_table frame.table (concat segments ++ rest) (lengths segments) frame.lengths_told few) in
+    let told : Told bytes (lengths segments) = subst (λ l. Told l (lengths segments)) (sym bytes_are)
+    (told_from_table frame.table (concat segments ++ rest) (lengths segments) frame.lengths_told few) in
     let told_are : told_lengths (length segments) bytes ≡ lengths segments = subst (λ k. told_lengths k bytes ≡ lengths segments) many told.lengths in
     let tells : TellsTable bytes (length segments) = subst (TellsTable bytes) many told.tells in
-    let long : length bytes ≡ length frame.table + (length (concat segments) + length rest) = ap length bytes_are ∙ length-append frame.table (concat segments ++ rest) ∙ ap (λ k. length frame.table + k) (length-append (concat segments) rest) in
+    let long : length bytes ≡ length frame.table + (length (concat segments) + length rest) = ap length bytes_are
+    ∙ length-append frame.table (concat segments ++ rest)
+    ∙ ap (λ k. length frame.table + k) (length-append (concat segments) rest) in
     let table_len = length-table frame.table (lengths segments) frame.lengths_told in
     let body_len = length-segments segments frame.whole in
     let total : sum (told_lengths (length segments) bytes) ≡ size_in_words segments = ap sum told_are in
     let holds : HoldsMessage bytes (length segments) = record { table = tells; room = omega arith } in
     let found = found_from_held bytes (length segments) holds in
-    let parts = λ (left : List ℕ) (begins : HasFrame bytes segments left). frames_part found.begins.0 begins.0 (drop (table_size (length segments) + 8 * sum (told_lengths (length segments) bytes)) bytes) left (told_segments (length segments) bytes) segments found.begins.1 begins.1 (sym found.begins.2 ∙ begins.2) in
+    let parts = λ (left : List ℕ) (begins : HasFrame bytes segments left). frames_part found.begins.0 begins.0
+    (drop (table_size (length segments) + 8 * sum (told_lengths (length segments) bytes)) bytes) left
+    (told_segments (length segments) bytes) segments found.begins.1 begins.1 (sym found.begins.2 ∙ begins.2) in
     record {
       holds = holds;
       lengths_are = told_are;

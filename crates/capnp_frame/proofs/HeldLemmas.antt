@@ -1,8 +1,8 @@
 -- What readers of slices and buffers hold, as the frame at the front.
-use Rattle.std.proofs.Common.{◌≡◌, ℕ, ◌+◌, ◌-◌, ◌*◌, ◌/◌, ◌%◌, ◌<◌, ◌≤◌, ◌^◌, Option, Some, None, ◌⊎◌, inl, inr, ◌↔◌, List, length, map, take, drop, get_or, sym, ap, ◌∙◌, subst, arith}
-use Rattle.std.proofs.lemmas.List.{length-map, drop-drop, take_rest}
+use Rattle.std.proofs.Common.{◌≡◌, ℕ, ◌+◌, ◌-◌, ◌*◌, ◌/◌, ◌%◌, ◌<◌, ◌≤◌, ◌^◌, Option, Some, None, ◌⊎◌, inl, inr, ◌↔◌, List, length, map, take, drop, sym, ap, ◌∙◌, subst, arith}
+use Rattle.std.proofs.lemmas.List.{take_rest}
 use Rattle.std.proofs.lemmas.Bool.{false≢true}
-use Rattle.std.specs.Prelude.{sum, slice_get, Bool, false, IsTrue}
+use Rattle.std.specs.Prelude.{sum, Bool, false, IsTrue}
 use Rattle.capnp_frame.specs.declared.error.ErrorKind.{ErrorKind}
 use Rattle.capnp_frame.specs.declared.error.ErrorKind.TheVariants.{DeviceFailed, OutOfMemory, MessageEndsPrematurely}
 use Rattle.capnp_frame.specs.declared.serialize.segment_table_info.NoAllocSegmentTableInfo.{NoAllocSegmentTableInfo}
@@ -10,14 +10,15 @@ use Rattle.capnp_frame.specs.Message.{size_in_words}
 use Rattle.capnp_frame.specs.SegmentTable.{table_size}
 use Rattle.capnp_frame.specs.SegmentLengths.{ranges, range_len, cut}
 use Rattle.capnp_frame.specs.Limits.{KeepsLimit, AreWithin, IsWithin}
-use Rattle.capnp_frame.specs.Source.{Splits, RunsShort, Known, Fails}
+use Rattle.capnp_frame.specs.Source.{Splits, RunsShort, IfKnown, Fails}
 use Rattle.capnp_frame.specs.Requests.{TableStands}
-use Rattle.capnp_frame.specs.Refusals.{RefusesTable}
+use Rattle.capnp_frame.specs.Refusals.{CountStands, RefusesTable}
 use Rattle.capnp_frame.specs.Front.{HasFrame, IsDescribed, HaveSameNumbers, number, told_lengths, told_segments, HoldsMessage}
-use Rattle.capnp_frame.specs.FlatRefusals.{FlatForm, by_words, by_fields, RefusesFlat}
-use Rattle.capnp_frame.proofs.Ranges.{widths, part_of_cut}
+use Rattle.capnp_frame.specs.FlatRefusals.{FlatForm, by_words, by_fields, AcceptsCount, RefusesFlat}
+use Rattle.capnp_frame.proofs.AskLemmas.{never_fails}
+use Rattle.capnp_frame.proofs.Ranges.{widths}
 use Rattle.capnp_frame.proofs.FrontLemmas.{found_from_held, held_from_begins, within_told, length-told_segments}
-use Rattle.capnp_frame.proofs.FlatLemmas.{RefusesFlat-apart, told_by_requests, words_refused, past_lengths, cut_segments}
+use Rattle.capnp_frame.proofs.FlatLemmas.{RefusesFlat-apart, told_by_requests, count_accepted, words_refused, past_lengths, cut_segments}
 
 -- the frame at the front
 
@@ -26,67 +27,71 @@ begins_held bytes count segments holds are =
     let left = drop (table_size count + 8 * sum (told_lengths count bytes)) bytes in
     (left, subst (λ l. HasFrame bytes l left) (sym are) (found_from_held bytes count holds).begins)
 
-pub begins_moved : (bytes : List ℕ) (count size total : ℕ) (segments : List (List ℕ)) → HoldsMessage bytes count → segments ≡ told_segments count bytes → size ≡ table_size count → total ≡ 8 * sum (told_lengths count bytes) → HasFrame bytes segments (take (length bytes - (size + total)) (drop (size + total) bytes))
+pub begins_moved : (bytes : List ℕ) (count size total : ℕ) (segments : List (List ℕ)) → HoldsMessage bytes count
+    → segments ≡ told_segments count bytes → size ≡ table_size count → total ≡ 8 * sum (told_lengths count bytes)
+    → HasFrame bytes segments (take (length bytes - (size + total)) (drop (size + total) bytes))
 begins_moved bytes count size total segments holds are table_is total_is =
     let left = drop (table_size count + 8 * sum (told_lengths count bytes)) bytes in
     let place : table_size count + 8 * sum (told_lengths count bytes) ≡ size + total = omega arith in
     let rest : left ≡ take (length bytes - (size + total)) (drop (size + total) bytes) = ap (λ k. drop k bytes) place ∙ sym (take_rest bytes (size + total)) in
     subst (HasFrame bytes segments) rest (subst (λ l. HasFrame bytes l left) (sym are) (found_from_held bytes count holds).begins)
 
-pub within_held : (bytes : List ℕ) (count : ℕ) (segments : List (List ℕ)) (limit : Option ℕ) → HoldsMessage bytes count → segments ≡ told_segments count bytes → KeepsLimit (told_lengths count bytes) limit → IsWithin segments limit
+pub within_held : (bytes : List ℕ) (count : ℕ) (segments : List (List ℕ)) (limit : Option ℕ) → HoldsMessage bytes count
+    → segments ≡ told_segments count bytes → KeepsLimit (told_lengths count bytes) limit → IsWithin segments limit
 within_held bytes count segments limit holds are keeps = subst (λ l. IsWithin l limit) (sym are) (within_told bytes count limit holds keeps)
 
 -- a refusal, where a message that is accepted stands
-pub flat_vacuous : (form : FlatForm) (limit : Option ℕ) (kind : ErrorKind) (bytes : List ℕ) → RefusesFlat form limit kind bytes → (segments : List (List ℕ)) (rest : List ℕ) → HasFrame bytes segments rest → IsWithin segments limit → ⊥
-flat_vacuous form limit kind bytes met segments rest begins within = RefusesFlat-apart form limit kind bytes segments rest begins within met
+pub flat_vacuous : {P : Type 0} (form : FlatForm) (limit : Option ℕ) (kind : ErrorKind) (bytes : List ℕ)
+    → RefusesFlat form limit kind bytes → (segments : List (List ℕ)) (rest : List ℕ) → HasFrame bytes segments rest
+    → IsWithin segments limit → P
+flat_vacuous form limit kind bytes met segments rest begins within = absurd (RefusesFlat-apart form limit kind bytes segments rest begins within met)
 
-pub memory_alone : (form : FlatForm) (limit : Option ℕ) (kind : ErrorKind) (bytes : List ℕ) → (kind ≡ OutOfMemory) ⊎ RefusesFlat form limit kind bytes → (segments : List (List ℕ)) (rest : List ℕ) → HasFrame bytes segments rest → IsWithin segments limit → kind ≡ OutOfMemory
-memory_alone form limit kind bytes (inl memory) segments rest begins within = memory
+pub memory_alone : {M : Type 0} (form : FlatForm) (limit : Option ℕ) (kind : ErrorKind) (bytes : List ℕ)
+    → ((kind ≡ OutOfMemory) × M) ⊎ RefusesFlat form limit kind bytes → (segments : List (List ℕ)) (rest : List ℕ)
+    → HasFrame bytes segments rest → IsWithin segments limit → kind ≡ OutOfMemory
+memory_alone form limit kind bytes (inl memory) segments rest begins within = memory.0
 memory_alone form limit kind bytes (inr met) segments rest begins within = absurd (RefusesFlat-apart form limit kind bytes segments rest begins within met)
 
 -- parts behind a table
 
-pub parts_are : (bytes : List ℕ) (indices : List (ℕ × ℕ)) (ns : List ℕ) (size : ℕ) (segments : List (List ℕ)) → indices ≡ ranges ns → told_lengths (length ns) bytes ≡ ns → size ≡ table_size (length ns) → segments ≡ cut (map range_len indices) (drop size bytes) → segments ≡ told_segments (length ns) bytes
+pub parts_are : (bytes : List ℕ) (indices : List (ℕ × ℕ)) (ns : List ℕ) (size : ℕ) (segments : List (List ℕ))
+    → indices ≡ ranges ns → told_lengths (length ns) bytes ≡ ns → size ≡ table_size (length ns)
+    → segments ≡ cut (map range_len indices) (drop size bytes) → segments ≡ told_segments (length ns) bytes
 parts_are bytes indices ns size segments running told table_is are =
-    are ∙ ap (λ l. cut (map range_len l) (drop size bytes)) running ∙ ap (λ l. cut l (drop size bytes)) (widths 0 ns ∙ sym told) ∙ ap (λ k. cut (told_lengths (length ns) bytes) (drop k bytes)) table_is
+    are ∙ ap (λ l. cut (map range_len l) (drop size bytes)) running
+    ∙ ap (λ l. cut l (drop size bytes)) (widths 0 ns ∙ sym told)
+    ∙ ap (λ k. cut (told_lengths (length ns) bytes) (drop k bytes)) table_is
 
-pub slice_parts_are : (bytes ns : List ℕ) (size : ℕ) (segments : List (List ℕ)) → told_lengths (length ns) bytes ≡ ns → size ≡ table_size (length ns) → segments ≡ cut ns (drop size bytes) → segments ≡ told_segments (length ns) bytes
+pub slice_parts_are : (bytes ns : List ℕ) (size : ℕ) (segments : List (List ℕ)) → told_lengths (length ns) bytes ≡ ns
+    → size ≡ table_size (length ns) → segments ≡ cut ns (drop size bytes) → segments ≡ told_segments (length ns) bytes
 slice_parts_are bytes ns size segments told table_is are = are ∙ ap (λ l. cut l (drop size bytes)) (sym told) ∙ ap (λ k. cut (told_lengths (length ns) bytes) (drop k bytes)) table_is
 
 pub keeps_told : (bytes ns : List ℕ) (limit : Option ℕ) → told_lengths (length ns) bytes ≡ ns → AreWithin ns limit → KeepsLimit (told_lengths (length ns) bytes) limit
 keeps_told bytes ns limit told within = subst (λ l. KeepsLimit l limit) (sym told) within.size
 
--- where a part lies
-pub record Lies (all : List ℕ) (size : ℕ) (segments : List (List ℕ)) (i : ℕ) (r : ℕ × ℕ) : Type 0 where
-  pub ordered : r.0 ≤ r.1
-  pub within : size + 8 * r.1 ≤ length all
-  pub part : slice_get segments i ≡ Some (take (size + 8 * r.1 - (size + 8 * r.0)) (drop (size + 8 * r.0) all))
-
-pub lies : (indices : List (ℕ × ℕ)) (all : List ℕ) (segments : List (List ℕ)) (size i : ℕ) (r : ℕ × ℕ) → indices ≡ ranges (map range_len indices) → size + 8 * sum (map range_len indices) ≤ length all → cut (map range_len indices) (drop size all) ≡ segments → i < length indices → r ≡ get_or indices i r → Lies all size segments i r
-lies indices all segments size i r running room view within at =
-    let found = part_of_cut 0 (map range_len indices) (drop size all) i r (omega (arith, length-map indices range_len)) (at ∙ ap (λ l. get_or l i r) running) in
-    let long : 8 * r.1 - 8 * r.0 ≡ size + 8 * r.1 - (size + 8 * r.0) = omega arith in
-    record {
-      ordered = found.1;
-      within = omega (arith, found.2);
-      part = ap (λ l. slice_get l i) (sym view) ∙ found.3 ∙ ap (λ l. Some (take (8 * r.1 - 8 * r.0) l)) (drop-drop (8 * r.0) size all) ∙ ap (λ k. Some (take k (drop (size + 8 * r.0) all))) long;
-    }
-
 -- the stream reader's table over a slice
 
-pub slice_refused : (empty : ErrorKind) (limit : Option ℕ) (kind : ErrorKind) (bytes left : List ℕ) → (kind ≡ DeviceFailed → Fails 0 0) → (kind ≡ DeviceFailed) ⊎ (kind ≡ OutOfMemory) ⊎ Known (Some bytes) (Some left) (RefusesTable Splits RunsShort limit None kind) → (kind ≡ OutOfMemory) ⊎ RefusesFlat (by_words empty) limit kind bytes
-slice_refused empty limit kind bytes left failed (inl device) = let count : Fails 0 0 = failed device in absurd (omega arith)
-slice_refused empty limit kind bytes left failed (inr (inl memory)) = inl memory
+pub slice_refused : (empty : ErrorKind) (limit : Option ℕ) (kind : ErrorKind) (bytes left : List ℕ)
+    → (kind ≡ DeviceFailed → Fails 0 0) → (kind ≡ DeviceFailed)
+    ⊎ ((kind ≡ OutOfMemory) × IfKnown (Some bytes) (Some left) (CountStands Splits))
+    ⊎ IfKnown (Some bytes) (Some left) (RefusesTable Splits RunsShort limit None kind)
+    → ((kind ≡ OutOfMemory) × AcceptsCount (by_words empty) bytes) ⊎ RefusesFlat (by_words empty) limit kind bytes
+slice_refused empty limit kind bytes left failed (inl device) = absurd (never_fails kind failed device)
+slice_refused empty limit kind bytes left failed (inr (inl memory)) = inl (memory.0, count_accepted empty bytes left memory.1)
 slice_refused empty limit kind bytes left failed (inr (inr met)) = inr (words_refused empty limit kind bytes left met)
 
-pub slice_holds : (bytes ns left : List ℕ) (limit : Option ℕ) (total : ℕ) → TableStands Splits ns bytes left → AreWithin ns limit → total ≡ sum ns → 8 * total ≤ length left → HoldsMessage bytes (length ns) × (told_lengths (length ns) bytes ≡ ns)
+pub slice_holds : (bytes ns left : List ℕ) (limit : Option ℕ) (total : ℕ) → TableStands Splits ns bytes left
+    → AreWithin ns limit → total ≡ sum ns → 8 * total ≤ length left → HoldsMessage bytes (length ns)
+    × (told_lengths (length ns) bytes ≡ ns)
 slice_holds bytes ns left limit total stands within is room =
     let told = told_by_requests bytes ns left stands within.few in
     let long = told.1 in
     let sums : sum (told_lengths (length ns) bytes) ≡ sum ns = ap sum told.0.lengths in
     (record { table = told.0.tells; room = omega arith }, told.0.lengths)
 
-pub slice_cut : (empty : ErrorKind) (bytes ns left : List ℕ) (limit : Option ℕ) (total : ℕ) → TableStands Splits ns bytes left → AreWithin ns limit → total ≡ sum ns → length left < 8 * total → RefusesFlat (by_words empty) limit (MessageEndsPrematurely total (length left / 8)) bytes
+pub slice_cut : (empty : ErrorKind) (bytes ns left : List ℕ) (limit : Option ℕ) (total : ℕ)
+    → TableStands Splits ns bytes left → AreWithin ns limit → total ≡ sum ns → length left < 8 * total
+    → RefusesFlat (by_words empty) limit (MessageEndsPrematurely total (length left / 8)) bytes
 slice_cut empty bytes ns left limit total stands within is short =
     let told = told_by_requests bytes ns left stands within.few in
     let count = length ns in
@@ -106,15 +111,14 @@ slice_cut empty bytes ns left limit total stands within is short =
 
 -- descriptions
 
-pub described_held : (bytes : List ℕ) (info : NoAllocSegmentTableInfo) → IsDescribed bytes info → HoldsMessage bytes info.segments_count × (info.total_segments_length_bytes ≡ 8 * sum (told_lengths info.segments_count bytes)) × (info.segment_table_length_bytes ≡ table_size info.segments_count)
+pub described_held : (bytes : List ℕ) (info : NoAllocSegmentTableInfo) → IsDescribed bytes info
+    → HoldsMessage bytes info.segments_count
 described_held bytes info d =
-    let held = held_from_begins bytes d.segments d.rest None d.begins d.within in (
-      subst (HoldsMessage bytes) (sym d.count) held.holds,
-      d.total ∙ ap (λ l. 8 * sum l) (sym held.lengths_are) ∙ ap (λ k. 8 * sum (told_lengths k bytes)) (sym d.count),
-      d.table ∙ ap table_size (sym d.count),
-    )
+    subst (HoldsMessage bytes) (sym d.count) (held_from_begins bytes d.segments d.rest None d.begins d.within).holds
 
-pub held_described : (bytes : List ℕ) (info : NoAllocSegmentTableInfo) → HoldsMessage bytes info.segments_count → info.total_segments_length_bytes ≡ 8 * sum (told_lengths info.segments_count bytes) → info.segment_table_length_bytes ≡ table_size info.segments_count → IsDescribed bytes info
+pub held_described : (bytes : List ℕ) (info : NoAllocSegmentTableInfo) → HoldsMessage bytes info.segments_count
+    → info.total_segments_length_bytes ≡ 8 * sum (told_lengths info.segments_count bytes)
+    → info.segment_table_length_bytes ≡ table_size info.segments_count → IsDescribed bytes info
 held_described bytes info holds total table =
     let count = info.segments_count in
     let found = found_from_held bytes count holds in
@@ -154,7 +158,11 @@ same_described bytes found info same d = record {
 }
 
 -- the test of a description
-pub describes_found : (bytes : List ℕ) (found info : NoAllocSegmentTableInfo) (b : Bool) → IsTrue b ↔ HaveSameNumbers found info → HoldsMessage bytes found.segments_count → found.segment_table_length_bytes ≡ table_size found.segments_count → found.total_segments_length_bytes ≡ 8 * sum (told_lengths found.segments_count bytes) → IsTrue b ↔ IsDescribed bytes info
+pub describes_found : (bytes : List ℕ) (found info : NoAllocSegmentTableInfo) (b : Bool)
+    → IsTrue b ↔ HaveSameNumbers found info → HoldsMessage bytes found.segments_count
+    → found.segment_table_length_bytes ≡ table_size found.segments_count
+    → found.total_segments_length_bytes ≡ 8 * sum (told_lengths found.segments_count bytes)
+    → IsTrue b ↔ IsDescribed bytes info
 describes_found bytes found info b means holds table total =
     let described = held_described bytes found holds total table in
     (λ yes. same_described bytes found info (means.0 yes) described, λ d. means.1 (described_once bytes found info described d))

@@ -1,9 +1,12 @@
+-- The lemmas that several proofs share.
 pub mod Ranges
 pub mod SourceLemmas
+pub mod AskLemmas
 pub mod TableLemmas
 pub mod RequestLemmas
 pub mod FrameLemmas
 pub mod RefusalLemmas
+pub mod MetRefusals
 pub mod TextLemmas
 pub mod WorkedRows
 pub mod WritingLemmas
@@ -12,6 +15,7 @@ pub mod FrontLemmas
 pub mod FlatLemmas
 pub mod HeldLemmas
 pub mod LentLemmas
+pub mod TableReading
 pub mod AgreementLemmas
 pub mod AnswerLemmas
 pub mod PartLemmas

@@ -1,5 +1,5 @@
 -- Messages by their requests.
-use Rattle.std.proofs.Common.{◌≡◌, ℕ, ◌+◌, ◌*◌, Option, Some, None, ◌⊎◌, inl, inr, Result, Ok, Err, IfErr, List, [], ◌∷◌, ◌++◌, length, take, drop, refl, sym, ap, ◌∙◌, subst, arith}
+use Rattle.std.proofs.Common.{◌≡◌, ℕ, ◌+◌, ◌*◌, Option, Some, None, List, [], ◌∷◌, ◌++◌, length, take, drop, refl, sym, ap, ◌∙◌, subst, arith}
 use Rattle.std.proofs.lemmas.List.{length-take-le, length-drop}
 use Rattle.std.specs.Prelude.{sum}
 use Rattle.std.specs.List.{concat, AllByRecursion}
@@ -7,16 +7,13 @@ use Rattle.std.proofs.lemmas.List.Sums.{sum_by-cons}
 use Rattle.capnp_frame.specs.Message.{IsWholeWords, word_count, lengths, size_in_words}
 use Rattle.capnp_frame.specs.Limits.{AreWithin, IsWithin}
 use Rattle.capnp_frame.specs.SegmentLengths.{cut}
-use Rattle.capnp_frame.specs.Source.{Giving, Fails, Known}
-use Rattle.capnp_frame.specs.Requests.{TableStands, Stands}
+use Rattle.capnp_frame.specs.Source.{Giving, IfKnown}
+use Rattle.capnp_frame.specs.Requests.{TableStands, MessageStands}
 use Rattle.capnp_frame.specs.Lending.{overwritten}
-use Rattle.capnp_frame.specs.declared.error.Error.{Error}
-use Rattle.capnp_frame.specs.declared.error.ErrorKind.{ErrorKind}
-use Rattle.std.specs.Result.{IsErrAnd}
-use Rattle.capnp_frame.specs.declared.error.ErrorKind.TheVariants.{DeviceFailed, OutOfMemory}
 use Rattle.std.proofs.lemmas.Option.{none-some, same_Some}
-use Rattle.capnp_frame.specs.Splitting.{same_front}
+use Rattle.capnp_frame.specs.SplittingLaws.{same_front}
 use Rattle.capnp_frame.proofs.Ranges.{concat-cut}
+use Rattle.capnp_frame.proofs.SourceLemmas.{IfKnown-join}
 use Rattle.capnp_frame.proofs.TableLemmas.{TableStands-once}
 
 -- the parts have the lengths that cut them, and are whole words
@@ -30,19 +27,19 @@ lengths-cut (n ∷ ns) bytes all =
     (ap (λ k. k ∷ lengths (cut ns (drop (8 * n) bytes))) here ∙ ap (λ l. n ∷ l) inner.0, (omega arith, inner.1))
 
 -- what is read after its table is the message
-pub Stands-cut : (gives : Giving) (ns bytes : List ℕ) (old mid new : Option (List ℕ)) → length bytes ≡ 8 * sum ns → Known old mid (TableStands gives ns) → Known mid new (λ raw rest. gives raw (length bytes) bytes rest) → Known old new (Stands gives (cut ns bytes))
-Stands-cut gives ns bytes None mid new long table given = tt
-Stands-cut gives ns bytes (Some raw) None new long table given = absurd table
-Stands-cut gives ns bytes (Some raw) (Some left) None long table given = absurd given
-Stands-cut gives ns bytes (Some raw) (Some left) (Some rest) long table given =
+pub MessageStands-cut : (gives : Giving) (ns bytes : List ℕ) (old mid new : Option (List ℕ))
+    → length bytes ≡ 8 * sum ns → IfKnown old mid (TableStands gives ns)
+    → IfKnown mid new (λ raw rest. gives raw (length bytes) bytes rest)
+    → IfKnown old new (MessageStands gives (cut ns bytes))
+MessageStands-cut gives ns bytes old mid new long table given =
     let lens = lengths-cut ns bytes long in
     let all : length bytes ≡ 8 * size_in_words (cut ns bytes) = long ∙ ap (λ l. 8 * sum l) (sym lens.0) in
-    record {
+    IfKnown-join old mid new (λ raw left rest table given. record {
       between = left;
       table = subst (λ l. TableStands gives l raw left) (sym lens.0) table;
       given = subst (λ l. gives left (8 * size_in_words (cut ns bytes)) l rest) (sym (concat-cut ns bytes long)) (subst (λ k. gives left k bytes rest) all given);
       whole = lens.1;
-    }
+    }) table given
 
 pub IsWithin-cut : (ns bytes : List ℕ) (limit : Option ℕ) → length bytes ≡ 8 * sum ns → AreWithin ns limit → IsWithin (cut ns bytes) limit
 IsWithin-cut ns bytes limit long accepts = subst (λ l. AreWithin l limit) (sym (lengths-cut ns bytes long).0) accepts
@@ -61,41 +58,43 @@ parts_once (x ∷ xs) (y ∷ ys) p q lens e =
     ap (λ l. l ∷ xs) parts.0 ∙ ap (λ l. y ∷ l) (parts_once xs ys p.1 q.1 others parts.1)
 
 -- a message stands at one front alone
-pub Stands-once : (gives : Giving) (raw rest left : List ℕ) (segments others : List (List ℕ)) → ((raw : List ℕ) (n : ℕ) (bytes rest others left : List ℕ) → gives raw n bytes rest → gives raw n others left → (bytes ≡ others) × (rest ≡ left)) → ((raw : List ℕ) (n : ℕ) (bytes rest : List ℕ) → gives raw n bytes rest → length bytes ≡ n) → Stands gives segments raw rest → Stands gives others raw left → (segments ≡ others) × (rest ≡ left)
-Stands-once gives raw rest left segments others unique all p q =
+pub MessageStands-once : (gives : Giving) (raw rest left : List ℕ) (segments others : List (List ℕ))
+    → ((raw : List ℕ) (n : ℕ) (bytes rest others left : List ℕ) → gives raw n bytes rest → gives raw n others left
+    → (bytes ≡ others) × (rest ≡ left)) → ((raw : List ℕ) (n : ℕ) (bytes rest : List ℕ) → gives raw n bytes rest
+    → length bytes ≡ n) → MessageStands gives segments raw rest → MessageStands gives others raw left
+    → (segments ≡ others) × (rest ≡ left)
+MessageStands-once gives raw rest left segments others unique all p q =
     let table = TableStands-once gives raw (lengths segments) p.between (lengths others) q.between unique all p.table q.table in
     let same : 8 * size_in_words segments ≡ 8 * size_in_words others = ap (λ l. 8 * sum l) table.0 in
-    let rests = unique q.between (8 * size_in_words others) (concat segments) rest (concat others) left (subst (λ k. gives q.between k (concat segments) rest) same (subst (λ l. gives l (8 * size_in_words segments) (concat segments) rest) table.1 p.given)) q.given in
+    let rests = unique q.between (8 * size_in_words others) (concat segments) rest (concat others) left
+    (subst (λ k. gives q.between k (concat segments) rest) same
+    (subst (λ l. gives l (8 * size_in_words segments) (concat segments) rest) table.1 p.given)) q.given in
     (parts_once segments others p.whole q.whole table.0 rests.0, rests.1)
 
-pub table_not_empty : (gives : Giving) (old mid : Option (List ℕ)) (ns : List ℕ) → ((k : ℕ) (bytes rest : List ℕ) → gives [] k bytes rest → k ≡ 0) → Known old mid (TableStands gives ns) → old ≡ Some [] → ⊥
+pub table_not_empty : (gives : Giving) (old mid : Option (List ℕ)) (ns : List ℕ)
+    → ((k : ℕ) (bytes rest : List ℕ) → gives [] k bytes rest → k ≡ 0) → IfKnown old mid (TableStands gives ns)
+    → old ≡ Some [] → ⊥
 table_not_empty gives None mid ns empty table e = absurd (none-some [] e)
 table_not_empty gives (Some raw) None ns empty table e = absurd table
 table_not_empty gives (Some raw) (Some left) ns empty table e =
     let eight : ◌≡◌ {A = ℕ} 8 0 = empty 8 table.first table.between (subst (λ l. gives l 8 table.first table.between) (same_Some raw [] e) table.first_given) in
     absurd (omega arith)
 
--- a source that never fails refuses a message only for want of memory
-pub unfailing : {X : Type 0} (gives : Giving) (raw : List ℕ) (limit : Option ℕ) (r : Result X Error) → IfErr r (λ e. e.kind ≡ DeviceFailed → Fails 0 0) → IfErr r (λ e. (segments : List (List ℕ)) (rest : List ℕ) → Stands gives segments raw rest → IsWithin segments limit → (e.kind ≡ DeviceFailed) ⊎ (e.kind ≡ OutOfMemory)) → IfErr r (λ e. (segments : List (List ℕ)) (rest : List ℕ) → Stands gives segments raw rest → IsWithin segments limit → e.kind ≡ OutOfMemory)
-unfailing gives raw limit (Ok x) failed refused = tt
-unfailing gives raw limit (Err e) failed refused = λ segments rest sent within. elim (refused segments rest sent within) [ inl device ↦ let count : Fails 0 0 = failed device in absurd (omega arith) | inr memory ↦ memory ]
-
 -- parts of overwritten bytes
-pub overwritten_parts : (ns items : List ℕ) (segments : List (List ℕ)) (len : ℕ) (w : List ℕ) → length items ≡ 8 * sum ns → len ≡ length items → cut ns items ≡ segments → cut ns (take len (w ++ drop (length w) items)) ≡ cut (lengths segments) (overwritten (concat segments) w)
+pub overwritten_parts : (ns items : List ℕ) (segments : List (List ℕ)) (len : ℕ) (w : List ℕ)
+    → length items ≡ 8 * sum ns → len ≡ length items → cut ns items ≡ segments
+    → cut ns (take len (w ++ drop (length w) items)) ≡ cut (lengths segments) (overwritten (concat segments) w)
 overwritten_parts ns items segments len w long same parts =
     let bytes : concat segments ≡ items = ap concat (sym parts) ∙ concat-cut ns items long in
     let lens : lengths segments ≡ ns = ap lengths (sym parts) ∙ (lengths-cut ns items long).0 in
     ap (λ k. cut ns (take k (w ++ drop (length w) items))) same ∙ ap (λ l. cut ns (overwritten l w)) (sym bytes) ∙ ap (λ l. cut l (overwritten (concat segments) w)) (sym lens)
 
--- and answers each line of its table, but for that
-pub unfailing_exact : {X : Type 0} (kind : ErrorKind) (r : Result X Error) → IfErr r (λ e. e.kind ≡ DeviceFailed → Fails 0 0) → IsErrAnd r (λ e. (e.kind ≡ DeviceFailed) ⊎ (e.kind ≡ OutOfMemory) ⊎ (e.kind ≡ kind)) → IsErrAnd r (λ e. (e.kind ≡ OutOfMemory) ⊎ (e.kind ≡ kind))
-unfailing_exact kind (Ok x) failed exact = exact
-unfailing_exact kind (Err e) failed (inl device) = let count : Fails 0 0 = failed device in absurd (omega arith)
-unfailing_exact kind (Err e) failed (inr exact) = exact
-
 -- a message stands by the requests of one source where it does by another's
-pub Stands-map : {gives others : Giving} (given : (raw : List ℕ) (n : ℕ) (bytes rest : List ℕ) → gives raw n bytes rest → others raw n bytes rest) (segments : List (List ℕ)) (raw rest : List ℕ) → Stands gives segments raw rest → Stands others segments raw rest
-Stands-map given segments raw rest stands = record {
+pub MessageStands-map : {gives others : Giving}
+    (given : (raw : List ℕ) (n : ℕ) (bytes rest : List ℕ) → gives raw n bytes rest → others raw n bytes rest)
+    (segments : List (List ℕ)) (raw rest : List ℕ) → MessageStands gives segments raw rest
+    → MessageStands others segments raw rest
+MessageStands-map given segments raw rest stands = record {
   between = stands.between;
   table = record {
     first = stands.table.first;

@@ -10,10 +10,11 @@ use Rattle.capnp_frame.specs.declared.error.ErrorKind.TheVariants.{DeviceFailed,
 use Rattle.capnp_frame.specs.Message.{lengths, size_in_words}
 use Rattle.capnp_frame.specs.SegmentTable.{zero_padded_table, HasTable}
 use Rattle.capnp_frame.specs.Frame.{frame_text}
-use Rattle.capnp_frame.specs.Source.{Known, Fails}
-use Rattle.capnp_frame.specs.Sink.{Adds, AppendsAll, AppendsSame, LacksMemory, DeclinesSome}
+use Rattle.capnp_frame.specs.Source.{IfKnown, Fails}
+use Rattle.capnp_frame.specs.Sink.{Adds, AppendsAll, AppendsSame, ByKind, DeclinesSome}
 use Rattle.capnp_frame.specs.Writing.{IsWritable, word_and_rest, pieces, serialized_words}
 use Rattle.capnp_frame.proofs.FrameLemmas.{zero_padded_is, length-table, length-segments}
+use Rattle.capnp_frame.proofs.AskLemmas.{never_fails}
 use Rattle.capnp_frame.proofs.WritingLemmas.{parts_one, parts_two, length-lengths}
 
 pub HasTable-writable : (segments : List (List ℕ)) → IsWritable segments → HasTable (lengths segments)
@@ -52,17 +53,18 @@ appended_same [] text p = p
 appended_same (x ∷ xs) text p = p.4 ∙ ap (λ l. l ++ p.1) p.2 ∙ ap (λ l. x ++ l) (appended_same xs p.1 p.3)
 
 -- what a plain sink has after the pieces of a message
-pub written_frame : (segments : List (List ℕ)) (old new : List ℕ) → old ≡ [] → Known (Some old) (Some new) (Adds (AppendsAll AppendsSame (pieces segments))) → new ≡ frame_text segments
+pub written_frame : (segments : List (List ℕ)) (old new : List ℕ) → old ≡ [] → IfKnown (Some old) (Some new) (Adds (AppendsAll AppendsSame (pieces segments))) → new ≡ frame_text segments
 written_frame segments old new empty p = p.2 ∙ ap (λ l. l ++ p.0) empty ∙ appended_same (pieces segments) p.0 p.1 ∙ concat-pieces segments
 
-declines_memory : (xs : List (List ℕ)) (kind : ErrorKind) → DeclinesSome LacksMemory xs kind → kind ≡ OutOfMemory
+declines_memory : (xs : List (List ℕ)) (kind : ErrorKind) → DeclinesSome (ByKind OutOfMemory) xs kind → kind ≡ OutOfMemory
 declines_memory [] kind p = absurd p
 declines_memory (x ∷ xs) kind (inl p) = p
 declines_memory (x ∷ xs) kind (inr p) = declines_memory xs kind p
 
 -- a vector refuses pieces for want of memory alone
-pub lacks_memory_alone : {F : Type 0} (xs : List (List ℕ)) (kind : ErrorKind) → (kind ≡ DeviceFailed → Fails 0 0) → (kind ≡ DeviceFailed) ⊎ DeclinesSome LacksMemory xs kind ⊎ (F × (kind ≡ OutOfMemory)) → kind ≡ OutOfMemory
-lacks_memory_alone xs kind failed (inl device) = let count : Fails 0 0 = failed device in absurd (omega arith)
+pub lacks_memory_alone : {F : Type 0} (xs : List (List ℕ)) (kind : ErrorKind) → (kind ≡ DeviceFailed → Fails 0 0)
+    → (kind ≡ DeviceFailed) ⊎ DeclinesSome (ByKind OutOfMemory) xs kind ⊎ (F × (kind ≡ OutOfMemory)) → kind ≡ OutOfMemory
+lacks_memory_alone xs kind failed (inl device) = absurd (never_fails kind failed device)
 lacks_memory_alone xs kind failed (inr (inl declined)) = declines_memory xs kind declined
 lacks_memory_alone xs kind failed (inr (inr memory)) = memory.1
 

@@ -1,47 +1,61 @@
 -- Requests one after another.
-use Rattle.std.proofs.Common.{◌≡◌, ℕ, ◌+◌, ◌-◌, ◌<◌, ◌≤◌, List, [], ◌++◌, length, take, drop, Option, Some, None, IfSome, ◌⊎◌, inl, inr, ◌↔◌, Result, Ok, Err, IfErr, refl, sym, ap, ◌∙◌, subst, arith, append_assoc, length-append}
+use Rattle.std.proofs.Common.{◌≡◌, ℕ, ◌+◌, ◌-◌, ◌<◌, ◌≤◌, List, [], ◌++◌, length, take, drop, Option, Some, None, IfSome, ◌⊎◌, inl, inr, ◌↔◌, Result}
+use Rattle.std.proofs.Common.{Ok, Err, IfErr, refl, sym, ap, ◌∙◌, subst, arith, append_assoc, length-append}
 use Rattle.std.proofs.lemmas.List.{append-nil, length-take, length-drop, take_at, drop_at, length-take-le, take_all, nil_from_length}
 use borrow.Rule.Slice.PartMut.{put_mid, post_of}
 use lib.Seq.{take-add, take-append-le}
 use Rattle.capnp_frame.specs.declared.error.ErrorKind.{ErrorKind}
-use Rattle.capnp_frame.specs.Source.{Giving, Refusing, Fails, Known, IsTail, IsFront, Advances, IsRefused, Takes}
+use Rattle.capnp_frame.specs.Source.{Giving, Refusing, Fails, IfKnown, IsTail, IsFront, Advances, IsRefused, AnswersPart}
 use Rattle.capnp_frame.specs.Sink.{Grows}
 
-pub Known-join : {P Q R : List ℕ → List ℕ → Type 0} (a b c : Option (List ℕ)) → ((x y z : List ℕ) → P x y → Q y z → R x z) → Known a b P → Known b c Q → Known a c R
-Known-join None b c join p q = tt
-Known-join (Some x) None c join p q = absurd p
-Known-join (Some x) (Some y) None join p q = absurd q
-Known-join (Some x) (Some y) (Some z) join p q = join x y z p q
+pub IfKnown-join : {P Q R : List ℕ → List ℕ → Type 0} (a b c : Option (List ℕ)) → ((x y z : List ℕ) → P x y → Q y z → R x z) → IfKnown a b P → IfKnown b c Q → IfKnown a c R
+IfKnown-join None b c join p q = tt
+IfKnown-join (Some x) None c join p q = absurd p
+IfKnown-join (Some x) (Some y) None join p q = absurd q
+IfKnown-join (Some x) (Some y) (Some z) join p q = join x y z p q
 
-pub Known-weaker : {P Q : List ℕ → List ℕ → Type 0} (a b : Option (List ℕ)) → ((x y : List ℕ) → P x y → Q x y) → Known a b P → Known a b Q
-Known-weaker None b weaker p = tt
-Known-weaker (Some x) None weaker p = p
-Known-weaker (Some x) (Some y) weaker p = weaker x y p
+pub IfKnown-weaker : {P Q : List ℕ → List ℕ → Type 0} (a b : Option (List ℕ)) → ((x y : List ℕ) → P x y → Q x y) → IfKnown a b P → IfKnown a b Q
+IfKnown-weaker None b weaker p = tt
+IfKnown-weaker (Some x) None weaker p = p
+IfKnown-weaker (Some x) (Some y) weaker p = weaker x y p
 
-pub Known-refl : (P : List ℕ → List ℕ → Type 0) (a : Option (List ℕ)) → ((x : List ℕ) → P x x) → Known a a P
-Known-refl P None p = tt
-Known-refl P (Some x) p = p x
+pub IfKnown-refl : (P : List ℕ → List ℕ → Type 0) (a : Option (List ℕ)) → ((x : List ℕ) → P x x) → IfKnown a a P
+IfKnown-refl P None p = tt
+IfKnown-refl P (Some x) p = p x
+
+-- what is refused behind some bytes
+pub IfKnown-refused : {P R : List ℕ → List ℕ → Type 0} (a b c : Option (List ℕ)) (refuses : Refusing) (n : ℕ)
+    (kind : ErrorKind) → ((x y z : List ℕ) → P x y → refuses y n kind → R x z) → IfKnown a b P → IfKnown b c IsTail
+    → IsRefused refuses n b kind → IfKnown a c R
+IfKnown-refused None b c refuses n kind join p tail q = tt
+IfKnown-refused (Some x) None c refuses n kind join p tail q = absurd p
+IfKnown-refused (Some x) (Some y) None refuses n kind join p tail q = absurd tail
+IfKnown-refused (Some x) (Some y) (Some z) refuses n kind join p tail q = join x y z p q
 
 pub IsTail-join : (x y z : List ℕ) → IsTail x y → IsTail y z → IsTail x z
 IsTail-join x y z (a, p) (b, q) = (a ++ b, p ∙ ap (λ l. a ++ l) q ∙ sym (append_assoc a b z))
 
-pub Advances-join : {S : Type 0} {unread : S → Option (List ℕ)} {failures : S → ℕ} {same : S → S → Type 0} (a b c : S) → (same a b → same b c → same a c) → Advances unread failures same a b → Advances unread failures same b c → Advances unread failures same a c
+pub Advances-join : {S : Type 0} {unread : S → Option (List ℕ)} {failures : S → ℕ} {same : S → S → Type 0} (a b c : S)
+    → (same a b → same b c → same a c) → Advances unread failures same a b → Advances unread failures same b c
+    → Advances unread failures same a c
 Advances-join {unread} a b c join p q = record {
-  tail = Known-join (unread a) (unread b) (unread c) IsTail-join p.tail q.tail;
+  tail = IfKnown-join (unread a) (unread b) (unread c) IsTail-join p.tail q.tail;
   counted = omega arith;
   same_source = join p.same_source q.same_source;
 }
 
 pub Advances-refl : {S : Type 0} {unread : S → Option (List ℕ)} {failures : S → ℕ} {same : S → S → Type 0} (a : S) → same a a → Advances unread failures same a a
 Advances-refl {unread} a self_same = record {
-  tail = Known-refl IsTail (unread a) (λ x. ([], refl));
+  tail = IfKnown-refl IsTail (unread a) (λ x. ([], refl));
   counted = omega arith;
   same_source = self_same;
 }
 
 -- two answers to one request
-pub Takes-join : {gives : Giving} {refuses : Refusing} (n : ℕ) (a b raw mid left : List ℕ) → Takes gives refuses n a raw mid → Takes gives refuses (n - length a) b mid left → Takes gives refuses n (a ++ b) raw left
-Takes-join {gives} {refuses} n a b raw mid left p q =
+pub AnswersPart-join : {gives : Giving} {refuses : Refusing} (n : ℕ) (a b raw mid left : List ℕ)
+    → AnswersPart gives refuses n a raw mid → AnswersPart gives refuses (n - length a) b mid left
+    → AnswersPart gives refuses n (a ++ b) raw left
+AnswersPart-join {gives} {refuses} n a b raw mid left p q =
     let rest_len : (n - length a) - length b ≡ n - length (a ++ b) = omega (arith, length-append a b) in
     record {
       joins = λ more rest h.
@@ -58,19 +72,28 @@ Takes-join {gives} {refuses} n a b raw mid left p q =
     }
 
 -- an answer that is the whole request
-pub Takes-whole : {gives : Giving} {refuses : Refusing} (n : ℕ) (got raw left : List ℕ) → ((l : List ℕ) → gives l 0 [] l) → length got ≡ n → Takes gives refuses n got raw left → gives raw n got left
-Takes-whole {gives} {refuses} n got raw left nothing whole p =
+pub AnswersPart-whole : {gives : Giving} {refuses : Refusing} (n : ℕ) (got raw left : List ℕ)
+    → ((l : List ℕ) → gives l 0 [] l) → length got ≡ n → AnswersPart gives refuses n got raw left → gives raw n got left
+AnswersPart-whole {gives} {refuses} n got raw left nothing whole p =
     let over : n - length got ≡ 0 = omega arith in
     subst (λ l. gives raw n l left) (append-nil got) (p.joins [] left (subst (λ k. gives left k [] left) (sym over) (nothing left)))
 
 -- no answer yet
-pub Takes-none : {gives : Giving} {refuses : Refusing} (n : ℕ) (raw : List ℕ) → Takes gives refuses n [] raw raw
-Takes-none {gives} {refuses} n raw =
+pub AnswersPart-none : {gives : Giving} {refuses : Refusing} (n : ℕ) (raw : List ℕ) → AnswersPart gives refuses n [] raw raw
+AnswersPart-none {gives} {refuses} n raw =
     let same : n ≡ n - 0 = omega arith in
-    record { joins = λ more rest h. subst (λ k. gives raw k more rest) (sym same) h; splits = λ bytes rest h. (bytes, refl, subst (λ k. gives raw k bytes rest) same h); refusals = λ kind. (λ h. subst (λ k. refuses raw k kind) (sym same) h, λ h. subst (λ k. refuses raw k kind) same h) }
+    record {
+      joins = λ more rest h. subst (λ k. gives raw k more rest) (sym same) h;
+      splits = λ bytes rest h.
+          (bytes, refl, subst (λ k. gives raw k bytes rest) same h);
+      refusals = λ kind.
+          (λ h. subst (λ k. refuses raw k kind) (sym same) h, λ h. subst (λ k. refuses raw k kind) same h);
+    }
 
 -- a refusal of the rest of a request is one of the request
-pub IsRefused-join : (gives : Giving) (refuses : Refusing) (n : ℕ) (got : List ℕ) (a b : Option (List ℕ)) (kind : ErrorKind) → Known a b (Takes gives refuses n got) → IsRefused refuses (n - length got) b kind → IsRefused refuses n a kind
+pub IsRefused-join : (gives : Giving) (refuses : Refusing) (n : ℕ) (got : List ℕ) (a b : Option (List ℕ))
+    (kind : ErrorKind) → IfKnown a b (AnswersPart gives refuses n got) → IsRefused refuses (n - length got) b kind
+    → IsRefused refuses n a kind
 IsRefused-join gives refuses n got None None kind taken refused = refused
 IsRefused-join gives refuses n got None (Some y) kind taken refused = (y, n - length got, refused)
 IsRefused-join gives refuses n got (Some x) None kind taken refused = absurd taken
@@ -82,7 +105,7 @@ Fails-join a b c p q = omega arith
 pub length-put_mid : (a : ℕ) (xs ys : List ℕ) → a ≤ length xs → length ys ≡ length xs - a → length (put_mid a (length xs - a) xs ys) ≡ length xs
 length-put_mid a xs ys within fits = simp (length-append, length-take, length-drop) (omega arith)
 
-put_mid_front : (a n : ℕ) (xs ys : List ℕ) → a ≤ length xs → n ≤ length ys → take (a + n) (put_mid a (length xs - a) xs ys) ≡ take a xs ++ take n ys
+pub put_mid_front : (a n : ℕ) (xs ys : List ℕ) → a ≤ length xs → n ≤ length ys → take (a + n) (put_mid a (length xs - a) xs ys) ≡ take a xs ++ take n ys
 put_mid_front a n xs ys within fits =
     let post = post_of a (length xs - a) xs in
     take-add a n (take a xs ++ (ys ++ post))
@@ -91,21 +114,35 @@ put_mid_front a n xs ys within fits =
     ∙ ap (λ l. take a xs ++ l) (take-append-le n ys post fits)
 
 -- a read into the rest of a buffer whose front is filled
-pub Takes-fill : (gives : Giving) (refuses : Refusing) (filled count : ℕ) (buffer part : List ℕ) (old mid new : Option (List ℕ)) → filled ≤ length buffer → length part ≡ length buffer - filled → count ≤ length part → Known old mid (Takes gives refuses (length buffer) (take filled buffer)) → Known mid new (Takes gives refuses (length part) (take count part)) → (length (put_mid filled (length buffer - filled) buffer part) ≡ length buffer) × Known old new (Takes gives refuses (length (put_mid filled (length buffer - filled) buffer part)) (take (filled + count) (put_mid filled (length buffer - filled) buffer part)))
-Takes-fill gives refuses filled count buffer part old mid new within fits fewer p q =
+pub AnswersPart-fill : (gives : Giving) (refuses : Refusing) (filled count : ℕ) (buffer part : List ℕ)
+    (old mid new : Option (List ℕ)) → filled ≤ length buffer → length part ≡ length buffer - filled
+    → count ≤ length part → IfKnown old mid (AnswersPart gives refuses (length buffer) (take filled buffer))
+    → IfKnown mid new (AnswersPart gives refuses (length part) (take count part))
+    → (length (put_mid filled (length buffer - filled) buffer part) ≡ length buffer)
+    × IfKnown old new (AnswersPart gives refuses (length (put_mid filled (length buffer - filled) buffer part))
+    (take (filled + count) (put_mid filled (length buffer - filled) buffer part)))
+AnswersPart-fill gives refuses filled count buffer part old mid new within fits fewer p q =
     let after = put_mid filled (length buffer - filled) buffer part in
     let len : length after ≡ length buffer = length-put_mid filled buffer part within fits in
     let front : take (filled + count) after ≡ take filled buffer ++ take count part = put_mid_front filled count buffer part within fewer in
     let left : length part ≡ length buffer - length (take filled buffer) = omega (arith, length-take-le filled buffer within) in
-    let joined : Known old new (Takes gives refuses (length buffer) (take filled buffer ++ take count part)) =
-    Known-join old mid new (λ x y z s t. Takes-join (length buffer) (take filled buffer) (take count part) x y z s (subst (λ k. Takes gives refuses k (take count part) y z) left t)) p q in
-    (len, subst (λ l. Known old new (Takes gives refuses (length after) l)) (sym front) (subst (λ k. Known old new (Takes gives refuses k (take filled buffer ++ take count part))) (sym len) joined))
+    let joined : IfKnown old new (AnswersPart gives refuses (length buffer) (take filled buffer ++ take count part)) =
+    IfKnown-join old mid new (λ x y z s t. AnswersPart-join (length buffer) (take filled buffer) (take count part) x y
+    z s (subst (λ k. AnswersPart gives refuses k (take count part) y z) left t)) p q in (
+      len,
+      subst (λ l. IfKnown old new (AnswersPart gives refuses (length after) l)) (sym front)
+          (subst (λ k. IfKnown old new (AnswersPart gives refuses k (take filled buffer ++ take count part))) (sym len)
+          joined),
+    )
 
 -- the whole buffer is filled
-pub Takes-filled : (gives : Giving) (refuses : Refusing) (filled : ℕ) (buffer : List ℕ) (old new : Option (List ℕ)) → ((l : List ℕ) → gives l 0 [] l) → length buffer ≤ filled → Known old new (Takes gives refuses (length buffer) (take filled buffer)) → Known old new (λ raw rest. gives raw (length buffer) buffer rest)
-Takes-filled gives refuses filled buffer old new nothing full taken =
+pub AnswersPart-filled : (gives : Giving) (refuses : Refusing) (filled : ℕ) (buffer : List ℕ)
+    (old new : Option (List ℕ)) → ((l : List ℕ) → gives l 0 [] l) → length buffer ≤ filled
+    → IfKnown old new (AnswersPart gives refuses (length buffer) (take filled buffer))
+    → IfKnown old new (λ raw rest. gives raw (length buffer) buffer rest)
+AnswersPart-filled gives refuses filled buffer old new nothing full taken =
     let whole : take filled buffer ≡ buffer = take_all filled buffer full in
-    Known-weaker old new (λ x y t. Takes-whole (length buffer) buffer x y nothing refl (subst (λ l. Takes gives refuses (length buffer) l x y) whole t)) taken
+    IfKnown-weaker old new (λ x y t. AnswersPart-whole (length buffer) buffer x y nothing refl (subst (λ l. AnswersPart gives refuses (length buffer) l x y) whole t)) taken
 
 -- a source that answered some bytes was not at its end
 pub not_at_end : (old : Option (List ℕ)) (count n : ℕ) → IfSome old (λ raw. 0 < n → (count ≡ 0) ↔ (raw ≡ [])) → 0 < n → (count ≡ 0 → ⊥) → old ≡ Some [] → ⊥
@@ -119,19 +156,27 @@ IfErr-vacuous Q (Ok x) never = tt
 IfErr-vacuous Q (Err e) never = λ a. absurd (never a)
 
 -- a refusal of the rest of a buffer
-pub IsRefused-fill : (gives : Giving) (refuses : Refusing) (filled : ℕ) (buffer part : List ℕ) (old mid : Option (List ℕ)) (kind : ErrorKind) → filled ≤ length buffer → length part ≡ length buffer - filled → Known old mid (Takes gives refuses (length buffer) (take filled buffer)) → IsRefused refuses (length part) mid kind → IsRefused refuses (length (put_mid filled (length buffer - filled) buffer part)) old kind
+pub IsRefused-fill : (gives : Giving) (refuses : Refusing) (filled : ℕ) (buffer part : List ℕ)
+    (old mid : Option (List ℕ)) (kind : ErrorKind) → filled ≤ length buffer → length part ≡ length buffer - filled
+    → IfKnown old mid (AnswersPart gives refuses (length buffer) (take filled buffer))
+    → IsRefused refuses (length part) mid kind
+    → IsRefused refuses (length (put_mid filled (length buffer - filled) buffer part)) old kind
 IsRefused-fill gives refuses filled buffer part old mid kind within fits taken refused =
     let len : length (put_mid filled (length buffer - filled) buffer part) ≡ length buffer = length-put_mid filled buffer part within fits in
     let left : length part ≡ length buffer - length (take filled buffer) = omega (arith, length-take-le filled buffer within) in
     subst (λ k. IsRefused refuses k old kind) (sym len) (IsRefused-join gives refuses (length buffer) (take filled buffer) old mid kind taken (subst (λ k. IsRefused refuses k mid kind) left refused))
 
 -- the device's failure stays, and a refusal of the rest of a buffer is one of the whole
-pub refused_fill : (F : Type 0) (gives : Giving) (refuses : Refusing) (filled : ℕ) (buffer part : List ℕ) (old mid : Option (List ℕ)) (kind : ErrorKind) → filled ≤ length buffer → length part ≡ length buffer - filled → Known old mid (Takes gives refuses (length buffer) (take filled buffer)) → F ⊎ IsRefused refuses (length part) mid kind → F ⊎ IsRefused refuses (length (put_mid filled (length buffer - filled) buffer part)) old kind
+pub refused_fill : (F : Type 0) (gives : Giving) (refuses : Refusing) (filled : ℕ) (buffer part : List ℕ)
+    (old mid : Option (List ℕ)) (kind : ErrorKind) → filled ≤ length buffer → length part ≡ length buffer - filled
+    → IfKnown old mid (AnswersPart gives refuses (length buffer) (take filled buffer)) → F
+    ⊎ IsRefused refuses (length part) mid kind → F
+    ⊎ IsRefused refuses (length (put_mid filled (length buffer - filled) buffer part)) old kind
 refused_fill F gives refuses filled buffer part old mid kind within fits taken (inl failed) = inl failed
 refused_fill F gives refuses filled buffer part old mid kind within fits taken (inr refused) = inr (IsRefused-fill gives refuses filled buffer part old mid kind within fits taken refused)
 
 -- what isn't empty in the end wasn't before
-pub not_empty_before : (old new : Option (List ℕ)) → Known old new IsTail → IfSome new (λ raw. raw ≡ [] → ⊥) → IfSome old (λ raw. raw ≡ [] → ⊥)
+pub not_empty_before : (old new : Option (List ℕ)) → IfKnown old new IsTail → IfSome new (λ raw. raw ≡ [] → ⊥) → IfSome old (λ raw. raw ≡ [] → ⊥)
 not_empty_before None new tail more = tt
 not_empty_before (Some x) None tail more = absurd tail
 not_empty_before (Some x) (Some y) tail more = λ e. more (nil_from_length y (omega (arith, ap length tail.1, ap length e, length-append tail.0 y)))
@@ -142,13 +187,21 @@ ends n None end = tt
 ends n (Some raw) end = λ _. (λ _. end, λ _. refl)
 
 -- a refusal of the rest of a request is one of the request, and a failure stays
-pub refused_join : (F : Type 0) (gives : Giving) (refuses : Refusing) (n len : ℕ) (got : List ℕ) (old mid : Option (List ℕ)) (kind : ErrorKind) → len ≡ n - length got → Known old mid (Takes gives refuses n got) → F ⊎ IsRefused refuses len mid kind → F ⊎ IsRefused refuses n old kind
+pub refused_join : (F : Type 0) (gives : Giving) (refuses : Refusing) (n len : ℕ) (got : List ℕ)
+    (old mid : Option (List ℕ)) (kind : ErrorKind) → len ≡ n - length got
+    → IfKnown old mid (AnswersPart gives refuses n got) → F ⊎ IsRefused refuses len mid kind → F
+    ⊎ IsRefused refuses n old kind
 refused_join F gives refuses n len got old mid kind left taken (inl failed) = inl failed
 refused_join F gives refuses n len got old mid kind left taken (inr refused) = inr (IsRefused-join gives refuses n got old mid kind taken (subst (λ k. IsRefused refuses k mid kind) left refused))
 
 -- a request that is answered whole
-pub Takes-given : (gives : Giving) (refuses : Refusing) (n : ℕ) (got raw left : List ℕ) → ((l : List ℕ) → gives l 0 [] l) → ((l bytes rest : List ℕ) → gives l 0 bytes rest → (bytes ≡ []) × (rest ≡ l)) → ((l : List ℕ) (m : ℕ) (bytes rest others tail : List ℕ) → gives l m bytes rest → gives l m others tail → (bytes ≡ others) × (rest ≡ tail)) → ((l : List ℕ) (m : ℕ) (bytes rest : List ℕ) (kind : ErrorKind) → gives l m bytes rest → refuses l m kind → ⊥) → length got ≡ n → gives raw n got left → Takes gives refuses n got raw left
-Takes-given gives refuses n got raw left takes_nothing gives_nothing unique apart whole given =
+pub AnswersPart-given : (gives : Giving) (refuses : Refusing) (n : ℕ) (got raw left : List ℕ)
+    → ((l : List ℕ) → gives l 0 [] l) → ((l bytes rest : List ℕ) → gives l 0 bytes rest → (bytes ≡ []) × (rest ≡ l))
+    → ((l : List ℕ) (m : ℕ) (bytes rest others tail : List ℕ) → gives l m bytes rest → gives l m others tail
+    → (bytes ≡ others) × (rest ≡ tail)) → ((l : List ℕ) (m : ℕ) (bytes rest : List ℕ) (kind : ErrorKind)
+    → gives l m bytes rest → refuses l m kind → ⊥) → length got ≡ n → gives raw n got left
+    → AnswersPart gives refuses n got raw left
+AnswersPart-given gives refuses n got raw left takes_nothing gives_nothing unique apart whole given =
     let over : n - length got ≡ 0 = omega arith in
     record {
       joins = λ more rest h.
@@ -169,9 +222,11 @@ Takes-given gives refuses n got raw left takes_nothing gives_nothing unique apar
 pub IsFront-join : (x y z : List ℕ) → IsFront x y → IsFront y z → IsFront x z
 IsFront-join x y z (a, p) (b, q) = (a ++ b, q ∙ ap (λ l. l ++ b) p ∙ append_assoc x a b)
 
-pub Grows-join : {S : Type 0} {written : S → Option (List ℕ)} {failures : S → ℕ} {same : S → S → Type 0} (a b c : S) → (same a b → same b c → same a c) → Grows written failures same a b → Grows written failures same b c → Grows written failures same a c
+pub Grows-join : {S : Type 0} {written : S → Option (List ℕ)} {failures : S → ℕ} {same : S → S → Type 0} (a b c : S)
+    → (same a b → same b c → same a c) → Grows written failures same a b → Grows written failures same b c
+    → Grows written failures same a c
 Grows-join {written = written} a b c join p q = record {
-  front = Known-join (written a) (written b) (written c) IsFront-join p.front q.front;
+  front = IfKnown-join (written a) (written b) (written c) IsFront-join p.front q.front;
   counted = omega arith;
   same_sink = join p.same_sink q.same_sink;
 }

@@ -1,70 +1,18 @@
 -- Tables, field by field.
-use Rattle.std.proofs.Common.{◌≡◌, ℕ, ◌+◌, ◌-◌, ◌*◌, ◌/◌, ◌<◌, ◌≤◌, ◌^◌, Option, Some, None, ◌⊎◌, inl, inr, ◌↔◌, List, [], ◌∷◌, ◌++◌, length, take, drop, refl, sym, ap, ◌∙◌, subst, arith, append_assoc, length-append}
-use Rattle.std.proofs.lemmas.List.{take-append-drop, length-drop}
-use Rattle.std.proofs.lemmas.List.Concat.{flat_map-append}
-use lib.Seq.{take-add, take-append-le}
-use Rattle.std.specs.Prelude.{sum}
+use Rattle.std.proofs.Common.{◌≡◌, ℕ, ◌+◌, ◌-◌, ◌*◌, ◌/◌, ◌<◌, ◌^◌, List, [], ◌∷◌, ◌++◌, length, take}
+use Rattle.std.proofs.Common.{refl, sym, ap, ◌∙◌, subst, arith, append_assoc, length-append}
+use lib.Seq.{take-append-le}
 use Rattle.std.specs.List.{flat_map, AllByRecursion}
 use Rattle.std.specs.Int.{w32, from_le_bytes}
 use Rattle.std.proofs.lemmas.Nat.{from_le_bytes-to_le_bytes_4}
-use Rattle.std.proofs.lemmas.Option.{none-some, same_Some}
-use Rattle.capnp_frame.specs.Splitting.{same_front}
-use Rattle.capnp_frame.specs.declared.error.ErrorKind.{ErrorKind}
-use Rattle.capnp_frame.specs.declared.error.ErrorKind.TheVariants.{OutOfMemory, MessageSizeOverflow}
+use Rattle.capnp_frame.specs.SplittingLaws.{same_front}
 use Rattle.capnp_frame.specs.SegmentTable.{field, FitsField, table_text, IsTable}
-use Rattle.capnp_frame.specs.Source.{Giving, Known}
+use Rattle.capnp_frame.specs.Source.{Giving}
 use Rattle.capnp_frame.specs.Requests.{TableStands}
-use Rattle.capnp_frame.proofs.Ranges.{sum_push}
-
--- the first lengths of a table of so many segments, of its text in two parts
-pub record Begins (first others ns : List ℕ) (count : ℕ) : Type 0 where
-  pub each : AllByRecursion FitsField ns
-  pub small : sum ns ≤ length ns * 2 ^ 32
-  pub spelled : field (count - 1) ++ flat_map field ns ≡ first ++ take (4 * (length ns - 1)) others
-
--- a push whose total fits is refused for want of memory alone
-pub lacks_memory : (kind : ErrorKind) (total : ℕ) → total < 2 ^ 64 → (kind ≡ OutOfMemory) ⊎ (kind ≡ MessageSizeOverflow) → (kind ≡ MessageSizeOverflow) ↔ (2 ^ 64 ≤ total) → kind ≡ OutOfMemory
-lacks_memory kind total fits (inl memory) overflow = memory
-lacks_memory kind total fits (inr over) overflow = let past = overflow.0 over in absurd (omega arith)
 
 pub AllByRecursion-push : {X : Type 0} (P : X → Type 0) (xs : List X) (y : X) → AllByRecursion P xs → P y → AllByRecursion P (xs ++ y ∷ [])
 AllByRecursion-push P [] y all here = (here, tt)
 AllByRecursion-push P (x ∷ xs) y all here = (all.0, AllByRecursion-push P xs y all.1 here)
-
-pub Begins-push : (first others ns : List ℕ) (count index n : ℕ) → Begins first others ns count → length ns ≡ index → 0 < index → n < 2 ^ 32 → field n ≡ take 4 (drop (4 * (index - 1)) others) → Begins first others (ns ++ n ∷ []) count
-Begins-push first others ns count index n begins len some fits read =
-    let at : 4 * (index - 1) + 4 ≡ 4 * (length (ns ++ n ∷ []) - 1) = omega (arith, length-append ns (n ∷ [])) in
-    let grown : flat_map field (ns ++ n ∷ []) ≡ flat_map field ns ++ field n = flat_map-append field ns (n ∷ []) in
-    let here : take (4 * (length ns - 1)) others ≡ take (4 * (index - 1)) others = ap (λ k. take (4 * (k - 1)) others) len in
-    record {
-      each = AllByRecursion-push FitsField ns n begins.each fits;
-      small = omega (arith, sum_push ns n, length-append ns (n ∷ []), begins.small);
-      spelled =
-          ap (λ l. field (count - 1) ++ l) grown
-          ∙ sym (append_assoc (field (count - 1)) (flat_map field ns) (field n))
-          ∙ ap (λ l. l ++ field n) begins.spelled
-          ∙ append_assoc first (take (4 * (length ns - 1)) others) (field n)
-          ∙ ap (λ l. first ++ (l ++ field n)) here
-          ∙ ap (λ l. first ++ (take (4 * (index - 1)) others ++ l)) read
-          ∙ ap (λ l. first ++ l) (sym (take-add (4 * (index - 1)) 4 others))
-          ∙ ap (λ k. first ++ take k others) at;
-    }
-
-pub IsTable-from_begins : (first others ns : List ℕ) (count : ℕ) → Begins first others ns count → length ns ≡ count → 0 < count → count < 512 → length others ≡ 8 * (count / 2) → IsTable (first ++ others) ns
-IsTable-from_begins first others ns count begins len some few room =
-    let cut_at = 4 * (length ns - 1) in
-    let same : field (count - 1) ≡ field (length ns - 1) = ap (λ k. field (k - 1)) (sym len) in
-    let whole : take cut_at others ++ drop cut_at others ≡ others = take-append-drop cut_at others in
-    record {
-      can = record { some = omega arith; count = omega arith; each = begins.each };
-      padding = drop cut_at others;
-      padded = length-drop cut_at others ∙ omega arith;
-      spelled =
-          ap (λ l. first ++ l) (sym whole)
-          ∙ sym (append_assoc first (take cut_at others) (drop cut_at others))
-          ∙ ap (λ l. l ++ drop cut_at others) (sym begins.spelled)
-          ∙ ap (λ l. l ++ flat_map field ns ++ drop cut_at others) same;
-    }
 
 pub field-once : (m n : ℕ) → m < 2 ^ 32 → n < 2 ^ 32 → field m ≡ field n → m ≡ n
 field-once m n p q e = sym (from_le_bytes-to_le_bytes_4 m p) ∙ ap (from_le_bytes w32) e ∙ from_le_bytes-to_le_bytes_4 n q
@@ -99,7 +47,9 @@ IsTable-once text ns ms p q =
     let others = q.can.some in
     let few = p.can.count in
     let most = q.can.count in
-    let counts = same_front (field (length ns - 1)) (field (length ms - 1)) (flat_map field ns ++ p.padding) (flat_map field ms ++ q.padding) refl (sym (append_assoc (field (length ns - 1)) (flat_map field ns) p.padding) ∙ whole ∙ append_assoc (field (length ms - 1)) (flat_map field ms) q.padding) in
+    let counts = same_front (field (length ns - 1)) (field (length ms - 1)) (flat_map field ns ++ p.padding)
+    (flat_map field ms ++ q.padding) refl (sym (append_assoc (field (length ns - 1)) (flat_map field ns) p.padding)
+    ∙ whole ∙ append_assoc (field (length ms - 1)) (flat_map field ms) q.padding) in
     let less : length ns - 1 ≡ length ms - 1 = field-once (length ns - 1) (length ms - 1) (omega arith) (omega arith) counts.0 in
     let fields = same_front (flat_map field ns) (flat_map field ms) p.padding q.padding (omega (arith, length-fields ns, length-fields ms)) counts.1 in
     fields_once ns ms p.can.each q.can.each fields.0
@@ -118,19 +68,17 @@ told ns first others table size =
     omega arith
 
 -- one table stands at a front
-pub TableStands-once : (gives : Giving) (raw ns rest ms left : List ℕ) → ((raw : List ℕ) (n : ℕ) (bytes rest others left : List ℕ) → gives raw n bytes rest → gives raw n others left → (bytes ≡ others) × (rest ≡ left)) → ((raw : List ℕ) (n : ℕ) (bytes rest : List ℕ) → gives raw n bytes rest → length bytes ≡ n) → TableStands gives ns raw rest → TableStands gives ms raw left → (ns ≡ ms) × (rest ≡ left)
+pub TableStands-once : (gives : Giving) (raw ns rest ms left : List ℕ)
+    → ((raw : List ℕ) (n : ℕ) (bytes rest others left : List ℕ) → gives raw n bytes rest → gives raw n others left
+    → (bytes ≡ others) × (rest ≡ left)) → ((raw : List ℕ) (n : ℕ) (bytes rest : List ℕ) → gives raw n bytes rest
+    → length bytes ≡ n) → TableStands gives ns raw rest → TableStands gives ms raw left → (ns ≡ ms) × (rest ≡ left)
 TableStands-once gives raw ns rest ms left unique all p q =
     let first = unique raw 8 p.first p.between q.first q.between p.first_given q.first_given in
-    let lens : length ns ≡ length ms = sym (told ns p.first p.others p.table (all raw 8 p.first p.between p.first_given)) ∙ ap (λ l. number l + 1) first.0 ∙ told ms q.first q.others q.table (all raw 8 q.first q.between q.first_given) in
-    let rests = unique q.between (8 * (length ms / 2)) p.others rest q.others left (subst (λ k. gives q.between (8 * (k / 2)) p.others rest) lens (subst (λ l. gives l (8 * (length ns / 2)) p.others rest) first.1 p.others_given)) q.others_given in
+    let lens : length ns ≡ length ms = sym (told ns p.first p.others p.table
+    (all raw 8 p.first p.between p.first_given)) ∙ ap (λ l. number l + 1) first.0
+    ∙ told ms q.first q.others q.table (all raw 8 q.first q.between q.first_given) in
+    let rests = unique q.between (8 * (length ms / 2)) p.others rest q.others left
+    (subst (λ k. gives q.between (8 * (k / 2)) p.others rest) lens
+    (subst (λ l. gives l (8 * (length ns / 2)) p.others rest) first.1 p.others_given)) q.others_given in
     let texts : p.first ++ p.others ≡ q.first ++ q.others = ap (λ l. l ++ p.others) first.0 ∙ ap (λ l. q.first ++ l) rests.0 in
     (IsTable-once (q.first ++ q.others) ns ms (subst (λ l. IsTable l ns) texts p.table) q.table, rests.1)
-
--- where something was given there was something
-pub given_not_empty : (gives : Giving) (old mid : Option (List ℕ)) (n : ℕ) (bytes : List ℕ) → ((k : ℕ) (bytes rest : List ℕ) → gives [] k bytes rest → k ≡ 0) → Known old mid (λ raw rest. gives raw n bytes rest) → 0 < n → old ≡ Some [] → ⊥
-given_not_empty gives None mid n bytes empty given some e = absurd (none-some [] e)
-given_not_empty gives (Some raw) None n bytes empty given some e = absurd given
-given_not_empty gives (Some raw) (Some left) n bytes empty given some e =
-    let none : raw ≡ [] = same_Some raw [] e in
-    let zero_len : n ≡ 0 = empty n bytes left (subst (λ l. gives l n bytes left) none given) in
-    absurd (omega arith)

@@ -36,7 +36,9 @@ pub two_flat_length : length (frame_text seven) ≡ 40
 two_flat_length = refl
 
 -- the table of four lengths
-pub four_lengths : zero_padded_table (lengths (replicate 616 0 ∷ replicate 184 0 ∷ replicate 8 0 ∷ replicate 792 0 ∷ [])) ≡ 3 ∷ 0 ∷ 0 ∷ 0 ∷ 77 ∷ 0 ∷ 0 ∷ 0 ∷ 23 ∷ 0 ∷ 0 ∷ 0 ∷ 1 ∷ 0 ∷ 0 ∷ 0 ∷ 99 ∷ 0 ∷ 0 ∷ 0 ∷ 0 ∷ 0 ∷ 0 ∷ 0 ∷ []
+pub four_lengths : zero_padded_table (lengths
+    (replicate 616 0 ∷ replicate 184 0 ∷ replicate 8 0 ∷ replicate 792 0 ∷ [])) ≡ 3 ∷ 0 ∷ 0 ∷ 0 ∷ 77 ∷ 0 ∷ 0 ∷ 0 ∷ 23
+    ∷ 0 ∷ 0 ∷ 0 ∷ 1 ∷ 0 ∷ 0 ∷ 0 ∷ 99 ∷ 0 ∷ 0 ∷ 0 ∷ 0 ∷ 0 ∷ 0 ∷ 0 ∷ []
 four_lengths = refl
 
 -- the refusal table: a cut first word

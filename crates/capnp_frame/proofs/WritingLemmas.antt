@@ -1,21 +1,21 @@
 -- Pieces one after another, and the tables that are written.
-use Rattle.std.proofs.Common.{◌≡◌, ℕ, ◌+◌, ◌-◌, ◌*◌, ◌<◌, ◌≤◌, ◌^◌, Option, Some, None, ◌⊎◌, inl, inr, zero, suc, List, [], ◌∷◌, ◌++◌, length, take, drop, replicate, refl, sym, ap, ◌∙◌, subst, arith, append_assoc, length-append}
+use Rattle.std.proofs.Common.{◌≡◌, ℕ, ◌+◌, ◌-◌, ◌*◌, ◌<◌, ◌≤◌, ◌^◌, Option, Some, ◌⊎◌, inl, inr, zero, suc, List, [], ◌∷◌, ◌++◌, length, take}
+use Rattle.std.proofs.Common.{drop, replicate, refl, sym, ap, ◌∙◌, subst, arith, append_assoc, length-append}
 use Rattle.std.proofs.lemmas.List.{append-nil, take_more, map-append, drop-replicate, length-replicate, take_at, drop_at, length-map, take-append-drop, drop-drop, length-take-le}
 use Rattle.std.proofs.lemmas.List.Sums.{sum_by-cons}
 use Rattle.std.proofs.lemmas.List.Concat.{flat_map-append}
 use Rattle.std.proofs.lemmas.Option.{slice_get_within, get_or_from_slice_get}
 use Rattle.std.proofs.lemmas.Bool.Decides.{nat_tests}
-use Rattle.std.specs.Prelude.{slice_get, sum, option_copied, Result, OnOk}
+use Rattle.std.specs.Prelude.{slice_get, sum, Result, OnOk}
 use Rattle.std.proofs.lemmas.Result.{on_ok_weaker}
-use denote.Ref.{Bor}
 use Rattle.std.specs.List.{flat_map, AllByRecursion}
 use Rattle.capnp_frame.specs.declared.error.ErrorKind.{ErrorKind}
 use Rattle.capnp_frame.specs.Message.{word_count, lengths, size_in_words}
 use Rattle.capnp_frame.specs.SegmentTable.{field, FitsField, table_size, padding_len, zero_padded_table}
-use Rattle.capnp_frame.specs.Source.{Known}
+use Rattle.capnp_frame.specs.Source.{IfKnown}
 use Rattle.capnp_frame.specs.Sink.{Appending, Declining, AppendsAll, DeclinesSome, Adds}
 use Rattle.capnp_frame.specs.Writing.{word_and_rest}
-use Rattle.capnp_frame.proofs.SourceLemmas.{Known-join, Known-weaker}
+use Rattle.capnp_frame.proofs.SourceLemmas.{IfKnown-join, IfKnown-weaker}
 use Rattle.capnp_frame.proofs.Ranges.{sum_push}
 use Rattle.capnp_frame.proofs.TableLemmas.{length-fields}
 
@@ -25,19 +25,25 @@ AppendsAll-append : (appends : Appending) (xs ys : List (List ℕ)) (s t : List 
 AppendsAll-append appends [] ys s t p q = subst (λ l. AppendsAll appends ys (l ++ t)) (sym p) q
 AppendsAll-append appends (x ∷ xs) ys s t p q = (p.0, p.1 ++ t, p.2, AppendsAll-append appends xs ys p.1 t p.3 q, ap (λ l. l ++ t) p.4 ∙ append_assoc p.0 p.1 t)
 
-pub written_more : (appends : Appending) (xs ys : List (List ℕ)) (a b c : Option (List ℕ)) → Known a b (Adds (AppendsAll appends xs)) → Known b c (Adds (AppendsAll appends ys)) → Known a c (Adds (AppendsAll appends (xs ++ ys)))
-written_more appends xs ys a b c = Known-join a b c (λ x y z p q. (p.0 ++ q.0, AppendsAll-append appends xs ys p.0 q.0 p.1 q.1, q.2 ∙ ap (λ l. l ++ q.0) p.2 ∙ append_assoc x p.0 q.0))
+pub written_more : (appends : Appending) (xs ys : List (List ℕ)) (a b c : Option (List ℕ))
+    → IfKnown a b (Adds (AppendsAll appends xs)) → IfKnown b c (Adds (AppendsAll appends ys))
+    → IfKnown a c (Adds (AppendsAll appends (xs ++ ys)))
+written_more appends xs ys a b c = IfKnown-join a b c (λ x y z p q. (p.0 ++ q.0, AppendsAll-append appends xs ys p.0 q.0 p.1 q.1, q.2 ∙ ap (λ l. l ++ q.0) p.2 ∙ append_assoc x p.0 q.0))
 
-pub written_one : (appends : Appending) (piece : List ℕ) (a b : Option (List ℕ)) → Known a b (Adds (appends piece)) → Known a b (Adds (AppendsAll appends (piece ∷ [])))
-written_one appends piece a b = Known-weaker a b (λ x y p. (p.0, (p.0, [], p.1, refl, sym (append-nil p.0)), p.2))
+pub written_one : (appends : Appending) (piece : List ℕ) (a b : Option (List ℕ)) → IfKnown a b (Adds (appends piece)) → IfKnown a b (Adds (AppendsAll appends (piece ∷ [])))
+written_one appends piece a b = IfKnown-weaker a b (λ x y p. (p.0, (p.0, [], p.1, refl, sym (append-nil p.0)), p.2))
 
 pub take-next : {X : Type 0} (xs : List X) (i : ℕ) (x : X) → slice_get xs i ≡ Some x → take (i + 1) xs ≡ take i xs ++ x ∷ []
 take-next xs i x here = take_more xs i x (slice_get_within xs i x here) ∙ ap (λ y. take i xs ++ y ∷ []) (get_or_from_slice_get xs i x x here)
 
 -- a piece more
-pub written_next : (appends : Appending) (segments : List (List ℕ)) (index : ℕ) (piece : List ℕ) (a b c : Option (List ℕ)) → slice_get segments index ≡ Some piece → Known a b (Adds (AppendsAll appends (take index segments))) → Known b c (Adds (appends piece)) → Known a c (Adds (AppendsAll appends (take (index + 1) segments)))
+pub written_next : (appends : Appending) (segments : List (List ℕ)) (index : ℕ) (piece : List ℕ)
+    (a b c : Option (List ℕ)) → slice_get segments index ≡ Some piece
+    → IfKnown a b (Adds (AppendsAll appends (take index segments))) → IfKnown b c (Adds (appends piece))
+    → IfKnown a c (Adds (AppendsAll appends (take (index + 1) segments)))
 written_next appends segments index piece a b c here before added =
-    subst (λ l. Known a c (Adds (AppendsAll appends l))) (sym (take-next segments index piece here)) (written_more appends (take index segments) (piece ∷ []) a b c before (written_one appends piece b c added))
+    subst (λ l. IfKnown a c (Adds (AppendsAll appends l))) (sym (take-next segments index piece here))
+    (written_more appends (take index segments) (piece ∷ []) a b c before (written_one appends piece b c added))
 
 pub DeclinesSome-front : (refuses : Declining) (xs ys : List (List ℕ)) (kind : ErrorKind) → DeclinesSome refuses xs kind → DeclinesSome refuses (xs ++ ys) kind
 DeclinesSome-front refuses [] ys kind p = absurd p
@@ -63,10 +69,12 @@ parts_one table no_more = grind (arith, nat_tests)
 
 -- lengths
 
-pub lengths-next : (segments : List (List ℕ)) (index : ℕ) (segment : List ℕ) → slice_get segments index ≡ Some segment → lengths (take (index + 1) segments) ≡ lengths (take index segments) ++ word_count segment ∷ []
+pub lengths-next : (segments : List (List ℕ)) (index : ℕ) (segment : List ℕ) → slice_get segments index ≡ Some segment
+    → lengths (take (index + 1) segments) ≡ lengths (take index segments) ++ word_count segment ∷ []
 lengths-next segments index segment here = ap lengths (take-next segments index segment here) ∙ map-append word_count (take index segments) (segment ∷ [])
 
-pub size-next : (segments : List (List ℕ)) (index : ℕ) (segment : List ℕ) → slice_get segments index ≡ Some segment → size_in_words (take (index + 1) segments) ≡ size_in_words (take index segments) + word_count segment
+pub size-next : (segments : List (List ℕ)) (index : ℕ) (segment : List ℕ) → slice_get segments index ≡ Some segment
+    → size_in_words (take (index + 1) segments) ≡ size_in_words (take index segments) + word_count segment
 size-next segments index segment here = ap sum (lengths-next segments index segment here) ∙ sum_push (lengths (take index segments)) (word_count segment)
 
 sum-append : (ms ns : List ℕ) → sum (ms ++ ns) ≡ sum ms + sum ns
@@ -75,7 +83,9 @@ sum-append (m ∷ ms) ns = omega (arith, sum_by-cons (λ x. x) m (ms ++ ns), sum
 
 pub size_take_le : (segments : List (List ℕ)) (index : ℕ) → size_in_words (take index segments) ≤ size_in_words segments
 size_take_le segments index =
-    let parts : size_in_words segments ≡ sum (lengths (take index segments) ++ lengths (drop index segments)) = ap size_in_words (sym (take-append-drop index segments)) ∙ ap sum (map-append word_count (take index segments) (drop index segments)) in
+    let parts : size_in_words segments ≡ sum (lengths (take index segments) ++ lengths (drop index segments)) = ap
+    size_in_words (sym (take-append-drop index segments))
+    ∙ ap sum (map-append word_count (take index segments) (drop index segments)) in
     omega (arith, parts, sum-append (lengths (take index segments)) (lengths (drop index segments)))
 
 -- A table of so many segments whose first lengths are filled in, and which is zero behind them.
@@ -85,7 +95,8 @@ pub record IsFilled (count : ℕ) (ns table : List ℕ) : Type 0 where
 pub length-filled : (count : ℕ) (ns table : List ℕ) → IsFilled count ns table → length ns ≤ count → 0 < count → length table ≡ table_size count
 length-filled count ns table filled fewer some =
     let back : ℕ = table_size count - 4 * (length ns + 1) in
-    let all : length table ≡ length (field (count - 1) ++ flat_map field ns) + length (replicate back 0) = ap length filled.spelled ∙ length-append (field (count - 1) ++ flat_map field ns) (replicate back 0) in
+    let all : length table ≡ length (field (count - 1) ++ flat_map field ns) + length (replicate back 0) = ap length
+    filled.spelled ∙ length-append (field (count - 1) ++ flat_map field ns) (replicate back 0) in
     omega (arith, all, length-append (field (count - 1)) (flat_map field ns), length-fields ns, length-replicate {A = ℕ} back 0)
 
 -- the number of segments is filled in
@@ -95,7 +106,8 @@ filled_first count old new some zeros written =
     record { spelled = written ∙ ap (λ l. field (count - 1) ++ l) behind }
 
 -- a length is filled in
-pub filled_next : (count : ℕ) (ns old new : List ℕ) (at n : ℕ) → IsFilled count ns old → at ≡ 4 * (length ns + 1) → new ≡ take at old ++ field n ++ drop (at + 4) old → IsFilled count (ns ++ n ∷ []) new
+pub filled_next : (count : ℕ) (ns old new : List ℕ) (at n : ℕ) → IsFilled count ns old → at ≡ 4 * (length ns + 1)
+    → new ≡ take at old ++ field n ++ drop (at + 4) old → IsFilled count (ns ++ n ∷ []) new
 filled_next count ns old new at n filled place written =
     let front = field (count - 1) ++ flat_map field ns in
     let back : ℕ = table_size count - 4 * (length ns + 1) in
@@ -103,27 +115,27 @@ filled_next count ns old new at n filled place written =
     let before : take at old ≡ front = ap (take at) filled.spelled ∙ take_at front (replicate back 0) at long in
     let zeros : drop at old ≡ replicate back 0 = ap (drop at) filled.spelled ∙ drop_at front (replicate back 0) at long in
     let less : back - 4 ≡ table_size count - 4 * (length (ns ++ n ∷ []) + 1) = omega (arith, length-append ns (n ∷ [])) in
-    let behind : drop (at + 4) old ≡ replicate (table_size count - 4 * (length (ns ++ n ∷ []) + 1)) 0 = sym (drop-drop 4 at old) ∙ ap (drop 4) zeros ∙ drop-replicate 4 back 0 ∙ ap (λ k. replicate k 0) less in
-    let more : front ++ field n ≡ field (count - 1) ++ flat_map field (ns ++ n ∷ []) = append_assoc (field (count - 1)) (flat_map field ns) (field n) ∙ ap (λ l. field (count - 1) ++ l) (sym (flat_map-append field ns (n ∷ []))) in
-    record { spelled = written ∙ ap (λ l. l ++ field n ++ drop (at + 4) old) before ∙ ap (λ l. front ++ field n ++ l) behind ∙ ap (λ l. l ++ replicate (table_size count - 4 * (length (ns ++ n ∷ []) + 1)) 0) more }
+    let behind : drop (at + 4) old ≡ replicate (table_size count - 4 * (length (ns ++ n ∷ []) + 1)) 0 = sym
+    (drop-drop 4 at old) ∙ ap (drop 4) zeros ∙ drop-replicate 4 back 0 ∙ ap (λ k. replicate k 0) less in
+    let more : front ++ field n ≡ field (count - 1) ++ flat_map field (ns ++ n ∷ []) = append_assoc (field (count - 1))
+    (flat_map field ns) (field n) ∙ ap (λ l. field (count - 1) ++ l) (sym (flat_map-append field ns (n ∷ []))) in
+    record {
+      spelled = written ∙ ap (λ l. l ++ field n ++ drop (at + 4) old) before
+          ∙ ap (λ l. front ++ field n ++ l) behind
+          ∙ ap (λ l. l ++ replicate (table_size count - 4 * (length (ns ++ n ∷ []) + 1)) 0) more;
+    }
 
 -- all lengths are filled in
 pub filled_all : (count : ℕ) (ns table : List ℕ) → IsFilled count ns table → count ≡ length ns → 0 < count → table ≡ zero_padded_table ns
 filled_all count ns table filled all some =
     let behind : table_size count - 4 * (length ns + 1) ≡ padding_len ns = omega arith in
-    filled.spelled ∙ ap (λ k. field (k - 1) ++ flat_map field ns ++ replicate (table_size count - 4 * (length ns + 1)) 0) all ∙ ap (λ k. field (length ns - 1) ++ flat_map field ns ++ replicate k 0) behind
-
--- what a call of `get_segment` says of its index
-pub shown_at : (r : Option (Bor (List ℕ))) (segment : Bor (List ℕ)) (segments : List (List ℕ)) (index : ℕ) → r ≡ Some segment → option_copied r ≡ slice_get segments index → slice_get segments index ≡ Some segment.now
-shown_at r segment segments index is copied = sym copied ∙ ap option_copied is
-
-pub none_past : (r : Option (Bor (List ℕ))) (segments : List (List ℕ)) (index : ℕ) → r ≡ None → option_copied r ≡ slice_get segments index → length segments ≤ index
-none_past r [] index is copied = omega arith
-none_past r (segment ∷ segments) zero is copied = let never : None ≡ Some segment = sym (ap option_copied is) ∙ copied in cc
-none_past r (segment ∷ segments) (suc index) is copied = let inner = none_past r segments index is copied in omega arith
+    filled.spelled ∙ ap (λ k. field (k - 1) ++ flat_map field ns ++ replicate (table_size count - 4 * (length ns + 1))
+    0) all ∙ ap (λ k. field (length ns - 1) ++ flat_map field ns ++ replicate k 0) behind
 
 -- the refusal of one piece, and the device's
-pub refused_at : {F : Type 0} (refuses : Declining) (segments : List (List ℕ)) (index : ℕ) (segment : List ℕ) (kind : ErrorKind) → slice_get segments index ≡ Some segment → F ⊎ refuses segment kind → F ⊎ DeclinesSome refuses segments kind
+pub refused_at : {F : Type 0} (refuses : Declining) (segments : List (List ℕ)) (index : ℕ) (segment : List ℕ)
+    (kind : ErrorKind) → slice_get segments index ≡ Some segment → F ⊎ refuses segment kind → F
+    ⊎ DeclinesSome refuses segments kind
 refused_at refuses segments index segment kind here (inl failed) = inl failed
 refused_at refuses segments index segment kind here (inr refused) = inr (DeclinesSome-at refuses segments index segment kind here refused)
 
@@ -148,5 +160,7 @@ pub length-lengths_take : (segments : List (List ℕ)) (i : ℕ) → i ≤ lengt
 length-lengths_take segments i within = length-map (take i segments) word_count ∙ length-take-le i segments within
 
 -- what is written after the first pieces, if all is
-pub written_rest : {X E : Type 0} (r : Result X E) (appends : Appending) (xs ys : List (List ℕ)) (a b c : Option (List ℕ)) → Known a b (Adds (AppendsAll appends xs)) → OnOk r (Known b c (Adds (AppendsAll appends ys))) → OnOk r (Known a c (Adds (AppendsAll appends (xs ++ ys))))
+pub written_rest : {X E : Type 0} (r : Result X E) (appends : Appending) (xs ys : List (List ℕ))
+    (a b c : Option (List ℕ)) → IfKnown a b (Adds (AppendsAll appends xs))
+    → OnOk r (IfKnown b c (Adds (AppendsAll appends ys))) → OnOk r (IfKnown a c (Adds (AppendsAll appends (xs ++ ys))))
 written_rest r appends xs ys a b c before = on_ok_weaker r (written_more appends xs ys a b c before)

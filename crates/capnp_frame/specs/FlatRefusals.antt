@@ -1,5 +1,5 @@
 -- Which refusal a reader of a slice or a buffer answers: the lines of its table in their order (docs/REFUSALS.md).
-use Rattle.std.specs.Prelude.{◌≡◌, ℕ, ◌+◌, ◌-◌, ◌*◌, ◌/◌, ◌%◌, ◌^◌, ◌<◌, List, [], length, sum, Option}
+use Rattle.std.specs.Prelude.{◌≡◌, ℕ, ◌+◌, ◌-◌, ◌*◌, ◌/◌, ◌%◌, ◌^◌, ◌<◌, ◌≤◌, List, [], length, sum, Option}
 use Rattle.capnp_frame.specs.declared.error.ErrorKind.{ErrorKind}
 use Rattle.capnp_frame.specs.declared.error.ErrorKind.TheVariants.{FailedToFillTheWholeBuffer, InvalidNumberOfSegments, MessageEndsPrematurely, MessageTooLarge}
 use Rattle.capnp_frame.specs.SegmentTable.{table_size}
@@ -13,12 +13,12 @@ pub data FlatForm : Type 0 where
   -- field by field
   by_fields : FlatForm
 
--- where there are no bytes
+-- the refusal where there are no bytes at all
 abbrev pub empty_kind : FlatForm → ErrorKind
 empty_kind (by_words empty) = empty
 empty_kind by_fields = MessageEndsPrematurely 4 0
 
--- where the table is cut, and so many bytes are there
+-- the refusal of a table that is cut, where so many bytes are there
 abbrev pub cut_kind : FlatForm → ℕ → ErrorKind
 cut_kind (by_words empty) there = FailedToFillTheWholeBuffer
 cut_kind by_fields there = MessageEndsPrematurely 4 (there % 4)
@@ -28,10 +28,14 @@ abbrev pub count_end : FlatForm → ℕ
 count_end (by_words empty) = 8
 count_end by_fields = 4
 
--- the number of segments that the first field tells
+-- the number of segments where the first field holds `last`; a stream reader adds 1 modulo 2 ^ 32
 abbrev pub count_of : FlatForm → ℕ → ℕ
 count_of (by_words empty) last = (last + 1) % 2 ^ 32
 count_of by_fields last = last + 1
+
+-- The number of segments is there and accepted: where a reader takes memory for their lengths.
+abbrev pub AcceptsCount : FlatForm → List ℕ → Type 0
+AcceptsCount form bytes = (count_end form ≤ length bytes) × (IsOutOfRange (count_of form (number bytes)) → ⊥)
 
 -- how many bytes are taken before the limit is tested
 abbrev pub lengths_end : FlatForm → ℕ → ℕ
@@ -40,26 +44,26 @@ lengths_end by_fields count = 4 * (count + 1)
 
 -- Below, the lines from the last to the first.
 
--- the segments are cut
+-- The last line: the segments are cut, and the refusal tells how many words of them are there.
 abbrev pub CutsSegments : ErrorKind → List ℕ → ℕ → ℕ → Type 0
 CutsSegments kind bytes count total = (length bytes < table_size count + 8 * total)
     × (kind ≡ MessageEndsPrematurely total ((length bytes - table_size count) / 8))
 
--- behind the lengths: the limit, the padding
+-- the lines once the lengths `ns` are read: the limit of words, the padding, the segments
 abbrev pub RefusesLengths : FlatForm → Option ℕ → ErrorKind → List ℕ → ℕ → List ℕ → Type 0
 RefusesLengths form limit kind bytes count ns =
     Unless (IsTooLarge ns limit) (kind ≡ MessageTooLarge (sum ns)) (
     Unless (length bytes < table_size count) (kind ≡ cut_kind form (length bytes)) (
     CutsSegments kind bytes count (sum ns)))
 
--- behind the number of segments: its range, the lengths
+-- the lines once the number of segments is read: its range, the lengths, and what comes after them
 abbrev pub RefusesCount : FlatForm → Option ℕ → ErrorKind → List ℕ → ℕ → Type 0
 RefusesCount form limit kind bytes count =
     Unless (IsOutOfRange count) (kind ≡ InvalidNumberOfSegments count) (
     Unless (length bytes < lengths_end form count) (kind ≡ cut_kind form (length bytes)) (
     RefusesLengths form limit kind bytes count (told_lengths count bytes)))
 
--- all lines
+-- All lines: a reader that takes the table in this form refuses the bytes by this kind.
 abbrev pub RefusesFlat : FlatForm → Option ℕ → ErrorKind → List ℕ → Type 0
 RefusesFlat form limit kind bytes =
     Unless (bytes ≡ []) (kind ≡ empty_kind form) (

@@ -42,11 +42,11 @@ numbers (suc count) bytes = number bytes ∷ numbers count (drop 4 bytes)
 abbrev pub told_lengths : ℕ → List ℕ → List ℕ
 told_lengths count bytes = numbers count (drop 4 bytes)
 
--- the parts of these lengths behind the table
+-- the segments of these lengths, cut from the bytes behind the table
 abbrev pub told_segments : ℕ → List ℕ → List (List ℕ)
 told_segments count bytes = cut (told_lengths count bytes) (drop (table_size count) bytes)
 
--- the lengths in so many fields are spelled there
+-- The lengths that so many fields tell fit their fields, and the fields are their spelling.
 pub record SpellsLengths (bytes : List ℕ) (count : ℕ) : Type 0 where
   pub each : AllByRecursion FitsField (told_lengths count bytes)
   pub spelled : flat_map field (told_lengths count bytes) ≡ take (4 * count) (drop 4 bytes)
@@ -59,7 +59,7 @@ pub record TellsTable (bytes : List ℕ) (count : ℕ) : Type 0 where
   pub lengths : SpellsLengths bytes count
   pub room : table_size count ≤ length bytes
 
--- and the segments behind it
+-- a table of so many segments stands at the front, and all segments behind it
 pub record HoldsMessage (bytes : List ℕ) (count : ℕ) : Type 0 where
   pub table : TellsTable bytes count
   pub room : table_size count + 8 * sum (told_lengths count bytes) ≤ length bytes

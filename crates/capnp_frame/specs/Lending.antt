@@ -7,10 +7,11 @@ use Rattle.capnp_frame.specs.SegmentLengths.{cut}
 use Rattle.capnp_frame.specs.declared.serialize.owned_segments.OwnedSegments.{OwnedSegments}
 use Rattle.capnp_frame.specs.contracts.serialize.owned_segments.OwnedSegments.{the_row}
 
--- old with as many elements from its start on replaced by w
+-- w over the front of `old`, whose length stays
 abbrev pub overwritten : List ℕ → List ℕ → List ℕ
 overwritten old w = take (length old) (w ++ drop (length w) old)
 
--- the segments end as the parts, of the same lengths, of the bytes with the last ones behind r
+-- Once the borrow `r` of all bytes ends, each segment has the length that it had, and the bytes that `r` left in its
+-- place.
 abbrev pub LendsBytes : MutBor OwnedSegments → MutBor (List ℕ) → Fml
 LendsBytes s r = Lends the_row (Array u8 0) s r (λ w. cut (lengths s.now) (overwritten (concat s.now) w))

@@ -11,10 +11,11 @@ pub mod Requests
 pub mod Refusals
 pub mod Texts
 pub mod Lending
-pub mod Splitting
+pub mod SplittingLaws
 pub mod Writing
 pub mod Words
 pub mod Views
 pub mod Front
 pub mod FlatRefusals
 pub mod KeptTables
+pub mod Asking

@@ -2,10 +2,11 @@
 -- In the encoding document's terms: a message is segments, a segment is words, and a word is 8 bytes.
 use Rattle.std.specs.Prelude.{◌≡◌, ℕ, ◌/◌, ◌%◌, List, length, map, sum}
 
--- A message is a list of segments, and a segment a list of bytes in whole words.
+-- these bytes are whole words: their number is a multiple of 8
 abbrev pub IsWholeWords : List ℕ → Type 0
 IsWholeWords bytes = length bytes % 8 ≡ 0
 
+-- how many words these bytes are
 abbrev pub word_count : List ℕ → ℕ
 word_count bytes = length bytes / 8
 

@@ -1,7 +1,13 @@
 -- The numbers of the kinds of refusals, as they are listed (docs/REFUSALS.md).
 use Rattle.std.specs.Prelude.{ℕ}
 use Rattle.capnp_frame.specs.declared.error.ErrorKind.{ErrorKind}
-use Rattle.capnp_frame.specs.declared.error.ErrorKind.TheVariants.{FailedToFillTheWholeBuffer, BufferNotLargeEnough, EmptyBuffer, EmptySlice, InvalidNumberOfSegments, MessageEndsPrematurely, MessageSizeOverflow, MessageTooLarge, PrematureEndOfFile, PrematureEndOfPackedInput, PackedInputDidNotEndCleanlyOnASegmentBoundary, OutOfMemory, DeviceFailed, NotWholeWords, AllocationTooLarge, SegmentTaken, PointerOutOfBounds, InvalidSegmentId, NestingLimitExceeded, ReadLimitExceeded, CapabilityRefused, WrongPointerKind, TextNotTerminated, CanonicalTooLarge, NotOneSegment}
+use Rattle.capnp_frame.specs.declared.error.ErrorKind.TheVariants.{FailedToFillTheWholeBuffer, BufferNotLargeEnough, EmptyBuffer, EmptySlice}
+use Rattle.capnp_frame.specs.declared.error.ErrorKind.TheVariants.{InvalidNumberOfSegments, MessageEndsPrematurely, MessageSizeOverflow}
+use Rattle.capnp_frame.specs.declared.error.ErrorKind.TheVariants.{MessageTooLarge, PrematureEndOfFile, PrematureEndOfPackedInput}
+use Rattle.capnp_frame.specs.declared.error.ErrorKind.TheVariants.{PackedInputDidNotEndCleanlyOnASegmentBoundary, OutOfMemory, DeviceFailed}
+use Rattle.capnp_frame.specs.declared.error.ErrorKind.TheVariants.{NotWholeWords, AllocationTooLarge, SegmentTaken, PointerOutOfBounds}
+use Rattle.capnp_frame.specs.declared.error.ErrorKind.TheVariants.{InvalidSegmentId, NestingLimitExceeded, ReadLimitExceeded, CapabilityRefused}
+use Rattle.capnp_frame.specs.declared.error.ErrorKind.TheVariants.{WrongPointerKind, TextNotTerminated, CanonicalTooLarge, NotOneSegment}
 
 abbrev pub number_of : ErrorKind → ℕ
 number_of FailedToFillTheWholeBuffer = 1

@@ -1,9 +1,11 @@
 -- Which refusal a stream reader answers: the lines of its table in their order (docs/REFUSALS.md).
-use Rattle.std.specs.Prelude.{◌≡◌, ◌≢◌, ℕ, ◌+◌, ◌*◌, ◌/◌, ◌%◌, ◌^◌, ◌<◌, ◌≤◌, ◌⊎◌, List, [], ◌++◌, length, take, sum, Option, IsSomeAnd}
+use Rattle.std.specs.Prelude.{◌≡◌, ◌≢◌, ℕ, ◌+◌, ◌-◌, ◌*◌, ◌/◌, ◌%◌, ◌^◌, ◌<◌, ◌≤◌, ◌⊎◌, List, [], ◌++◌, length, take, sum, Option, IsSomeAnd}
 use Rattle.capnp_frame.specs.declared.error.ErrorKind.{ErrorKind}
 use Rattle.capnp_frame.specs.declared.error.ErrorKind.TheVariants.{DeviceFailed, OutOfMemory, BufferNotLargeEnough, InvalidNumberOfSegments, MessageTooLarge}
 use Rattle.capnp_frame.specs.SegmentTable.{field, FitsField, IsTable, table_size}
 use Rattle.capnp_frame.specs.Source.{Giving, Refusing}
+use Rattle.capnp_frame.specs.Limits.{AreWithin}
+use Rattle.capnp_frame.specs.Requests.{TableStands}
 
 -- A test: where it holds its own line, and else what comes after it.
 abbrev pub Unless : Type 0 → Type 0 → Type 0 → Type 0
@@ -17,9 +19,17 @@ Asks gives refuses kind raw n after = refuses raw n kind ⊎ ((bytes rest : List
 abbrev pub Tells : List ℕ → ℕ → Type 0
 Tells word count = (last : ℕ) × FitsField last × (field last ≡ take 4 word) × (count ≡ (last + 1) % 2 ^ 32)
 
+-- no reader accepts this number of segments
 abbrev pub IsOutOfRange : ℕ → Type 0
 IsOutOfRange count = (count ≡ 0) ⊎ (512 ≤ count)
 
+-- the first word of a table tells this number of segments, and it is accepted
+pub record TellsAccepted (word : List ℕ) (count : ℕ) : Type 0 where
+  pub some : 0 < count
+  pub few : count < 512
+  pub told : field (count - 1) ≡ take 4 word
+
+-- more words than the limit, where there is one
 abbrev pub IsTooLarge : List ℕ → Option ℕ → Type 0
 IsTooLarge ns limit = IsSomeAnd limit (λ most. most < sum ns)
 
@@ -28,38 +38,54 @@ abbrev pub LacksRoom : Option ℕ → ℕ → Type 0
 LacksRoom room n = IsSomeAnd room (λ len. len < n)
 
 -- A reader stops by a kind of its own, and leaves what stands here.
-abbrev pub Stops : ErrorKind → ErrorKind → List ℕ → List ℕ → Type 0
-Stops own kind here left = (kind ≡ own) × (left ≡ here)
+abbrev pub StopsBy : ErrorKind → ErrorKind → List ℕ → List ℕ → Type 0
+StopsBy own kind here left = (kind ≡ own) × (left ≡ here)
 
--- Below, a reader stops by `kind` and leaves `left`, or goes on to what comes after a table of these lengths. Where the source refuses, `left` is open.
+-- Below, a reader stops by `kind` and leaves `left` unread, or goes on to `after`, the lines behind a table of these
+-- lengths. Where the source refuses, what it leaves is open.
 
--- the limit's line, behind both parts of the table
-abbrev pub MeetsLimit : Option ℕ → ErrorKind → (List ℕ → List ℕ → Type 0) → List ℕ → List ℕ → List ℕ → List ℕ → Type 0
-MeetsLimit limit kind after left word others behind = (ns : List ℕ) × IsTable (word ++ others) ns
-    × Unless (IsTooLarge ns limit) (Stops (MessageTooLarge (sum ns)) kind behind left) (after ns behind)
+-- the limit's line: both parts of the table are read, `word` and `others`
+abbrev pub RefusesAtLimit : Option ℕ → ErrorKind → (List ℕ → List ℕ → Type 0) → List ℕ → List ℕ → List ℕ → List ℕ → Type 0
+RefusesAtLimit limit kind after left word others behind = (ns : List ℕ) × IsTable (word ++ others) ns
+    × Unless (IsTooLarge ns limit) (StopsBy (MessageTooLarge (sum ns)) kind behind left) (after ns behind)
 
--- the lines behind the first word
-abbrev pub MeetsCount : Giving → Refusing → Option ℕ → Option ℕ → ErrorKind → (List ℕ → List ℕ → Type 0) → List ℕ → List ℕ → List ℕ → Type 0
-MeetsCount gives refuses limit room kind after left word between = (count : ℕ) × Tells word count
-    × Unless (IsOutOfRange count) (Stops (InvalidNumberOfSegments count) kind between left) (
-    Unless (LacksRoom room (table_size count)) (Stops BufferNotLargeEnough kind between left) (
-    Asks gives refuses kind between (8 * (count / 2)) (MeetsLimit limit kind after left word)))
+-- the lines once the table's first word is read: the number of segments, the room, the table's other words
+abbrev pub RefusesAtCount : Giving → Refusing → Option ℕ → Option ℕ → ErrorKind → (List ℕ → List ℕ → Type 0) → List ℕ → List ℕ → List ℕ → Type 0
+RefusesAtCount gives refuses limit room kind after left word between = (count : ℕ) × Tells word count
+    × Unless (IsOutOfRange count) (StopsBy (InvalidNumberOfSegments count) kind between left) (
+    Unless (LacksRoom room (table_size count)) (StopsBy BufferNotLargeEnough kind between left) (
+    Asks gives refuses kind between (8 * (count / 2)) (RefusesAtLimit limit kind after left word)))
 
--- the lines up to the limit
-abbrev pub Meets : Giving → Refusing → Option ℕ → Option ℕ → ErrorKind → (List ℕ → List ℕ → Type 0) → List ℕ → List ℕ → Type 0
-Meets gives refuses limit room kind after raw left =
-    Unless (LacksRoom room 8) (Stops BufferNotLargeEnough kind raw left) (
-    (raw ≢ []) × Asks gives refuses kind raw 8 (MeetsCount gives refuses limit room kind after left))
+-- the lines from the start on: the room for a word, the first word, and what comes after it
+abbrev pub RefusesAtStart : Giving → Refusing → Option ℕ → Option ℕ → ErrorKind → (List ℕ → List ℕ → Type 0) → List ℕ → List ℕ → Type 0
+RefusesAtStart gives refuses limit room kind after raw left =
+    Unless (LacksRoom room 8) (StopsBy BufferNotLargeEnough kind raw left) (
+    (raw ≢ []) × Asks gives refuses kind raw 8 (RefusesAtCount gives refuses limit room kind after left))
 
--- the table's lines alone
+-- A reader of a table alone refuses by this kind: it ends behind the limit's line.
 abbrev pub RefusesTable : Giving → Refusing → Option ℕ → Option ℕ → ErrorKind → List ℕ → List ℕ → Type 0
-RefusesTable gives refuses limit room kind raw left = Meets gives refuses limit room kind (λ ns behind. ⊥) raw left
+RefusesTable gives refuses limit room kind raw left = RefusesAtStart gives refuses limit room kind (λ ns behind. ⊥) raw left
 
--- all lines
+-- All lines: a reader of a message refuses by this kind. Behind the table come the room for the segments and their
+-- request.
 abbrev pub RefusesStream : Giving → Refusing → Option ℕ → Option ℕ → ErrorKind → List ℕ → List ℕ → Type 0
-RefusesStream gives refuses limit room kind raw left = Meets gives refuses limit room kind (λ ns behind.
-    Unless (LacksRoom room (table_size (length ns) + 8 * sum ns)) (Stops BufferNotLargeEnough kind behind left) (
+RefusesStream gives refuses limit room kind raw left = RefusesAtStart gives refuses limit room kind (λ ns behind.
+    Unless (LacksRoom room (table_size (length ns) + 8 * sum ns)) (StopsBy BufferNotLargeEnough kind behind left) (
     refuses behind (8 * sum ns) kind)) raw left
+
+-- the first word of a table stands at the front, and the number of segments that it tells is accepted
+pub record CountStands (gives : Giving) (raw rest : List ℕ) : Type 0 where
+  pub word : List ℕ
+  pub count : ℕ
+  pub given : gives raw 8 word rest
+  pub told : Tells word count
+  pub accepted : IsOutOfRange count → ⊥
+
+-- Where a reader that grows takes memory: for the lengths once their number is accepted, and for the segments once
+-- their table is, with the limit. What it has asked for till then is consumed, and no more.
+abbrev pub TakesMemory : Giving → Option ℕ → List ℕ → List ℕ → Type 0
+TakesMemory gives limit raw left = CountStands gives raw left
+    ⊎ ((lengths : List ℕ) × TableStands gives lengths raw left × AreWithin lengths limit)
 
 -- the kinds of a reader into a lent buffer, also where the unread bytes aren't known
 abbrev pub IsLentReaderKind : Refusing → ErrorKind → Type 0

@@ -5,6 +5,12 @@ use Rattle.capnp_frame.specs.Message.{IsWholeWords, lengths, size_in_words}
 use Rattle.capnp_frame.specs.SegmentTable.{IsTable}
 use Rattle.capnp_frame.specs.Source.{Giving}
 
+-- the words of a table of these lengths after its first word stand at the front, by one request
+pub record RestStands (gives : Giving) (first lengths raw rest : List ℕ) : Type 0 where
+  pub others : List ℕ
+  pub given : gives raw (8 * (length lengths / 2)) others rest
+  pub table : IsTable (first ++ others) lengths
+
 -- a table of these lengths stands at the front, by two requests
 pub record TableStands (gives : Giving) (lengths raw rest : List ℕ) : Type 0 where
   pub first : List ℕ
@@ -15,7 +21,7 @@ pub record TableStands (gives : Giving) (lengths raw rest : List ℕ) : Type 0 w
   pub table : IsTable (first ++ others) lengths
 
 -- the segments stand at the front: their table, and by a third request all of them
-pub record Stands (gives : Giving) (segments : List (List ℕ)) (raw rest : List ℕ) : Type 0 where
+pub record MessageStands (gives : Giving) (segments : List (List ℕ)) (raw rest : List ℕ) : Type 0 where
   pub between : List ℕ
   pub table : TableStands gives (lengths segments) raw between
   pub given : gives between (8 * size_in_words segments) (concat segments) rest

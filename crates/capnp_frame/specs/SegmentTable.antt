@@ -8,6 +8,7 @@ use Rattle.std.specs.Int.{w32, to_le_bytes}
 abbrev pub field : ℕ → List ℕ
 field n = to_le_bytes w32 n
 
+-- a number that fits the four bytes of a field
 abbrev pub FitsField : ℕ → Type 0
 FitsField n = n < 2 ^ 32
 
@@ -23,7 +24,7 @@ table_text lengths padding = field (length lengths - 1) ++ flat_map field length
 abbrev pub zero_padded_table : List ℕ → List ℕ
 zero_padded_table lengths = table_text lengths (replicate (padding_len lengths) 0)
 
--- the bytes of a table of so many segments
+-- how many bytes the table of so many segments takes
 abbrev pub table_size : ℕ → ℕ
 table_size count = 8 * (count / 2 + 1)
 

@@ -1,8 +1,7 @@
 -- What pieces add to a sink (the trait Write).
 use Rattle.std.specs.Prelude.{◌≡◌, ℕ, ◌≤◌, ◌⊎◌, List, [], ◌∷◌, ◌++◌, Option}
 use Rattle.capnp_frame.specs.declared.error.ErrorKind.{ErrorKind}
-use Rattle.capnp_frame.specs.declared.error.ErrorKind.TheVariants.{OutOfMemory, BufferNotLargeEnough}
-use Rattle.capnp_frame.specs.Source.{Known, IsFront}
+use Rattle.capnp_frame.specs.Source.{IfKnown, IsFront}
 
 -- A piece adds a text: appends piece text.
 abbrev pub Appending : Type 1
@@ -16,13 +15,9 @@ Declining = List ℕ → ErrorKind → Type 0
 abbrev pub AppendsSame : Appending
 AppendsSame piece text = text ≡ piece
 
--- a sink that grows lacks memory
-abbrev pub LacksMemory : Declining
-LacksMemory piece kind = kind ≡ OutOfMemory
-
--- a lent sink has too little room
-abbrev pub LacksPlace : Declining
-LacksPlace piece kind = kind ≡ BufferNotLargeEnough
+-- a sink refuses by its own kind alone, whatever the piece
+abbrev pub ByKind : ErrorKind → Declining
+ByKind own piece kind = kind ≡ own
 
 -- a piece may be refused by this kind
 abbrev pub DeclinesAny : Declining → ErrorKind → Type 0
@@ -44,6 +39,6 @@ AppendsAll appends (piece ∷ pieces) text = (first others : List ℕ) × append
 
 -- What each call keeps of a sink: what was written stays at the front, no failure is taken back, and it is the same sink.
 pub record Grows {S : Type 0} (written : S → Option (List ℕ)) (failures : S → ℕ) (same : S → S → Type 0) (old new : S) : Type 0 where
-  pub front : Known (written old) (written new) IsFront
+  pub front : IfKnown (written old) (written new) IsFront
   pub counted : failures old ≤ failures new
   pub same_sink : same old new

@@ -21,6 +21,7 @@ Splits raw n bytes rest = (raw ≡ bytes ++ rest) × (length bytes ≡ n)
 abbrev pub RunsShort : Refusing
 RunsShort raw n kind = (length raw < n) × (kind ≡ FailedToFillTheWholeBuffer)
 
+-- what is a plain request's answer is this source's too
 abbrev pub IsPlain : Giving → Type 0
 IsPlain gives = (raw : List ℕ) (n : ℕ) (bytes rest : List ℕ) → Splits raw n bytes rest → gives raw n bytes rest
 
@@ -37,18 +38,18 @@ pub record IsSource (gives : Giving) (refuses : Refusing) : Type 0 where
   pub apart : (raw : List ℕ) (n : ℕ) (bytes rest : List ℕ) (kind : ErrorKind) → gives raw n bytes rest → refuses raw n kind → ⊥
   pub one_kind : (raw : List ℕ) (n : ℕ) (kind other : ErrorKind) → refuses raw n kind → refuses raw n other → kind ≡ other
 
--- Two states of one source, or of one sink: each call goes from the first to the second.
+-- Two states are of one source, or of one sink: so is a state with itself, and the first with the last of three.
 pub record IsPreorder {S : Type 0} (same : S → S → Type 0) : Type 0 where
   pub reflexive : (s : S) → same s s
   pub transitive : (s t u : S) → same s t → same t u → same s u
 
--- a failure is counted, up to the last count
+-- the count of failures has risen, or has reached the largest count, 2 ^ 64 - 1
 abbrev pub Fails : ℕ → ℕ → Type 0
 Fails old new = min (old + 1) (2 ^ 64 - 1) ≤ new
 
--- what is known before is known after, and P holds of both
-abbrev pub Known : Option (List ℕ) → Option (List ℕ) → (List ℕ → List ℕ → Type 0) → Type 0
-Known old new P = IfSome old (λ before. IsSomeAnd new (P before))
+-- Where the bytes before a call are known, so are those after it, and P relates them.
+abbrev pub IfKnown : Option (List ℕ) → Option (List ℕ) → (List ℕ → List ℕ → Type 0) → Type 0
+IfKnown old new P = IfSome old (λ before. IsSomeAnd new (P before))
 
 abbrev pub IsTail : List ℕ → List ℕ → Type 0
 IsTail all tail = (front : List ℕ) × (all ≡ front ++ tail)
@@ -58,7 +59,7 @@ IsFront front all = (tail : List ℕ) × (all ≡ front ++ tail)
 
 -- What each call keeps of a source: what stays unread is a tail of what was, no failure is taken back, and it is the same source.
 pub record Advances {S : Type 0} (unread : S → Option (List ℕ)) (failures : S → ℕ) (same : S → S → Type 0) (old new : S) : Type 0 where
-  pub tail : Known (unread old) (unread new) IsTail
+  pub tail : IfKnown (unread old) (unread new) IsTail
   pub counted : failures old ≤ failures new
   pub same_source : same old new
 
@@ -75,8 +76,8 @@ abbrev pub IsRefused : Refusing → ℕ → Option (List ℕ) → ErrorKind → 
 IsRefused refuses n None kind = (raw : List ℕ) × (m : ℕ) × refuses raw m kind
 IsRefused refuses n (Some raw) kind = refuses raw n kind
 
--- Of a request of n bytes `got` is answered and `left` stays unread. The other bytes are given afterwards, and only there, and they are refused by the kind that the request is refused by.
-pub record Takes (gives : Giving) (refuses : Refusing) (n : ℕ) (got raw left : List ℕ) : Type 0 where
+-- A request of n bytes is answered in part, by `got`. The rest of it is given from `left` just as the whole is given from `raw`, and is refused by the same kinds.
+pub record AnswersPart (gives : Giving) (refuses : Refusing) (n : ℕ) (got raw left : List ℕ) : Type 0 where
   pub joins : (more rest : List ℕ) → gives left (n - length got) more rest → gives raw n (got ++ more) rest
   pub splits : (bytes rest : List ℕ) → gives raw n bytes rest → (more : List ℕ) × (bytes ≡ got ++ more) × gives left (n - length got) more rest
   pub refusals : (kind : ErrorKind) → refuses left (n - length got) kind ↔ refuses raw n kind

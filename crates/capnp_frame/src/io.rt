@@ -8,7 +8,7 @@ ghost use Rattle.std.specs.Borrow.{sem};
 ghost use Rattle.std.specs.Io.BufRead.{Rests};
 ghost use Rattle.capnp_frame.specs.declared.error.ErrorKind.{ErrorKind};
 ghost use Rattle.capnp_frame.specs.Message.{IsWholeWords};
-ghost use Rattle.capnp_frame.specs.Source.{Giving, Refusing, IsSource, IsPreorder, IsPlain, Splits, RunsShort, Fails, Known, Advances, Fills, IsFront, IsRefused, Takes};
+ghost use Rattle.capnp_frame.specs.Source.{Giving, Refusing, IsSource, IsPreorder, IsPlain, Splits, RunsShort, Fails, IfKnown, Advances, Fills, IsFront, IsRefused, AnswersPart};
 ghost use Rattle.capnp_frame.specs.Sink.{Appending, Declining, Adds, Grows};
 
 mod references;
@@ -41,8 +41,8 @@ pub trait Read {
     /// or `buffer` is empty.
     fn read(&mut self, buffer: &mut [u8]) -> Result<usize>
         ensures within { IfOk result (λ count. count ≤ length buffer.new) }
-        ensures taken { IfOk result (λ count. Known (unread self.old) (unread self.new)
-            (Takes gives refuses (length buffer.new) (take count buffer.new))) }
+        ensures taken { IfOk result (λ count. IfKnown (unread self.old) (unread self.new)
+            (AnswersPart gives refuses (length buffer.new) (take count buffer.new))) }
         ensures end { IfOk result (λ count. IfSome (unread self.old)
             (λ raw. 0 < length buffer.new → (count ≡ 0) ↔ (raw ≡ []))) }
         // Where `read` answers no byte, `read_exact` is refused by this kind.
@@ -64,12 +64,15 @@ pub trait Read {
     /// Fills `buffer`. It is refused by `FailedToFillTheWholeBuffer` where `read` answers no byte
     /// before that.
     fn read_exact(&mut self, buffer: &mut [u8]) -> Result<()>
-        ensures given { OnOk result (Known (unread self.old) (unread self.new)
+        ensures given { OnOk result (IfKnown (unread self.old) (unread self.new)
             (λ raw rest. gives raw (length buffer.new) buffer.new rest)) }
         ensures failed { IfErr result (λ error. error.kind ≡ ErrorKind.DeviceFailed →
             Fails (failures self.old) (failures self.new)) }
         ensures refused { IfErr result (λ error. (error.kind ≡ ErrorKind.DeviceFailed)
             ⊎ IsRefused refuses (length buffer.new) (unread self.old) error.kind) }
+        ensures plain { IfErr result (λ error. IsPlain gives →
+            (error.kind ≡ ErrorKind.DeviceFailed)
+            ⊎ (error.kind ≡ ErrorKind.FailedToFillTheWholeBuffer)) }
         ensures advances { Advances unread failures same self.old self.new }
     {
         let mut filled = 0;
@@ -105,7 +108,7 @@ pub trait BufRead: Read {
     /// Takes the first `amount` bytes that were shown.
     fn consume(&mut self, amount: usize)
         requires { amount ≤ length (shown self.old) }
-        ensures taken { Known (Self.unread self.old) (Self.unread self.new)
+        ensures taken { IfKnown (Self.unread self.old) (Self.unread self.new)
             (λ raw left. left ≡ drop amount raw) }
         ensures shown { shown self.new ≡ drop amount (shown self.old) }
         ensures kept { Self.failures self.new ≡ Self.failures self.old }
@@ -135,7 +138,7 @@ pub trait Write {
 
     /// Takes all of `piece`. What a refused call leaves begins with what was written before.
     fn write_all(&mut self, piece: &[u8]) -> Result<()>
-        ensures added { OnOk result (Known (written self.old) (written self.new)
+        ensures added { OnOk result (IfKnown (written self.old) (written self.new)
             (Adds (appends piece.now))) }
         ensures failed { IfErr result (λ error. error.kind ≡ ErrorKind.DeviceFailed →
             Fails (failures self.old) (failures self.new)) }

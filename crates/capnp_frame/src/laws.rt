@@ -1,12 +1,12 @@
 //! Facts about framed messages, each the contract of a function that does nothing.
-ghost use Rattle.std.specs.Prelude.{◌≡◌, ℕ, ◌*◌, ◌<◌, List, ◌++◌, ◌↔◌, Option, length, slice_get, IsSome};
+ghost use Rattle.std.specs.Prelude.{◌≡◌, ◌≢◌, ◌⊎◌, ℕ, ◌*◌, ◌<◌, ◌≤◌, List, ◌++◌, ◌↔◌, Option, length, slice_get, IsSome};
 ghost use Rattle.std.specs.List.{AllByRecursion, concat};
 ghost use Rattle.capnp_frame.specs.Message.{IsWholeWords, lengths};
 ghost use Rattle.capnp_frame.specs.SegmentTable.{HasTable};
 ghost use Rattle.capnp_frame.specs.Frame.{IsFrame, frame_text};
-ghost use Rattle.capnp_frame.specs.Source.{Splits};
-ghost use Rattle.capnp_frame.specs.Sink.{AppendsSame, AppendsAll};
-ghost use Rattle.capnp_frame.specs.Requests.{Stands};
+ghost use Rattle.capnp_frame.specs.Source.{Splits, Fails};
+ghost use Rattle.capnp_frame.specs.Sink.{AppendsSame, AppendsAll, ByKind, DeclinesSome};
+ghost use Rattle.capnp_frame.specs.Requests.{MessageStands};
 ghost use Rattle.capnp_frame.specs.Writing.{IsWritable, pieces, serialized_words};
 ghost use Rattle.capnp_frame.specs.Front.{HasFrame};
 ghost use Rattle.capnp_frame.specs.FlatRefusals.{FlatForm, RefusesFlat};
@@ -28,7 +28,7 @@ pub fn frames_part_in_one_way()
 
 /// The three requests of a plain source take just a framed text of the message.
 pub fn plain_requests_take_a_frame()
-    ensures { (segments : List (List ℕ)) (raw rest : List ℕ) → Stands Splits segments raw rest
+    ensures { (segments : List (List ℕ)) (raw rest : List ℕ) → MessageStands Splits segments raw rest
         ↔ ((text : List ℕ) × IsFrame text segments × (raw ≡ text ++ rest)) }
 {}
 
@@ -62,4 +62,21 @@ pub fn flat_readers_agree()
 pub fn indexes_are_below_the_length()
     ensures { (segments : List (List ℕ)) (index : ℕ) →
         IsSome (slice_get segments index) ↔ (index < length segments) }
+{}
+
+/// What never counts a failure is never blamed for one. So it is with a slice as a source, and with
+/// a vector or a lent buffer as a sink: no call over them is refused by `DeviceFailed`.
+pub fn slices_never_fail()
+    ensures { (kind : ErrorKind) → (kind ≡ ErrorKind.DeviceFailed → Fails 0 0) →
+        kind ≢ ErrorKind.DeviceFailed }
+{}
+
+/// A vector as a sink refuses a message for want of memory alone.
+pub fn vectors_lack_memory_alone()
+    ensures { (kind : ErrorKind) (segments : List (List ℕ)) →
+        (kind ≡ ErrorKind.DeviceFailed → Fails 0 0) →
+        (kind ≡ ErrorKind.DeviceFailed)
+        ⊎ DeclinesSome (ByKind ErrorKind.OutOfMemory) (pieces segments) kind
+        ⊎ (4 ≤ length segments) × (kind ≡ ErrorKind.OutOfMemory) →
+        kind ≡ ErrorKind.OutOfMemory }
 {}

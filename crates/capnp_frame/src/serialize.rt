@@ -21,5 +21,5 @@ pub use owned_segments::OwnedSegments;
 pub use segment_lengths::SegmentLengthsBuilder;
 pub use segment_table::SEGMENTS_COUNT_LIMIT;
 pub use segment_table_info::{NoAllocSegmentTableInfo, describes};
-pub use stream::try_read_segments;
+pub use stream::{try_read_segments, try_read_segments_reusing};
 pub use writing::{segments_to_words, serialized_size_in_words, write_segments};

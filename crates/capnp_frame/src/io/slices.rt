@@ -1,8 +1,9 @@
 //! Slices as sources and sinks, and vectors as sinks.
 ghost use Rattle.std.specs.Prelude.{◌≡◌, ◌<◌, ◌≤◌, ◌⊎◌, ◌++◌, length, drop, Some, None, IfErr, OnOk, ⊤};
-ghost use Rattle.capnp_frame.specs.Source.{Splits, RunsShort, Known, Fails};
-ghost use Rattle.capnp_frame.specs.Sink.{AppendsSame, LacksMemory, LacksPlace, Adds, Grows};
-ghost use Rattle.capnp_frame.specs.Splitting.{splitting, always};
+ghost use Rattle.capnp_frame.specs.Source.{Splits, RunsShort, IfKnown, Fails};
+ghost use Rattle.capnp_frame.specs.Sink.{AppendsSame, ByKind, Adds, Grows};
+ghost use Rattle.capnp_frame.specs.declared.error.ErrorKind.{ErrorKind};
+ghost use Rattle.capnp_frame.specs.SplittingLaws.{splitting, always};
 
 use crate::error::{Error, ErrorKind, Result};
 use crate::io::{BufRead, Read, Write};
@@ -57,7 +58,7 @@ impl Write for Vec<u8> {
 
     ghost appends = { AppendsSame };
 
-    ghost refuses = { LacksMemory };
+    ghost refuses = { ByKind ErrorKind.OutOfMemory };
 
     ghost same = { λ _ _. ⊤ };
 
@@ -82,17 +83,17 @@ impl Write for &mut [u8] {
 
     ghost appends = { AppendsSame };
 
-    ghost refuses = { LacksPlace };
+    ghost refuses = { ByKind ErrorKind.BufferNotLargeEnough };
 
     ghost same = { λ _ _. ⊤ };
 
     fn write_all(&mut self, piece: &[u8]) -> Result<()>
-        ensures added { OnOk result (Known None None (Adds (AppendsSame piece.now))) }
+        ensures added { OnOk result (IfKnown None None (Adds (AppendsSame piece.now))) }
         ensures failed { IfErr result (λ error. error.kind ≡ ErrorKind.DeviceFailed → Fails 0 0) }
         ensures moved { OnOk result (self.new.now ≡ drop (length piece.now) self.old.now) }
         ensures fits { OnOk result (length piece.now ≤ length self.old.now) }
         ensures refused { IfErr result (λ error. (error.kind ≡ ErrorKind.DeviceFailed)
-            ⊎ LacksPlace piece.now error.kind) }
+            ⊎ ByKind ErrorKind.BufferNotLargeEnough piece.now error.kind) }
         ensures grows { Grows (λ _. None) (λ _. 0) (λ _ _. ⊤) self.old self.new }
         ensures short { IfErr result (λ error. (error.kind ≡ ErrorKind.BufferNotLargeEnough)
             × (length self.old.now < length piece.now) × (self.new.now ≡ self.old.now)) }

@@ -1,5 +1,5 @@
 //! What a reader accepts.
-ghost use Rattle.std.specs.Prelude.{◌≡◌};
+ghost use Rattle.std.specs.Prelude.{◌≡◌, Some, pos};
 ghost use Rattle.capnp_frame.specs.declared.message.options.TheConstants.{DEFAULT_READER_OPTIONS};
 
 /// Limits against messages that would cost a reader too much.
@@ -23,7 +23,9 @@ pub const DEFAULT_READER_OPTIONS: ReaderOptions = ReaderOptions {
 impl ReaderOptions {
     /// The default options.
     pub const fn new() -> ReaderOptions
-        ensures { result ≡ DEFAULT_READER_OPTIONS }
+        ensures words { result.traversal_limit_in_words ≡ Some 8388608 }
+        ensures levels { result.nesting_limit ≡ pos 64 }
+        ensures default { result ≡ DEFAULT_READER_OPTIONS }
     {
         DEFAULT_READER_OPTIONS
     }

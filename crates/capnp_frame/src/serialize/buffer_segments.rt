@@ -5,12 +5,12 @@ ghost use Rattle.capnp_frame.specs.SegmentLengths.{ranges, range_len, cut};
 ghost use Rattle.capnp_frame.specs.Limits.{AreWithin, IsWithin};
 ghost use Rattle.capnp_frame.specs.SegmentTable.{IsTable, table_size};
 ghost use Rattle.capnp_frame.specs.Front.{HasFrame, HoldsMessage, told_lengths};
-ghost use Rattle.capnp_frame.specs.FlatRefusals.{by_words, RefusesFlat};
+ghost use Rattle.capnp_frame.specs.FlatRefusals.{by_words, AcceptsCount, RefusesFlat};
 ghost use Rattle.capnp_frame.specs.declared.error.ErrorKind.{ErrorKind};
 
 use crate::error::{Error, ErrorKind, Result};
 use crate::message::{AsBytes, ReaderOptions, ReaderSegments};
-use crate::serialize::segment_lengths::SegmentLengthsBuilder;
+use crate::serialize::segment_lengths::{SegmentLengthsBuilder, part};
 use crate::serialize::stream::read_table;
 use std::alloc::Global;
 use std::marker::Model;
@@ -83,13 +83,15 @@ impl<T: AsBytes + Drop> BufferSegments<T> {
             × HasFrame (T.bytes buffer) found.segments rest) }
         ensures within { IfOk result (λ found.
             IsWithin found.segments options.traversal_limit_in_words) }
-        ensures accepted { IfErr result (λ error. (segments : List (List ℕ)) (rest : List ℕ) →
+        ensures accepted { (segments : List (List ℕ)) (rest : List ℕ) →
             HasFrame (T.bytes buffer) segments rest →
             IsWithin segments options.traversal_limit_in_words →
-            error.kind ≡ ErrorKind.OutOfMemory) }
+            IfErr result (λ error. error.kind ≡ ErrorKind.OutOfMemory) }
 
-        // A refusal is want of memory or a line of the table, and the line that is met is answered.
-        ensures refused { IfErr result (λ error. (error.kind ≡ ErrorKind.OutOfMemory)
+        // A refusal is want of memory once the number of segments is accepted, or a line of the
+        // table, and the line that is met is answered.
+        ensures refused { IfErr result (λ error. ((error.kind ≡ ErrorKind.OutOfMemory)
+            × AcceptsCount (by_words ErrorKind.EmptyBuffer) (T.bytes buffer))
             ⊎ RefusesFlat (by_words ErrorKind.EmptyBuffer) options.traversal_limit_in_words
             error.kind (T.bytes buffer)) }
         ensures exact { (kind : ErrorKind) → RefusesFlat (by_words ErrorKind.EmptyBuffer)
@@ -110,13 +112,11 @@ impl<T: AsBytes> ReaderSegments for BufferSegments<T> {
     ghost segments = { λ held. held.segments };
 
     fn get_segment(&self, id: u32) -> Option<&[u8]> {
-        let index = id as usize;
-        if index >= self.segment_indices.len() {
-            return None;
-        }
-        let (start, end) = self.segment_indices[index];
-        let bytes = self.buffer.as_bytes();
-        Some(&bytes[self.table_len + 8 * start..self.table_len + 8 * end])
+        part(
+            &self.buffer.as_bytes()[self.table_len..],
+            &self.segment_indices,
+            id,
+        )
     }
 
     fn len(&self) -> usize
@@ -136,18 +136,21 @@ pub fn take_segments<'a>(
     slice: &mut &'a [u8],
     options: ReaderOptions,
 ) -> Result<BufferSegments<&'a [u8]>>
+    ensures buffer { IfOk result (λ found. found.buffer.now ≡ slice.old.now) }
     ensures found { IfOk result (λ found.
         HasFrame slice.old.now found.segments slice.new.now) }
     ensures within { IfOk result (λ found.
         IsWithin found.segments options.traversal_limit_in_words) }
     ensures unchanged { OnErr result (slice.new.now ≡ slice.old.now) }
-    ensures accepted { IfErr result (λ error. (segments : List (List ℕ)) (rest : List ℕ) →
+    ensures accepted { (segments : List (List ℕ)) (rest : List ℕ) →
         HasFrame slice.old.now segments rest →
         IsWithin segments options.traversal_limit_in_words →
-        error.kind ≡ ErrorKind.OutOfMemory) }
+        IfErr result (λ error. error.kind ≡ ErrorKind.OutOfMemory) }
 
-    // A refusal is want of memory or a line of the table, and the line that is met is answered.
-    ensures refused { IfErr result (λ error. (error.kind ≡ ErrorKind.OutOfMemory)
+    // A refusal is want of memory once the number of segments is accepted, or a line of the table,
+    // and the line that is met is answered.
+    ensures refused { IfErr result (λ error. ((error.kind ≡ ErrorKind.OutOfMemory)
+        × AcceptsCount (by_words ErrorKind.EmptySlice) slice.old.now)
         ⊎ RefusesFlat (by_words ErrorKind.EmptySlice) options.traversal_limit_in_words
         error.kind slice.old.now) }
     ensures exact { (kind : ErrorKind) → RefusesFlat (by_words ErrorKind.EmptySlice)
@@ -177,11 +180,12 @@ fn find_message(
     ensures lengths { IfOk result (λ found. told_lengths (length found.0) bytes.now ≡ found.0) }
     ensures table { IfOk result (λ found. found.1 ≡ table_size (length found.0)) }
     ensures within { IfOk result (λ found. AreWithin found.0 limit) }
-    ensures refused { IfErr result (λ error. (error.kind ≡ ErrorKind.OutOfMemory)
+    ensures refused { IfErr result (λ error. ((error.kind ≡ ErrorKind.OutOfMemory)
+        × AcceptsCount (by_words empty) bytes.now)
         ⊎ RefusesFlat (by_words empty) limit error.kind bytes.now) }
 {
     let mut rest = bytes;
-    let Some(lengths) = read_table(alloc, &mut rest, limit)? else {
+    let Some(lengths) = read_table(Vec::new(alloc), &mut rest, limit)? else {
         return Err(Error::from_kind(empty));
     };
     let total = lengths.total_words();

@@ -1,13 +1,16 @@
 //! Reading messages from a source into a lent buffer.
-ghost use Rattle.std.specs.Prelude.{◌≡◌, ℕ, ◌+◌, ◌*◌, ◌<◌, ◌≤◌, ◌^◌, List, [], length, sum, IfOk, IfErr, IfSome, IfNone, ◌⊎◌, Option, Some, None};
+ghost use Rattle.std.specs.Prelude.{◌≡◌, ℕ, ◌+◌, ◌*◌, ◌/◌, ◌<◌, ◌≤◌, ◌^◌, List, [], length, sum, IfOk, IfErr, OnOk, IfSome, IfNone, ◌⊎◌, Option, Some, None};
+ghost use Rattle.std.specs.List.{AllByRecursion};
 ghost use Rattle.std.specs.Result.{IsErrAnd};
-ghost use Rattle.capnp_frame.specs.Message.{size_in_words};
+ghost use Rattle.capnp_frame.specs.Message.{IsWholeWords, size_in_words};
 ghost use Rattle.capnp_frame.specs.SegmentTable.{table_size};
 ghost use Rattle.capnp_frame.specs.Limits.{KeepsLimit, IsWithin};
 ghost use Rattle.capnp_frame.specs.Front.{told_lengths, told_segments, TellsTable, HoldsMessage};
-ghost use Rattle.capnp_frame.specs.Source.{Known, Advances, Fails};
-ghost use Rattle.capnp_frame.specs.Requests.{TableStands, Stands};
-ghost use Rattle.capnp_frame.specs.Refusals.{RefusesTable, RefusesStream, IsLentReaderKind};
+ghost use Rattle.capnp_frame.specs.Source.{IfKnown, Advances, Fails, IsRefused};
+ghost use Rattle.capnp_frame.specs.Asking.{Asked, FailsOr};
+ghost use Rattle.capnp_frame.specs.Errors.{IsRefusedBy};
+ghost use Rattle.capnp_frame.specs.Requests.{RestStands, TableStands, MessageStands};
+ghost use Rattle.capnp_frame.specs.Refusals.{TellsAccepted, RefusesTable, RefusesStream, IsLentReaderKind};
 ghost use Rattle.capnp_frame.specs.declared.error.ErrorKind.{ErrorKind};
 
 use crate::error::{Error, ErrorKind, Result};
@@ -16,7 +19,7 @@ use crate::message::ReaderOptions;
 use crate::serialize::no_alloc_buffer_segments::NoAllocBufferSegments;
 use crate::serialize::segment_table::{accepted_count, keep_limit, lengths_total, table_len};
 use crate::serialize::segment_table_info::NoAllocSegmentTableInfo;
-use crate::serialize::stream::read_first;
+use crate::serialize::stream::{complete_table, read_first, read_piece};
 
 /// Reads the next message of a source into a lent buffer, or answers `None` where nothing is unread.
 ///
@@ -30,24 +33,30 @@ pub fn try_read_segments_into<'b, R: Read>(
     options: ReaderOptions,
 ) -> Result<Option<NoAllocBufferSegments<&'b [u8]>>>
     ensures found { IfOk result (λ found. IfSome found (λ held.
-        Known (R.unread source.old) (R.unread source.new) (Stands R.gives held.segments))) }
+        IfKnown (R.unread source.old) (R.unread source.new) (MessageStands R.gives held.segments))) }
     ensures within { IfOk result (λ found. IfSome found (λ held.
         IsWithin held.segments options.traversal_limit_in_words)) }
+    ensures whole { IfOk result (λ found. IfSome found (λ held.
+        AllByRecursion IsWholeWords held.segments)) }
     ensures none { IfOk result (λ found. IfNone found
         (IfSome (R.unread source.old) (λ raw. raw ≡ []))) }
 
     // A message that stands there and fits the buffer is refused only by the device.
-    ensures accepted { IfErr result (λ error. IfSome (R.unread source.old) (λ raw.
-        (segments : List (List ℕ)) (rest : List ℕ) → Stands R.gives segments raw rest →
+    ensures accepted { IfSome (R.unread source.old) (λ raw.
+        (segments : List (List ℕ)) (rest : List ℕ) → MessageStands R.gives segments raw rest →
         IsWithin segments options.traversal_limit_in_words →
         table_size (length segments) + 8 * size_in_words segments ≤ length buffer.old →
-        error.kind ≡ ErrorKind.DeviceFailed)) }
+        IfErr result (λ error. error.kind ≡ ErrorKind.DeviceFailed)) }
     ensures end { IfErr result (λ error. R.unread source.old ≡ Some [] →
         8 ≤ length buffer.old → error.kind ≡ ErrorKind.DeviceFailed) }
 
+    // Under 8 bytes of room nothing is asked for.
+    ensures short { length buffer.old < 8 →
+        (source.new ≡ source.old) × IsRefusedBy result ErrorKind.BufferNotLargeEnough }
+
     // A refusal is the device's, or a line of the table of refusals.
     ensures refused { IfErr result (λ error. (error.kind ≡ ErrorKind.DeviceFailed)
-        ⊎ Known (R.unread source.old) (R.unread source.new)
+        ⊎ IfKnown (R.unread source.old) (R.unread source.new)
         (RefusesStream R.gives R.refuses options.traversal_limit_in_words
         (Some (length buffer.old)) error.kind)) }
     // A line that is the first to hold is answered, but for the device's refusal.
@@ -64,7 +73,7 @@ pub fn try_read_segments_into<'b, R: Read>(
     let Some(info) = read_into(source, buffer, options.traversal_limit_in_words)? else {
         return Ok(None);
     };
-    Ok(Some(NoAllocBufferSegments::of_held(buffer, info)))
+    Ok(Some(NoAllocBufferSegments::of_held(buffer, info.segments_count)))
 }
 
 // Reads the next message of a source into a buffer, or none at the source's end.
@@ -74,8 +83,8 @@ fn read_into<R: Read>(
     limit: Option<usize>,
 ) -> Result<Option<NoAllocSegmentTableInfo>>
     ensures found { IfOk result (λ found. IfSome found (λ info.
-        Known (R.unread source.old) (R.unread source.new)
-        (Stands R.gives (told_segments info.segments_count buffer.new)))) }
+        IfKnown (R.unread source.old) (R.unread source.new)
+        (MessageStands R.gives (told_segments info.segments_count buffer.new)))) }
     ensures holds { IfOk result (λ found. IfSome found (λ info.
         HoldsMessage buffer.new info.segments_count)) }
     ensures total { IfOk result (λ found. IfSome found (λ info.
@@ -85,15 +94,14 @@ fn read_into<R: Read>(
         KeepsLimit (told_lengths info.segments_count buffer.new) limit)) }
     ensures none { IfOk result (λ found. IfNone found
         ((8 ≤ length buffer.old) × IfSome (R.unread source.old) (λ raw. raw ≡ []))) }
-    ensures refused { IfErr result (λ error. (error.kind ≡ ErrorKind.DeviceFailed)
-        ⊎ Known (R.unread source.old) (R.unread source.new)
-        (RefusesStream R.gives R.refuses limit (Some (length buffer.old)) error.kind)) }
+    ensures short { length buffer.old < 8 →
+        (source.new ≡ source.old) × IsRefusedBy result ErrorKind.BufferNotLargeEnough }
+    ensures refused { FailsOr result (λ kind. IfKnown (R.unread source.old) (R.unread source.new)
+        (RefusesStream R.gives R.refuses limit (Some (length buffer.old)) kind)) }
     ensures kinds { IfErr result (λ error. IsLentReaderKind R.refuses error.kind) }
     ensures end { IfErr result (λ error. R.unread source.old ≡ Some [] →
         8 ≤ length buffer.old → error.kind ≡ ErrorKind.DeviceFailed) }
-    ensures failed { IfErr result (λ error. error.kind ≡ ErrorKind.DeviceFailed →
-        Fails (R.failures source.old) (R.failures source.new)) }
-    ensures advances { Advances R.unread R.failures R.same source.old source.new }
+    ensures asked { Asked R.unread R.failures R.same source.old source.new result }
 {
     let Some((segments_count, total)) = read_table_into(source, buffer, limit)? else {
         return Ok(None);
@@ -103,7 +111,7 @@ fn read_into<R: Read>(
     if buffer.len() < end {
         return Err(Error::from_kind(ErrorKind::BufferNotLargeEnough));
     }
-    source.read_exact(&mut buffer[start..end])?;
+    read_piece(source, &mut buffer[start..end])?;
     Ok(Some(NoAllocSegmentTableInfo {
         segments_count,
         segment_table_length_bytes: start,
@@ -119,7 +127,7 @@ fn read_table_into<R: Read>(
     limit: Option<usize>,
 ) -> Result<Option<(usize, usize)>>
     ensures found { IfOk result (λ found. IfSome found (λ table.
-        Known (R.unread source.old) (R.unread source.new)
+        IfKnown (R.unread source.old) (R.unread source.new)
         (TableStands R.gives (told_lengths table.0 buffer.new)))) }
     ensures tells { IfOk result (λ found. IfSome found (λ table. TellsTable buffer.new table.0)) }
     ensures total { IfOk result (λ found. IfSome found (λ table.
@@ -129,15 +137,14 @@ fn read_table_into<R: Read>(
         KeepsLimit (told_lengths table.0 buffer.new) limit)) }
     ensures none { IfOk result (λ found. IfNone found
         ((8 ≤ length buffer.old) × IfSome (R.unread source.old) (λ raw. raw ≡ []))) }
-    ensures refused { IfErr result (λ error. (error.kind ≡ ErrorKind.DeviceFailed)
-        ⊎ Known (R.unread source.old) (R.unread source.new)
-        (RefusesTable R.gives R.refuses limit (Some (length buffer.old)) error.kind)) }
+    ensures short { length buffer.old < 8 →
+        (source.new ≡ source.old) × IsRefusedBy result ErrorKind.BufferNotLargeEnough }
+    ensures refused { FailsOr result (λ kind. IfKnown (R.unread source.old) (R.unread source.new)
+        (RefusesTable R.gives R.refuses limit (Some (length buffer.old)) kind)) }
     ensures kinds { IfErr result (λ error. IsLentReaderKind R.refuses error.kind) }
     ensures end { IfErr result (λ error. R.unread source.old ≡ Some [] →
         8 ≤ length buffer.old → error.kind ≡ ErrorKind.DeviceFailed) }
-    ensures failed { IfErr result (λ error. error.kind ≡ ErrorKind.DeviceFailed →
-        Fails (R.failures source.old) (R.failures source.new)) }
-    ensures advances { Advances R.unread R.failures R.same source.old source.new }
+    ensures asked { Asked R.unread R.failures R.same source.old source.new result }
 {
     if buffer.len() < 8 {
         return Err(Error::from_kind(ErrorKind::BufferNotLargeEnough));
@@ -146,13 +153,33 @@ fn read_table_into<R: Read>(
         return Ok(None);
     };
     let count = accepted_count(&first)?;
-    let behind = table_len(count);
-    if buffer.len() < behind {
+    let size = table_len(count);
+    if buffer.len() < size {
         return Err(Error::from_kind(ErrorKind::BufferNotLargeEnough));
     }
-    buffer[..8].copy_from_slice(&first);
-    source.read_exact(&mut buffer[8..behind])?;
-    let total = lengths_total(buffer, count);
+    let total = read_total(source, &first, count, &mut buffer[..size])?;
     keep_limit(total, limit)?;
     Ok(Some((count, total)))
+}
+
+// Completes a table whose first word this is, and answers the sum of its lengths.
+fn read_total<R: Read>(
+    source: &mut R,
+    first: &[u8; 8],
+    count: usize,
+    table: &mut [u8],
+) -> Result<usize>
+    requires accepted { TellsAccepted first.now count }
+    requires size { length table.old ≡ table_size count }
+    ensures found { OnOk result (IfKnown (R.unread source.old) (R.unread source.new)
+        (RestStands R.gives first.now (told_lengths count table.new))) }
+    ensures tells { OnOk result (TellsTable table.new count) }
+    ensures total { IfOk result (λ total. total ≡ sum (told_lengths count table.new)) }
+    ensures bound { IfOk result (λ total. total < 2 ^ 42) }
+    ensures refused { FailsOr result
+        (IsRefused R.refuses (8 * (count / 2)) (R.unread source.old)) }
+    ensures asked { Asked R.unread R.failures R.same source.old source.new result }
+{
+    complete_table(source, first, table)?;
+    Ok(lengths_total(table, count))
 }

@@ -1,34 +1,32 @@
 //! Segments in a buffer that are found without memory.
-ghost use Rattle.std.specs.Prelude.{◌≡◌, ℕ, ◌*◌, List, length, sum, IfOk, IfErr, OnErr};
+ghost use Rattle.std.specs.Prelude.{◌≡◌, ℕ, ◌+◌, ◌*◌, ◌<◌, ◌≤◌, List, length, sum, IfOk, IfErr, IsOk, OnErr};
 ghost use Rattle.std.specs.Result.{IsErrAnd};
 ghost use Rattle.capnp_frame.specs.Limits.{IsWithin};
 ghost use Rattle.capnp_frame.specs.Front.{HasFrame, IsDescribed, HoldsMessage, told_lengths, told_segments};
+ghost use Rattle.capnp_frame.specs.KeptTables.{KeepsEnds};
 ghost use Rattle.capnp_frame.specs.FlatRefusals.{by_fields, RefusesFlat};
 ghost use Rattle.capnp_frame.specs.declared.error.ErrorKind.{ErrorKind};
 
 use crate::error::Result;
 use crate::message::{AsBytes, ReaderOptions, ReaderSegments};
-use crate::serialize::segment_table::{field_at, lengths_total, table_len};
+use crate::serialize::segment_table::{field_at, table_len};
 use crate::serialize::segment_table_info::{NoAllocSegmentTableInfo, read_table_info};
 use std::marker::Model;
 
-// What is kept of a table beside its buffer.
-#[derive(Clone, Copy)]
-enum KeptTable {
-    // It has one segment, of so many bytes.
-    Single(usize),
-    // It has so many segments.
-    Several(usize),
-}
+// The ends of so many segments are kept.
+const KEPT_ENDS: usize = 8;
 
 /// A message's segments in a buffer that holds its table and behind it the segments.
 ///
-/// No segment is copied and no memory is taken: where there are several segments, the table is read
-/// anew each time that one is asked for.
+/// No segment is copied and no memory is taken. Where the first eight segments end is kept, and of
+/// those after them the table is read anew, from the ninth length on, each time that one is asked
+/// for.
 #[derive(Drop)]
 pub struct NoAllocBufferSegments<T: AsBytes> {
     buffer: T,
-    table: KeptTable,
+    segments_count: usize,
+    // Where the first segments end, in words after the table.
+    ends: [usize; KEPT_ENDS],
 }
 
 /// Segments in a slice that are found without memory.
@@ -36,18 +34,19 @@ pub type NoAllocSliceSegments<'b> = NoAllocBufferSegments<&'b [u8]>;
 
 // Clauses see the buffer and the segments.
 impl<T: AsBytes> Model for NoAllocBufferSegments<T> {
-    ghost use Rattle.capnp_frame.specs.Front.{told_segments};
+    ghost use Rattle.capnp_frame.specs.Front.{told_segments, HoldsMessage};
     ghost use Rattle.capnp_frame.specs.Views.{Held};
-    ghost use Rattle.capnp_frame.specs.KeptTables.{kept_count, Keeps};
+    ghost use Rattle.capnp_frame.specs.KeptTables.{KeepsEnds};
 
     ghost Value = { Held T };
 
     ghost view = { λ held. record {
       buffer = held.buffer;
-      segments = told_segments (kept_count held.table) (T.bytes held.buffer);
+      segments = told_segments held.segments_count (T.bytes held.buffer);
     } };
 
-    ghost invariant = { λ held. Keeps held.table (T.bytes held.buffer) };
+    ghost invariant = { λ held. HoldsMessage (T.bytes held.buffer) held.segments_count
+        × KeepsEnds held.ends held.segments_count (T.bytes held.buffer) };
 }
 
 impl<T: AsBytes> NoAllocBufferSegments<T> {
@@ -60,24 +59,21 @@ impl<T: AsBytes> NoAllocBufferSegments<T> {
         ensures buffer { result.buffer ≡ buffer }
         ensures found { (rest : List ℕ) × HasFrame (T.bytes buffer) result.segments rest }
     {
-        NoAllocBufferSegments::of_held(buffer, info)
+        NoAllocBufferSegments::of_held(buffer, info.segments_count)
     }
 
     /// The message that the buffer holds, of so many segments.
-    pub(crate) fn of_held(buffer: T, info: NoAllocSegmentTableInfo) -> NoAllocBufferSegments<T>
-        requires holds { HoldsMessage (T.bytes buffer) info.segments_count }
-        requires total { info.total_segments_length_bytes
-            ≡ 8 * sum (told_lengths info.segments_count (T.bytes buffer)) }
+    pub(crate) fn of_held(buffer: T, segments_count: usize) -> NoAllocBufferSegments<T>
+        requires { HoldsMessage (T.bytes buffer) segments_count }
         ensures buffer { result.buffer ≡ buffer }
-        ensures segments { result.segments
-            ≡ told_segments info.segments_count (T.bytes buffer) }
+        ensures segments { result.segments ≡ told_segments segments_count (T.bytes buffer) }
     {
-        let table = if info.segments_count == 1 {
-            KeptTable::Single(info.total_segments_length_bytes)
-        } else {
-            KeptTable::Several(info.segments_count)
-        };
-        NoAllocBufferSegments { buffer, table }
+        let ends = first_ends(buffer.as_bytes(), segments_count);
+        NoAllocBufferSegments {
+            buffer,
+            segments_count,
+            ends,
+        }
     }
 }
 
@@ -89,9 +85,9 @@ impl<T: AsBytes + Drop> NoAllocBufferSegments<T> {
             × HasFrame (T.bytes buffer) found.segments rest) }
         ensures within { IfOk result (λ found.
             IsWithin found.segments options.traversal_limit_in_words) }
-        ensures accepted { IfErr result (λ error. (segments : List (List ℕ)) (rest : List ℕ) →
+        ensures accepted { (segments : List (List ℕ)) (rest : List ℕ) →
             HasFrame (T.bytes buffer) segments rest →
-            IsWithin segments options.traversal_limit_in_words → ⊥) }
+            IsWithin segments options.traversal_limit_in_words → IsOk result }
 
         // A refusal is a line of the table, and the line that is met is answered.
         ensures refused { IfErr result (λ error. RefusesFlat by_fields
@@ -101,7 +97,7 @@ impl<T: AsBytes + Drop> NoAllocBufferSegments<T> {
             IsErrAnd result (λ error. error.kind ≡ kind) }
     {
         let info = read_table_info(buffer.as_bytes(), options.traversal_limit_in_words)?;
-        Ok(NoAllocBufferSegments::of_held(buffer, info))
+        Ok(NoAllocBufferSegments::of_held(buffer, info.segments_count))
     }
 }
 
@@ -117,9 +113,9 @@ impl<'b> NoAllocBufferSegments<&'b [u8]> {
         ensures within { IfOk result (λ found.
             IsWithin found.segments options.traversal_limit_in_words) }
         ensures unchanged { OnErr result (slice.new.now ≡ slice.old.now) }
-        ensures accepted { IfErr result (λ error. (segments : List (List ℕ)) (rest : List ℕ) →
+        ensures accepted { (segments : List (List ℕ)) (rest : List ℕ) →
             HasFrame slice.old.now segments rest →
-            IsWithin segments options.traversal_limit_in_words → ⊥) }
+            IsWithin segments options.traversal_limit_in_words → IsOk result }
 
         // A refusal is a line of the table, and the line that is met is answered.
         ensures refused { IfErr result (λ error. RefusesFlat by_fields
@@ -132,7 +128,7 @@ impl<'b> NoAllocBufferSegments<&'b [u8]> {
         let info = read_table_info(all, options.traversal_limit_in_words)?;
         let end = info.segment_table_length_bytes + info.total_segments_length_bytes;
         *slice = &all[end..];
-        Ok(NoAllocBufferSegments::of_held(all, info))
+        Ok(NoAllocBufferSegments::of_held(all, info.segments_count))
     }
 }
 
@@ -141,32 +137,50 @@ impl<T: AsBytes> ReaderSegments for NoAllocBufferSegments<T> {
 
     fn get_segment(&self, id: u32) -> Option<&[u8]> {
         let index = id as usize;
-        let bytes = self.buffer.as_bytes();
-        match self.table {
-            KeptTable::Single(length) => {
-                if index == 0 {
-                    Some(&bytes[8..8 + length])
-                } else {
-                    None
-                }
-            }
-            KeptTable::Several(count) => {
-                if index >= count {
-                    return None;
-                }
-                let start = table_len(count) + 8 * lengths_total(bytes, index);
-                let length = 8 * field_at(bytes, 4 * (index + 1)) as usize;
-                Some(&bytes[start..start + length])
-            }
+        if index >= self.segments_count {
+            return None;
         }
+        let bytes = self.buffer.as_bytes();
+        let (start, end) = place(bytes, &self.ends, index);
+        let front = table_len(self.segments_count);
+        Some(&bytes[front + 8 * start..front + 8 * end])
     }
 
     fn len(&self) -> usize
         ensures { result ≡ length self.now.segments }
     {
-        match self.table {
-            KeptTable::Single(_) => 1,
-            KeptTable::Several(count) => count,
-        }
+        self.segments_count
     }
+}
+
+// Where the first segments end, in words after the table, of a message of so many segments.
+fn first_ends(bytes: &[u8], count: usize) -> [usize; KEPT_ENDS]
+    requires { HoldsMessage bytes.now count }
+    ensures { KeepsEnds result count bytes.now }
+{
+    let mut ends = [0; KEPT_ENDS];
+    let mut end = 0;
+    for index in 0..count.min(KEPT_ENDS) {
+        end += field_at(bytes, 4 * (index + 1)) as usize;
+        ends[index] = end;
+    }
+    ends
+}
+
+// Where the segment at this index begins and ends, in words after the table.
+fn place(bytes: &[u8], ends: &[usize; KEPT_ENDS], index: usize) -> (usize, usize)
+    requires held { (count : ℕ) × HoldsMessage bytes.now count × (index < count)
+        × KeepsEnds ends.now count bytes.now }
+    ensures start { result.0 ≡ sum (told_lengths index bytes.now) }
+    ensures end { result.1 ≡ sum (told_lengths (index + 1) bytes.now) }
+{
+    if index < KEPT_ENDS {
+        let start = if index == 0 { 0 } else { ends[index - 1] };
+        return (start, ends[index]);
+    }
+    let mut start = ends[KEPT_ENDS - 1];
+    for before in KEPT_ENDS..index {
+        start += field_at(bytes, 4 * (before + 1)) as usize;
+    }
+    (start, start + field_at(bytes, 4 * (index + 1)) as usize)
 }

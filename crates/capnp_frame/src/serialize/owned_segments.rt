@@ -1,9 +1,11 @@
 //! Segments that own their bytes.
-ghost use Rattle.std.specs.Prelude.{◌≡◌, ℕ, ◌*◌, List, length, map, sum, vec_len};
+ghost use Rattle.std.specs.Prelude.{◌≡◌, ℕ, ◌*◌, List, [], length, map, sum, vec_len};
 ghost use Rattle.std.specs.List.{concat};
 ghost use Rattle.capnp_frame.specs.SegmentLengths.{ranges, range_len, cut};
 
 use crate::message::ReaderSegments;
+use crate::serialize::segment_lengths::part;
+use std::alloc::Global;
 use std::marker::Model;
 
 /// The segments of a message in one piece of memory.
@@ -37,6 +39,23 @@ impl OwnedSegments {
         }
     }
 
+    /// No segments, with no memory.
+    pub fn empty(alloc: Global) -> OwnedSegments
+        ensures { result ≡ [] }
+    {
+        OwnedSegments {
+            segment_indices: Vec::new(alloc),
+            bytes: Vec::new(alloc),
+        }
+    }
+
+    /// The memory of the segments: where each begins and ends, in words, and their bytes.
+    pub(crate) fn into_parts(self) -> (Vec<(usize, usize)>, Vec<u8>)
+        ensures { self ≡ cut (map range_len result.0.items) result.1.items }
+    {
+        (self.segment_indices, self.bytes)
+    }
+
     /// All segments, joined.
     pub fn as_bytes(&self) -> &[u8]
         ensures { result.now ≡ concat self.now }
@@ -64,12 +83,7 @@ impl ReaderSegments for OwnedSegments {
     ghost segments = { λ segments. segments };
 
     fn get_segment(&self, id: u32) -> Option<&[u8]> {
-        let index = id as usize;
-        if index >= self.segment_indices.len() {
-            return None;
-        }
-        let (start, end) = self.segment_indices[index];
-        Some(&self.bytes[8 * start..8 * end])
+        part(&self.bytes, &self.segment_indices, id)
     }
 
     fn len(&self) -> usize

@@ -1,5 +1,5 @@
 //! The lengths of segments that stand behind one another.
-ghost use Rattle.std.specs.Prelude.{◌≡◌, ℕ, ◌+◌, ◌*◌, ◌<◌, ◌≤◌, ◌^◌, ◌↔◌, List, [], ◌∷◌, ◌++◌, length, map, drop, sum, replicate, IfOk, OnOk, OnErr, IfErr, ◌⊎◌, vec_len};
+ghost use Rattle.std.specs.Prelude.{◌≡◌, ℕ, ◌+◌, ◌*◌, ◌<◌, ◌≤◌, ◌^◌, ◌↔◌, List, [], ◌∷◌, ◌++◌, length, map, drop, sum, replicate, IfOk, OnOk, OnErr, IfErr, ◌⊎◌, vec_len, slice_get, option_copied};
 ghost use Rattle.capnp_frame.specs.SegmentLengths.{ranges, range_len, cut, AreRanges};
 ghost use Rattle.capnp_frame.specs.Errors.{IsRefusedBy};
 
@@ -36,6 +36,20 @@ impl SegmentLengthsBuilder {
             segment_indices,
             total_words: 0,
         })
+    }
+
+    /// The lengths of the segments between these indices, in words, whose sum is `total_words`.
+    pub(crate) fn from_indices(
+        segment_indices: Vec<(usize, usize)>,
+        total_words: usize,
+    ) -> SegmentLengthsBuilder
+        requires { AreRanges segment_indices.items total_words }
+        ensures { result ≡ map range_len segment_indices.items }
+    {
+        SegmentLengthsBuilder {
+            segment_indices,
+            total_words,
+        }
     }
 
     /// Adds the length of the next segment, in words.
@@ -92,4 +106,14 @@ impl SegmentLengthsBuilder {
     {
         BufferSegments::from_parts(slice, table_len, self.to_segment_indices())
     }
+}
+
+/// The part of `bytes` between the indices of this number, which are in words; `None` past the last.
+pub(crate) fn part<'a>(bytes: &'a [u8], indices: &[(usize, usize)], id: u32) -> Option<&'a [u8]>
+    requires running { indices.now ≡ ranges (map range_len indices.now) }
+    requires room { 8 * sum (map range_len indices.now) ≤ length bytes.now }
+    ensures { option_copied result ≡ slice_get (cut (map range_len indices.now) bytes.now) id }
+{
+    let (start, end) = *indices.get(id as usize)?;
+    Some(&bytes[8 * start..8 * end])
 }

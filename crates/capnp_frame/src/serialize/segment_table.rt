@@ -1,19 +1,19 @@
 //! The segment table at the front of a framed message: its fields, and the lengths that they tell.
-ghost use Rattle.std.specs.Prelude.{◌≡◌, ◌+◌, ◌-◌, ◌*◌, ◌/◌, ◌<◌, ◌≤◌, ◌^◌, [], ◌++◌, length, take, drop, sum, ℕ, OnOk, IfOk, IfErr, IfSome, IsSomeAnd};
-ghost use Rattle.capnp_frame.specs.SegmentTable.{field, IsTable, table_size};
-ghost use Rattle.capnp_frame.specs.Refusals.{Tells, IsOutOfRange};
+ghost use Rattle.std.specs.Prelude.{◌≡◌, ◌+◌, ◌*◌, ◌<◌, ◌≤◌, ◌^◌, length, map, take, drop, sum, ℕ, OnOk, IfOk, IfErr, IfSome, IsSomeAnd};
+ghost use Rattle.capnp_frame.specs.SegmentTable.{field, table_size};
+ghost use Rattle.capnp_frame.specs.SegmentLengths.{range_len, AreRanges};
+ghost use Rattle.capnp_frame.specs.Refusals.{Tells, TellsAccepted, IsOutOfRange};
 ghost use Rattle.capnp_frame.specs.Front.{told_lengths, SpellsLengths};
 
 use crate::error::{Error, ErrorKind, Result};
-use crate::serialize::segment_lengths::SegmentLengthsBuilder;
 
 /// A message that is read has fewer segments than this.
 ///
 /// The limit keeps a hostile table from asking for much memory before any segment is there.
 pub const SEGMENTS_COUNT_LIMIT: usize = 512;
 
-/// The bytes behind the first word of the longest table that is read.
-pub(crate) const LONGEST_TABLE_REST: usize = 2040;
+/// The bytes of the longest table that is read.
+pub(crate) const LONGEST_TABLE: usize = 2048;
 
 /// The bytes of a table of so many segments.
 pub(crate) fn table_len(count: usize) -> usize
@@ -34,9 +34,7 @@ pub(crate) fn field_at(table: &[u8], at: usize) -> u32
 /// The number of segments that the first word of a table tells. One that no reader accepts is refused
 /// by `InvalidNumberOfSegments`; its field holds one less, so `ff ff ff ff` tells 0.
 pub(crate) fn accepted_count(first: &[u8; 8]) -> Result<usize>
-    ensures some { IfOk result (λ count. 0 < count) }
-    ensures few { IfOk result (λ count. count < SEGMENTS_COUNT_LIMIT) }
-    ensures told { IfOk result (λ count. field (count - 1) ≡ take 4 first.now) }
+    ensures accepted { IfOk result (TellsAccepted first.now) }
     ensures refused { IfErr result (λ error. (count : ℕ) × Tells first.now count
         × IsOutOfRange count × (error.kind ≡ ErrorKind.InvalidNumberOfSegments count)) }
 {
@@ -76,27 +74,21 @@ pub(crate) fn lengths_total(table: &[u8], count: usize) -> usize
     total
 }
 
-/// Pushes the lengths in a table of so many segments: `first` is its first word, `others` are its
-/// other words.
-pub(crate) fn push_lengths(
-    lengths: &mut SegmentLengthsBuilder,
-    first: &[u8; 8],
-    others: &[u8],
-    count: usize,
-) -> Result<()>
-    requires empty { lengths.old ≡ [] }
-    requires some { 0 < count }
-    requires few { count < SEGMENTS_COUNT_LIMIT }
-    requires told { take 4 first.now ≡ field (count - 1) }
-    requires room { length others.now ≡ 8 * (count / 2) }
-    ensures table { OnOk result (IsTable (first.now ++ others.now) lengths.new) }
-    ensures count { OnOk result (length lengths.new ≡ count) }
-    ensures bound { OnOk result (sum lengths.new < 2 ^ 42) }
-    ensures memory { IfErr result (λ error. error.kind ≡ ErrorKind.OutOfMemory) }
+/// Fills in where each segment begins and ends, in words, by the lengths in a table of so many
+/// segments, and answers the sum of the lengths.
+pub(crate) fn fill_indices(indices: &mut [(usize, usize)], table: &[u8]) -> usize
+    requires few { length indices.old < SEGMENTS_COUNT_LIMIT }
+    requires room { 4 * (length indices.old + 1) ≤ length table.now }
+    ensures told { map range_len indices.new ≡ told_lengths (length indices.new) table.now }
+    ensures ranges { AreRanges indices.new result }
+    ensures bound { result < 2 ^ 42 }
+    ensures lengths { SpellsLengths table.now (length indices.new) }
 {
-    lengths.try_push_segment(field_at(first, 4) as usize)?;
-    for index in 1..count {
-        lengths.try_push_segment(field_at(others, 4 * (index - 1)) as usize)?;
+    let mut end = 0;
+    for index in 0..indices.len() {
+        let start = end;
+        end += field_at(table, 4 * (index + 1)) as usize;
+        indices[index] = (start, end);
     }
-    Ok(())
+    end
 }

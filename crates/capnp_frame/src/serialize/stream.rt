@@ -1,12 +1,15 @@
 //! Reading messages from a source.
-ghost use Rattle.std.specs.Prelude.{◌≡◌, ℕ, ◌<◌, ◌≤◌, ◌^◌, List, [], ◌++◌, sum, IfOk, IfErr, IfSome, IfNone, ◌⊎◌, Option, Some, None};
+ghost use Rattle.std.specs.Prelude.{◌≡◌, ℕ, ◌-◌, ◌*◌, ◌/◌, ◌<◌, ◌≤◌, ◌^◌, List, [], length, take, drop, map, sum, IfOk, IfErr, OnOk, IfSome, IfNone, IsOk, ◌⊎◌, Option, Some, None};
 ghost use Rattle.std.specs.List.{AllByRecursion};
 ghost use Rattle.std.specs.Result.{IsErrAnd};
 ghost use Rattle.capnp_frame.specs.Message.{IsWholeWords};
+ghost use Rattle.capnp_frame.specs.SegmentTable.{field, FitsField, table_size};
+ghost use Rattle.capnp_frame.specs.SegmentLengths.{range_len, AreRanges};
 ghost use Rattle.capnp_frame.specs.Limits.{AreWithin, IsWithin};
-ghost use Rattle.capnp_frame.specs.Source.{Known, Advances, Fails, IsRefused};
-ghost use Rattle.capnp_frame.specs.Requests.{TableStands, Stands};
-ghost use Rattle.capnp_frame.specs.Refusals.{RefusesTable, RefusesStream, IsReaderKind};
+ghost use Rattle.capnp_frame.specs.Source.{IfKnown, Advances, Fails, IsRefused};
+ghost use Rattle.capnp_frame.specs.Asking.{Asked, FailsOr};
+ghost use Rattle.capnp_frame.specs.Requests.{RestStands, TableStands, MessageStands};
+ghost use Rattle.capnp_frame.specs.Refusals.{RefusesTable, RefusesStream, CountStands, TakesMemory, IsReaderKind};
 ghost use Rattle.capnp_frame.specs.declared.error.ErrorKind.{ErrorKind};
 
 use crate::error::{Error, ErrorKind, Result};
@@ -15,7 +18,7 @@ use crate::message::ReaderOptions;
 use crate::serialize::owned_segments::OwnedSegments;
 use crate::serialize::segment_lengths::SegmentLengthsBuilder;
 use crate::serialize::segment_table::{
-    LONGEST_TABLE_REST, accepted_count, keep_limit, push_lengths,
+    LONGEST_TABLE, SEGMENTS_COUNT_LIMIT, accepted_count, fill_indices, keep_limit, table_len,
 };
 use std::alloc::Global;
 
@@ -31,7 +34,7 @@ pub fn try_read_segments<R: Read>(
     options: ReaderOptions,
 ) -> Result<Option<OwnedSegments>>
     ensures found { IfOk result (λ found. IfSome found (λ segments.
-        Known (R.unread source.old) (R.unread source.new) (Stands R.gives segments))) }
+        IfKnown (R.unread source.old) (R.unread source.new) (MessageStands R.gives segments))) }
     ensures within { IfOk result (λ found. IfSome found (λ segments.
         IsWithin segments options.traversal_limit_in_words)) }
     ensures whole { IfOk result (λ found. IfSome found (AllByRecursion IsWholeWords)) }
@@ -39,17 +42,20 @@ pub fn try_read_segments<R: Read>(
         (IfSome (R.unread source.old) (λ raw. raw ≡ []))) }
 
     // A message that stands there is refused only by these two.
-    ensures accepted { IfErr result (λ error. IfSome (R.unread source.old) (λ raw.
-        (segments : List (List ℕ)) (rest : List ℕ) → Stands R.gives segments raw rest →
-        IsWithin segments options.traversal_limit_in_words →
+    ensures accepted { IfSome (R.unread source.old) (λ raw.
+        (segments : List (List ℕ)) (rest : List ℕ) → MessageStands R.gives segments raw rest →
+        IsWithin segments options.traversal_limit_in_words → IfErr result (λ error.
         (error.kind ≡ ErrorKind.DeviceFailed) ⊎ (error.kind ≡ ErrorKind.OutOfMemory))) }
     ensures end { IfErr result (λ error. R.unread source.old ≡ Some [] →
         error.kind ≡ ErrorKind.DeviceFailed) }
 
-    // A refusal is one of these two, or a line of the table of refusals.
+    // A refusal is the device's, want of memory where memory is taken, or a line of the table of
+    // refusals.
     ensures refused { IfErr result (λ error. (error.kind ≡ ErrorKind.DeviceFailed)
-        ⊎ (error.kind ≡ ErrorKind.OutOfMemory)
-        ⊎ Known (R.unread source.old) (R.unread source.new)
+        ⊎ ((error.kind ≡ ErrorKind.OutOfMemory)
+        × IfKnown (R.unread source.old) (R.unread source.new)
+        (TakesMemory R.gives options.traversal_limit_in_words))
+        ⊎ IfKnown (R.unread source.old) (R.unread source.new)
         (RefusesStream R.gives R.refuses options.traversal_limit_in_words None error.kind)) }
     // A line that is the first to hold is answered, but for these two.
     ensures exact { IfSome (R.unread source.old) (λ raw. (kind : ErrorKind) (left : List ℕ) →
@@ -62,96 +68,224 @@ pub fn try_read_segments<R: Read>(
 
     ensures advances { Advances R.unread R.failures R.same source.old source.new }
 {
-    next_segments(alloc, source, options.traversal_limit_in_words)
+    next_segments(
+        source,
+        options.traversal_limit_in_words,
+        Vec::new(alloc),
+        Vec::new(alloc),
+    )
+}
+
+/// Reads the next message as `try_read_segments` does, into the memory of a message before, which
+/// grows where it is too small.
+pub fn try_read_segments_reusing<R: Read>(
+    source: &mut R,
+    options: ReaderOptions,
+    spare: OwnedSegments,
+) -> Result<Option<OwnedSegments>>
+    ensures found { IfOk result (λ found. IfSome found (λ segments.
+        IfKnown (R.unread source.old) (R.unread source.new) (MessageStands R.gives segments))) }
+    ensures within { IfOk result (λ found. IfSome found (λ segments.
+        IsWithin segments options.traversal_limit_in_words)) }
+    ensures whole { IfOk result (λ found. IfSome found (AllByRecursion IsWholeWords)) }
+    ensures none { IfOk result (λ found. IfNone found
+        (IfSome (R.unread source.old) (λ raw. raw ≡ []))) }
+
+    // A message that stands there is refused only by these two.
+    ensures accepted { IfSome (R.unread source.old) (λ raw.
+        (segments : List (List ℕ)) (rest : List ℕ) → MessageStands R.gives segments raw rest →
+        IsWithin segments options.traversal_limit_in_words → IfErr result (λ error.
+        (error.kind ≡ ErrorKind.DeviceFailed) ⊎ (error.kind ≡ ErrorKind.OutOfMemory))) }
+    ensures end { IfErr result (λ error. R.unread source.old ≡ Some [] →
+        error.kind ≡ ErrorKind.DeviceFailed) }
+
+    // A refusal is the device's, want of memory where memory is taken, or a line of the table of
+    // refusals.
+    ensures refused { IfErr result (λ error. (error.kind ≡ ErrorKind.DeviceFailed)
+        ⊎ ((error.kind ≡ ErrorKind.OutOfMemory)
+        × IfKnown (R.unread source.old) (R.unread source.new)
+        (TakesMemory R.gives options.traversal_limit_in_words))
+        ⊎ IfKnown (R.unread source.old) (R.unread source.new)
+        (RefusesStream R.gives R.refuses options.traversal_limit_in_words None error.kind)) }
+    // A line that is the first to hold is answered, but for these two.
+    ensures exact { IfSome (R.unread source.old) (λ raw. (kind : ErrorKind) (left : List ℕ) →
+        RefusesStream R.gives R.refuses options.traversal_limit_in_words None kind raw left →
+        IsErrAnd result (λ error. (error.kind ≡ ErrorKind.DeviceFailed)
+        ⊎ (error.kind ≡ ErrorKind.OutOfMemory) ⊎ (error.kind ≡ kind))) }
+    ensures kinds { IfErr result (λ error. IsReaderKind R.refuses error.kind) }
+    ensures failed { IfErr result (λ error. error.kind ≡ ErrorKind.DeviceFailed →
+        Fails (R.failures source.old) (R.failures source.new)) }
+
+    ensures advances { Advances R.unread R.failures R.same source.old source.new }
+{
+    let (memory, bytes) = spare.into_parts();
+    next_segments(source, options.traversal_limit_in_words, memory, bytes)
 }
 
 // The next message of a source, or none at its end.
 fn next_segments<R: Read>(
-    alloc: Global,
     source: &mut R,
     limit: Option<usize>,
+    memory: Vec<(usize, usize)>,
+    spare: Vec<u8>,
 ) -> Result<Option<OwnedSegments>>
     ensures found { IfOk result (λ found. IfSome found (λ segments.
-        Known (R.unread source.old) (R.unread source.new) (Stands R.gives segments))) }
+        IfKnown (R.unread source.old) (R.unread source.new) (MessageStands R.gives segments))) }
     ensures within { IfOk result (λ found. IfSome found (λ segments. IsWithin segments limit)) }
     ensures whole { IfOk result (λ found. IfSome found (AllByRecursion IsWholeWords)) }
     ensures none { IfOk result (λ found. IfNone found
         (IfSome (R.unread source.old) (λ raw. raw ≡ []))) }
-    ensures refused { IfErr result (λ error. (error.kind ≡ ErrorKind.DeviceFailed)
-        ⊎ (error.kind ≡ ErrorKind.OutOfMemory)
-        ⊎ Known (R.unread source.old) (R.unread source.new)
-        (RefusesStream R.gives R.refuses limit None error.kind)) }
+    ensures refused { FailsOr result (λ kind. ((kind ≡ ErrorKind.OutOfMemory)
+        × IfKnown (R.unread source.old) (R.unread source.new) (TakesMemory R.gives limit))
+        ⊎ IfKnown (R.unread source.old) (R.unread source.new)
+        (RefusesStream R.gives R.refuses limit None kind)) }
     ensures kinds { IfErr result (λ error. IsReaderKind R.refuses error.kind) }
     ensures end { IfErr result (λ error. R.unread source.old ≡ Some [] →
         error.kind ≡ ErrorKind.DeviceFailed) }
-    ensures failed { IfErr result (λ error. error.kind ≡ ErrorKind.DeviceFailed →
-        Fails (R.failures source.old) (R.failures source.new)) }
-    ensures advances { Advances R.unread R.failures R.same source.old source.new }
+    ensures asked { Asked R.unread R.failures R.same source.old source.new result }
 {
-    let Some(lengths) = read_table(alloc, source, limit)? else {
+    let Some(lengths) = read_table(memory, source, limit)? else {
         return Ok(None);
     };
-    let mut bytes = vec![in alloc; 0; 8 * lengths.total_words()]?;
-    source.read_exact(&mut bytes)?;
+    let mut bytes = spare;
+    bytes.resize(8 * lengths.total_words(), 0)?;
+    read_piece(source, &mut bytes)?;
     Ok(Some(OwnedSegments::from_parts(lengths.to_segment_indices(), bytes)))
 }
 
 // The lengths in the next table, or none at the source's end.
 pub(crate) fn read_table<R: Read>(
-    alloc: Global,
+    memory: Vec<(usize, usize)>,
     source: &mut R,
     limit: Option<usize>,
 ) -> Result<Option<SegmentLengthsBuilder>>
     ensures found { IfOk result (λ found. IfSome found (λ ns.
-        Known (R.unread source.old) (R.unread source.new) (TableStands R.gives ns))) }
+        IfKnown (R.unread source.old) (R.unread source.new) (TableStands R.gives ns))) }
     ensures within { IfOk result (λ found. IfSome found (λ ns. AreWithin ns limit)) }
     ensures bound { IfOk result (λ found. IfSome found (λ ns. sum ns < 2 ^ 42)) }
     ensures none { IfOk result (λ found. IfNone found
         (IfSome (R.unread source.old) (λ raw. raw ≡ []))) }
-    ensures refused { IfErr result (λ error. (error.kind ≡ ErrorKind.DeviceFailed)
-        ⊎ (error.kind ≡ ErrorKind.OutOfMemory)
-        ⊎ Known (R.unread source.old) (R.unread source.new)
-        (RefusesTable R.gives R.refuses limit None error.kind)) }
+    ensures refused { FailsOr result (λ kind. ((kind ≡ ErrorKind.OutOfMemory)
+        × IfKnown (R.unread source.old) (R.unread source.new) (CountStands R.gives))
+        ⊎ IfKnown (R.unread source.old) (R.unread source.new)
+        (RefusesTable R.gives R.refuses limit None kind)) }
     ensures kinds { IfErr result (λ error. IsReaderKind R.refuses error.kind) }
     ensures end { IfErr result (λ error. R.unread source.old ≡ Some [] →
         error.kind ≡ ErrorKind.DeviceFailed) }
-    ensures failed { IfErr result (λ error. error.kind ≡ ErrorKind.DeviceFailed →
-        Fails (R.failures source.old) (R.failures source.new)) }
-    ensures advances { Advances R.unread R.failures R.same source.old source.new }
+    ensures asked { Asked R.unread R.failures R.same source.old source.new result }
 {
     let Some(first) = read_first(source)? else {
         return Ok(None);
     };
     let count = accepted_count(&first)?;
-    let mut lengths = SegmentLengthsBuilder::with_capacity(alloc, count)?;
-    let mut rest = [0; LONGEST_TABLE_REST];
-    let others = &mut rest[..8 * (count / 2)];
-    source.read_exact(others)?;
-    push_lengths(&mut lengths, &first, others, count)?;
-    let total = lengths.total_words();
+    let mut indices = memory;
+    indices.resize(count, (0, 0))?;
+    let total = read_lengths(source, &first, &mut indices)?;
     keep_limit(total, limit)?;
-    Ok(Some(lengths))
+    Ok(Some(SegmentLengthsBuilder::from_indices(indices, total)))
+}
+
+// Reads the table's other words, fills in where each segment begins and ends, and answers the sum of
+// the lengths. Only a long table takes the long buffer, since each buffer is filled with zeros first.
+fn read_lengths<R: Read>(
+    source: &mut R,
+    first: &[u8; 8],
+    indices: &mut [(usize, usize)],
+) -> Result<usize>
+    requires some { 0 < length indices.old }
+    requires few { length indices.old < SEGMENTS_COUNT_LIMIT }
+    requires told { field (length indices.old - 1) ≡ take 4 first.now }
+    ensures table { OnOk result (IfKnown (R.unread source.old) (R.unread source.new)
+        (RestStands R.gives first.now (map range_len indices.new))) }
+    ensures ranges { IfOk result (AreRanges indices.new) }
+    ensures bound { IfOk result (λ total. total < 2 ^ 42) }
+    ensures each { OnOk result (AllByRecursion FitsField (map range_len indices.new)) }
+    ensures refused { FailsOr result
+        (IsRefused R.refuses (8 * (length indices.new / 2)) (R.unread source.old)) }
+    ensures asked { Asked R.unread R.failures R.same source.old source.new result }
+{
+    let size = table_len(indices.len());
+    if size <= 16 {
+        let mut table = [0; 16];
+        return read_lengths_by(source, first, indices, &mut table[..size]);
+    }
+    let mut table = [0; LONGEST_TABLE];
+    read_lengths_by(source, first, indices, &mut table[..size])
+}
+
+// The same by a buffer of the table's size.
+fn read_lengths_by<R: Read>(
+    source: &mut R,
+    first: &[u8; 8],
+    indices: &mut [(usize, usize)],
+    table: &mut [u8],
+) -> Result<usize>
+    requires some { 0 < length indices.old }
+    requires few { length indices.old < SEGMENTS_COUNT_LIMIT }
+    requires told { field (length indices.old - 1) ≡ take 4 first.now }
+    requires size { length table.old ≡ table_size (length indices.old) }
+    ensures table { OnOk result (IfKnown (R.unread source.old) (R.unread source.new)
+        (RestStands R.gives first.now (map range_len indices.new))) }
+    ensures ranges { IfOk result (AreRanges indices.new) }
+    ensures bound { IfOk result (λ total. total < 2 ^ 42) }
+    ensures each { OnOk result (AllByRecursion FitsField (map range_len indices.new)) }
+    ensures refused { FailsOr result
+        (IsRefused R.refuses (8 * (length indices.new / 2)) (R.unread source.old)) }
+    ensures asked { Asked R.unread R.failures R.same source.old source.new result }
+{
+    complete_table(source, first, table)?;
+    Ok(fill_indices(indices, table))
+}
+
+// Puts a table's first word into its place, and reads the other words behind it.
+pub(crate) fn complete_table<R: Read>(
+    source: &mut R,
+    first: &[u8; 8],
+    table: &mut [u8],
+) -> Result<()>
+    requires { 8 ≤ length table.old }
+    ensures front { OnOk result (take 8 table.new ≡ first.now) }
+    ensures others { OnOk result (IfKnown (R.unread source.old) (R.unread source.new)
+        (λ raw rest. R.gives raw (length table.new - 8) (drop 8 table.new) rest)) }
+    ensures refused { FailsOr result
+        (IsRefused R.refuses (length table.new - 8) (R.unread source.old)) }
+    ensures asked { Asked R.unread R.failures R.same source.old source.new result }
+{
+    table[..8].copy_from_slice(first);
+    read_piece(source, &mut table[8..])
 }
 
 // The next word, or none at the source's end.
 pub(crate) fn read_first<R: Read>(source: &mut R) -> Result<Option<[u8; 8]>>
-    ensures found { IfOk result (λ found. IfSome found (λ word.
-        Known (R.unread source.old) (R.unread source.new) (λ raw rest. R.gives raw 8 word rest))) }
+    ensures found { IfOk result (λ found. IfSome found (λ word. IfKnown (R.unread source.old)
+        (R.unread source.new) (λ raw rest. R.gives raw 8 word rest))) }
     ensures none { IfOk result (λ found. IfNone found
         (IfSome (R.unread source.old) (λ raw. raw ≡ []))) }
-    ensures refused { IfErr result (λ error. (error.kind ≡ ErrorKind.DeviceFailed)
-        ⊎ IsRefused R.refuses 8 (R.unread source.old) error.kind) }
+    ensures refused { FailsOr result (IsRefused R.refuses 8 (R.unread source.old)) }
     ensures end { IfErr result (λ error. R.unread source.old ≡ Some [] →
         error.kind ≡ ErrorKind.DeviceFailed) }
-    ensures failed { IfErr result (λ error. error.kind ≡ ErrorKind.DeviceFailed →
-        Fails (R.failures source.old) (R.failures source.new)) }
-    ensures advances { Advances R.unread R.failures R.same source.old source.new }
+    ensures asked { Asked R.unread R.failures R.same source.old source.new result }
 {
     let mut word = [0; 8];
     let count = source.read(&mut word)?;
     if count == 0 {
         return Ok(None);
     }
-    source.read_exact(&mut word[count..])?;
+    read_piece(source, &mut word[count..])?;
     Ok(Some(word))
+}
+
+// Fills a piece by one request. A piece of no bytes asks for nothing.
+pub(crate) fn read_piece<R: Read>(source: &mut R, piece: &mut [u8]) -> Result<()>
+    ensures given { OnOk result (IfKnown (R.unread source.old) (R.unread source.new)
+        (λ raw rest. R.gives raw (length piece.new) piece.new rest)) }
+    ensures quiet { piece.old ≡ [] → (source.new ≡ source.old) × IsOk result }
+    ensures refused { FailsOr result
+        (IsRefused R.refuses (length piece.new) (R.unread source.old)) }
+    ensures asked { Asked R.unread R.failures R.same source.old source.new result }
+{
+    if piece.is_empty() {
+        return Ok(());
+    }
+    source.read_exact(piece)
 }

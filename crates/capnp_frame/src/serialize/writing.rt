@@ -1,12 +1,12 @@
 //! Writing messages to a sink.
-ghost use Rattle.std.specs.Prelude.{◌≡◌, ℕ, ◌+◌, ◌*◌, ◌<◌, ◌≤◌, ◌^◌, ◌↔◌, ◌⊎◌, length, take, drop, replicate, sum, ◌++◌, IfOk, OnOk, IfErr};
+ghost use Rattle.std.specs.Prelude.{◌≡◌, ℕ, ◌+◌, ◌*◌, ◌<◌, ◌≤◌, ◌^◌, ◌↔◌, ◌⊎◌, length, take, drop, replicate, sum, ◌++◌, slice_get, Some, IfSome, IfNone, IfOk, OnOk, IfErr};
 ghost use Rattle.std.specs.List.{AllByRecursion};
 ghost use Rattle.capnp_frame.specs.Message.{IsWholeWords, lengths};
 ghost use Rattle.capnp_frame.specs.SegmentTable.{field, zero_padded_table, table_size};
 ghost use Rattle.capnp_frame.specs.Frame.{frame_text};
 ghost use Rattle.capnp_frame.specs.Writing.{IsWritable, word_and_rest, table_pieces, pieces, serialized_words};
 ghost use Rattle.capnp_frame.specs.Errors.{IsRefusedBy};
-ghost use Rattle.capnp_frame.specs.Source.{Known, Fails};
+ghost use Rattle.capnp_frame.specs.Source.{IfKnown, Fails};
 ghost use Rattle.capnp_frame.specs.Sink.{Adds, AppendsAll, DeclinesSome, Grows};
 
 use crate::error::{Error, ErrorKind, Result};
@@ -25,11 +25,15 @@ pub fn write_segments<W: Write, S: ReaderSegments>(
     segments: &S,
 ) -> Result<()>
     requires { IsWritable (S.segments segments.now) }
-    ensures written { OnOk result (Known (W.written sink.old) (W.written sink.new)
+    ensures written { OnOk result (IfKnown (W.written sink.old) (W.written sink.new)
         (Adds (AppendsAll W.appends (pieces (S.segments segments.now))))) }
     ensures refused { IfErr result (λ error. (error.kind ≡ ErrorKind.DeviceFailed)
         ⊎ DeclinesSome W.refuses (pieces (S.segments segments.now)) error.kind
         ⊎ (4 ≤ length (S.segments segments.now)) × (error.kind ≡ ErrorKind.OutOfMemory)) }
+    // A refusal that isn't the sink's leaves the sink as it was.
+    ensures untouched { IfErr result (λ error. (error.kind ≡ ErrorKind.DeviceFailed)
+        ⊎ DeclinesSome W.refuses (pieces (S.segments segments.now)) error.kind
+        ⊎ (sink.new ≡ sink.old)) }
     ensures failed { IfErr result (λ error. error.kind ≡ ErrorKind.DeviceFailed →
         Fails (W.failures sink.old) (W.failures sink.new)) }
     ensures grows { Grows W.written W.failures W.same sink.old sink.new }
@@ -68,7 +72,7 @@ pub fn serialized_size_in_words<S: ReaderSegments>(segments: &S) -> Result<usize
 {
     let mut words = segments.len() / 2 + 1;
     let mut index = 0;
-    while let Some(segment) = segments.get_segment(index) {
+    while let Some(segment) = segment_at(segments, index) {
         let Some(more) = words.checked_add(segment.len() / 8) else {
             return Err(Error::from_kind(ErrorKind::MessageSizeOverflow));
         };
@@ -81,11 +85,14 @@ pub fn serialized_size_in_words<S: ReaderSegments>(segments: &S) -> Result<usize
 // Writes the table, with memory for it from four segments on.
 fn write_table<W: Write, S: ReaderSegments>(alloc: Global, sink: &mut W, segments: &S) -> Result<()>
     requires { IsWritable (S.segments segments.now) }
-    ensures written { OnOk result (Known (W.written sink.old) (W.written sink.new)
+    ensures written { OnOk result (IfKnown (W.written sink.old) (W.written sink.new)
         (Adds (AppendsAll W.appends (table_pieces (lengths (S.segments segments.now)))))) }
     ensures refused { IfErr result (λ error. (error.kind ≡ ErrorKind.DeviceFailed)
         ⊎ DeclinesSome W.refuses (table_pieces (lengths (S.segments segments.now))) error.kind
         ⊎ (4 ≤ length (S.segments segments.now)) × (error.kind ≡ ErrorKind.OutOfMemory)) }
+    ensures untouched { IfErr result (λ error. (error.kind ≡ ErrorKind.DeviceFailed)
+        ⊎ DeclinesSome W.refuses (table_pieces (lengths (S.segments segments.now))) error.kind
+        ⊎ (sink.new ≡ sink.old)) }
     ensures failed { IfErr result (λ error. error.kind ≡ ErrorKind.DeviceFailed →
         Fails (W.failures sink.old) (W.failures sink.new)) }
     ensures grows { Grows W.written W.failures W.same sink.old sink.new }
@@ -105,7 +112,7 @@ fn write_table<W: Write, S: ReaderSegments>(alloc: Global, sink: &mut W, segment
 // Writes the first word of a table, and where it has more the others.
 fn write_in_parts<W: Write>(sink: &mut W, table: &[u8]) -> Result<()>
     requires { 8 ≤ length table.now }
-    ensures written { OnOk result (Known (W.written sink.old) (W.written sink.new)
+    ensures written { OnOk result (IfKnown (W.written sink.old) (W.written sink.new)
         (Adds (AppendsAll W.appends (word_and_rest table.now)))) }
     ensures refused { IfErr result (λ error. (error.kind ≡ ErrorKind.DeviceFailed)
         ⊎ DeclinesSome W.refuses (word_and_rest table.now) error.kind) }
@@ -123,7 +130,7 @@ fn write_in_parts<W: Write>(sink: &mut W, table: &[u8]) -> Result<()>
 // Writes each segment as a piece.
 fn write_each<W: Write, S: ReaderSegments>(sink: &mut W, segments: &S) -> Result<()>
     requires { length (S.segments segments.now) < 2 ^ 32 }
-    ensures written { OnOk result (Known (W.written sink.old) (W.written sink.new)
+    ensures written { OnOk result (IfKnown (W.written sink.old) (W.written sink.new)
         (Adds (AppendsAll W.appends (S.segments segments.now)))) }
     ensures refused { IfErr result (λ error. (error.kind ≡ ErrorKind.DeviceFailed)
         ⊎ DeclinesSome W.refuses (S.segments segments.now) error.kind) }
@@ -132,11 +139,21 @@ fn write_each<W: Write, S: ReaderSegments>(sink: &mut W, segments: &S) -> Result
     ensures grows { Grows W.written W.failures W.same sink.old sink.new }
 {
     let mut index = 0;
-    while let Some(segment) = segments.get_segment(index) {
+    while let Some(segment) = segment_at(segments, index) {
         sink.write_all(segment)?;
         index += 1;
     }
     Ok(())
+}
+
+// The segment at an index, as a walk over all segments asks for it: none stands behind the last.
+fn segment_at<S: ReaderSegments>(segments: &S, index: u32) -> Option<&[u8]>
+    ensures here { IfSome result (λ segment.
+        slice_get (S.segments segments.now) index ≡ Some segment.now) }
+    ensures within { IfSome result (λ segment. index < length (S.segments segments.now)) }
+    ensures end { IfNone result (length (S.segments segments.now) ≤ index) }
+{
+    segments.get_segment(index)
 }
 
 // Fills a table of zeros with the number of segments and their lengths.
@@ -147,7 +164,7 @@ fn fill_table<S: ReaderSegments>(table: &mut [u8], segments: &S)
 {
     put_field(table, 0, (segments.len() - 1) as u32);
     let mut index = 0;
-    while let Some(segment) = segments.get_segment(index) {
+    while let Some(segment) = segment_at(segments, index) {
         put_field(table, 4 * (index as usize + 1), (segment.len() / 8) as u32);
         index += 1;
     }

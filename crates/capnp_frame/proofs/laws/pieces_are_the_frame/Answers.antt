@@ -1,3 +1,4 @@
+-- The pieces of a message, joined, are its frame.
 use Rattle.std.proofs.Common.{length, ◌∙◌, ap}
 use Rattle.capnp_frame.proofs.SizeLemmas.{concat-pieces, length-frame_text}
 use Rattle.capnp_frame.proofs.laws.pieces_are_the_frame.Goals as goal

@@ -4,8 +4,8 @@ use Rattle.capnp_frame.proofs.serialize.stream.try_read_segments.Goals as goal
 
 pub returns-clause-exact : goal.returns-clause-exact
 returns-clause-exact g c =
-    exact g.met.R.Read.lawful _ _ _ c.next_segments.result c.next_segments.ensures.found c.next_segments.ensures.within c.next_segments.ensures.none c.next_segments.ensures.refused
+    exact _ g.met.R.Read.lawful _ _ _ c.next_segments.result c.next_segments.ensures.found c.next_segments.ensures.within c.next_segments.ensures.none c.next_segments.ensures.refused
 
 pub returns-clause-accepted : goal.returns-clause-accepted
 returns-clause-accepted g c =
-    accepted g.met.R.Read.lawful _ _ _ c.next_segments.result c.next_segments.ensures.refused
+    accepted _ g.met.R.Read.lawful _ _ _ c.next_segments.result c.next_segments.ensures.refused

@@ -1,23 +1,22 @@
 -- Each turn fills in the length of the segment at the index.
 use Rattle.std.proofs.Common.{◌+◌, ◌*◌, length, take, arith, sym}
 use Rattle.std.proofs.lemmas.List.{take_all}
-use Rattle.std.proofs.lemmas.Option.{slice_get_within}
 use Rattle.capnp_frame.specs.Message.{lengths, word_count}
-use Rattle.capnp_frame.proofs.WritingLemmas.{filled_first, filled_next, filled_all, length-filled, lengths-next, fits_at, length-lengths, length-lengths_take, shown_at, none_past}
+use Rattle.capnp_frame.proofs.WritingLemmas.{filled_first, filled_next, filled_all, length-filled, lengths-next, fits_at, length-lengths, length-lengths_take}
 use Rattle.capnp_frame.proofs.serialize.writing.fill_table.Goals as goal
 
 pub overflow_cast-segment : goal.overflow_cast-segment
 overflow_cast-segment g c =
     let segments = g.S.ReaderSegments.segments c.args.segments.now in
-    let here = shown_at c.get_segment.result c.in-Some.segment segments c.loop-segment.index c.in-Some.is c.get_segment.ensures in
+    let here = c.in-Some.ensures.here in
     let fits = fits_at segments c.loop-segment.index c.in-Some.segment.now c.requires.writable.each here in
     omega arith
 
 pub put_field-requires-in-Some : goal.put_field-requires-in-Some
 put_field-requires-in-Some g c =
     let segments = g.S.ReaderSegments.segments c.args.segments.now in
-    let here = shown_at c.get_segment.result c.in-Some.segment segments c.loop-segment.index c.in-Some.is c.get_segment.ensures in
-    let within = slice_get_within segments c.loop-segment.index c.in-Some.segment.now here in
+    let here = c.in-Some.ensures.here in
+    let within = c.in-Some.ensures.within in
     let told = length-lengths_take segments c.loop-segment.index c.loop-segment.invariant.within in
     let long = length-filled (length segments) (lengths (take c.loop-segment.index segments)) c.loop-segment.table c.loop-segment.invariant.filled (omega arith) c.requires.writable.some in
     omega arith
@@ -30,26 +29,24 @@ loop-segment-init g c =
       filled = filled_first (length segments) c.args.table.now c.put_field.new.table c.requires.writable.some c.requires.zero (rw c.len.ensures at c.put_field.ensures);
     }
 
-pub loop-segment-smaller : goal.loop-segment-smaller
-loop-segment-smaller g c =
-    let segments = g.S.ReaderSegments.segments c.args.segments.now in
-    let here = shown_at c.get_segment.result c.in-Some.segment segments c.loop-segment.index c.in-Some.is c.get_segment.ensures in
-    omega (arith, slice_get_within segments c.loop-segment.index c.in-Some.segment.now here)
-
 pub loop-segment-preserved : goal.loop-segment-preserved
 loop-segment-preserved g c =
     let segments = g.S.ReaderSegments.segments c.args.segments.now in
     let index = c.loop-segment.index in
-    let here = shown_at c.get_segment.result c.in-Some.segment segments index c.in-Some.is c.get_segment.ensures in
+    let here = c.in-Some.ensures.here in
+    let within = c.in-Some.ensures.within in
     let told = length-lengths_take segments index c.loop-segment.invariant.within in
     record {
-      within = omega (arith, slice_get_within segments index c.in-Some.segment.now here);
-      filled = rw (lengths-next segments index c.in-Some.segment.now here) (filled_next (length segments) (lengths (take index segments)) c.loop-segment.table c.put_field-in-Some.new.table (4 * (index + 1)) (word_count c.in-Some.segment.now) c.loop-segment.invariant.filled (omega arith) c.put_field-in-Some.ensures);
+      within = omega arith;
+      filled = rw (lengths-next segments index c.in-Some.segment.now here)
+          (filled_next (length segments) (lengths (take index segments)) c.loop-segment.table
+          c.put_field-in-Some.new.table (4 * (index + 1)) (word_count c.in-Some.segment.now)
+          c.loop-segment.invariant.filled (omega arith) c.put_field-in-Some.ensures);
     }
 
 pub returns : goal.returns
 returns g c =
     let segments = g.S.ReaderSegments.segments c.args.segments.now in
-    let past = none_past c.get_segment.result segments c.loop-segment.index c.in_default.is c.get_segment.ensures in
+    let past = rw c.in_default.is at c.segment_at.ensures.end in
     let all = take_all c.loop-segment.index segments past in
     filled_all (length segments) (lengths segments) c.loop-segment.table (rw all at c.loop-segment.invariant.filled) (sym (length-lengths segments)) c.requires.writable.some

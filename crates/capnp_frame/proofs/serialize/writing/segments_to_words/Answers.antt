@@ -34,7 +34,9 @@ returns-in_err-write_segments-clause-overflow g c =
     let p = err_from_is_err_and c.from_residual-in_err-write_segments.result c.from_residual-in_err-write_segments.ensures.1 in
     let fits = rw c.in-Some.is at c.checked_mul.ensures in
     let words = c.in_ok-words.ensures.size in
-    rw (p.1, p.2) (not_overflown _ (8 * serialized_words segments) (lacks_memory_alone (pieces segments) _ c.in_err-write_segments.ensures.failed c.in_err-write_segments.ensures.refused) (omega arith))
+    rw (p.1, p.2) (not_overflown _ (8 * serialized_words segments)
+    (lacks_memory_alone (pieces segments) _ c.in_err-write_segments.ensures.failed
+    c.in_err-write_segments.ensures.refused) (omega arith))
 
 pub returns-in_err-write_segments-clause-kinds : goal.returns-in_err-write_segments-clause-kinds
 returns-in_err-write_segments-clause-kinds g c =

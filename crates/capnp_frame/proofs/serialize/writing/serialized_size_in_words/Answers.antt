@@ -2,38 +2,26 @@
 use Rattle.std.proofs.Common.{◌≡◌, ◌+◌, ◌/◌, length, ap, ◌∙◌, arith}
 use Rattle.capnp_frame.specs.Message.{size_in_words}
 use Rattle.std.proofs.lemmas.List.{take_all}
-use Rattle.std.proofs.lemmas.Option.{slice_get_within}
-use Rattle.capnp_frame.proofs.WritingLemmas.{size-next, size_take_le, shown_at, none_past, le_of_not_lt}
+use Rattle.capnp_frame.proofs.WritingLemmas.{size-next, size_take_le, le_of_not_lt}
 use Rattle.capnp_frame.proofs.serialize.writing.serialized_size_in_words.Goals as goal
 
 pub returns-in_default-checked_add-clause-overflow : goal.returns-in_default-checked_add-clause-overflow
 returns-in_default-checked_add-clause-overflow g c =
     let segments = g.S.ReaderSegments.segments c.args.segments.now in
-    let here = shown_at c.get_segment.result c.in-Some.segment segments c.loop-segment.index c.in-Some.is c.get_segment.ensures in
+    let here = c.in-Some.ensures.here in
     let more = size-next segments c.loop-segment.index c.in-Some.segment.now here in
     let most = size_take_le segments (c.loop-segment.index + 1) in
     let past = rw c.in_default-checked_add.is at c.checked_add.ensures in
     (λ _. le_of_not_lt _ _ (λ fits. past (omega arith)), λ _. c.from_kind.ensures)
 
-pub overflow_add-index : goal.overflow_add-index
-overflow_add-index g c =
-    let segments = g.S.ReaderSegments.segments c.args.segments.now in
-    let here = shown_at c.get_segment.result c.in-Some.segment segments c.loop-segment.index c.in-Some.is c.get_segment.ensures in
-    omega (arith, slice_get_within segments c.loop-segment.index c.in-Some.segment.now here)
-
-pub loop-segment-smaller : goal.loop-segment-smaller
-loop-segment-smaller g c =
-    let segments = g.S.ReaderSegments.segments c.args.segments.now in
-    let here = shown_at c.get_segment.result c.in-Some.segment segments c.loop-segment.index c.in-Some.is c.get_segment.ensures in
-    omega (arith, slice_get_within segments c.loop-segment.index c.in-Some.segment.now here)
-
 pub loop-segment-preserved : goal.loop-segment-preserved
 loop-segment-preserved g c =
     let segments = g.S.ReaderSegments.segments c.args.segments.now in
-    let here = shown_at c.get_segment.result c.in-Some.segment segments c.loop-segment.index c.in-Some.is c.get_segment.ensures in
+    let here = c.in-Some.ensures.here in
+    let within = c.in-Some.ensures.within in
     let sum_is = rw c.in-Some-checked_add.is at c.checked_add.ensures in
     record {
-      within = omega (arith, slice_get_within segments c.loop-segment.index c.in-Some.segment.now here);
+      within = omega arith;
       fits = omega arith;
       words = rw (size-next segments c.loop-segment.index c.in-Some.segment.now here) (omega arith);
     }
@@ -41,14 +29,14 @@ loop-segment-preserved g c =
 pub returns-clause-size : goal.returns-clause-size
 returns-clause-size g c =
     let segments = g.S.ReaderSegments.segments c.args.segments.now in
-    let past = none_past c.get_segment.result segments c.loop-segment.index c.in_default.is c.get_segment.ensures in
+    let past = rw c.in_default.is at c.segment_at.ensures.end in
     let all = take_all c.loop-segment.index segments past in
     c.loop-segment.invariant.words ∙ ap (λ l. length segments / 2 + 1 + size_in_words l) all
 
 pub returns-clause-overflow : goal.returns-clause-overflow
 returns-clause-overflow g c =
     let segments = g.S.ReaderSegments.segments c.args.segments.now in
-    let past = none_past c.get_segment.result segments c.loop-segment.index c.in_default.is c.get_segment.ensures in
+    let past = rw c.in_default.is at c.segment_at.ensures.end in
     let all = take_all c.loop-segment.index segments past in
     let total : c.loop-segment.words ≡ length segments / 2 + 1 + size_in_words segments = c.loop-segment.invariant.words ∙ ap (λ l. length segments / 2 + 1 + size_in_words l) all in
     (λ never. absurd never, λ over. omega arith)

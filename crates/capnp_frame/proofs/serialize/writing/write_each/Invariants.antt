@@ -1,6 +1,6 @@
 -- What is written so far is what the segments before the index add.
 use Rattle.std.proofs.Common.{length, ◌-◌, ◌≤◌, take}
-use Rattle.capnp_frame.specs.Source.{Known}
+use Rattle.capnp_frame.specs.Source.{IfKnown}
 use Rattle.capnp_frame.specs.Sink.{Adds, AppendsAll, Grows}
 use Rattle.capnp_frame.proofs.serialize.writing.write_each.Given as goal
 
@@ -8,7 +8,7 @@ abbrev pub invariant-loop-segment : goal.invariant-loop-segment
 invariant-loop-segment g l = let W = g.W.Write in let segments = g.S.ReaderSegments.segments l.segments in
     record {
       within : l.index ≤ length segments;
-      written : Known (W.written l.initial.sink) (W.written l.sink) (Adds (AppendsAll W.appends (take l.index segments)));
+      written : IfKnown (W.written l.initial.sink) (W.written l.sink) (Adds (AppendsAll W.appends (take l.index segments)));
       grows : Grows W.written W.failures W.same l.initial.sink l.sink;
     }
 

@@ -10,7 +10,9 @@ returns-in_ok-write_all-2-clause-written g c =
     let table = c.args.table.now in
     let whole : take (length table - 8) (drop 8 table) ≡ drop 8 table = take_all (length table - 8) (drop 8 table) (omega (arith, length-drop 8 table)) in
     let second = rw whole at c.in_ok-write_all-2.ensures.added in
-    rw (parts_two table c.if-table-gt8.true) (written_more W.appends (take 8 table ∷ []) (drop 8 table ∷ []) _ _ _ (written_one W.appends _ _ _ c.in_ok-write_all.ensures.added) (written_one W.appends _ _ _ second))
+    rw (parts_two table c.if-table-gt8.true)
+    (written_more W.appends (take 8 table ∷ []) (drop 8 table ∷ []) _ _ _
+    (written_one W.appends _ _ _ c.in_ok-write_all.ensures.added) (written_one W.appends _ _ _ second))
 
 pub returns-else-table-gt8-clause-written : goal.returns-else-table-gt8-clause-written
 returns-else-table-gt8-clause-written g c =

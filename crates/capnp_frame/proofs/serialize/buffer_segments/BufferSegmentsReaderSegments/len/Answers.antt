@@ -5,5 +5,7 @@ use Rattle.capnp_frame.proofs.serialize.buffer_segments.BufferSegmentsReaderSegm
 
 pub returns : goal.returns
 returns g c =
-    let long = length-shown c.self.inside.segment_indices.items (drop c.self.inside.table_len (g.T.AsBytes.bytes c.self.inside.buffer)) c.args.self.now.segments (ap (λ h. h.segments) c.self.view_is) in
+    let long = length-shown c.self.inside.segment_indices.items
+    (drop c.self.inside.table_len (g.T.AsBytes.bytes c.self.inside.buffer)) c.args.self.now.segments
+    (ap (λ h. h.segments) c.self.view_is) in
     search rules

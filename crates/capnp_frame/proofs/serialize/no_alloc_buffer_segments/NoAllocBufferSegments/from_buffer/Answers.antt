@@ -1,14 +1,12 @@
 -- The message at the front is the one that is held.
-use Rattle.std.proofs.lemmas.Result.{err_from_is_err_and}
 use Rattle.capnp_frame.specs.FlatRefusals.{by_fields}
 use Rattle.capnp_frame.proofs.HeldLemmas.{flat_vacuous, begins_held, within_held}
 use Rattle.capnp_frame.proofs.serialize.no_alloc_buffer_segments.NoAllocBufferSegments.from_buffer.Goals as goal
 
 pub returns-in_err-info-clause-accepted : goal.returns-in_err-info-clause-accepted
 returns-in_err-info-clause-accepted g c =
-    let p = err_from_is_err_and c.from_residual.result c.from_residual.ensures.1 in
     let refused = rw c.as_bytes.ensures at c.in_err-info.ensures.refused in
-    rw p.1 (flat_vacuous by_fields c.args.options.traversal_limit_in_words _ (g.T.AsBytes.bytes c.args.buffer) refused)
+    λ segments rest begins within. flat_vacuous by_fields c.args.options.traversal_limit_in_words _ (g.T.AsBytes.bytes c.args.buffer) refused segments rest begins within
 
 pub returns-clause-found : goal.returns-clause-found
 returns-clause-found g c =

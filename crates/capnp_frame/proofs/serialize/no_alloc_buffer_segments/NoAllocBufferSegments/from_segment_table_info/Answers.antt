@@ -2,13 +2,10 @@
 use Rattle.capnp_frame.proofs.HeldLemmas.{described_held, begins_held}
 use Rattle.capnp_frame.proofs.serialize.no_alloc_buffer_segments.NoAllocBufferSegments.from_segment_table_info.Goals as goal
 
-pub of_held-requires-clause-holds : goal.of_held-requires-clause-holds
-of_held-requires-clause-holds g c = (described_held (g.T.AsBytes.bytes c.args.buffer) c.args.info c.requires).0
-
-pub of_held-requires-clause-total : goal.of_held-requires-clause-total
-of_held-requires-clause-total g c = (described_held (g.T.AsBytes.bytes c.args.buffer) c.args.info c.requires).1
+pub of_held-requires : goal.of_held-requires
+of_held-requires g c = described_held (g.T.AsBytes.bytes c.args.buffer) c.args.info c.requires
 
 pub returns-clause-found : goal.returns-clause-found
 returns-clause-found g c =
     let bytes = g.T.AsBytes.bytes c.args.buffer in
-    begins_held bytes c.args.info.segments_count c.of_held.result.segments (described_held bytes c.args.info c.requires).0 c.of_held.ensures.segments
+    begins_held bytes c.args.info.segments_count c.of_held.result.segments (described_held bytes c.args.info c.requires) c.of_held.ensures.segments

@@ -8,7 +8,10 @@ use Rattle.capnp_frame.specs.Source.{Splits, RunsShort, IsSource, IsPreorder}
 
 -- lists of one length at the front of one list
 pub same_front : (a b x y : List ℕ) → length a ≡ length b → a ++ x ≡ b ++ y → (a ≡ b) × (x ≡ y)
-same_front a b x y len e = (sym (take_at a x (length b) len) ∙ ap (take (length b)) e ∙ take_at b y (length b) refl, sym (drop_at a x (length b) len) ∙ ap (drop (length b)) e ∙ drop_at b y (length b) refl)
+same_front a b x y len e = (
+  sym (take_at a x (length b) len) ∙ ap (take (length b)) e ∙ take_at b y (length b) refl,
+  sym (drop_at a x (length b) len) ∙ ap (drop (length b)) e ∙ drop_at b y (length b) refl,
+)
 
 abbrev HasNone : List ℕ → Type 0
 HasNone [] = Unit {0}

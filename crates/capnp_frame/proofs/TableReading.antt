@@ -1,0 +1,75 @@
+-- A table whose first word was read before its other words.
+use Rattle.std.proofs.Common.{◌≡◌, ℕ, ◌+◌, ◌-◌, ◌*◌, ◌/◌, ◌≤◌, Option, List, ◌++◌, length, take, drop, sym, ap, ◌∙◌, subst, arith, length-append}
+use Rattle.std.proofs.lemmas.List.{take-append-drop, take_all, take_at, drop_at, length-take-le}
+use lib.Seq.{take-append-le}
+use borrow.Rule.Slice.PartMut.{put_mid}
+use Rattle.capnp_frame.specs.SegmentTable.{table_size, IsTable}
+use Rattle.capnp_frame.specs.Source.{Giving, IfKnown}
+use Rattle.capnp_frame.specs.Requests.{RestStands, TableStands}
+use Rattle.capnp_frame.specs.Refusals.{TellsAccepted}
+use Rattle.capnp_frame.specs.Front.{told_lengths, SpellsLengths, TellsTable}
+use Rattle.capnp_frame.proofs.SourceLemmas.{IfKnown-join, IfKnown-weaker, length-put_mid, put_mid_front}
+use Rattle.capnp_frame.proofs.FrontLemmas.{length-told, table_is}
+
+take_within : (m n : ℕ) (xs : List ℕ) → m ≤ n → n ≤ length xs → take m (take n xs) ≡ take m xs
+take_within m n xs less there = sym (take-append-le m (take n xs) (drop n xs) (omega (arith, length-take-le n xs there))) ∙ ap (take m) (take-append-drop n xs)
+
+-- the first word of a table, and then its other words
+pub completed : (word behind piece : List ℕ) → length word ≡ 8 → length piece ≡ length (word ++ behind) - 8 → put_mid 8 (length (word ++ behind) - 8) (word ++ behind) piece ≡ word ++ piece
+completed word behind piece long fill =
+    let all = word ++ behind in
+    let after = put_mid 8 (length all - 8) all piece in
+    let there : 8 ≤ length all = omega (arith, length-append word behind) in
+    let size = length-put_mid 8 all piece there fill in
+    sym (take_all (8 + length piece) after (omega arith))
+    ∙ put_mid_front 8 (length piece) all piece there (omega arith)
+    ∙ ap (λ l. l ++ take (length piece) piece) (take_at word behind 8 long)
+    ∙ ap (λ l. word ++ l) (take_all (length piece) piece (omega arith))
+
+pub completed_given : (gives : Giving) (word piece after : List ℕ) (old new : Option (List ℕ)) → length word ≡ 8
+    → after ≡ word ++ piece → IfKnown old new (λ raw rest. gives raw (length piece) piece rest)
+    → IfKnown old new (λ raw rest. gives raw (length after - 8) (drop 8 after) rest)
+completed_given gives word piece after old new long is =
+    let others : drop 8 after ≡ piece = ap (drop 8) is ∙ drop_at word piece 8 long in
+    let size : length after - 8 ≡ length piece = omega (arith, ap length is, length-append word piece) in
+    IfKnown-weaker old new (λ raw rest given. subst (λ k. gives raw k (drop 8 after) rest) (sym size) (subst (λ l. gives raw (length piece) l rest) (sym others) given))
+
+-- the bytes are a table of so many segments whose first word was told to be accepted
+pub tells_completed : (word table : List ℕ) (count : ℕ) → take 8 table ≡ word → length table ≡ table_size count → TellsAccepted word count → SpellsLengths table count → TellsTable table count
+tells_completed word table count front long accepted spells = record {
+  some = accepted.some;
+  few = accepted.few;
+  counted = accepted.told ∙ ap (take 4) (sym front) ∙ take_within 4 8 table (omega arith) (omega arith);
+  lengths = spells;
+  room = omega arith;
+}
+
+-- and its other words are what the second request gave
+pub rest_stands : (gives : Giving) (word table : List ℕ) (count : ℕ) (old new : Option (List ℕ)) → take 8 table ≡ word
+    → length table ≡ table_size count → TellsTable table count
+    → IfKnown old new (λ raw rest. gives raw (length table - 8) (drop 8 table) rest)
+    → IfKnown old new (RestStands gives word (told_lengths count table))
+rest_stands gives word table count old new front long tells =
+    let ns = told_lengths count table in
+    let many = length-told count table in
+    let size : length table - 8 ≡ 8 * (length ns / 2) = omega arith in
+    let parts : table ≡ word ++ drop 8 table = sym (take-append-drop 8 table) ∙ ap (λ l. l ++ drop 8 table) front in
+    let whole : IsTable table ns = subst (λ l. IsTable l ns) (take_all (table_size count) table (omega arith)) (table_is table count tells) in
+    IfKnown-weaker old new (λ raw rest given. record {
+      others = drop 8 table;
+      given = subst (λ k. gives raw k (drop 8 table) rest) size given;
+      table = subst (λ l. IsTable l ns) parts whole;
+    })
+
+-- the first word and then the others are a table
+pub table_stands : (gives : Giving) (word ns : List ℕ) (old mid new : Option (List ℕ))
+    → IfKnown old mid (λ raw rest. gives raw 8 word rest) → IfKnown mid new (RestStands gives word ns)
+    → IfKnown old new (TableStands gives ns)
+table_stands gives word ns old mid new = IfKnown-join old mid new (λ raw between rest first others. record {
+  first = word;
+  others = others.others;
+  between = between;
+  first_given = first;
+  others_given = others.given;
+  table = others.table;
+})

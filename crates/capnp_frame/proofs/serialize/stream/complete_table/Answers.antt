@@ -1,0 +1,25 @@
+-- The first word stands in front of the words that are read.
+use Rattle.std.proofs.Common.{◌≡◌, ◌-◌, ◌++◌, rules, take, drop, length, ap, ◌∙◌}
+use Rattle.std.proofs.lemmas.List.{take_at}
+use Rattle.std.proofs.lemmas.Result.{on_ok_weaker}
+use borrow.Rule.Slice.PartMut.{put_mid}
+use Rattle.capnp_frame.proofs.TableReading.{completed, completed_given}
+use Rattle.capnp_frame.proofs.serialize.stream.complete_table.Goals as goal
+
+pub returns-clause-front : goal.returns-clause-front
+returns-clause-front g c =
+    let word = c.copy_from_slice.new.self in
+    let behind = drop 8 c.args.table.now in
+    let piece = c.read_piece.new.piece in
+    let long : length word ≡ 8 = ap length c.copy_from_slice.ensures.after ∙ c.told-first in
+    let is = completed word behind piece long (search rules) in
+    on_ok_weaker c.read_piece.result (λ read. ap (take 8) is ∙ take_at word piece 8 long ∙ c.copy_from_slice.ensures.after) c.read_piece.ensures.given
+
+pub returns-clause-others : goal.returns-clause-others
+returns-clause-others g c =
+    let word = c.copy_from_slice.new.self in
+    let behind = drop 8 c.args.table.now in
+    let piece = c.read_piece.new.piece in
+    let long : length word ≡ 8 = ap length c.copy_from_slice.ensures.after ∙ c.told-first in
+    let is = completed word behind piece long (search rules) in
+    on_ok_weaker c.read_piece.result (completed_given g.R.Read.gives word piece (put_mid 8 (length (word ++ behind) - 8) (word ++ behind) piece) _ _ long is) c.read_piece.ensures.given
