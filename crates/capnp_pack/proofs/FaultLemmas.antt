@@ -1,19 +1,22 @@
 -- The faults of a group.
 use Rattle.std.specs.Prelude.{◌==◌, if◌then◌else◌}
-use Rattle.std.proofs.Common.{Bool, true, false, ◌/◌, ◌≡◌, ℕ, zero, suc, ◌+◌, ◌-◌, ◌*◌, ◌%◌, ◌<◌, ◌≤◌, Option, Some, None, IfSome, ◌⊎◌, inl, inr, lit<, List, [], ◌∷◌, ◌++◌, length, replicate, refl, sym, ap, ◌∙◌, subst, arith, append_assoc, length-append}
+use Rattle.std.proofs.Common.{Bool, true, false, ◌/◌, ◌≡◌, ℕ, zero, suc, ◌+◌, ◌-◌, ◌*◌, ◌%◌, ◌<◌, ◌≤◌, Option, Some, None, IfSome, ◌⊎◌}
+use Rattle.std.proofs.Common.{inl, inr, lit<, List, [], ◌∷◌, ◌++◌, length, replicate, refl, sym, ap, ◌∙◌, subst, arith, append_assoc}
+use Rattle.std.proofs.Common.{length-append}
 use Rattle.std.proofs.lemmas.List.{append-nil, nil_from_length, length-replicate}
 use Rattle.std.specs.List.{concat}
 use Rattle.capnp_frame.specs.declared.error.ErrorKind.{ErrorKind}
 use Rattle.capnp_frame.specs.declared.error.ErrorKind.TheVariants.{PrematureEndOfPackedInput, PackedInputDidNotEndCleanlyOnASegmentBoundary}
-use Rattle.capnp_frame.specs.Source.{Known, IsRefused, RunsShort}
+use Rattle.capnp_frame.specs.Source.{IfKnown, IsRefused, RunsShort}
 use Rattle.capnp_pack.specs.Group.{tagged, zeros, literal, AreZero, zero_word, marked, unmarked}
 use Rattle.capnp_pack.specs.PackedSource.{group_size, IsHeadAt, IsFault, MeetsFault}
 use Rattle.capnp_pack.specs.Steps.{FaultBehind}
-use Rattle.capnp_pack.specs.Unpacking.{zero_words, true_false, bit_cases}
+use Rattle.capnp_pack.specs.UnpackingLaws.{zero_words, true_false, bit_cases}
 use Rattle.capnp_pack.proofs.GroupLemmas.{concat-zeros}
 
--- a fault behind a tag is one of the piece
-pub group_refused : (F : Type 0) (n tag : ℕ) (old mid : Option (List ℕ)) (kind : ErrorKind) → Known old mid (λ raw left. raw ≡ tag ∷ left) → F ⊎ IsRefused (FaultBehind tag) n mid kind → F ⊎ IsRefused MeetsFault n old kind
+-- a fault after a tag is one of the piece
+pub group_refused : (F : Type 0) (n tag : ℕ) (old mid : Option (List ℕ)) (kind : ErrorKind) → IfKnown old mid (λ raw left. raw ≡ tag ∷ left) →
+    F ⊎ IsRefused (FaultBehind tag) n mid kind → F ⊎ IsRefused MeetsFault n old kind
 group_refused F n tag old mid kind at (inl p) = inl p
 group_refused F n tag None None kind at (inr p) = inr (tag ∷ p.0, p.1, p.2)
 group_refused F n tag None (Some y) kind at (inr p) = inr (tag ∷ y, n, p)
@@ -31,7 +34,8 @@ long_run more n left fits some long =
     let size : group_size (zeros more) ≡ 8 * suc more = ap length (concat-zeros (suc more)) ∙ length-replicate (8 * suc more) 0 in
     fault_here (0 ∷ more ∷ left) n _ some (inr (inl (record { group = zeros more; behind = left; head = record { is = fits; spelled = refl }; long = omega (arith, size) }, refl)))
 
-pub run_refused : (n more : ℕ) (old mid : Option (List ℕ)) → 0 < n → more < 256 → n < 8 * (more + 1) → Known old mid (λ raw left. raw ≡ more ∷ left) → IsRefused (FaultBehind 0) n old PackedInputDidNotEndCleanlyOnASegmentBoundary
+pub run_refused : (n more : ℕ) (old mid : Option (List ℕ)) → 0 < n → more < 256 → n < 8 * (more + 1) →
+    IfKnown old mid (λ raw left. raw ≡ more ∷ left) → IsRefused (FaultBehind 0) n old PackedInputDidNotEndCleanlyOnASegmentBoundary
 run_refused n more None mid some fits long at = (more ∷ [], n, long_run more n [] fits some long)
 run_refused n more (Some x) None some fits long at = absurd at
 run_refused n more (Some x) (Some y) some fits long at = subst (λ l. MeetsFault (0 ∷ l) n PackedInputDidNotEndCleanlyOnASegmentBoundary) (sym at) (long_run more n y fits some long)
@@ -52,22 +56,48 @@ literal_cut bytes n some short =
     let zeros_behind = replicate (8 - length bytes) 0 in
     let whole : length (bytes ++ zeros_behind) ≡ 8 = omega (arith, length-append bytes zeros_behind, length-replicate {A = ℕ} (8 - length bytes) 0) in
     let more : 0 < length (zeros_behind ++ 0 ∷ []) = omega (arith, length-append zeros_behind (0 ∷ [])) in
-    fault_here (255 ∷ bytes) n _ some (inl (record { group = literal (bytes ++ zeros_behind) []; is = (whole, tt, lit< tt); missing = zeros_behind ++ 0 ∷ []; some = more; spelled = ap (λ l. 255 ∷ l) (sym (append_assoc bytes zeros_behind (0 ∷ []))) }, refl))
+    fault_here (255 ∷ bytes) n _ some (inl (
+      record {
+        group = literal (bytes ++ zeros_behind) [];
+        is = (whole, tt, lit< tt);
+        missing = zeros_behind ++ 0 ∷ [];
+        some = more;
+        spelled = ap (λ l. 255 ∷ l) (sym (append_assoc bytes zeros_behind (0 ∷ [])));
+      },
+      refl,
+    ))
 
 -- its count is larger than what is asked, or its run is cut
 literal_head : (word left : List ℕ) (count : ℕ) → length word ≡ 8 → count < 256 → IsHeadAt (literal word (replicate count zero_word)) (255 ∷ word ++ count ∷ left) left
 literal_head word left count whole fits =
     let same : length (replicate count zero_word) ≡ count = length-replicate count zero_word in
-    record { is = (whole, zero_words count, subst (λ k. k < 256) (sym same) fits); spelled = ap (λ l. 255 ∷ l) (ap (λ k. word ++ k ∷ left) (sym same) ∙ sym (append_assoc word (length (replicate count zero_word) ∷ []) left)) }
+    record {
+      is = (whole, zero_words count, subst (λ k. k < 256) (sym same) fits);
+      spelled = ap (λ l. 255 ∷ l) (ap (λ k. word ++ k ∷ left) (sym same) ∙ sym (append_assoc word (length (replicate count zero_word) ∷ []) left));
+    }
 
 literal_size : (word : List ℕ) (count : ℕ) → length word ≡ 8 → group_size (literal word (replicate count zero_word)) ≡ 8 * (count + 1)
 literal_size word count whole = omega (arith, length-append word (concat (replicate count zero_word)), ap length (concat-zeros count), length-replicate {A = ℕ} (8 * count) 0)
 
-pub literal_long : (word left : List ℕ) (count n : ℕ) → 0 < n → length word ≡ 8 → count < 256 → n < 8 * (count + 1) → FaultBehind 255 (word ++ count ∷ left) n PackedInputDidNotEndCleanlyOnASegmentBoundary
-literal_long word left count n some whole fits long = fault_here (255 ∷ word ++ count ∷ left) n _ some (inr (inl (record { group = literal word (replicate count zero_word); behind = left; head = literal_head word left count whole fits; long = omega (arith, literal_size word count whole) }, refl)))
+pub literal_long : (word left : List ℕ) (count n : ℕ) → 0 < n → length word ≡ 8 → count < 256 → n < 8 * (count + 1) →
+    FaultBehind 255 (word ++ count ∷ left) n PackedInputDidNotEndCleanlyOnASegmentBoundary
+literal_long word left count n some whole fits long = fault_here (255 ∷ word ++ count ∷ left) n _ some (inr (inl (
+  record { group = literal word (replicate count zero_word); behind = left; head = literal_head word left count whole fits; long = omega (arith, literal_size word count whole) },
+  refl,
+)))
 
-pub literal_run_cut : (word left : List ℕ) (count n : ℕ) (kind : ErrorKind) → 0 < n → length word ≡ 8 → count < 256 → 8 * (count + 1) ≤ n → RunsShort left (8 * count) kind → FaultBehind 255 (word ++ count ∷ left) n kind
-literal_run_cut word left count n kind some whole fits room short = fault_here (255 ∷ word ++ count ∷ left) n kind some (inr (inr (record { group = literal word (replicate count zero_word); behind = left; head = literal_head word left count whole fits; fits = omega (arith, literal_size word count whole); short = omega (arith, ap length (concat-zeros count), length-replicate {A = ℕ} (8 * count) 0, short.0) }, short.1)))
+pub literal_run_cut : (word left : List ℕ) (count n : ℕ) (kind : ErrorKind) → 0 < n → length word ≡ 8 → count < 256 → 8 * (count + 1) ≤ n →
+    RunsShort left (8 * count) kind → FaultBehind 255 (word ++ count ∷ left) n kind
+literal_run_cut word left count n kind some whole fits room short = fault_here (255 ∷ word ++ count ∷ left) n kind some (inr (inr (
+  record {
+    group = literal word (replicate count zero_word);
+    behind = left;
+    head = literal_head word left count whole fits;
+    fits = omega (arith, literal_size word count whole);
+    short = omega (arith, ap length (concat-zeros count), length-replicate {A = ℕ} (8 * count) 0, short.0);
+  },
+  short.1,
+)))
 
 -- the faults of a tagged group
 
@@ -79,7 +109,10 @@ record Filled (k tag : ℕ) (bytes : List ℕ) : Type 0 where
   clear : AreZero (unmarked tag word)
   spelled : bytes ++ missing ≡ marked tag word
 
-tag_step : (k half : ℕ) (set clear : Bool) → ((set ≡ true) × (clear ≡ false)) ⊎ ((set ≡ false) × (clear ≡ true)) → (bytes : List ℕ) → ((bs : List ℕ) → length bs ≤ length (marked half (replicate k 0)) → Filled k half bs) → length bytes ≤ length ((if set then 0 ∷ [] else []) ++ marked half (replicate k 0)) → (b : ℕ) × (w : List ℕ) × (m : List ℕ) × (length w ≡ k) × AreZero ((if clear then b ∷ [] else []) ++ unmarked half w) × (bytes ++ m ≡ (if set then b ∷ [] else []) ++ marked half w)
+tag_step : (k half : ℕ) (set clear : Bool) → ((set ≡ true) × (clear ≡ false)) ⊎ ((set ≡ false) × (clear ≡ true)) → (bytes : List ℕ) →
+    ((bs : List ℕ) → length bs ≤ length (marked half (replicate k 0)) → Filled k half bs) →
+    length bytes ≤ length ((if set then 0 ∷ [] else []) ++ marked half (replicate k 0)) → (b : ℕ) × (w : List ℕ) × (m : List ℕ) × (length w ≡ k) ×
+    AreZero ((if clear then b ∷ [] else []) ++ unmarked half w) × (bytes ++ m ≡ (if set then b ∷ [] else []) ++ marked half w)
 tag_step k half true false which [] inner fits = let r = inner [] (omega arith) in (0, r.word, 0 ∷ r.missing, r.long, r.clear, ap (λ l. 0 ∷ l) r.spelled)
 tag_step k half true false which (b ∷ bs) inner fits = let r = inner bs (omega arith) in (b, r.word, r.missing, r.long, r.clear, ap (λ l. b ∷ l) r.spelled)
 tag_step k half false true which bytes inner fits = let r = inner bytes fits in (0, r.word, r.missing, r.long, (refl, r.clear), r.spelled)
@@ -100,7 +133,8 @@ same_marks zero tag (b ∷ w) long = absurd (omega arith)
 same_marks (suc k) tag [] long = absurd (omega arith)
 same_marks (suc k) tag (b ∷ w) long = mark (tag % 2 == 1) (same_marks k (tag / 2) w (omega arith))
   where
-    mark : (set : Bool) → length (marked (tag / 2) w) ≡ length (marked (tag / 2) (replicate k 0)) → length ((if set then b ∷ [] else []) ++ marked (tag / 2) w) ≡ length ((if set then 0 ∷ [] else []) ++ marked (tag / 2) (replicate k 0))
+    mark : (set : Bool) → length (marked (tag / 2) w) ≡ length (marked (tag / 2) (replicate k 0)) →
+        length ((if set then b ∷ [] else []) ++ marked (tag / 2) w) ≡ length ((if set then 0 ∷ [] else []) ++ marked (tag / 2) (replicate k 0))
     mark true e = ap suc e
     mark false e = e
 
@@ -109,4 +143,13 @@ pub tagged_cut : (tag n : ℕ) (bytes : List ℕ) → 0 < n → 0 < tag → tag 
 tagged_cut tag n bytes some low high short =
     let r = filled 8 tag bytes (omega arith) in
     let marks = same_marks 8 tag r.word r.long in
-    fault_here (tag ∷ bytes) n _ some (inl (record { group = tagged tag r.word; is = (low, high, r.long, r.clear); missing = r.missing; some = omega (arith, marks, ap length r.spelled, length-append bytes r.missing); spelled = ap (λ l. tag ∷ l) r.spelled }, refl))
+    fault_here (tag ∷ bytes) n _ some (inl (
+      record {
+        group = tagged tag r.word;
+        is = (low, high, r.long, r.clear);
+        missing = r.missing;
+        some = omega (arith, marks, ap length r.spelled, length-append bytes r.missing);
+        spelled = ap (λ l. tag ∷ l) r.spelled;
+      },
+      refl,
+    ))

@@ -1,19 +1,20 @@
 -- A group at the front is a part of each request that it fits into.
-use Rattle.std.proofs.Common.{◌≡◌, ℕ, zero, suc, ◌+◌, ◌-◌, ◌*◌, ◌%◌, ◌<◌, ◌≤◌, Option, Some, None, IfSome, List, [], ◌∷◌, ◌++◌, length, take, replicate, refl, sym, ap, ◌∙◌, subst, arith, append_assoc, length-append}
+use Rattle.std.proofs.Common.{◌≡◌, ℕ, zero, suc, ◌+◌, ◌-◌, ◌*◌, ◌%◌, ◌<◌, ◌≤◌, Option, Some, None, IfSome, List, [], ◌∷◌, ◌++◌, length}
+use Rattle.std.proofs.Common.{take, replicate, refl, sym, ap, ◌∙◌, subst, arith, append_assoc, length-append}
 use Rattle.std.proofs.lemmas.List.{length-take-le, replicate-append-replicate}
 use Rattle.std.proofs.lemmas.List.Folds.{concat-append}
 use Rattle.std.specs.List.{concat, AllByRecursion}
-use Rattle.capnp_frame.specs.Source.{Known, Takes}
-use Rattle.capnp_frame.proofs.SourceLemmas.{Known-join, Known-weaker}
+use Rattle.capnp_frame.specs.Source.{IfKnown, AnswersPart}
+use Rattle.capnp_frame.proofs.SourceLemmas.{IfKnown-join, IfKnown-weaker}
 use Rattle.capnp_pack.specs.Group.{Group, zeros, IsGroup, zero_word, group_text, group_words}
-use Rattle.capnp_pack.specs.Piece.{text_of, words_of}
+use Rattle.capnp_pack.specs.Piece.{text_of, words_of_groups}
 use Rattle.capnp_pack.specs.PackedSource.{Unpacks, MeetsFault}
-use Rattle.capnp_pack.specs.Steps.{GroupAt}
-use Rattle.capnp_pack.specs.Unpacking.{group_len, same_group}
-use Rattle.capnp_pack.specs.Refusing.{fault_later, fault_behind}
+use Rattle.capnp_pack.specs.Steps.{GroupAt, TakesGroups}
+use Rattle.capnp_pack.specs.UnpackingLaws.{group_len, same_group}
+use Rattle.capnp_pack.specs.RefusingLaws.{fault_later, fault_behind}
 
 -- a group at the front answers a part of each request that it fits into
-pub group_takes : (n tag : ℕ) (bytes raw left : List ℕ) → GroupAt tag bytes raw left → length bytes ≤ n → Takes Unpacks MeetsFault n bytes (tag ∷ raw) left
+pub group_takes : (n tag : ℕ) (bytes raw left : List ℕ) → GroupAt tag bytes raw left → length bytes ≤ n → AnswersPart Unpacks MeetsFault n bytes (tag ∷ raw) left
 group_takes n tag bytes raw left at fits =
     let g = at.0 in
     record {
@@ -23,7 +24,7 @@ group_takes n tag bytes raw left at fits =
           groups = g ∷ h.1.groups;
           each = (at.1, h.1.each);
           spelled = ap (λ l. group_text g ++ l) h.1.spelled;
-          unpacked = ap (λ l. l ++ more) at.2 ∙ ap (λ l. concat (group_words g) ++ l) h.1.unpacked ∙ sym (concat-append (group_words g) (words_of h.1.groups));
+          unpacked = ap (λ l. l ++ more) at.2 ∙ ap (λ l. concat (group_words g) ++ l) h.1.unpacked ∙ sym (concat-append (group_words g) (words_of_groups h.1.groups));
         },
         at.3 ∙ ap (λ l. group_text g ++ l) h.2 ∙ sym (append_assoc (group_text g) h.0 rest),
         length-append bytes more ∙ add_left bytes more n fits h.3,
@@ -38,12 +39,16 @@ group_takes n tag bytes raw left at fits =
     add_left : (bytes more : List ℕ) (n : ℕ) → length bytes ≤ n → length more ≡ n - length bytes → length bytes + length more ≡ n
     add_left bytes more n fits e = omega arith
 
-    split : (gs : List Group) (all rest : List ℕ) → AllByRecursion IsGroup gs → group_text at.0 ++ left ≡ text_of gs ++ rest → all ≡ concat (words_of gs) → length all ≡ n → (more : List ℕ) × (all ≡ bytes ++ more) × Unpacks left (n - length bytes) more rest
+    split : (gs : List Group) (all rest : List ℕ) → AllByRecursion IsGroup gs → group_text at.0 ++ left ≡ text_of gs ++ rest →
+        all ≡ concat (words_of_groups gs) → length all ≡ n → (more : List ℕ) × (all ≡ bytes ++ more) × Unpacks left (n - length bytes) more rest
     split [] all rest each e unpacked len = let long = group_len at.0 at.1 in absurd (omega (arith, ap length at.2, long.1, ap length unpacked))
     split (k ∷ ks) all rest each e unpacked len =
         let same = same_group at.0 k left (text_of ks ++ rest) at.1 each.0 (e ∙ append_assoc (group_text k) (text_of ks) rest) in
-        let parts : all ≡ bytes ++ concat (words_of ks) = unpacked ∙ concat-append (group_words k) (words_of ks) ∙ ap (λ l. l ++ concat (words_of ks)) (sym same.0 ∙ sym at.2) in
-        (concat (words_of ks), parts, (text_of ks, record { groups = ks; each = each.1; spelled = refl; unpacked = refl }, same.1, omega (arith, len, ap length parts, length-append bytes (concat (words_of ks)))))
+        let parts : all ≡ bytes ++ concat (words_of_groups ks) = unpacked ∙ concat-append (group_words k) (words_of_groups ks) ∙ ap (λ l. l ++ concat (words_of_groups ks)) (sym same.0 ∙ sym at.2) in (
+          concat (words_of_groups ks),
+          parts,
+          (text_of ks, record { groups = ks; each = each.1; spelled = refl; unpacked = refl }, same.1, omega (arith, len, ap length parts, length-append bytes (concat (words_of_groups ks)))),
+        )
 
 pub concat-zeros : (n : ℕ) → concat (replicate n zero_word) ≡ replicate (8 * n) 0
 concat-zeros zero = refl
@@ -55,20 +60,31 @@ zeros_at more count raw left bytes fits long filled at =
     let words : count ≡ 8 * suc more = omega arith in
     (zeros more, fits, filled ∙ ap (λ k. replicate k 0) words ∙ sym (concat-zeros (suc more)), ap (λ l. 0 ∷ l) at)
 
--- the group behind a tag, as an answer
-pub Takes-group : (n tag : ℕ) (bytes : List ℕ) (old mid new : Option (List ℕ)) → length bytes ≤ n → Known old mid (λ raw left. raw ≡ tag ∷ left) → Known mid new (GroupAt tag bytes) → Known old new (Takes Unpacks MeetsFault n bytes)
-Takes-group n tag bytes old mid new fits tagged_by at = Known-join old mid new (λ x y z e g. subst (λ l. Takes Unpacks MeetsFault n bytes l z) (sym e) (group_takes n tag bytes y z g fits)) tagged_by at
+-- the group after a tag, as an answer
+pub AnswersPart-group : (n tag : ℕ) (bytes : List ℕ) (old mid new : Option (List ℕ)) → length bytes ≤ n →
+    IfKnown old mid (λ raw left. raw ≡ tag ∷ left) → IfKnown mid new (GroupAt tag bytes) → IfKnown old new (AnswersPart Unpacks MeetsFault n bytes)
+AnswersPart-group n tag bytes old mid new fits tagged_by at =
+    IfKnown-join old mid new (λ x y z e g. subst (λ l. AnswersPart Unpacks MeetsFault n bytes l z) (sym e) (group_takes n tag bytes y z g fits)) tagged_by at
 
-pub zeros_found : (more count : ℕ) (bytes : List ℕ) (old mid : Option (List ℕ)) → more < 256 → count ≡ 8 * (more + 1) → bytes ≡ replicate count 0 → Known old mid (λ raw left. raw ≡ more ∷ left) → Known old mid (GroupAt 0 bytes)
-zeros_found more count bytes old mid fits long filled at = Known-weaker old mid (λ x y e. zeros_at more count x y bytes fits long filled e) at
+pub zeros_found : (more count : ℕ) (bytes : List ℕ) (old mid : Option (List ℕ)) → more < 256 → count ≡ 8 * (more + 1) → bytes ≡ replicate count 0 →
+    IfKnown old mid (λ raw left. raw ≡ more ∷ left) → IfKnown old mid (GroupAt 0 bytes)
+zeros_found more count bytes old mid fits long filled at = IfKnown-weaker old mid (λ x y e. zeros_at more count x y bytes fits long filled e) at
 
-some_unread : (tag : ℕ) (old mid : Option (List ℕ)) → Known old mid (λ raw left. raw ≡ tag ∷ left) → IfSome old (λ raw. raw ≡ [] → ⊥)
+some_unread : (tag : ℕ) (old mid : Option (List ℕ)) → IfKnown old mid (λ raw left. raw ≡ tag ∷ left) → IfSome old (λ raw. raw ≡ [] → ⊥)
 some_unread tag None mid at = tt
 some_unread tag (Some x) None at = absurd at
 some_unread tag (Some x) (Some y) at = λ e. absurd (omega (arith, ap length at, ap length e))
 
 -- what reading a group says
-pub group_found : (tag at count : ℕ) (buffer : List ℕ) (old mid new : Option (List ℕ)) → tag ≡ at → (0 < count) × (count ≤ length buffer) × (count % 8 ≡ 0) → Known old mid (λ raw left. raw ≡ tag ∷ left) → Known mid new (GroupAt at (take count buffer)) → (0 < count) × (count ≤ length buffer) × (count % 8 ≡ 0) × IfSome old (λ raw. raw ≡ [] → ⊥) × Known old new (Takes Unpacks MeetsFault (length buffer) (take count buffer))
+pub group_found : (tag at count : ℕ) (buffer : List ℕ) (old mid new : Option (List ℕ)) → tag ≡ at →
+    (0 < count) × (count ≤ length buffer) × (count % 8 ≡ 0) → IfKnown old mid (λ raw left. raw ≡ tag ∷ left) →
+    IfKnown mid new (GroupAt at (take count buffer)) → TakesGroups old new buffer count
 group_found tag at count buffer old mid new same within tagged_by group =
-    let part : length (take count buffer) ≡ count = length-take-le count buffer within.1 in
-    (within.0, within.1, within.2, some_unread tag old mid tagged_by, Takes-group (length buffer) tag (take count buffer) old mid new (subst (λ k. k ≤ length buffer) (sym part) within.1) tagged_by (subst (λ t. Known mid new (GroupAt t (take count buffer))) (sym same) group))
+    let part : length (take count buffer) ≡ count = length-take-le count buffer within.1 in (
+      within.0,
+      within.1,
+      within.2,
+      some_unread tag old mid tagged_by,
+      AnswersPart-group (length buffer) tag (take count buffer) old mid new (subst (λ k. k ≤ length buffer) (sym part) within.1) tagged_by
+          (subst (λ t. IfKnown mid new (GroupAt t (take count buffer))) (sym same) group),
+    )

@@ -5,9 +5,9 @@ use Rattle.std.proofs.lemmas.List.{append-nil}
 use Rattle.std.proofs.lemmas.List.Folds.{concat-append}
 use Rattle.std.proofs.lemmas.List.Concat.{concat_is}
 use Rattle.capnp_frame.specs.declared.error.ErrorKind.{ErrorKind}
-use Rattle.capnp_frame.specs.Source.{Known}
+use Rattle.capnp_frame.specs.Source.{IfKnown}
 use Rattle.capnp_frame.specs.Sink.{DeclinesAny, Appending, Declining, Adds, AppendsAll}
-use Rattle.capnp_frame.proofs.SourceLemmas.{Known-join, Known-weaker}
+use Rattle.capnp_frame.proofs.SourceLemmas.{IfKnown-join, IfKnown-weaker}
 use Rattle.capnp_pack.specs.PackedSink.{DeclinesPacked}
 use Rattle.capnp_frame.specs.declared.error.Error.{Error}
 use Rattle.capnp_frame.specs.Message.{IsWholeWords}
@@ -23,14 +23,15 @@ Hands-join appends old s mid t new x y z p q = record {
   handed = p.handed ++ q.handed;
   told = AppendsAll-join appends p.parts q.parts p.handed q.handed p.told q.told;
   added = q.added ∙ ap (λ l. l ++ q.handed) p.added ∙ append_assoc x p.handed q.handed;
-  kept = sym (append_assoc old s t) ∙ ap (λ l. l ++ t) p.kept ∙ append_assoc (concat p.parts) mid t ∙ ap (λ l. concat p.parts ++ l) q.kept ∙ sym (append_assoc (concat p.parts) (concat q.parts) new) ∙ ap (λ l. l ++ new) (sym (concat-append p.parts q.parts));
+  kept = sym (append_assoc old s t) ∙ ap (λ l. l ++ t) p.kept ∙ append_assoc (concat p.parts) mid t ∙ ap (λ l. concat p.parts ++ l) q.kept
+      ∙ sym (append_assoc (concat p.parts) (concat q.parts) new) ∙ ap (λ l. l ++ new) (sym (concat-append p.parts q.parts));
 }
 
 -- bytes that the buffer takes
 pub Hands-none : (appends : Appending) (old text new x : List ℕ) → new ≡ old ++ text → Hands appends old text new x x
 Hands-none appends old text new x e = record { parts = []; handed = []; told = refl; added = sym (append-nil x); kept = sym e }
 
--- a piece behind an empty buffer, or the buffer itself
+-- a piece after an empty buffer, or the buffer itself
 pub Hands-one : (appends : Appending) (old text piece x y : List ℕ) → old ++ text ≡ piece → Adds (appends piece) x y → Hands appends old text [] x y
 Hands-one appends old text piece x y e added = record {
   parts = piece ∷ [];
@@ -40,19 +41,21 @@ Hands-one appends old text piece x y e added = record {
   kept = e ∙ sym (append-nil piece) ∙ sym (append-nil (piece ++ []));
 }
 
-pub Known-flush : (appends : Appending) (old piece : List ℕ) (a b : Option (List ℕ)) → old ≡ piece → Known a b (Adds (appends piece)) → Known a b (Hands appends old [] [])
-Known-flush appends old piece a b e added = Known-weaker a b (λ x y p. Hands-one appends old [] piece x y (append-nil old ∙ e) p) added
+pub IfKnown-flush : (appends : Appending) (old piece : List ℕ) (a b : Option (List ℕ)) → old ≡ piece → IfKnown a b (Adds (appends piece)) → IfKnown a b (Hands appends old [] [])
+IfKnown-flush appends old piece a b e added = IfKnown-weaker a b (λ x y p. Hands-one appends old [] piece x y (append-nil old ∙ e) p) added
 
-pub Known-literal : (appends : Appending) (count : ℕ) (old pushed left flat : List ℕ) (words : List (List ℕ)) (a b c : Option (List ℕ)) → pushed ≡ old ++ count ∷ [] → left ≡ [] → flat ≡ flat_map (λ x. x) words → Known a b (Hands appends pushed [] left) → Known b c (Adds (appends flat)) → Known a c (Hands appends old (count ∷ concat words) left)
-Known-literal appends count old pushed left flat words a b c push none all flushed added =
-    Known-join a b c (λ x y z p q.
+pub IfKnown-literal : (appends : Appending) (count : ℕ) (old pushed left flat : List ℕ) (words : List (List ℕ)) (a b c : Option (List ℕ)) →
+    pushed ≡ old ++ count ∷ [] → left ≡ [] → flat ≡ flat_map (λ x. x) words → IfKnown a b (Hands appends pushed [] left) →
+    IfKnown b c (Adds (appends flat)) → IfKnown a c (Hands appends old (count ∷ concat words) left)
+IfKnown-literal appends count old pushed left flat words a b c push none all flushed added =
+    IfKnown-join a b c (λ x y z p q.
     let first = Hands-join appends old (count ∷ []) pushed [] left x x y (Hands-none appends old (count ∷ []) pushed x push) p in
     let piece : Hands appends left (concat words) [] y z = Hands-one appends left (concat words) flat y z (ap (λ l. l ++ concat words) none ∙ concat_is words ∙ sym all) q in
     subst (λ l. Hands appends old (count ∷ concat words) l x z) (sym none) (Hands-join appends old (count ∷ []) left (concat words) [] x y z first piece)) flushed added
 
-pub on_ok_both : {P Q R X E : Type 0} (r : Result X E) → (P → Q → R) → OnOk r P → OnOk r Q → OnOk r R
-on_ok_both (Ok x) join p q = join p q
-on_ok_both (Err e) join p q = tt
+pub on_ok_weaker : {P Q X E : Type 0} (r : Result X E) → (P → Q) → OnOk r P → OnOk r Q
+on_ok_weaker (Ok x) weaker p = weaker p
+on_ok_weaker (Err e) weaker p = tt
 
 -- what a sink refuses
 pub declines_any : (F : Type 0) (refuses : Declining) (part : List ℕ) (kind : ErrorKind) → F ⊎ refuses part kind → F ⊎ DeclinesAny refuses kind
@@ -64,6 +67,17 @@ declines : (F : Type 0) (refuses : Declining) (piece : List ℕ) (kind : ErrorKi
 declines F refuses piece kind whole (inl failed) = inl failed
 declines F refuses piece kind whole (inr refused) = inr (inr (λ part. part whole, refused))
 
-pub declines_whole : {X : Type 0} (F : ErrorKind → Type 0) (refuses : Declining) (piece : List ℕ) (r : Result X Error) → IsWholeWords piece → IfErr r (λ e. F e.kind ⊎ DeclinesAny refuses e.kind) → IfErr r (λ e. F e.kind ⊎ DeclinesPacked refuses piece e.kind)
+pub declines_whole : {X : Type 0} (F : ErrorKind → Type 0) (refuses : Declining) (piece : List ℕ) (r : Result X Error) → IsWholeWords piece →
+    IfErr r (λ e. F e.kind ⊎ DeclinesAny refuses e.kind) → IfErr r (λ e. F e.kind ⊎ DeclinesPacked refuses piece e.kind)
 declines_whole F refuses piece (Ok x) whole refused = tt
 declines_whole F refuses piece (Err e) whole refused = declines (F e.kind) refuses piece e.kind whole refused
+
+pub declines_part : {X : Type 0} (F : ErrorKind → Type 0) (refuses : Declining) (part : List ℕ) (r : Result X Error) →
+    IfErr r (λ e. F e.kind ⊎ refuses part e.kind) → IfErr r (λ e. F e.kind ⊎ DeclinesAny refuses e.kind)
+declines_part F refuses part (Ok x) refused = tt
+declines_part F refuses part (Err e) refused = declines_any (F e.kind) refuses part e.kind refused
+
+pub known_flushed : {X : Type 0} (appends : Appending) (old piece : List ℕ) (a b : Option (List ℕ)) (r : Result X Error) → old ≡ piece →
+    OnOk r (IfKnown a b (Adds (appends piece))) → OnOk r (IfKnown a b (Hands appends old [] []))
+known_flushed appends old piece a b (Ok x) e added = IfKnown-flush appends old piece a b e added
+known_flushed appends old piece a b (Err x) e added = tt

@@ -1,3 +1,4 @@
+-- The lemmas, by subject.
 pub mod AllLemmas
 pub mod GroupLemmas
 pub mod FaultLemmas
@@ -5,8 +6,15 @@ pub mod PieceLemmas
 pub mod WordLemmas
 pub mod Chunks
 pub mod WordGroups
+pub mod UnpackedLemmas
+pub mod TableRows
+pub mod PlaceLemmas
+pub mod MarkLemmas
 pub mod RunFaults
+pub mod StoredLemmas
+pub mod LaneLemmas
 pub mod TagLemmas
+pub mod EightLemmas
 pub mod RunLemmas
 pub mod PackerGroups
 pub mod PackerLemmas

@@ -6,12 +6,12 @@ use Rattle.std.proofs.lemmas.List.Folds.{concat-append}
 use Rattle.std.specs.List.{concat, flat_map, AllByRecursion}
 use Rattle.capnp_frame.specs.Message.{IsWholeWords, lengths}
 use Rattle.capnp_frame.specs.SegmentTable.{field, padding_len, zero_padded_table, HasTable, IsTable}
-use Rattle.capnp_frame.specs.Requests.{Stands}
+use Rattle.capnp_frame.specs.Requests.{MessageStands}
 use Rattle.capnp_frame.specs.Sink.{AppendsAll}
 use Rattle.capnp_frame.proofs.TableLemmas.{length-fields}
 use Rattle.capnp_frame.proofs.FrameLemmas.{length-table, length-segments}
 use Rattle.capnp_pack.specs.Group.{IsGroup, group_text, group_words}
-use Rattle.capnp_pack.specs.Piece.{IsPiece, text_of, words_of}
+use Rattle.capnp_pack.specs.Piece.{IsPiece, text_of, words_of_groups}
 use Rattle.capnp_pack.specs.Packed.{Packs}
 use Rattle.capnp_pack.specs.PackedFrame.{IsPackedFrame, IsPackedText}
 use Rattle.capnp_pack.specs.PackedSource.{Unpacks}
@@ -20,7 +20,7 @@ use Rattle.capnp_pack.proofs.PackerLemmas.{Packs-some, Packs-whole}
 
 -- the three requests of a packed source are the three pieces
 
-frame_from_requests : (raw rest : List ℕ) (segments : List (List ℕ)) → Stands Unpacks segments raw rest → (text : List ℕ) × IsPackedFrame text segments × (raw ≡ text ++ rest)
+frame_from_requests : (raw rest : List ℕ) (segments : List (List ℕ)) → MessageStands Unpacks segments raw rest → (text : List ℕ) × IsPackedFrame text segments × (raw ≡ text ++ rest)
 frame_from_requests raw rest segments stands =
     let first = stands.table.first_given in
     let others = stands.table.others_given in
@@ -44,8 +44,8 @@ frame_from_requests raw rest segments stands =
           ∙ sym (append_assoc first.0 others.0 (all.0 ++ rest)) ∙ sym (append_assoc (first.0 ++ others.0) all.0 rest),
     )
 
-pub Stands-from_packed : (text rest : List ℕ) (segments : List (List ℕ)) → IsPackedFrame text segments → Stands Unpacks segments (text ++ rest) rest
-Stands-from_packed text rest segments frame =
+pub MessageStands-from_packed : (text rest : List ℕ) (segments : List (List ℕ)) → IsPackedFrame text segments → MessageStands Unpacks segments (text ++ rest) rest
+MessageStands-from_packed text rest segments frame =
     let long = length-table (frame.first ++ frame.others) (lengths segments) frame.table in
     let one = frame.one_word in
     let a = frame.first_text in
@@ -65,10 +65,10 @@ Stands-from_packed text rest segments frame =
       whole = frame.whole;
     }
 
-pub packed_requests : (segments : List (List ℕ)) (raw rest : List ℕ) → Stands Unpacks segments raw rest ↔ ((text : List ℕ) × IsPackedFrame text segments × (raw ≡ text ++ rest))
+pub packed_requests : (segments : List (List ℕ)) (raw rest : List ℕ) → MessageStands Unpacks segments raw rest ↔ ((text : List ℕ) × IsPackedFrame text segments × (raw ≡ text ++ rest))
 packed_requests segments raw rest = (
   frame_from_requests raw rest segments,
-  λ (text, frame, e). subst (λ l. Stands Unpacks segments l rest) (sym e) (Stands-from_packed text rest segments frame),
+  λ (text, frame, e). subst (λ l. MessageStands Unpacks segments l rest) (sym e) (MessageStands-from_packed text rest segments frame),
 )
 
 -- what is written is a packed text of the message
@@ -81,7 +81,8 @@ IsPiece-join s t a b p q = record {
   groups = p.groups ++ q.groups;
   each = AllByRecursion-append IsGroup p.groups q.groups p.each q.each;
   spelled = ap (λ l. l ++ t) p.spelled ∙ ap (λ l. text_of p.groups ++ l) q.spelled ∙ sym (flat_map-append group_text p.groups q.groups);
-  unpacked = ap (λ l. l ++ b) p.unpacked ∙ ap (λ l. concat (words_of p.groups) ++ l) q.unpacked ∙ sym (concat-append (words_of p.groups) (words_of q.groups)) ∙ ap concat (sym (flat_map-append group_words p.groups q.groups));
+  unpacked = ap (λ l. l ++ b) p.unpacked ∙ ap (λ l. concat (words_of_groups p.groups) ++ l) q.unpacked
+      ∙ sym (concat-append (words_of_groups p.groups) (words_of_groups q.groups)) ∙ ap concat (sym (flat_map-append group_words p.groups q.groups));
 }
 
 pieces_join : (segments : List (List ℕ)) (text : List ℕ) → AppendsAll Packs segments text → IsPiece text (concat segments) × AllByRecursion IsWholeWords segments
@@ -93,7 +94,8 @@ pieces_join (s ∷ ss) text (first, others, packed, more, e) =
 pub packed_text_is : (text : List ℕ) (segments : List (List ℕ)) → HasTable (lengths segments) → IsPackedText text segments → IsPackedFrame text segments
 packed_text_is text segments can packed =
     let head = zero_padded_table (lengths segments) in
-    let table : IsTable head (lengths segments) = record { can = can; padding = replicate (padding_len (lengths segments)) 0; padded = length-replicate (padding_len (lengths segments)) 0; spelled = refl } in
+    let table : IsTable head (lengths segments) =
+    record { can = can; padding = replicate (padding_len (lengths segments)) 0; padded = length-replicate (padding_len (lengths segments)) 0; spelled = refl } in
     let long = length-table head (lengths segments) table in
     let whole : take 8 head ++ drop 8 head ≡ head = take-append-drop 8 head in
     let body = pieces_join segments packed.segments_text packed.each_packed in
@@ -122,7 +124,13 @@ all_packed (s ∷ ss) whole =
     (first.0 ++ rest.0, (first.0, rest.0, first.1, rest.1, refl))
 
 length-zero_padded : (ns : List ℕ) → length (zero_padded_table ns) ≡ 4 + 4 * length ns + 4 * ((length ns + 1) % 2)
-length-zero_padded ns = omega (arith, length-append (field (length ns - 1) ++ flat_map field ns) (replicate (padding_len ns) 0), length-append (field (length ns - 1)) (flat_map field ns), length-fields ns, length-replicate {A = ℕ} (padding_len ns) 0)
+length-zero_padded ns = omega (
+  arith,
+  length-append (field (length ns - 1) ++ flat_map field ns) (replicate (padding_len ns) 0),
+  length-append (field (length ns - 1)) (flat_map field ns),
+  length-fields ns,
+  length-replicate {A = ℕ} (padding_len ns) 0,
+)
 
 pub packed_text_some : (segments : List (List ℕ)) → AllByRecursion IsWholeWords segments → (text : List ℕ) × IsPackedText text segments
 packed_text_some segments whole =
@@ -130,5 +138,7 @@ packed_text_some segments whole =
     let long = length-zero_padded (lengths segments) in
     let first : (text : List ℕ) × Packs (take 8 head) text = Packs-some (take 8 head) (ap (λ k. k % 8) (length-take-le 8 head (omega arith))) in
     let others : (text : List ℕ) × Packs (drop 8 head) text = Packs-some (drop 8 head) (ap (λ k. k % 8) (length-drop 8 head) ∙ omega arith) in
-    let body : (text : List ℕ) × AppendsAll Packs segments text = all_packed segments whole in
-    (first.0 ++ others.0 ++ body.0, record { first_text = first.0; others_text = others.0; segments_text = body.0; first_packed = first.1; others_packed = others.1; each_packed = body.1; spelled = refl })
+    let body : (text : List ℕ) × AppendsAll Packs segments text = all_packed segments whole in (
+      first.0 ++ others.0 ++ body.0,
+      record { first_text = first.0; others_text = others.0; segments_text = body.0; first_packed = first.1; others_packed = others.1; each_packed = body.1; spelled = refl },
+    )

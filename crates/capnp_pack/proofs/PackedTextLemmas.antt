@@ -1,8 +1,13 @@
 -- What a plain sink gets.
-use Rattle.std.proofs.Common.{◌≡◌, ℕ, List, [], ◌∷◌, ◌++◌, refl, sym, ap, ◌∙◌, subst, ◌↔◌, append_assoc}
-use Rattle.std.proofs.lemmas.List.{append-nil}
+use Rattle.std.proofs.Common.{◌≡◌, ℕ, List, [], ◌∷◌, ◌++◌, refl, sym, ap, ◌∙◌, subst, ◌↔◌, inl, inr, ◌≤◌, length, drop, arith, length-drop, append_assoc}
+use Rattle.std.proofs.lemmas.Bool.{cases_lt}
+use Rattle.std.proofs.lemmas.List.{append-nil, nil_from_length}
 use Rattle.std.specs.List.{concat}
+use Rattle.capnp_frame.specs.Message.{lengths}
+use Rattle.capnp_frame.specs.SegmentTable.{zero_padded_table}
 use Rattle.capnp_frame.specs.Sink.{AppendsAll, AppendsSame}
+use Rattle.capnp_frame.specs.Writing.{pieces}
+use Rattle.capnp_frame.proofs.WritingLemmas.{parts_one, parts_two}
 use Rattle.capnp_pack.specs.Packed.{Packs}
 use Rattle.capnp_pack.specs.PackedFrame.{IsPackedText, table_first, table_others}
 use Rattle.capnp_pack.specs.PackedSink.{AppendsPacked}
@@ -30,7 +35,7 @@ each_packed pieces text = (there pieces text, back pieces text)
     back [] text all = all
     back (p ∷ ps) text (first, others, packed, more, e) = (first, others, (packed_over_plain p first).1 packed, back ps others more, e)
 
-pub packed_message : (segments : List (List ℕ)) (text : List ℕ) → AppendsAll (AppendsPacked AppendsSame) (table_first segments ∷ table_others segments ∷ segments) text ↔ IsPackedText text segments
+packed_message : (segments : List (List ℕ)) (text : List ℕ) → AppendsAll (AppendsPacked AppendsSame) (table_first segments ∷ table_others segments ∷ segments) text ↔ IsPackedText text segments
 packed_message segments text = (
   λ all. there ((each_packed (table_first segments ∷ table_others segments ∷ segments) text).0 all),
   λ packed. (each_packed (table_first segments ∷ table_others segments ∷ segments) text).1 (back packed),
@@ -59,7 +64,8 @@ packed_message segments text = (
 packs_nothing : Packs [] []
 packs_nothing = record { groups = []; each = tt; longest = tt; spelled = refl; unpacked = refl }
 
-pub packed_short_message : (segments : List (List ℕ)) (text : List ℕ) → table_others segments ≡ [] → AppendsAll (AppendsPacked AppendsSame) (table_first segments ∷ segments) text ↔ IsPackedText text segments
+packed_short_message : (segments : List (List ℕ)) (text : List ℕ) → table_others segments ≡ [] →
+    AppendsAll (AppendsPacked AppendsSame) (table_first segments ∷ segments) text ↔ IsPackedText text segments
 packed_short_message segments text none = (
   λ all. there ((each_packed (table_first segments ∷ segments) text).0 all),
   λ packed. (each_packed (table_first segments ∷ segments) text).1 (back packed),
@@ -80,3 +86,21 @@ packed_short_message segments text none = (
     back p =
         let gone : p.others_text ≡ [] = Packs-once [] p.others_text [] (subst (λ l. Packs l p.others_text) none p.others_packed) packs_nothing in
         (p.first_text, p.segments_text, p.first_packed, p.each_packed, p.spelled ∙ ap (λ l. (p.first_text ++ l) ++ p.segments_text) gone ∙ ap (λ l. l ++ p.segments_text) (append-nil p.first_text))
+
+-- the pieces that a writer hands on are of the one form or of the other
+pub packed_pieces : (segments : List (List ℕ)) (text : List ℕ) → AppendsAll (AppendsPacked AppendsSame) (pieces segments) text ↔ IsPackedText text segments
+packed_pieces segments text = elim (cases_lt 8 (length table)) [
+  | inl more ↦ told (sym (parts_two table more)) (packed_message segments text)
+  | inr few ↦ told (sym (parts_one table few)) (packed_short_message segments text (none few))
+]
+  where
+    table : List ℕ
+    table = zero_padded_table (lengths segments)
+
+    told : {front tail : List (List ℕ)} → front ≡ tail →
+        AppendsAll (AppendsPacked AppendsSame) (front ++ segments) text ↔ IsPackedText text segments →
+        AppendsAll (AppendsPacked AppendsSame) (tail ++ segments) text ↔ IsPackedText text segments
+    told same p = subst (λ front. AppendsAll (AppendsPacked AppendsSame) (front ++ segments) text ↔ IsPackedText text segments) same p
+
+    none : length table ≤ 8 → drop 8 table ≡ []
+    none few = nil_from_length (drop 8 table) (omega (arith, length-drop 8 table))

@@ -3,13 +3,13 @@ use Rattle.std.proofs.Common.{◌≡◌, ℕ, zero, suc, ◌/◌, ◌%◌, ◌�
 use Rattle.std.specs.List.{concat, AllByRecursion}
 use Rattle.std.specs.Simd.{first_chunks}
 use Rattle.std.proofs.lemmas.List.{length-drop, take-append-drop, take_at, drop_at}
-use Rattle.capnp_frame.specs.Splitting.{same_front}
+use Rattle.capnp_frame.specs.SplittingLaws.{same_front}
 use Rattle.capnp_pack.specs.Group.{Group, tagged, zeros, literal, IsGroup, IsWord, zero_word, group_text, group_words}
-use Rattle.capnp_pack.specs.Piece.{text_of, words_of}
+use Rattle.capnp_pack.specs.Piece.{text_of, words_of_groups}
 use Rattle.capnp_pack.specs.Packed.{Packs, IsLongest, AreLongest}
 use Rattle.capnp_pack.specs.Steps.{IsGroupOf}
 use Rattle.capnp_pack.specs.PackedSource.{Unpacks}
-use Rattle.capnp_pack.specs.Unpacking.{words_len, unpack_once, zero_words}
+use Rattle.capnp_pack.specs.UnpackingLaws.{words_len, unpack_once, zero_words}
 use Rattle.capnp_pack.proofs.AllLemmas.{AllByRecursion-append, AllByRecursion-drop}
 use Rattle.capnp_pack.proofs.PackerGroups.{IsGroupOf-some, IsGroupOf-once, first_is}
 use Rattle.capnp_pack.proofs.Chunks.{chunks_whole}
@@ -20,7 +20,7 @@ pub record PacksWords (words : List (List ℕ)) (text : List ℕ) : Type 0 where
   pub each : AllByRecursion IsGroup groups
   pub longest : AreLongest groups
   pub spelled : text ≡ text_of groups
-  pub unpacked : words_of groups ≡ words
+  pub unpacked : words_of_groups groups ≡ words
 
 -- the text is the front of the packed words, up to where these are left
 abbrev pub PacksTo : List (List ℕ) → List ℕ → List (List ℕ) → Type 0
@@ -81,17 +81,19 @@ made_of g left is longest = record {
 }
 
 -- and one alone
-groups_once : (gs hs : List Group) → AllByRecursion IsGroup gs → AllByRecursion IsGroup hs → AreLongest gs → AreLongest hs → words_of gs ≡ words_of hs → gs ≡ hs
+groups_once : (gs hs : List Group) → AllByRecursion IsGroup gs → AllByRecursion IsGroup hs → AreLongest gs → AreLongest hs → words_of_groups gs ≡ words_of_groups hs → gs ≡ hs
 groups_once [] [] p q r s e = refl
-groups_once [] (h ∷ hs) p q r s e = let parts : [] ≡ first_word h ∷ others h ++ words_of hs = e ∙ ap (λ l. l ++ words_of hs) (group_parts h) in cc
-groups_once (g ∷ gs) [] p q r s e = let parts : [] ≡ first_word g ∷ others g ++ words_of gs = sym e ∙ ap (λ l. l ++ words_of gs) (group_parts g) in cc
+groups_once [] (h ∷ hs) p q r s e = let parts : [] ≡ first_word h ∷ others h ++ words_of_groups hs = e ∙ ap (λ l. l ++ words_of_groups hs) (group_parts h) in cc
+groups_once (g ∷ gs) [] p q r s e = let parts : [] ≡ first_word g ∷ others g ++ words_of_groups gs = sym e ∙ ap (λ l. l ++ words_of_groups gs) (group_parts g) in cc
 groups_once (g ∷ gs) (h ∷ hs) p q r s e =
-    let whole : first_word g ∷ others g ++ words_of gs ≡ first_word h ∷ others h ++ words_of hs = ap (λ l. l ++ words_of gs) (sym (group_parts g)) ∙ e ∙ ap (λ l. l ++ words_of hs) (group_parts h) in
-    let parts = first_is (first_word g) (first_word h) (others g ++ words_of gs) (others h ++ words_of hs) whole in
-    let here = made_of g (words_of gs) p.0 r.0 in
-    let moved = subst (λ l. IsGroupOf (first_word h) l (length (others g)) g) parts.1 (subst (λ w. IsGroupOf w (others g ++ words_of gs) (length (others g)) g) parts.0 here) in
-    let one = IsGroupOf-once (first_word h) (others h ++ words_of hs) (length (others g)) (length (others h)) g h moved (made_of h (words_of hs) q.0 s.0) in
-    let left : words_of gs ≡ words_of hs = sym (drop_front (others g) (words_of gs)) ∙ ap (drop (length (others g))) parts.1 ∙ ap (λ k. drop k (others h ++ words_of hs)) one.0 ∙ drop_front (others h) (words_of hs) in
+    let whole : first_word g ∷ others g ++ words_of_groups gs ≡ first_word h ∷ others h ++ words_of_groups hs =
+    ap (λ l. l ++ words_of_groups gs) (sym (group_parts g)) ∙ e ∙ ap (λ l. l ++ words_of_groups hs) (group_parts h) in
+    let parts = first_is (first_word g) (first_word h) (others g ++ words_of_groups gs) (others h ++ words_of_groups hs) whole in
+    let here = made_of g (words_of_groups gs) p.0 r.0 in
+    let moved = subst (λ l. IsGroupOf (first_word h) l (length (others g)) g) parts.1 (subst (λ w. IsGroupOf w (others g ++ words_of_groups gs) (length (others g)) g) parts.0 here) in
+    let one = IsGroupOf-once (first_word h) (others h ++ words_of_groups hs) (length (others g)) (length (others h)) g h moved (made_of h (words_of_groups hs) q.0 s.0) in
+    let left : words_of_groups gs ≡ words_of_groups hs = sym (drop_front (others g) (words_of_groups gs)) ∙ ap (drop (length (others g))) parts.1
+    ∙ ap (λ k. drop k (others h ++ words_of_groups hs)) one.0 ∙ drop_front (others h) (words_of_groups hs) in
     ap (λ k. k ∷ gs) one.1 ∙ ap (λ l. h ∷ l) (groups_once gs hs p.1 q.1 r.1 s.1 left)
 
 group_whole : (g : Group) → IsGroup g → AllByRecursion IsWord (group_words g)
@@ -99,9 +101,9 @@ group_whole (tagged tag word) is = (is.2, tt)
 group_whole (zeros more) is = (refl, zero_words more)
 group_whole (literal word further) is = (is.0, is.1)
 
-pub words_whole : (gs : List Group) → AllByRecursion IsGroup gs → AllByRecursion IsWord (words_of gs)
+pub words_whole : (gs : List Group) → AllByRecursion IsGroup gs → AllByRecursion IsWord (words_of_groups gs)
 words_whole [] each = tt
-words_whole (g ∷ gs) each = AllByRecursion-append IsWord (group_words g) (words_of gs) (group_whole g each.0) (words_whole gs each.1)
+words_whole (g ∷ gs) each = AllByRecursion-append IsWord (group_words g) (words_of_groups gs) (group_whole g each.0) (words_whole gs each.1)
 
 words_once : (xs ys : List (List ℕ)) → AllByRecursion IsWord xs → AllByRecursion IsWord ys → concat xs ≡ concat ys → xs ≡ ys
 words_once [] [] p q e = refl
@@ -111,7 +113,8 @@ words_once (x ∷ xs) (y ∷ ys) p q e = let parts = same_front x y (concat xs) 
 
 pub Packs-once : (bytes text other : List ℕ) → Packs bytes text → Packs bytes other → text ≡ other
 Packs-once bytes text other p q =
-    let same : words_of p.groups ≡ words_of q.groups = words_once (words_of p.groups) (words_of q.groups) (words_whole p.groups p.each) (words_whole q.groups q.each) (sym p.unpacked ∙ q.unpacked) in
+    let same : words_of_groups p.groups ≡ words_of_groups q.groups =
+    words_once (words_of_groups p.groups) (words_of_groups q.groups) (words_whole p.groups p.each) (words_whole q.groups q.each) (sym p.unpacked ∙ q.unpacked) in
     p.spelled ∙ ap text_of (groups_once p.groups q.groups p.each q.each p.longest q.longest same) ∙ sym q.spelled
 
 pub Packs-words : (words : List (List ℕ)) (text : List ℕ) → PacksWords words text → Packs (concat words) text

@@ -2,12 +2,12 @@
 use Rattle.std.proofs.Common.{◌≡◌, ℕ, zero, suc, ◌+◌, ◌<◌, ◌≤◌, Option, Result, Ok, Err, IfOk, List, [], ◌∷◌, ◌++◌, length, take, drop, refl, sym, ap, ◌∙◌, subst, arith, append_assoc, replicate}
 use Rattle.std.specs.List.{concat, AllByRecursion}
 use Rattle.std.proofs.lemmas.List.{append-nil, length-take-le, drop_all, drop-drop}
-use Rattle.capnp_frame.specs.Source.{Known}
+use Rattle.capnp_frame.specs.Source.{IfKnown}
 use Rattle.capnp_frame.specs.Sink.{Appending, Adds}
-use Rattle.capnp_frame.proofs.SourceLemmas.{Known-join, Known-weaker}
+use Rattle.capnp_frame.proofs.SourceLemmas.{IfKnown-join, IfKnown-weaker}
 use Rattle.capnp_frame.specs.declared.error.Error.{Error}
 use Rattle.capnp_pack.specs.Group.{Group, tagged, zeros, literal, IsWord, group_text, zero_bytes, zero_word, marked}
-use Rattle.capnp_pack.specs.Packed.{Packs}
+use Rattle.capnp_pack.specs.Packed.{IfFirst, Packs}
 use Rattle.capnp_pack.specs.PackedSink.{AppendsPacked}
 use Rattle.capnp_pack.specs.Steps.{IsZero, HasFewZeros, tag_of, nonzero, IsRun, IsGroupOf, Hands}
 use Rattle.capnp_pack.proofs.TagLemmas.{tag_zero, tag_full, top_word, marked_tag, zeros_cons, zeros_suc, nonzero_suc}
@@ -21,33 +21,49 @@ nonzero_all (zero ∷ w) e = absurd (omega (arith, zeros_cons 0 w))
 nonzero_all (suc b ∷ w) e = nonzero_suc b w ∙ ap (λ l. suc b ∷ l) (nonzero_all w (sym (zeros_suc b w) ∙ e))
 
 -- a group that the buffer takes
-buffered : (appends : Appending) (old roomy new text : List ℕ) (a b : Option (List ℕ)) → new ≡ roomy ++ text → Known a b (Hands appends old [] roomy) → Known a b (Hands appends old text new)
-buffered appends old roomy new text a b e roomed = Known-weaker a b (λ x y p. Hands-join appends old [] roomy text new x y y p (Hands-none appends roomy text new y e)) roomed
+buffered : (appends : Appending) (old roomy new text : List ℕ) (a b : Option (List ℕ)) → new ≡ roomy ++ text → IfKnown a b (Hands appends old [] roomy) → IfKnown a b (Hands appends old text new)
+buffered appends old roomy new text a b e roomed = IfKnown-weaker a b (λ x y p. Hands-join appends old [] roomy text new x y y p (Hands-none appends roomy text new y e)) roomed
 
-pub made_zeros : (appends : Appending) (word : List ℕ) (os : List (List ℕ)) (count tag : ℕ) (old roomy filled new : List ℕ) (a b : Option (List ℕ)) → IsWord word → tag ≡ tag_of word → tag ≡ 0 → IsRun IsZero os count → filled ≡ roomy ++ tag ∷ nonzero word → new ≡ filled ++ count ∷ [] → Known a b (Hands appends old [] roomy) → (g : Group) × IsGroupOf word os count g × Known a b (Hands appends old (group_text g) new)
+pub made_zeros : (appends : Appending) (word : List ℕ) (os : List (List ℕ)) (count tag : ℕ) (old roomy filled new : List ℕ) (a b : Option (List ℕ)) →
+    IsWord word → tag ≡ tag_of word → tag ≡ 0 → IsRun IsZero os count → filled ≡ roomy ++ tag ∷ nonzero word → new ≡ filled ++ count ∷ [] →
+    IfKnown a b (Hands appends old [] roomy) → (g : Group) × IsGroupOf word os count g × IfKnown a b (Hands appends old (group_text g) new)
 made_zeros appends word os count tag old roomy filled new a b is tagged_by none run fill push roomed =
     let zero_tag : tag_of word ≡ 0 = sym tagged_by ∙ none in
     let first : word ≡ zero_word = tag_zero word zero_tag ∙ ap (λ k. replicate k 0) is in
-    let text : tag ∷ nonzero word ≡ 0 ∷ [] = ap (λ k. k ∷ nonzero word) none ∙ ap (λ l. 0 ∷ nonzero l) first in
-    (zeros count, IsGroupOf-zeros word os count is zero_tag run, buffered appends old roomy new (0 ∷ count ∷ []) a b (push ∙ ap (λ l. l ++ count ∷ []) (fill ∙ ap (λ l. roomy ++ l) text) ∙ append_assoc roomy (0 ∷ []) (count ∷ [])) roomed)
+    let text : tag ∷ nonzero word ≡ 0 ∷ [] = ap (λ k. k ∷ nonzero word) none ∙ ap (λ l. 0 ∷ nonzero l) first in (
+      zeros count,
+      IsGroupOf-zeros word os count is zero_tag run,
+      buffered appends old roomy new (0 ∷ count ∷ []) a b (push ∙ ap (λ l. l ++ count ∷ []) (fill ∙ ap (λ l. roomy ++ l) text) ∙ append_assoc roomy (0 ∷ []) (count ∷ [])) roomed,
+    )
 
-pub made_tagged : (appends : Appending) (word : List ℕ) (os : List (List ℕ)) (tag : ℕ) (old roomy new : List ℕ) (a b : Option (List ℕ)) → IsWord word → tag ≡ tag_of word → 0 < tag → tag < 255 → new ≡ roomy ++ tag ∷ nonzero word → Known a b (Hands appends old [] roomy) → (g : Group) × IsGroupOf word os 0 g × Known a b (Hands appends old (group_text g) new)
+pub made_tagged : (appends : Appending) (word : List ℕ) (os : List (List ℕ)) (tag : ℕ) (old roomy new : List ℕ) (a b : Option (List ℕ)) →
+    IsWord word → tag ≡ tag_of word → 0 < tag → tag < 255 → new ≡ roomy ++ tag ∷ nonzero word → IfKnown a b (Hands appends old [] roomy) →
+    (g : Group) × IsGroupOf word os 0 g × IfKnown a b (Hands appends old (group_text g) new)
 made_tagged appends word os tag old roomy new a b is tagged_by some low fill roomed =
-    let text : tag ∷ nonzero word ≡ tag_of word ∷ marked (tag_of word) word = ap (λ k. k ∷ nonzero word) tagged_by ∙ ap (λ l. tag_of word ∷ l) (sym (marked_tag word)) in
-    (tagged (tag_of word) word, IsGroupOf-tagged word os is (omega arith) (omega arith), buffered appends old roomy new (tag_of word ∷ marked (tag_of word) word) a b (fill ∙ ap (λ l. roomy ++ l) text) roomed)
+    let text : tag ∷ nonzero word ≡ tag_of word ∷ marked (tag_of word) word = ap (λ k. k ∷ nonzero word) tagged_by ∙ ap (λ l. tag_of word ∷ l) (sym (marked_tag word)) in (
+      tagged (tag_of word) word,
+      IsGroupOf-tagged word os is (omega arith) (omega arith),
+      buffered appends old roomy new (tag_of word ∷ marked (tag_of word) word) a b (fill ∙ ap (λ l. roomy ++ l) text) roomed,
+    )
 
-pub made_literal : (appends : Appending) (word : List ℕ) (os : List (List ℕ)) (tag : ℕ) (old roomy filled new : List ℕ) (a b c : Option (List ℕ)) (r : Result ℕ Error) → IsWord word → AllByRecursion IsWord os → tag ≡ tag_of word → tag ≡ 255 → filled ≡ roomy ++ tag ∷ nonzero word → Known a b (Hands appends old [] roomy) → IfOk r (IsRun HasFewZeros os) → IfOk r (λ count. Known b c (Hands appends filled (count ∷ concat (take count os)) new)) → IfOk r (λ count. (g : Group) × IsGroupOf word os count g × Known a c (Hands appends old (group_text g) new))
-made_literal appends word os tag old roomy filled new a b c (Err e) is all tagged_by full fill roomed run handed = tt
-made_literal appends word os tag old roomy filled new a b c (Ok count) is all tagged_by full fill roomed run handed =
+pub made_literal : {X : Type 0} (words : X → ℕ) (new : X → List ℕ) (appends : Appending) (word : List ℕ) (os : List (List ℕ)) (tag : ℕ)
+    (old roomy filled : List ℕ) (a b c : Option (List ℕ))
+    (r : Result X Error) → IsWord word → AllByRecursion IsWord os → tag ≡ tag_of word → tag ≡ 255 → filled ≡ roomy ++ tag ∷ nonzero word →
+    IfKnown a b (Hands appends old [] roomy) → IfOk r (λ v. IsRun HasFewZeros os (words v)) →
+    IfOk r (λ v. IfKnown b c (Hands appends filled (words v ∷ concat (take (words v) os)) (new v))) →
+    IfOk r (λ v. (g : Group) × IsGroupOf word os (words v) g × IfKnown a c (Hands appends old (group_text g) (new v)))
+made_literal words new appends word os tag old roomy filled a b c (Err e) is all tagged_by full fill roomed run handed = tt
+made_literal words new appends word os tag old roomy filled a b c (Ok v) is all tagged_by full fill roomed run handed =
     let full_tag : tag_of word ≡ 255 = sym tagged_by ∙ full in
     let none : zero_bytes word ≡ 0 = tag_full word (omega (arith, top_word word is)) in
     let text : tag ∷ nonzero word ≡ 255 ∷ word = ap (λ k. k ∷ nonzero word) full ∙ ap (λ l. 255 ∷ l) (nonzero_all word none) in
     let first = buffered appends old roomy filled (255 ∷ word) a b (fill ∙ ap (λ l. roomy ++ l) text) roomed in
-    let long : length (take count os) ≡ count = length-take-le count os run.within in
-    let further : count ∷ concat (take count os) ≡ length (take count os) ∷ concat (take count os) = ap (λ k. k ∷ concat (take count os)) (sym long) in (
-      literal word (take count os),
-      IsGroupOf-literal word os count is all full_tag run,
-      Known-join a b c (λ x y z p q. Hands-join appends old (255 ∷ word) filled (length (take count os) ∷ concat (take count os)) new x y z p (subst (λ l. Hands appends filled l new y z) further q)) first handed,
+    let long : length (take (words v) os) ≡ (words v) = length-take-le (words v) os run.within in
+    let further : (words v) ∷ concat (take (words v) os) ≡ length (take (words v) os) ∷ concat (take (words v) os) = ap (λ k. k ∷ concat (take (words v) os)) (sym long) in (
+      literal word (take (words v) os),
+      IsGroupOf-literal word os (words v) is all full_tag run,
+      IfKnown-join a b c (λ x y z p q. Hands-join appends old (255 ∷ word) filled (length (take (words v) os) ∷ concat (take (words v) os)) (new v) x y z p
+          (subst (λ l. Hands appends filled l (new v) y z) further q)) first handed,
     )
 
 -- the whole piece
@@ -55,25 +71,41 @@ made_literal appends word os tag old roomy filled new a b c (Ok count) is all ta
 pub PacksTo-none : (words : List (List ℕ)) → PacksTo words [] words
 PacksTo-none words = λ more p. p
 
-pub PacksTo-more : (words : List (List ℕ)) (text : List ℕ) (done next n : ℕ) (w : List ℕ) (os : List (List ℕ)) (g : Group) → drop done words ≡ w ∷ os → drop n os ≡ drop next words → IsGroupOf w os n g → PacksTo words text (drop done words) → PacksTo words (text ++ group_text g) (drop next words)
+pub PacksTo-more : (words : List (List ℕ)) (text : List ℕ) (done next n : ℕ) (w : List ℕ) (os : List (List ℕ)) (g : Group) →
+    drop done words ≡ w ∷ os → drop n os ≡ drop next words → IsGroupOf w os n g → PacksTo words text (drop done words) → PacksTo words (text ++ group_text g) (drop next words)
 PacksTo-more words text done next n w os g front left made to = λ more p.
-    let step : PacksWords (drop done words) (group_text g ++ more) = subst (λ l. PacksWords l (group_text g ++ more)) (sym front) (PacksWords-more w os n g more made (subst (λ l. PacksWords l more) (sym left) p)) in
+    let step : PacksWords (drop done words) (group_text g ++ more) =
+    subst (λ l. PacksWords l (group_text g ++ more)) (sym front) (PacksWords-more w os n g more made (subst (λ l. PacksWords l more) (sym left) p)) in
     subst (PacksWords words) (sym (append_assoc text (group_text g) more)) (to (group_text g ++ more) step)
 
 -- the next group of a piece
-pub packed_more : (appends : Appending) (words : List (List ℕ)) (done n : ℕ) (w : List ℕ) (os : List (List ℕ)) (buffer new : List ℕ) (a b c : Option (List ℕ)) → drop done words ≡ w ∷ os → os ≡ drop (done + 1) words → ((text : List ℕ) × PacksTo words text (drop done words) × Known a b (Hands appends [] text buffer)) → ((g : Group) × IsGroupOf w os n g × Known b c (Hands appends buffer (group_text g) new)) → (text : List ℕ) × PacksTo words text (drop (done + (1 + n)) words) × Known a c (Hands appends [] text new)
+pub packed_more : (appends : Appending) (words : List (List ℕ)) (done n : ℕ) (w : List ℕ) (os : List (List ℕ)) (buffer new : List ℕ)
+    (a b c : Option (List ℕ)) → drop done words ≡ w ∷ os → os ≡ drop (done + 1) words →
+    ((text : List ℕ) × PacksTo words text (drop done words) × IfKnown a b (Hands appends [] text buffer)) →
+    ((g : Group) × IsGroupOf w os n g × IfKnown b c (Hands appends buffer (group_text g) new)) → (text : List ℕ) ×
+    PacksTo words text (drop (done + (1 + n)) words) × IfKnown a c (Hands appends [] text new)
 packed_more appends words done n w os buffer new a b c front rest (text, to, handed) (g, made, more) =
     let next : (done + 1) + n ≡ done + (1 + n) = omega arith in
-    let left : drop n os ≡ drop (done + (1 + n)) words = ap (drop n) rest ∙ drop-drop n (done + 1) words ∙ ap (λ k. drop k words) next in
-    (text ++ group_text g, PacksTo-more words text done (done + (1 + n)) n w os g front left made to, Known-join a b c (λ x y z p q. Hands-join appends [] text buffer (group_text g) new x y z p q) handed more)
+    let left : drop n os ≡ drop (done + (1 + n)) words = ap (drop n) rest ∙ drop-drop n (done + 1) words ∙ ap (λ k. drop k words) next in (
+      text ++ group_text g,
+      PacksTo-more words text done (done + (1 + n)) n w os g front left made to,
+      IfKnown-join a b c (λ x y z p q. Hands-join appends [] text buffer (group_text g) new x y z p q) handed more,
+    )
 
 -- the last bytes of a piece
-pub packed_all : (appends : Appending) (piece : List ℕ) (words : List (List ℕ)) (done : ℕ) (buffer left : List ℕ) (a b c : Option (List ℕ)) → concat words ≡ piece → length words ≤ done → left ≡ [] → ((text : List ℕ) × PacksTo words text (drop done words) × Known a b (Hands appends [] text buffer)) → Known b c (Hands appends buffer [] left) → Known a c (Adds (AppendsPacked appends piece))
+pub packed_all : (appends : Appending) (piece : List ℕ) (words : List (List ℕ)) (done : ℕ) (buffer left : List ℕ) (a b c : Option (List ℕ)) →
+    concat words ≡ piece → length words ≤ done → left ≡ [] →
+    ((text : List ℕ) × PacksTo words text (drop done words) × IfKnown a b (Hands appends [] text buffer)) →
+    IfKnown b c (Hands appends buffer [] left) → IfKnown a c (Adds (AppendsPacked appends piece))
 packed_all appends piece words done buffer left a b c whole past none (text, to, handed) last =
     let over : drop done words ≡ [] = drop_all done words past in
     let all : PacksWords words text = subst (PacksWords words) (append-nil text) (to [] (subst (λ l. PacksWords l []) (sym over) PacksWords-none)) in
     let packed : Packs piece text = subst (λ l. Packs l text) whole (Packs-words words text all) in
-    Known-join a b c (λ x y z p q.
+    IfKnown-join a b c (λ x y z p q.
     let h = Hands-join appends [] text buffer [] left x y z p q in
     let parts : concat h.parts ≡ text = sym (h.kept ∙ ap (λ l. concat h.parts ++ l) none ∙ append-nil (concat h.parts)) ∙ append-nil text in
     (h.handed, (h.parts, subst (Packs piece) (sym parts) packed, h.told), h.added)) handed last
+
+-- a run of no word
+pub run_of_none : (os : List (List ℕ)) → IfFirst os (λ word. IsZero word → ⊥) → IsRun IsZero os 0
+run_of_none os ends = record { most = omega arith; within = omega arith; each = tt; ends = λ _. ends }

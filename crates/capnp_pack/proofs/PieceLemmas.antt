@@ -4,18 +4,20 @@ use Rattle.std.proofs.lemmas.List.{nil_from_length, take_all}
 use borrow.Rule.Slice.PartMut.{put_mid}
 use Rattle.capnp_frame.specs.declared.error.ErrorKind.{ErrorKind}
 use Rattle.capnp_frame.specs.declared.error.ErrorKind.TheVariants.{FailedToFillTheWholeBuffer, PrematureEndOfPackedInput, NotWholeWords, DeviceFailed}
-use Rattle.capnp_frame.specs.Source.{Known, IsTail, Takes, IsRefused}
-use Rattle.capnp_frame.proofs.SourceLemmas.{Known-weaker, Takes-none, Takes-filled, Takes-given, length-put_mid}
+use Rattle.capnp_frame.specs.Source.{IfKnown, IsTail, AnswersPart, IsRefused}
+use Rattle.capnp_frame.proofs.SourceLemmas.{IfKnown-weaker, AnswersPart-none, AnswersPart-filled, AnswersPart-given, length-put_mid}
 use Rattle.capnp_pack.specs.Group.{zeros}
 use Rattle.capnp_pack.specs.PackedSource.{Unpacks, IsFault, MeetsFault, RefusesPiece}
-use Rattle.capnp_pack.specs.Unpacking.{takes_no_group, unpack_nothing, unpack_once}
-use Rattle.capnp_pack.specs.Refusing.{packed_apart}
+use Rattle.capnp_pack.specs.UnpackingLaws.{takes_no_group, unpack_nothing, unpack_once}
+use Rattle.capnp_pack.specs.RefusingLaws.{packed_apart}
 use Rattle.capnp_pack.proofs.FaultLemmas.{fault_here, no_count, long_run}
 
 -- a later group is missing
 pub end_refused : (n : ℕ) (old : Option (List ℕ)) → 0 < n → IfSome old (λ raw. raw ≡ []) → IsRefused MeetsFault n old PrematureEndOfPackedInput
 end_refused n None some end = (0 ∷ [], n, no_count n some)
-end_refused n (Some x) some end = subst (λ l. MeetsFault l n PrematureEndOfPackedInput) (sym end) (fault_here [] n _ some (inl (record { group = zeros 0; is = lit< tt; missing = 0 ∷ 0 ∷ []; some = lit< tt; spelled = refl }, refl)))
+end_refused n (Some x) some end =
+    subst (λ l. MeetsFault l n PrematureEndOfPackedInput) (sym end)
+    (fault_here [] n _ some (inl (record { group = zeros 0; is = lit< tt; missing = 0 ∷ 0 ∷ []; some = lit< tt; spelled = refl }, refl)))
 
 -- the table of a piece
 
@@ -43,7 +45,9 @@ pub piece_refused : (n : ℕ) (old : Option (List ℕ)) (kind : ErrorKind) → n
 piece_refused n None kind whole more p = some_piece p.2.left _ kind p.2.fault
 piece_refused n (Some raw) kind whole more p = later_refused raw n kind whole more p
 
-pub group_error : (n filled : ℕ) (old mid : Option (List ℕ)) (kind : ErrorKind) → n % 8 ≡ 0 → (0 < filled → IfSome old (λ raw. raw ≡ [] → ⊥)) → (filled ≡ 0 → mid ≡ old) → (mid ≡ Some [] → kind ≡ DeviceFailed) → (kind ≡ DeviceFailed) ⊎ IsRefused MeetsFault n old kind → (kind ≡ DeviceFailed) ⊎ IsRefused RefusesPiece n old kind
+pub group_error : (n filled : ℕ) (old mid : Option (List ℕ)) (kind : ErrorKind) → n % 8 ≡ 0 → (0 < filled → IfSome old (λ raw. raw ≡ [] → ⊥)) →
+    (filled ≡ 0 → mid ≡ old) → (mid ≡ Some [] → kind ≡ DeviceFailed) → (kind ≡ DeviceFailed) ⊎ IsRefused MeetsFault n old kind →
+    (kind ≡ DeviceFailed) ⊎ IsRefused RefusesPiece n old kind
 group_error n filled old mid kind whole more same end (inl p) = inl p
 group_error n (suc filled) old mid kind whole more same end (inr p) = inr (piece_refused n old kind whole (more (omega arith)) p)
 group_error n zero None mid kind whole more same end (inr p) = inr (piece_refused n None kind whole tt p)
@@ -51,24 +55,28 @@ group_error n zero (Some []) mid kind whole more same end (inr p) = inl (end (sa
 group_error n zero (Some (byte ∷ raw)) mid kind whole more same end (inr p) = inr (piece_refused n (Some (byte ∷ raw)) kind whole (λ e. cc) p)
 
 -- a piece that is answered whole, and none
-pub piece_taken : (filled : ℕ) (buffer : List ℕ) (old new : Option (List ℕ)) → length buffer ≤ filled → Known old new (Takes Unpacks MeetsFault (length buffer) (take filled buffer)) → Known old new (Takes Unpacks RefusesPiece (length buffer) (take filled buffer))
+pub piece_taken : (filled : ℕ) (buffer : List ℕ) (old new : Option (List ℕ)) → length buffer ≤ filled →
+    IfKnown old new (AnswersPart Unpacks MeetsFault (length buffer) (take filled buffer)) → IfKnown old new (AnswersPart Unpacks RefusesPiece (length buffer) (take filled buffer))
 piece_taken filled buffer old new full taken =
     let all : take filled buffer ≡ buffer = take_all filled buffer full in
-    subst (λ l. Known old new (Takes Unpacks RefusesPiece (length buffer) l)) (sym all)
-    (Known-weaker old new (λ x y g. Takes-given Unpacks RefusesPiece (length buffer) buffer x y takes_no_group unpack_nothing unpack_once packed_apart refl g) (Takes-filled Unpacks MeetsFault filled buffer old new takes_no_group full taken))
+    subst (λ l. IfKnown old new (AnswersPart Unpacks RefusesPiece (length buffer) l)) (sym all)
+    (IfKnown-weaker old new
+    (λ x y g. AnswersPart-given Unpacks RefusesPiece (length buffer) buffer x y takes_no_group unpack_nothing unpack_once packed_apart refl g)
+    (AnswersPart-filled Unpacks MeetsFault filled buffer old new takes_no_group full taken))
 
-none_left : (n : ℕ) (mid new : Option (List ℕ)) → IfSome mid (λ raw. raw ≡ []) → Known mid new IsTail → Known mid new (Takes Unpacks RefusesPiece n [])
+none_left : (n : ℕ) (mid new : Option (List ℕ)) → IfSome mid (λ raw. raw ≡ []) → IfKnown mid new IsTail → IfKnown mid new (AnswersPart Unpacks RefusesPiece n [])
 none_left n None new end tail = tt
 none_left n (Some x) None end tail = absurd tail
 none_left n (Some x) (Some y) end tail =
     let gone : y ≡ [] = nil_from_length y (omega (arith, ap length tail.1, ap length end, length-append tail.0 y)) in
-    subst (λ l. Takes Unpacks RefusesPiece n [] l y) (sym end) (subst (λ l. Takes Unpacks RefusesPiece n [] [] l) (sym gone) (Takes-none n []))
+    subst (λ l. AnswersPart Unpacks RefusesPiece n [] l y) (sym end) (subst (λ l. AnswersPart Unpacks RefusesPiece n [] [] l) (sym gone) (AnswersPart-none n []))
 
-pub none_taken : (n : ℕ) (old mid new : Option (List ℕ)) → mid ≡ old → IfSome mid (λ raw. raw ≡ []) → Known mid new IsTail → Known old new (Takes Unpacks RefusesPiece n [])
-none_taken n old mid new same end tail = subst (λ o. Known o new (Takes Unpacks RefusesPiece n [])) same (none_left n mid new end tail)
+pub none_taken : (n : ℕ) (old mid new : Option (List ℕ)) → mid ≡ old → IfSome mid (λ raw. raw ≡ []) → IfKnown mid new IsTail → IfKnown old new (AnswersPart Unpacks RefusesPiece n [])
+none_taken n old mid new same end tail = subst (λ o. IfKnown o new (AnswersPart Unpacks RefusesPiece n [])) same (none_left n mid new end tail)
 
 -- the buffer stays whole words
-pub whole_fill : (filled n : ℕ) (buffer part : List ℕ) → filled ≤ length buffer → length part ≡ length buffer - filled → length buffer ≡ n → n % 8 ≡ 0 → length (put_mid filled (length buffer - filled) buffer part) % 8 ≡ 0
+pub whole_fill : (filled n : ℕ) (buffer part : List ℕ) → filled ≤ length buffer → length part ≡ length buffer - filled → length buffer ≡ n →
+    n % 8 ≡ 0 → length (put_mid filled (length buffer - filled) buffer part) % 8 ≡ 0
 whole_fill filled n buffer part within fits same whole = ap (λ k. k % 8) (length-put_mid filled buffer part within fits ∙ same) ∙ whole
 
 -- nothing was unread before the first group either

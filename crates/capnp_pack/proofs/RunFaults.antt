@@ -1,9 +1,9 @@
 -- The faults of a literal group's run, and those of its word.
-use Rattle.std.proofs.Common.{◌≡◌, ℕ, ◌+◌, ◌*◌, ◌<◌, ◌≤◌, ◌⊎◌, inl, inr, lit<, lit≤, Option, Some, None, List, [], ◌∷◌, ◌++◌, length, refl, sym, ap, ◌∙◌, subst, arith, ◌↔◌, length-append}
+use Rattle.std.proofs.Common.{◌≡◌, ℕ, ◌+◌, ◌*◌, ◌<◌, ◌≤◌, ◌⊎◌, inl, inr, lit<, lit≤, Option, Some, None, List, [], ◌∷◌, ◌++◌, length, refl, sym, ap, ◌∙◌, subst, arith, length-append}
 use Rattle.std.proofs.lemmas.List.{nil_from_length}
 use Rattle.capnp_frame.specs.declared.error.ErrorKind.{ErrorKind}
 use Rattle.capnp_frame.specs.declared.error.ErrorKind.TheVariants.{PrematureEndOfPackedInput, PackedInputDidNotEndCleanlyOnASegmentBoundary}
-use Rattle.capnp_frame.specs.Source.{Refusing, Known, IsRefused, RunsShort}
+use Rattle.capnp_frame.specs.Source.{IfKnown, IsRefused, RunsShort}
 use Rattle.capnp_pack.specs.Group.{IsWord, marked}
 use Rattle.capnp_pack.specs.Steps.{FaultBehind, MarkedAt, marked_count, Lacks, RefusesRun}
 use Rattle.capnp_pack.proofs.FaultLemmas.{literal_cut, literal_long, literal_run_cut, tagged_cut}
@@ -18,23 +18,19 @@ count_missing F n old kind (inl failed) = inl failed
 count_missing F n None kind (inr lacks) = inr ([], n, inl (refl, lacks.1))
 count_missing F n (Some raw) kind (inr lacks) = inr (inl (none_shorter raw lacks.0, lacks.1))
 
-pub count_large : (n further : ℕ) (old mid : Option (List ℕ)) → further < 256 → n < 8 * further → Known old mid (λ raw left. raw ≡ further ∷ left) → IsRefused RefusesRun n old PackedInputDidNotEndCleanlyOnASegmentBoundary
+pub count_large : (n further : ℕ) (old mid : Option (List ℕ)) → further < 256 → n < 8 * further →
+    IfKnown old mid (λ raw left. raw ≡ further ∷ left) → IsRefused RefusesRun n old PackedInputDidNotEndCleanlyOnASegmentBoundary
 count_large n further None mid low long at = (further ∷ [], n, inr (further, [], low, refl, inl (long, refl)))
 count_large n further (Some x) None low long at = absurd at
 count_large n further (Some x) (Some y) low long at = inr (further, y, low, at, inl (long, refl))
 
-pub run_short : (F : Type 0) (refuses : Refusing) (n further count : ℕ) (old mid : Option (List ℕ)) (kind : ErrorKind) → ((raw : List ℕ) (n : ℕ) (kind : ErrorKind) → RunsShort raw n kind ↔ refuses raw n kind) → further < 256 → count ≡ 8 * further → count ≤ n → Known old mid (λ raw left. raw ≡ further ∷ left) → F ⊎ IsRefused refuses count mid kind → F ⊎ IsRefused RefusesRun n old kind
-run_short F refuses n further count old mid kind plain low long fits at (inl failed) = inl failed
-run_short F refuses n further count None None kind plain low long fits at (inr refused) =
-    let short = (plain refused.0 refused.1 kind).1 refused.2 in
-    inr (1 ∷ [], 8, inr (1, [], lit< tt, refl, inr (lit≤ tt, (lit< tt, short.1))))
-run_short F refuses n further count None (Some y) kind plain low long fits at (inr refused) =
-    let short = (plain y count kind).1 refused in
-    inr (1 ∷ [], 8, inr (1, [], lit< tt, refl, inr (lit≤ tt, (lit< tt, short.1))))
-run_short F refuses n further count (Some x) None kind plain low long fits at (inr refused) = absurd at
-run_short F refuses n further count (Some x) (Some y) kind plain low long fits at (inr refused) =
-    let short = (plain y count kind).1 refused in
-    inr (inr (further, y, low, at, inr (subst (λ k. k ≤ n) long fits, subst (λ k. RunsShort y k kind) long short)))
+pub run_short : (F : Type 0) (n further count : ℕ) (old mid : Option (List ℕ)) (kind : ErrorKind) → further < 256 → count ≡ 8 * further → count ≤ n →
+    IfKnown old mid (λ raw left. raw ≡ further ∷ left) → F ⊎ IsRefused RunsShort count mid kind → F ⊎ IsRefused RefusesRun n old kind
+run_short F n further count old mid kind low long fits at (inl failed) = inl failed
+run_short F n further count None None kind low long fits at (inr refused) = inr (1 ∷ [], 8, inr (1, [], lit< tt, refl, inr (lit≤ tt, (lit< tt, refused.2.1))))
+run_short F n further count None (Some y) kind low long fits at (inr refused) = inr (1 ∷ [], 8, inr (1, [], lit< tt, refl, inr (lit≤ tt, (lit< tt, refused.1))))
+run_short F n further count (Some x) None kind low long fits at (inr refused) = absurd at
+run_short F n further count (Some x) (Some y) kind low long fits at (inr refused) = inr (inr (further, y, low, at, inr (subst (λ k. k ≤ n) long fits, subst (λ k. RunsShort y k kind) long refused)))
 
 -- a word's marked bytes are missing
 cut : (tag n : ℕ) (raw : List ℕ) → 0 < n → 0 < tag → (tag < 255) ⊎ (tag ≡ 255) → length raw < marked_count tag 8 → FaultBehind tag raw n PrematureEndOfPackedInput
@@ -47,23 +43,34 @@ cut tag n raw some low (inr full) short =
 full_or_less : (tag : ℕ) → tag < 256 → (tag < 255) ⊎ (tag ≡ 255)
 full_or_less tag high = elim (cases_lt tag 255) [ inl less ↦ inl less | inr more ↦ inr (omega arith) ]
 
-pub word_cut : (F : Type 0) (tag m n : ℕ) (old : Option (List ℕ)) (kind : ErrorKind) → m ≡ 8 → 0 < n → 0 < tag → tag < 256 → F ⊎ Lacks (marked_count tag m) old kind → F ⊎ IsRefused (FaultBehind tag) n old kind
+pub word_cut : (F : Type 0) (tag m n : ℕ) (old : Option (List ℕ)) (kind : ErrorKind) → m ≡ 8 → 0 < n → 0 < tag → tag < 256 →
+    F ⊎ Lacks (marked_count tag m) old kind → F ⊎ IsRefused (FaultBehind tag) n old kind
 word_cut F tag m n old kind eight some low high (inl failed) = inl failed
 word_cut F tag m n None kind eight some low high (inr lacks) = inr ([], n, subst (FaultBehind tag [] n) (sym lacks.1) (cut tag n [] some low (full_or_less tag high) (marks_some 8 tag low high)))
-word_cut F tag m n (Some raw) kind eight some low high (inr lacks) = inr (subst (FaultBehind tag raw n) (sym lacks.1) (cut tag n raw some low (full_or_less tag high) (subst (λ k. length raw < marked_count tag k) eight lacks.0)))
+word_cut F tag m n (Some raw) kind eight some low high (inr lacks) =
+    inr (subst (FaultBehind tag raw n) (sym lacks.1) (cut tag n raw some low (full_or_less tag high) (subst (λ k. length raw < marked_count tag k) eight lacks.0)))
 
--- behind a word
+-- after a word
 behind_word : (word raw : List ℕ) (n m : ℕ) (kind : ErrorKind) → IsWord word → n ≡ m + 8 → RefusesRun raw m kind → FaultBehind 255 (word ++ raw) n kind
-behind_word word raw n m kind is room (inl (none, early)) = subst (λ l. FaultBehind 255 (word ++ l) n kind) (sym none) (subst (FaultBehind 255 (word ++ []) n) (sym early) (literal_cut (word ++ []) n (omega arith) (nine word is)))
+behind_word word raw n m kind is room (inl (none, early)) =
+    subst (λ l. FaultBehind 255 (word ++ l) n kind) (sym none) (subst (FaultBehind 255 (word ++ []) n) (sym early) (literal_cut (word ++ []) n (omega arith) (nine word is)))
   where
     nine : (w : List ℕ) → IsWord w → length (w ++ []) < 9
     nine w is = omega (arith, length-append w [])
-behind_word word raw n m kind is room (inr (further, left, low, at, inl (long, over))) = subst (λ l. FaultBehind 255 (word ++ l) n kind) (sym at) (subst (FaultBehind 255 (word ++ further ∷ left) n) (sym over) (literal_long word left further n (omega arith) is low (omega arith)))
-behind_word word raw n m kind is room (inr (further, left, low, at, inr (fits, short))) = subst (λ l. FaultBehind 255 (word ++ l) n kind) (sym at) (literal_run_cut word left further n kind (omega arith) is low (omega arith) short)
+behind_word word raw n m kind is room (inr (further, left, low, at, inl (long, over))) =
+    subst (λ l. FaultBehind 255 (word ++ l) n kind) (sym at)
+    (subst (FaultBehind 255 (word ++ further ∷ left) n) (sym over) (literal_long word left further n (omega arith) is low (omega arith)))
+behind_word word raw n m kind is room (inr (further, left, low, at, inr (fits, short))) =
+    subst (λ l. FaultBehind 255 (word ++ l) n kind) (sym at) (literal_run_cut word left further n kind (omega arith) is low (omega arith) short)
 
-pub run_cut : (F : Type 0) (tag n m : ℕ) (word : List ℕ) (old mid : Option (List ℕ)) (kind : ErrorKind) → tag ≡ 255 → IsWord word → n ≡ m + 8 → Known old mid (MarkedAt tag word) → F ⊎ IsRefused RefusesRun m mid kind → F ⊎ IsRefused (FaultBehind tag) n old kind
+pub run_cut : (F : Type 0) (tag n m : ℕ) (word : List ℕ) (old mid : Option (List ℕ)) (kind : ErrorKind) → tag ≡ 255 → IsWord word → n ≡ m + 8 →
+    IfKnown old mid (MarkedAt tag word) → F ⊎ IsRefused RefusesRun m mid kind → F ⊎ IsRefused (FaultBehind tag) n old kind
 run_cut F tag n m word old mid kind full is room at (inl failed) = inl failed
-run_cut F tag n m word None None kind full is room at (inr refused) = inr (word ++ refused.0, refused.1 + 8, subst (λ t. FaultBehind t (word ++ refused.0) (refused.1 + 8) kind) (sym full) (behind_word word refused.0 (refused.1 + 8) refused.1 kind is refl refused.2))
+run_cut F tag n m word None None kind full is room at (inr refused) = inr (
+  word ++ refused.0,
+  refused.1 + 8,
+  subst (λ t. FaultBehind t (word ++ refused.0) (refused.1 + 8) kind) (sym full) (behind_word word refused.0 (refused.1 + 8) refused.1 kind is refl refused.2),
+)
 run_cut F tag n m word None (Some y) kind full is room at (inr refused) = inr (word ++ y, n, subst (λ t. FaultBehind t (word ++ y) n kind) (sym full) (behind_word word y n m kind is room refused))
 run_cut F tag n m word (Some x) None kind full is room at (inr refused) = absurd at
 run_cut F tag n m word (Some x) (Some y) kind full is room at (inr refused) =

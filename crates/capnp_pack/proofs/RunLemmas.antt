@@ -15,10 +15,14 @@ clash P (suc m) (suc n) (w ∷ ws) low long each ends = clash P m n ws (omega ar
 pub IsRun-once : (P : List ℕ → Type 0) (ws : List (List ℕ)) (m n : ℕ) → IsRun P ws m → IsRun P ws n → m ≡ n
 IsRun-once P ws m n p q = elim (cases_order m n) [
   | inl same ↦ same
-  | inr other ↦ elim other [ inl less ↦ absurd (clash P m n ws less q.within q.each (p.ends (omega (arith, q.most)))) | inr more ↦ absurd (clash P n m ws more p.within p.each (q.ends (omega (arith, p.most)))) ]
+  | inr other ↦ elim other [
+    | inl less ↦ absurd (clash P m n ws less q.within q.each (p.ends (omega (arith, q.most))))
+    | inr more ↦ absurd (clash P n m ws more p.within p.each (q.ends (omega (arith, p.most))))
+  ]
 ]
 
-run_some : (P : List ℕ → Type 0) → ((w : List ℕ) → P w ⊎ (P w → ⊥)) → (most : ℕ) (ws : List (List ℕ)) → (n : ℕ) × (n ≤ most) × (n ≤ length ws) × AllByRecursion P (take n ws) × (n < most → IfFirst (drop n ws) (λ w. P w → ⊥))
+run_some : (P : List ℕ → Type 0) → ((w : List ℕ) → P w ⊎ (P w → ⊥)) → (most : ℕ) (ws : List (List ℕ)) → (n : ℕ) × (n ≤ most) × (n ≤ length ws) ×
+    AllByRecursion P (take n ws) × (n < most → IfFirst (drop n ws) (λ w. P w → ⊥))
 run_some P decide zero ws = (0, omega arith, omega arith, tt, λ low. absurd (omega arith))
 run_some P decide (suc most) [] = (0, omega arith, omega arith, tt, λ low. tt)
 run_some P decide (suc most) (w ∷ ws) = elim (decide w) [

@@ -16,7 +16,7 @@ zeros_suc b w = let no : ◌≡◌ {A = ℕ} (cond (suc b == 0) 1 0) 0 = ap (λ 
 bit_suc : (b : ℕ) → ◌≡◌ {A = ℕ} (if suc b == 0 then 0 else 1) 1
 bit_suc b = ap (λ v. if◌then◌else◌ {A = ℕ} v 0 1) (eqb-suc-zero b)
 
-tag_suc : (b : ℕ) (w : List ℕ) → tag_of (suc b ∷ w) ≡ 1 + 2 * tag_of w
+pub tag_suc : (b : ℕ) (w : List ℕ) → tag_of (suc b ∷ w) ≡ 1 + 2 * tag_of w
 tag_suc b w = ap (λ k. k + 2 * tag_of w) (bit_suc b)
 
 pub nonzero_suc : (b : ℕ) (w : List ℕ) → nonzero (suc b ∷ w) ≡ suc b ∷ nonzero w
@@ -66,7 +66,8 @@ odd t = (omega arith, omega arith)
 pub marked_tag : (w : List ℕ) → marked (tag_of w) w ≡ nonzero w
 marked_tag [] = refl
 marked_tag (zero ∷ w) = let two = even (tag_of w) in bytes_step 1 (0 + 2 * tag_of w) 0 (tag_of w) 0 w two.0 two.1 ∙ marked_tag w
-marked_tag (suc b ∷ w) = let two = odd (tag_of w) in ap (λ k. marked k (suc b ∷ w)) (tag_suc b w) ∙ bytes_step 1 (1 + 2 * tag_of w) 1 (tag_of w) (suc b) w two.0 two.1 ∙ ap (λ l. suc b ∷ l) (marked_tag w) ∙ sym (nonzero_suc b w)
+marked_tag (suc b ∷ w) = let two = odd (tag_of w) in ap (λ k. marked k (suc b ∷ w)) (tag_suc b w)
+    ∙ bytes_step 1 (1 + 2 * tag_of w) 1 (tag_of w) (suc b) w two.0 two.1 ∙ ap (λ l. suc b ∷ l) (marked_tag w) ∙ sym (nonzero_suc b w)
 
 abbrev pub ArePositive : List ℕ → Type 0
 ArePositive bytes = AllByRecursion (λ byte. 0 < byte) bytes
@@ -74,14 +75,16 @@ ArePositive bytes = AllByRecursion (λ byte. 0 < byte) bytes
 pub unmarked_tag : (w : List ℕ) → AreZero (unmarked (tag_of w) w)
 unmarked_tag [] = tt
 unmarked_tag (zero ∷ w) = let two = even (tag_of w) in subst AreZero (sym (bytes_step 0 (0 + 2 * tag_of w) 0 (tag_of w) 0 w two.0 two.1)) (refl, unmarked_tag w)
-unmarked_tag (suc b ∷ w) = let two = odd (tag_of w) in subst AreZero (sym (ap (λ k. unmarked k (suc b ∷ w)) (tag_suc b w) ∙ bytes_step 0 (1 + 2 * tag_of w) 1 (tag_of w) (suc b) w two.0 two.1)) (unmarked_tag w)
+unmarked_tag (suc b ∷ w) = let two =
+    odd (tag_of w) in subst AreZero (sym (ap (λ k. unmarked k (suc b ∷ w)) (tag_suc b w) ∙ bytes_step 0 (1 + 2 * tag_of w) 1 (tag_of w) (suc b) w two.0 two.1)) (unmarked_tag w)
 
 pub nonzero_marked : (w : List ℕ) → ArePositive (nonzero w)
 nonzero_marked [] = tt
 nonzero_marked (zero ∷ w) = nonzero_marked w
 nonzero_marked (suc b ∷ w) = subst ArePositive (sym (nonzero_suc b w)) (omega arith, nonzero_marked w)
 
-tag_step : (r b : ℕ) (u m : List ℕ) → r < 2 → AreZero ((if r == 0 then b ∷ [] else []) ++ u) → ArePositive ((if r == 1 then b ∷ [] else []) ++ m) → ((if b == 0 then 0 else 1) ≡ r) × AreZero u × ArePositive m
+tag_step : (r b : ℕ) (u m : List ℕ) → r < 2 → AreZero ((if r == 0 then b ∷ [] else []) ++ u) → ArePositive ((if r == 1 then b ∷ [] else []) ++ m) →
+    ((if b == 0 then 0 else 1) ≡ r) × AreZero u × ArePositive m
 tag_step zero b u m low p q = (ap (λ k. if k == 0 then 0 else 1) p.0, p.1, q)
 tag_step (suc zero) zero u m low p q = let none : ◌<◌ 0 0 = q.0 in absurd (omega arith)
 tag_step (suc zero) (suc b) u m low p q = (bit_suc b, p, q.1)

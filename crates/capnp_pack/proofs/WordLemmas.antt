@@ -1,10 +1,11 @@
 -- The bytes of a word under a tag.
-use Rattle.std.proofs.Common.{Bool, true, false, ◌≡◌, ℕ, zero, suc, ◌+◌, ◌-◌, ◌*◌, ◌/◌, ◌%◌, ◌<◌, ◌⊎◌, inl, inr, Option, Some, None, List, [], ◌∷◌, ◌++◌, length, replicate, refl, sym, ap, ◌∙◌, subst, arith, append_assoc, length-append}
+use Rattle.std.proofs.Common.{Bool, true, false, ◌≡◌, ℕ, zero, suc, ◌+◌, ◌-◌, ◌*◌, ◌/◌, ◌%◌, ◌<◌, ◌⊎◌, inl, inr, Option, Some, None, List}
+use Rattle.std.proofs.Common.{[], ◌∷◌, ◌++◌, length, replicate, refl, sym, ap, ◌∙◌, subst, arith, append_assoc, length-append}
 use Rattle.std.specs.Prelude.{◌==◌, if◌then◌else◌}
 use Rattle.std.proofs.lemmas.List.{append-nil}
 use Rattle.capnp_frame.specs.declared.error.ErrorKind.{ErrorKind}
-use Rattle.capnp_frame.specs.Source.{Known}
-use Rattle.capnp_frame.proofs.SourceLemmas.{Known-join, Known-weaker, Known-refl}
+use Rattle.capnp_frame.specs.Source.{IfKnown}
+use Rattle.capnp_frame.proofs.SourceLemmas.{IfKnown-join, IfKnown-weaker, IfKnown-refl}
 use Rattle.capnp_pack.specs.Group.{IsWord, AreZero, marked, unmarked}
 use Rattle.capnp_pack.specs.Steps.{MarkedAt, marked_count, Lacks}
 use Rattle.capnp_pack.proofs.AllLemmas.{AllByRecursion-append}
@@ -37,7 +38,7 @@ marked_count-suc : (bits n : ℕ) → marked_count bits (suc n) ≡ length (one_
 marked_count-suc bits n = length-append (one_at 1 bits 0) (marked (bits / 2) (replicate n 0))
 
 -- a byte, and then the others
-byte_joins : (bits byte : ℕ) (others left mid after : List ℕ) → MarkedAt bits (byte ∷ []) left mid → MarkedAt (bits / 2) others mid after → MarkedAt bits (byte ∷ others) left after
+pub byte_joins : (bits byte : ℕ) (others left mid after : List ℕ) → MarkedAt bits (byte ∷ []) left mid → MarkedAt (bits / 2) others mid after → MarkedAt bits (byte ∷ others) left after
 byte_joins bits byte others left mid after p q = (
   p.0 ∙ ap (λ l. l ++ mid) (append-nil (one_at 1 bits byte)) ∙ ap (λ l. one_at 1 bits byte ++ l) q.0 ∙ sym (append_assoc (one_at 1 bits byte) (marked (bits / 2) others) after),
   AllByRecursion-append (λ byte. byte ≡ 0) (one_at 0 bits byte) (unmarked (bits / 2) others) (subst AreZero (append-nil (one_at 0 bits byte)) p.1) q.1,
@@ -57,14 +58,17 @@ MarksTo-more tag bits byte front raw left mid to here = record {
     counted n total same = omega (arith, to.counts (suc n), marked_count-suc bits n, taken)
 
 -- the next byte of a word
-pub marks_more : (tag bits byte : ℕ) (front next : List ℕ) (old mid new : Option (List ℕ)) → next ≡ front ++ byte ∷ [] → Known old mid (MarksTo tag bits front) → Known mid new (MarkedAt bits (byte ∷ [])) → Known old new (MarksTo tag (bits / 2) next)
-marks_more tag bits byte front next old mid new same to here = Known-join old mid new (λ x y z p q. subst (λ l. MarksTo tag (bits / 2) l x z) (sym same) (MarksTo-more tag bits byte front x y z p q)) to here
+pub marks_more : (tag bits byte : ℕ) (front next : List ℕ) (old mid new : Option (List ℕ)) → next ≡ front ++ byte ∷ [] →
+    IfKnown old mid (MarksTo tag bits front) → IfKnown mid new (MarkedAt bits (byte ∷ [])) → IfKnown old new (MarksTo tag (bits / 2) next)
+marks_more tag bits byte front next old mid new same to here =
+    IfKnown-join old mid new (λ x y z p q. subst (λ l. MarksTo tag (bits / 2) l x z) (sym same) (MarksTo-more tag bits byte front x y z p q)) to here
 
-pub marks_all : (tag bits : ℕ) (front word : List ℕ) (old new : Option (List ℕ)) → front ≡ word → Known old new (MarksTo tag bits front) → Known old new (MarkedAt tag word)
-marks_all tag bits front word old new same to = Known-weaker old new (λ x y p. subst (λ w. MarkedAt tag w x y) (append-nil front ∙ same) (p.joins [] y (refl, tt))) to
+pub marks_all : (tag bits : ℕ) (front word : List ℕ) (old new : Option (List ℕ)) → front ≡ word → IfKnown old new (MarksTo tag bits front) → IfKnown old new (MarkedAt tag word)
+marks_all tag bits front word old new same to = IfKnown-weaker old new (λ x y p. subst (λ w. MarkedAt tag w x y) (append-nil front ∙ same) (p.joins [] y (refl, tt))) to
 
 -- where a byte is missing, the word's marked bytes are
-pub marks_lacking : (F : Type 0) (tag bits n : ℕ) (front : List ℕ) (old mid : Option (List ℕ)) (kind : ErrorKind) → length front < n → Known old mid (MarksTo tag bits front) → F ⊎ Lacks (marked_count bits 1) mid kind → F ⊎ Lacks (marked_count tag n) old kind
+pub marks_lacking : (F : Type 0) (tag bits n : ℕ) (front : List ℕ) (old mid : Option (List ℕ)) (kind : ErrorKind) → length front < n →
+    IfKnown old mid (MarksTo tag bits front) → F ⊎ Lacks (marked_count bits 1) mid kind → F ⊎ Lacks (marked_count tag n) old kind
 marks_lacking F tag bits n front old mid kind some to (inl failed) = inl failed
 marks_lacking F tag bits n front None mid kind some to (inr lacks) = inr (tt, lacks.1)
 marks_lacking F tag bits n front (Some x) None kind some to (inr lacks) = absurd to
@@ -79,14 +83,19 @@ marks_lacking F tag bits n front (Some x) (Some y) kind some to (inr lacks) =
 
 -- a byte by its bit
 
-pub clear_byte : (bits : ℕ) (old : Option (List ℕ)) → bits % 2 ≡ 0 → Known old old (MarkedAt bits (0 ∷ []))
-clear_byte bits old clear = Known-refl (MarkedAt bits (0 ∷ [])) old (λ x. (ap (λ k. ((if k == 1 then 0 ∷ [] else []) ++ []) ++ x) (sym clear), subst (λ k. AreZero ((if k == 0 then 0 ∷ [] else []) ++ [])) (sym clear) (refl, tt)))
+pub clear_byte : (bits : ℕ) (old : Option (List ℕ)) → bits % 2 ≡ 0 → IfKnown old old (MarkedAt bits (0 ∷ []))
+clear_byte bits old clear =
+    IfKnown-refl (MarkedAt bits (0 ∷ [])) old
+    (λ x. (ap (λ k. ((if k == 1 then 0 ∷ [] else []) ++ []) ++ x) (sym clear), subst (λ k. AreZero ((if k == 0 then 0 ∷ [] else []) ++ [])) (sym clear) (refl, tt)))
 
 odd_bit : (bits : ℕ) → (bits % 2 ≡ 0 → ⊥) → bits % 2 ≡ 1
 odd_bit bits set = omega arith
 
-pub set_byte : (bits byte : ℕ) (old new : Option (List ℕ)) → (bits % 2 ≡ 0 → ⊥) → Known old new (λ raw left. raw ≡ byte ∷ left) → Known old new (MarkedAt bits (byte ∷ []))
-set_byte bits byte old new set found = Known-weaker old new (λ x y e. (e ∙ ap (λ k. ((if k == 1 then byte ∷ [] else []) ++ []) ++ y) (sym (odd_bit bits set)), subst (λ k. AreZero ((if k == 0 then byte ∷ [] else []) ++ [])) (sym (odd_bit bits set)) tt)) found
+pub set_byte : (bits byte : ℕ) (old new : Option (List ℕ)) → (bits % 2 ≡ 0 → ⊥) → IfKnown old new (λ raw left. raw ≡ byte ∷ left) → IfKnown old new (MarkedAt bits (byte ∷ []))
+set_byte bits byte old new set found = IfKnown-weaker old new (λ x y e. (
+  e ∙ ap (λ k. ((if k == 1 then byte ∷ [] else []) ++ []) ++ y) (sym (odd_bit bits set)),
+  subst (λ k. AreZero ((if k == 0 then byte ∷ [] else []) ++ [])) (sym (odd_bit bits set)) tt,
+)) found
 
 marked_count-set : (bits : ℕ) → (bits % 2 ≡ 0 → ⊥) → marked_count bits 1 ≡ 1
 marked_count-set bits set = ap (λ k. length {A = ℕ} ((if k == 1 then 0 ∷ [] else []) ++ [])) (odd_bit bits set)

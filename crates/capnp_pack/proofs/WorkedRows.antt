@@ -7,7 +7,7 @@ use Rattle.capnp_pack.specs.Piece.{IsPiece}
 use Rattle.capnp_pack.specs.Packed.{Packs}
 use Rattle.capnp_pack.specs.PackedFrame.{IsPackedFrame}
 use Rattle.capnp_pack.specs.PackedSource.{IsFault, RefusesPiece}
-use Rattle.capnp_pack.specs.Unpacking.{zero_words}
+use Rattle.capnp_pack.specs.UnpackingLaws.{zero_words}
 
 abbrev eight : List ℕ
 eight = 1 ∷ 2 ∷ 3 ∷ 4 ∷ 5 ∷ 6 ∷ 7 ∷ 8 ∷ []
@@ -19,7 +19,13 @@ pub many_zero_words : Packs (replicate 2064 0) (0 ∷ 255 ∷ 0 ∷ 1 ∷ [])
 many_zero_words = record { groups = zeros 255 ∷ zeros 1 ∷ []; each = (lit< tt, (lit< tt, tt)); longest = (λ h. absurd (omega arith), (λ _. tt, tt)); spelled = refl; unpacked = refl }
 
 pub tagged_word : Packs (0 ∷ 0 ∷ 12 ∷ 0 ∷ 0 ∷ 34 ∷ 0 ∷ 0 ∷ []) (0x24 ∷ 12 ∷ 34 ∷ [])
-tagged_word = record { groups = tagged 0x24 (0 ∷ 0 ∷ 12 ∷ 0 ∷ 0 ∷ 34 ∷ 0 ∷ 0 ∷ []) ∷ []; each = ((lit< tt, lit< tt, refl, (refl, (refl, (refl, (refl, (refl, (refl, tt))))))), tt); longest = ((lit< tt, (lit< tt, tt)), tt); spelled = refl; unpacked = refl }
+tagged_word = record {
+  groups = tagged 0x24 (0 ∷ 0 ∷ 12 ∷ 0 ∷ 0 ∷ 34 ∷ 0 ∷ 0 ∷ []) ∷ [];
+  each = ((lit< tt, lit< tt, refl, (refl, (refl, (refl, (refl, (refl, (refl, tt))))))), tt);
+  longest = ((lit< tt, (lit< tt, tt)), tt);
+  spelled = refl;
+  unpacked = refl;
+}
 
 pub no_words : Packs [] []
 no_words = record { groups = []; each = tt; longest = tt; spelled = refl; unpacked = refl }
@@ -27,7 +33,8 @@ no_words = record { groups = []; each = tt; longest = tt; spelled = refl; unpack
 abbrev mixed : List Group
 mixed = literal eight (eight ∷ (6 ∷ 2 ∷ 4 ∷ 3 ∷ 9 ∷ 0 ∷ 5 ∷ 1 ∷ []) ∷ eight ∷ []) ∷ tagged 0xd6 (0 ∷ 2 ∷ 4 ∷ 0 ∷ 9 ∷ 0 ∷ 5 ∷ 1 ∷ []) ∷ []
 
-pub literal_run : Packs (eight ++ eight ++ 6 ∷ 2 ∷ 4 ∷ 3 ∷ 9 ∷ 0 ∷ 5 ∷ 1 ∷ eight ++ 0 ∷ 2 ∷ 4 ∷ 0 ∷ 9 ∷ 0 ∷ 5 ∷ 1 ∷ []) (0xff ∷ eight ++ 3 ∷ eight ++ 6 ∷ 2 ∷ 4 ∷ 3 ∷ 9 ∷ 0 ∷ 5 ∷ 1 ∷ eight ++ 0xd6 ∷ 2 ∷ 4 ∷ 9 ∷ 5 ∷ 1 ∷ [])
+pub literal_run : Packs (eight ++ eight ++ 6 ∷ 2 ∷ 4 ∷ 3 ∷ 9 ∷ 0 ∷ 5 ∷ 1 ∷ eight ++ 0 ∷ 2 ∷ 4 ∷ 0 ∷ 9 ∷ 0 ∷ 5 ∷ 1 ∷ [])
+    (0xff ∷ eight ++ 3 ∷ eight ++ 6 ∷ 2 ∷ 4 ∷ 3 ∷ 9 ∷ 0 ∷ 5 ∷ 1 ∷ eight ++ 0xd6 ∷ 2 ∷ 4 ∷ 9 ∷ 5 ∷ 1 ∷ [])
 literal_run = record {
   groups = mixed;
   each = ((refl, (refl, (refl, (refl, tt))), lit< tt), ((lit< tt, lit< tt, refl, (refl, (refl, (refl, tt)))), tt));
@@ -54,7 +61,12 @@ five_packed = record {
   first_text = 0x11 ∷ 4 ∷ 1 ∷ [];
   others_text = 0 ∷ 1 ∷ [];
   segments_text = 0 ∷ 0 ∷ [];
-  first_packed = record { groups = tagged 0x11 (4 ∷ 0 ∷ 0 ∷ 0 ∷ 1 ∷ 0 ∷ 0 ∷ 0 ∷ []) ∷ []; each = ((lit< tt, lit< tt, refl, (refl, (refl, (refl, (refl, (refl, (refl, tt))))))), tt); spelled = refl; unpacked = refl };
+  first_packed = record {
+    groups = tagged 0x11 (4 ∷ 0 ∷ 0 ∷ 0 ∷ 1 ∷ 0 ∷ 0 ∷ 0 ∷ []) ∷ [];
+    each = ((lit< tt, lit< tt, refl, (refl, (refl, (refl, (refl, (refl, (refl, tt))))))), tt);
+    spelled = refl;
+    unpacked = refl;
+  };
   others_packed = record { groups = zeros 1 ∷ []; each = (lit< tt, tt); spelled = refl; unpacked = refl };
   segments_packed = record { groups = zeros 0 ∷ []; each = (lit< tt, tt); spelled = refl; unpacked = refl };
   spelled = refl;
@@ -69,13 +81,22 @@ first raw n kind whole more some fault =
     inr (λ part. part whole, inr (more, record { groups = []; each = tt; left = raw; spelled = refl; fewer = some; fault = subst (λ k. IsFault raw k kind) same fault }))
 
 pub run_cut : RefusesPiece (255 ∷ eight ++ 1 ∷ 1 ∷ 2 ∷ []) 16 FailedToFillTheWholeBuffer
-run_cut = first (255 ∷ eight ++ 1 ∷ 1 ∷ 2 ∷ []) 16 _ refl (λ e. cc) (lit< tt) (inr (inr (record { group = literal eight (eight ∷ []); behind = 1 ∷ 2 ∷ []; head = record { is = (refl, (refl, tt), lit< tt); spelled = refl }; fits = lit≤ tt; short = lit< tt }, refl)))
+run_cut = first (255 ∷ eight ++ 1 ∷ 1 ∷ 2 ∷ []) 16 _ refl (λ e. cc) (lit< tt) (inr (inr (
+  record { group = literal eight (eight ∷ []); behind = 1 ∷ 2 ∷ []; head = record { is = (refl, (refl, tt), lit< tt); spelled = refl }; fits = lit≤ tt; short = lit< tt },
+  refl,
+)))
 
 pub run_long : RefusesPiece (255 ∷ eight ++ 37 ∷ 1 ∷ 2 ∷ []) 200 PackedInputDidNotEndCleanlyOnASegmentBoundary
-run_long = first (255 ∷ eight ++ 37 ∷ 1 ∷ 2 ∷ []) 200 _ refl (λ e. cc) (lit< tt) (inr (inl (record { group = literal eight (replicate 37 zero_word); behind = 1 ∷ 2 ∷ []; head = record { is = (refl, zero_words 37, lit< tt); spelled = refl }; long = lit< tt }, refl)))
+run_long = first (255 ∷ eight ++ 37 ∷ 1 ∷ 2 ∷ []) 200 _ refl (λ e. cc) (lit< tt) (inr (inl (
+  record { group = literal eight (replicate 37 zero_word); behind = 1 ∷ 2 ∷ []; head = record { is = (refl, zero_words 37, lit< tt); spelled = refl }; long = lit< tt },
+  refl,
+)))
 
 pub byte_missing : RefusesPiece (0xf0 ∷ 1 ∷ 2 ∷ []) 200 PrematureEndOfPackedInput
-byte_missing = first (0xf0 ∷ 1 ∷ 2 ∷ []) 200 _ refl (λ e. cc) (lit< tt) (inl (record { group = tagged 0xf0 (0 ∷ 0 ∷ 0 ∷ 0 ∷ 1 ∷ 2 ∷ 0 ∷ 0 ∷ []); is = (lit< tt, lit< tt, refl, (refl, (refl, (refl, (refl, tt))))); missing = 0 ∷ 0 ∷ []; some = lit< tt; spelled = refl }, refl))
+byte_missing = first (0xf0 ∷ 1 ∷ 2 ∷ []) 200 _ refl (λ e. cc) (lit< tt) (inl (
+  record { group = tagged 0xf0 (0 ∷ 0 ∷ 0 ∷ 0 ∷ 1 ∷ 2 ∷ 0 ∷ 0 ∷ []); is = (lit< tt, lit< tt, refl, (refl, (refl, (refl, (refl, tt))))); missing = 0 ∷ 0 ∷ []; some = lit< tt; spelled = refl },
+  refl,
+))
 
 pub count_missing : RefusesPiece (0 ∷ []) 200 PrematureEndOfPackedInput
 count_missing = first (0 ∷ []) 200 _ refl (λ e. cc) (lit< tt) (inl (record { group = zeros 0; is = lit< tt; missing = 0 ∷ []; some = lit< tt; spelled = refl }, refl))

@@ -5,5 +5,5 @@ pub mod PackedFrame
 pub mod PackedSource
 pub mod PackedSink
 pub mod Steps
-pub mod Unpacking
-pub mod Refusing
+pub mod UnpackingLaws
+pub mod RefusingLaws

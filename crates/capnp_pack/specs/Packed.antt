@@ -2,7 +2,7 @@
 use Rattle.std.specs.Prelude.{◌≡◌, ◌≢◌, ℕ, ◌<◌, ◌≤◌, List, [], ◌∷◌, length, ⊤}
 use Rattle.std.specs.List.{concat, AllByRecursion}
 use Rattle.capnp_pack.specs.Group.{Group, tagged, zeros, literal, IsGroup, zero_word, zero_bytes, marked}
-use Rattle.capnp_pack.specs.Piece.{text_of, words_of}
+use Rattle.capnp_pack.specs.Piece.{text_of, words_of_groups}
 
 -- P holds of the first of the words, if there is one
 abbrev pub IfFirst : List (List ℕ) → (List ℕ → Type 0) → Type 0
@@ -22,7 +22,7 @@ IsLongest (literal word further) next = (zero_bytes word ≡ 0)
 
 abbrev pub AreLongest : List Group → Type 0
 AreLongest [] = ⊤
-AreLongest (group ∷ groups) = IsLongest group (words_of groups) × AreLongest groups
+AreLongest (group ∷ groups) = IsLongest group (words_of_groups groups) × AreLongest groups
 
 -- The text is the one that a packer makes of the bytes.
 pub record Packs (bytes text : List ℕ) : Type 0 where
@@ -30,4 +30,4 @@ pub record Packs (bytes text : List ℕ) : Type 0 where
   pub each : AllByRecursion IsGroup groups
   pub longest : AreLongest groups
   pub spelled : text ≡ text_of groups
-  pub unpacked : bytes ≡ concat (words_of groups)
+  pub unpacked : bytes ≡ concat (words_of_groups groups)

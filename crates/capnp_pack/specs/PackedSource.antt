@@ -6,13 +6,13 @@ use Rattle.capnp_frame.specs.declared.error.ErrorKind.TheVariants.{FailedToFillT
 use Rattle.capnp_frame.specs.Refusals.{Unless}
 use Rattle.capnp_frame.specs.Source.{Giving, Refusing}
 use Rattle.capnp_pack.specs.Group.{Group, tagged, zeros, literal, IsGroup, group_words, marked}
-use Rattle.capnp_pack.specs.Piece.{IsPiece, text_of, words_of}
+use Rattle.capnp_pack.specs.Piece.{IsPiece, text_of, words_of_groups}
 
 -- a packed request takes a piece of n bytes
 abbrev pub Unpacks : Giving
 Unpacks raw n bytes rest = (text : List ℕ) × IsPiece text bytes × (raw ≡ text ++ rest) × (length bytes ≡ n)
 
--- A group's text is its head, and behind the count of a literal group its run.
+-- A group's text is its head, and after the count of a literal group its run.
 abbrev pub head_text : Group → List ℕ
 head_text (tagged tag word) = tag ∷ marked tag word
 head_text (zeros further) = 0 ∷ further ∷ []
@@ -67,8 +67,8 @@ pub record MeetsFault (raw : List ℕ) (n : ℕ) (kind : ErrorKind) : Type 0 whe
   pub each : AllByRecursion IsGroup groups
   pub left : List ℕ
   pub spelled : raw ≡ text_of groups ++ left
-  pub fewer : length (concat (words_of groups)) < n
-  pub fault : IsFault left (n - length (concat (words_of groups))) kind
+  pub fewer : length (concat (words_of_groups groups)) < n
+  pub fault : IsFault left (n - length (concat (words_of_groups groups))) kind
 
 -- a packed request is refused: the lines of the table of a piece (docs/REFUSALS.md)
 abbrev pub RefusesPiece : Refusing

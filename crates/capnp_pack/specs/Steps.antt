@@ -1,13 +1,14 @@
 -- What the steps of a reader and of a packer do.
-use Rattle.std.specs.Prelude.{◌≡◌, ℕ, ◌+◌, ◌*◌, ◌<◌, ◌≤◌, ◌⊎◌, List, [], ◌∷◌, ◌++◌, length, take, drop, replicate, not, ◌==◌, if◌then◌else◌, Option, IfSome}
+use Rattle.std.specs.Prelude.{◌≡◌, ℕ, ◌+◌, ◌*◌, ◌%◌, ◌<◌, ◌≤◌, ◌⊎◌, List, [], ◌∷◌, ◌++◌, length, take, drop, replicate, not, ◌==◌, if◌then◌else◌, Option, IfSome}
 use Rattle.std.specs.List.{concat, filter, AllByRecursion}
 use Rattle.capnp_frame.specs.declared.error.ErrorKind.{ErrorKind}
 use Rattle.capnp_frame.specs.declared.error.ErrorKind.TheVariants.{PrematureEndOfPackedInput, PackedInputDidNotEndCleanlyOnASegmentBoundary}
 use Rattle.capnp_frame.specs.Sink.{Appending, AppendsAll}
-use Rattle.capnp_frame.specs.Source.{Refusing, RunsShort}
+use Rattle.capnp_frame.specs.Source.{Refusing, RunsShort, IfKnown, AnswersPart}
 use Rattle.capnp_pack.specs.Group.{Group, IsGroup, AreZero, group_text, group_words, marked, unmarked, zero_bytes, zero_word}
+use Rattle.capnp_pack.specs.Piece.{IsPiece}
 use Rattle.capnp_pack.specs.Packed.{IfFirst, IsLongest}
-use Rattle.capnp_pack.specs.PackedSource.{MeetsFault}
+use Rattle.capnp_pack.specs.PackedSource.{Unpacks, MeetsFault}
 
 -- Reading
 
@@ -41,6 +42,29 @@ RefusesRun raw n kind = ((raw ≡ []) × (kind ≡ PrematureEndOfPackedInput))
     ⊎ ((further : ℕ) × (left : List ℕ) × (further < 256) × (raw ≡ further ∷ left)
     × (((n < 8 * further) × (kind ≡ PackedInputDidNotEndCleanlyOnASegmentBoundary)) ⊎ ((8 * further ≤ n) × RunsShort left (8 * further) kind)))
 
+-- So many bytes after a tag end its group, which fills so many bytes of a buffer.
+pub record GroupBehind (tag : ℕ) (behind buffer : List ℕ) (used filled : ℕ) : Type 0 where
+  pub used_within : used ≤ length behind
+  pub some : 0 < filled
+  pub filled_within : filled ≤ length buffer
+  pub whole : filled % 8 ≡ 0
+  pub group : GroupAt tag (take filled buffer) behind (drop used behind)
+
+-- So many bytes of a text are groups, which fill so many bytes of a buffer.
+pub record Unpacked (text buffer : List ℕ) (used filled : ℕ) : Type 0 where
+  pub used_within : used ≤ length text
+  pub some : 0 < filled → 0 < used
+  pub filled_within : filled ≤ length buffer
+  pub whole : filled % 8 ≡ 0
+  pub piece : IsPiece (take used text) (take filled buffer)
+
+-- So many bytes at the front of a buffer are the words of groups, a part of each answer that they
+-- fit into, and something was unread before them.
+abbrev pub TakesGroups : Option (List ℕ) → Option (List ℕ) → List ℕ → ℕ → Type 0
+TakesGroups old new buffer count = (0 < count) × (count ≤ length buffer) × (count % 8 ≡ 0)
+    × IfSome old (λ raw. raw ≡ [] → ⊥)
+    × IfKnown old new (AnswersPart Unpacks MeetsFault (length buffer) (take count buffer))
+
 -- Packing
 
 abbrev pub IsZero : List ℕ → Type 0
@@ -64,14 +88,14 @@ pub record IsRun (P : List ℕ → Type 0) (words : List (List ℕ)) (count : �
   pub each : AllByRecursion P (take count words)
   pub ends : count < 255 → IfFirst (drop count words) (λ word. P word → ⊥)
 
--- The group that a packer makes of a word and so many of those behind it.
+-- The group that a packer makes of a word and so many of those after it.
 pub record IsGroupOf (word : List ℕ) (others : List (List ℕ)) (count : ℕ) (group : Group) : Type 0 where
   pub within : count ≤ length others
   pub is : IsGroup group
   pub words : group_words group ≡ word ∷ take count others
   pub longest : IsLongest group (drop count others)
 
--- Of a buffer's bytes and a text behind them, some parts are handed on, and the buffer keeps the rest.
+-- Of a buffer's bytes and a text after them, some parts are handed on, and the buffer keeps the rest.
 pub record Hands (appends : Appending) (old text new before after : List ℕ) : Type 0 where
   pub parts : List (List ℕ)
   pub handed : List ℕ

@@ -1,94 +1,109 @@
 //! Packed bytes on their way to a sink.
-ghost use Rattle.std.specs.Prelude.{◌≡◌, ◌<◌, ◌≤◌, List, [], ◌∷◌, ◌++◌, ℕ, IfErr, OnOk, length, take, ◌⊎◌};
+//!
+//! They are collected in 64 bytes, of which so many are used. A group adds at most 10 of them: a
+//! tag, a word and a count.
+ghost use Rattle.std.specs.Prelude.{◌≡◌, ◌+◌, ◌<◌, ◌≤◌, [], ◌∷◌, ◌++◌, IfOk, IfErr, OnOk, length, take, ◌⊎◌, count_ones};
 ghost use Rattle.capnp_frame.specs.declared.error.ErrorKind.{ErrorKind};
-ghost use Rattle.capnp_frame.specs.Source.{Known, Fails};
+ghost use Rattle.capnp_frame.specs.Source.{IfKnown, Fails};
 ghost use Rattle.capnp_frame.specs.Sink.{DeclinesAny, Grows};
-ghost use Rattle.capnp_pack.specs.Steps.{Hands, nonzero};
+ghost use Rattle.capnp_pack.specs.Steps.{Hands, nonzero, tag_of};
 
+use crate::marks::MARKS;
 use capnp_frame::Result;
 use capnp_frame::io::Write;
-use std::marker::Model;
+use std::simd::prelude::*;
 
-// Packed bytes that are still to be handed on. A group adds at most 10 of them: a tag, a word and a
-// count.
-#[derive(Drop)]
-pub(crate) struct Buffer {
-    bytes: [u8; 64],
-    used: usize,
+// Makes room for a tag, a word and a count, and answers how many bytes are then used.
+#[inline(always)]
+pub(crate) fn make_room<W: Write>(sink: &mut W, bytes: &[u8; 64], used: usize) -> Result<usize>
+    requires { used ≤ 64 }
+    ensures room { IfOk result (λ left. left ≤ 54) }
+    ensures handed { IfOk result (λ left. IfKnown (W.written sink.old) (W.written sink.new)
+        (Hands W.appends (take used bytes.now) [] (take left bytes.now))) }
+    ensures refused { IfErr result (λ error. (error.kind ≡ ErrorKind.DeviceFailed)
+        ⊎ DeclinesAny W.refuses error.kind) }
+    ensures failed { IfErr result (λ error. error.kind ≡ ErrorKind.DeviceFailed →
+        Fails (W.failures sink.old) (W.failures sink.new)) }
+    ensures grows { Grows W.written W.failures W.same sink.old sink.new }
+{
+    if used <= 54 {
+        return Ok(used);
+    }
+    flush(sink, bytes, used)?;
+    Ok(0)
 }
 
-impl Model for Buffer {
-    ghost Value = { List ℕ };
-
-    ghost view = { λ buffer. take buffer.used buffer.bytes };
-
-    ghost invariant = { λ buffer. buffer.used ≤ 64 };
+// Hands on what is used.
+#[inline(always)]
+pub(crate) fn flush<W: Write>(sink: &mut W, bytes: &[u8; 64], used: usize) -> Result<()>
+    requires { used ≤ 64 }
+    ensures handed { OnOk result (IfKnown (W.written sink.old) (W.written sink.new)
+        (Hands W.appends (take used bytes.now) [] [])) }
+    ensures refused { IfErr result (λ error. (error.kind ≡ ErrorKind.DeviceFailed)
+        ⊎ DeclinesAny W.refuses error.kind) }
+    ensures failed { IfErr result (λ error. error.kind ≡ ErrorKind.DeviceFailed →
+        Fails (W.failures sink.old) (W.failures sink.new)) }
+    ensures grows { Grows W.written W.failures W.same sink.old sink.new }
+{
+    if used == 0 {
+        return Ok(());
+    }
+    sink.write_all(&bytes[..used])
 }
 
-impl Buffer {
-    pub(crate) fn new() -> Buffer
-        ensures { result ≡ [] }
-    {
-        Buffer {
-            bytes: [0; 64],
-            used: 0,
-        }
-    }
+// Adds a byte, and answers how many are then used.
+#[inline(always)]
+pub(crate) fn push(bytes: &mut [u8; 64], used: usize, byte: u8) -> usize
+    requires { used < 64 }
+    ensures used { result ≡ used + 1 }
+    ensures added { take result bytes.new ≡ take used bytes.old ++ byte ∷ [] }
+{
+    bytes[used] = byte;
+    used + 1
+}
 
-    // Makes room for a tag, a word and a count.
-    pub(crate) fn make_room<W: Write>(&mut self, sink: &mut W) -> Result<()>
-        ensures room { OnOk result (length self.new ≤ 54) }
-        ensures handed { OnOk result (Known (W.written sink.old) (W.written sink.new)
-            (Hands W.appends self.old [] self.new)) }
-        ensures refused { IfErr result (λ error. (error.kind ≡ ErrorKind.DeviceFailed)
-            ⊎ DeclinesAny W.refuses error.kind) }
-        ensures failed { IfErr result (λ error. error.kind ≡ ErrorKind.DeviceFailed →
-            Fails (W.failures sink.old) (W.failures sink.new)) }
-        ensures grows { Grows W.written W.failures W.same sink.old sink.new }
-    {
-        if self.used <= 54 {
-            return Ok(());
-        }
-        self.flush(sink)
-    }
+// Adds a tag, and the bytes of a word that aren't zero. After them stands a zero, the count of a
+// run that is one word long.
+#[inline(always)]
+pub(crate) fn push_word(bytes: &mut [u8; 64], used: usize, tag: u8, word: &[u8; 8]) -> usize
+    requires room { used ≤ 54 }
+    requires tag { tag ≡ tag_of word.now }
+    ensures room { result < 64 }
+    ensures word { take result bytes.new ≡ take used bytes.old ++ tag ∷ nonzero word.now }
+    ensures zero { take (result + 1) bytes.new ≡ take result bytes.new ++ 0 ∷ [] }
+{
+    let end = push_front(bytes, used, tag, word);
+    bytes[end] = 0;
+    end
+}
 
-    pub(crate) fn push(&mut self, byte: u8)
-        requires { length self.old < 64 }
-        ensures { self.new ≡ self.old ++ byte ∷ [] }
-    {
-        self.bytes[self.used] = byte;
-        self.used += 1;
-    }
+// The same with nothing after them.
+#[inline(always)]
+fn push_front(bytes: &mut [u8; 64], used: usize, tag: u8, word: &[u8; 8]) -> usize
+    requires room { used ≤ 54 }
+    requires tag { tag ≡ tag_of word.now }
+    ensures room { result < 64 }
+    ensures word { take result bytes.new ≡ take used bytes.old ++ tag ∷ nonzero word.now }
+{
+    let front = nonzero_front(tag, word);
+    let at = push(bytes, used, tag);
+    bytes[at..at + 8].copy_from_slice(&front[..8]);
+    at + tag.count_ones() as usize
+}
 
-    // A tag, and the bytes of a word that aren't zero.
-    pub(crate) fn push_word(&mut self, tag: u8, word: &[u8; 8])
-        requires { length self.old ≤ 54 }
-        ensures word { self.new ≡ self.old ++ tag ∷ nonzero word.now }
-        ensures room { length self.new < 64 }
-    {
-        self.push(tag);
-        for byte in word {
-            self.bytes[self.used] = *byte;
-            self.used += usize::from(*byte != 0);
-        }
-    }
-
-    // Hands on all that is here.
-    pub(crate) fn flush<W: Write>(&mut self, sink: &mut W) -> Result<()>
-        ensures empty { OnOk result (self.new ≡ []) }
-        ensures handed { OnOk result (Known (W.written sink.old) (W.written sink.new)
-            (Hands W.appends self.old [] self.new)) }
-        ensures refused { IfErr result (λ error. (error.kind ≡ ErrorKind.DeviceFailed)
-            ⊎ DeclinesAny W.refuses error.kind) }
-        ensures failed { IfErr result (λ error. error.kind ≡ ErrorKind.DeviceFailed →
-            Fails (W.failures sink.old) (W.failures sink.new)) }
-        ensures grows { Grows W.written W.failures W.same sink.old sink.new }
-    {
-        if self.used == 0 {
-            return Ok(());
-        }
-        sink.write_all(&self.bytes[..self.used])?;
-        self.used = 0;
-        Ok(())
-    }
+// The bytes of a word that aren't zero, at the front.
+#[inline(always)]
+fn nonzero_front(tag: u8, word: &[u8; 8]) -> [u8; 16]
+    requires { tag ≡ tag_of word.now }
+    ensures counted { count_ones tag ≡ length (nonzero word.now) }
+    ensures few { count_ones tag ≤ 8 }
+    ensures front { take (count_ones tag) (take 8 result) ≡ nonzero word.now }
+{
+    let bytes = u8x16::from_array([
+        word[0], word[1], word[2], word[3], word[4], word[5], word[6], word[7], 0, 0, 0, 0, 0, 0,
+        0, 0,
+    ]);
+    bytes
+        .swizzle_dyn(u8x16::from_array(MARKS[tag as usize]))
+        .to_array()
 }

@@ -1,13 +1,16 @@
 //! Reading a piece group by group.
 //!
-//! One byte is looked at at a time, so just what a group has is consumed, wherever the source cuts.
-ghost use Rattle.std.specs.Prelude.{◌≡◌, ℕ, ◌<◌, ◌≤◌, ◌%◌, List, [], ◌∷◌, length, take, Option, Some, IfOk, IfErr, IfSome, IfNone, OnErr, OnOk, ◌⊎◌, ◌↔◌};
+//! What is shown whole is unpacked from there. A group that the source cuts is read a byte at a
+//! time, so just what it has is consumed, wherever the cut is.
+ghost use Rattle.std.specs.Prelude.{◌≡◌, ℕ, ◌<◌, ◌≤◌, ◌%◌, List, [], ◌∷◌, ◌++◌, length, take, Option, Some, IfOk, IfErr, IfSome, IfNone, OnOk, ◌⊎◌, ◌↔◌};
 ghost use Rattle.capnp_frame.specs.declared.error.ErrorKind.{ErrorKind};
 ghost use Rattle.capnp_frame.specs.Message.{IsWholeWords};
-ghost use Rattle.capnp_frame.specs.Source.{Known, Advances, Fails, IsRefused, Takes};
+ghost use Rattle.capnp_frame.specs.Source.{IfKnown, IsRefused, AnswersPart, RunsShort};
+ghost use Rattle.capnp_frame.specs.Asking.{Asked, FailsOr};
 ghost use Rattle.capnp_pack.specs.PackedSource.{Unpacks, MeetsFault, RefusesPiece};
-ghost use Rattle.capnp_pack.specs.Steps.{GroupAt, FaultBehind, MarkedAt, marked_count, Lacks, RunAt, RefusesRun};
+ghost use Rattle.capnp_pack.specs.Steps.{TakesGroups, GroupAt, FaultBehind, MarkedAt, marked_count, Lacks, RunAt, RefusesRun};
 
+use crate::unpack::{copy_front, unpack_shown, unpack_tagged};
 use capnp_frame::io::{BufRead, Read};
 use capnp_frame::{Error, ErrorKind, Result};
 
@@ -15,24 +18,22 @@ use capnp_frame::{Error, ErrorKind, Result};
 pub(crate) fn read_piece<R: BufRead>(source: &mut R, buffer: &mut [u8]) -> Result<usize>
     requires { IsWholeWords buffer.old }
     ensures whole { IfOk result (λ count. (count ≡ 0) ⊎ (count ≡ length buffer.new)) }
-    ensures taken { IfOk result (λ count. Known (R.unread source.old) (R.unread source.new)
-        (Takes Unpacks RefusesPiece (length buffer.new) (take count buffer.new))) }
+    ensures taken { IfOk result (λ count. IfKnown (R.unread source.old) (R.unread source.new)
+        (AnswersPart Unpacks RefusesPiece (length buffer.new) (take count buffer.new))) }
     ensures end { IfOk result (λ count. IfSome (R.unread source.old)
         (λ raw. 0 < length buffer.new → (count ≡ 0) ↔ (raw ≡ []))) }
     ensures spent { IfOk result (λ count. count ≡ 0 → 0 < length buffer.new →
         IsRefused RefusesPiece (length buffer.new) (R.unread source.old)
         ErrorKind.FailedToFillTheWholeBuffer) }
-    ensures refused { IfErr result (λ error. (error.kind ≡ ErrorKind.DeviceFailed)
-        ⊎ IsRefused RefusesPiece (length buffer.new) (R.unread source.old) error.kind) }
+    ensures refused { FailsOr result
+        (IsRefused RefusesPiece (length buffer.new) (R.unread source.old)) }
     ensures at_end { IfErr result (λ error. R.unread source.old ≡ Some [] →
         error.kind ≡ ErrorKind.DeviceFailed) }
-    ensures failed { IfErr result (λ error. error.kind ≡ ErrorKind.DeviceFailed →
-        Fails (R.failures source.old) (R.failures source.new)) }
-    ensures advances { Advances R.unread R.failures R.same source.old source.new }
+    ensures asked { Asked R.unread R.failures R.same source.old source.new result }
 {
     let mut filled = 0;
     while filled < buffer.len() {
-        match read_group(source, &mut buffer[filled..])? {
+        match read_groups(source, &mut buffer[filled..])? {
             Some(count) => filled += count,
             None if filled == 0 => return Ok(0),
             None => return Err(Error::from_kind(ErrorKind::PrematureEndOfPackedInput)),
@@ -41,24 +42,41 @@ pub(crate) fn read_piece<R: BufRead>(source: &mut R, buffer: &mut [u8]) -> Resul
     Ok(filled)
 }
 
-// Unpacks the next group into the front of the buffer, and answers how many bytes it has, or none
-// at the end.
-fn read_group<R: BufRead>(source: &mut R, buffer: &mut [u8]) -> Result<Option<usize>>
+// Unpacks the groups that the source shows into the front of the buffer, or where it shows none
+// whole the next one, and answers how many bytes they have, or none at the end.
+fn read_groups<R: BufRead>(source: &mut R, buffer: &mut [u8]) -> Result<Option<usize>>
     requires { 8 ≤ length buffer.old }
-    ensures found { IfOk result (λ found. IfSome found (λ count.
-        (0 < count) × (count ≤ length buffer.new) × (count % 8 ≡ 0)
-        × IfSome (R.unread source.old) (λ raw. raw ≡ [] → ⊥)
-        × Known (R.unread source.old) (R.unread source.new)
-        (Takes Unpacks MeetsFault (length buffer.new) (take count buffer.new)))) }
+    ensures found { IfOk result (λ found. IfSome found
+        (TakesGroups (R.unread source.old) (R.unread source.new) buffer.new)) }
     ensures none { IfOk result (λ found. IfNone found
         (IfSome (R.unread source.old) (λ raw. raw ≡ []))) }
-    ensures refused { IfErr result (λ error. (error.kind ≡ ErrorKind.DeviceFailed)
-        ⊎ IsRefused MeetsFault (length buffer.new) (R.unread source.old) error.kind) }
+    ensures refused { FailsOr result
+        (IsRefused MeetsFault (length buffer.new) (R.unread source.old)) }
     ensures at_end { IfErr result (λ error. R.unread source.old ≡ Some [] →
         error.kind ≡ ErrorKind.DeviceFailed) }
-    ensures failed { IfErr result (λ error. error.kind ≡ ErrorKind.DeviceFailed →
-        Fails (R.failures source.old) (R.failures source.new)) }
-    ensures advances { Advances R.unread R.failures R.same source.old source.new }
+    ensures asked { Asked R.unread R.failures R.same source.old source.new result }
+{
+    let taken = unpack_shown(source.fill_buf()?, buffer);
+    if taken.filled == 0 {
+        return read_group(source, buffer);
+    }
+    source.consume(taken.used);
+    Ok(Some(taken.filled))
+}
+
+// Unpacks the next group into the front of the buffer, and answers how many bytes it has, or none
+// at the end. One byte is looked at at a time.
+fn read_group<R: BufRead>(source: &mut R, buffer: &mut [u8]) -> Result<Option<usize>>
+    requires { 8 ≤ length buffer.old }
+    ensures found { IfOk result (λ found. IfSome found
+        (TakesGroups (R.unread source.old) (R.unread source.new) buffer.new)) }
+    ensures none { IfOk result (λ found. IfNone found
+        (IfSome (R.unread source.old) (λ raw. raw ≡ []))) }
+    ensures refused { FailsOr result
+        (IsRefused MeetsFault (length buffer.new) (R.unread source.old)) }
+    ensures at_end { IfErr result (λ error. R.unread source.old ≡ Some [] →
+        error.kind ≡ ErrorKind.DeviceFailed) }
+    ensures asked { Asked R.unread R.failures R.same source.old source.new result }
 {
     let Some(tag) = next_byte(source)? else {
         return Ok(None);
@@ -70,18 +88,16 @@ fn read_group<R: BufRead>(source: &mut R, buffer: &mut [u8]) -> Result<Option<us
     Ok(Some(count))
 }
 
-// Unpacks zero words behind their tag.
+// Unpacks zero words after their tag.
 fn read_zeros<R: BufRead>(source: &mut R, buffer: &mut [u8]) -> Result<usize>
     requires room { 8 ≤ length buffer.old }
     ensures within { IfOk result (λ count. (0 < count) × (count ≤ length buffer.new)
         × (count % 8 ≡ 0)) }
-    ensures found { IfOk result (λ count. Known (R.unread source.old) (R.unread source.new)
+    ensures found { IfOk result (λ count. IfKnown (R.unread source.old) (R.unread source.new)
         (GroupAt 0 (take count buffer.new))) }
-    ensures refused { IfErr result (λ error. (error.kind ≡ ErrorKind.DeviceFailed)
-        ⊎ IsRefused (FaultBehind 0) (length buffer.new) (R.unread source.old) error.kind) }
-    ensures failed { IfErr result (λ error. error.kind ≡ ErrorKind.DeviceFailed →
-        Fails (R.failures source.old) (R.failures source.new)) }
-    ensures advances { Advances R.unread R.failures R.same source.old source.new }
+    ensures refused { FailsOr result
+        (IsRefused (FaultBehind 0) (length buffer.new) (R.unread source.old)) }
+    ensures asked { Asked R.unread R.failures R.same source.old source.new result }
 {
     let Some(further) = next_byte(source)? else {
         return Err(Error::from_kind(ErrorKind::PrematureEndOfPackedInput));
@@ -94,21 +110,19 @@ fn read_zeros<R: BufRead>(source: &mut R, buffer: &mut [u8]) -> Result<usize>
     Ok(count)
 }
 
-// Unpacks the words of another group behind its tag.
+// Unpacks the words of another group after its tag.
 fn read_words<R: BufRead>(source: &mut R, tag: u8, buffer: &mut [u8]) -> Result<usize>
     requires tag { 0 < tag }
     requires room { 8 ≤ length buffer.old }
     ensures within { IfOk result (λ count. (0 < count) × (count ≤ length buffer.new)
         × (count % 8 ≡ 0)) }
-    ensures found { IfOk result (λ count. Known (R.unread source.old) (R.unread source.new)
+    ensures found { IfOk result (λ count. IfKnown (R.unread source.old) (R.unread source.new)
         (GroupAt tag (take count buffer.new))) }
-    ensures refused { IfErr result (λ error. (error.kind ≡ ErrorKind.DeviceFailed)
-        ⊎ IsRefused (FaultBehind tag) (length buffer.new) (R.unread source.old) error.kind) }
-    ensures failed { IfErr result (λ error. error.kind ≡ ErrorKind.DeviceFailed →
-        Fails (R.failures source.old) (R.failures source.new)) }
-    ensures advances { Advances R.unread R.failures R.same source.old source.new }
+    ensures refused { FailsOr result
+        (IsRefused (FaultBehind tag) (length buffer.new) (R.unread source.old)) }
+    ensures asked { Asked R.unread R.failures R.same source.old source.new result }
 {
-    read_marked(source, tag, &mut buffer[..8])?;
+    read_word(source, tag, &mut buffer[..8])?;
     if tag < 255 {
         return Ok(8);
     }
@@ -116,15 +130,31 @@ fn read_words<R: BufRead>(source: &mut R, tag: u8, buffer: &mut [u8]) -> Result<
     Ok(8 + count)
 }
 
-// Fills a word by the bytes that a tag marks.
-fn read_marked<R: BufRead>(source: &mut R, tag: u8, word: &mut [u8]) -> Result<()>
-    ensures found { OnOk result (Known (R.unread source.old) (R.unread source.new)
+// Fills a word by the bytes that a tag marks, at once where they are shown.
+fn read_word<R: BufRead>(source: &mut R, tag: u8, word: &mut [u8]) -> Result<()>
+    requires { length word.old ≡ 8 }
+    ensures found { OnOk result (IfKnown (R.unread source.old) (R.unread source.new)
         (MarkedAt tag word.new)) }
-    ensures refused { IfErr result (λ error. (error.kind ≡ ErrorKind.DeviceFailed)
-        ⊎ Lacks (marked_count tag (length word.new)) (R.unread source.old) error.kind) }
-    ensures failed { IfErr result (λ error. error.kind ≡ ErrorKind.DeviceFailed →
-        Fails (R.failures source.old) (R.failures source.new)) }
-    ensures advances { Advances R.unread R.failures R.same source.old source.new }
+    ensures refused { FailsOr result
+        (Lacks (marked_count tag (length word.new)) (R.unread source.old)) }
+    ensures asked { Asked R.unread R.failures R.same source.old source.new result }
+{
+    let shown = source.fill_buf()?;
+    if shown.len() < 8 {
+        return read_marked(source, tag, word);
+    }
+    let used = unpack_tagged(tag, shown, word);
+    source.consume(used);
+    Ok(())
+}
+
+// The same byte by byte, with a look at the source for each.
+fn read_marked<R: BufRead>(source: &mut R, tag: u8, word: &mut [u8]) -> Result<()>
+    ensures found { OnOk result (IfKnown (R.unread source.old) (R.unread source.new)
+        (MarkedAt tag word.new)) }
+    ensures refused { FailsOr result
+        (Lacks (marked_count tag (length word.new)) (R.unread source.old)) }
+    ensures asked { Asked R.unread R.failures R.same source.old source.new result }
 {
     let mut bits = tag;
     for byte in word.iter_mut() {
@@ -136,13 +166,10 @@ fn read_marked<R: BufRead>(source: &mut R, tag: u8, word: &mut [u8]) -> Result<(
 
 // Reads a byte where the lowest of the bits marks it, else answers zero.
 fn read_byte<R: BufRead>(source: &mut R, bits: u8) -> Result<u8>
-    ensures found { IfOk result (λ byte. Known (R.unread source.old) (R.unread source.new)
+    ensures found { IfOk result (λ byte. IfKnown (R.unread source.old) (R.unread source.new)
         (MarkedAt bits (byte ∷ []))) }
-    ensures refused { IfErr result (λ error. (error.kind ≡ ErrorKind.DeviceFailed)
-        ⊎ Lacks (marked_count bits 1) (R.unread source.old) error.kind) }
-    ensures failed { IfErr result (λ error. error.kind ≡ ErrorKind.DeviceFailed →
-        Fails (R.failures source.old) (R.failures source.new)) }
-    ensures advances { Advances R.unread R.failures R.same source.old source.new }
+    ensures refused { FailsOr result (Lacks (marked_count bits 1) (R.unread source.old)) }
+    ensures asked { Asked R.unread R.failures R.same source.old source.new result }
 {
     if bits % 2 == 0 {
         return Ok(0);
@@ -150,35 +177,65 @@ fn read_byte<R: BufRead>(source: &mut R, bits: u8) -> Result<u8>
     required_byte(source)
 }
 
-// Reads the words behind the first of a literal group, and answers how many bytes they have.
+// Reads the words after the first of a literal group, and answers how many bytes they have.
 fn read_run<R: BufRead>(source: &mut R, buffer: &mut [u8]) -> Result<usize>
     ensures within { IfOk result (λ count. (count ≤ length buffer.new) × (count % 8 ≡ 0)) }
-    ensures found { IfOk result (λ count. Known (R.unread source.old) (R.unread source.new)
+    ensures found { IfOk result (λ count. IfKnown (R.unread source.old) (R.unread source.new)
         (RunAt (take count buffer.new))) }
-    ensures refused { IfErr result (λ error. (error.kind ≡ ErrorKind.DeviceFailed)
-        ⊎ IsRefused RefusesRun (length buffer.new) (R.unread source.old) error.kind) }
-    ensures failed { IfErr result (λ error. error.kind ≡ ErrorKind.DeviceFailed →
-        Fails (R.failures source.old) (R.failures source.new)) }
-    ensures advances { Advances R.unread R.failures R.same source.old source.new }
+    ensures refused { FailsOr result
+        (IsRefused RefusesRun (length buffer.new) (R.unread source.old)) }
+    ensures asked { Asked R.unread R.failures R.same source.old source.new result }
 {
     let further = required_byte(source)?;
     let count = 8 * further as usize;
     if count > buffer.len() {
         return Err(Error::from_kind(ErrorKind::PackedInputDidNotEndCleanlyOnASegmentBoundary));
     }
-    source.read_exact(&mut buffer[..count])?;
+    read_stored(source, &mut buffer[..count])?;
+    Ok(count)
+}
+
+// Fills the buffer by the bytes as they stand: what is shown is copied, and the rest is read by one
+// request.
+fn read_stored<R: BufRead>(source: &mut R, buffer: &mut [u8]) -> Result<()>
+    ensures found { OnOk result (IfKnown (R.unread source.old) (R.unread source.new)
+        (λ raw left. raw ≡ buffer.new ++ left)) }
+    ensures refused { FailsOr result
+        (IsRefused RunsShort (length buffer.new) (R.unread source.old)) }
+    ensures asked { Asked R.unread R.failures R.same source.old source.new result }
+{
+    if buffer.is_empty() {
+        return Ok(());
+    }
+    let copied = copy_shown(source, buffer)?;
+    if copied == buffer.len() {
+        return Ok(());
+    }
+    source.read_exact(&mut buffer[copied..])?;
+    Ok(())
+}
+
+// Copies what is shown into the front of the buffer, and answers how many bytes they are.
+fn copy_shown<R: BufRead>(source: &mut R, buffer: &mut [u8]) -> Result<usize>
+    ensures within { IfOk result (λ count. count ≤ length buffer.new) }
+    ensures found { IfOk result (λ count. IfKnown (R.unread source.old) (R.unread source.new)
+        (λ raw left. raw ≡ take count buffer.new ++ left)) }
+    ensures refused { IfErr result (λ error. error.kind ≡ ErrorKind.DeviceFailed) }
+    ensures asked { Asked R.unread R.failures R.same source.old source.new result }
+{
+    let shown = source.fill_buf()?;
+    let count = shown.len().min(buffer.len());
+    copy_front(count, shown, buffer);
+    source.consume(count);
     Ok(count)
 }
 
 // Takes the next byte of a group.
 fn required_byte<R: BufRead>(source: &mut R) -> Result<u8>
     ensures found { IfOk result (λ byte.
-        Known (R.unread source.old) (R.unread source.new) (λ raw left. raw ≡ byte ∷ left)) }
-    ensures refused { IfErr result (λ error. (error.kind ≡ ErrorKind.DeviceFailed)
-        ⊎ Lacks 1 (R.unread source.old) error.kind) }
-    ensures failed { IfErr result (λ error. error.kind ≡ ErrorKind.DeviceFailed →
-        Fails (R.failures source.old) (R.failures source.new)) }
-    ensures advances { Advances R.unread R.failures R.same source.old source.new }
+        IfKnown (R.unread source.old) (R.unread source.new) (λ raw left. raw ≡ byte ∷ left)) }
+    ensures refused { FailsOr result (Lacks 1 (R.unread source.old)) }
+    ensures asked { Asked R.unread R.failures R.same source.old source.new result }
 {
     match next_byte(source)? {
         Some(byte) => Ok(byte),
@@ -189,12 +246,11 @@ fn required_byte<R: BufRead>(source: &mut R) -> Result<u8>
 // Takes the next byte, if there is one.
 fn next_byte<R: BufRead>(source: &mut R) -> Result<Option<u8>>
     ensures found { IfOk result (λ found. IfSome found (λ byte.
-        Known (R.unread source.old) (R.unread source.new) (λ raw left. raw ≡ byte ∷ left))) }
+        IfKnown (R.unread source.old) (R.unread source.new) (λ raw left. raw ≡ byte ∷ left))) }
     ensures none { IfOk result (λ found. IfNone found
         (IfSome (R.unread source.old) (λ raw. raw ≡ []))) }
     ensures refused { IfErr result (λ error. error.kind ≡ ErrorKind.DeviceFailed) }
-    ensures failed { OnErr result (Fails (R.failures source.old) (R.failures source.new)) }
-    ensures advances { Advances R.unread R.failures R.same source.old source.new }
+    ensures asked { Asked R.unread R.failures R.same source.old source.new result }
 {
     let Some(byte) = source.fill_buf()?.first().copied() else {
         return Ok(None);

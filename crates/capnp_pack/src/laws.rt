@@ -3,10 +3,11 @@ ghost use Rattle.std.specs.Prelude.{◌≡◌, ℕ, ◌+◌, ◌*◌, ◌/◌, �
 ghost use Rattle.std.specs.List.{AllByRecursion};
 ghost use Rattle.capnp_frame.specs.Message.{IsWholeWords, lengths};
 ghost use Rattle.capnp_frame.specs.SegmentTable.{HasTable};
-ghost use Rattle.capnp_frame.specs.Requests.{Stands};
+ghost use Rattle.capnp_frame.specs.Requests.{MessageStands};
 ghost use Rattle.capnp_frame.specs.Sink.{AppendsAll, AppendsSame};
+ghost use Rattle.capnp_frame.specs.Writing.{pieces};
 ghost use Rattle.capnp_pack.specs.Packed.{Packs};
-ghost use Rattle.capnp_pack.specs.PackedFrame.{IsPackedFrame, IsPackedText, PackedStands, table_first, table_others};
+ghost use Rattle.capnp_pack.specs.PackedFrame.{IsPackedFrame, IsPackedText, PackedStands};
 ghost use Rattle.capnp_pack.specs.PackedSource.{Unpacks};
 ghost use Rattle.capnp_pack.specs.PackedSink.{AppendsPacked};
 
@@ -19,7 +20,7 @@ pub fn packed_request_has_one_answer()
 /// The three requests of a packed source take just a packed text of the message.
 pub fn packed_requests_take_a_packed_frame()
     ensures { (segments : List (List ℕ)) (raw rest : List ℕ) →
-        Stands Unpacks segments raw rest ↔ PackedStands segments raw rest }
+        MessageStands Unpacks segments raw rest ↔ PackedStands segments raw rest }
 {}
 
 /// No packed text of a message begins a different one, and each is the text of one message alone.
@@ -72,13 +73,9 @@ pub fn plain_sink_gets_the_packed_text()
     ensures { (piece text : List ℕ) → AppendsPacked AppendsSame piece text ↔ Packs piece text }
 {}
 
-/// And of a message that is handed to it as the table's first word, its other words and each
-/// segment it gets the packed text, also where a table of one word is handed on alone.
+/// And of a message whose pieces are handed to it one after another, as `write_segments` does, it
+/// gets the packed text.
 pub fn plain_sink_gets_the_packed_message()
-    ensures pieces { (segments : List (List ℕ)) (text : List ℕ) →
-        AppendsAll (AppendsPacked AppendsSame)
-        (table_first segments ∷ table_others segments ∷ segments) text ↔ IsPackedText text segments }
-    ensures one_word { (segments : List (List ℕ)) (text : List ℕ) → table_others segments ≡ [] →
-        AppendsAll (AppendsPacked AppendsSame) (table_first segments ∷ segments) text
-        ↔ IsPackedText text segments }
+    ensures { (segments : List (List ℕ)) (text : List ℕ) →
+        AppendsAll (AppendsPacked AppendsSame) (pieces segments) text ↔ IsPackedText text segments }
 {}

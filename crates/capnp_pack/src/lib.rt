@@ -1,6 +1,6 @@
 //! Packing of Cap'n Proto messages.
 //!
-//! Packing leaves out zero bytes. A packed text is groups behind one another: `specs/Group.antt`
+//! Packing leaves out zero bytes. A packed text is groups, one after another: `specs/Group.antt`
 //! and `specs/Piece.antt` say so in the words of the [encoding document], "Packing", and
 //! `specs/Packed.antt` says which of the texts of some words is the one that is written.
 //!
@@ -8,16 +8,17 @@
 #![tactic(auto)]
 
 mod buffer;
-#[cfg(test)]
-mod dripping;
 mod group;
 pub mod laws;
-pub mod messages;
+mod marks;
 mod packed_read;
 mod packed_write;
+mod places;
 mod runs;
+pub mod stream;
 #[cfg(test)]
 mod tests;
+mod unpack;
 
 pub use crate::packed_read::PackedRead;
 pub use crate::packed_write::PackedWrite;

@@ -1,12 +1,12 @@
 //! Words that a source holds packed.
-ghost use Rattle.std.specs.Prelude.{◌≡◌, ◌<◌, ◌≤◌, ◌↔◌, ◌⊎◌, Some, [], IfOk, IfErr, IfSome, length, take, refl};
+ghost use Rattle.std.specs.Prelude.{◌≡◌, ◌<◌, ◌≤◌, ◌↔◌, ◌⊎◌, Some, [], IfOk, IfErr, IfSome, OnOk, length, take, refl};
 ghost use Rattle.std.specs.Result.{IsErrAnd};
 ghost use Rattle.std.proofs.Common.{◌∙◌};
 ghost use Rattle.capnp_frame.specs.Message.{IsWholeWords};
-ghost use Rattle.capnp_frame.specs.Source.{Known, Takes, IsRefused, IsPlain, Advances, Fails};
+ghost use Rattle.capnp_frame.specs.Source.{IfKnown, AnswersPart, IsRefused, IsPlain, Advances, Fails};
 ghost use Rattle.capnp_frame.specs.declared.error.ErrorKind.{ErrorKind};
 ghost use Rattle.capnp_pack.specs.PackedSource.{Unpacks, RefusesPiece};
-ghost use Rattle.capnp_pack.specs.Refusing.{unpacking};
+ghost use Rattle.capnp_pack.specs.RefusingLaws.{unpacking};
 
 use crate::group::read_piece;
 use capnp_frame::io::{BufRead, Read};
@@ -47,9 +47,11 @@ impl<'a, R: BufRead> Read for PackedRead<'a, R> {
 
     fn read(&mut self, buffer: &mut [u8]) -> Result<usize>
         ensures within { IfOk result (λ count. count ≤ length buffer.new) }
+        // All of a piece is answered, or none of it.
+        ensures whole { IfOk result (λ count. (count ≡ 0) ⊎ (count ≡ length buffer.new)) }
         ensures taken { IfOk result (λ count.
-            Known (R.unread self.old.source.now) (R.unread self.new.source.now)
-            (Takes Unpacks RefusesPiece (length buffer.new) (take count buffer.new))) }
+            IfKnown (R.unread self.old.source.now) (R.unread self.new.source.now)
+            (AnswersPart Unpacks RefusesPiece (length buffer.new) (take count buffer.new))) }
         ensures end { IfOk result (λ count. IfSome (R.unread self.old.source.now)
             (λ raw. 0 < length buffer.new → (count ≡ 0) ↔ (raw ≡ []))) }
         ensures spent { IfOk result (λ count. count ≡ 0 → 0 < length buffer.new →
@@ -78,6 +80,36 @@ impl<'a, R: BufRead> Read for PackedRead<'a, R> {
             return Err(Error::from_kind(ErrorKind::NotWholeWords));
         }
         read_piece(self.source, buffer)
+    }
+
+    fn read_exact(&mut self, buffer: &mut [u8]) -> Result<()>
+        ensures given { OnOk result
+            (IfKnown (R.unread self.old.source.now) (R.unread self.new.source.now)
+            (λ raw rest. Unpacks raw (length buffer.new) buffer.new rest)) }
+
+        // A refusal.
+        ensures failed { IfErr result (λ error. error.kind ≡ ErrorKind.DeviceFailed →
+            Fails (R.failures self.old.source.now) (R.failures self.new.source.now)) }
+        ensures refused { IfErr result (λ error. (error.kind ≡ ErrorKind.DeviceFailed)
+            ⊎ IsRefused RefusesPiece (length buffer.new) (R.unread self.old.source.now) error.kind) }
+        ensures plain { IfErr result (λ error. IsPlain Unpacks →
+            (error.kind ≡ ErrorKind.DeviceFailed)
+            ⊎ (error.kind ≡ ErrorKind.FailedToFillTheWholeBuffer)) }
+        // A part of a word is refused, and the source and the buffer are as they were.
+        ensures part { (IsWholeWords buffer.old → ⊥) →
+            IsErrAnd result (λ error. error.kind ≡ ErrorKind.NotWholeWords)
+            × (self.new.source.now ≡ self.old.source.now) × (buffer.new ≡ buffer.old) }
+
+        ensures advances { Advances (λ packed. R.unread packed.source.now)
+            (λ packed. R.failures packed.source.now)
+            (λ old new. (new.source.ghost_name ≡ old.source.ghost_name) × R.same old.source.now new.source.now)
+            self.old self.new }
+    {
+        let count = self.read(buffer)?;
+        if count < buffer.len() {
+            return Err(Error::from_kind(ErrorKind::FailedToFillTheWholeBuffer));
+        }
+        Ok(())
     }
 
     ghost lawful = { unpacking };

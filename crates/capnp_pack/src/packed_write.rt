@@ -1,18 +1,18 @@
 //! Words into a sink, packed.
-ghost use Rattle.std.specs.Prelude.{◌≡◌, ℕ, ◌<◌, ◌⊎◌, List, [], ◌∷◌, ◌++◌, IfOk, IfErr, OnOk, length, take, refl};
+ghost use Rattle.std.specs.Prelude.{◌≡◌, ℕ, ◌<◌, ◌≤◌, ◌⊎◌, List, [], ◌∷◌, ◌++◌, IfOk, IfErr, OnOk, length, take, refl};
 ghost use Rattle.std.specs.List.{concat};
 ghost use Rattle.std.specs.Result.{IsErrAnd};
 ghost use Rattle.std.proofs.Common.{◌∙◌};
 ghost use Rattle.capnp_frame.specs.declared.error.ErrorKind.{ErrorKind};
 ghost use Rattle.capnp_frame.specs.Message.{IsWholeWords};
-ghost use Rattle.capnp_frame.specs.Source.{Known, Fails};
+ghost use Rattle.capnp_frame.specs.Source.{IfKnown, Fails};
 ghost use Rattle.capnp_frame.specs.Sink.{DeclinesAny, Adds, Grows};
 ghost use Rattle.capnp_pack.specs.Group.{Group, group_text};
 ghost use Rattle.capnp_pack.specs.PackedSink.{AppendsPacked, DeclinesPacked};
 ghost use Rattle.capnp_pack.specs.Steps.{IsRun, IsZero, HasFewZeros, Hands, IsGroupOf};
 
-use crate::buffer::Buffer;
-use crate::runs::{literal_run, tag, zero_run};
+use crate::buffer::{flush, make_room, push, push_word};
+use crate::runs::{first_tag, literal_run, tag, zero_run};
 use capnp_frame::io::Write;
 use capnp_frame::{Error, ErrorKind, Result};
 
@@ -49,7 +49,7 @@ impl<'a, W: Write> Write for PackedWrite<'a, W> {
         × W.same old.sink.now new.sink.now };
 
     fn write_all(&mut self, piece: &[u8]) -> Result<()>
-        ensures added { OnOk result (Known (W.written self.old.sink.now) (W.written self.new.sink.now)
+        ensures added { OnOk result (IfKnown (W.written self.old.sink.now) (W.written self.new.sink.now)
             (Adds (AppendsPacked W.appends piece.now))) }
         ensures failed { IfErr result (λ error. error.kind ≡ ErrorKind.DeviceFailed →
             Fails (W.failures self.old.sink.now) (W.failures self.new.sink.now)) }
@@ -75,10 +75,17 @@ impl<'a, W: Write> Write for PackedWrite<'a, W> {
     } };
 }
 
+// How many of the words after one its group takes, and how many bytes are then used.
+#[derive(Clone, Copy)]
+struct Packed {
+    words: usize,
+    used: usize,
+}
+
 // Hands on the packed words of a piece.
 fn pack<W: Write>(sink: &mut W, piece: &[u8]) -> Result<()>
     requires { IsWholeWords piece.now }
-    ensures added { OnOk result (Known (W.written sink.old) (W.written sink.new)
+    ensures added { OnOk result (IfKnown (W.written sink.old) (W.written sink.new)
         (Adds (AppendsPacked W.appends piece.now))) }
     ensures refused { IfErr result (λ error. (error.kind ≡ ErrorKind.DeviceFailed)
         ⊎ DeclinesAny W.refuses error.kind) }
@@ -87,70 +94,91 @@ fn pack<W: Write>(sink: &mut W, piece: &[u8]) -> Result<()>
     ensures grows { Grows W.written W.failures W.same sink.old sink.new }
 {
     let (words, _) = piece.as_chunks::<8>();
-    let mut buffer = Buffer::new();
+    let mut bytes = [0; 64];
+    let mut used = 0;
     let mut done = 0;
     while done < words.len() {
-        let further = pack_group(sink, &mut buffer, &words[done], &words[done + 1..])?;
-        done += 1 + further;
+        let packed = pack_group(sink, &mut bytes, used, &words[done], &words[done + 1..])?;
+        done += 1 + packed.words;
+        used = packed.used;
     }
-    buffer.flush(sink)
+    flush(sink, &bytes, used)
 }
 
-// Packs a word, and as many of those behind it as its group takes.
+// Packs a word, and as many of those after it as its group takes.
+#[inline(always)]
 fn pack_group<W: Write>(
     sink: &mut W,
-    buffer: &mut Buffer,
+    bytes: &mut [u8; 64],
+    used: usize,
     word: &[u8; 8],
     others: &[[u8; 8]],
-) -> Result<usize>
-    ensures group { IfOk result (λ count. (group : Group) × IsGroupOf word.now others.now count group
-        × Known (W.written sink.old) (W.written sink.new)
-        (Hands W.appends buffer.old (group_text group) buffer.new)) }
+) -> Result<Packed>
+    requires { used ≤ 64 }
+    ensures used { IfOk result (λ packed. packed.used ≤ 64) }
+    ensures group { IfOk result (λ packed. (group : Group)
+        × IsGroupOf word.now others.now packed.words group
+        × IfKnown (W.written sink.old) (W.written sink.new)
+        (Hands W.appends (take used bytes.old) (group_text group) (take packed.used bytes.new))) }
     ensures refused { IfErr result (λ error. (error.kind ≡ ErrorKind.DeviceFailed)
         ⊎ DeclinesAny W.refuses error.kind) }
     ensures failed { IfErr result (λ error. error.kind ≡ ErrorKind.DeviceFailed →
         Fails (W.failures sink.old) (W.failures sink.new)) }
     ensures grows { Grows W.written W.failures W.same sink.old sink.new }
 {
-    buffer.make_room(sink)?;
+    let start = make_room(sink, bytes, used)?;
     let tag = tag(word);
-    buffer.push_word(tag, word);
-    match tag {
-        0 => Ok(pack_zeros(buffer, others)),
-        255 => pack_literal(sink, buffer, others),
-        _ => Ok(0),
+    let end = push_word(bytes, start, tag, word);
+    if tag == 255 {
+        return pack_literal(sink, bytes, end, others);
     }
+    // A sum, so that a zero word alone takes no branch of its own.
+    if tag as usize + first_tag(others) as usize == 0 {
+        return Ok(pack_zeros(bytes, end, others));
+    }
+    let used = if tag == 0 { end + 1 } else { end };
+    Ok(Packed { words: 0, used })
 }
 
-// Counts the zero words behind one.
-fn pack_zeros(buffer: &mut Buffer, others: &[[u8; 8]]) -> usize
-    requires { length buffer.old < 64 }
-    ensures run { IsRun IsZero others.now result }
-    ensures counted { buffer.new ≡ buffer.old ++ result ∷ [] }
+// Counts the zero words after one.
+#[inline(always)]
+fn pack_zeros(bytes: &mut [u8; 64], end: usize, others: &[[u8; 8]]) -> Packed
+    requires { end < 64 }
+    ensures used { result.used ≤ 64 }
+    ensures run { IsRun IsZero others.now result.words }
+    ensures counted { take result.used bytes.new ≡ take end bytes.old ++ result.words ∷ [] }
 {
-    let count = zero_run(others);
-    buffer.push(count as u8);
-    count
+    let words = zero_run(others);
+    let used = push(bytes, end, words as u8);
+    Packed { words, used }
 }
 
-// Hands on the words behind one that go as they stand.
-fn pack_literal<W: Write>(sink: &mut W, buffer: &mut Buffer, others: &[[u8; 8]]) -> Result<usize>
-    requires { length buffer.old < 64 }
-    ensures run { IfOk result (IsRun HasFewZeros others.now) }
-    ensures handed { IfOk result (λ count. Known (W.written sink.old) (W.written sink.new)
-        (Hands W.appends buffer.old (count ∷ concat (take count others.now)) buffer.new)) }
+// Hands on the words after one that go as they stand.
+#[inline(always)]
+fn pack_literal<W: Write>(
+    sink: &mut W,
+    bytes: &mut [u8; 64],
+    end: usize,
+    others: &[[u8; 8]],
+) -> Result<Packed>
+    requires { end < 64 }
+    ensures used { IfOk result (λ packed. packed.used ≤ 64) }
+    ensures run { IfOk result (λ packed. IsRun HasFewZeros others.now packed.words) }
+    ensures handed { IfOk result (λ packed. IfKnown (W.written sink.old) (W.written sink.new)
+        (Hands W.appends (take end bytes.old)
+        (packed.words ∷ concat (take packed.words others.now)) (take packed.used bytes.new))) }
     ensures refused { IfErr result (λ error. (error.kind ≡ ErrorKind.DeviceFailed)
         ⊎ DeclinesAny W.refuses error.kind) }
     ensures failed { IfErr result (λ error. error.kind ≡ ErrorKind.DeviceFailed →
         Fails (W.failures sink.old) (W.failures sink.new)) }
     ensures grows { Grows W.written W.failures W.same sink.old sink.new }
 {
-    let count = literal_run(others);
-    buffer.push(count as u8);
-    if count == 0 {
-        return Ok(0);
+    let words = literal_run(others);
+    let used = push(bytes, end, words as u8);
+    if words == 0 {
+        return Ok(Packed { words, used });
     }
-    buffer.flush(sink)?;
-    sink.write_all(others[..count].as_flattened())?;
-    Ok(count)
+    flush(sink, bytes, used)?;
+    sink.write_all(others[..words].as_flattened())?;
+    Ok(Packed { words, used: 0 })
 }

@@ -1,21 +1,45 @@
 //! What a packer sees in words: their tags, and how far runs go.
-ghost use Rattle.std.specs.Prelude.{◌≡◌, ◌≤◌, [], ◌∷◌};
+ghost use Rattle.std.specs.Prelude.{◌≡◌, ◌<◌, ◌≤◌, length, take};
+ghost use Rattle.std.specs.List.{concat, AllByRecursion};
 ghost use Rattle.capnp_pack.specs.Group.{zero_bytes};
+ghost use Rattle.capnp_pack.specs.Packed.{IfFirst};
 ghost use Rattle.capnp_pack.specs.Steps.{IsRun, IsZero, HasFewZeros, tag_of};
 
+use std::simd::prelude::*;
+
 // How many zero words stand at the front, at most 255.
+#[inline(always)]
 pub(crate) fn zero_run(words: &[[u8; 8]]) -> usize
     ensures { IsRun IsZero words.now result }
 {
     let most = words.len().min(255);
     let mut count = 0;
+    while most - count >= 8 {
+        let marks = marks_of_eight(&words[count..count + 8]);
+        if marks != 0 {
+            return count + marks.trailing_zeros() as usize / 8;
+        }
+        count += 8;
+    }
     while count < most && words[count] == [0; 8] {
         count += 1;
     }
     count
 }
 
+// A bit for each byte of eight words that isn't zero.
+#[inline(always)]
+fn marks_of_eight(words: &[[u8; 8]]) -> u64
+    requires { length words.now ≡ 8 }
+    ensures { result ≡ tag_of (concat words.now) }
+{
+    u8x64::from_slice(words.as_flattened())
+        .simd_ne(u8x64::splat(0))
+        .to_bitmask()
+}
+
 // How many words of at most one zero byte stand at the front, at most 255.
+#[inline(always)]
 pub(crate) fn literal_run(words: &[[u8; 8]]) -> usize
     ensures { IsRun HasFewZeros words.now result }
 {
@@ -23,34 +47,63 @@ pub(crate) fn literal_run(words: &[[u8; 8]]) -> usize
     let mut count = 0;
     while count < most && zeros(&words[count]) <= 1 {
         count += 1;
+        count += full_eights(&words[count..most]);
     }
     count
 }
 
+// How many words with no zero byte stand at the front, in eights.
+#[inline(always)]
+fn full_eights(words: &[[u8; 8]]) -> usize
+    ensures within { result ≤ length words.now }
+    ensures each { AllByRecursion HasFewZeros (take result words.now) }
+{
+    let mut count = 0;
+    while words.len() - count >= 8 && zeros_of_eight(&words[count..count + 8]) == 0 {
+        count += 8;
+    }
+    count
+}
+
+// How many bytes of eight words are zero.
+#[inline(always)]
+fn zeros_of_eight(words: &[[u8; 8]]) -> u32
+    requires { length words.now ≡ 8 }
+    ensures { result ≡ zero_bytes (concat words.now) }
+{
+    u8x64::from_slice(words.as_flattened())
+        .simd_eq(u8x64::splat(0))
+        .to_bitmask()
+        .count_ones()
+}
+
 // How many bytes are zero.
-fn zeros(word: &[u8; 8]) -> usize
+#[inline(always)]
+fn zeros(word: &[u8; 8]) -> u32
     ensures { result ≡ zero_bytes word.now }
 {
-    word.iter().filter(|byte| **byte == 0).count()
+    u8x8::from_array(*word)
+        .simd_eq(u8x8::splat(0))
+        .to_bitmask()
+        .count_ones()
 }
 
 // A bit for each byte that isn't zero, the first byte's the least significant.
+#[inline(always)]
 pub(crate) fn tag(word: &[u8; 8]) -> u8
     ensures { result ≡ tag_of word.now }
 {
-    bit(word[0])
-        + 2 * bit(word[1])
-        + 4 * bit(word[2])
-        + 8 * bit(word[3])
-        + 16 * bit(word[4])
-        + 32 * bit(word[5])
-        + 64 * bit(word[6])
-        + 128 * bit(word[7])
+    let marks = u8x8::from_array(*word).simd_ne(u8x8::splat(0)).to_bitmask();
+    marks as u8
 }
 
-fn bit(byte: u8) -> u8
-    ensures at_most { result ≤ 1 }
-    ensures value { result ≡ tag_of (byte ∷ []) }
+// The tag of the first word, or 1 where there is none.
+#[inline(always)]
+pub(crate) fn first_tag(words: &[[u8; 8]]) -> u8
+    ensures { 0 < result → IfFirst words.now (λ word. IsZero word → ⊥) }
 {
-    u8::from(byte != 0)
+    match words.first() {
+        Some(word) => tag(word),
+        None => 1,
+    }
 }

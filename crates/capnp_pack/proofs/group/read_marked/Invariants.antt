@@ -1,10 +1,10 @@
 -- The bytes so far stand under the tag, and the others under the bits that are left.
 use Rattle.std.proofs.Common.{take}
-use Rattle.capnp_frame.specs.Source.{Known, Advances}
+use Rattle.capnp_frame.specs.Source.{IfKnown, Advances}
 use Rattle.capnp_pack.proofs.WordLemmas.{MarksTo}
 use Rattle.capnp_pack.proofs.group.read_marked.Given as goal
 
 abbrev pub invariant-loop-byte : goal.invariant-loop-byte
 invariant-loop-byte g l = let R = g.R.Read in
-    Known (R.unread l.initial.source) (R.unread l.source) (MarksTo l.tag l.bits (take l.byte-index l.word))
+    IfKnown (R.unread l.initial.source) (R.unread l.source) (MarksTo l.tag l.bits (take l.byte-index l.word))
     × Advances R.unread R.failures R.same l.initial.source l.source

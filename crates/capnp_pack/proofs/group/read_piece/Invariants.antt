@@ -1,7 +1,7 @@
 -- What is filled is whole groups, a front of the answer to the whole request.
 use Rattle.std.proofs.Common.{length, ◌-◌, ◌≡◌, ◌<◌, ◌≤◌, ◌%◌, take, []}
 use Rattle.std.specs.Prelude.{IfSome}
-use Rattle.capnp_frame.specs.Source.{Known, Advances, Takes}
+use Rattle.capnp_frame.specs.Source.{IfKnown, Advances, AnswersPart}
 use Rattle.capnp_pack.specs.PackedSource.{Unpacks, MeetsFault}
 use Rattle.capnp_pack.proofs.group.read_piece.Given as goal
 
@@ -12,7 +12,7 @@ invariant-loop-filled g l = let R = g.R.Read in
     × (l.filled % 8 ≡ 0)
     × (0 < l.filled → IfSome (R.unread l.initial.source) (λ raw. raw ≡ [] → ⊥))
     × (l.filled ≡ 0 → R.unread l.source ≡ R.unread l.initial.source)
-    × Known (R.unread l.initial.source) (R.unread l.source) (Takes Unpacks MeetsFault (length l.buffer) (take l.filled l.buffer))
+    × IfKnown (R.unread l.initial.source) (R.unread l.source) (AnswersPart Unpacks MeetsFault (length l.buffer) (take l.filled l.buffer))
     × Advances R.unread R.failures R.same l.initial.source l.source
 
 abbrev pub decreases-loop-filled : goal.decreases-loop-filled

@@ -1,4 +1,4 @@
--- The count behind the tag says the run.
+-- The count after the tag says the run.
 use Rattle.std.proofs.Common.{rules, inr, arith, ◌+◌, ◌*◌, refl}
 use Rattle.std.proofs.lemmas.Grind.{common_steps}
 use Rattle.capnp_pack.proofs.FaultLemmas.{run_refused, count_refused}

@@ -1,4 +1,5 @@
-use Rattle.capnp_pack.specs.Unpacking.{unpack_once}
+-- No group's text begins another's.
+use Rattle.capnp_pack.specs.UnpackingLaws.{unpack_once}
 use Rattle.capnp_pack.proofs.laws.packed_request_has_one_answer.Goals as goal
 
 pub returns : goal.returns

@@ -1,3 +1,4 @@
+-- A packed text is a piece, and a request has one answer.
 use Rattle.capnp_pack.proofs.PackerLemmas.{Packs-unpacks, Packs-unpacks-alone}
 use Rattle.capnp_pack.proofs.laws.packed_text_unpacks.Goals as goal
 

@@ -1,8 +1,6 @@
-use Rattle.capnp_pack.proofs.PackedTextLemmas.{packed_message, packed_short_message}
+-- The pieces are the table's first word, its other words where there are any, and the segments.
+use Rattle.capnp_pack.proofs.PackedTextLemmas.{packed_pieces}
 use Rattle.capnp_pack.proofs.laws.plain_sink_gets_the_packed_message.Goals as goal
 
-pub returns-clause-pieces : goal.returns-clause-pieces
-returns-clause-pieces c = packed_message
-
-pub returns-clause-one_word : goal.returns-clause-one_word
-returns-clause-one_word c = packed_short_message
+pub returns : goal.returns
+returns c = packed_pieces

@@ -9,3 +9,9 @@ invariant-loop-count l = (l.count ≤ l.most) × AllByRecursion IsZero (take l.c
 
 abbrev pub decreases-loop-count : goal.decreases-loop-count
 decreases-loop-count l = l.most - l.count
+
+abbrev pub invariant-loop-count-2 : goal.invariant-loop-count-2
+invariant-loop-count-2 l = (l.count ≤ l.most) × AllByRecursion IsZero (take l.count l.words)
+
+abbrev pub decreases-loop-count-2 : goal.decreases-loop-count-2
+decreases-loop-count-2 l = l.most - l.count

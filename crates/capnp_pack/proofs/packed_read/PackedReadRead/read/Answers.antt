@@ -1,6 +1,6 @@
 -- A part of a word is refused before anything is read.
 use Rattle.std.proofs.Common.{inr, ◌≡◌}
-use Rattle.capnp_pack.specs.Unpacking.{not_plain}
+use Rattle.capnp_pack.specs.UnpackingLaws.{not_plain}
 use Rattle.capnp_frame.proofs.SourceLemmas.{IfErr-vacuous}
 use Rattle.capnp_pack.proofs.PieceLemmas.{part_refused}
 use Rattle.capnp_frame.specs.declared.error.Error.{Error}

@@ -1,0 +1,127 @@
+-- The bytes of a word that a tag marks, moved to the front by a table.
+use Rattle.std.proofs.Common.{◌≡◌, ℕ, zero, suc, ◌+◌, ◌-◌, ◌*◌, ◌/◌, ◌%◌, ◌^◌, ◌<◌, ◌≤◌, Bool, true, false, List, [], ◌∷◌, ◌++◌, length}
+use Rattle.std.proofs.Common.{take, drop, get_or, replicate, refl, sym, ap, ◌∙◌, arith, length-append, length-drop, drop-cons, w8}
+use Rattle.std.specs.Prelude.{◌==◌, if◌then◌else◌}
+use Rattle.std.proofs.Math.Nat.{pow-suc}
+use Rattle.std.proofs.lemmas.List.{nil_from_length}
+use Rattle.std.proofs.lemmas.Simd.{SwzOk-from_Each1, get_or-swz_l_below, length-replicate}
+use Rattle.std.specs.Simd.Lanes.{Each1}
+use lib.Dec.{ltb, lt→ltb}
+use lib.Count.{ones, ones_step, ones-le}
+use mir.Val.{zeroes}
+use borrow.Rule.Simd.Moves.{SwzOk, swz_l}
+use Rattle.capnp_pack.proofs.TableRows.{rows, row_at}
+use Rattle.capnp_pack.specs.declared.marks.TheConstants.{MARKS}
+use Rattle.capnp_pack.specs.Group.{IsWord, marked}
+use Rattle.capnp_pack.specs.Steps.{tag_of, nonzero}
+use Rattle.capnp_pack.proofs.TagLemmas.{marked_tag, tag_below, top_word, tag_suc, nonzero_suc}
+use Rattle.capnp_pack.proofs.PlaceLemmas.{IsPlace, later, lane_at}
+
+-- the places from i on of the bits that are set
+abbrev pub marks : ℕ → ℕ → ℕ → List ℕ
+marks zero i tag = []
+marks (suc n) i tag = (if tag % 2 == 1 then i ∷ [] else []) ++ marks n (suc i) (tag / 2)
+
+abbrev pub mark_row : ℕ → List ℕ
+mark_row tag = marks 8 0 tag ++ replicate (16 - length (marks 8 0 tag)) 128
+
+-- the table has each tag's row
+table : MARKS ≡ rows mark_row 0 256
+table = refl
+
+pub mark_row_of : (tag : ℕ) (none : List ℕ) → tag < 256 → get_or MARKS tag none ≡ mark_row tag
+mark_row_of tag none low = row_at mark_row MARKS tag none table low
+
+pads_ok : (m : ℕ) → Each1 IsPlace (replicate m 128)
+pads_ok zero = tt
+pads_ok (suc m) = (tt, pads_ok m)
+
+marks_ok : (n i tag m : ℕ) → i + n ≤ 16 → Each1 IsPlace (marks n i tag ++ replicate m 128)
+marks_ok zero i tag m low = pads_ok m
+marks_ok (suc n) i tag m low = by_bit (tag % 2 == 1) (marks_ok n (suc i) (tag / 2) m (omega arith))
+  where
+    by_bit : (set : Bool) → Each1 IsPlace (marks n (suc i) (tag / 2) ++ replicate m 128) → Each1 IsPlace (((if set then i ∷ [] else []) ++ marks n (suc i) (tag / 2)) ++ replicate m 128)
+    by_bit false ok = ok
+    by_bit true ok = (later (zeroes 16 w8 i) (ltb i 16) (lt→ltb i 16 (omega arith)), ok)
+
+few_marks : (n i tag : ℕ) → length (marks n i tag) ≤ n
+few_marks zero i tag = omega arith
+few_marks (suc n) i tag = by_bit (tag % 2 == 1) (few_marks n (suc i) (tag / 2))
+  where
+    by_bit : (set : Bool) → length (marks n (suc i) (tag / 2)) ≤ n → length ((if set then i ∷ [] else []) ++ marks n (suc i) (tag / 2)) ≤ suc n
+    by_bit false few = omega arith
+    by_bit true few = omega arith
+
+pub mark_row_ok : (tag : ℕ) → SwzOk w8 16 16 0 (mark_row tag)
+mark_row_ok tag =
+    let m = 16 - length (marks 8 0 tag) in
+    SwzOk-from_Each1 w8 16 1 16 0 (mark_row tag) refl
+    (omega (arith, length-append (marks 8 0 tag) (replicate m 128), length-replicate {A = ℕ} m 128, few_marks 8 0 tag)) (marks_ok 8 0 tag m (omega arith))
+
+-- the first lanes are the marked bytes
+gather : (n i tag k : ℕ) (word xs pad : List ℕ) → i + n ≡ 8 → length word ≡ 8 → ((j : ℕ) → j < 8 → get_or xs j 0 ≡ get_or word j 0) → k + n ≤ 16 →
+    tag < 2 ^ n → take (ones tag) (swz_l w8 16 xs k (marks n i tag ++ pad)) ≡ marked tag (drop i word)
+gather zero i tag k word xs pad all is same room low =
+    let none : ones tag ≡ 0 = omega (arith, ones-le 0 tag low) in
+    let end : drop i word ≡ [] = nil_from_length (drop i word) (omega (arith, length-drop i word)) in
+    ap (λ c. take c (swz_l w8 16 xs k pad)) none ∙ ap (marked tag) (sym end)
+gather (suc n) i tag k word xs pad all is same room low =
+    let front : drop i word ≡ get_or word i 0 ∷ drop (suc i) word = drop-cons word i 0 (omega arith) in
+    by_bit (tag % 2) refl (λ j more. gather n (suc i) (tag / 2) j word xs pad (omega arith) is same more (omega (arith, pow-suc 2 n))) ∙ ap (marked tag) (sym front)
+  where
+    by_bit : (bit : ℕ) → tag % 2 ≡ bit →
+        ((j : ℕ) → j + n ≤ 16 → take (ones (tag / 2)) (swz_l w8 16 xs j (marks n (suc i) (tag / 2) ++ pad)) ≡ marked (tag / 2) (drop (suc i) word)) →
+        take (ones tag) (swz_l w8 16 xs k (((if tag % 2 == 1 then i ∷ [] else []) ++ marks n (suc i) (tag / 2)) ++ pad)) ≡
+        (if tag % 2 == 1 then get_or word i 0 ∷ [] else []) ++ marked (tag / 2) (drop (suc i) word)
+    by_bit zero e others =
+        let counted : ones tag ≡ ones (tag / 2) = omega (arith, ones_step tag) in
+        ap (λ b. take (ones tag) (swz_l w8 16 xs k (((if b == 1 then i ∷ [] else []) ++ marks n (suc i) (tag / 2)) ++ pad))) e
+        ∙ ap (λ c. take c (swz_l w8 16 xs k (marks n (suc i) (tag / 2) ++ pad))) counted
+        ∙ others k (omega arith)
+        ∙ ap (λ b. (if b == 1 then get_or word i 0 ∷ [] else []) ++ marked (tag / 2) (drop (suc i) word)) (sym e)
+    by_bit (suc zero) e others =
+        let counted : ones tag ≡ suc (ones (tag / 2)) = omega (arith, ones_step tag) in
+        let first : 16 * ((k + 0) / 16) + i ≡ i = omega arith in
+        let lane : lane_at xs k i ≡ get_or word i 0 = get_or-swz_l_below w8 16 xs k (i ∷ []) 0 (omega arith) (omega arith) ∙ ap (λ p. get_or xs p 0) first ∙ same i (omega arith) in
+        ap (λ b. take (ones tag) (swz_l w8 16 xs k (((if b == 1 then i ∷ [] else []) ++ marks n (suc i) (tag / 2)) ++ pad))) e
+        ∙ ap (λ c. take c (lane_at xs k i ∷ swz_l w8 16 xs (suc k) (marks n (suc i) (tag / 2) ++ pad))) counted
+        ∙ ap (λ b. b ∷ take (ones (tag / 2)) (swz_l w8 16 xs (suc k) (marks n (suc i) (tag / 2) ++ pad))) lane
+        ∙ ap (λ l. get_or word i 0 ∷ l) (others (suc k) (omega arith))
+        ∙ ap (λ b. (if b == 1 then get_or word i 0 ∷ [] else []) ++ marked (tag / 2) (drop (suc i) word)) (sym e)
+    by_bit (suc (suc bit)) e others = absurd (omega arith)
+
+pub ones_tag : (w : List ℕ) → ones (tag_of w) ≡ length (nonzero w)
+ones_tag [] = omega (arith, ones-le 0 0 (omega arith))
+ones_tag (zero ∷ w) = let half : (0 + 2 * tag_of w) / 2 ≡ tag_of w = omega arith in omega (arith, ones_step (0 + 2 * tag_of w), ap ones half, ones_tag w)
+ones_tag (suc b ∷ w) =
+    let half : (1 + 2 * tag_of w) / 2 ≡ tag_of w = omega arith in
+    let more : ones (1 + 2 * tag_of w) ≡ suc (length (nonzero w)) = omega (arith, ones_step (1 + 2 * tag_of w), ap ones half, ones_tag w) in
+    ap ones (tag_suc b w) ∙ more ∙ sym (ap length (nonzero_suc b w))
+
+take_fewer : (n m : ℕ) (xs : List ℕ) → n ≤ m → take n (take m xs) ≡ take n xs
+take_fewer zero m xs few = refl
+take_fewer (suc n) zero xs few = absurd (omega arith)
+take_fewer (suc n) (suc m) [] few = refl
+take_fewer (suc n) (suc m) (x ∷ xs) few = ap (λ l. x ∷ l) (take_fewer n m xs (omega arith))
+
+abbrev pub padded : List ℕ → List ℕ
+padded word = get_or word 0 0 ∷ get_or word 1 0 ∷ get_or word 2 0 ∷ get_or word 3 0 ∷ get_or word 4 0 ∷ get_or word 5 0 ∷ get_or word 6 0 ∷ get_or word 7 0 ∷ replicate 8 0
+
+padded_at : (word : List ℕ) (j : ℕ) → j < 8 → get_or (padded word) j 0 ≡ get_or word j 0
+padded_at word zero low = refl
+padded_at word (suc zero) low = refl
+padded_at word (suc (suc zero)) low = refl
+padded_at word (suc (suc (suc zero))) low = refl
+padded_at word (suc (suc (suc (suc zero)))) low = refl
+padded_at word (suc (suc (suc (suc (suc zero))))) low = refl
+padded_at word (suc (suc (suc (suc (suc (suc zero)))))) low = refl
+padded_at word (suc (suc (suc (suc (suc (suc (suc zero))))))) low = refl
+padded_at word (suc (suc (suc (suc (suc (suc (suc (suc j)))))))) low = absurd (omega arith)
+
+pub nonzero_lanes : (tag : ℕ) (word : List ℕ) → IsWord word → tag ≡ tag_of word → take (ones tag) (take 8 (swz_l w8 16 (padded word) 0 (mark_row tag))) ≡ nonzero word
+nonzero_lanes tag word is e =
+    let low : tag < 2 ^ 8 = omega (arith, tag_below word, top_word word is) in
+    take_fewer (ones tag) 8 (swz_l w8 16 (padded word) 0 (mark_row tag)) (ones-le 8 tag low)
+    ∙ gather 8 0 tag 0 word (padded word) (replicate (16 - length (marks 8 0 tag)) 128) refl is (padded_at word) (omega arith) low
+    ∙ ap (λ t. marked t word) e
+    ∙ marked_tag word

@@ -1,0 +1,228 @@
+-- What is unpacked of a text that is shown.
+use Rattle.std.proofs.Common.{◌≡◌, ℕ, zero, suc, ◌+◌, ◌-◌, ◌*◌, ◌%◌, ◌/◌, ◌<◌, ◌≤◌, Option, Some, None, IfSome, List, [], ◌∷◌, ◌++◌}
+use Rattle.std.proofs.Common.{length, take, drop, get_or, replicate, refl, sym, ap, ◌∙◌, subst, arith, append_assoc, length-append}
+use Rattle.std.proofs.Common.{length-drop, drop-cons, add-one}
+use Rattle.std.proofs.lemmas.List.{append-nil, take_at, drop_at, take-append-drop, drop-drop, length-take-le, take-append-le}
+use Rattle.std.proofs.lemmas.List.Concat.{flat_map-append}
+use Rattle.std.proofs.lemmas.List.Folds.{concat-append}
+use Rattle.std.proofs.Math.Seq.{take-add}
+use Rattle.std.specs.List.{concat, AllByRecursion}
+use borrow.Rule.Slice.PartMut.{put_mid, post_of}
+use Rattle.capnp_frame.specs.Source.{IfKnown, IsFront, AnswersPart}
+use Rattle.capnp_frame.proofs.SourceLemmas.{AnswersPart-join, AnswersPart-none, length-put_mid}
+use Rattle.capnp_pack.specs.Group.{Group, tagged, zeros, literal, IsGroup, IsWord, AreZero, group_text, group_words, marked, unmarked}
+use Rattle.capnp_pack.specs.Piece.{text_of, words_of_groups}
+use Rattle.capnp_pack.specs.PackedSource.{Unpacks, MeetsFault}
+use Rattle.capnp_pack.specs.Steps.{MarkedAt, RunAt, GroupBehind, Unpacked}
+use Rattle.capnp_pack.proofs.AllLemmas.{AllByRecursion-append}
+use Rattle.capnp_pack.proofs.GroupLemmas.{group_takes, zeros_at}
+use Rattle.capnp_pack.proofs.WordLemmas.{MarksTo, MarksTo-more, clear_byte, set_byte, full_word}
+use Rattle.capnp_pack.proofs.WordGroups.{tagged_found, literal_found}
+
+-- a byte by its bit, in a text from `used` on
+pub bit_here : (bits used byte : ℕ) (text : List ℕ) → (bits % 2 ≡ 0 → byte ≡ 0) →
+    (bits % 2 ≡ 1 → (used < length text) × (byte ≡ get_or text used 0)) → MarkedAt bits (byte ∷ []) (drop used text) (drop (used + bits % 2) text)
+bit_here bits used byte text clear set = by_bit (bits % 2) refl
+  where
+    by_bit : (bit : ℕ) → bits % 2 ≡ bit → MarkedAt bits (byte ∷ []) (drop used text) (drop (used + bit) text)
+    by_bit zero e =
+        let none : used + 0 ≡ used = omega arith in
+        subst (λ k. MarkedAt bits (byte ∷ []) (drop used text) (drop k text)) (sym none)
+        (subst (λ b. MarkedAt bits (b ∷ []) (drop used text) (drop used text)) (sym (clear e)) (clear_byte bits (Some (drop used text)) e))
+    by_bit (suc zero) e =
+        let here = set e in
+        let front : drop used text ≡ byte ∷ drop (used + 1) text = drop-cons text used 0 here.0 ∙ ap (λ b. b ∷ drop (suc used) text) (sym here.1) ∙ ap (λ k. byte ∷ drop k text) (sym (add-one used)) in
+        set_byte bits byte (Some (drop used text)) (Some (drop (used + 1) text)) (λ z. absurd (omega arith)) front
+    by_bit (suc (suc bit)) e = absurd (omega arith)
+
+-- the next byte of a word
+pub marks_next : (tag bits byte : ℕ) (front next raw left mid : List ℕ) → next ≡ front ++ byte ∷ [] → MarksTo tag bits front raw left →
+    MarkedAt bits (byte ∷ []) left mid → MarksTo tag (bits / 2) next raw mid
+marks_next tag bits byte front next raw left mid same to here = subst (λ l. MarksTo tag (bits / 2) l raw mid) (sym same) (MarksTo-more tag bits byte front raw left mid to here)
+
+-- all of a word
+pub marks_word_whole : (tag bits : ℕ) (front word raw left : List ℕ) → front ≡ word → MarksTo tag bits front raw left → MarkedAt tag word raw left
+marks_word_whole tag bits front word raw left same p = subst (λ w. MarkedAt tag w raw left) (append-nil front ∙ same) (p.joins [] left (refl, tt))
+
+-- the groups by their tags
+
+pub tagged_behind : (tag used : ℕ) (behind word buffer : List ℕ) → 0 < tag → tag < 255 → IsWord word → used ≤ length behind → 8 ≤ length buffer →
+    take 8 buffer ≡ word → MarkedAt tag word behind (drop used behind) → GroupBehind tag behind buffer used 8
+tagged_behind tag used behind word buffer some low is within room same at = record {
+  used_within = within;
+  some = omega arith;
+  filled_within = room;
+  whole = refl;
+  group = tagged_found tag word (take 8 buffer) (Some behind) (Some (drop used behind)) some low is same at;
+}
+
+pub zeros_behind : (filled : ℕ) (behind buffer : List ℕ) → 1 ≤ length behind → get_or behind 0 0 < 256 → filled ≡ 8 * (get_or behind 0 0 + 1) →
+    filled ≤ length buffer → take filled buffer ≡ replicate filled 0 → GroupBehind 0 behind buffer 1 filled
+zeros_behind filled behind buffer long byte count room clear =
+    let front : behind ≡ get_or behind 0 0 ∷ drop 1 behind = drop-cons behind 0 0 (omega arith) in
+    record {
+      used_within = long;
+      some = omega arith;
+      filled_within = room;
+      whole = omega arith;
+      group = zeros_at (get_or behind 0 0) filled behind (drop 1 behind) (take filled buffer) byte count clear front;
+    }
+
+unmarked_none : (w : List ℕ) → unmarked 0 w ≡ w
+unmarked_none [] = refl
+unmarked_none (b ∷ w) = ap (λ l. b ∷ l) (unmarked_none w)
+
+marked_none : (w : List ℕ) → marked 0 w ≡ []
+marked_none [] = refl
+marked_none (b ∷ w) = marked_none w
+
+zeros_are : (w : List ℕ) → AreZero w → w ≡ replicate (length w) 0
+zeros_are [] all = refl
+zeros_are (b ∷ w) all = ap (λ k. k ∷ w) all.0 ∙ ap (λ l. 0 ∷ l) (zeros_are w all.1)
+
+-- a zero word alone, filled as one of which nothing is marked
+pub lone_zero_behind : (tag used : ℕ) (behind word buffer : List ℕ) → tag ≡ 0 → get_or behind 0 0 ≡ 0 → IsWord word → 9 ≤ length behind →
+    8 ≤ length buffer → take 8 buffer ≡ word → used ≤ 8 → MarkedAt tag word behind (drop used behind) → GroupBehind tag behind buffer (used + 1) 8
+lone_zero_behind tag used behind word buffer none count is long room same few at =
+    let here : MarkedAt 0 word behind (drop used behind) = subst (λ t. MarkedAt t word behind (drop used behind)) none at in
+    let all : behind ≡ drop used behind = here.0 ∙ ap (λ l. l ++ drop used behind) (marked_none word) in
+    let one : 1 ≡ used + 1 = omega (arith, ap length all, length-drop used behind) in
+    let clear : take 8 buffer ≡ replicate 8 0 = same ∙ zeros_are word (subst AreZero (unmarked_none word) here.1) ∙ ap (λ k. replicate k 0) is in
+    subst (λ t. GroupBehind t behind buffer (used + 1) 8) (sym none)
+    (subst (λ u. GroupBehind 0 behind buffer u 8) one (zeros_behind 8 behind buffer (omega arith) (omega (arith, count)) (omega (arith, count)) room clear))
+
+pub literal_behind : (run : ℕ) (behind buffer : List ℕ) → 9 + run ≤ length behind → get_or behind 8 0 < 256 → run ≡ 8 * get_or behind 8 0 →
+    8 + run ≤ length buffer → take (8 + run) buffer ≡ take 8 behind ++ take run (drop 9 behind) → GroupBehind 255 behind buffer (9 + run) (8 + run)
+literal_behind run behind buffer long byte count room same =
+    let word : IsWord (take 8 behind) = length-take-le 8 behind (omega arith) in
+    let full = full_word (take 8 behind) word in
+    let at : MarkedAt 255 (take 8 behind) behind (drop 8 behind) = (sym (take-append-drop 8 behind) ∙ ap (λ l. l ++ drop 8 behind) (sym full.0), full.1) in
+    let counted : drop 8 behind ≡ get_or behind 8 0 ∷ drop 9 behind = drop-cons behind 8 0 (omega arith) in
+    let rest : drop 9 behind ≡ take run (drop 9 behind) ++ drop (9 + run) behind = sym (take-append-drop run (drop 9 behind)) ∙ ap (λ l. take run (drop 9 behind) ++ l) (drop-drop run 9 behind) in
+    let left : length (take run (drop 9 behind)) ≡ run = length-take-le run (drop 9 behind) (omega (arith, length-drop 9 behind)) in
+    let more : RunAt (take run (drop 9 behind)) (drop 8 behind) (drop (9 + run) behind) = (get_or behind 8 0, byte, left ∙ count, counted ∙ ap (λ l. get_or behind 8 0 ∷ l) rest) in
+    record {
+      used_within = long;
+      some = omega arith;
+      filled_within = room;
+      whole = omega arith;
+      group = literal_found 255 (take 8 behind) (take run (drop 9 behind)) (take (8 + run) buffer) (Some behind) (Some (drop 8 behind)) (Some (drop (9 + run) behind)) refl word same at more;
+    }
+
+-- a group with its tag
+pub group_unpacked : (tag used filled : ℕ) (shown behind buffer : List ℕ) → shown ≡ tag ∷ behind → GroupBehind tag behind buffer used filled → Unpacked shown buffer (1 + used) filled
+group_unpacked tag used filled shown behind buffer e g =
+    let at = g.group in
+    let spelled : shown ≡ group_text at.0 ++ drop used behind = e ∙ at.3 in
+    let within : used ≤ length behind = g.used_within in
+    let len : length (group_text at.0) ≡ 1 + used = omega (arith, ap length at.3, length-append (group_text at.0) (drop used behind), length-drop used behind) in
+    record {
+      used_within = omega (arith, ap length e);
+      some = λ _. omega arith;
+      filled_within = g.filled_within;
+      whole = g.whole;
+      piece = record {
+        groups = at.0 ∷ [];
+        each = (at.1, tt);
+        spelled = ap (take (1 + used)) spelled ∙ take_at (group_text at.0) (drop used behind) (1 + used) len ∙ sym (append-nil (group_text at.0));
+        unpacked = at.2 ∙ ap concat (sym (append-nil (group_words at.0)));
+      };
+    }
+
+pub nothing_unpacked : (text buffer : List ℕ) → Unpacked text buffer 0 0
+nothing_unpacked text buffer = record {
+  used_within = omega arith;
+  some = λ none. absurd (omega arith);
+  filled_within = omega arith;
+  whole = refl;
+  piece = record { groups = []; each = tt; spelled = refl; unpacked = refl };
+}
+
+-- the front of a buffer of which the part from `a` on is filled
+pub put_part : (a b n : ℕ) (xs ys : List ℕ) → a ≤ length xs → n ≤ length ys → take (a + n) (put_mid a b xs ys) ≡ take a xs ++ take n ys
+put_part a b n xs ys within fits =
+    let post = post_of a b xs in
+    take-add a n (take a xs ++ (ys ++ post))
+    ∙ ap (λ l. l ++ take n (drop a (take a xs ++ (ys ++ post)))) (take_at (take a xs) (ys ++ post) a (length-take-le a xs within))
+    ∙ ap (λ l. take a xs ++ take n l) (drop_at (take a xs) (ys ++ post) a (length-take-le a xs within))
+    ∙ ap (λ l. take a xs ++ l) (take-append-le n ys post fits)
+
+pub put_front : (a n : ℕ) (xs ys : List ℕ) → a ≤ length xs → n ≤ length ys → take (a + n) (put_mid a (length xs - a) xs ys) ≡ take a xs ++ take n ys
+put_front a n xs ys within fits = put_part a (length xs - a) n xs ys within fits
+
+either_some : (filled used count more : ℕ) → (0 < filled → 0 < used) → (0 < count → 0 < more) → 0 < filled + count → 0 < used + more
+either_some zero used count more a b s = let some : 0 < more = b (omega arith) in omega arith
+either_some (suc filled) used count more a b s = let some : 0 < used = a (omega arith) in omega arith
+
+-- groups after groups
+pub unpacked_more : (used filled more count : ℕ) (shown rest buffer part : List ℕ) → rest ≡ drop used shown → length part ≡ length buffer - filled →
+    Unpacked shown buffer used filled → Unpacked rest part more count → Unpacked shown (put_mid filled (length buffer - filled) buffer part) (used + more) (filled + count)
+unpacked_more used filled more count shown rest buffer part e fits p q =
+    let after = put_mid filled (length buffer - filled) buffer part in
+    let len : length after ≡ length buffer = length-put_mid filled buffer part p.filled_within fits in
+    let gs = p.piece.groups in
+    let hs = q.piece.groups in
+    let within = q.used_within in
+    let inside = q.filled_within in
+    let before = p.filled_within in
+    let left = p.used_within in
+    let two = p.whole in
+    let both = q.whole in
+    record {
+      used_within = omega (arith, ap length e, length-drop used shown);
+      some = either_some filled used count more p.some q.some;
+      filled_within = omega arith;
+      whole = omega arith;
+      piece = record {
+        groups = gs ++ hs;
+        each = AllByRecursion-append IsGroup gs hs p.piece.each q.piece.each;
+        spelled = take-add used more shown ∙ ap (λ l. take used shown ++ take more l) (sym e) ∙ ap (λ l. l ++ take more rest) p.piece.spelled
+            ∙ ap (λ l. text_of gs ++ l) q.piece.spelled ∙ sym (flat_map-append group_text gs hs);
+        unpacked = put_front filled count buffer part before inside ∙ ap (λ l. l ++ take count part) p.piece.unpacked
+            ∙ ap (λ l. concat (words_of_groups gs) ++ l) q.piece.unpacked ∙ sym (concat-append (words_of_groups gs) (words_of_groups hs))
+            ∙ ap concat (sym (flat_map-append group_words gs hs));
+      };
+    }
+
+-- groups at the front answer a part of each request that they fit into
+
+group_first : (g : Group) (n : ℕ) (left : List ℕ) → IsGroup g → length (concat (group_words g)) ≤ n → AnswersPart Unpacks MeetsFault n (concat (group_words g)) (group_text g ++ left) left
+group_first (tagged tag word) n left is fits = group_takes n tag _ (marked tag word ++ left) left (tagged tag word, is, refl, refl) fits
+group_first (zeros further) n left is fits = group_takes n 0 _ (further ∷ left) left (zeros further, is, refl, refl) fits
+group_first (literal word further) n left is fits = group_takes n 255 _ ((word ++ length further ∷ concat further) ++ left) left (literal word further, is, refl, refl) fits
+
+piece_takes : (gs : List Group) (n : ℕ) (left : List ℕ) → AllByRecursion IsGroup gs → length (concat (words_of_groups gs)) ≤ n →
+    AnswersPart Unpacks MeetsFault n (concat (words_of_groups gs)) (text_of gs ++ left) left
+piece_takes [] n left each fits = AnswersPart-none n left
+piece_takes (g ∷ gs) n left each fits =
+    let parts : concat (words_of_groups (g ∷ gs)) ≡ concat (group_words g) ++ concat (words_of_groups gs) = concat-append (group_words g) (words_of_groups gs) in
+    let size = length-append (concat (group_words g)) (concat (words_of_groups gs)) in
+    let whole = ap length parts in
+    let first = group_first g n (text_of gs ++ left) each.0 (omega arith) in
+    let others = piece_takes gs (n - length (concat (group_words g))) left each.1 (omega arith) in
+    subst (λ l. AnswersPart Unpacks MeetsFault n l (text_of (g ∷ gs) ++ left) left) (sym parts)
+    (subst (λ l. AnswersPart Unpacks MeetsFault n (concat (group_words g) ++ concat (words_of_groups gs)) l left) (sym (append_assoc (group_text g) (text_of gs) left))
+    (AnswersPart-join n (concat (group_words g)) (concat (words_of_groups gs)) _ (text_of gs ++ left) left first others))
+
+taken_from : (used filled : ℕ) (shown buffer : List ℕ) (old new : Option (List ℕ)) → IfSome old (IsFront shown) →
+    IfKnown old new (λ raw left. left ≡ drop used raw) → Unpacked shown buffer used filled → IfKnown old new (AnswersPart Unpacks MeetsFault (length buffer) (take filled buffer))
+taken_from used filled shown buffer None new front gone p = tt
+taken_from used filled shown buffer (Some raw) None front gone p = absurd gone
+taken_from used filled shown buffer (Some raw) (Some left) front gone p =
+    let gs = p.piece.groups in
+    let text : take used raw ≡ text_of gs = ap (take used) front.1 ∙ take-append-le used shown front.0 p.used_within ∙ p.piece.spelled in
+    let whole : raw ≡ text_of gs ++ left = sym (take-append-drop used raw) ∙ ap (λ l. l ++ drop used raw) text ∙ ap (λ l. text_of gs ++ l) (sym gone) in
+    let part : length (take filled buffer) ≡ filled = length-take-le filled buffer p.filled_within in
+    let inside = p.filled_within in
+    let fits : length (concat (words_of_groups gs)) ≤ length buffer = omega (arith, ap length p.piece.unpacked) in
+    subst (λ l. AnswersPart Unpacks MeetsFault (length buffer) l raw left) (sym p.piece.unpacked)
+    (subst (λ l. AnswersPart Unpacks MeetsFault (length buffer) (concat (words_of_groups gs)) l left) (sym whole) (piece_takes gs (length buffer) left p.piece.each fits))
+
+-- what taking the groups that are shown says
+pub shown_takes : (used filled : ℕ) (shown buffer : List ℕ) (old mid new : Option (List ℕ)) → IfSome old (IsFront shown) → mid ≡ old →
+    IfKnown mid new (λ raw left. left ≡ drop used raw) → Unpacked shown buffer used filled → IfKnown old new (AnswersPart Unpacks MeetsFault (length buffer) (take filled buffer))
+shown_takes used filled shown buffer old mid new front same gone p = taken_from used filled shown buffer old new front (subst (λ o. IfKnown o new (λ raw left. left ≡ drop used raw)) same gone) p
+
+pub shown_some : (used filled : ℕ) (shown buffer : List ℕ) (old : Option (List ℕ)) → IfSome old (IsFront shown) → Unpacked shown buffer used filled → 0 < filled → IfSome old (λ raw. raw ≡ [] → ⊥)
+shown_some used filled shown buffer None front p some = tt
+shown_some used filled shown buffer (Some raw) front p some = λ none. absurd (omega (arith, p.some, p.used_within, ap length front.1, ap length none, length-append shown front.0))

@@ -1,0 +1,20 @@
+-- The table has each byte's place.
+use Rattle.std.proofs.Common.{rules, arith, ◌≡◌, ◌<◌, ◌∙◌, sym, ap, subst, take, length, w8}
+use lib.Count.{ones}
+use borrow.Rule.Simd.Moves.{SwzOk, swz_l}
+use Rattle.capnp_pack.proofs.MarkLemmas.{mark_row_of, mark_row_ok, nonzero_lanes, ones_tag, padded}
+use Rattle.capnp_pack.proofs.buffer.nonzero_front.Goals as goal
+
+pub swizzle : goal.swizzle
+swizzle c =
+    let low : c.args.tag < 256 = omega arith in
+    subst (SwzOk w8 16 16 0) (sym (mark_row_of c.args.tag _ low)) (mark_row_ok c.args.tag)
+
+pub returns-clause-counted : goal.returns-clause-counted
+returns-clause-counted c = ap ones c.requires ∙ ones_tag c.args.word.now
+
+pub returns-clause-front : goal.returns-clause-front
+returns-clause-front c =
+    let low : c.args.tag < 256 = omega arith in
+    let is : length c.args.word.now ≡ 8 = search rules in
+    ap (λ js. take (ones c.args.tag) (take 8 (swz_l w8 16 (padded c.args.word.now) 0 js))) (mark_row_of c.args.tag _ low) ∙ nonzero_lanes c.args.tag c.args.word.now is c.requires

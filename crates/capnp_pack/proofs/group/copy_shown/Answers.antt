@@ -1,0 +1,9 @@
+-- What is copied is the front of what is shown.
+use Rattle.std.proofs.Common.{rules, take}
+use Rattle.capnp_pack.proofs.StoredLemmas.{shown_taken}
+use Rattle.capnp_pack.proofs.group.copy_shown.Goals as goal
+
+pub returns-clause-found : goal.returns-clause-found
+returns-clause-found g c =
+    shown_taken c.min-count.result c.in_ok-shown.shown.now (take c.min-count.result c.copy_front.new.buffer) _ _ _ c.in_ok-shown.ensures.front
+    (search rules) c.consume.ensures.taken (search rules) c.copy_front.ensures

@@ -1,0 +1,11 @@
+-- Each bit is a lane's.
+use Rattle.std.proofs.Common.{rules, ◌≡◌}
+use Rattle.std.specs.List.{flat_map}
+use Rattle.capnp_pack.proofs.Chunks.{each_word}
+use Rattle.capnp_pack.proofs.EightLemmas.{zeros_eight}
+use Rattle.capnp_pack.proofs.runs.zeros_of_eight.Goals as goal
+
+pub returns : goal.returns
+returns c =
+    let flat : c.as_flattened.result.now ≡ flat_map (λ x. x) c.args.words.now = search rules in
+    zeros_eight c.args.words.now c.as_flattened.result.now (each_word c.args.words.now c.told-words) c.requires flat

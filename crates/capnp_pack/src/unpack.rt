@@ -1,0 +1,240 @@
+//! Unpacking what a source shows, with no further look at the source.
+//!
+//! Just whole groups are taken that fit the buffer. One that isn't shown whole, or does not fit, is
+//! left to `group.rt`, which reads it through the source.
+ghost use Rattle.std.specs.Prelude.{◌≡◌, ◌<◌, ◌≤◌, ◌+◌, ◌%◌, ◌∷◌, [], length, take, drop, replicate, IfSome};
+ghost use Rattle.capnp_pack.specs.Steps.{MarkedAt, GroupBehind, Unpacked};
+
+use crate::places::PLACES;
+use std::simd::prelude::*;
+
+// How many bytes of a text are taken, and how many bytes of words they fill.
+#[derive(Clone, Copy)]
+pub(crate) struct Taken {
+    pub used: usize,
+    pub filled: usize,
+}
+
+// Fills the front of a buffer by the groups at the front of what is shown.
+pub(crate) fn unpack_shown(shown: &[u8], buffer: &mut [u8]) -> Taken
+    ensures { Unpacked shown.now buffer.new result.used result.filled }
+{
+    let mut used = 0;
+    let mut filled = 0;
+    while buffer.len() - filled >= 8 {
+        let Some(group) = unpack_group(&shown[used..], &mut buffer[filled..]) else {
+            break;
+        };
+        used += group.used;
+        filled += group.filled;
+    }
+    Taken { used, filled }
+}
+
+// Fills the front of a buffer by the first group.
+#[inline(always)]
+fn unpack_group(shown: &[u8], buffer: &mut [u8]) -> Option<Taken>
+    requires { 8 ≤ length buffer.old }
+    ensures some { IfSome result (λ taken. 0 < taken.filled) }
+    ensures group { IfSome result (λ taken.
+        Unpacked shown.now buffer.new taken.used taken.filled) }
+{
+    let (tag, behind) = shown.split_first()?;
+    let rest = unpack_behind(*tag, behind, buffer)?;
+    Some(Taken {
+        used: 1 + rest.used,
+        filled: rest.filled,
+    })
+}
+
+// Fills the front of a buffer by the group of this tag.
+#[inline(always)]
+fn unpack_behind(tag: u8, behind: &[u8], buffer: &mut [u8]) -> Option<Taken>
+    requires { 8 ≤ length buffer.old }
+    ensures { IfSome result (λ taken.
+        GroupBehind tag behind.now buffer.new taken.used taken.filled) }
+{
+    if behind.len() >= 9 {
+        return unpack_near(tag, behind, buffer);
+    }
+    unpack_last(tag, behind, buffer)
+}
+
+// Where its word and its count are shown.
+#[inline(always)]
+fn unpack_near(tag: u8, behind: &[u8], buffer: &mut [u8]) -> Option<Taken>
+    requires long { 9 ≤ length behind.now }
+    requires room { 8 ≤ length buffer.old }
+    ensures { IfSome result (λ taken.
+        GroupBehind tag behind.now buffer.new taken.used taken.filled) }
+{
+    if tag == 255 {
+        return unpack_literal(behind, buffer);
+    }
+    // One number, so that a zero word alone takes no branch of its own.
+    let kind = tag as usize * 256 + behind[0].wrapping_sub(1) as usize;
+    if kind < 255 {
+        return unpack_zeros(behind, buffer);
+    }
+    let marked = unpack_tagged(tag, behind, &mut buffer[..8]);
+    let used = if tag == 0 { marked + 1 } else { marked };
+    Some(Taken { used, filled: 8 })
+}
+
+// Where fewer bytes are shown, byte by byte.
+fn unpack_last(tag: u8, behind: &[u8], buffer: &mut [u8]) -> Option<Taken>
+    requires room { 8 ≤ length buffer.old }
+    ensures { IfSome result (λ taken.
+        GroupBehind tag behind.now buffer.new taken.used taken.filled) }
+{
+    if behind.is_empty() || tag == 255 {
+        return None;
+    }
+    if tag == 0 {
+        return unpack_zeros(behind, buffer);
+    }
+    let used = unpack_bytes(tag, behind, &mut buffer[..8])?;
+    Some(Taken { used, filled: 8 })
+}
+
+// Fills zero words at once.
+fn unpack_zeros(behind: &[u8], buffer: &mut [u8]) -> Option<Taken>
+    requires some { 1 ≤ length behind.now }
+    requires room { 8 ≤ length buffer.old }
+    ensures { IfSome result (λ taken.
+        GroupBehind 0 behind.now buffer.new taken.used taken.filled) }
+{
+    let further = 8 * behind[0] as usize;
+    if further > buffer.len() - 8 {
+        return None;
+    }
+    clear_front(8, buffer);
+    clear_front(further, &mut buffer[8..]);
+    Some(Taken {
+        used: 1,
+        filled: 8 + further,
+    })
+}
+
+#[inline(always)]
+fn clear_front(count: usize, buffer: &mut [u8])
+    requires { count ≤ length buffer.old }
+    ensures { take count buffer.new ≡ replicate count 0 }
+{
+    if count == 0 {
+        return;
+    }
+    buffer[..count].fill(0);
+}
+
+// Copies a word and the words after its count.
+fn unpack_literal(behind: &[u8], buffer: &mut [u8]) -> Option<Taken>
+    requires long { 9 ≤ length behind.now }
+    requires room { 8 ≤ length buffer.old }
+    ensures { IfSome result (λ taken.
+        GroupBehind 255 behind.now buffer.new taken.used taken.filled) }
+{
+    let run = 8 * behind[8] as usize;
+    if run > behind.len() - 9 || run > buffer.len() - 8 {
+        return None;
+    }
+    copy_front(8, behind, buffer);
+    copy_front(run, &behind[9..], &mut buffer[8..]);
+    Some(Taken {
+        used: 9 + run,
+        filled: 8 + run,
+    })
+}
+
+#[inline(always)]
+pub(crate) fn copy_front(count: usize, text: &[u8], buffer: &mut [u8])
+    requires text { count ≤ length text.now }
+    requires room { count ≤ length buffer.old }
+    ensures { take count buffer.new ≡ take count text.now }
+{
+    if count == 0 {
+        return;
+    }
+    buffer[..count].copy_from_slice(&text[..count]);
+}
+
+// Fills a word by the bytes that a tag marks, and answers how many they are.
+#[inline(always)]
+pub(crate) fn unpack_tagged(tag: u8, text: &[u8], word: &mut [u8]) -> usize
+    requires long { 8 ≤ length text.now }
+    requires word { length word.old ≡ 8 }
+    ensures used { result ≤ 8 }
+    ensures marked { MarkedAt tag word.new text.now (drop result text.now) }
+{
+    if text.len() >= 16 {
+        return unpack_lanes(tag, text, word);
+    }
+    unpack_word(tag, text, word)
+}
+
+// Each marked byte is moved to its place at once.
+#[inline(always)]
+fn unpack_lanes(tag: u8, text: &[u8], word: &mut [u8]) -> usize
+    requires long { 16 ≤ length text.now }
+    requires word { length word.old ≡ 8 }
+    ensures used { result ≤ 8 }
+    ensures marked { MarkedAt tag word.new text.now (drop result text.now) }
+{
+    let places = u8x16::from_array(PLACES[tag as usize]);
+    let lanes = u8x16::from_slice(text).swizzle_dyn(places).to_array();
+    word.copy_from_slice(&lanes[..8]);
+    tag.count_ones() as usize
+}
+
+// The same byte by byte.
+#[inline(always)]
+fn unpack_word(tag: u8, text: &[u8], word: &mut [u8]) -> usize
+    requires long { 8 ≤ length text.now }
+    requires word { length word.old ≡ 8 }
+    ensures used { result ≤ 8 }
+    ensures marked { MarkedAt tag word.new text.now (drop result text.now) }
+{
+    let mut bits = tag;
+    let mut used = 0;
+    for byte in word.iter_mut() {
+        *byte = kept(bits, text[used]);
+        used += (bits % 2) as usize;
+        bits /= 2;
+    }
+    used
+}
+
+// The byte where the lowest bit marks it, else zero.
+#[inline(always)]
+fn kept(bits: u8, byte: u8) -> u8
+    ensures clear { bits % 2 ≡ 0 → result ≡ 0 }
+    ensures set { bits % 2 ≡ 1 → result ≡ byte }
+{
+    if bits % 2 == 0 { 0 } else { byte }
+}
+
+// The same while the text lasts.
+fn unpack_bytes(tag: u8, text: &[u8], word: &mut [u8]) -> Option<usize>
+    ensures used { IfSome result (λ used. used ≤ length text.now) }
+    ensures marked { IfSome result (λ used. MarkedAt tag word.new text.now (drop used text.now)) }
+{
+    let mut bits = tag;
+    let mut used = 0;
+    for byte in word.iter_mut() {
+        *byte = next_of(bits, text, used)?;
+        used += (bits % 2) as usize;
+        bits /= 2;
+    }
+    Some(used)
+}
+
+fn next_of(bits: u8, text: &[u8], used: usize) -> Option<u8>
+    ensures used { IfSome result (λ _. used ≤ length text.now → used + bits % 2 ≤ length text.now) }
+    ensures marked { IfSome result (λ byte.
+        MarkedAt bits (byte ∷ []) (drop used text.now) (drop (used + bits % 2) text.now)) }
+{
+    if bits % 2 == 0 {
+        return Some(0);
+    }
+    text.get(used).copied()
+}
