@@ -2,17 +2,13 @@
 use Rattle.std.proofs.Common.{◌≡◌, ℕ, ◌+◌, ◌<◌, ◌≤◌, List, [], ◌∷◌, subst, arith}
 use Rattle.capnp_wire.specs.Tree.{Form, Trees, none, tree}
 use Rattle.capnp_wire.specs.Reached.{At, nowhere, at, IsIn, here, there, Below, directly, further}
-use Rattle.capnp_wire.specs.declared.layout.Place.{Place}
+use Rattle.capnp_wire.specs.declared.layout.place.Place.{Place}
 use Rattle.capnp_wire.proofs.ObjectLemmas.{one_object, one_tree}
 
 -- how many pointers trees have
 objects : Trees → ℕ
 objects none = 0
 objects (tree form held rest) = 1 + objects held + objects rest
-
-held_of : Trees → Trees
-held_of none = none
-held_of (tree form held rest) = held
 
 -- a tree of its own at a place, that holds fewer than n pointers
 record Smaller (m : List (List ℕ)) (place : Place) (n : ℕ) : Type 0 where

@@ -8,10 +8,11 @@ use Rattle.capnp_wire.specs.Pointer.{words_of, words_from}
 use Rattle.capnp_wire.specs.Element.{code_of}
 use Rattle.capnp_wire.specs.Tree.{Form, numbers}
 use Rattle.capnp_wire.specs.Object.{elements, places}
+use Rattle.capnp_wire.specs.Charge.{Within}
 use Rattle.capnp_wire.specs.Landing.{shape_of}
-use Rattle.capnp_wire.specs.Views.{Pointer, at_place, Shows, IsText, HasData, TakesNumbers, TakesText, TakesStruct, DeclinesNumbers, DeclinesText, DeclinesStruct}
+use Rattle.capnp_wire.specs.Views.{Pointer, at_place, Shows, Reads, IsText, HasData, TakesNumbers, TakesText, TakesStruct, DeclinesNumbers, DeclinesText, DeclinesStruct}
 use Rattle.capnp_wire.specs.Readers.{IsEntered, form_of}
-use Rattle.capnp_wire.specs.declared.layout.Place.{Place}
+use Rattle.capnp_wire.specs.declared.layout.place.Place.{Place}
 use Rattle.capnp_wire.specs.declared.layout.element.ElementSize.{ElementSize}
 use Rattle.capnp_wire.specs.declared.layout.element.ElementSize.TheVariants.{Void, Bit, Byte, TwoBytes, FourBytes, EightBytes}
 use Rattle.capnp_wire.specs.declared.layout.object.Body.{Body}
@@ -19,12 +20,19 @@ use Rattle.capnp_wire.specs.declared.layout.object.Body.TheVariants.{Struct, Num
 use Rattle.capnp_wire.specs.declared.layout.pointer.StructSize.{StructSize}
 use Rattle.capnp_wire.specs.declared.layout.object.Object.{Object as ReadObject}
 
--- what holds of the form of an object that was entered is shown of its pointer
+-- what holds of the form of an object that was entered is shown of its pointer, and read of it
 pub entered_shows : (p : Pointer) (object : ReadObject) (fact : Form → Type 0) → IsEntered p object → fact (form_of object) → Shows p (λ shape. fact shape.form)
 entered_shows p object fact entered holds = (
   record (shape_of (words_of object.segment.now) object.start object.body) { charge = object.charge },
   at_place entered.stands entered.object_is.object (λ not. entered.level),
   holds,
+)
+
+pub entered_reads : (p : Pointer) (object : ReadObject) (fact : Form → Type 0) → IsEntered p object → fact (form_of object) → Reads p fact
+entered_reads p object fact entered holds = (
+  record (shape_of (words_of object.segment.now) object.start object.body) { charge = object.charge },
+  at_place entered.stands entered.object_is.object (λ not. entered.level),
+  (holds, entered.within),
 )
 
 -- a list of numbers is not declined by what takes it
@@ -52,8 +60,9 @@ other_numbers words start (Numbers size n) wanted none t = none n (ap (λ x. Num
 other_numbers words start (Pointers n) wanted none t = t
 other_numbers words start (Structs elements_there behind) wanted none t = t
 
-pub other_than_numbers : (object : ReadObject) (wanted : ElementSize) (refusal : ErrorKind) → ((n : ℕ) → object.body ≡ Numbers wanted n → ⊥) → refusal ≡ WrongPointerKind → DeclinesNumbers (code_of wanted) (form_of object) refusal
-other_than_numbers object wanted refusal none is = (other_numbers (words_of object.segment.now) object.start object.body wanted none, is)
+pub other_than_numbers : (object : ReadObject) (wanted : ElementSize) (kind : ErrorKind) → ((n : ℕ) → object.body ≡ Numbers wanted n → ⊥)
+    → kind ≡ WrongPointerKind → DeclinesNumbers (code_of wanted) (form_of object) kind
+other_than_numbers object wanted kind none is = (other_numbers (words_of object.segment.now) object.start object.body wanted none, is)
 
 other_struct : (words : List ℕ) (start : Place) (body : Body) → ((size : StructSize) → body ≡ Struct size → ⊥) → TakesStruct (shape_of words start body).form → ⊥
 other_struct words start (Struct size) none t = none size refl
@@ -61,20 +70,21 @@ other_struct words start (Numbers size n) none t = t
 other_struct words start (Pointers n) none t = t
 other_struct words start (Structs elements_there behind) none t = t
 
-pub other_than_struct : (object : ReadObject) (refusal : ErrorKind) → ((size : StructSize) → object.body ≡ Struct size → ⊥) → refusal ≡ WrongPointerKind → DeclinesStruct (form_of object) refusal
-other_than_struct object refusal none is = (other_struct (words_of object.segment.now) object.start object.body none, is)
+pub other_than_struct : (object : ReadObject) (kind : ErrorKind) → ((size : StructSize) → object.body ≡ Struct size → ⊥) → kind ≡ WrongPointerKind → DeclinesStruct (form_of object) kind
+other_than_struct object kind none is = (other_struct (words_of object.segment.now) object.start object.body none, is)
 
 -- the fields of a struct that was entered
 pub struct_shows : (p : Pointer) (object : ReadObject) (size : StructSize) → IsEntered p object → object.body ≡ Struct size
     → Shows p (λ shape. HasData shape.form (words_from (words_of object.segment.now) object.start.word size.data_words)
-    × (places object.start.segment (object.start.word + size.data_words) size.pointers ≡ shape.held))
+    × (places object.start.segment (object.start.word + size.data_words) size.pointers ≡ shape.held) × Within p.limit shape.charge)
 struct_shows p object size entered body =
     let words = words_of object.segment.now in
     let fact : Body → Type 0 = λ b. HasData (shape_of words object.start b).form (words_from words object.start.word size.data_words)
-    × (places object.start.segment (object.start.word + size.data_words) size.pointers ≡ (shape_of words object.start b).held) in (
+    × (places object.start.segment (object.start.word + size.data_words) size.pointers ≡ (shape_of words object.start b).held) in
+    let holds : fact object.body = subst fact (sym body) (refl, refl) in (
       record (shape_of words object.start object.body) { charge = object.charge },
       at_place entered.stands entered.object_is.object (λ not. entered.level),
-      subst fact (sym body) (refl, refl),
+      (holds.0, holds.1, entered.within),
     )
 
 -- a list of bytes that ends with a zero, and one that does not
@@ -93,9 +103,9 @@ no_zero_behind bytes text n e long =
 pub ends_with_zero : (form : Form) (bytes text : List ℕ) → form ≡ numbers 2 bytes → bytes ≡ text ++ 0 ∷ [] → IsText form text
 ends_with_zero form bytes text is ends = subst (λ f. IsText f text) (sym is) (refl, ends)
 
-pub no_zero_at_end : (form : Form) (bytes : List ℕ) (refusal : ErrorKind) → form ≡ numbers 2 bytes
-    → ((text : List ℕ) → bytes ≡ text ++ 0 ∷ [] → ⊥) → refusal ≡ TextNotTerminated → DeclinesText form refusal
-no_zero_at_end form bytes refusal form_is none is =
-    let declined : (TakesNumbers 2 (numbers 2 bytes)) × (TakesText (numbers 2 bytes) → ⊥) × (refusal ≡ TextNotTerminated) =
+pub no_zero_at_end : (form : Form) (bytes : List ℕ) (kind : ErrorKind) → form ≡ numbers 2 bytes
+    → ((text : List ℕ) → bytes ≡ text ++ 0 ∷ [] → ⊥) → kind ≡ TextNotTerminated → DeclinesText form kind
+no_zero_at_end form bytes kind form_is none is =
+    let declined : (TakesNumbers 2 (numbers 2 bytes)) × (TakesText (numbers 2 bytes) → ⊥) × (kind ≡ TextNotTerminated) =
     (refl, (λ t. none t.1.0 t.1.1), is) in
-    subst (λ f. DeclinesText f refusal) (sym form_is) (inr declined)
+    subst (λ f. DeclinesText f kind) (sym form_is) (inr declined)

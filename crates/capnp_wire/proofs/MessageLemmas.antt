@@ -2,7 +2,7 @@
 use Rattle.std.proofs.Common.{◌≡◌, ℕ, zero, suc, List, [], ◌∷◌, Some, None, slice_get, refl, ap}
 use Rattle.capnp_wire.specs.Pointer.{words_of}
 use Rattle.capnp_wire.specs.Object.{message_of, word_at}
-use Rattle.capnp_wire.specs.declared.layout.Place.{Place}
+use Rattle.capnp_wire.specs.declared.layout.place.Place.{Place}
 
 pub segment_stands : (segments : List (List ℕ)) (i : ℕ) (bytes : List ℕ) → slice_get segments i ≡ Some bytes → slice_get (message_of segments) i ≡ Some (words_of bytes)
 segment_stands [] i bytes e = cc

@@ -2,18 +2,19 @@
 use Rattle.std.proofs.Common.{◌≡◌, ℕ, List, Some, refl, ap, subst, sym, ◌∙◌, arith}
 use Rattle.capnp_wire.specs.Pointer.{list_count, offset, data_words, pointer_words}
 use Rattle.capnp_wire.specs.Tree.{Trees}
-use Rattle.capnp_wire.specs.Object.{word_at, Origin, behind, exactly, Begins, Landing, Lands, near, far, double_far, pad, pad_tag, Shape, Stands, structs_shape, a_struct, some_numbers, some_pointers, some_structs, Object, is_null, is_object}
+use Rattle.capnp_wire.specs.Object.{word_at, Origin, behind, exactly, IsStart, Target, Lands, near, far, double_far, pad, pad_tag, Shape, ShapeStands, structs_shape, a_struct, some_numbers}
+use Rattle.capnp_wire.specs.Object.{some_pointers, some_structs, PointsTo, is_null, is_object}
 use Rattle.capnp_wire.specs.Reached.{At, nowhere, at}
-use Rattle.capnp_wire.specs.declared.layout.Place.{Place}
+use Rattle.capnp_wire.specs.declared.layout.place.Place.{Place}
 
 pub same_word : (m : List (List ℕ)) (place : Place) (v w : ℕ) → word_at m place ≡ Some v → word_at m place ≡ Some w → v ≡ w
 same_word m place v w e f = cc
 
-pub one_start : (origin : Origin) (tag s t : ℕ) → Begins origin tag s → Begins origin tag t → s ≡ t
+pub one_start : (origin : Origin) (tag s t : ℕ) → IsStart origin tag s → IsStart origin tag t → s ≡ t
 one_start (behind word) tag s t p q = omega arith
 one_start (exactly word) tag s t p q = p ∙ sym q
 
-pub one_landing : (m : List (List ℕ)) (place : Place) (c d : Landing) → Lands m place c → Lands m place d → c ≡ d
+pub one_landing : (m : List (List ℕ)) (place : Place) (c d : Target) → Lands m place c → Lands m place d → c ≡ d
 one_landing m place c d (near {word = v} e _ _) (near {word = w} f _ _) =
     let same : v ≡ w = same_word m place v w e f in cc
 one_landing m place c d (near {word = v} e _ k) (far {word = w} f x _ _) = let same : v ≡ w = same_word m place v w e f in absurd (omega arith)
@@ -32,7 +33,7 @@ one_landing m place c d (double_far {word = v} {inner = i} {tag = a} e _ p _ x _
     let tags : a ≡ b = same_word m (pad_tag w) a b (subst (λ z. word_at m (pad_tag z) ≡ Some a) same x) y in
     cc
 
-pub one_shape : (words : List ℕ) (start : Place) (pointer : ℕ) (s t : Shape) → Stands words start pointer s → Stands words start pointer t → s ≡ t
+pub one_shape : (words : List ℕ) (start : Place) (pointer : ℕ) (s t : Shape) → ShapeStands words start pointer s → ShapeStands words start pointer t → s ≡ t
 one_shape words start pointer s t (a_struct k _) (a_struct l _) = refl
 one_shape words start pointer s t (a_struct k _) (some_numbers l _ _) = absurd (omega arith)
 one_shape words start pointer s t (a_struct k _) (some_pointers l _ _) = absurd (omega arith)
@@ -52,29 +53,30 @@ one_shape words start pointer s t (some_structs {tag = v} _ _ _ e _ _) (some_str
     let same : v ≡ w = cc in
     ap (λ x. structs_shape words start (data_words x) (pointer_words x) (offset x) (list_count pointer)) same
 
-pub null_lands_nowhere : (m : List (List ℕ)) (place : Place) (c : Landing) → word_at m place ≡ Some 0 → Lands m place c → ⊥
+pub null_lands_nowhere : (m : List (List ℕ)) (place : Place) (c : Target) → word_at m place ≡ Some 0 → Lands m place c → ⊥
 null_lands_nowhere m place c e (near {word = w} f positive _) = let none : 0 ≡ w = same_word m place 0 w e f in omega arith
 null_lands_nowhere m place c e (far {word = w} f k _ _) = let none : 0 ≡ w = same_word m place 0 w e f in omega arith
 null_lands_nowhere m place c e (double_far {word = w} f k _ _ _ _ _) = let none : 0 ≡ w = same_word m place 0 w e f in omega arith
 
-pub one_object : (m : List (List ℕ)) (place : Place) (s t : Shape) → Object m place s → Object m place t → s ≡ t
+pub one_object : (m : List (List ℕ)) (place : Place) (s t : Shape) → PointsTo m place s → PointsTo m place t → s ≡ t
 one_object m place s t (is_null e) (is_null f) = refl
 one_object m place s t (is_null e) (is_object lands _ _ _) = absurd (null_lands_nowhere m place _ e lands)
 one_object m place s t (is_object lands _ _ _) (is_null e) = absurd (null_lands_nowhere m place _ e lands)
 one_object m place s t (is_object {landing = c} {words = v} {start = i} {shape = a} lands e begins stands) (is_object {landing = d} {words = w} {start = j} {shape = b} lands' f begins' stands') =
     let landing : c ≡ d = one_landing m place c d lands lands' in
     let words : v ≡ w = cc in
-    let start : i ≡ j = one_start d.origin d.tag i j (subst (λ (x : Landing). Begins x.origin x.tag i) landing begins) begins' in
-    let moved : Stands w (record { segment = d.segment; word = j }) d.tag a =
-    subst (λ (x : ℕ). Stands w (record { segment = d.segment; word = x }) d.tag a) start
-    (subst (λ (x : Landing). Stands w (record { segment = x.segment; word = i }) x.tag a) landing
-    (subst (λ x. Stands x (record { segment = c.segment; word = i }) c.tag a) words stands)) in
+    let start : i ≡ j = one_start d.origin d.tag i j (subst (λ (x : Target). IsStart x.origin x.tag i) landing begins) begins' in
+    let moved : ShapeStands w (record { segment = d.segment; word = j }) d.tag a =
+    subst (λ (x : ℕ). ShapeStands w (record { segment = d.segment; word = x }) d.tag a) start
+    (subst (λ (x : Target). ShapeStands w (record { segment = x.segment; word = i }) x.tag a) landing
+    (subst (λ x. ShapeStands x (record { segment = c.segment; word = i }) c.tag a) words stands)) in
     let shape : a ≡ b = one_shape w (record { segment = d.segment; word = j }) d.tag a b moved stands' in
     cc
 
 pub one_tree : (m : List (List ℕ)) (places : List Place) (a b : Trees) (x y : ℕ) → At m places a x → At m places b y → (a ≡ b) × (x ≡ y)
 one_tree m places a b x y nowhere nowhere = (refl, refl)
-one_tree m places a b x y (at {others = others} {shape = s} {held = h} {rest = r} {inside = i} {behind = n} o inner after) (at {shape = t} {held = h'} {rest = r'} {inside = i'} {behind = n'} o' inner' after') =
+one_tree m places a b x y (at {others = others} {shape = s} {held = h} {rest = r} {inside = i} {behind = n} o inner after)
+    (at {shape = t} {held = h'} {rest = r'} {inside = i'} {behind = n'} o' inner' after') =
     let shape : s ≡ t = one_object m _ s t o o' in
     let held = one_tree m t.held h h' i i' (subst (λ z. At m z.held h i) shape inner) inner' in
     let rest = one_tree m others r r' n n' after after' in

@@ -1,151 +1,141 @@
 -- How far a walk over what an object holds has come.
-use Rattle.std.proofs.Common.{◌≡◌, ℕ, ◌+◌, ◌-◌, ◌<◌, List, [], ◌∷◌, ◌++◌, length, Option, sym, ◌∙◌, ap, subst, append_assoc}
+use Rattle.std.proofs.Common.{◌≡◌, Bool, ℕ, ◌+◌, ◌-◌, ◌<◌, List, [], ◌∷◌, ◌++◌, Option, Result, Ok, Err, OnOk, IfErr, refl, sym, ◌∙◌, ap, subst, append_assoc}
 use Rattle.std.proofs.lemmas.List.{append-nil}
+use Rattle.capnp_frame.specs.declared.error.Error.{Error}
 use Rattle.capnp_frame.specs.declared.error.ErrorKind.{ErrorKind}
-use Rattle.capnp_wire.specs.Tree.{own_words}
-use Rattle.capnp_wire.specs.Object.{Shape, Object, nothing}
-use Rattle.capnp_wire.specs.Charge.{Within, CountsMore, Walked, less, Stand}
-use Rattle.capnp_wire.specs.Faults.{Stops, inside}
-use Rattle.capnp_wire.specs.declared.layout.Place.{Place}
-use Rattle.capnp_wire.proofs.StandLemmas.{within_none, less_none, within_both, less_both, counts_none, counts_both, stand_nowhere, stand_both, stand_over, stand_null}
+use Rattle.capnp_wire.specs.Pointer.{words_of}
+use Rattle.capnp_wire.specs.Tree.{total_words}
+use Rattle.capnp_wire.specs.Object.{Shape, PointsTo, nothing}
+use Rattle.capnp_wire.specs.Landing.{IsObject, shape_of, words_in}
+use Rattle.capnp_wire.specs.Charge.{Within, CountsMore, Walked, WalkedAll, less, TreesWithRoom}
+use Rattle.capnp_wire.specs.Copy.{formed_body}
+use Rattle.capnp_wire.specs.Faults.{StopsWalk, inside}
+use Rattle.capnp_wire.specs.declared.layout.place.Place.{Place}
+use Rattle.capnp_wire.specs.declared.layout.object.Object.{Object as ReadObject}
+use Rattle.capnp_wire.proofs.StandLemmas.{within_none, less_none, within_both, less_both, counts_none, counts_both}
+use Rattle.capnp_wire.proofs.StoodLemmas.{OwnOf, own_formed, stood_nowhere, stood_both, stood_over, stood_null, plain_stand}
 use Rattle.capnp_wire.proofs.StopLemmas.{stops_more, stops_after}
 
 -- How far a walk over the places that an object holds has come: which are done, and what is left of the limit
 -- and counted since.
-pub record Progress (m : List (List ℕ)) (held rest : List Place) (level : ℕ) (limit left words_before words_now : Option ℕ) : Type 0 where
+pub record Progress (m : List (List ℕ)) (c : Bool) (held rest : List Place) (level : ℕ) (limit left words_before words_now : Option ℕ) : Type 0 where
   pub front : List Place
   pub held_is : held ≡ front ++ rest
   pub charge : ℕ
   pub words : ℕ
-  pub stand : Stand m front level charge words
+  pub stand : TreesWithRoom m front level charge c words
   pub within : Within limit charge
   pub left_is : left ≡ less limit charge
   pub counted : CountsMore words_before words_now words
 
-pub progress_begins : (m : List (List ℕ)) (held rest : List Place) (level : ℕ) (limit words : Option ℕ) → held ≡ rest → Progress m held rest level limit limit words words
-progress_begins m held rest level limit words e = record {
+pub progress_begins : (m : List (List ℕ)) (c : Bool) (held : List Place) (level : ℕ) (limit words : Option ℕ) → Progress m c held held level limit limit words words
+progress_begins m c held level limit words = record {
   front = [];
-  held_is = e;
+  held_is = refl;
   charge = 0;
   words = 0;
-  stand = stand_nowhere m level;
+  stand = stood_nowhere m c level;
   within = within_none limit;
   left_is = sym (less_none limit);
   counted = counts_none words;
 }
 
--- the same places, written in another way
-pub progress_rest : (m : List (List ℕ)) (held rest other : List Place) (level : ℕ) (limit left words_before words_now : Option ℕ) → rest ≡ other
-    → Progress m held rest level limit left words_before words_now → Progress m held other level limit left words_before words_now
-progress_rest m held rest other level limit left counted_then counted_now e p = subst (λ (l : List Place). Progress m held l level limit left counted_then counted_now) e p
-
-pub progress_next : (m : List (List ℕ)) (held rest : List Place) (place : Place) (level : ℕ) (limit left after words_before words_now words_after : Option ℕ)
-    → Progress m held (place ∷ rest) level limit left words_before words_now → Walked m place level left after words_now words_after
-    → Progress m held rest level limit after words_before words_after
-progress_next m held rest place level limit left after counted_then counted_now counted_after p w =
+pub progress_next : {m : List (List ℕ)} {c : Bool} {held rest others : List Place} {place : Place} {level : ℕ} {limit left after counted_then counted_now counted_after : Option ℕ}
+    → rest ≡ place ∷ others → Progress m c held rest level limit left counted_then counted_now → Walked m c place level left after counted_now counted_after
+    → Progress m c held others level limit after counted_then counted_after
+progress_next {m} {c} {held} {rest} {others} {place} {level} {limit} {left} {after} {counted_then} {counted_now} {counted_after} is p w =
     let fits : Within (less limit p.charge) w.charge = subst (λ (l : Option ℕ). Within l w.charge) p.left_is w.within in
     record {
       front = p.front ++ place ∷ [];
-      held_is = p.held_is ∙ sym (append_assoc p.front (place ∷ []) rest);
+      held_is = p.held_is ∙ ap (λ (l : List Place). p.front ++ l) is ∙ sym (append_assoc p.front (place ∷ []) others);
       charge = p.charge + w.charge;
       words = p.words + w.words;
-      stand = stand_both m p.front (place ∷ []) level p.charge w.charge p.words w.words p.stand w.stand;
+      stand = stood_both m c p.front (place ∷ []) level p.charge w.charge p.words w.words p.stand w.stand;
       within = within_both limit p.charge w.charge p.within fits;
       left_is = w.left_is ∙ ap (λ (l : Option ℕ). less l w.charge) p.left_is ∙ less_both limit p.charge w.charge;
       counted = counts_both counted_then counted_now counted_after p.words w.words p.counted w.counted;
     }
 
-pub progress_stops : (m : List (List ℕ)) (held rest : List Place) (place : Place) (level : ℕ) (limit left words_before words_now : Option ℕ) (refusal : ErrorKind)
-    → Progress m held (place ∷ rest) level limit left words_before words_now → Stops m (place ∷ []) level left refusal → Stops m held level limit refusal
-progress_stops m held rest place level limit left counted_then counted_now refusal p stops =
-    let there : Stops m (place ∷ rest) level (less limit p.charge) refusal =
-    stops_more m place rest level (less limit p.charge) refusal (subst (λ (l : Option ℕ). Stops m (place ∷ []) level l refusal) p.left_is stops) in
-    subst (λ (l : List Place). Stops m l level limit refusal) (sym p.held_is)
-    (stops_after m p.front (place ∷ rest) level p.charge p.words limit refusal p.stand p.within there)
+pub progress_stops : {m : List (List ℕ)} {c : Bool} {held rest others : List Place} {place : Place} {level : ℕ} {limit left counted_then counted_now : Option ℕ} {kind : ErrorKind}
+    → rest ≡ place ∷ others → Progress m c held rest level limit left counted_then counted_now → StopsWalk m (place ∷ []) level left kind → StopsWalk m held level limit kind
+progress_stops {m} {c} {held} {rest} {others} {place} {level} {limit} {left} {counted_then} {counted_now} {kind} is p stops =
+    let there : StopsWalk m (place ∷ others) level (less limit p.charge) kind =
+    stops_more m place others level (less limit p.charge) kind (subst (λ (l : Option ℕ). StopsWalk m (place ∷ []) level l kind) p.left_is stops) in
+    subst (λ (l : List Place). StopsWalk m l level limit kind) (sym (p.held_is ∙ ap (λ (l : List Place). p.front ++ l) is))
+    (stops_after m p.front (place ∷ others) level p.charge (total_words p.stand.trees) limit kind (plain_stand m p.front level p.charge c p.words p.stand) p.within there)
 
--- an object whose places are all done
-pub walked_over : (m : List (List ℕ)) (place : Place) (shape : Shape) (level own : ℕ) (limit left after words_before words_now words_after : Option ℕ) → Object m place shape → 0 < level
-    → own ≡ own_words shape.form (length shape.held) → Within limit shape.charge → left ≡ less limit shape.charge → CountsMore words_before words_now own
-    → Progress m shape.held [] (level - 1) left after words_now words_after → Walked m place level limit after words_before words_after
-walked_over m place shape level own limit left after counted_then counted_now counted_after object deep own_is fits left_is counted p =
-    let all : shape.held ≡ p.front = p.held_is ∙ append-nil p.front in
-    let fits_too : Within (less limit shape.charge) p.charge = subst (λ (l : Option ℕ). Within l p.charge) left_is p.within in
-    let stand : Stand m shape.held (level - 1) p.charge p.words = subst (λ (l : List Place). Stand m l (level - 1) p.charge p.words) (sym all) p.stand in
+pub progress_done : {m : List (List ℕ)} {c : Bool} {held rest : List Place} {level : ℕ} {limit left counted_then counted_now : Option ℕ}
+    → rest ≡ [] → Progress m c held rest level limit left counted_then counted_now → WalkedAll m c held level limit left counted_then counted_now
+progress_done {m} {c} {held} {rest} {level} {limit} {left} {counted_then} {counted_now} done p =
+    let all : held ≡ p.front = p.held_is ∙ ap (λ (l : List Place). p.front ++ l) done ∙ append-nil p.front in
     record {
-      charge = shape.charge + p.charge;
-      words = own + p.words;
-      stand = stand_over m place shape level p.charge own p.words object deep own_is stand;
-      within = within_both limit shape.charge p.charge fits fits_too;
-      left_is = p.left_is ∙ ap (λ (l : Option ℕ). less l p.charge) left_is ∙ less_both limit shape.charge p.charge;
-      counted = counts_both counted_then counted_now counted_after own p.words counted p.counted;
+      charge = p.charge;
+      words = p.words;
+      stand = subst (λ (l : List Place). TreesWithRoom m l level p.charge c p.words) (sym all) p.stand;
+      within = p.within;
+      left_is = p.left_is;
+      counted = p.counted;
     }
 
-pub walked_null : (m : List (List ℕ)) (place : Place) (level : ℕ) (limit words : Option ℕ) → Object m place nothing → Walked m place level limit limit words words
-walked_null m place level limit words object = record {
+pub walked_null : (m : List (List ℕ)) (c : Bool) (place : Place) (level : ℕ) (limit words : Option ℕ) → PointsTo m place nothing → Walked m c place level limit limit words words
+walked_null m c place level limit words object = record {
   charge = 0;
   words = 0;
-  stand = stand_null m place level object;
+  stand = stood_null m c place level object;
   within = within_none limit;
   left_is = sym (less_none limit);
   counted = counts_none words;
 }
 
--- A walk that has met the object at a place and is among what it holds, with the rest still to do.
-pub record Descends (m : List (List ℕ)) (place : Place) (shape : Shape) (level : ℕ) (rest : List Place) (limit left words_before words_now : Option ℕ) : Type 0 where
-  pub object : Object m place shape
+-- a walk has met the object at a place, but nothing below it
+pub record Entered (m : List (List ℕ)) (c : Bool) (place : Place) (shape : Shape) (level : ℕ) (limit left words_before words_now : Option ℕ) : Type 0 where
+  pub object : PointsTo m place shape
   pub deep : 0 < level
   pub own : ℕ
-  pub own_is : own ≡ own_words shape.form (length shape.held)
-  pub left_then : Option ℕ
-  pub words_then : Option ℕ
+  pub own_is : OwnOf m c shape own
   pub within : Within limit shape.charge
-  pub left_is : left_then ≡ less limit shape.charge
-  pub counted : CountsMore words_before words_then own
-  pub progress : Progress m shape.held rest (level - 1) left_then left words_then words_now
+  pub left_is : left ≡ less limit shape.charge
+  pub counted : CountsMore words_before words_now own
 
-pub descends_first : (m : List (List ℕ)) (place : Place) (shape : Shape) (level own : ℕ) (rest : List Place) (limit left words_before words_now : Option ℕ)
-    → Object m place shape → 0 < level → own ≡ own_words shape.form (length shape.held) → Within limit shape.charge → left ≡ less limit shape.charge
-    → CountsMore words_before words_now own → shape.held ≡ rest → Descends m place shape level rest limit left words_before words_now
-descends_first m place shape level own rest limit left counted_then counted_now object deep own_is within left_is counted held = record {
-  object = object;
+pub entered : (m : List (List ℕ)) (c : Bool) (place : Place) (object : ReadObject) (level : ℕ) (limit left counted_then counted_now : Option ℕ) → IsObject m place object → 0 < level
+    → Within limit object.charge → left ≡ less limit object.charge → CountsMore counted_then counted_now (words_in (formed_body c (words_of object.segment.now) object.start.word object.body))
+    → Entered m c place (record (shape_of (words_of object.segment.now) object.start object.body) { charge = object.charge }) level limit left counted_then counted_now
+entered m c place object level limit left counted_then counted_now is deep within left_is counted = record {
+  object = is.object;
   deep = deep;
-  own = own;
-  own_is = own_is;
-  left_then = left;
-  words_then = counted_now;
+  own = words_in (formed_body c (words_of object.segment.now) object.start.word object.body);
+  own_is = own_formed m object place c is;
   within = within;
   left_is = left_is;
   counted = counted;
-  progress = progress_begins m shape.held rest (level - 1) left counted_now held;
 }
 
-pub descends_rest : (m : List (List ℕ)) (place : Place) (shape : Shape) (level : ℕ) (rest other : List Place) (limit left counted_then counted_now : Option ℕ) → rest ≡ other
-    → Descends m place shape level rest limit left counted_then counted_now → Descends m place shape level other limit left counted_then counted_now
-descends_rest m place shape level rest other limit left counted_then counted_now e d = subst (λ (l : List Place). Descends m place shape level l limit left counted_then counted_now) e d
-
-pub descends_next : (m : List (List ℕ)) (place inner : Place) (shape : Shape) (level : ℕ) (rest : List Place) (limit left left_after counted_then counted_now after : Option ℕ)
-    → Descends m place shape level (inner ∷ rest) limit left counted_then counted_now → Walked m inner (level - 1) left left_after counted_now after
-    → Descends m place shape level rest limit left_after counted_then after
-descends_next m place inner shape level rest limit left left_after counted_then counted_now after d w = record {
-  object = d.object;
-  deep = d.deep;
-  own = d.own;
-  own_is = d.own_is;
-  left_then = d.left_then;
-  words_then = d.words_then;
-  within = d.within;
-  left_is = d.left_is;
-  counted = d.counted;
-  progress = progress_next m shape.held rest inner (level - 1) d.left_then left left_after d.words_then counted_now after d.progress w;
+-- and then all below it
+walked_over : (m : List (List ℕ)) (c : Bool) (place : Place) (shape : Shape) (level : ℕ) (limit left after counted_then counted_now counted_after : Option ℕ)
+    → Entered m c place shape level limit left counted_then counted_now → WalkedAll m c shape.held (level - 1) left after counted_now counted_after
+    → Walked m c place level limit after counted_then counted_after
+walked_over m c place shape level limit left after counted_then counted_now counted_after e w = record {
+  charge = shape.charge + w.charge;
+  words = e.own + w.words;
+  stand = stood_over m c place shape level w.charge e.own w.words e.object e.deep e.own_is w.stand;
+  within = within_both limit shape.charge w.charge e.within (subst (λ (l : Option ℕ). Within l w.charge) e.left_is w.within);
+  left_is = w.left_is ∙ ap (λ (l : Option ℕ). less l w.charge) e.left_is ∙ less_both limit shape.charge w.charge;
+  counted = counts_both counted_then counted_now counted_after e.own w.words e.counted w.counted;
 }
 
-pub descends_stops : (m : List (List ℕ)) (place inner : Place) (shape : Shape) (level : ℕ) (rest : List Place) (limit left counted_then counted_now : Option ℕ) (refusal : ErrorKind)
-    → Descends m place shape level (inner ∷ rest) limit left counted_then counted_now → Stops m (inner ∷ []) (level - 1) left refusal → Stops m (place ∷ []) level limit refusal
-descends_stops m place inner shape level rest limit left counted_then counted_now refusal d stops =
-    let held = progress_stops m shape.held rest inner (level - 1) d.left_then left d.words_then counted_now refusal d.progress stops in
-    inside d.object d.deep d.within (subst (λ (l : Option ℕ). Stops m shape.held (level - 1) l refusal) d.left_is held)
+pub walk_goes_on : {Y : Type 0} {m : List (List ℕ)} {c : Bool} {place : Place} {shape : Shape} {level : ℕ} {limit left counted_then counted_now : Option ℕ} (after counted_after : Option ℕ)
+    (pointers : List Place) (result : Result Y Error)
+    → Entered m c place shape level limit left counted_then counted_now → pointers ≡ shape.held
+    → OnOk result (WalkedAll m c pointers (level - 1) left after counted_now counted_after) → OnOk result (Walked m c place level limit after counted_then counted_after)
+walk_goes_on {m = m} {c = c} {place = place} {shape = shape} {level = level} {limit = limit} {left = left} {counted_then = a} {counted_now = b} after d pointers (Ok y) e all w =
+    walked_over m c place shape level limit left after a b d e (subst (λ (l : List Place). WalkedAll m c l (level - 1) left after b d) all w)
+walk_goes_on after d pointers (Err error) e all w = tt
 
-pub descends_done : (m : List (List ℕ)) (place : Place) (shape : Shape) (level : ℕ) (limit left counted_then counted_now : Option ℕ)
-    → Descends m place shape level [] limit left counted_then counted_now → Walked m place level limit left counted_then counted_now
-descends_done m place shape level limit left counted_then counted_now d =
-    walked_over m place shape level d.own limit d.left_then left counted_then d.words_then counted_now d.object d.deep d.own_is d.within d.left_is d.counted d.progress
+pub walk_stops : {Y : Type 0} {m : List (List ℕ)} {c : Bool} {place : Place} {shape : Shape} {level : ℕ} {limit left counted_then counted_now : Option ℕ} (pointers : List Place)
+    (result : Result Y Error)
+    → Entered m c place shape level limit left counted_then counted_now → pointers ≡ shape.held
+    → IfErr result (λ error. StopsWalk m pointers (level - 1) left error.kind) → IfErr result (λ error. StopsWalk m (place ∷ []) level limit error.kind)
+walk_stops pointers (Ok y) e all stops = tt
+walk_stops {m = m} {shape = shape} {level = level} {left = left} pointers (Err error) e all stops =
+    inside e.object e.deep e.within (subst (λ (l : Option ℕ). StopsWalk m shape.held (level - 1) l error.kind) e.left_is (subst (λ (l : List Place). StopsWalk m l
+    (level - 1) left error.kind) all stops))

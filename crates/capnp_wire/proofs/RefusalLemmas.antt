@@ -2,11 +2,12 @@
 use Rattle.std.proofs.Common.{◌≡◌, ◌⊎◌, inl, inr, ℕ, ◌+◌, ◌<◌, ◌≤◌, List, length, Some, None, slice_get, refl, sym, ◌∙◌, subst, arith}
 use Rattle.capnp_frame.specs.declared.error.ErrorKind.{ErrorKind}
 use Rattle.capnp_frame.specs.declared.error.ErrorKind.TheVariants.{PointerOutOfBounds, InvalidSegmentId, NestingLimitExceeded, CapabilityRefused, WrongPointerKind}
-use Rattle.capnp_wire.specs.Pointer.{kind, code, has_wide_pad, pad_segment, list_count}
-use Rattle.capnp_wire.specs.Object.{word_at, IsFar, pad, pad_tag, Begins, Landing, Lands}
+use Rattle.capnp_wire.specs.Pointer.{pointer_kind, code, has_wide_pad, pad_segment, list_count}
+use Rattle.capnp_wire.specs.Object.{word_at, IsFar, pad, pad_tag, IsStart, Target, Lands}
 use Rattle.capnp_wire.specs.Landing.{NotNear}
-use Rattle.capnp_wire.specs.Faults.{NoWord, no_segment, past_segment, BadPad, no_pad, far_again, pad_capability, no_tag, not_far, no_content, far_tag, capability_tag, Misfits, struct_outside, list_outside, structs_outside, odd_tag, many_elements, Fault, no_word, capability, bad_pad, too_deep, no_start, misfits}
-use Rattle.capnp_wire.specs.declared.layout.Place.{Place}
+use Rattle.capnp_wire.specs.Faults.{NoWord, no_segment, past_segment, BadPad, no_pad, far_again, pad_capability, no_tag, not_far, no_content, far_tag, capability_tag, Misfits}
+use Rattle.capnp_wire.specs.Faults.{struct_outside, list_outside, structs_outside, odd_tag, many_elements, Fault, no_word, capability, bad_pad, too_deep, no_start, misfits}
+use Rattle.capnp_wire.specs.declared.layout.place.Place.{Place}
 use Rattle.capnp_wire.proofs.ObjectLemmas.{same_word, one_landing, one_start}
 use Rattle.capnp_wire.proofs.FaultLemmas.{no_word_there, lands_by_a_word, capability_lands_nowhere, bad_pad_leads_nowhere}
 
@@ -28,8 +29,8 @@ data WideRefused (m : List (List ℕ)) (word inner : ℕ) : ErrorKind → Type 0
   leads_no_further : {tag : ℕ} → word_at m (pad_tag word) ≡ Some tag → (IsFar inner 0 → ⊥) → WideRefused m word inner PointerOutOfBounds
   without_content : {tag : ℕ} → word_at m (pad_tag word) ≡ Some tag → IsFar inner 0 → slice_get m (pad_segment inner) ≡ None
       → WideRefused m word inner (InvalidSegmentId (pad_segment inner))
-  by_tag : {tag : ℕ} {words : List ℕ} {refusal : ErrorKind} → word_at m (pad_tag word) ≡ Some tag → IsFar inner 0 → slice_get m (pad_segment inner) ≡ Some words
-      → NotNear tag refusal → WideRefused m word inner refusal
+  by_tag : {tag : ℕ} {words : List ℕ} {kind : ErrorKind} → word_at m (pad_tag word) ≡ Some tag → IsFar inner 0 → slice_get m (pad_segment inner) ≡ Some words
+      → NotNear tag kind → WideRefused m word inner kind
 
 one_wide_refusal : (m : List (List ℕ)) (word inner : ℕ) (a b : ErrorKind) → WideRefused m word inner a → WideRefused m word inner b → a ≡ b
 one_wide_refusal m word inner a b (without_tag e) (without_tag f) = refl
@@ -52,19 +53,19 @@ one_wide_refusal m word inner a b (by_tag {tag = v} e _ _ p) (by_tag {tag = w} f
 
 -- how a pad is refused, by its first word
 data PadRefused (m : List (List ℕ)) (word : ℕ) : ErrorKind → Type 0 where
-  by_none : {refusal : ErrorKind} → NoWord m (pad word) refusal → PadRefused m word refusal
-  narrow : {tag : ℕ} {refusal : ErrorKind} → has_wide_pad word ≡ 0 → word_at m (pad word) ≡ Some tag → NotNear tag refusal → PadRefused m word refusal
-  wide : {inner : ℕ} {refusal : ErrorKind} → has_wide_pad word ≡ 1 → word_at m (pad word) ≡ Some inner → WideRefused m word inner refusal → PadRefused m word refusal
+  by_none : {kind : ErrorKind} → NoWord m (pad word) kind → PadRefused m word kind
+  narrow : {tag : ℕ} {kind : ErrorKind} → has_wide_pad word ≡ 0 → word_at m (pad word) ≡ Some tag → NotNear tag kind → PadRefused m word kind
+  wide : {inner : ℕ} {kind : ErrorKind} → has_wide_pad word ≡ 1 → word_at m (pad word) ≡ Some inner → WideRefused m word inner kind → PadRefused m word kind
 
-pad_refused : (m : List (List ℕ)) (word : ℕ) (refusal : ErrorKind) → BadPad m word refusal → PadRefused m word refusal
-pad_refused m word refusal (no_pad none) = by_none none
-pad_refused m word refusal (far_again w e k) = narrow w e (inl (k, refl))
-pad_refused m word refusal (pad_capability w e k) = narrow w e (inr (k, refl))
-pad_refused m word refusal (no_tag w e f) = wide w e (without_tag f)
-pad_refused m word refusal (not_far w e f none) = wide w e (leads_no_further f none)
-pad_refused m word refusal (no_content w e f far none) = wide w e (without_content f far none)
-pad_refused m word refusal (far_tag w e f far content k) = wide w e (by_tag f far content (inl (k, refl)))
-pad_refused m word refusal (capability_tag w e f far content k) = wide w e (by_tag f far content (inr (k, refl)))
+pad_refused : (m : List (List ℕ)) (word : ℕ) (kind : ErrorKind) → BadPad m word kind → PadRefused m word kind
+pad_refused m word kind (no_pad none) = by_none none
+pad_refused m word kind (far_again w e k) = narrow w e (inl (k, refl))
+pad_refused m word kind (pad_capability w e k) = narrow w e (inr (k, refl))
+pad_refused m word kind (no_tag w e f) = wide w e (without_tag f)
+pad_refused m word kind (not_far w e f none) = wide w e (leads_no_further f none)
+pad_refused m word kind (no_content w e f far none) = wide w e (without_content f far none)
+pad_refused m word kind (far_tag w e f far content k) = wide w e (by_tag f far content (inl (k, refl)))
+pad_refused m word kind (capability_tag w e f far content k) = wide w e (by_tag f far content (inr (k, refl)))
 
 one_pad_refused : (m : List (List ℕ)) (word : ℕ) (a b : ErrorKind) → PadRefused m word a → PadRefused m word b → a ≡ b
 one_pad_refused m word a b (by_none p) (by_none q) = one_missing_word m (pad word) a b p q
@@ -85,26 +86,26 @@ one_bad_pad m word a b p q = one_pad_refused m word a b (pad_refused m word a p)
 -- the tag of a list of structs is no struct pointer
 record OddTag (words : List ℕ) (start pointer : ℕ) : Type 0 where
   tag : ℕ
-  is_list : kind pointer ≡ 1
+  is_list : pointer_kind pointer ≡ 1
   of_structs : code pointer ≡ 7
   inside : start + 1 + list_count pointer ≤ length words
   there : slice_get words start ≡ Some tag
-  odd : 0 < kind tag
+  odd : 0 < pointer_kind tag
 
-misfit_is_odd : (words : List ℕ) (start pointer : ℕ) (refusal : ErrorKind) → OddTag words start pointer → Misfits words start pointer refusal → refusal ≡ WrongPointerKind
-misfit_is_odd words start pointer refusal o (struct_outside k _) = absurd (omega (arith, o.is_list))
-misfit_is_odd words start pointer refusal o (list_outside _ c _) = absurd (omega (arith, o.of_structs))
-misfit_is_odd words start pointer refusal o (structs_outside _ _ l) = absurd (omega (arith, o.inside))
-misfit_is_odd words start pointer refusal o (odd_tag _ _ _ _ _) = refl
-misfit_is_odd words start pointer refusal o (many_elements {tag = v} _ _ _ e even _) =
+misfit_is_odd : (words : List ℕ) (start pointer : ℕ) (kind : ErrorKind) → OddTag words start pointer → Misfits words start pointer kind → kind ≡ WrongPointerKind
+misfit_is_odd words start pointer kind o (struct_outside k _) = absurd (omega (arith, o.is_list))
+misfit_is_odd words start pointer kind o (list_outside _ c _) = absurd (omega (arith, o.of_structs))
+misfit_is_odd words start pointer kind o (structs_outside _ _ l) = absurd (omega (arith, o.inside))
+misfit_is_odd words start pointer kind o (odd_tag _ _ _ _ _) = refl
+misfit_is_odd words start pointer kind o (many_elements {tag = v} _ _ _ e even _) =
     let there = o.there in let same : v ≡ o.tag = cc in absurd (omega (arith, o.odd))
 
-odd_or_outside : (words : List ℕ) (start pointer : ℕ) (refusal : ErrorKind) → Misfits words start pointer refusal → OddTag words start pointer ⊎ (refusal ≡ PointerOutOfBounds)
-odd_or_outside words start pointer refusal (struct_outside _ _) = inr refl
-odd_or_outside words start pointer refusal (list_outside _ _ _) = inr refl
-odd_or_outside words start pointer refusal (structs_outside _ _ _) = inr refl
-odd_or_outside words start pointer refusal (odd_tag {tag = v} k c i e o) = inl (record { tag = v; is_list = k; of_structs = c; inside = i; there = e; odd = o })
-odd_or_outside words start pointer refusal (many_elements _ _ _ _ _ _) = inr refl
+odd_or_outside : (words : List ℕ) (start pointer : ℕ) (kind : ErrorKind) → Misfits words start pointer kind → OddTag words start pointer ⊎ (kind ≡ PointerOutOfBounds)
+odd_or_outside words start pointer kind (struct_outside _ _) = inr refl
+odd_or_outside words start pointer kind (list_outside _ _ _) = inr refl
+odd_or_outside words start pointer kind (structs_outside _ _ _) = inr refl
+odd_or_outside words start pointer kind (odd_tag {tag = v} k c i e o) = inl (record { tag = v; is_list = k; of_structs = c; inside = i; there = e; odd = o })
+odd_or_outside words start pointer kind (many_elements _ _ _ _ _ _) = inr refl
 
 one_misfit : (words : List ℕ) (start pointer : ℕ) (a b : ErrorKind) → Misfits words start pointer a → Misfits words start pointer b → a ≡ b
 one_misfit words start pointer a b p q =
@@ -118,14 +119,14 @@ one_misfit words start pointer a b p q =
 
 -- a pointer that leads nowhere, and how it is refused
 data LeadsNowhere (m : List (List ℕ)) (place : Place) : ErrorKind → Type 0 where
-  by_no_word : {refusal : ErrorKind} → NoWord m place refusal → LeadsNowhere m place refusal
-  by_capability : {word : ℕ} → word_at m place ≡ Some word → kind word ≡ 3 → LeadsNowhere m place CapabilityRefused
-  by_pad : {word : ℕ} {refusal : ErrorKind} → word_at m place ≡ Some word → kind word ≡ 2 → BadPad m word refusal → LeadsNowhere m place refusal
+  by_no_word : {kind : ErrorKind} → NoWord m place kind → LeadsNowhere m place kind
+  by_capability : {word : ℕ} → word_at m place ≡ Some word → pointer_kind word ≡ 3 → LeadsNowhere m place CapabilityRefused
+  by_pad : {word : ℕ} {kind : ErrorKind} → word_at m place ≡ Some word → pointer_kind word ≡ 2 → BadPad m word kind → LeadsNowhere m place kind
 
-leads_nowhere : (m : List (List ℕ)) (place : Place) (refusal : ErrorKind) (c : Landing) → LeadsNowhere m place refusal → Lands m place c → ⊥
-leads_nowhere m place refusal c (by_no_word none) lands = lands_by_a_word m place c (no_word_there m place refusal none) lands
-leads_nowhere m place refusal c (by_capability {word = w} e k) lands = capability_lands_nowhere m place w c e k lands
-leads_nowhere m place refusal c (by_pad {word = w} e k bad) lands = bad_pad_leads_nowhere m place w refusal c e k bad lands
+leads_nowhere : (m : List (List ℕ)) (place : Place) (kind : ErrorKind) (c : Target) → LeadsNowhere m place kind → Lands m place c → ⊥
+leads_nowhere m place kind c (by_no_word none) lands = lands_by_a_word m place c (no_word_there m place kind none) lands
+leads_nowhere m place kind c (by_capability {word = w} e k) lands = capability_lands_nowhere m place w c e k lands
+leads_nowhere m place kind c (by_pad {word = w} e k bad) lands = bad_pad_leads_nowhere m place w kind c e k bad lands
 
 one_way_nowhere : (m : List (List ℕ)) (place : Place) (a b : ErrorKind) → LeadsNowhere m place a → LeadsNowhere m place b → a ≡ b
 one_way_nowhere m place a b (by_no_word p) (by_no_word q) = one_missing_word m place a b p q
@@ -140,13 +141,13 @@ one_way_nowhere m place a b (by_pad {word = v} e _ p) (by_pad {word = w} f _ q) 
     let same : v ≡ w = same_word m place v w e f in one_bad_pad m w a b (subst (λ (x : ℕ). BadPad m x a) same p) q
 
 -- how a landing is refused
-data LandingRefused (m : List (List ℕ)) (landing : Landing) (level : ℕ) : ErrorKind → Type 0 where
+data LandingRefused (m : List (List ℕ)) (landing : Target) (level : ℕ) : ErrorKind → Type 0 where
   deeper : level ≡ 0 → LandingRefused m landing level NestingLimitExceeded
-  before_all : 0 < level → ((start : ℕ) → Begins landing.origin landing.tag start → ⊥) → LandingRefused m landing level PointerOutOfBounds
-  by_misfit : {words : List ℕ} {start : ℕ} {refusal : ErrorKind} → 0 < level → Begins landing.origin landing.tag start
-      → slice_get m landing.segment ≡ Some words → Misfits words start landing.tag refusal → LandingRefused m landing level refusal
+  before_all : 0 < level → ((start : ℕ) → IsStart landing.origin landing.tag start → ⊥) → LandingRefused m landing level PointerOutOfBounds
+  by_misfit : {words : List ℕ} {start : ℕ} {kind : ErrorKind} → 0 < level → IsStart landing.origin landing.tag start
+      → slice_get m landing.segment ≡ Some words → Misfits words start landing.tag kind → LandingRefused m landing level kind
 
-one_landing_refusal : (m : List (List ℕ)) (c : Landing) (level : ℕ) (a b : ErrorKind) → LandingRefused m c level a → LandingRefused m c level b → a ≡ b
+one_landing_refusal : (m : List (List ℕ)) (c : Target) (level : ℕ) (a b : ErrorKind) → LandingRefused m c level a → LandingRefused m c level b → a ≡ b
 one_landing_refusal m c level a b (deeper _) (deeper _) = refl
 one_landing_refusal m c level a b (deeper e) (before_all f _) = absurd (omega arith)
 one_landing_refusal m c level a b (deeper e) (by_misfit f _ _ _) = absurd (omega arith)
@@ -162,17 +163,17 @@ one_landing_refusal m c level a b (by_misfit {words = v} {start = i} _ begins e 
     one_misfit w j c.tag a b moved q
 
 -- a pointer is refused on its way, or behind it
-data RefusedBy (m : List (List ℕ)) (place : Place) (level : ℕ) (refusal : ErrorKind) : Type 0 where
-  on_its_way : LeadsNowhere m place refusal → RefusedBy m place level refusal
-  behind_it : {landing : Landing} → Lands m place landing → LandingRefused m landing level refusal → RefusedBy m place level refusal
+data RefusedBy (m : List (List ℕ)) (place : Place) (level : ℕ) (kind : ErrorKind) : Type 0 where
+  on_its_way : LeadsNowhere m place kind → RefusedBy m place level kind
+  behind_it : {landing : Target} → Lands m place landing → LandingRefused m landing level kind → RefusedBy m place level kind
 
-refused_by : (m : List (List ℕ)) (place : Place) (level : ℕ) (refusal : ErrorKind) → Fault m place level refusal → RefusedBy m place level refusal
-refused_by m place level refusal (no_word none) = on_its_way (by_no_word none)
-refused_by m place level refusal (capability e k) = on_its_way (by_capability e k)
-refused_by m place level refusal (bad_pad e k bad) = on_its_way (by_pad e k bad)
-refused_by m place level refusal (too_deep lands e) = behind_it lands (deeper e)
-refused_by m place level refusal (no_start lands e none) = behind_it lands (before_all e none)
-refused_by m place level refusal (misfits lands e begins content misfit) = behind_it lands (by_misfit e begins content misfit)
+refused_by : (m : List (List ℕ)) (place : Place) (level : ℕ) (kind : ErrorKind) → Fault m place level kind → RefusedBy m place level kind
+refused_by m place level kind (no_word none) = on_its_way (by_no_word none)
+refused_by m place level kind (capability e k) = on_its_way (by_capability e k)
+refused_by m place level kind (bad_pad e k bad) = on_its_way (by_pad e k bad)
+refused_by m place level kind (too_deep lands e) = behind_it lands (deeper e)
+refused_by m place level kind (no_start lands e none) = behind_it lands (before_all e none)
+refused_by m place level kind (misfits lands e begins content misfit) = behind_it lands (by_misfit e begins content misfit)
 
 one_way_refused : (m : List (List ℕ)) (place : Place) (level : ℕ) (a b : ErrorKind) → RefusedBy m place level a → RefusedBy m place level b → a ≡ b
 one_way_refused m place level a b (on_its_way p) (on_its_way q) = one_way_nowhere m place a b p q
@@ -180,7 +181,7 @@ one_way_refused m place level a b (on_its_way p) (behind_it {landing = d} lands 
 one_way_refused m place level a b (behind_it {landing = c} lands _) (on_its_way q) = absurd (leads_nowhere m place b c q lands)
 one_way_refused m place level a b (behind_it {landing = c} lands p) (behind_it {landing = d} lands_too q) =
     let same : c ≡ d = one_landing m place c d lands lands_too in
-    one_landing_refusal m d level a b (subst (λ (x : Landing). LandingRefused m x level a) same p) q
+    one_landing_refusal m d level a b (subst (λ (x : Target). LandingRefused m x level a) same p) q
 
 pub one_refusal : (m : List (List ℕ)) (place : Place) (level : ℕ) (a b : ErrorKind) → Fault m place level a → Fault m place level b → a ≡ b
 one_refusal m place level a b p q = one_way_refused m place level a b (refused_by m place level a p) (refused_by m place level b q)

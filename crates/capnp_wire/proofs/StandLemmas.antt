@@ -1,11 +1,10 @@
 -- Trees at places, and what walks over them are charged and count.
-use Rattle.std.proofs.Common.{◌≡◌, ℕ, ◌+◌, ◌-◌, ◌<◌, ◌≤◌, max, Bool, true, false, if◌then◌else◌, List, [], ◌∷◌, ◌++◌, length, Option, Some, None, refl, sym, ◌∙◌, ap, subst, arith, zero-add}
-use Rattle.capnp_wire.specs.Tree.{Trees, none, tree, count, depth, is_null, own_words, total_words}
+use Rattle.std.proofs.Common.{◌≡◌, ℕ, ◌+◌, ◌-◌, ◌<◌, ◌≤◌, max, Bool, true, false, if◌then◌else◌, List, ◌++◌, length, Option, Some, None, refl, sym, ap, subst, arith, zero-add}
+use Rattle.capnp_wire.specs.Tree.{Trees, none, tree, count, depth}
 use Rattle.capnp_wire.specs.Trim.{before}
-use Rattle.capnp_wire.specs.Object.{Shape, Object, nothing}
 use Rattle.capnp_wire.specs.Reached.{At, nowhere, at}
-use Rattle.capnp_wire.specs.Charge.{Within, Counts, CountsMore, less, Stand}
-use Rattle.capnp_wire.specs.declared.layout.Place.{Place}
+use Rattle.capnp_wire.specs.Charge.{Within, Counts, CountsMore, less}
+use Rattle.capnp_wire.specs.declared.layout.place.Place.{Place}
 
 -- limits
 pub within_none : (limit : Option ℕ) → Within limit 0
@@ -39,58 +38,21 @@ counts_none words = λ before h. subst (Counts words) (omega arith) h
 pub counts_both : (a b c : Option ℕ) (x y : ℕ) → CountsMore a b x → CountsMore b c y → CountsMore a c (x + y)
 counts_both a b c x y p q = λ before h. subst (Counts c) (omega arith) (q (before + x) (p before h))
 
--- no trees stand at no places
-pub stand_nowhere : (m : List (List ℕ)) (level : ℕ) → Stand m [] level 0 0
-stand_nowhere m level = record { trees = none; stand = nowhere; shallow = omega arith; words_are = refl }
-
 -- trees at places, and others behind them
-at_both : (m : List (List ℕ)) (ps qs : List Place) (a b : Trees) (x y : ℕ) → At m ps a x → At m qs b y → At m (ps ++ qs) (before a b) (x + y)
+pub at_both : (m : List (List ℕ)) (ps qs : List Place) (a b : Trees) (x y : ℕ) → At m ps a x → At m qs b y → At m (ps ++ qs) (before a b) (x + y)
 at_both m ps qs a b x y nowhere q = subst (λ (n : ℕ). At m qs b n) (sym (zero-add y)) q
 at_both m ps qs a b x y (at {others = others} {shape = s} {held = h} {rest = r} {inside = i} {behind = n} o inner after) q =
     subst (At m (ps ++ qs) (before a b)) (omega arith) (at o inner (at_both m others qs r b n y after q))
 
-depth_both : (a b : Trees) (level : ℕ) → depth a ≤ level → depth b ≤ level → depth (before a b) ≤ level
+pub depth_both : (a b : Trees) (level : ℕ) → depth a ≤ level → depth b ≤ level → depth (before a b) ≤ level
 depth_both none b level p q = q
 depth_both (tree form held rest) b level p q = let rest_too = depth_both rest b level (omega arith) q in omega arith
-
-words_both : (a b : Trees) → total_words (before a b) ≡ total_words a + total_words b
-words_both none b = omega arith
-words_both (tree form held rest) b = omega (arith, words_both rest b)
-
-pub stand_both : (m : List (List ℕ)) (ps qs : List Place) (level x y v w : ℕ) → Stand m ps level x v → Stand m qs level y w → Stand m (ps ++ qs) level (x + y) (v + w)
-stand_both m ps qs level x y v w p q = record {
-  trees = before p.trees q.trees;
-  stand = at_both m ps qs p.trees q.trees x y p.stand q.stand;
-  shallow = depth_both p.trees q.trees level p.shallow q.shallow;
-  words_are = words_both p.trees q.trees ∙ omega (arith, p.words_are, q.words_are);
-}
 
 -- as many trees as places
 pub count_at : (m : List (List ℕ)) (ps : List Place) (t : Trees) (c : ℕ) → At m ps t c → count t ≡ length ps
 count_at m ps t c nowhere = refl
 count_at m ps t c (at {others = others} {rest = r} {behind = n} o inner after) = omega (arith, count_at m others r n after)
 
-one_deeper : (b : Bool) (d level : ℕ) → d ≤ level - 1 → 0 < level → max (if b then 0 else d + 1) 0 ≤ level
+pub one_deeper : (b : Bool) (d level : ℕ) → d ≤ level - 1 → 0 < level → max (if b then 0 else d + 1) 0 ≤ level
 one_deeper true d level p q = omega arith
 one_deeper false d level p q = omega arith
-
--- an object over what it holds
-pub stand_over : (m : List (List ℕ)) (place : Place) (shape : Shape) (level x own words : ℕ) → Object m place shape → 0 < level
-    → own ≡ own_words shape.form (length shape.held) → Stand m shape.held (level - 1) x words → Stand m (place ∷ []) level (shape.charge + x) (own + words)
-stand_over m place shape level x own words object deep own_is s = record {
-  trees = tree shape.form s.trees none;
-  stand = subst (At m (place ∷ []) (tree shape.form s.trees none)) (omega arith) (at object s.stand nowhere);
-  shallow = one_deeper (is_null shape.form) (depth s.trees) level s.shallow deep;
-  words_are =
-      (let counted : own_words shape.form (count s.trees) ≡ own = ap (own_words shape.form) (count_at m shape.held s.trees x s.stand) ∙ sym own_is in
-      omega (arith, counted, s.words_are));
-}
-
--- null, at any level
-pub stand_null : (m : List (List ℕ)) (place : Place) (level : ℕ) → Object m place nothing → Stand m (place ∷ []) level 0 0
-stand_null m place level object = record {
-  trees = tree nothing.form none none;
-  stand = at object nowhere nowhere;
-  shallow = omega arith;
-  words_are = refl;
-}

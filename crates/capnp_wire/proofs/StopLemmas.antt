@@ -3,31 +3,31 @@ use Rattle.std.proofs.Common.{◌≡◌, ℕ, ◌+◌, ◌-◌, ◌<◌, ◌≤�
 use Rattle.capnp_frame.specs.declared.error.ErrorKind.{ErrorKind}
 use Rattle.capnp_frame.specs.declared.error.ErrorKind.TheVariants.{ReadLimitExceeded}
 use Rattle.capnp_wire.specs.Tree.{Trees, none, tree, depth, is_null, total_words}
-use Rattle.capnp_wire.specs.Object.{Shape, Object, places, is_null as null_there, is_object}
+use Rattle.capnp_wire.specs.Object.{Shape, PointsTo, places, is_null as null_there, is_object}
 use Rattle.capnp_wire.specs.Reached.{At, nowhere, at}
-use Rattle.capnp_wire.specs.Charge.{Within, Exceeds, less, Stand}
-use Rattle.capnp_wire.specs.Faults.{Stops, at_pointer, over_limit, inside, later}
-use Rattle.capnp_wire.specs.declared.layout.Place.{Place}
+use Rattle.capnp_wire.specs.Charge.{Within, Exceeds, less, TreesAt}
+use Rattle.capnp_wire.specs.Faults.{StopsWalk, at_pointer, over_limit, inside, later}
+use Rattle.capnp_wire.specs.declared.layout.place.Place.{Place}
 use Rattle.capnp_wire.proofs.ObjectLemmas.{one_object, one_tree}
 use Rattle.capnp_wire.proofs.FaultLemmas.{refused_has_no_object, not_null}
 use Rattle.capnp_wire.proofs.RefusalLemmas.{one_refusal}
 use Rattle.capnp_wire.proofs.StandLemmas.{less_none, within_first, within_rest, less_both}
 
 -- a walk that stops at the first of some places stops
-pub stops_more : (m : List (List ℕ)) (place : Place) (rest : List Place) (level : ℕ) (limit : Option ℕ) (refusal : ErrorKind)
-    → Stops m (place ∷ []) level limit refusal → Stops m (place ∷ rest) level limit refusal
-stops_more m place rest level limit refusal (at_pointer fault) = at_pointer fault
-stops_more m place rest level limit refusal (over_limit o deep past) = over_limit o deep past
-stops_more m place rest level limit refusal (inside o deep fits stops) = inside o deep fits stops
-stops_more m place rest level limit refusal (later s fits stops) = elim stops [ ]
+pub stops_more : (m : List (List ℕ)) (place : Place) (rest : List Place) (level : ℕ) (limit : Option ℕ) (kind : ErrorKind)
+    → StopsWalk m (place ∷ []) level limit kind → StopsWalk m (place ∷ rest) level limit kind
+stops_more m place rest level limit kind (at_pointer fault) = at_pointer fault
+stops_more m place rest level limit kind (over_limit o deep past) = over_limit o deep past
+stops_more m place rest level limit kind (inside o deep fits stops) = inside o deep fits stops
+stops_more m place rest level limit kind (later s fits stops) = elim stops [ ]
 
 -- and one that stops behind them
-stops_behind : (m : List (List ℕ)) (front rest : List Place) (trees : Trees) (level charge : ℕ) (limit : Option ℕ) (refusal : ErrorKind)
-    → At m front trees charge → depth trees ≤ level → Within limit charge → Stops m rest level (less limit charge) refusal → Stops m (front ++ rest) level limit refusal
-stops_behind m front rest trees level charge limit refusal nowhere shallow fits stops =
-    subst (λ (o : Option ℕ). Stops m rest level o refusal) (less_none limit) stops
-stops_behind m front rest trees level charge limit refusal (at {place = p} {others = others} {shape = s} {held = h} {rest = r} {inside = i} {behind = n} o inner after) shallow fits stops =
-    let one : Stand m (p ∷ []) level (s.charge + i) (total_words (tree s.form h none)) = record {
+stops_behind : (m : List (List ℕ)) (front rest : List Place) (trees : Trees) (level charge : ℕ) (limit : Option ℕ) (kind : ErrorKind)
+    → At m front trees charge → depth trees ≤ level → Within limit charge → StopsWalk m rest level (less limit charge) kind → StopsWalk m (front ++ rest) level limit kind
+stops_behind m front rest trees level charge limit kind nowhere shallow fits stops =
+    subst (λ (o : Option ℕ). StopsWalk m rest level o kind) (less_none limit) stops
+stops_behind m front rest trees level charge limit kind (at {place = p} {others = others} {shape = s} {held = h} {rest = r} {inside = i} {behind = n} o inner after) shallow fits stops =
+    let one : TreesAt m (p ∷ []) level (s.charge + i) (total_words (tree s.form h none)) = record {
       trees = tree s.form h none;
       stand = subst (At m (p ∷ []) (tree s.form h none)) (omega arith) (at o inner nowhere);
       shallow = omega arith;
@@ -36,12 +36,12 @@ stops_behind m front rest trees level charge limit refusal (at {place = p} {othe
     let first : Within limit (s.charge + i) = within_first limit (s.charge + i) n fits in
     let others_fit : Within (less limit (s.charge + i)) n = within_rest limit (s.charge + i) n fits in
     let left : less limit (s.charge + i + n) ≡ less (less limit (s.charge + i)) n = sym (less_both limit (s.charge + i) n) in
-    let stops_there : Stops m rest level (less (less limit (s.charge + i)) n) refusal = subst (λ (x : Option ℕ). Stops m rest level x refusal) left stops in
-    later one first (stops_behind m others rest r level n (less limit (s.charge + i)) refusal after (omega arith) others_fit stops_there)
+    let stops_there : StopsWalk m rest level (less (less limit (s.charge + i)) n) kind = subst (λ (x : Option ℕ). StopsWalk m rest level x kind) left stops in
+    later one first (stops_behind m others rest r level n (less limit (s.charge + i)) kind after (omega arith) others_fit stops_there)
 
-pub stops_after : (m : List (List ℕ)) (front rest : List Place) (level charge words : ℕ) (limit : Option ℕ) (refusal : ErrorKind)
-    → Stand m front level charge words → Within limit charge → Stops m rest level (less limit charge) refusal → Stops m (front ++ rest) level limit refusal
-stops_after m front rest level charge words limit refusal s fits stops = stops_behind m front rest s.trees level charge limit refusal s.stand s.shallow fits stops
+pub stops_after : (m : List (List ℕ)) (front rest : List Place) (level charge words : ℕ) (limit : Option ℕ) (kind : ErrorKind)
+    → TreesAt m front level charge words → Within limit charge → StopsWalk m rest level (less limit charge) kind → StopsWalk m (front ++ rest) level limit kind
+stops_after m front rest level charge words limit kind s fits stops = stops_behind m front rest s.trees level charge limit kind s.stand s.shallow fits stops
 
 -- where a walk stops, no trees stand within the level and the limit
 null_or_deeper : (b : Bool) (d e level : ℕ) → max (if b then 0 else d + 1) e ≤ level → b ≡ false → 0 < level
@@ -64,7 +64,7 @@ record Split (m : List (List ℕ)) (place : Place) (others : List Place) (level 
   rest_shallow : depth rest ≤ level
   held_shallow : is_null shape.form ≡ false → depth held ≤ level - 1
   deep : is_null shape.form ≡ false → 0 < level
-  object : Object m place shape
+  object : PointsTo m place shape
 
 split : (m : List (List ℕ)) (place : Place) (others : List Place) (level charge : ℕ) (trees : Trees) → At m (place ∷ others) trees charge → depth trees ≤ level
     → (shape : Shape) × Split m place others level charge shape
@@ -85,60 +85,60 @@ split m place others level charge trees (at {shape = s} {held = h} {rest = r} {i
   },
 )
 
-holds_not_null : (m : List (List ℕ)) (place : Place) (shape : Shape) → Object m place shape → (shape.held ≡ [] → ⊥) → is_null shape.form ≡ false
+holds_not_null : (m : List (List ℕ)) (place : Place) (shape : Shape) → PointsTo m place shape → (shape.held ≡ [] → ⊥) → is_null shape.form ≡ false
 holds_not_null m place shape (null_there e) some = absurd (some refl)
 holds_not_null m place shape (is_object {landing = c} {words = w} {start = i} {shape = s} _ _ _ stands) some = not_null w (record { segment = c.segment; word = i }) c.tag s stands
 
-stops_somewhere : (m : List (List ℕ)) (places : List Place) (level : ℕ) (limit : Option ℕ) (refusal : ErrorKind) → Stops m places level limit refusal → places ≡ [] → ⊥
-stops_somewhere m places level limit refusal (at_pointer _) e = cc
-stops_somewhere m places level limit refusal (over_limit _ _ _) e = cc
-stops_somewhere m places level limit refusal (inside _ _ _ _) e = cc
-stops_somewhere m places level limit refusal (later _ _ _) e = cc
+stops_somewhere : (m : List (List ℕ)) (places : List Place) (level : ℕ) (limit : Option ℕ) (kind : ErrorKind) → StopsWalk m places level limit kind → places ≡ [] → ⊥
+stops_somewhere m places level limit kind (at_pointer _) e = cc
+stops_somewhere m places level limit kind (over_limit _ _ _) e = cc
+stops_somewhere m places level limit kind (inside _ _ _ _) e = cc
+stops_somewhere m places level limit kind (later _ _ _) e = cc
 
-pub stops_has_no_trees : (m : List (List ℕ)) (places : List Place) (level charge : ℕ) (limit : Option ℕ) (refusal : ErrorKind) (trees : Trees)
-    → Stops m places level limit refusal → At m places trees charge → depth trees ≤ level → Within limit charge → ⊥
-stops_has_no_trees m places level charge limit refusal trees (at_pointer {place = p} {others = others} fault) stand shallow fits =
+pub stops_has_no_trees : (m : List (List ℕ)) (places : List Place) (level charge : ℕ) (limit : Option ℕ) (kind : ErrorKind) (trees : Trees)
+    → StopsWalk m places level limit kind → At m places trees charge → depth trees ≤ level → Within limit charge → ⊥
+stops_has_no_trees m places level charge limit kind trees (at_pointer {place = p} {others = others} fault) stand shallow fits =
     let s = split m p others level charge trees stand shallow in
-    refused_has_no_object m p level refusal s.0 fault s.1.object s.1.deep
-stops_has_no_trees m places level charge limit refusal trees (over_limit {place = p} {others = others} {most = most} {shape = t} o deep past) stand shallow fits =
+    refused_has_no_object m p level kind s.0 fault s.1.object s.1.deep
+stops_has_no_trees m places level charge limit kind trees (over_limit {place = p} {others = others} {most = most} {shape = t} o deep past) stand shallow fits =
     let s = split m p others level charge trees stand shallow in
     let same : t ≡ s.0 = one_object m p t s.0 o s.1.object in
     let charged : t.charge ≡ s.0.charge = ap (λ (x : Shape). x.charge) same in
     omega (arith, s.1.total, fits)
-stops_has_no_trees m places level charge limit refusal trees (inside {place = p} {others = others} {shape = t} o deep within stops) stand shallow fits =
+stops_has_no_trees m places level charge limit kind trees (inside {place = p} {others = others} {shape = t} o deep within stops) stand shallow fits =
     let s = split m p others level charge trees stand shallow in
     let same : t ≡ s.0 = one_object m p t s.0 o s.1.object in
     let held : At m t.held s.1.held s.1.inner = subst (λ (x : Shape). At m x.held s.1.held s.1.inner) (sym same) s.1.held_stands in
-    let not_null = holds_not_null m p t o (stops_somewhere m t.held (level - 1) (less limit t.charge) refusal stops) in
+    let not_null = holds_not_null m p t o (stops_somewhere m t.held (level - 1) (less limit t.charge) kind stops) in
     let form : is_null s.0.form ≡ false = ap (λ (x : Shape). is_null x.form) (sym same) ∙ not_null in
     let charged : t.charge + s.1.inner + s.1.behind ≡ charge = ap (λ (x : Shape). x.charge + s.1.inner + s.1.behind) same ∙ s.1.total in
     let fits_all : Within limit (t.charge + s.1.inner + s.1.behind) = subst (Within limit) (sym charged) fits in
     let fits_inner : Within (less limit t.charge) s.1.inner = within_rest limit t.charge s.1.inner (within_first limit (t.charge + s.1.inner) s.1.behind fits_all) in
-    stops_has_no_trees m t.held (level - 1) s.1.inner (less limit t.charge) refusal s.1.held stops held (s.1.held_shallow form) fits_inner
-stops_has_no_trees m places level charge limit refusal trees (later {place = p} {others = others} {charge = c} {words = w} one within stops) stand shallow fits =
+    stops_has_no_trees m t.held (level - 1) s.1.inner (less limit t.charge) kind s.1.held stops held (s.1.held_shallow form) fits_inner
+stops_has_no_trees m places level charge limit kind trees (later {place = p} {others = others} {charge = c} {words = w} one within stops) stand shallow fits =
     let s = split m p others level charge trees stand shallow in
     let alone : At m (p ∷ []) (tree s.0.form s.1.held none) (s.0.charge + s.1.inner) =
     subst (At m (p ∷ []) (tree s.0.form s.1.held none)) (omega arith) (at s.1.object s.1.held_stands nowhere) in
     let same : s.0.charge + s.1.inner ≡ c = (one_tree m (p ∷ []) (tree s.0.form s.1.held none) one.trees (s.0.charge + s.1.inner) c alone one.stand).1 in
     let all : c + s.1.behind ≡ charge = omega (arith, s.1.total) in
     let fits_all : Within limit (c + s.1.behind) = subst (Within limit) (sym all) fits in
-    stops_has_no_trees m others level s.1.behind (less limit c) refusal s.1.rest stops s.1.rest_stands s.1.rest_shallow (within_rest limit c s.1.behind fits_all)
+    stops_has_no_trees m others level s.1.behind (less limit c) kind s.1.rest stops s.1.rest_stands s.1.rest_shallow (within_rest limit c s.1.behind fits_all)
 
 -- an object past the limit
-pub exceeds_stops : (m : List (List ℕ)) (place : Place) (shape : Shape) (level : ℕ) (limit : Option ℕ) (refusal : ErrorKind) → Object m place shape → 0 < level
-    → Exceeds limit shape.charge → refusal ≡ ReadLimitExceeded → Stops m (place ∷ []) level limit refusal
-exceeds_stops m place shape level limit refusal object deep past is =
-    subst (λ (r : ErrorKind). Stops m (place ∷ []) level limit r) (sym is)
-    (subst (λ (l : Option ℕ). Stops m (place ∷ []) level l ReadLimitExceeded) (sym past.1) (over_limit object deep past.2))
+pub exceeds_stops : (m : List (List ℕ)) (place : Place) (shape : Shape) (level : ℕ) (limit : Option ℕ) (kind : ErrorKind) → PointsTo m place shape → 0 < level
+    → Exceeds limit shape.charge → kind ≡ ReadLimitExceeded → StopsWalk m (place ∷ []) level limit kind
+exceeds_stops m place shape level limit kind object deep past is =
+    subst (λ (r : ErrorKind). StopsWalk m (place ∷ []) level limit r) (sym is)
+    (subst (λ (l : Option ℕ). StopsWalk m (place ∷ []) level l ReadLimitExceeded) (sym past.1) (over_limit object deep past.2))
 
 -- at most one refusal stops a walk
-past_and_within : (m : List (List ℕ)) (place : Place) (most : ℕ) (s t : Shape) → Object m place s → Object m place t → most < s.charge → t.charge ≤ most → ⊥
+past_and_within : (m : List (List ℕ)) (place : Place) (most : ℕ) (s t : Shape) → PointsTo m place s → PointsTo m place t → most < s.charge → t.charge ≤ most → ⊥
 past_and_within m place most s t o p past fits =
     let same : s ≡ t = one_object m place s t o p in
     let charged : s.charge ≡ t.charge = ap (λ (x : Shape). x.charge) same in
     omega arith
 
-pub one_stop : (m : List (List ℕ)) (places : List Place) (level : ℕ) (limit : Option ℕ) (a b : ErrorKind) → Stops m places level limit a → Stops m places level limit b → a ≡ b
+pub one_stop : (m : List (List ℕ)) (places : List Place) (level : ℕ) (limit : Option ℕ) (a b : ErrorKind) → StopsWalk m places level limit a → StopsWalk m places level limit b → a ≡ b
 one_stop m places level limit a b (at_pointer {place = p} fault) (at_pointer other) = one_refusal m p level a b fault other
 one_stop m places level limit a b (at_pointer {place = p} fault) (over_limit {shape = t} o deep _) = absurd (refused_has_no_object m p level a t fault o (λ _. deep))
 one_stop m places level limit a b (at_pointer {place = p} fault) (inside {shape = t} o deep _ _) = absurd (refused_has_no_object m p level a t fault o (λ _. deep))
@@ -153,7 +153,7 @@ one_stop m places level limit a b (inside {place = p} {shape = s} o deep _ _) (a
 one_stop m places level limit a b (inside {place = p} {shape = s} o _ fits _) (over_limit {most = most} {shape = t} q _ past) = absurd (past_and_within m p most t s q o past fits)
 one_stop m places level limit a b (inside {place = p} {shape = s} o _ _ stops) (inside {shape = t} q _ _ stops_too) =
     let same : t ≡ s = one_object m p t s q o in
-    one_stop m s.held (level - 1) (less limit s.charge) a b stops (subst (λ (x : Shape). Stops m x.held (level - 1) (less limit x.charge) b) same stops_too)
+    one_stop m s.held (level - 1) (less limit s.charge) a b stops (subst (λ (x : Shape). StopsWalk m x.held (level - 1) (less limit x.charge) b) same stops_too)
 one_stop m places level limit a b (inside {place = p} o deep within stops) (later {charge = d} one fits _) =
     absurd (stops_has_no_trees m (p ∷ []) level d limit a one.trees (inside o deep within stops) one.stand one.shallow fits)
 one_stop m places level limit a b (later {place = p} {charge = c} one fits _) (at_pointer other) =
@@ -164,4 +164,4 @@ one_stop m places level limit a b (later {place = p} {charge = c} one fits _) (i
     absurd (stops_has_no_trees m (p ∷ []) level c limit b one.trees (inside o deep within stops) one.stand one.shallow fits)
 one_stop m places level limit a b (later {place = p} {others = others} {charge = c} one _ stops) (later {charge = d} another _ stops_too) =
     let same : d ≡ c = (one_tree m (p ∷ []) another.trees one.trees d c another.stand one.stand).1 in
-    one_stop m others level (less limit c) a b stops (subst (λ (x : ℕ). Stops m others level (less limit x) b) same stops_too)
+    one_stop m others level (less limit c) a b stops (subst (λ (x : ℕ). StopsWalk m others level (less limit x) b) same stops_too)

@@ -7,16 +7,16 @@ use Rattle.capnp_wire.specs.Trim.{trim}
 use Rattle.capnp_wire.specs.Object.{near, far, double_far, a_struct, some_numbers, some_structs, is_null, is_object}
 use Rattle.capnp_wire.specs.Reached.{At, nowhere, at, root}
 use Rattle.capnp_wire.specs.Faults.{Fault, no_word, no_segment, past_segment, capability, bad_pad, no_pad, not_far, too_deep, misfits, struct_outside, odd_tag}
-use Rattle.capnp_wire.specs.declared.layout.Place.{Place}
+use Rattle.capnp_wire.specs.declared.layout.place.Place.{Place}
 
 abbrev at_root : List Place
 at_root = root ∷ []
 
 -- the text "Hello, World!" with its zero byte
-abbrev hello_words : List ℕ
+abbrev pub hello_words : List ℕ
 hello_words = words_of (1 ∷ 0 ∷ 0 ∷ 0 ∷ 0x72 ∷ 0 ∷ 0 ∷ 0 ∷ 0x48 ∷ 0x65 ∷ 0x6c ∷ 0x6c ∷ 0x6f ∷ 0x2c ∷ 0x20 ∷ 0x57 ∷ 0x6f ∷ 0x72 ∷ 0x6c ∷ 0x64 ∷ 0x21 ∷ 0 ∷ 0 ∷ 0 ∷ [])
 
-abbrev hello : Trees
+abbrev pub hello : Trees
 hello = tree (numbers 2 (0x48 ∷ 0x65 ∷ 0x6c ∷ 0x6c ∷ 0x6f ∷ 0x2c ∷ 0x20 ∷ 0x57 ∷ 0x6f ∷ 0x72 ∷ 0x6c ∷ 0x64 ∷ 0x21 ∷ 0 ∷ [])) none none
 
 pub hello_stands : At (hello_words ∷ []) at_root hello 2
@@ -26,7 +26,7 @@ pub hello_size : total_words hello ≡ 2
 hello_size = refl
 
 -- the text "hello world!" behind a far pointer
-abbrev hello_far : Trees
+abbrev pub hello_far : Trees
 hello_far = tree (numbers 2 (0x68 ∷ 0x65 ∷ 0x6c ∷ 0x6c ∷ 0x6f ∷ 0x20 ∷ 0x77 ∷ 0x6f ∷ 0x72 ∷ 0x6c ∷ 0x64 ∷ 0x21 ∷ 0 ∷ [])) none none
 
 pub hello_far_stands : At ((0x100000002 ∷ []) ∷ (0x6a00000001 ∷ 0x6f77206f6c6c6568 ∷ 0x21646c72 ∷ []) ∷ []) at_root hello_far 3
@@ -34,7 +34,7 @@ hello_far_stands =
     at (is_object {start = 1} (far refl (record { far = refl; wide = refl }) refl (lit< tt)) refl refl (some_numbers refl (lit< tt) (lit≤ tt))) nowhere nowhere
 
 -- a struct of two words, of which one is zero, and a null pointer
-abbrev five : Trees
+abbrev pub five : Trees
 five = tree (struct (5 ∷ 0 ∷ [])) (tree null none none) none
 
 pub five_stands : At ((0x1000200000000 ∷ 5 ∷ 0 ∷ 0 ∷ []) ∷ []) at_root five 3
@@ -44,7 +44,7 @@ pub five_trimmed : trim five ≡ tree (struct (5 ∷ [])) none none
 five_trimmed = refl
 
 -- a list of two structs
-abbrev seven : Trees
+abbrev pub seven : Trees
 seven = tree (structs 2 1 ((7 ∷ 0 ∷ []) ∷ (0 ∷ 0 ∷ []) ∷ [])) (tree null none (tree null none none)) none
 
 pub seven_stands : At ((0x3700000001 ∷ 0x1000200000008 ∷ 7 ∷ 0 ∷ 0 ∷ 0 ∷ 0 ∷ 0 ∷ []) ∷ []) at_root seven 7
@@ -66,7 +66,7 @@ pub empty_stands : At ((0xfffffffc ∷ []) ∷ []) at_root (tree (struct []) non
 empty_stands = at (is_object {start = 0} (near refl (lit< tt) (lit< tt)) refl refl (a_struct refl (lit≤ tt))) nowhere nowhere
 
 -- the text "A" behind a pad, and behind two pads
-abbrev letter : Trees
+abbrev pub letter : Trees
 letter = tree (numbers 2 (0x41 ∷ 0 ∷ [])) none none
 
 pub letter_stands : At ((0xa ∷ 0x1200000001 ∷ 0x41 ∷ []) ∷ []) at_root letter 2

@@ -1,8 +1,9 @@
 -- What a walk over trees may still be charged, and the words that it has counted (src/layout/walk.rt).
-use Rattle.std.specs.Prelude.{◌≡◌, ℕ, ◌+◌, ◌-◌, ◌^◌, ◌<◌, ◌≤◌, List, [], ◌∷◌, Option, Some, None, IfSome}
+use Rattle.std.specs.Prelude.{◌≡◌, Bool, ℕ, ◌+◌, ◌-◌, ◌^◌, ◌<◌, ◌≤◌, List, [], ◌∷◌, Option, Some, None, IfSome}
 use Rattle.capnp_wire.specs.Tree.{Trees, depth, total_words}
 use Rattle.capnp_wire.specs.Reached.{At}
-use Rattle.capnp_wire.specs.declared.layout.Place.{Place}
+use Rattle.capnp_wire.specs.Layout.{formed, AllHaveRoom}
+use Rattle.capnp_wire.specs.declared.layout.place.Place.{Place}
 
 -- a charge is within the limit, where there is one
 abbrev pub Within : Option ℕ → ℕ → Type 0
@@ -27,17 +28,34 @@ abbrev pub CountsMore : Option ℕ → Option ℕ → ℕ → Type 0
 CountsMore kept kept_then more = (words : ℕ) → Counts kept words → Counts kept_then (words + more)
 
 -- trees stand at places, no deeper than a level, with a charge and with so many words
-pub record Stand (m : List (List ℕ)) (at : List Place) (level charge words : ℕ) : Type 0 where
+pub record TreesAt (m : List (List ℕ)) (at : List Place) (level charge words : ℕ) : Type 0 where
   pub trees : Trees
   pub stand : At m at trees charge
   pub shallow : depth trees ≤ level
   pub words_are : total_words trees ≡ words
 
--- What a walk from a place finds: the trees that stand there, within the level and the limit.
-pub record Walked (m : List (List ℕ)) (place : Place) (level : ℕ) (limit left words_before words_now : Option ℕ) : Type 0 where
+-- the same, where every field has room, with so many words as they stand, or in canonical form
+pub record TreesWithRoom (m : List (List ℕ)) (at : List Place) (level charge : ℕ) (canonical : Bool) (words : ℕ) : Type 0 where
+  pub trees : Trees
+  pub stand : At m at trees charge
+  pub shallow : depth trees ≤ level
+  pub rooms : AllHaveRoom trees
+  pub words_are : total_words (formed canonical trees) ≡ words
+
+-- What a walk over the trees at some places finds.
+pub record WalkedAll (m : List (List ℕ)) (canonical : Bool) (at : List Place) (level : ℕ) (limit left words_before words_now : Option ℕ) : Type 0 where
   pub charge : ℕ
   pub words : ℕ
-  pub stand : Stand m (place ∷ []) level charge words
+  pub stand : TreesWithRoom m at level charge canonical words
+  pub within : Within limit charge
+  pub left_is : left ≡ less limit charge
+  pub counted : CountsMore words_before words_now words
+
+-- What a walk from a place finds: the trees that stand there, within the level and the limit.
+pub record Walked (m : List (List ℕ)) (canonical : Bool) (place : Place) (level : ℕ) (limit left words_before words_now : Option ℕ) : Type 0 where
+  pub charge : ℕ
+  pub words : ℕ
+  pub stand : TreesWithRoom m (place ∷ []) level charge canonical words
   pub within : Within limit charge
   pub left_is : left ≡ less limit charge
   pub counted : CountsMore words_before words_now words

@@ -1,28 +1,36 @@
 -- What is read of an object on the way to it (src/layout/object.rt).
-use Rattle.std.specs.Prelude.{◌≡◌, ◌⊎◌, ℕ, ◌+◌, ◌*◌, ◌/◌, ◌≤◌, List, length, Some, MatchOption, slice_get, if◌then◌else◌, ◌==◌}
+use Rattle.std.specs.Prelude.{◌≡◌, ◌⊎◌, ℕ, ◌+◌, ◌*◌, ◌/◌, ◌^◌, ◌<◌, ◌≤◌, List, length, Some, MatchOption, slice_get, if◌then◌else◌, ◌==◌}
 use Rattle.capnp_frame.specs.declared.error.ErrorKind.{ErrorKind}
 use Rattle.capnp_frame.specs.declared.error.ErrorKind.TheVariants.{PointerOutOfBounds, CapabilityRefused}
-use Rattle.capnp_wire.specs.Pointer.{words_of, kind}
+use Rattle.capnp_wire.specs.Pointer.{words_of, pointer_kind}
 use Rattle.capnp_wire.specs.Element.{code_of, width, words_for}
-use Rattle.capnp_wire.specs.Object.{Begins, Lands, Landing, Object, Shape, struct_shape, numbers_shape, pointers_shape, structs_shape}
+use Rattle.capnp_wire.specs.Object.{word_at, pad, pad_tag, IsFar, IsStart, Lands, Target, PointsTo, Shape, struct_shape, numbers_shape, pointers_shape, structs_shape}
 use Rattle.capnp_wire.specs.PointerWord.{IsNearShape}
-use Rattle.capnp_wire.specs.declared.layout.Place.{Place}
+use Rattle.capnp_wire.specs.Layout.{HasRoom}
+use Rattle.capnp_wire.specs.declared.layout.place.Place.{Place}
 use Rattle.capnp_wire.specs.declared.layout.object.Body.{Body}
 use Rattle.capnp_wire.specs.declared.layout.object.Body.TheVariants.{Struct, Numbers, Pointers, Structs}
 use Rattle.capnp_wire.specs.declared.layout.landing.Landing.{Landing as ReadLanding}
 use Rattle.capnp_wire.specs.declared.layout.object.Object.{Object as ReadObject}
 
+-- a far pointer has a pad of these two words
+pub record HasWidePad (m : List (List ℕ)) (word first tag : ℕ) : Type 0 where
+  pub wide : IsFar word 1
+  pub first_there : word_at m (pad word) ≡ Some first
+  pub tag_there : word_at m (pad_tag word) ≡ Some tag
+
 -- a pointer leads there, by way of its pads
 pub record IsLanding (m : List (List ℕ)) (place : Place) (read : ReadLanding) : Type 0 where
-  pub landing : Landing
+  pub landing : Target
   pub lands : Lands m place landing
   pub number : landing.segment ≡ read.number
   pub content : slice_get m landing.segment ≡ Some (words_of read.segment.now)
   pub shape : IsNearShape landing.tag read.shape
-  pub start : MatchOption read.start ((start : ℕ) → Begins landing.origin landing.tag start → ⊥)
-      (λ start. Begins landing.origin landing.tag start)
+  pub start : MatchOption read.start ((start : ℕ) → IsStart landing.origin landing.tag start → ⊥)
+      (λ start. IsStart landing.origin landing.tag start)
   pub pads : landing.pads ≡ read.pads
   pub few_pads : landing.pads ≤ 2
+  pub small : landing.tag < 2 ^ 64
 
 -- the object that stands at a place
 abbrev pub shape_of : List ℕ → Place → Body → Shape
@@ -56,12 +64,17 @@ charge_of (Structs elements behind) =
 -- the object to which the pointer at a place leads
 pub record IsObject (m : List (List ℕ)) (place : Place) (read : ReadObject) : Type 0 where
   pub content : slice_get m read.start.segment ≡ Some (words_of read.segment.now)
-  pub object : Object m place (record (shape_of (words_of read.segment.now) read.start read.body) { charge = read.charge })
+  pub object : PointsTo m place (record (shape_of (words_of read.segment.now) read.start read.body) { charge = read.charge })
+  pub landing : Target
+  pub lands : Lands m place landing
+  pub number : landing.segment ≡ read.start.segment
+  pub begins : IsStart landing.origin landing.tag read.start.word
   pub room : read.start.word + room_of read.body ≤ length read.segment.now / 8
   pub elements : words_in read.body ≤ room_of read.body
   pub charge : charge_of read.body ≤ read.charge
+  pub has_room : let shape = shape_of (words_of read.segment.now) read.start read.body in HasRoom shape.form (length shape.held)
 
 -- a word is no struct or list pointer, and how that is refused
 abbrev pub NotNear : ℕ → ErrorKind → Type 0
-NotNear word refusal =
-    ((kind word ≡ 2) × (refusal ≡ PointerOutOfBounds)) ⊎ ((kind word ≡ 3) × (refusal ≡ CapabilityRefused))
+NotNear word kind =
+    ((pointer_kind word ≡ 2) × (kind ≡ PointerOutOfBounds)) ⊎ ((pointer_kind word ≡ 3) × (kind ≡ CapabilityRefused))

@@ -10,3 +10,10 @@ pub mod Charge
 pub mod Faults
 pub mod Views
 pub mod Readers
+pub mod Layout
+pub mod Block
+pub mod Rows
+pub mod Copy
+pub mod Values
+pub mod Canonical
+pub mod Tested

@@ -1,9 +1,9 @@
 -- What a pointer word stands for. A message is a list of segments, each a list of words.
 use Rattle.std.specs.Prelude.{◌≡◌, ℕ, zero, suc, ◌+◌, ◌*◌, ◌/◌, ◌^◌, ◌<◌, ◌≤◌, ◌==◌, if◌then◌else◌, List, [], ◌∷◌, ◌++◌, length, map, Option, Some, slice_get, option_and_then}
-use Rattle.capnp_wire.specs.Pointer.{digits, number, words_of, words_from, kind, offset, data_words, pointer_words, code, list_count, has_wide_pad, pad_position, pad_segment}
+use Rattle.capnp_wire.specs.Pointer.{digits, number_of, words_of, words_from, pointer_kind, offset, data_words, pointer_words, code, list_count, has_wide_pad, pad_position, pad_segment}
 use Rattle.capnp_wire.specs.Element.{width, words_for}
 use Rattle.capnp_wire.specs.Tree.{Form, null, struct, numbers, pointers, structs}
-use Rattle.capnp_wire.specs.declared.layout.Place.{Place}
+use Rattle.capnp_wire.specs.declared.layout.place.Place.{Place}
 
 -- the message that segments of bytes show: their whole words
 abbrev pub message_of : List (List ℕ) → List (List ℕ)
@@ -26,7 +26,7 @@ pad_tag word = record { segment = pad_segment word; word = pad_position word + 1
 
 -- a far pointer, 0 with a pad of one word, 1 with one of two
 pub record IsFar (word width : ℕ) : Type 0 where
-  pub far : kind word ≡ 2
+  pub far : pointer_kind word ≡ 2
   pub wide : has_wide_pad word ≡ width
 
 -- where an object begins in its segment
@@ -36,30 +36,30 @@ pub data Origin : Type 0 where
   -- at this word, whatever its tag says
   exactly : ℕ → Origin
 
--- An object's segment, where it begins there, its tag, which is the struct or list pointer that gives its
+-- Where a pointer leads: an object's segment, where it begins there, its tag, which is the struct or list pointer that gives its
 -- shape, and how many words of pads there are on the way.
-pub record Landing : Type 0 where
+pub record Target : Type 0 where
   pub segment : ℕ
   pub origin : Origin
   pub tag : ℕ
   pub pads : ℕ
 
 -- the pointer at a place leads there
-pub data Lands (m : List (List ℕ)) (place : Place) : Landing → Type 0 where
-  near : {word : ℕ} → word_at m place ≡ Some word → 0 < word → kind word < 2
+pub data Lands (m : List (List ℕ)) (place : Place) : Target → Type 0 where
+  near : {word : ℕ} → word_at m place ≡ Some word → 0 < word → pointer_kind word < 2
       → Lands m place (record { segment = place.segment; origin = behind place.word; tag = word; pads = 0 })
   far : {word tag : ℕ} → word_at m place ≡ Some word → IsFar word 0
-      → word_at m (pad word) ≡ Some tag → kind tag < 2
+      → word_at m (pad word) ≡ Some tag → pointer_kind tag < 2
       → Lands m place (record { segment = pad_segment word; origin = behind (pad_position word); tag = tag; pads = 1 })
   double_far : {word inner tag : ℕ} {words : List ℕ} → word_at m place ≡ Some word → IsFar word 1
       → word_at m (pad word) ≡ Some inner → IsFar inner 0 → word_at m (pad_tag word) ≡ Some tag
-      → slice_get m (pad_segment inner) ≡ Some words → kind tag < 2
+      → slice_get m (pad_segment inner) ≡ Some words → pointer_kind tag < 2
       → Lands m place (record { segment = pad_segment inner; origin = exactly (pad_position inner); tag = tag; pads = 2 })
 
--- An offset from 2 ^ 29 on is negative.
-abbrev pub Begins : Origin → ℕ → ℕ → Type 0
-Begins (behind word) tag start = start + 2 ^ 30 * (offset tag / 2 ^ 29) ≡ word + 1 + offset tag
-Begins (exactly word) tag start = start ≡ word
+-- an object begins at this word, as its origin and its tag say; an offset from 2 ^ 29 on is negative
+abbrev pub IsStart : Origin → ℕ → ℕ → Type 0
+IsStart (behind word) tag start = start + 2 ^ 30 * (offset tag / 2 ^ 29) ≡ word + 1 + offset tag
+IsStart (exactly word) tag start = start ≡ word
 
 -- a form, the places of its pointers, and the words that its object is charged
 pub record Shape : Type 0 where
@@ -82,7 +82,7 @@ struct_shape words start d p =
 
 -- the elements of a list of code 0 to 5 are the digits of its words, in the base of their bits
 abbrev pub elements : List ℕ → ℕ → ℕ → ℕ → List ℕ
-elements words start code n = digits (2 ^ width code) n (number (2 ^ 64) (words_from words start (words_for n (width code))))
+elements words start code n = digits (2 ^ width code) n (number_of (2 ^ 64) (words_from words start (words_for n (width code))))
 
 abbrev pub numbers_shape : List ℕ → Place → ℕ → ℕ → Shape
 numbers_shape words start code n = record {
@@ -103,26 +103,26 @@ structs_shape words start d p n size = record {
 }
 
 -- the object that stands at a place among the words of its segment, as its pointer says
-pub data Stands (words : List ℕ) (start : Place) (pointer : ℕ) : Shape → Type 0 where
-  a_struct : kind pointer ≡ 0 → start.word + data_words pointer + pointer_words pointer ≤ length words
-      → Stands words start pointer (struct_shape words start (data_words pointer) (pointer_words pointer))
-  some_numbers : kind pointer ≡ 1 → code pointer < 6 → start.word + words_for (list_count pointer) (width (code pointer)) ≤ length words
-      → Stands words start pointer (numbers_shape words start (code pointer) (list_count pointer))
-  some_pointers : kind pointer ≡ 1 → code pointer ≡ 6 → start.word + list_count pointer ≤ length words
-      → Stands words start pointer (pointers_shape start (list_count pointer))
-  some_structs : {tag : ℕ} → kind pointer ≡ 1 → code pointer ≡ 7 → start.word + 1 + list_count pointer ≤ length words
-      → slice_get words start.word ≡ Some tag → kind tag ≡ 0
+pub data ShapeStands (words : List ℕ) (start : Place) (pointer : ℕ) : Shape → Type 0 where
+  a_struct : pointer_kind pointer ≡ 0 → start.word + data_words pointer + pointer_words pointer ≤ length words
+      → ShapeStands words start pointer (struct_shape words start (data_words pointer) (pointer_words pointer))
+  some_numbers : pointer_kind pointer ≡ 1 → code pointer < 6 → start.word + words_for (list_count pointer) (width (code pointer)) ≤ length words
+      → ShapeStands words start pointer (numbers_shape words start (code pointer) (list_count pointer))
+  some_pointers : pointer_kind pointer ≡ 1 → code pointer ≡ 6 → start.word + list_count pointer ≤ length words
+      → ShapeStands words start pointer (pointers_shape start (list_count pointer))
+  some_structs : {tag : ℕ} → pointer_kind pointer ≡ 1 → code pointer ≡ 7 → start.word + 1 + list_count pointer ≤ length words
+      → slice_get words start.word ≡ Some tag → pointer_kind tag ≡ 0
       → offset tag * (data_words tag + pointer_words tag) ≤ list_count pointer
-      → Stands words start pointer (structs_shape words start (data_words tag) (pointer_words tag) (offset tag) (list_count pointer))
+      → ShapeStands words start pointer (structs_shape words start (data_words tag) (pointer_words tag) (offset tag) (list_count pointer))
 
 -- a null pointer
 abbrev pub nothing : Shape
 nothing = record { form = null; held = []; charge = 0 }
 
 -- the pointer at a place stands for null or for an object
-pub data Object (m : List (List ℕ)) (place : Place) : Shape → Type 0 where
-  is_null : word_at m place ≡ Some 0 → Object m place nothing
-  is_object : {landing : Landing} {words : List ℕ} {start : ℕ} {shape : Shape} → Lands m place landing
-      → slice_get m landing.segment ≡ Some words → Begins landing.origin landing.tag start
-      → Stands words (record { segment = landing.segment; word = start }) landing.tag shape
-      → Object m place (record { form = shape.form; held = shape.held; charge = landing.pads + shape.charge })
+pub data PointsTo (m : List (List ℕ)) (place : Place) : Shape → Type 0 where
+  is_null : word_at m place ≡ Some 0 → PointsTo m place nothing
+  is_object : {landing : Target} {words : List ℕ} {start : ℕ} {shape : Shape} → Lands m place landing
+      → slice_get m landing.segment ≡ Some words → IsStart landing.origin landing.tag start
+      → ShapeStands words (record { segment = landing.segment; word = start }) landing.tag shape
+      → PointsTo m place (record { form = shape.form; held = shape.held; charge = landing.pads + shape.charge })

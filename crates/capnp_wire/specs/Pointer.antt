@@ -9,21 +9,21 @@ digits base zero number = []
 digits base (suc n) number = number % base ∷ digits base n (number / base)
 
 -- the number of some digits, lowest first
-abbrev pub number : ℕ → List ℕ → ℕ
-number base [] = 0
-number base (digit ∷ rest) = digit + base * number base rest
+abbrev pub number_of : ℕ → List ℕ → ℕ
+number_of base [] = 0
+number_of base (digit ∷ rest) = digit + base * number_of base rest
 
 -- the whole words of some bytes, little endian; further bytes are not read
 abbrev pub words_of : List ℕ → List ℕ
-words_of bytes = map (number 256) (first_chunks 8 (length bytes / 8) bytes)
+words_of bytes = map (number_of 256) (first_chunks 8 (length bytes / 8) bytes)
 
 -- n words from a start on
 abbrev pub words_from : List ℕ → ℕ → ℕ → List ℕ
 words_from words start n = take n (drop start words)
 
 -- 0 struct, 1 list, 2 far, 3 capability and others
-abbrev pub kind : ℕ → ℕ
-kind word = word % 4
+abbrev pub pointer_kind : ℕ → ℕ
+pointer_kind word = word % 4
 
 -- the 30 bits of the offset, unsigned
 abbrev pub offset : ℕ → ℕ

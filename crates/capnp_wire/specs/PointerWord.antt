@@ -1,6 +1,6 @@
 -- What is read of a pointer word (src/layout/pointer.rt).
-use Rattle.std.specs.Prelude.{◌≡◌, ℕ, ◌<◌, if◌then◌else◌}
-use Rattle.capnp_wire.specs.Pointer.{kind, offset, data_words, pointer_words, code, list_count, has_wide_pad}
+use Rattle.std.specs.Prelude.{◌≡◌, ℕ, ◌<◌, ◌^◌, if◌then◌else◌}
+use Rattle.capnp_wire.specs.Pointer.{pointer_kind, offset, data_words, pointer_words, code, list_count, has_wide_pad}
 use Rattle.capnp_wire.specs.Element.{code_of}
 use Rattle.capnp_wire.specs.Object.{pad}
 use Rattle.capnp_wire.specs.declared.layout.pointer.Elements.{Elements}
@@ -13,30 +13,31 @@ use Rattle.capnp_wire.specs.declared.layout.pointer.PointerWord.TheVariants.{Nea
 
 -- the struct or list pointer leads to this
 abbrev pub IsNearShape : ℕ → NearShape → Type 0
-IsNearShape word (Struct size) = (kind word ≡ 0) × (size.data_words ≡ data_words word) × (size.pointers ≡ pointer_words word)
+IsNearShape word (Struct size) = (pointer_kind word ≡ 0) × (size.data_words ≡ data_words word) × (size.pointers ≡ pointer_words word)
 IsNearShape word (Numbers elements count) =
-    (kind word ≡ 1) × (code word < 6) × (code_of elements ≡ code word) × (count ≡ list_count word)
-IsNearShape word (Pointers count) = (kind word ≡ 1) × (code word ≡ 6) × (count ≡ list_count word)
-IsNearShape word (Structs words) = (kind word ≡ 1) × (code word ≡ 7) × (words ≡ list_count word)
+    (pointer_kind word ≡ 1) × (code word < 6) × (code_of elements ≡ code word) × (count ≡ list_count word)
+IsNearShape word (Pointers count) = (pointer_kind word ≡ 1) × (code word ≡ 6) × (count ≡ list_count word)
+IsNearShape word (Structs words) = (pointer_kind word ≡ 1) × (code word ≡ 7) × (words ≡ list_count word)
 
 -- the tag in front of the elements of a list of structs
 pub record IsElementsTag (word : ℕ) (elements : Elements) : Type 0 where
-  pub struct_kind : kind word ≡ 0
+  pub struct_kind : pointer_kind word ≡ 0
   pub count_is : elements.count ≡ offset word
   pub data_is : elements.size.data_words ≡ data_words word
   pub pointers_are : elements.size.pointers ≡ pointer_words word
 
 pub record IsNear (word : ℕ) (near : NearPointer) : Type 0 where
-  pub near_kind : kind word < 2
+  pub small : word < 2 ^ 64
+  pub near_kind : pointer_kind word < 2
   pub offset_is : near.offset.0 ≡ offset word
   pub shape_is : IsNearShape word near.shape
 
 pub record IsFarPointer (word : ℕ) (far : FarPointer) : Type 0 where
-  pub far_kind : kind word ≡ 2
+  pub far_kind : pointer_kind word ≡ 2
   pub pad_is : far.pad ≡ pad word
   pub width : has_wide_pad word ≡ (if far.is_wide then 1 else 0)
 
 abbrev pub IsPointerWord : ℕ → PointerWord → Type 0
 IsPointerWord word (Near near) = IsNear word near
 IsPointerWord word (Far far) = IsFarPointer word far
-IsPointerWord word Other = kind word ≡ 3
+IsPointerWord word Other = pointer_kind word ≡ 3

@@ -1,13 +1,13 @@
 -- The trees of a message: what stands at places, and all that it leads to.
 use Rattle.std.specs.Prelude.{ℕ, ◌+◌, List, [], ◌∷◌}
 use Rattle.capnp_wire.specs.Tree.{Form, Trees, none, tree}
-use Rattle.capnp_wire.specs.Object.{Shape, Object}
-use Rattle.capnp_wire.specs.declared.layout.Place.{Place}
+use Rattle.capnp_wire.specs.Object.{Shape, PointsTo}
+use Rattle.capnp_wire.specs.declared.layout.place.Place.{Place}
 
 -- the trees at places, and what all their objects are charged, each as often as it is joined
 pub data At (m : List (List ℕ)) : List Place → Trees → ℕ → Type 0 where
   nowhere : At m [] none 0
-  at : {place : Place} {others : List Place} {shape : Shape} {held rest : Trees} {inside behind : ℕ} → Object m place shape
+  at : {place : Place} {others : List Place} {shape : Shape} {held rest : Trees} {inside behind : ℕ} → PointsTo m place shape
       → At m shape.held held inside → At m others rest behind
       → At m (place ∷ others) (tree shape.form held rest) (shape.charge + inside + behind)
 
@@ -25,5 +25,5 @@ pub data IsIn (place : Place) : List Place → Type 0 where
 
 -- the object at a place holds a pointer to the other, or one that leads on to it
 pub data Below (m : List (List ℕ)) : Place → Place → Type 0 where
-  directly : {place inner : Place} {shape : Shape} → Object m place shape → IsIn inner shape.held → Below m place inner
+  directly : {place inner : Place} {shape : Shape} → PointsTo m place shape → IsIn inner shape.held → Below m place inner
   further : {place middle inner : Place} → Below m place middle → Below m middle inner → Below m place inner

@@ -1,45 +1,55 @@
--- What contracts see of readers (src/arena/reader_arena.rt, src/any_pointer/reader.rt, src/any_struct.rt).
-use Rattle.std.specs.Prelude.{◌≡◌, ℕ, ◌+◌, ◌<◌, ℤ, pos, negsuc, List, Some}
+-- What contracts see of readers (src/arena/reader_arena.rt, src/any_pointer/reader.rt, src/any_struct/reader.rt).
+use Rattle.std.specs.Prelude.{◌≡◌, ℕ, ◌+◌, ◌<◌, ℤ, pos, negsuc, List, Option, Some, None}
+use denote.Ref.{Bor}
+use Rattle.capnp_frame.specs.declared.message.segments.ReaderSegments.{Ghosts}
 use Rattle.capnp_wire.specs.Pointer.{words_of, words_from}
 use Rattle.capnp_wire.specs.Tree.{Form}
 use Rattle.capnp_wire.specs.Object.{message_of, places}
+use Rattle.capnp_wire.specs.Charge.{Within}
 use Rattle.capnp_wire.specs.Landing.{IsObject, shape_of}
 use Rattle.capnp_wire.specs.Views.{Pointer, Struct}
-use Rattle.capnp_wire.specs.declared.layout.Place.{Place}
+use Rattle.capnp_wire.specs.declared.layout.place.Place.{Place}
 use Rattle.capnp_wire.specs.declared.layout.object.Object.{Object as ReadObject}
 use Rattle.capnp_wire.specs.declared.any_pointer.reader.Reader.{Reader}
-use Rattle.capnp_wire.specs.declared.any_struct.StructReader.{StructReader}
+use Rattle.capnp_wire.specs.declared.read_limiter.ReadLimiter.{ReadLimiter}
+use Rattle.capnp_wire.specs.declared.any_struct.reader.StructReader.{StructReader}
 
 -- a limit below 0 counts as 0
 abbrev pub level_of : ℤ → ℕ
 level_of (pos level) = level
 level_of (negsuc n) = 0
 
+-- the most words that may be read; readers of a builder have no limiter
+abbrev pub limit_of : Option (Bor ReadLimiter) → Option ℕ
+limit_of None = None
+limit_of (Some limiter) = limiter.now.limit
+
 -- the pointer of a reader, over what its segments are
 abbrev pub pointer_of : {S : Type 0} → (S → List (List ℕ)) → Reader S → Pointer
 pointer_of segments reader = record {
-  message = message_of (segments reader.arena.now.segments);
+  message = message_of (segments reader.segments.now);
   place = reader.place;
   level = reader.level;
-  limit = reader.arena.now.options.traversal_limit_in_words;
+  limit = limit_of reader.limiter;
 }
 
 -- the struct of a reader
-abbrev pub struct_of : {S : Type 0} → (S → List (List ℕ)) → StructReader S → Struct
+abbrev pub struct_of : {S : Type 0} {ghosts : Ghosts S} → (S → List (List ℕ)) → StructReader S ghosts → Struct
 struct_of segments reader = record {
-  message = message_of (segments reader.arena.now.segments);
+  message = message_of (segments reader.segments.now);
   words = words_from (words_of reader.segment.now) reader.start.word reader.size.data_words;
   held = places reader.start.segment (reader.start.word + reader.size.data_words) reader.size.pointers;
   level = reader.level;
-  limit = reader.arena.now.options.traversal_limit_in_words;
+  limit = limit_of reader.limiter;
 }
 
--- an object that the pointer leads to
+-- an object that the pointer leads to, whose charge is within the limit
 pub record IsEntered (pointer : Pointer) (object : ReadObject) : Type 0 where
   pub place : Place
   pub stands : pointer.place ≡ Some place
   pub object_is : IsObject pointer.message place object
   pub level : 0 < pointer.level
+  pub within : Within pointer.limit object.charge
 
 -- what it is
 abbrev pub form_of : ReadObject → Form

@@ -1,12 +1,14 @@
 -- What the reading views show of a pointer (src/any_pointer, text, data, primitive_list, any_struct).
-use Rattle.std.specs.Prelude.{◌≡◌, ◌≢◌, ℕ, ◌-◌, ◌<◌, ◌⊎◌, ⊤, List, [], ◌∷◌, ◌++◌, false, Option, Some, None, slice_get, MatchOption, ◌≤◌, ◌^◌}
+use Rattle.std.specs.Prelude.{◌≡◌, ◌≢◌, ℕ, ◌-◌, ◌<◌, ◌⊎◌, ⊤, List, [], ◌∷◌, ◌++◌, false, Option, Some, None, slice_get, MatchOption, ◌≤◌, ◌^◌, Result, MatchResult, IsOk, IfErr}
+use Rattle.std.specs.Result.{IsErrAnd}
+use Rattle.capnp_frame.specs.declared.error.Error.{Error}
 use Rattle.capnp_frame.specs.declared.error.ErrorKind.{ErrorKind}
 use Rattle.capnp_frame.specs.declared.error.ErrorKind.TheVariants.{ReadLimitExceeded, AllocationTooLarge, WrongPointerKind, TextNotTerminated}
 use Rattle.capnp_wire.specs.Tree.{Form, is_null, null, struct, numbers}
-use Rattle.capnp_wire.specs.Object.{Shape, Object, nothing}
-use Rattle.capnp_wire.specs.Faults.{Fault, Stops}
-use Rattle.capnp_wire.specs.Charge.{Stand, Within}
-use Rattle.capnp_wire.specs.declared.layout.Place.{Place}
+use Rattle.capnp_wire.specs.Object.{Shape, PointsTo, nothing}
+use Rattle.capnp_wire.specs.Faults.{Fault, StopsWalk}
+use Rattle.capnp_wire.specs.Charge.{TreesAt, Within}
+use Rattle.capnp_wire.specs.declared.layout.place.Place.{Place}
 
 -- A pointer that is read: the message, where its word stands (one past the end of a struct stands nowhere,
 -- and is null), how many objects may follow one another from it on, and the limit of words that are read.
@@ -19,27 +21,51 @@ pub record Pointer : Type 0 where
 -- what a pointer stands for: null, or an object within its level
 pub data Denotes (pointer : Pointer) : Shape → Type 0 where
   nowhere : pointer.place ≡ None → Denotes pointer nothing
-  at_place : {place : Place} {shape : Shape} → pointer.place ≡ Some place → Object pointer.message place shape
+  at_place : {place : Place} {shape : Shape} → pointer.place ≡ Some place → PointsTo pointer.message place shape
       → (is_null shape.form ≡ false → 0 < pointer.level) → Denotes pointer shape
 
 -- a pointer stands for some shape of which a fact holds
 abbrev pub Shows : Pointer → (Shape → Type 0) → Type 0
 Shows pointer fact = (shape : Shape) × Denotes pointer shape × fact shape
 
--- No view is had of a pointer: no object stands there, or the traversal limit is met.
-pub data Barred (pointer : Pointer) : ErrorKind → Type 0 where
-  no_object : {place : Place} {refusal : ErrorKind} → pointer.place ≡ Some place
-      → Fault pointer.message place pointer.level refusal → Barred pointer refusal
-  read_limit : {shape : Shape} → Denotes pointer shape → pointer.limit ≢ None → Barred pointer ReadLimitExceeded
-
 -- no object stands where a pointer leads, whatever is still read
 abbrev pub LeadsAstray : Pointer → ErrorKind → Type 0
-LeadsAstray pointer refusal =
-    (place : Place) × (pointer.place ≡ Some place) × Fault pointer.message place pointer.level refusal
+LeadsAstray pointer kind = (place : Place) × (pointer.place ≡ Some place) × Fault pointer.message place pointer.level kind
 
--- A view is refused: none is had there, or it declines what stands there.
+-- the words of what stands there are charged, and may be past the limit
+abbrev pub MeetsLimit : Pointer → ErrorKind → Type 0
+MeetsLimit pointer kind = Shows pointer (λ shape. 0 < shape.charge) × (pointer.limit ≢ None) × (kind ≡ ReadLimitExceeded)
+
+-- no view is had of a pointer: no object stands there, or the traversal limit is met
+abbrev pub Barred : Pointer → ErrorKind → Type 0
+Barred pointer kind = LeadsAstray pointer kind ⊎ MeetsLimit pointer kind
+
+-- a view accepts what stands there, or declines it
+abbrev pub Accepts : Pointer → (Form → Type 0) → Type 0
+Accepts pointer takes = Shows pointer (λ shape. takes shape.form)
+
+abbrev pub Declines : Pointer → (Form → ErrorKind → Type 0) → ErrorKind → Type 0
+Declines pointer declines kind = Shows pointer (λ shape. declines shape.form kind)
+
+-- a view is refused: none is had there, or it declines what stands there
 abbrev pub Refuses : Pointer → (Form → ErrorKind → Type 0) → ErrorKind → Type 0
-Refuses pointer declines refusal = Barred pointer refusal ⊎ Shows pointer (λ shape. declines shape.form refusal)
+Refuses pointer declines kind = Barred pointer kind ⊎ Declines pointer declines kind
+
+-- a view is had: of the form of what stands there a fact holds, and its charge is within the limit
+abbrev pub Reads : Pointer → (Form → Type 0) → Type 0
+Reads pointer fact = Shows pointer (λ shape. fact shape.form × Within pointer.limit shape.charge)
+
+-- What each view that is asked of a pointer keeps: it shows what stands there, or it is refused for a stated
+-- cause. Without a limit it is had of what it accepts, and no limit is met. Where no object stands, that is the
+-- refusal; where one stands that it declines, that is, or the limit.
+pub record IsViewOf {V : Type 0} (pointer : Pointer) (shows : V → Type 0) (accepts : Type 0)
+    (refuses declines : ErrorKind → Type 0) (result : Result V Error) : Type 0 where
+  pub answer : MatchResult result shows (λ error. refuses error.kind)
+  pub found : pointer.limit ≡ None → accepts → IsOk result
+  pub unlimited : pointer.limit ≡ None → IfErr result (λ error. error.kind ≢ ReadLimitExceeded)
+  pub exact : (kind : ErrorKind) → LeadsAstray pointer kind → (accepts → ⊥) → IsErrAnd result (λ error. error.kind ≡ kind)
+  pub declined : (kind : ErrorKind) → declines kind
+      → IsErrAnd result (λ error. (error.kind ≡ kind) ⊎ MeetsLimit pointer error.kind)
 
 -- data: empty from null, the bytes of a list of code 2
 abbrev pub IsData : Form → List ℕ → Type 0
@@ -77,7 +103,8 @@ HasData _ words = ⊥
 -- a struct: no fields from null, its fields, a level below
 pub record IsStruct (pointer : Pointer) (fields : Struct) : Type 0 where
   pub same_message : fields.message ≡ pointer.message
-  pub shown : Shows pointer (λ shape. HasData shape.form fields.words × (fields.held ≡ shape.held))
+  pub shown : Shows pointer (λ shape. HasData shape.form fields.words × (fields.held ≡ shape.held)
+      × Within pointer.limit shape.charge)
   pub level_below : fields.level ≡ pointer.level - 1
   pub same_limit : fields.limit ≡ pointer.limit
 
@@ -104,28 +131,24 @@ TakesStruct _ = ⊥
 
 -- and how the others are refused
 abbrev pub DeclinesNumbers : ℕ → Form → ErrorKind → Type 0
-DeclinesNumbers wanted form refusal = (TakesNumbers wanted form → ⊥) × (refusal ≡ WrongPointerKind)
+DeclinesNumbers wanted form kind = (TakesNumbers wanted form → ⊥) × (kind ≡ WrongPointerKind)
 
 abbrev pub DeclinesStruct : Form → ErrorKind → Type 0
-DeclinesStruct form refusal = (TakesStruct form → ⊥) × (refusal ≡ WrongPointerKind)
+DeclinesStruct form kind = (TakesStruct form → ⊥) × (kind ≡ WrongPointerKind)
 
 -- 22 for no list of bytes, 23 for one that does not end with a zero
 abbrev pub DeclinesText : Form → ErrorKind → Type 0
-DeclinesText form refusal =
-    ((TakesNumbers 2 form → ⊥) × (refusal ≡ WrongPointerKind))
-    ⊎ (TakesNumbers 2 form × (TakesText form → ⊥) × (refusal ≡ TextNotTerminated))
-
--- as the pointer itself, nothing is refused
-abbrev pub DeclinesNothing : Form → ErrorKind → Type 0
-DeclinesNothing form refusal = ⊥
+DeclinesText form kind =
+    ((TakesNumbers 2 form → ⊥) × (kind ≡ WrongPointerKind))
+    ⊎ (TakesNumbers 2 form × (TakesText form → ⊥) × (kind ≡ TextNotTerminated))
 
 -- where all the trees of a pointer are within its level and its limit, their words
 abbrev pub Measures : Pointer → ℕ → Type 0
 Measures pointer words = MatchOption pointer.place (words ≡ 0)
-    (λ place. (charge : ℕ) × Stand pointer.message (place ∷ []) pointer.level charge words × Within pointer.limit charge)
+    (λ place. (charge : ℕ) × TreesAt pointer.message (place ∷ []) pointer.level charge words × Within pointer.limit charge)
 
 -- they are refused: where a walk over them stops, or, once it is done, where there are 2 ^ 64 words
 abbrev pub Unmeasured : Pointer → ErrorKind → Type 0
-Unmeasured pointer refusal = (place : Place) × (pointer.place ≡ Some place)
-    × (Stops pointer.message (place ∷ []) pointer.level pointer.limit refusal
-    ⊎ ((words : ℕ) × Measures pointer words × (2 ^ 64 ≤ words) × (refusal ≡ AllocationTooLarge (2 ^ 32 - 1))))
+Unmeasured pointer kind = (place : Place) × (pointer.place ≡ Some place)
+    × (StopsWalk pointer.message (place ∷ []) pointer.level pointer.limit kind
+    ⊎ ((words : ℕ) × Measures pointer words × (2 ^ 64 ≤ words) × (kind ≡ AllocationTooLarge (2 ^ 32 - 1))))

@@ -1,18 +1,11 @@
 //! Bytes.
-ghost use Rattle.std.specs.Prelude.{◌≡◌, ◌≢◌, None, IfErr, IsOk, MatchResult};
-ghost use Rattle.std.specs.Result.{IsErrAnd};
-ghost use Rattle.capnp_frame.specs.declared.error.ErrorKind.{ErrorKind};
-ghost use Rattle.capnp_frame.specs.declared.error.ErrorKind.TheVariants.{ReadLimitExceeded};
-ghost use Rattle.capnp_wire.specs.Views.{LeadsAstray, Shows, Refuses, IsData, TakesNumbers, DeclinesNumbers};
-ghost use Rattle.capnp_wire.specs.Readers.{pointer_of};
+mod reader;
 
-use crate::any_pointer;
-use crate::traits::{self, FromPointerReader};
-use capnp_frame::Result;
+use crate::layout::value;
+use crate::traits::{self, SetterInput};
 use capnp_frame::message::ReaderSegments;
-
-/// The bytes themselves.
-pub type Reader<'a> = &'a [u8];
+use capnp_frame::{Result, Word};
+pub use reader::Reader;
 
 /// Bytes, as a type of a schema.
 pub struct Owned;
@@ -21,41 +14,23 @@ impl<'a, S: ReaderSegments> traits::Owned<'a, S> for Owned {
     type Reader = Reader<'a>;
 }
 
-// Empty from null, else the bytes of a list of bytes; any other object is refused by
-// `WrongPointerKind`.
-impl<'a, S: ReaderSegments> FromPointerReader<'a, S> for &'a [u8] {
-    ghost shows = { λ pointer view. Shows pointer (λ shape. IsData shape.form view.now) };
+// A list of bytes.
+impl<'a> SetterInput<Owned> for &'a [u8] {
+    ghost use Rattle.capnp_wire.specs.Values.{IsBytes, ManyBytes};
+    ghost use Rattle.capnp_wire.specs.Tree.{count};
+    ghost use Rattle.std.proofs.Common.{ap};
 
-    ghost accepts = { λ pointer. Shows pointer (λ shape. TakesNumbers 2 shape.form) };
+    ghost has_tree = { λ bytes trees. IsBytes bytes.now trees };
 
-    ghost refuses = { λ pointer refusal. Refuses pointer (DeclinesNumbers 2) refusal };
+    ghost refuses = { λ bytes kind. ManyBytes bytes.now kind };
 
-    fn get_from_pointer(reader: any_pointer::Reader<'a, S>) -> Result<Self>
-        ensures answer { let pointer = pointer_of S.segments reader.entry in MatchResult result
-            (λ view. Shows pointer (λ shape. IsData shape.form view.now))
-            (λ error. Refuses pointer (DeclinesNumbers 2) error.kind) }
-        ensures found { let pointer = pointer_of S.segments reader.entry in
-            pointer.limit ≡ None → Shows pointer (λ shape. TakesNumbers 2 shape.form) → IsOk result }
-        ensures unlimited { (pointer_of S.segments reader.entry).limit ≡ None →
-            IfErr result (λ error. error.kind ≢ ReadLimitExceeded) }
-        ensures exact { let pointer = pointer_of S.segments reader.entry in
-            (kind : ErrorKind) → LeadsAstray pointer kind →
-            (Shows pointer (λ shape. TakesNumbers 2 shape.form) → ⊥) →
-            IsErrAnd result (λ error. error.kind ≡ kind) }
-    {
-        read_bytes(&reader)
+    ghost one = { λ value trees is. ap count is.1 };
+
+    fn measure(&self, _canonical: bool) -> Result<u32> {
+        value::measure_bytes(self)
     }
-}
 
-// The bytes of a list of bytes.
-fn read_bytes<'a, S: ReaderSegments>(reader: &any_pointer::Reader<'a, S>) -> Result<&'a [u8]>
-    ensures { let pointer = pointer_of S.segments reader.now in MatchResult result
-        (λ bytes. Shows pointer (λ shape. IsData shape.form bytes.now))
-        (λ error. Refuses pointer (DeclinesNumbers 2) error.kind) }
-{
-    let Some(object) = reader.enter()? else {
-        return Ok(&[]);
-    };
-    let bytes = object.bytes()?;
-    Ok(bytes)
+    fn write(&self, _canonical: bool, block: &mut [u8]) -> Word {
+        value::write_bytes(self, block)
+    }
 }

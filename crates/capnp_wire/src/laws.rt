@@ -1,17 +1,28 @@
 //! Facts about the trees of messages, each the contract of a function that does nothing.
-ghost use Rattle.std.specs.Prelude.{◌≡◌, ◌<◌, ◌≤◌, ℕ, List, [], ◌∷◌, Option, None, Bool, false};
+ghost use Rattle.std.specs.Prelude.{◌≡◌, ◌+◌, Some, slice_get, ◌<◌, ◌≤◌, ◌^◌, ◌↔◌, ℕ, List, [], ◌∷◌, Option, None, Bool, false};
 ghost use Rattle.capnp_frame.specs.declared.error.ErrorKind.{ErrorKind};
-ghost use Rattle.capnp_wire.specs.Tree.{Form, Trees, none, tree, depth, is_null};
-ghost use Rattle.capnp_wire.specs.Object.{Shape, Object};
-ghost use Rattle.capnp_wire.specs.Reached.{At, Below};
-ghost use Rattle.capnp_wire.specs.Faults.{Fault, Stops};
+ghost use Rattle.capnp_wire.specs.Tree.{Form, Trees, none, tree, depth, is_null, total_words};
+ghost use Rattle.capnp_wire.specs.Trim.{trim};
+ghost use Rattle.capnp_wire.specs.Object.{Shape, PointsTo, word_at};
+ghost use Rattle.capnp_wire.specs.Reached.{At, Below, root};
+ghost use Rattle.capnp_wire.specs.Layout.{layout, canon, pointer_to, far_pointer, Laid, AllHaveRoom, AllWords};
+ghost use Rattle.capnp_wire.specs.Faults.{Fault, StopsWalk};
 ghost use Rattle.capnp_wire.specs.Charge.{Within};
-ghost use Rattle.capnp_wire.specs.declared.layout.Place.{Place};
+ghost use Rattle.capnp_wire.specs.Canonical.{IsCanonical, TestsAreExact};
+ghost use Rattle.capnp_wire.specs.Views.{Pointer};
+ghost use Rattle.capnp_wire.specs.Values.{IsCanonicalForm};
+ghost use Rattle.capnp_wire.specs.declared.layout.place.Place.{Place};
 
 /// At most one tree stands at each of some places, and it has one charge.
 pub fn one_tree_at_a_place()
     ensures { (m : List (List ℕ)) (places : List Place) (some others : Trees) (x y : ℕ) →
         At m places some x → At m places others y → (some ≡ others) × (x ≡ y) }
+{}
+
+/// At most one object stands at a place.
+pub fn one_object_at_a_place()
+    ensures { (m : List (List ℕ)) (place : Place) (some other : Shape) →
+        PointsTo m place some → PointsTo m place other → some ≡ other }
 {}
 
 /// Where an object leads back to itself, no tree stands.
@@ -22,26 +33,102 @@ pub fn cycle_has_no_tree()
 
 /// Where a pointer is refused, no object stands within its level.
 pub fn refused_has_no_object()
-    ensures { (m : List (List ℕ)) (place : Place) (level : ℕ) (refusal : ErrorKind) (shape : Shape) →
-        Fault m place level refusal → Object m place shape →
+    ensures { (m : List (List ℕ)) (place : Place) (level : ℕ) (kind : ErrorKind) (shape : Shape) →
+        Fault m place level kind → PointsTo m place shape →
         (is_null shape.form ≡ false → 0 < level) → ⊥ }
 {}
 
 /// At most one refusal stands at a place, at a level.
 pub fn one_refusal_at_a_place()
-    ensures { (m : List (List ℕ)) (place : Place) (level : ℕ) (refusal other : ErrorKind) →
-        Fault m place level refusal → Fault m place level other → refusal ≡ other }
+    ensures { (m : List (List ℕ)) (place : Place) (level : ℕ) (kind other : ErrorKind) →
+        Fault m place level kind → Fault m place level other → kind ≡ other }
 {}
 
 /// Where a walk stops, no trees stand within its level and its limit.
 pub fn stopped_walk_has_no_trees()
-    ensures { (m : List (List ℕ)) (places : List Place) (level charge : ℕ) (limit : Option ℕ) (refusal : ErrorKind) (trees : Trees) →
-        Stops m places level limit refusal → At m places trees charge → depth trees ≤ level →
+    ensures { (m : List (List ℕ)) (places : List Place) (level charge : ℕ) (limit : Option ℕ)
+        (kind : ErrorKind) (trees : Trees) →
+        StopsWalk m places level limit kind → At m places trees charge → depth trees ≤ level →
         Within limit charge → ⊥ }
 {}
 
 /// At most one refusal stops a walk.
 pub fn one_refusal_stops_a_walk()
-    ensures { (m : List (List ℕ)) (places : List Place) (level : ℕ) (limit : Option ℕ) (refusal other : ErrorKind) →
-        Stops m places level limit refusal → Stops m places level limit other → refusal ≡ other }
+    ensures { (m : List (List ℕ)) (places : List Place) (level : ℕ) (limit : Option ℕ)
+        (kind other : ErrorKind) →
+        StopsWalk m places level limit kind → StopsWalk m places level limit other →
+        kind ≡ other }
+{}
+
+/// The root of the one segment in which a tree is laid out is that tree.
+pub fn root_of_a_layout()
+    ensures { (form : Form) (held : Trees) → AllHaveRoom (tree form held none) →
+        total_words (tree form held none) < 2 ^ 29 →
+        (charge : ℕ)
+        × At (layout (tree form held none) ∷ []) (root ∷ []) (tree form held none) charge }
+{}
+
+/// Where a body stands so many words behind its pointer, in any segment, its tree stands.
+pub fn tree_behind_its_pointer()
+    ensures { (m : List (List ℕ)) (segment word offset : ℕ) (words : List ℕ)
+        (form : Form) (held : Trees) →
+        slice_get m segment ≡ Some words → AllHaveRoom (tree form held none) →
+        total_words (tree form held none) < 2 ^ 29 → offset < 2 ^ 29 →
+        slice_get words word ≡ Some (pointer_to (tree form held none) offset) →
+        Laid words (word + 1 + offset) (tree form held none) →
+        (charge : ℕ)
+        × At m (record { segment = segment; word = word } ∷ []) (tree form held none) charge }
+{}
+
+/// Where a body follows its pad, a far pointer to the pad stands for its tree.
+pub fn tree_behind_its_pad()
+    ensures { (m : List (List ℕ)) (place : Place) (segment pad : ℕ) (words : List ℕ)
+        (form : Form) (held : Trees) →
+        slice_get m segment ≡ Some words → AllHaveRoom (tree form held none) →
+        total_words (tree form held none) < 2 ^ 29 → is_null form ≡ false → pad < 2 ^ 29 →
+        word_at m place ≡ Some (far_pointer segment pad) →
+        slice_get words pad ≡ Some (pointer_to (tree form held none) 0) →
+        Laid words (pad + 1) (tree form held none) →
+        (charge : ℕ) × At m (place ∷ []) (tree form held none) charge }
+{}
+
+/// The root of a canonical form is the trimmed tree.
+pub fn root_of_a_canonical_form()
+    ensures { (form : Form) (held : Trees) → AllHaveRoom (tree form held none) →
+        total_words (trim (tree form held none)) < 2 ^ 29 →
+        (charge : ℕ)
+        × At (canon (tree form held none) ∷ []) (root ∷ []) (trim (tree form held none)) charge }
+{}
+
+/// Canonical forms of different trees differ.
+pub fn canonical_forms_differ()
+    ensures { (f g : Form) (h k : Trees) → AllHaveRoom (tree f h none) →
+        total_words (trim (tree f h none)) < 2 ^ 29 → AllHaveRoom (tree g k none) →
+        total_words (trim (tree g k none)) < 2 ^ 29 →
+        canon (tree f h none) ≡ canon (tree g k none) →
+        trim (tree f h none) ≡ trim (tree g k none) }
+{}
+
+/// The trees that stand in a message have room for their fields.
+pub fn trees_have_room()
+    ensures { (m : List (List ℕ)) (places : List Place) (trees : Trees) (charge : ℕ) →
+        AllWords m → At m places trees charge → AllHaveRoom trees }
+{}
+
+/// The canonical forms of two pointers are equal exactly where their trees are equal, trimmed.
+pub fn equal_forms_are_of_equal_trees()
+    ensures { (pointer other : Pointer) (words others : List ℕ)
+        (form : IsCanonicalForm pointer words) (other_form : IsCanonicalForm other others) →
+        (words ≡ others) ↔ (trim form.trees ≡ trim other_form.trees) }
+{}
+
+/// A canonical form, as the one segment of a message, is canonical.
+pub fn a_canonical_form_is_canonical()
+    ensures { (pointer : Pointer) (words : List ℕ) → IsCanonicalForm pointer words →
+        IsCanonical (words ∷ []) }
+{}
+
+/// What a walk tests of a message of one segment whose root is read says whether it is canonical.
+pub fn tests_are_exact()
+    ensures { TestsAreExact }
 {}

@@ -24,7 +24,7 @@ impl<'a> ReaderSegments for Slices<'a> {
     }
 }
 
-const HELLO: &[u8] = b"\x01\0\0\0\x72\0\0\0Hello, World!\0\0\0";
+pub(crate) const HELLO: &[u8] = b"\x01\0\0\0\x72\0\0\0Hello, World!\0\0\0";
 
 // Segments, and the refusals of their roots as text, as data, as a list of words and as a struct; 0
 // where there is a view.
@@ -84,25 +84,28 @@ const SIZES: [(&[&[u8]], Option<usize>, std::result::Result<u64, u8>); 9] = [
     (&[b"\x01\0\0\0\x07\0\0\0\0\0\0\x04\0\0\0\0"],              Some(8 * 1024 * 1024), Err(20)),
 ];
 
-fn root_as_text<S: ReaderSegments>(arena: &ReaderArena<S>) -> Result<text::Reader<'_>> {
+pub(crate) fn root_as_text<S: ReaderSegments>(arena: &ReaderArena<S>) -> Result<text::Reader<'_>> {
     arena.get_root()?.get_as()
 }
 
-fn root_as_data<S: ReaderSegments>(arena: &ReaderArena<S>) -> Result<&[u8]> {
+pub(crate) fn root_as_data<S: ReaderSegments>(arena: &ReaderArena<S>) -> Result<&[u8]> {
     arena.get_root()?.get_as()
 }
 
-fn root_as_words<S: ReaderSegments>(
+pub(crate) fn root_as_words<S: ReaderSegments>(
     arena: &ReaderArena<S>,
 ) -> Result<primitive_list::Reader<'_, u64>> {
     arena.get_root()?.get_as()
 }
 
-fn root_as_struct<S: ReaderSegments>(arena: &ReaderArena<S>) -> Result<StructReader<'_, S>> {
+pub(crate) fn root_as_struct<S: ReaderSegments>(
+    arena: &ReaderArena<S>,
+) -> Result<StructReader<'_, S>> {
     arena.get_root()?.get_as()
 }
 
-fn refusal<T: Drop>(answer: Result<T>) -> u8 {
+// The number of a refusal; 0 where there is none.
+pub(crate) fn refusal<T: Drop>(answer: Result<T>) -> u8 {
     match answer {
         Ok(_) => 0,
         Err(error) => error.kind.number(),
@@ -153,27 +156,6 @@ fn a_text_from_a_stream(rt: HostRuntime) -> std::result::Result<(), Fail> {
     assert_eq!(rt; text.len(), 13);
     let data = root_as_data(&arena)?;
     assert_eq!(rt; data, b"Hello, World!\0".as_slice());
-    Ok(())
-}
-
-// A text is charged each time that it is read, and a refused charge counts nothing.
-#[test]
-fn what_is_read_counts(rt: HostRuntime) -> std::result::Result<(), Fail> {
-    let mut options = ReaderOptions::new();
-    options.traversal_limit_in_words(Some(3));
-    let arena = ReaderArena::new(Slices { segments: &[HELLO] }, options);
-    assert_eq!(rt;
-        root_as_text(&arena)?.as_bytes(),
-        b"Hello, World!".as_slice()
-    );
-    assert_eq!(rt; refusal(root_as_text(&arena)), 20);
-    let root = arena.get_root()?;
-    assert!(rt; !root.is_null());
-    assert_eq!(rt; root.target_size()?.word_count, 2);
-    assert_eq!(rt;
-        refusal(root.get_as::<any_pointer::Reader<'_, Slices<'_>>>()),
-        0
-    );
     Ok(())
 }
 

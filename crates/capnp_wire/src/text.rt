@@ -1,37 +1,11 @@
 //! Text.
-ghost use Rattle.std.specs.Prelude.{◌≡◌, ◌≢◌, ◌++◌, ◌∷◌, [], ℕ, List, length, None, IfErr, IsOk, MatchResult, MatchOption};
-ghost use Rattle.std.specs.Result.{IsErrAnd};
-ghost use Rattle.capnp_frame.specs.declared.error.ErrorKind.{ErrorKind};
-ghost use Rattle.capnp_frame.specs.declared.error.ErrorKind.TheVariants.{ReadLimitExceeded};
-ghost use Rattle.capnp_wire.specs.Views.{LeadsAstray, Shows, Refuses, IsText, TakesText, DeclinesText};
-ghost use Rattle.capnp_wire.specs.Readers.{pointer_of};
+mod reader;
 
-use crate::any_pointer;
-use crate::traits::{self, FromPointerReader};
+use crate::layout::value;
+use crate::traits::{self, SetterInput};
 use capnp_frame::message::ReaderSegments;
-use capnp_frame::{Error, ErrorKind, Result};
-
-/// A text in a message, by its bytes.
-#[derive(Clone, Copy)]
-pub struct Reader<'a> {
-    pub(crate) bytes: &'a [u8],
-}
-
-impl<'a> Reader<'a> {
-    /// The bytes, without the zero byte that ends them in the message.
-    pub fn as_bytes(&self) -> &'a [u8]
-        ensures { result.now ≡ self.now.bytes.now }
-    {
-        self.bytes
-    }
-
-    /// The number of bytes.
-    pub fn len(&self) -> usize
-        ensures { result ≡ length self.now.bytes.now }
-    {
-        self.bytes.len()
-    }
-}
+use capnp_frame::{Result, Word};
+pub use reader::Reader;
 
 /// Text, as a type of a schema.
 pub struct Owned;
@@ -40,59 +14,44 @@ impl<'a, S: ReaderSegments> traits::Owned<'a, S> for Owned {
     type Reader = Reader<'a>;
 }
 
-// Empty from null, else the bytes of a list of bytes before the zero byte at its end, without which it
-// is refused by `TextNotTerminated`. Any other object is refused by `WrongPointerKind`.
-impl<'a, S: ReaderSegments> FromPointerReader<'a, S> for Reader<'a> {
-    ghost shows = { λ pointer view. Shows pointer (λ shape. IsText shape.form view.bytes.now) };
+// A list of bytes with a zero byte at its end.
+impl<'a> SetterInput<Owned> for Reader<'a> {
+    ghost use Rattle.capnp_wire.specs.Values.{IsTextOf, LongText};
+    ghost use Rattle.capnp_wire.specs.Tree.{count};
+    ghost use Rattle.std.proofs.Common.{ap};
 
-    ghost accepts = { λ pointer. Shows pointer (λ shape. TakesText shape.form) };
+    ghost has_tree = { λ text trees. IsTextOf text.bytes.now trees };
 
-    ghost refuses = { λ pointer refusal. Refuses pointer DeclinesText refusal };
+    ghost refuses = { λ text kind. LongText text.bytes.now kind };
 
-    fn get_from_pointer(reader: any_pointer::Reader<'a, S>) -> Result<Self>
-        ensures answer { let pointer = pointer_of S.segments reader.entry in MatchResult result
-            (λ view. Shows pointer (λ shape. IsText shape.form view.bytes.now))
-            (λ error. Refuses pointer DeclinesText error.kind) }
-        ensures found { let pointer = pointer_of S.segments reader.entry in
-            pointer.limit ≡ None → Shows pointer (λ shape. TakesText shape.form) → IsOk result }
-        ensures unlimited { (pointer_of S.segments reader.entry).limit ≡ None →
-            IfErr result (λ error. error.kind ≢ ReadLimitExceeded) }
-        ensures exact { let pointer = pointer_of S.segments reader.entry in
-            (kind : ErrorKind) → LeadsAstray pointer kind →
-            (Shows pointer (λ shape. TakesText shape.form) → ⊥) →
-            IsErrAnd result (λ error. error.kind ≡ kind) }
-    {
-        read_text(&reader)
+    ghost one = { λ value trees is. ap count is.1 };
+
+    fn measure(&self, _canonical: bool) -> Result<u32> {
+        value::measure_text(self.bytes)
+    }
+
+    fn write(&self, _canonical: bool, block: &mut [u8]) -> Word {
+        value::write_text(self.bytes, block)
     }
 }
 
-// The text of a list of bytes.
-fn read_text<'a, S: ReaderSegments>(reader: &any_pointer::Reader<'a, S>) -> Result<Reader<'a>>
-    ensures { let pointer = pointer_of S.segments reader.now in MatchResult result
-        (λ view. Shows pointer (λ shape. IsText shape.form view.bytes.now))
-        (λ error. Refuses pointer DeclinesText error.kind) }
-{
-    let Some(object) = reader.enter()? else {
-        return Ok(Reader { bytes: &[] });
-    };
-    let bytes = object.bytes()?;
-    match before_zero(bytes) {
-        Some(bytes) => Ok(Reader { bytes }),
-        None => Err(Error::from_kind(ErrorKind::TextNotTerminated)),
-    }
-}
+// The same of a string.
+impl<'a> SetterInput<Owned> for &'a str {
+    ghost use Rattle.capnp_wire.specs.Values.{IsTextOf, LongText};
+    ghost use Rattle.capnp_wire.specs.Tree.{count};
+    ghost use Rattle.std.proofs.Common.{ap};
 
-// The bytes before a zero byte at the end.
-fn before_zero(bytes: &[u8]) -> Option<&[u8]>
-    ensures { MatchOption result ((text : List ℕ) → bytes.now ≡ text ++ 0 ∷ [] → ⊥)
-        (λ text. bytes.now ≡ text.now ++ 0 ∷ []) }
-{
-    let Some(end) = bytes.len().checked_sub(1) else {
-        return None;
-    };
-    let last = bytes[end];
-    if last != 0 {
-        return None;
+    ghost has_tree = { λ text trees. IsTextOf text.now trees };
+
+    ghost refuses = { λ text kind. LongText text.now kind };
+
+    ghost one = { λ value trees is. ap count is.1 };
+
+    fn measure(&self, _canonical: bool) -> Result<u32> {
+        value::measure_text(self.as_bytes())
     }
-    Some(&bytes[..end])
+
+    fn write(&self, _canonical: bool, block: &mut [u8]) -> Word {
+        value::write_text(self.as_bytes(), block)
+    }
 }

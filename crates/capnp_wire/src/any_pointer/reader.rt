@@ -1,18 +1,17 @@
 //! Readers of pointers.
-ghost use Rattle.std.specs.Prelude.{◌≡◌, ◌≢◌, ◌↔◌, ◌<◌, ◌^◌, ℕ, List, None, IfOk, IfErr, IsOk, IsTrue, MatchOption, MatchResult};
+ghost use Rattle.std.specs.Prelude.{⊤, ◌≡◌, ◌≢◌, ◌↔◌, ◌⊎◌, ◌<◌, ◌^◌, ℕ, List, None, IfOk, IfErr, IsOk, IsTrue, MatchOption, MatchResult};
 ghost use Rattle.std.specs.Result.{IsErrAnd};
 ghost use Rattle.capnp_frame.specs.declared.error.ErrorKind.{ErrorKind};
 ghost use Rattle.capnp_frame.specs.declared.error.ErrorKind.TheVariants.{ReadLimitExceeded};
 ghost use Rattle.capnp_wire.specs.Object.{nothing};
-ghost use Rattle.capnp_wire.specs.Views.{Pointer, Denotes, Barred, LeadsAstray, Measures, Unmeasured};
+ghost use Rattle.capnp_wire.specs.Views.{Pointer, IsViewOf, Denotes, Barred, LeadsAstray, MeetsLimit, Measures, Unmeasured};
 ghost use Rattle.capnp_wire.specs.Readers.{pointer_of, IsEntered};
 
-use crate::arena::ReaderArena;
-use crate::layout::Place;
-use crate::layout::landing::pointer_at;
 use crate::layout::object::{Object, object_at};
+use crate::layout::place::{Place, pointer_at};
 use crate::layout::walk::Walk;
 use crate::message_size::MessageSize;
+use crate::read_limiter::{ReadLimiter, charge, limit_in_words};
 use crate::traits::FromPointerReader;
 use capnp_frame::message::ReaderSegments;
 use capnp_frame::{Error, ErrorKind, Result};
@@ -20,7 +19,8 @@ use capnp_frame::{Error, ErrorKind, Result};
 /// A pointer of a message. One that a struct does not have, past its pointers, is null.
 #[derive(Drop)]
 pub struct Reader<'a, S> {
-    pub(crate) arena: &'a ReaderArena<S>,
+    pub(crate) segments: &'a S,
+    pub(crate) limiter: Option<&'a ReadLimiter>,
     pub(crate) place: Option<Place>,
     pub(crate) level: u32,
 }
@@ -32,7 +32,7 @@ impl<'a, S: ReaderSegments> Reader<'a, S> {
     {
         match self.place {
             None => true,
-            Some(place) => match pointer_at(&self.arena.segments, place) {
+            Some(place) => match pointer_at(self.segments, place) {
                 Ok(word) => word == 0,
                 Err(_) => false,
             },
@@ -64,14 +64,14 @@ impl<'a, S: ReaderSegments> Reader<'a, S> {
             (λ error. Unmeasured pointer error.kind) }
         ensures bound { IfOk result (λ size. size.word_count < 2 ^ 64) }
     {
-        let mut walk = Walk::new(self.arena.options.traversal_limit_in_words);
+        let mut walk = Walk::new(limit_in_words(self.limiter));
         let Some(place) = self.place else {
             return Ok(MessageSize {
                 word_count: 0,
                 cap_count: 0,
             });
         };
-        walk.walk(&self.arena.segments, place, self.level)?;
+        walk.walk(self.segments, place, self.level, false)?;
         match walk.words() {
             Some(word_count) => Ok(MessageSize {
                 word_count,
@@ -88,8 +88,8 @@ impl<'a, S: ReaderSegments> Reader<'a, S> {
     /// nesting limit, by `ReadLimitExceeded` where it would bring what is read past the traversal
     /// limit, and else by `WrongPointerKind` or `TextNotTerminated` as the type of the view says.
     pub fn get_as<T: FromPointerReader<'a, S>>(&self) -> Result<T>
-        ensures answer { let pointer = pointer_of S.segments self.now in
-            MatchResult result (λ view. T.shows pointer view) (λ error. T.refuses pointer error.kind) }
+        ensures answer { let pointer = pointer_of S.segments self.now in MatchResult result
+            (λ view. T.shows pointer view) (λ error. T.refuses pointer error.kind) }
         ensures found { let pointer = pointer_of S.segments self.now in
             pointer.limit ≡ None → T.accepts pointer → IsOk result }
         ensures unlimited { let pointer = pointer_of S.segments self.now in
@@ -98,9 +98,14 @@ impl<'a, S: ReaderSegments> Reader<'a, S> {
         ensures exact { let pointer = pointer_of S.segments self.now in
             (kind : ErrorKind) → LeadsAstray pointer kind → (T.accepts pointer → ⊥) →
             IsErrAnd result (λ error. error.kind ≡ kind) }
+        // Where an object stands that is no such view.
+        ensures declined { let pointer = pointer_of S.segments self.now in
+            (kind : ErrorKind) → T.declines pointer kind →
+            IsErrAnd result (λ error. (error.kind ≡ kind) ⊎ MeetsLimit pointer error.kind) }
     {
         T::get_from_pointer(Reader {
-            arena: self.arena,
+            segments: self.segments,
+            limiter: self.limiter,
             place: self.place,
             level: self.level,
         })
@@ -109,17 +114,36 @@ impl<'a, S: ReaderSegments> Reader<'a, S> {
     /// The object that the pointer leads to, once it is charged; `None` for null.
     pub(crate) fn enter(&self) -> Result<Option<Object<'a>>>
         ensures found { let pointer = pointer_of S.segments self.now in
-            IfOk result (λ found. MatchOption found (Denotes pointer nothing) (λ object. IsEntered pointer object)) }
-        ensures refused { IfErr result (λ error. Barred (pointer_of S.segments self.now) error.kind) }
+            IfOk result (λ found. MatchOption found (Denotes pointer nothing)
+            (λ object. IsEntered pointer object)) }
+        ensures refused { let pointer = pointer_of S.segments self.now in
+            IfErr result (λ error. Barred pointer error.kind) }
     {
         let Some(place) = self.place else {
             return Ok(None);
         };
-        let arena = self.arena;
-        let Some(object) = object_at(&arena.segments, place, self.level)? else {
+        let Some(object) = object_at(self.segments, place, self.level)? else {
             return Ok(None);
         };
-        arena.charge(object.charge)?;
+        charge(self.limiter, object.charge)?;
         Ok(Some(object))
+    }
+}
+
+// As itself a pointer is not followed, and never refused.
+impl<'a, S: ReaderSegments> FromPointerReader<'a, S> for Reader<'a, S> {
+    ghost shows = { λ pointer view. pointer_of S.segments view ≡ pointer };
+
+    ghost accepts = { λ pointer. ⊤ };
+
+    ghost refuses = { λ pointer kind. ⊥ };
+
+    ghost declines = { λ pointer kind. ⊥ };
+
+    fn get_from_pointer(reader: Reader<'a, S>) -> Result<Self>
+        ensures { let pointer = pointer_of S.segments reader.entry in IsViewOf pointer
+            (λ view. pointer_of S.segments view ≡ pointer) ⊤ (λ kind. ⊥) (λ kind. ⊥) result }
+    {
+        Ok(reader)
     }
 }

@@ -1,36 +1,43 @@
 //! The segments that readers read.
-ghost use Rattle.std.specs.Prelude.{◌≡◌, ◌≢◌, ◌<◌, ◌^◌, ◌-◌, ℕ, List, length, min, Some, None, slice_get, IfOk, IfErr, IsOk, MatchResult};
+ghost use Rattle.std.specs.Prelude.{◌≡◌, ◌≢◌, ◌↔◌, ◌<◌, ◌≤◌, ◌^◌, ◌-◌, ℕ, List, [], ◌∷◌, length, min, Some, None, slice_get, IfOk, IfErr, IsOk, IsTrue, MatchResult};
+ghost use Rattle.std.specs.Result.{IsErrAnd};
 ghost use Rattle.capnp_frame.specs.Message.{size_in_words};
 ghost use Rattle.capnp_frame.specs.declared.error.ErrorKind.{ErrorKind};
 ghost use Rattle.capnp_wire.specs.Object.{message_of, word_at};
-ghost use Rattle.capnp_wire.specs.Reached.{root};
-ghost use Rattle.capnp_wire.specs.Faults.{NoWord};
+ghost use Rattle.capnp_wire.specs.Tree.{Form, Trees, none, tree, depth};
+ghost use Rattle.capnp_wire.specs.Reached.{root, Root};
+ghost use Rattle.capnp_wire.specs.Charge.{Within};
+ghost use Rattle.capnp_wire.specs.Faults.{NoWord, StopsWalk};
+ghost use Rattle.capnp_wire.specs.Canonical.{IsCanonical};
+ghost use Rattle.capnp_wire.specs.Tested.{Unsaid};
 ghost use Rattle.capnp_wire.specs.Readers.{pointer_of, level_of};
 
 use crate::any_pointer;
-use crate::layout::{Place, landing};
+use crate::layout::canonical::is_canonical;
+use crate::layout::place::{Place, pointer_at};
+use crate::read_limiter::ReadLimiter;
 use capnp_frame::message::{ReaderOptions, ReaderSegments};
 use capnp_frame::{Error, ErrorKind, Result};
-use std::cell::Cell;
 
-/// The segments of a message, read in place, and how many words of them have been read.
+/// The segments of a message, read in place, and what readers may read of them.
 #[derive(Drop)]
 pub struct ReaderArena<S> {
     pub(crate) segments: S,
-    pub(crate) options: ReaderOptions,
-    words_read: Cell<u64>,
+    nesting_limit: i32,
+    limiter: ReadLimiter,
 }
 
 impl<S: ReaderSegments> ReaderArena<S> {
     /// An arena of which nothing has been read.
     pub fn new(segments: S, options: ReaderOptions) -> ReaderArena<S>
         ensures segments { result.segments ≡ segments }
-        ensures options { result.options ≡ options }
+        ensures nesting { result.nesting_limit ≡ options.nesting_limit }
+        ensures limit { result.limiter.limit ≡ options.traversal_limit_in_words }
     {
         ReaderArena {
             segments,
-            options,
-            words_read: Cell::new(0),
+            nesting_limit: options.nesting_limit,
+            limiter: ReadLimiter::new(options.traversal_limit_in_words),
         }
     }
 
@@ -41,8 +48,8 @@ impl<S: ReaderSegments> ReaderArena<S> {
             (λ reader. pointer_of S.segments reader ≡ record {
               message = m;
               place = Some root;
-              level = level_of self.now.options.nesting_limit;
-              limit = self.now.options.traversal_limit_in_words;
+              level = level_of self.now.nesting_limit;
+              limit = self.now.limiter.limit;
             })
             (λ error. NoWord m root error.kind) }
         ensures stands { IfOk result (λ reader. (word : ℕ)
@@ -52,12 +59,54 @@ impl<S: ReaderSegments> ReaderArena<S> {
             segment: 0,
             word: 0,
         };
-        landing::pointer_at(&self.segments, place)?;
+        pointer_at(&self.segments, place)?;
         Ok(any_pointer::Reader {
-            arena: self,
+            segments: &self.segments,
+            limiter: Some(&self.limiter),
             place: Some(place),
-            level: self.options.nesting_limit.max(0) as u32,
+            level: self.level(),
         })
+    }
+
+    /// Whether the message is in canonical form: one segment, of whole words, that is the canonical form
+    /// of its root tree.
+    ///
+    /// A message of more than one segment is not canonical, nor is one with a far pointer. It is
+    /// refused by `InvalidSegmentId(0)` without a segment, and else where the walk over its objects
+    /// is, before it meets what is not canonical: as a view of one of them, or by `ReadLimitExceeded`
+    /// where they come to more words than the traversal limit. The walk counts from 0, takes no
+    /// memory, and what is read of the message by views stays as it was.
+    pub fn is_canonical(&self) -> Result<bool>
+        ensures answer { let m = message_of (S.segments self.now.segments) in
+            let level = level_of self.now.nesting_limit in
+            MatchResult result (λ is. IsTrue is ↔ IsCanonical m)
+            (λ error. Unsaid m level self.now.limiter.limit error.kind) }
+        ensures exact { let m = message_of (S.segments self.now.segments) in
+            let level = level_of self.now.nesting_limit in
+            (kind : ErrorKind) → Unsaid m level self.now.limiter.limit kind →
+            IsErrAnd result (λ error. error.kind ≡ kind) }
+        ensures found { let m = message_of (S.segments self.now.segments) in
+            (form : Form) (held : Trees) (charge : ℕ) → Root m form held charge →
+            depth (tree form held none) ≤ level_of self.now.nesting_limit →
+            Within self.now.limiter.limit charge → IsOk result }
+        ensures stops { let m = message_of (S.segments self.now.segments) in
+            let level = level_of self.now.nesting_limit in
+            IfErr result (λ error. StopsWalk m (root ∷ []) level self.now.limiter.limit error.kind) }
+    {
+        let Some(segment) = self.segments.get_segment(0) else {
+            return Err(Error::from_kind(ErrorKind::InvalidSegmentId(0)));
+        };
+        if self.segments.get_segment(1).is_some() {
+            return Ok(false);
+        }
+        is_canonical(&self.segments, segment, self.level(), self.limiter.limit)
+    }
+
+    // How many objects may follow one another from the root on.
+    fn level(&self) -> u32
+        ensures { result ≡ level_of self.now.nesting_limit }
+    {
+        self.nesting_limit.max(0) as u32
     }
 
     /// The segments.
@@ -73,17 +122,17 @@ impl<S: ReaderSegments> ReaderArena<S> {
     {
         let ReaderArena {
             segments,
-            options: _,
-            words_read: _,
+            nesting_limit: _,
+            limiter: _,
         } = self;
         segments
     }
 
     /// How deep objects may be nested.
     pub fn nesting_limit(&self) -> i32
-        ensures { result ≡ self.now.options.nesting_limit }
+        ensures { result ≡ self.now.nesting_limit }
     {
-        self.options.nesting_limit
+        self.nesting_limit
     }
 
     /// The words of all segments, at most `usize::MAX`. Bytes behind the last whole word of a segment
@@ -99,22 +148,5 @@ impl<S: ReaderSegments> ReaderArena<S> {
             }
         }
         words
-    }
-
-    /// Counts words that are read. A charge that would pass the limit is refused, and counts nothing.
-    pub(crate) fn charge(&self, words: u64) -> Result<()>
-        ensures kind { IfErr result (λ error. error.kind ≡ ErrorKind.ReadLimitExceeded) }
-        ensures limited { IfErr result (λ error. self.now.options.traversal_limit_in_words ≢ None) }
-    {
-        let Some(limit) = self.options.traversal_limit_in_words else {
-            return Ok(());
-        };
-        match self.words_read.get().checked_add(words) {
-            Some(total) if total <= limit as u64 => {
-                self.words_read.set(total);
-                Ok(())
-            }
-            _ => Err(Error::from_kind(ErrorKind::ReadLimitExceeded)),
-        }
     }
 }

@@ -28,6 +28,20 @@ impl ElementSize {
         }
     }
 
+    /// The code of such elements in list pointers.
+    pub(crate) fn code(self) -> u64
+        ensures { result ≡ code_of self }
+    {
+        match self {
+            ElementSize::Void => 0,
+            ElementSize::Bit => 1,
+            ElementSize::Byte => 2,
+            ElementSize::TwoBytes => 3,
+            ElementSize::FourBytes => 4,
+            ElementSize::EightBytes => 5,
+        }
+    }
+
     /// The words of a list of so many elements.
     pub(crate) fn words_of_list(self, count: u32) -> u64
         ensures { result ≡ words_for count (width (code_of self)) }

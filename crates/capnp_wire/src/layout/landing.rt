@@ -1,20 +1,20 @@
 //! Where pointers lead, by way of pads.
-ghost use Rattle.std.specs.Prelude.{◌≡◌, ◌+◌, ◌*◌, ◌/◌, ◌^◌, ◌<◌, ℕ, List, slice_get, Some, None, IfOk, IfErr, MatchOption, MatchResult, false};
+ghost use Rattle.std.specs.Prelude.{◌≡◌, ◌+◌, ◌*◌, ◌/◌, ◌^◌, ◌<◌, ℕ, Some, None, IfOk, IfErr, MatchOption, MatchResult, false};
 ghost use Rattle.capnp_frame.specs.declared.error.ErrorKind.{ErrorKind};
-ghost use Rattle.capnp_wire.specs.Pointer.{words_of};
 ghost use Rattle.capnp_wire.specs.PointerWord.{IsNear, IsFarPointer};
 ghost use Rattle.capnp_wire.specs.Object.{message_of, word_at};
-ghost use Rattle.capnp_wire.specs.Landing.{IsLanding, NotNear};
-ghost use Rattle.capnp_wire.specs.Faults.{NoWord, BadPad, Fault};
-ghost use Rattle.capnp_wire.specs.declared.layout.Place.{Place};
+ghost use Rattle.capnp_wire.specs.Landing.{HasWidePad, IsLanding, NotNear};
+ghost use Rattle.capnp_wire.specs.Faults.{BadPad, Fault};
+ghost use Rattle.capnp_wire.specs.declared.layout.place.Place.{Place};
 ghost use Rattle.capnp_wire.specs.declared.layout.pointer.FarPointer.{FarPointer};
 
-use crate::layout::Place;
-use crate::layout::pointer::{FarPointer, NearPointer, NearShape, PointerWord, word};
+use crate::layout::place::{Place, existing_word, segment};
+use crate::layout::pointer::{FarPointer, NearPointer, NearShape, PointerWord};
 use capnp_frame::message::ReaderSegments;
 use capnp_frame::{Error, ErrorKind, Result};
 
-/// Where an object begins, if its pointer doesn't lead to before the segment, and what its tag says.
+/// Where an object begins, if its pointer doesn't lead to before the segment, and what its tag
+/// says.
 #[derive(Drop)]
 pub(crate) struct Landing<'a> {
     pub segment: &'a [u8],
@@ -24,20 +24,11 @@ pub(crate) struct Landing<'a> {
     pub pads: u64,
 }
 
-/// The pointer word at a place.
-pub(crate) fn pointer_at<S: ReaderSegments>(segments: &S, place: Place) -> Result<u64>
-    ensures { let m = message_of (S.segments segments.now) in
-        MatchResult result (λ word. word_at m place ≡ Some word) (λ error. NoWord m place error.kind) }
-{
-    let segment = segment(segments, place.segment)?;
-    let word = existing_word(segment, place.word)?;
-    Ok(word)
-}
-
 /// Where the pointer at a place leads; `None` for null.
 pub(crate) fn land<S: ReaderSegments>(segments: &S, place: Place) -> Result<Option<Landing<'_>>>
     ensures found { let m = message_of (S.segments segments.now) in
-        IfOk result (λ found. MatchOption found (word_at m place ≡ Some 0) (λ landing. IsLanding m place landing)) }
+        IfOk result (λ found. MatchOption found (word_at m place ≡ Some 0)
+        (λ landing. IsLanding m place landing)) }
     ensures refused { IfErr result (λ error. (level : ℕ) →
         Fault (message_of (S.segments segments.now)) place level error.kind) }
 {
@@ -61,7 +52,8 @@ fn land_near(segment: &[u8], place: Place, near: NearPointer, pads: u64) -> Land
     ensures number { result.number ≡ place.segment }
     ensures shape { result.shape ≡ near.shape }
     ensures pads { result.pads ≡ pads }
-    ensures start { let leads_to = λ (start : ℕ). start + 2 ^ 30 * (near.offset.0 / 2 ^ 29) ≡ place.word + 1 + near.offset.0 in
+    ensures start { let leads_to = λ (start : ℕ).
+        start + 2 ^ 30 * (near.offset.0 / 2 ^ 29) ≡ place.word + 1 + near.offset.0 in
         MatchOption result.start ((start : ℕ) → leads_to start → ⊥) leads_to }
 {
     Landing {
@@ -88,6 +80,18 @@ fn land_far<S: ReaderSegments>(segments: &S, far: FarPointer) -> Result<Landing<
         return Ok(land_near(pad, far.pad, near, 1));
     }
     let tag = existing_word(pad, far.pad.word + 1)?;
+    land_wide(segments, first, tag)
+}
+
+// Where a far pointer leads by way of a pad of these two words.
+fn land_wide<S: ReaderSegments>(segments: &S, first: u64, tag: u64) -> Result<Landing<'_>>
+    ensures found { let m = message_of (S.segments segments.now) in
+        IfOk result (λ landing. (place : Place) (word : ℕ) → word_at m place ≡ Some word →
+        HasWidePad m word first tag → IsLanding m place landing) }
+    ensures refused { let m = message_of (S.segments segments.now) in
+        IfErr result (λ error. (word : ℕ) →
+        HasWidePad m word first tag → BadPad m word error.kind) }
+{
     let content = content_pointer(first)?;
     let segment = segment(segments, content.segment)?;
     let near = near_pointer(tag)?;
@@ -104,7 +108,8 @@ fn land_far<S: ReaderSegments>(segments: &S, far: FarPointer) -> Result<Landing<
 fn content_pointer(first: u64) -> Result<Place>
     ensures { let is_far = λ (far : FarPointer). IsFarPointer first far × (far.is_wide ≡ false) in
         MatchResult result (λ place. (far : FarPointer) × is_far far × (place ≡ far.pad))
-        (λ error. ((far : FarPointer) → is_far far → ⊥) × (error.kind ≡ ErrorKind.PointerOutOfBounds)) }
+        (λ error. ((far : FarPointer) → is_far far → ⊥)
+        × (error.kind ≡ ErrorKind.PointerOutOfBounds)) }
 {
     match PointerWord::read(first) {
         PointerWord::Far(far) if !far.is_wide => Ok(far.pad),
@@ -121,27 +126,5 @@ fn near_pointer(word: u64) -> Result<NearPointer>
         PointerWord::Near(near) => Ok(near),
         PointerWord::Far(_) => Err(Error::from_kind(ErrorKind::PointerOutOfBounds)),
         PointerWord::Other => Err(Error::from_kind(ErrorKind::CapabilityRefused)),
-    }
-}
-
-fn segment<S: ReaderSegments>(segments: &S, number: u32) -> Result<&[u8]>
-    ensures { let found = slice_get (S.segments segments.now) number in
-        MatchResult result (λ bytes. found ≡ Some bytes.now)
-        (λ error. (found ≡ None) × (error.kind ≡ ErrorKind.InvalidSegmentId number)) }
-{
-    match segments.get_segment(number) {
-        Some(bytes) => Ok(bytes),
-        None => Err(Error::from_kind(ErrorKind::InvalidSegmentId(number))),
-    }
-}
-
-pub(crate) fn existing_word(segment: &[u8], index: usize) -> Result<u64>
-    ensures { let found = slice_get (words_of segment.now) index in
-        MatchResult result (λ word. (found ≡ Some word) × (index < 2 ^ 61))
-        (λ error. (found ≡ None) × (error.kind ≡ ErrorKind.PointerOutOfBounds)) }
-{
-    match word(segment, index) {
-        Some(word) => Ok(word),
-        None => Err(Error::from_kind(ErrorKind::PointerOutOfBounds)),
     }
 }

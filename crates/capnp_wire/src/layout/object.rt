@@ -1,22 +1,21 @@
 //! From a place to the object that its pointer leads to: the level, bounds, and a list's tag.
-ghost use Rattle.std.specs.Prelude.{◌≡◌, ◌+◌, ◌*◌, ◌/◌, ◌^◌, ◌<◌, ◌≤◌, ℕ, List, length, slice_get, Some, None, IfOk, IfErr, MatchOption, MatchResult, false};
+ghost use Rattle.std.specs.Prelude.{◌≡◌, ◌+◌, ◌/◌, ◌^◌, ◌<◌, ◌≤◌, ℕ, All, length, Some, None, IfOk, IfErr, MatchOption, MatchResult};
 ghost use Rattle.capnp_frame.specs.declared.error.ErrorKind.{ErrorKind};
 ghost use Rattle.capnp_wire.specs.Pointer.{words_of};
 ghost use Rattle.capnp_wire.specs.PointerWord.{IsNearShape};
-ghost use Rattle.capnp_wire.specs.Object.{message_of, word_at, elements, Stands};
-ghost use Rattle.capnp_wire.specs.Element.{words_for};
+ghost use Rattle.capnp_wire.specs.Object.{message_of, word_at, elements, ShapeStands};
 ghost use Rattle.capnp_wire.specs.Tree.{numbers};
 ghost use Rattle.capnp_wire.specs.Landing.{IsObject, shape_of, room_of, words_in, charge_of};
 ghost use Rattle.capnp_wire.specs.Faults.{Misfits, Fault};
-ghost use Rattle.capnp_wire.specs.Readers.{form_of};
-ghost use Rattle.capnp_wire.specs.Views.{DeclinesNumbers};
-ghost use Rattle.capnp_wire.specs.declared.layout.Place.{Place};
+ghost use Rattle.capnp_wire.specs.Rows.{places_in, end_of};
+ghost use Rattle.capnp_wire.specs.declared.layout.place.Place.{Place};
 ghost use Rattle.capnp_wire.specs.declared.layout.pointer.StructSize.{StructSize};
 
-use crate::layout::Place;
 use crate::layout::element::ElementSize;
-use crate::layout::landing::{existing_word, land};
+use crate::layout::landing::land;
+use crate::layout::place::{Place, existing_word};
 use crate::layout::pointer::{Elements, NearShape, StructSize};
+use crate::layout::rows::PointerRows;
 use capnp_frame::message::ReaderSegments;
 use capnp_frame::{Error, ErrorKind, Result};
 
@@ -40,8 +39,8 @@ pub(crate) enum Body {
     Structs(Elements, u32),
 }
 
-/// The object that the pointer at a place leads to, where it may be entered at this level; `None` for
-/// null.
+/// The object that the pointer at a place leads to, where it may be entered at this level; `None`
+/// for null.
 pub(crate) fn object_at<S: ReaderSegments>(
     segments: &S,
     place: Place,
@@ -62,6 +61,7 @@ pub(crate) fn object_at<S: ReaderSegments>(
     let Some(start) = landing.start else {
         return Err(Error::from_kind(ErrorKind::PointerOutOfBounds));
     };
+    words_fit(landing.segment);
     let body = body_at(landing.segment, start, landing.shape)?;
     Ok(Some(Object {
         segment: landing.segment,
@@ -74,12 +74,17 @@ pub(crate) fn object_at<S: ReaderSegments>(
     }))
 }
 
+/// The words of a segment are words.
+pub(crate) fn words_fit(segment: &[u8])
+    ensures { All (λ w. w < 2 ^ 64) (words_of segment.now) }
+{}
+
 // What stands at a word of a segment, as its pointer says.
 fn body_at(segment: &[u8], start: usize, shape: NearShape) -> Result<Body>
     ensures found { let words = words_of segment.now in
         IfOk result (λ body. (tag number : ℕ) → IsNearShape tag shape →
         let place : Place = record { segment = number; word = start } in
-        Stands words place tag (shape_of words place body)) }
+        ShapeStands words place tag (shape_of words place body)) }
     ensures room { IfOk result (λ body. start + room_of body ≤ length segment.now / 8) }
     ensures elements { IfOk result (λ body. words_in body ≤ room_of body) }
     ensures refused { IfErr result (λ error. (tag : ℕ) → IsNearShape tag shape →
@@ -107,7 +112,7 @@ fn structs(segment: &[u8], start: usize, words: u32) -> Result<Body>
     ensures found { let words_there = words_of segment.now in
         IfOk result (λ body. (tag number : ℕ) → IsNearShape tag (NearShape.Structs words) →
         let place : Place = record { segment = number; word = start } in
-        Stands words_there place tag (shape_of words_there place body)) }
+        ShapeStands words_there place tag (shape_of words_there place body)) }
     ensures room { IfOk result (λ body. start + room_of body ≤ length segment.now / 8) }
     ensures elements { IfOk result (λ body. words_in body ≤ room_of body) }
     ensures refused { IfErr result (λ error. (tag : ℕ) → IsNearShape tag (NearShape.Structs words) →
@@ -137,57 +142,19 @@ fn expect_room(segment: &[u8], start: usize, words: u64) -> Result<()>
     Ok(())
 }
 
-/// The refusal of an object of another kind than was asked for.
-pub(crate) fn wrong_kind() -> Error
-    ensures { result.kind ≡ ErrorKind.WrongPointerKind }
-{
-    Error::from_kind(ErrorKind::WrongPointerKind)
-}
-
 impl<'a> Object<'a> {
-    /// The bytes of a list of bytes.
-    pub(crate) fn bytes(&self) -> Result<&'a [u8]>
-        requires { self.now.start.word + room_of self.now.body ≤ length self.now.segment.now / 8 }
-        ensures { MatchResult result (λ bytes. form_of self.now ≡ numbers 2 bytes.now)
-            (λ error. DeclinesNumbers 2 (form_of self.now) error.kind) }
+    /// Its pointers.
+    pub(crate) fn pointers(&self) -> PointerRows
+        requires room { self.now.start.word + room_of self.now.body
+            ≤ length self.now.segment.now / 8 }
+        requires elements { words_in self.now.body ≤ room_of self.now.body }
+        ensures places { places_in result
+            ≡ (shape_of (words_of self.now.segment.now) self.now.start self.now.body).held }
+        ensures end { end_of result ≤ self.now.start.word + words_in self.now.body }
+        ensures segment { result.next.segment ≡ self.now.start.segment }
     {
-        match self.body.count_of(ElementSize::Byte) {
-            Some(count) => Ok(bytes_at(self.segment, self.start.word, count)),
-            None => Err(wrong_kind()),
-        }
+        PointerRows::of(self.start, self.body, self.body.row_size().pointers)
     }
-
-    /// The bytes of a list of words.
-    pub(crate) fn words(&self) -> Result<&'a [u8]>
-        requires { self.now.start.word + room_of self.now.body ≤ length self.now.segment.now / 8 }
-        ensures { MatchResult result (λ bytes. (form_of self.now ≡ numbers 5 (words_of bytes.now))
-            × (length bytes.now / 8 < 2 ^ 32))
-            (λ error. DeclinesNumbers 5 (form_of self.now) error.kind) }
-    {
-        match self.body.count_of(ElementSize::EightBytes) {
-            Some(count) => Ok(words_at(self.segment, self.start.word, count)),
-            None => Err(wrong_kind()),
-        }
-    }
-}
-
-// So many bytes from a word of a segment on.
-fn bytes_at(segment: &[u8], start: usize, count: u32) -> &[u8]
-    requires { start + words_for count 8 ≤ length segment.now / 8 }
-    ensures { result.now ≡ elements (words_of segment.now) start 2 count }
-{
-    let begin = 8 * start;
-    &segment[begin..begin + count as usize]
-}
-
-// The bytes of so many words from a word of a segment on.
-fn words_at(segment: &[u8], start: usize, count: u32) -> &[u8]
-    requires { start + words_for count 64 ≤ length segment.now / 8 }
-    ensures words { words_of result.now ≡ elements (words_of segment.now) start 5 count }
-    ensures bound { length result.now / 8 < 2 ^ 32 }
-{
-    let begin = 8 * start;
-    &segment[begin..begin + 8 * count as usize]
 }
 
 impl Body {
@@ -225,7 +192,7 @@ impl Body {
     }
 
     /// How many elements a list of numbers of this size has.
-    fn count_of(self, wanted: ElementSize) -> Option<u32>
+    pub(crate) fn count_of(self, wanted: ElementSize) -> Option<u32>
         ensures { MatchOption result ((count : ℕ) → self ≡ Body.Numbers wanted count → ⊥)
             (λ count. self ≡ Body.Numbers wanted count) }
     {

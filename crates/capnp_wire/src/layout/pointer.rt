@@ -1,10 +1,10 @@
 //! Pointer words.
-ghost use Rattle.std.specs.Prelude.{◌≡◌, ◌+◌, ◌*◌, ◌/◌, ◌%◌, ◌^◌, ◌<◌, ℕ, length, slice_get, Some, OnSome, MatchOption, MatchResult};
-ghost use Rattle.capnp_wire.specs.Pointer.{words_of, kind, code, offset};
+ghost use Rattle.std.specs.Prelude.{◌≡◌, ◌+◌, ◌*◌, ◌/◌, ◌%◌, ◌^◌, ◌<◌, ℕ, Some, MatchOption};
+ghost use Rattle.capnp_wire.specs.Pointer.{pointer_kind, offset};
 ghost use Rattle.capnp_wire.specs.PointerWord.{IsPointerWord, IsNearShape, IsElementsTag};
 
-use crate::layout::Place;
 use crate::layout::element::ElementSize;
+use crate::layout::place::Place;
 
 /// What a word says that isn't null.
 #[derive(Clone, Copy)]
@@ -83,7 +83,7 @@ impl PointerWord {
 }
 
 impl Offset {
-    fn read(word: u64) -> Offset
+    pub(crate) fn read(word: u64) -> Offset
         ensures { result.0 ≡ offset word }
     {
         Offset((word / 4 % (1 << 30)) as u32)
@@ -93,7 +93,8 @@ impl Offset {
     pub(crate) fn target(self, word: usize) -> Option<usize>
         requires bits { self.0 < 2 ^ 30 }
         requires place { word < 2 ^ 61 }
-        ensures { let leads_to = λ (start : ℕ). start + 2 ^ 30 * (self.0 / 2 ^ 29) ≡ word + 1 + self.0 in
+        ensures { let leads_to = λ (start : ℕ).
+            start + 2 ^ 30 * (self.0 / 2 ^ 29) ≡ word + 1 + self.0 in
             MatchOption result ((start : ℕ) → leads_to start → ⊥) leads_to }
     {
         let ahead = word + 1 + self.0 as usize;
@@ -124,9 +125,11 @@ impl StructSize {
 }
 
 impl Elements {
-    /// What the tag in front of the elements says; `None` where it isn't shaped like a struct pointer.
+    /// What the tag in front of the elements says; `None` where it isn't shaped like a struct
+    /// pointer.
     pub(crate) fn read(tag: u64) -> Option<Elements>
-        ensures { MatchOption result (0 < kind tag) (λ elements. IsElementsTag tag elements) }
+        ensures { MatchOption result (0 < pointer_kind tag)
+            (λ elements. IsElementsTag tag elements) }
     {
         if tag % 4 != 0 {
             return None;
@@ -148,7 +151,7 @@ impl Elements {
 
 // What a list pointer leads to.
 fn list_shape(word: u64) -> NearShape
-    requires { kind word ≡ 1 }
+    requires { pointer_kind word ≡ 1 }
     ensures { IsNearShape word result }
 {
     let count = (word / (1 << 35)) as u32;
@@ -161,17 +164,5 @@ fn list_shape(word: u64) -> NearShape
         5 => NearShape::Numbers(ElementSize::EightBytes, count),
         6 => NearShape::Pointers(count),
         _ => NearShape::Structs(count),
-    }
-}
-
-/// A word of a segment.
-pub(crate) fn word(segment: &[u8], index: usize) -> Option<u64>
-    ensures value { result ≡ slice_get (words_of segment.now) index }
-    ensures within { OnSome result (index < length segment.now / 8) }
-{
-    let (words, _) = segment.as_chunks::<8>();
-    match words.get(index) {
-        Some(word) => Some(u64::from_le_bytes(*word)),
-        None => None,
     }
 }

@@ -1,3 +1,4 @@
+-- The law, as CycleLemmas proves it.
 use Rattle.capnp_wire.proofs.CycleLemmas as law
 use Rattle.capnp_wire.proofs.laws.cycle_has_no_tree.Goals as goal
 

@@ -1,3 +1,4 @@
+-- The law, as RefusalLemmas proves it.
 use Rattle.capnp_wire.proofs.RefusalLemmas as law
 use Rattle.capnp_wire.proofs.laws.one_refusal_at_a_place.Goals as goal
 

@@ -1,3 +1,4 @@
+-- The law, as StopLemmas proves it.
 use Rattle.capnp_wire.proofs.StopLemmas as law
 use Rattle.capnp_wire.proofs.laws.one_refusal_stops_a_walk.Goals as goal
 

@@ -1,3 +1,4 @@
+-- The law, as ObjectLemmas proves it.
 use Rattle.capnp_wire.proofs.ObjectLemmas as law
 use Rattle.capnp_wire.proofs.laws.one_tree_at_a_place.Goals as goal
 

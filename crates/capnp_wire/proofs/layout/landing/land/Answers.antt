@@ -1,3 +1,4 @@
+-- A pointer is near, far, or no struct or list pointer.
 use Rattle.std.proofs.Common.{◌<◌, Some, sym, ◌∙◌, ap, subst, arith, lit≤}
 use Rattle.std.proofs.lemmas.Result.{err_from_is_err_and}
 use Rattle.capnp_wire.specs.Object.{message_of, near}

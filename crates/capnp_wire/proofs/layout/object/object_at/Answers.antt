@@ -1,9 +1,12 @@
-use Rattle.std.proofs.Common.{◌<◌, ℕ, Option, MatchOption, sym, subst, arith}
+-- The object that a landing leads to, and each refusal on the way.
+use Rattle.std.proofs.Common.{◌<◌, sym, subst, arith}
 use Rattle.std.proofs.lemmas.Result.{err_from_is_err_and}
-use Rattle.capnp_wire.specs.Object.{message_of, Begins}
+use Rattle.capnp_wire.specs.Object.{message_of, IsStart}
 use Rattle.capnp_wire.specs.Landing.{IsLanding}
 use Rattle.capnp_wire.specs.Faults.{Fault, too_deep, no_start, misfits}
+use Rattle.capnp_wire.specs.Pointer.{words_of}
 use Rattle.capnp_wire.proofs.PadLemmas.{object_stands}
+use Rattle.capnp_wire.proofs.RoomLemmas.{stands_room}
 use Rattle.capnp_wire.proofs.layout.object.object_at.Goals as goal
 
 pub returns-then-level-eq0-clause-refused : goal.returns-then-level-eq0-clause-refused
@@ -18,8 +21,7 @@ returns-in_default-start-clause-refused g c =
     let landing : IsLanding m c.args.place c.in-Some.landing = rw c.in-Some.is at c.in_ok-landing.ensures.found in
     let enough : 0 < c.args.level = omega arith in
     subst (Fault m c.args.place c.args.level) (sym c.from_kind-in_default-start.ensures)
-    (no_start landing.lands enough
-    (subst (λ (o : Option ℕ). MatchOption o ((s : ℕ) → Begins landing.landing.origin landing.landing.tag s → ⊥) (λ s. Begins landing.landing.origin landing.landing.tag s)) c.in_default-start.is landing.start))
+    (no_start landing.lands enough (rw c.in_default-start.is at landing.start))
 
 pub returns-in_err-body-clause-refused : goal.returns-in_err-body-clause-refused
 returns-in_err-body-clause-refused g c =
@@ -27,8 +29,7 @@ returns-in_err-body-clause-refused g c =
     let m = message_of (g.S.ReaderSegments.segments c.args.segments.now) in
     let landing : IsLanding m c.args.place c.in-Some.landing = rw c.in-Some.is at c.in_ok-landing.ensures.found in
     let enough : 0 < c.args.level = omega arith in
-    let begins : Begins landing.landing.origin landing.landing.tag c.in-Some-start.start =
-    subst (λ (o : Option ℕ). MatchOption o ((s : ℕ) → Begins landing.landing.origin landing.landing.tag s → ⊥) (λ s. Begins landing.landing.origin landing.landing.tag s)) c.in-Some-start.is landing.start in
+    let begins : IsStart landing.landing.origin landing.landing.tag c.in-Some-start.start = rw c.in-Some-start.is at landing.start in
     rw (p.1, p.2) (misfits landing.lands enough begins landing.content (c.in_err-body.ensures.refused landing.landing.tag landing.shape))
 
 pub returns-clause-found : goal.returns-clause-found
@@ -36,13 +37,21 @@ returns-clause-found g c =
     let m = message_of (g.S.ReaderSegments.segments c.args.segments.now) in
     let landing : IsLanding m c.args.place c.in-Some.landing = rw c.in-Some.is at c.in_ok-landing.ensures.found in
     let object = object_stands m c.args.place c.in-Some.landing c.in-Some-start.start c.in_ok-body.body c.charge.result landing c.in-Some-start.is
-    c.in_ok-body.ensures.found c.charge.ensures.charge in (
+    c.in_ok-body.ensures.found c.charge.ensures.charge in
+    let begins : IsStart landing.landing.origin landing.landing.tag c.in-Some-start.start = rw c.in-Some-start.is at landing.start in (
       record {
         content = rw (← landing.number) landing.content;
         object = object;
+        landing = landing.landing;
+        lands = landing.lands;
+        number = landing.number;
+        begins = begins;
         room = c.in_ok-body.ensures.room;
         elements = c.in_ok-body.ensures.elements;
         charge = omega (arith, c.charge.ensures.charge);
+        has_room = stands_room (words_of c.in-Some.landing.segment.now) (record { segment = c.in-Some.landing.number; word = c.in-Some-start.start }) landing.landing.tag _ landing.small
+            c.words_fit.ensures
+            (c.in_ok-body.ensures.found landing.landing.tag c.in-Some.landing.number landing.shape);
       },
       omega arith,
     )

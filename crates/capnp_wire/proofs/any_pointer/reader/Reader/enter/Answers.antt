@@ -1,7 +1,8 @@
-use Rattle.std.proofs.Common.{sym, subst}
+-- What a pointer leads to is entered once it is charged, and refused where no object stands or the limit is met.
+use Rattle.std.proofs.Common.{inl, inr}
 use Rattle.std.proofs.lemmas.Result.{err_from_is_err_and}
 use Rattle.capnp_wire.specs.Object.{is_null as null_there}
-use Rattle.capnp_wire.specs.Views.{Barred, no_object, read_limit, nowhere, at_place}
+use Rattle.capnp_wire.specs.Views.{nowhere, at_place}
 use Rattle.capnp_wire.specs.Readers.{pointer_of}
 use Rattle.capnp_wire.proofs.any_pointer.reader.Reader.enter.Goals as goal
 
@@ -11,7 +12,7 @@ returns-in_default-clause-found g c = nowhere c.in_default.is
 pub returns-in_err-object-clause-refused : goal.returns-in_err-object-clause-refused
 returns-in_err-object-clause-refused g c =
     let p = err_from_is_err_and c.from_residual.result c.from_residual.ensures.1 in
-    rw (p.1, p.2) (no_object c.in-Some.is c.in_err-object.ensures.refused)
+    rw (p.1, p.2) (inl (c.in-Some.place, c.in-Some.is, c.in_err-object.ensures.refused))
 
 pub returns-in_default-2-clause-found : goal.returns-in_default-2-clause-found
 returns-in_default-2-clause-found g c =
@@ -23,5 +24,4 @@ returns-in_err-charge-clause-refused g c =
     let p = err_from_is_err_and c.from_residual-in_err-charge.result c.from_residual-in_err-charge.ensures.1 in
     let pointer = pointer_of g.S.ReaderSegments.segments c.args.self.now in
     let found = rw c.in-Some-2.is at c.in_ok-object.ensures.found in
-    rw (p.1, p.2) (subst (Barred pointer) (sym c.in_err-charge.ensures.kind)
-    (read_limit (at_place c.in-Some.is found.0.object (λ not. found.1)) c.in_err-charge.ensures.limited))
+    rw (p.1, p.2) (inr ((_, at_place c.in-Some.is found.0.object (λ not. found.1), c.in_err-charge.ensures.some), c.in_err-charge.ensures.limited, c.in_err-charge.ensures.kind))

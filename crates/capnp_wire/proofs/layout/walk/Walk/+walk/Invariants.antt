@@ -1,22 +1,20 @@
--- How far a walk over the rows of an object's pointers has come.
-use Rattle.std.proofs.Common.{◌+◌, ◌-◌, ◌*◌, ◌^◌, ◌<◌, ◌++◌}
-use Rattle.capnp_wire.specs.Object.{Shape, message_of, places, row_places}
-use Rattle.capnp_wire.proofs.ProgressLemmas.{Descends}
+-- How far a walk over the pointers of an object has come.
+use Rattle.std.proofs.Common.{◌+◌, ◌*◌, length}
+use Rattle.capnp_wire.specs.Object.{message_of}
+use Rattle.capnp_wire.specs.Rows.{places_in}
+use Rattle.capnp_wire.proofs.ProgressLemmas.{Progress}
 use Rattle.capnp_wire.proofs.layout.walk.Walk.+walk.Given as goal
 
 abbrev pub decreases-walk : goal.decreases-walk
-decreases-walk g l = l.level
+decreases-walk g l = 2 * l.level
 
-abbrev pub invariant-rows : goal.invariant-rows
-invariant-rows g l =
-    ((shape : Shape) × Descends (message_of (g.S.ReaderSegments.segments l.segments)) l.fn.place shape l.level
-    (row_places l.first.segment l.start l.data_words l.pointers (l.rows - l._row)) l.fn.self.left l.self.left l.fn.self.words l.self.words)
-    × (l.start + (l.rows - l._row) * (l.data_words + l.pointers) < 2 ^ 61)
+abbrev pub decreases-walk_pointers : goal.decreases-walk_pointers
+decreases-walk_pointers g l = 2 * l.level + 1
 
-abbrev pub invariant-pointers : goal.invariant-pointers
-invariant-pointers g l =
-    ((shape : Shape) × Descends (message_of (g.S.ReaderSegments.segments l.segments)) l.fn.place shape l.level
-    (places l.first.segment l.start (l.pointers - l._pointer)
-    ++ row_places l.first.segment (l.start + (l.pointers - l._pointer)) l.data_words l.pointers (l.rows - l._row - 1))
-    l.fn.self.left l.self.left l.fn.self.words l.self.words)
-    × (l.start + (l.pointers - l._pointer) + (l.rows - l._row - 1) * (l.data_words + l.pointers) < 2 ^ 61)
+abbrev pub invariant-walk_pointers-pointers : goal.invariant-walk_pointers-pointers
+invariant-walk_pointers-pointers g l =
+    Progress (message_of (g.S.ReaderSegments.segments l.segments)) l.canonical (places_in l.fn.pointers) (places_in l.pointers) l.level
+    l.fn.self.left l.self.left l.fn.self.words l.self.words
+
+abbrev pub decreases-walk_pointers-pointers : goal.decreases-walk_pointers-pointers
+decreases-walk_pointers-pointers g l = length (places_in l.pointers)

@@ -1,0 +1,100 @@
+-- What trimming keeps of some trees or words is a front of them.
+use Rattle.std.proofs.lemmas.List.{take-take}
+use Rattle.std.proofs.Common.{◌≡◌, ℕ, zero, suc, ◌+◌, ◌-◌, ◌<◌, ◌≤◌, Bool, true, false, if◌then◌else◌, max, List, [], ◌∷◌, ◌++◌, length, map, take, drop, Option, Some, slice_get, refl, sym}
+use Rattle.std.proofs.Common.{◌∙◌, ap, subst, arith}
+use Rattle.std.specs.Prelude.{option_and_then}
+use Rattle.capnp_wire.specs.Pointer.{words_from}
+use Rattle.capnp_wire.specs.Tree.{Form, null, struct, numbers, pointers, structs, Trees, none, tree, count, depth, is_null}
+use Rattle.capnp_wire.specs.Trim.{first, behind, before, keep_word, cut_zeros, keep_tree, cut_nulls, least_data, least_pointers, narrowed, trim_form, trim_held, trim}
+use Rattle.capnp_wire.specs.Object.{is_null as null_there, is_object, Lands, near, far, double_far, Target, word_at, places, row_places, rows_from}
+use Rattle.capnp_wire.specs.Reached.{At, nowhere, at}
+use Rattle.capnp_wire.specs.Block.{most_used}
+use Rattle.capnp_wire.specs.Rows.{kept_places}
+use Rattle.capnp_wire.specs.Layout.{AllHaveRoom}
+use Rattle.capnp_wire.specs.declared.layout.place.Place.{Place}
+use Rattle.capnp_wire.proofs.PieceLemmas.{Each, each_first, each_behind, each_narrowed}
+use Rattle.capnp_wire.proofs.TrimLemmas.{RoomOne, each_room, room_each}
+use Rattle.capnp_wire.proofs.FaultLemmas.{not_null}
+
+-- trimming, piece by piece
+pub trim_first : (n : ℕ) (t : Trees) → trim (first n t) ≡ first n (trim t)
+trim_first zero t = refl
+trim_first (suc n) none = refl
+trim_first (suc n) (tree form held rest) = ap (λ (r : Trees). tree (trim_form form (trim held)) (trim_held form (trim held)) r) (trim_first n rest)
+
+pub trim_behind : (n : ℕ) (t : Trees) → trim (behind n t) ≡ behind n (trim t)
+trim_behind zero t = refl
+trim_behind (suc n) none = refl
+trim_behind (suc n) (tree form held rest) = trim_behind n rest
+
+pub trim_before : (a b : Trees) → trim (before a b) ≡ before (trim a) (trim b)
+trim_before none b = refl
+trim_before (tree form held rest) b = ap (λ (r : Trees). tree (trim_form form (trim held)) (trim_held form (trim held)) r) (trim_before rest b)
+
+pub trim_narrowed : (q p : ℕ) (rows : List (List ℕ)) (t : Trees) → trim (narrowed q p rows t) ≡ narrowed q p rows (trim t)
+trim_narrowed q p [] t = refl
+trim_narrowed q p (row ∷ rows) t =
+    let one : trim (first q (first p t)) ≡ first q (first p (trim t)) = trim_first q (first p t) ∙ ap (first q) (trim_first p t) in
+    let two : trim (narrowed q p rows (behind p t)) ≡ narrowed q p rows (behind p (trim t)) = trim_narrowed q p rows (behind p t) ∙ ap (narrowed q p rows) (trim_behind p t) in
+    rw (trim_before (first q (first p t)) (narrowed q p rows (behind p t)), one, two) refl
+
+first_keep : (rest whole : Trees) (form : Form) (held : Trees) → first (count rest) whole ≡ rest → first (count (keep_tree rest form held)) (tree form held whole) ≡ keep_tree rest form held
+first_keep (tree f h r) whole form held e =
+    let more : count r + 1 + 1 ≡ suc (count r + 1) = omega arith in
+    ap (λ (n : ℕ). first n (tree form held whole)) more ∙ ap (λ (t : Trees). tree form held t) e
+first_keep none whole null held e = refl
+first_keep none whole (struct words) held e = ap (λ (t : Trees). tree (struct words) held t) e
+first_keep none whole (numbers c values) held e = ap (λ (t : Trees). tree (numbers c values) held t) e
+first_keep none whole pointers held e = ap (λ (t : Trees). tree pointers held t) e
+first_keep none whole (structs d p rows) held e = ap (λ (t : Trees). tree (structs d p rows) held t) e
+
+-- what is cut is a front
+pub first_cut : (t : Trees) → first (count (cut_nulls t)) t ≡ cut_nulls t
+first_cut none = refl
+first_cut (tree form held rest) = first_keep (cut_nulls rest) rest form held (first_cut rest)
+
+-- trimming leaves null what is null, and nothing else
+abbrev kept_count : ℕ → Bool → ℕ
+kept_count (suc n) b = suc (suc n)
+kept_count zero true = 0
+kept_count zero false = 1
+
+count_keep : (rest : Trees) (form : Form) (held : Trees) → count (keep_tree rest form held) ≡ kept_count (count rest) (is_null form)
+count_keep none null held = refl
+count_keep none (struct words) held = refl
+count_keep none (numbers c values) held = refl
+count_keep none pointers held = refl
+count_keep none (structs d p rows) held = refl
+count_keep (tree f h r) form held =
+    let more : count r + 1 ≡ suc (count r) = omega arith in
+    let two : count r + 1 + 1 ≡ suc (suc (count r)) = omega arith in
+    rw (more) (omega arith)
+
+null_trimmed : (form : Form) (held : Trees) → is_null (trim_form form held) ≡ is_null form
+null_trimmed null held = refl
+null_trimmed (struct words) held = refl
+null_trimmed (numbers c values) held = refl
+null_trimmed pointers held = refl
+null_trimmed (structs d p rows) held = refl
+
+pub count_cut_trim : (t : Trees) → count (cut_nulls (trim t)) ≡ count (cut_nulls t)
+count_cut_trim none = refl
+count_cut_trim (tree form held rest) =
+    count_keep (cut_nulls (trim rest)) (trim_form form (trim held)) (trim_held form (trim held))
+    ∙ ap (λ (n : ℕ). kept_count n (is_null (trim_form form (trim held)))) (count_cut_trim rest)
+    ∙ ap (λ (b : Bool). kept_count (count (cut_nulls rest)) b) (null_trimmed form (trim held))
+    ∙ sym (count_keep (cut_nulls rest) form held)
+
+-- words without zeros at the end are a front
+front_keep : (rest whole : List ℕ) (w : ℕ) → take (length rest) whole ≡ rest → take (length (keep_word rest w)) (w ∷ whole) ≡ keep_word rest w
+front_keep (x ∷ rest) whole w e = ap (λ (l : List ℕ). w ∷ l) e
+front_keep [] whole zero e = refl
+front_keep [] whole (suc n) e = ap (λ (l : List ℕ). suc n ∷ l) e
+
+pub cut_front : (xs : List ℕ) → take (length (cut_zeros xs)) xs ≡ cut_zeros xs
+cut_front [] = refl
+cut_front (x ∷ xs) = front_keep (cut_zeros xs) xs x (cut_front xs)
+
+pub cut_words : (words : List ℕ) (start d e : ℕ) → e ≡ length (cut_zeros (words_from words start d)) → e ≤ d → cut_zeros (words_from words start d) ≡ words_from words start e
+cut_words words start d e is le =
+    sym (cut_front (words_from words start d)) ∙ ap (λ (n : ℕ). take n (words_from words start d)) (sym is) ∙ take-take e d (drop start words) le

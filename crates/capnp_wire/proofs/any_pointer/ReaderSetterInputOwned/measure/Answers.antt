@@ -1,0 +1,29 @@
+-- The words of what a pointer leads to are those of its tree, as it stands or in canonical form.
+use Rattle.std.proofs.Common.{ℕ, Result, Ok}
+use Rattle.capnp_frame.specs.declared.error.Error.{Error}
+use Rattle.capnp_wire.specs.Readers.{pointer_of}
+use Rattle.capnp_wire.specs.Values.{LeadsToTree, StopsWalkFrom}
+use Rattle.capnp_wire.proofs.SetterLemmas.{none_has_words, measured_value}
+use Rattle.capnp_wire.proofs.OneValueLemmas.{one_of_pointer, measured_found, measured_exactly}
+use Rattle.capnp_wire.proofs.any_pointer.ReaderSetterInputOwned.measure.Goals as goal
+
+pub returns-in-None : goal.returns-in-None
+returns-in-None g c =
+    let p = pointer_of g.S.ReaderSegments.segments c.args.self.now in
+    let nothing : Result ℕ Error = Ok 0 in
+    let answer = none_has_words p c.args.canonical c.in-None.is in
+    record {
+      answer = answer;
+      found = measured_found (LeadsToTree p) (StopsWalkFrom p) (one_of_pointer p) c.args.canonical nothing answer;
+      exact = measured_exactly (LeadsToTree p) (StopsWalkFrom p) (one_of_pointer p) c.args.canonical nothing answer;
+    }
+
+pub returns-in-Some : goal.returns-in-Some
+returns-in-Some g c =
+    let p = pointer_of g.S.ReaderSegments.segments c.args.self.now in
+    let answer = measured_value p c.in-Some.place c.args.canonical c.measure.result c.in-Some.is (rw c.limit_in_words.ensures at c.measure.ensures.answer) in
+    record {
+      answer = answer;
+      found = measured_found (LeadsToTree p) (StopsWalkFrom p) (one_of_pointer p) c.args.canonical c.measure.result answer;
+      exact = measured_exactly (LeadsToTree p) (StopsWalkFrom p) (one_of_pointer p) c.args.canonical c.measure.result answer;
+    }

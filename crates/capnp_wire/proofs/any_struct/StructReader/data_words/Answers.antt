@@ -1,6 +1,0 @@
-use Rattle.std.proofs.Common.{arith}
-use Rattle.capnp_wire.proofs.FieldLemmas.{length-words_from}
-use Rattle.capnp_wire.proofs.any_struct.StructReader.data_words.Goals as goal
-
-pub returns : goal.returns
-returns g c = let self = c.args.self.now in length-words_from self.segment.now self.start.word self.size.data_words (omega (arith, c.type_inv.self))

@@ -1,0 +1,15 @@
+-- The words of a struct that is read, with all below it, are those of its tree.
+use Rattle.capnp_wire.specs.Readers.{struct_of}
+use Rattle.capnp_wire.specs.Values.{IsTreeOf, StopsInside}
+use Rattle.capnp_wire.proofs.OneValueLemmas.{one_of_struct, measured_found, measured_exactly}
+use Rattle.capnp_wire.proofs.any_struct.StructReaderSetterInputOwned.measure.Goals as goal
+
+pub returns : goal.returns
+returns g c =
+    let fields = struct_of g.S.ReaderSegments.segments c.args.self.now in
+    let answer = rw c.limit_in_words.ensures at c.measure.ensures in
+    record {
+      answer = answer;
+      found = measured_found (IsTreeOf fields) (StopsInside fields) (one_of_struct fields) c.args.canonical c.measure.result answer;
+      exact = measured_exactly (IsTreeOf fields) (StopsInside fields) (one_of_struct fields) c.args.canonical c.measure.result answer;
+    }

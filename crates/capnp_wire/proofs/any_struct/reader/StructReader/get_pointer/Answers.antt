@@ -1,0 +1,28 @@
+-- A pointer of a struct stands behind the data words, and past the last one nowhere.
+use Rattle.std.proofs.Common.{◌+◌, ◌<◌, ◌≤◌, Option, sym, ap, ◌∙◌, arith}
+use Rattle.capnp_wire.specs.Object.{message_of}
+use Rattle.capnp_wire.specs.Readers.{limit_of}
+use Rattle.capnp_wire.specs.Views.{Pointer}
+use Rattle.capnp_wire.specs.declared.layout.place.Place.{Place}
+use Rattle.capnp_wire.proofs.FieldLemmas.{place_within, no_place_past}
+use Rattle.capnp_wire.proofs.any_struct.reader.StructReader.get_pointer.Goals as goal
+use Rattle.capnp_wire.proofs.any_struct.reader.StructReader.get_pointer.Goals.{then-index-self, else-index-self}
+
+pub returns : goal.returns
+returns g c =
+    let self = c.args.self.now in
+    let pointer : Option Place → Pointer = λ place. record {
+      message = message_of (g.S.ReaderSegments.segments self.segments.now);
+      place = place;
+      level = self.level;
+      limit = limit_of self.limiter;
+    } in
+    let start = self.start.word + self.size.data_words in
+    elim c.if-index-self.branch [
+      | then-index-self w ↦
+          (let within : c.args.index < self.size.pointers = omega arith in
+          ap pointer (w.place-is ∙ sym (place_within self.start.segment start self.size.pointers c.args.index within)))
+      | else-index-self w ↦
+          (let past : self.size.pointers ≤ c.args.index = omega arith in
+          ap pointer (w.place-is ∙ sym (no_place_past self.start.segment start self.size.pointers c.args.index past)))
+    ]

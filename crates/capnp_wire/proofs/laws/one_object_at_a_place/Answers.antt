@@ -1,0 +1,6 @@
+-- The law, as ObjectLemmas proves it.
+use Rattle.capnp_wire.proofs.ObjectLemmas.{one_object}
+use Rattle.capnp_wire.proofs.laws.one_object_at_a_place.Goals as goal
+
+pub returns : goal.returns
+returns c = one_object

@@ -1,0 +1,6 @@
+-- The law, as ExactnessLemmas proves it.
+use Rattle.capnp_wire.proofs.ExactnessLemmas as law
+use Rattle.capnp_wire.proofs.laws.tests_are_exact.Goals as goal
+
+pub returns : goal.returns
+returns c = law.tests_are_exact

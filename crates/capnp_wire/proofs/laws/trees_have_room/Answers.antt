@@ -1,0 +1,6 @@
+-- The law, as RoomLemmas proves it.
+use Rattle.capnp_wire.proofs.RoomLemmas.{read_has_room}
+use Rattle.capnp_wire.proofs.laws.trees_have_room.Goals as goal
+
+pub returns : goal.returns
+returns c = read_has_room

@@ -1,0 +1,10 @@
+-- The most of the stretches so far, and what is left of them.
+use Rattle.std.proofs.Common.{◌≡◌, ◌≤◌, ◌+◌, ◌-◌, ◌*◌, ◌/◌, max, length}
+use Rattle.capnp_wire.specs.Pointer.{words_of}
+use Rattle.capnp_wire.specs.Block.{most_used}
+use Rattle.capnp_wire.proofs.layout.block.most_used.Given as goal
+
+abbrev pub invariant-rows : goal.invariant-rows
+invariant-rows l =
+    (max l.most (most_used (words_of l.segment) l.row l.count l.step (l.rows - l._row)) ≡ most_used (words_of l.segment) l.fn.start l.count l.step l.rows)
+    × (l.row + (l.rows - l._row) * l.step ≤ length l.segment / 8 + (l.step - l.count)) × (l.most ≤ l.count)

@@ -1,0 +1,60 @@
+-- A walk tests an object, and then what its pointers lead to.
+use Rattle.std.proofs.Common.{◌≤◌, ◌∙◌, length, arith}
+use Rattle.capnp_wire.specs.Pointer.{words_of}
+use Rattle.capnp_wire.proofs.WordLemmas.{length-words_of}
+use Rattle.capnp_wire.proofs.ElementLemmas.{all_words_below}
+use Rattle.capnp_wire.proofs.PadLemmas.{passed_on}
+use Rattle.capnp_wire.proofs.GoingLemmas.{null_passes, going_begins, going_next, going_ends, pointers_pass, pointers_end, pointers_refused}
+use Rattle.capnp_wire.proofs.layout.canonical.CanonicalWalk.+test.Goals as goal
+
+pub test-returns-in_err-meet-clause-refused : goal.test-returns-in_err-meet-clause-refused
+test-returns-in_err-meet-clause-refused g t c = passed_on _ _ c.from_residual.ensures.1 c.in_err-meet.ensures.refused
+
+pub test-returns-in-Null-clause-passed : goal.test-returns-in-Null-clause-passed
+test-returns-in-Null-clause-passed g t c same =
+    null_passes (rw c.in-Null.is at c.in_ok-meet.ensures.found) (omega (arith, c.requires.within, length-words_of c.args.segment.now))
+
+pub test-test_pointers-requires : goal.test-test_pointers-requires
+test-test_pointers-requires g t c κs lives =
+    let met = rw c.in-Pointers.is at c.in_ok-meet.ensures.found in
+    (omega (arith, met.meets.deep, c.decreases), (lives, (c.requires.one, (met.first, (met.before, omega (arith, met.room, length-words_of c.args.segment.now))))))
+
+pub test-returns-in-Pointers-clause-passed : goal.test-returns-in-Pointers-clause-passed
+test-returns-in-Pointers-clause-passed g t c =
+    pointers_pass c.test_pointers.new.self.walk.left c.test_pointers.new.self.next c.test_pointers.result (all_words_below c.args.segment.now (λ i. omega (arith, c.type_inv.segment i)))
+    c.requires.before (omega (arith, c.requires.within, length-words_of c.args.segment.now)) (rw c.in-Pointers.is at c.in_ok-meet.ensures.found) c.test_pointers.ensures.passed
+
+pub test-returns-in-Pointers-clause-ended : goal.test-returns-in-Pointers-clause-ended
+test-returns-in-Pointers-clause-ended g t c =
+    pointers_end c.test_pointers.result (rw c.in-Pointers.is at c.in_ok-meet.ensures.found) c.test_pointers.ensures.ended
+
+pub test-returns-in-Pointers-clause-refused : goal.test-returns-in-Pointers-clause-refused
+test-returns-in-Pointers-clause-refused g t c =
+    pointers_refused c.test_pointers.result (rw c.in-Pointers.is at c.in_ok-meet.ensures.found) c.test_pointers.ensures.refused
+
+pub test_pointers-pointers-init : goal.test_pointers-pointers-init
+test_pointers-pointers-init g t c =
+    let room : c.args.self.now.next ≤ length (words_of c.args.segment.now) = omega (arith, c.requires.within, length-words_of c.args.segment.now) in
+    (going_begins _ _ c.args.level c.args.self.now.walk.left c.args.self.now.next room, c.requires.first, c.requires.before)
+
+pub test_pointers-test-requires : goal.test_pointers-test-requires
+test_pointers-test-requires g t c κs lives =
+    let so_far = c.pointers.invariant in
+    (omega (arith, c.decreases), (lives, (c.requires.one, (omega (arith, so_far.2, c.take-place.ensures.within), omega (arith, so_far.0.passes.room, length-words_of c.args.segment.now)))))
+
+pub test_pointers-returns-in_err-test-clause-refused : goal.test_pointers-returns-in_err-test-clause-refused
+test_pointers-returns-in_err-test-clause-refused g t c =
+    passed_on _ _ c.from_residual.ensures.1
+    (going_ends c.take-place.ensures.taken.places_are (c.take-place.ensures.segment ∙ c.pointers.invariant.1) c.pointers.invariant.0 c.in_err-test.ensures.refused)
+
+pub test_pointers-returns-then-not-branch-clause-ended : goal.test_pointers-returns-then-not-branch-clause-ended
+test_pointers-returns-then-not-branch-clause-ended g t c same =
+    going_ends c.take-place.ensures.taken.places_are (c.take-place.ensures.segment ∙ c.pointers.invariant.1) c.pointers.invariant.0 (c.in_ok-test.ensures.ended c.if-not-branch.true)
+
+pub test_pointers-pointers-preserved : goal.test_pointers-pointers-preserved
+test_pointers-pointers-preserved g t c =
+    let passed = c.in_ok-test.ensures.passed c.if-not-branch.false in (
+      going_next c.take-place.ensures.taken.places_are (c.take-place.ensures.segment ∙ c.pointers.invariant.1) c.pointers.invariant.0 passed,
+      c.take-place.ensures.same_segment ∙ c.pointers.invariant.1,
+      omega (arith, c.pointers.invariant.2, c.take-place.ensures.taken.same_end, passed.passes.after_is),
+    )

@@ -1,0 +1,20 @@
+-- How far a walk over the pointers of an object has come; they all stand before the next free word.
+use Rattle.std.proofs.Common.{◌≡◌, ◌+◌, ◌*◌, ◌≤◌, length}
+use Rattle.capnp_wire.specs.Pointer.{words_of}
+use Rattle.capnp_wire.specs.Rows.{places_in, end_of}
+use Rattle.capnp_wire.proofs.GoingLemmas.{Going}
+use Rattle.capnp_wire.proofs.layout.canonical.CanonicalWalk.+test.Given as goal
+
+abbrev pub decreases-test : goal.decreases-test
+decreases-test g l = 2 * l.level
+
+abbrev pub decreases-test_pointers : goal.decreases-test_pointers
+decreases-test_pointers g l = 2 * l.level + 1
+
+abbrev pub invariant-test_pointers-pointers : goal.invariant-test_pointers-pointers
+invariant-test_pointers-pointers g l =
+    Going (words_of l.segment) (places_in l.fn.pointers) (places_in l.pointers) l.level l.fn.self.walk.left l.self.walk.left l.fn.self.next l.self.next
+    × (l.pointers.next.segment ≡ 0) × (end_of l.pointers ≤ l.self.next)
+
+abbrev pub decreases-test_pointers-pointers : goal.decreases-test_pointers-pointers
+decreases-test_pointers-pointers g l = length (places_in l.pointers)

@@ -1,0 +1,13 @@
+-- A tree is written as it is copied.
+use Rattle.std.proofs.Common.{length}
+use Rattle.capnp_wire.specs.Object.{message_of}
+use Rattle.capnp_wire.proofs.ValueLemmas.{can_copy, written}
+use Rattle.capnp_wire.proofs.layout.value.write.Goals as goal
+
+pub copy-requires-clause-there : goal.copy-requires-clause-there
+copy-requires-clause-there g c = can_copy (message_of (g.S.ReaderSegments.segments c.args.segments.now)) c.args.place c.args.level c.args.canonical (length c.args.block.now) c.requires
+
+pub returns-clause-written : goal.returns-clause-written
+returns-clause-written g c =
+    written (message_of (g.S.ReaderSegments.segments c.args.segments.now)) c.args.place c.args.level c.args.canonical c.args.block.now c.copy.new.block c.copy.result.pointer c.requires
+    (λ trees charge stand. (c.copy.ensures.copied trees charge stand).words_are) (λ trees charge stand. (c.copy.ensures.copied trees charge stand).pointer_is)

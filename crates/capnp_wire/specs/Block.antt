@@ -1,0 +1,33 @@
+-- Blocks of words while objects are written into them (src/layout/block.rt, src/layout/copy.rt).
+use Rattle.std.specs.Prelude.{ℕ, zero, suc, ◌+◌, ◌-◌, max, List, [], ◌∷◌, ◌++◌, length, take, drop}
+use Rattle.capnp_wire.specs.Tree.{Trees, none, tree, count, own_words, total_words}
+use Rattle.capnp_wire.specs.Layout.{pointer, body}
+use Rattle.capnp_wire.specs.Trim.{cut_zeros}
+use Rattle.capnp_wire.specs.Pointer.{words_from}
+
+-- some words in the place of others, from a word of the block on
+abbrev pub put : ℕ → List ℕ → List ℕ → List ℕ
+put at words block = take at block ++ (words ++ drop (at + length words) block)
+
+-- the data of rows, each before its p pointers
+abbrev pub put_rows : ℕ → ℕ → List (List ℕ) → List ℕ → List ℕ
+put_rows at p [] block = block
+put_rows at p (row ∷ rows) block = put_rows (at + length row + p) p rows (put at row block)
+
+-- pointers in their slots, and what they lead to, the one behind the other from a word on
+abbrev pub fill : List ℕ → ℕ → Trees → List ℕ → List ℕ
+fill slots next none block = block
+fill [] next (tree form held rest) block = block
+fill (slot ∷ slots) next (tree form held rest) block =
+    fill slots (next + own_words form (count held) + total_words held) rest
+    (put slot (pointer form (count held) (next - (slot + 1)) ∷ []) (put next (body (tree form held none)) block))
+
+-- slots of an object that begins at a word of the block
+abbrev pub moved : ℕ → List ℕ → List ℕ
+moved base [] = []
+moved base (slot ∷ slots) = (base + slot) ∷ moved base slots
+
+-- the most words that one of n stretches of k words needs, without zeros at its end; they begin every step words
+abbrev pub most_used : List ℕ → ℕ → ℕ → ℕ → ℕ → ℕ
+most_used words start k step zero = 0
+most_used words start k step (suc n) = max (length (cut_zeros (words_from words start k))) (most_used words (start + step) k step n)

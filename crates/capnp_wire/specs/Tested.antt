@@ -1,0 +1,160 @@
+-- What a walk tests of the objects of a message of one segment, and where it ends (src/layout/canonical.rt).
+use Rattle.std.specs.Prelude.{◌≡◌, ◌≢◌, ◌⊎◌, ℕ, ◌+◌, ◌-◌, ◌*◌, ◌^◌, ◌<◌, ◌≤◌, false, List, [], ◌∷◌, length, Option, Some, slice_get, slice_index_or}
+use Rattle.capnp_frame.specs.declared.error.ErrorKind.{ErrorKind}
+use Rattle.capnp_frame.specs.declared.error.ErrorKind.TheVariants.{ReadLimitExceeded, InvalidSegmentId}
+use Rattle.capnp_wire.specs.Pointer.{pointer_kind, offset, list_count}
+use Rattle.capnp_wire.specs.Element.{code_of}
+use Rattle.capnp_wire.specs.Tree.{Form, is_null, null, struct, numbers, structs, Trees, depth, own_words, total_words}
+use Rattle.capnp_wire.specs.Object.{word_at, elements, Shape, PointsTo}
+use Rattle.capnp_wire.specs.Reached.{At, root}
+use Rattle.capnp_wire.specs.Charge.{Within, less}
+use Rattle.capnp_wire.specs.Faults.{Fault}
+use Rattle.capnp_wire.specs.Layout.{minus_one, Trimmed}
+use Rattle.capnp_wire.specs.Canonical.{EndsFull, Padded, Tidy}
+use Rattle.capnp_wire.specs.declared.layout.place.Place.{Place}
+use Rattle.capnp_wire.specs.Rows.{places_in, end_of}
+use Rattle.capnp_wire.specs.declared.layout.canonical.Met.{Met}
+use Rattle.capnp_wire.specs.declared.layout.canonical.Met.TheVariants.{Null, NotCanonical, Pointers}
+use Rattle.capnp_wire.specs.declared.layout.rows.PointerRows.{PointerRows}
+use Rattle.capnp_wire.specs.declared.layout.object.Body.{Body}
+use Rattle.capnp_wire.specs.declared.layout.object.Body.TheVariants.{Struct, Numbers, Structs}
+
+-- a far pointer stands at a place
+abbrev pub IsFarAt : List ℕ → Place → Type 0
+IsFarAt segment place = (word : ℕ) × (word_at (segment ∷ []) place ≡ Some word) × (pointer_kind word ≡ 2)
+
+-- the offset of a pointer at a word leads to the next free word
+abbrev pub LeadsTo : ℕ → ℕ → ℕ → Type 0
+LeadsTo pointer word next = (offset pointer ≡ next - (word + 1)) × (next - (word + 1) < 2 ^ 29)
+
+-- A pointer at a word leads to the next free word; to an object of no words by the offset -1, where that is
+-- a struct; and to elements that take up all words that it counts.
+abbrev pub IsNext : ℕ → ℕ → ℕ → Form → ℕ → Type 0
+IsNext pointer word next null n = Unit {0}
+IsNext pointer word next (struct words) n =
+    (length words + n ≡ 0 → offset pointer ≡ minus_one) × (0 < length words + n → LeadsTo pointer word next)
+IsNext pointer word next (structs d p rows) n = LeadsTo pointer word next × (list_count pointer ≡ length rows * (d + p))
+IsNext pointer word next form n = LeadsTo pointer word next
+
+-- the same of an object as it is read
+abbrev pub NextOf : ℕ → ℕ → ℕ → Body → Type 0
+NextOf pointer word next (Struct size) =
+    (size.data_words + size.pointers ≡ 0 → offset pointer ≡ minus_one)
+    × (0 < size.data_words + size.pointers → LeadsTo pointer word next)
+NextOf pointer word next (Structs elements behind) =
+    LeadsTo pointer word next × (list_count pointer ≡ elements.count * (elements.size.data_words + elements.size.pointers))
+NextOf pointer word next body = LeadsTo pointer word next
+
+-- the padding of an object that starts at a word, as it is read
+abbrev pub PaddedOf : List ℕ → ℕ → Body → Type 0
+PaddedOf segment start (Numbers size count) =
+    Padded segment start (numbers (code_of size) (elements segment start (code_of size) count))
+PaddedOf segment start body = Unit {0}
+
+-- the pointer words at places
+abbrev pub links_at : List ℕ → List Place → List ℕ
+links_at segment [] = []
+links_at segment (place ∷ places) = slice_index_or segment place.word 0 ∷ links_at segment places
+
+-- elements have no words of data, or one of them ends with a word that is not zero
+abbrev pub NeedData : ℕ → List (List ℕ) → Type 0
+NeedData d rows = (d ≡ 0) ⊎ ((i : ℕ) × (row : List ℕ) × (slice_get rows i ≡ Some row) × EndsFull row)
+
+-- n elements have no pointers, or the last pointer of one of them is not null
+abbrev pub NeedPointers : ℕ → ℕ → List ℕ → Type 0
+NeedPointers p n links = (p ≡ 0) ⊎ ((i : ℕ) × (i < n) × (slice_index_or links (i * p + p - 1) 0 ≢ 0))
+
+-- the sizes are trimmed, where these are the object's pointer words
+abbrev pub IsTight : Form → List ℕ → Type 0
+IsTight (struct words) links = EndsFull words × EndsFull links
+IsTight (structs d p rows) links = NeedData d rows × NeedPointers p (length rows) links
+IsTight form links = Unit {0}
+
+-- The object to which the pointer at a place leads stands as the canonical form has it, where this is the next
+-- free word.
+pub record IsLaidOut (segment : List ℕ) (place : Place) (next : ℕ) (shape : Shape) : Type 0 where
+  pub pointer : ℕ
+  pub there : word_at (segment ∷ []) place ≡ Some pointer
+  pub is_next : IsNext pointer place.word next shape.form (length shape.held)
+  pub padded : Padded segment next shape.form
+  pub tight : IsTight shape.form (links_at segment shape.held)
+
+-- Trees that stand at places within a level, with a charge, all as the canonical form has them, the first at
+-- the next free word, up to the one after them.
+pub record Passes (segment : List ℕ) (places : List Place) (level charge next after : ℕ) : Type 0 where
+  pub trees : Trees
+  pub stand : At (segment ∷ []) places trees charge
+  pub shallow : depth trees ≤ level
+  pub tidy : Tidy segment places next trees
+  pub trimmed : Trimmed trees
+  pub after_is : after ≡ next + total_words trees
+  pub room : after ≤ length segment
+
+-- An object is met that may be entered, and that no far pointer leads to.
+pub record MeetsObject (segment : List ℕ) (place : Place) (level : ℕ) (limit : Option ℕ) (shape : Shape) : Type 0 where
+  pub object : PointsTo (segment ∷ []) place shape
+  pub some : is_null shape.form ≡ false
+  pub not_far : IsFarAt segment place → ⊥
+  pub deep : 0 < level
+  pub within : Within limit shape.charge
+
+-- What a walk over the trees at some places finds that passes there: trees within the level and the limit.
+pub record PassesAt (segment : List ℕ) (places : List Place) (level : ℕ) (limit left : Option ℕ) (next after : ℕ) : Type 0 where
+  pub charge : ℕ
+  pub passes : Passes segment places level charge next after
+  pub within : Within limit charge
+  pub left_is : left ≡ less limit charge
+
+-- where a walk ends early: it is refused, or what it met is not canonical
+pub data Ending : Type 0 where
+  refused : ErrorKind → Ending
+  not_canonical : Ending
+
+-- A walk over the trees at places, in preorder, ends early: at what it meets first.
+pub data Ends (segment : List ℕ) : List Place → ℕ → Option ℕ → ℕ → Ending → Type 0 where
+  far : {place : Place} {others : List Place} {level : ℕ} {limit : Option ℕ} {next : ℕ} → IsFarAt segment place
+      → Ends segment (place ∷ others) level limit next not_canonical
+  at_pointer : {place : Place} {others : List Place} {level : ℕ} {limit : Option ℕ} {next : ℕ} {kind : ErrorKind}
+      → (IsFarAt segment place → ⊥) → Fault (segment ∷ []) place level kind
+      → Ends segment (place ∷ others) level limit next (refused kind)
+  over_limit : {place : Place} {others : List Place} {level most next : ℕ} {shape : Shape}
+      → (IsFarAt segment place → ⊥) → PointsTo (segment ∷ []) place shape → 0 < level → most < shape.charge
+      → Ends segment (place ∷ others) level (Some most) next (refused ReadLimitExceeded)
+  elsewhere : {place : Place} {others : List Place} {level : ℕ} {limit : Option ℕ} {next : ℕ} {shape : Shape}
+      → MeetsObject segment place level limit shape → (IsLaidOut segment place next shape → ⊥)
+      → Ends segment (place ∷ others) level limit next not_canonical
+  inside : {place : Place} {others : List Place} {level : ℕ} {limit : Option ℕ} {next : ℕ} {shape : Shape} {ending : Ending}
+      → MeetsObject segment place level limit shape → IsLaidOut segment place next shape
+      → Ends segment shape.held (level - 1) (less limit shape.charge) (next + own_words shape.form (length shape.held)) ending
+      → Ends segment (place ∷ others) level limit next ending
+  later : {place : Place} {others : List Place} {level : ℕ} {limit : Option ℕ} {next charge after : ℕ} {ending : Ending}
+      → Passes segment (place ∷ []) level charge next after → Within limit charge
+      → Ends segment others level (less limit charge) after ending
+      → Ends segment (place ∷ others) level limit next ending
+
+-- An object is met that stands as the canonical form has it; these of its pointers are to be tested yet.
+pub record MeetsPointers (segment : List ℕ) (place : Place) (level : ℕ) (limit left : Option ℕ) (next after : ℕ) (pointers : PointerRows) : Type 0 where
+  pub shape : Shape
+  pub meets : MeetsObject segment place level limit shape
+  pub laid_out : IsLaidOut segment place next shape
+  pub all : places_in pointers ≡ shape.held
+  pub first : pointers.next.segment ≡ 0
+  pub before : end_of pointers ≤ after
+  pub left_is : left ≡ less limit shape.charge
+  pub after_is : after ≡ next + own_words shape.form (length shape.held)
+  pub room : after ≤ length segment
+
+-- what is met at a place: null, an object that is not canonical by itself, or one that is
+abbrev pub IsMet : List ℕ → Place → ℕ → Option ℕ → Option ℕ → ℕ → ℕ → Met → Type 0
+IsMet segment place level limit left next after Null =
+    (word_at (segment ∷ []) place ≡ Some 0) × (left ≡ limit) × (after ≡ next)
+IsMet segment place level limit left next after NotCanonical = Ends segment (place ∷ []) level limit next not_canonical
+IsMet segment place level limit left next after (Pointers pointers) =
+    MeetsPointers segment place level limit left next after pointers
+
+-- Whether a message is canonical is not said: it has no first segment, or the walk over its one segment is
+-- refused. A message of more segments is not canonical, whatever they hold.
+pub data Unsaid (m : List (List ℕ)) (level : ℕ) (limit : Option ℕ) : ErrorKind → Type 0 where
+  no_first_segment : m ≡ [] → Unsaid m level limit (InvalidSegmentId 0)
+  on_the_walk : {segment : List ℕ} {kind : ErrorKind} → m ≡ segment ∷ []
+      → Ends segment (root ∷ []) level limit 1 (refused kind) → Unsaid m level limit kind

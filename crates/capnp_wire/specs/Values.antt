@@ -1,0 +1,152 @@
+-- Values that are measured and written (src/layout/value.rt).
+use Rattle.std.specs.Prelude.{◌≡◌, ◌⊎◌, ℕ, ◌+◌, ◌-◌, ◌*◌, ◌^◌, ◌<◌, ◌≤◌, min, Bool, true, false, List, [], ◌∷◌, ◌++◌, Option, Some, None, MatchOption, length, slice_get}
+use Rattle.std.proofs.Common.{refl, ap}
+use Rattle.capnp_frame.specs.declared.error.ErrorKind.{ErrorKind}
+use Rattle.capnp_frame.specs.declared.error.ErrorKind.TheVariants.{AllocationTooLarge, CanonicalTooLarge}
+use Rattle.capnp_frame.specs.Words.{bytes_of}
+use Rattle.capnp_frame.specs.declared.words.Word.{Word}
+use Rattle.capnp_wire.specs.Pointer.{number_of, words_of, words_from}
+use Rattle.capnp_wire.specs.Element.{words_for}
+use Rattle.capnp_wire.specs.Object.{places}
+use Rattle.capnp_wire.specs.Views.{Pointer, Struct}
+use Rattle.capnp_wire.specs.Tree.{null, struct, numbers, Trees, none, tree, count, depth, total_words}
+use Rattle.capnp_wire.specs.Reached.{At, at, nowhere}
+use Rattle.capnp_wire.specs.Trim.{trim}
+use Rattle.capnp_wire.specs.Layout.{canon, formed, AllHaveRoom}
+use Rattle.capnp_wire.specs.Charge.{Within}
+use Rattle.capnp_wire.specs.Faults.{StopsWalk}
+use Rattle.capnp_wire.specs.declared.layout.place.Place.{Place}
+use Rattle.capnp_wire.specs.declared.layout.pointer.StructSize.{StructSize}
+
+-- the tree at a place, within a level and a limit
+pub record TreeAt (m : List (List ℕ)) (place : Place) (level : ℕ) (limit : Option ℕ) (trees : Trees) : Type 0 where
+  pub charge : ℕ
+  pub stand : At m (place ∷ []) trees charge
+  pub shallow : depth trees ≤ level
+  pub within : Within limit charge
+
+-- how a tree is refused that has so many words
+abbrev pub too_large : Bool → ℕ → ErrorKind
+too_large true words = CanonicalTooLarge
+too_large false words = AllocationTooLarge (min words (2 ^ 32 - 1))
+
+-- the words of its body, as it stands or in canonical form, where these are fewer than 2 ^ 29
+pub record Measured (m : List (List ℕ)) (place : Place) (level : ℕ) (limit : Option ℕ) (canonical : Bool) (words : ℕ) : Type 0 where
+  pub trees : Trees
+  pub tree_is : TreeAt m place level limit trees
+  pub rooms : AllHaveRoom trees
+  pub words_are : words ≡ total_words (formed canonical trees)
+  pub few : words < 2 ^ 29
+
+-- it is refused: where a walk over it stops, or for its words
+abbrev pub Unmeasured : List (List ℕ) → Place → ℕ → Option ℕ → Bool → ErrorKind → Type 0
+Unmeasured m place level limit canonical kind =
+    StopsWalk m (place ∷ []) level limit kind
+    ⊎ ((trees : Trees) × TreeAt m place level limit trees × (2 ^ 29 ≤ total_words (formed canonical trees))
+    × (kind ≡ too_large canonical (total_words (formed canonical trees))))
+
+-- a tree can be written into a block of just the words of its body
+pub record CanWrite (m : List (List ℕ)) (place : Place) (level : ℕ) (canonical : Bool) (bytes : ℕ) : Type 0 where
+  pub trees : Trees
+  pub charge : ℕ
+  pub stand : At m (place ∷ []) trees charge
+  pub shallow : depth trees ≤ level
+  pub rooms : AllHaveRoom trees
+  pub size : bytes ≡ 8 * total_words (formed canonical trees)
+  pub few : total_words (formed canonical trees) < 2 ^ 29
+
+-- What is measured of a value, by the trees that it may be; it is one tree, or none.
+pub record HasWords (has_tree : Trees → Type 0) (canonical : Bool) (words : ℕ) : Type 0 where
+  pub trees : Trees
+  pub tree_is : has_tree trees
+  pub rooms : AllHaveRoom trees
+  pub words_are : words ≡ total_words (formed canonical trees)
+  pub few : words < 2 ^ 29
+
+-- It has no tree, for this reason, or a tree of too many words.
+abbrev pub LacksWords : (Trees → Type 0) → (ErrorKind → Type 0) → Bool → ErrorKind → Type 0
+LacksWords has_tree refuses canonical kind =
+    refuses kind
+    ⊎ ((trees : Trees) × has_tree trees × (2 ^ 29 ≤ total_words (formed canonical trees))
+    × (kind ≡ too_large canonical (total_words (formed canonical trees))))
+
+-- the tree that a pointer leads to, within its level and its limit, and where a walk over it stops
+abbrev pub LeadsToTree : Pointer → Trees → Type 0
+LeadsToTree pointer trees = MatchOption pointer.place (trees ≡ tree null none none)
+    (λ place. TreeAt pointer.message place pointer.level pointer.limit trees)
+
+abbrev pub StopsWalkFrom : Pointer → ErrorKind → Type 0
+StopsWalkFrom pointer kind = (place : Place) × (pointer.place ≡ Some place)
+    × StopsWalk pointer.message (place ∷ []) pointer.level pointer.limit kind
+
+-- the tree of a struct that is read, within its level and its limit, and where a walk over its pointers stops
+pub record IsTreeOf (fields : Struct) (trees : Trees) : Type 0 where
+  pub held : Trees
+  pub charge : ℕ
+  pub stand : At fields.message fields.held held charge
+  pub shallow : depth held ≤ fields.level
+  pub within : Within fields.limit charge
+  pub whole : trees ≡ tree (struct fields.words) held none
+
+abbrev pub StopsInside : Struct → ErrorKind → Type 0
+StopsInside fields kind = StopsWalk fields.message fields.held fields.level fields.limit kind
+
+-- a struct whose words stand in a segment
+abbrev pub fields_at : List (List ℕ) → List ℕ → Place → StructSize → ℕ → Option ℕ → Struct
+fields_at m words start size level limit = record {
+  message = m;
+  words = words_from words start.word size.data_words;
+  held = places start.segment (start.word + size.data_words) size.pointers;
+  level = level;
+  limit = limit;
+}
+
+-- where it has pointers, that segment is one of the message's
+abbrev pub HoldsPointers : List (List ℕ) → List ℕ → Place → StructSize → Type 0
+HoldsPointers m words start size = 0 < size.pointers → slice_get m start.segment ≡ Some words
+
+-- bytes, and how more of them than a list may have are refused
+abbrev pub IsBytes : List ℕ → Trees → Type 0
+IsBytes bytes trees = (length bytes < 2 ^ 29) × (trees ≡ tree (numbers 2 bytes) none none)
+
+abbrev pub ManyBytes : List ℕ → ErrorKind → Type 0
+ManyBytes bytes kind =
+    (2 ^ 29 ≤ length bytes) × (kind ≡ AllocationTooLarge (min (words_for (length bytes) 8) (2 ^ 32 - 1)))
+
+-- a pointer word and a block behind it
+abbrev pub pointed : Word → List ℕ → List ℕ
+pointed word block = number_of 256 (bytes_of word) ∷ words_of block
+
+-- the canonical form of the tree that a pointer leads to
+pub record IsCanonicalForm (pointer : Pointer) (words : List ℕ) : Type 0 where
+  pub trees : Trees
+  pub tree_is : LeadsToTree pointer trees
+  pub rooms : AllHaveRoom trees
+  pub few : total_words (trim trees) < 2 ^ 29
+  pub words_are : words ≡ canon trees
+
+-- text, with the zero byte at its end
+abbrev pub IsTextOf : List ℕ → Trees → Type 0
+IsTextOf bytes trees = IsBytes (bytes ++ 0 ∷ []) trees
+
+abbrev pub LongText : List ℕ → ErrorKind → Type 0
+LongText bytes kind = ManyBytes (bytes ++ 0 ∷ []) kind
+
+-- a list of words, and how more of them than a list may have are refused
+abbrev pub IsWordList : List ℕ → Trees → Type 0
+IsWordList words trees = (length words < 2 ^ 29) × (trees ≡ tree (numbers 5 words) none none)
+
+abbrev pub ManyWords : List ℕ → ErrorKind → Type 0
+ManyWords words kind = (2 ^ 29 ≤ length words) × (kind ≡ AllocationTooLarge (min (length words) (2 ^ 32 - 1)))
+
+-- a pointer leads to one tree
+one_there : (m : List (List ℕ)) (place : Place) (trees : Trees) (charge : ℕ) → At m (place ∷ []) trees charge → count trees ≡ 1
+one_there m place trees charge (at object inner nowhere) = refl
+
+one_at : (o : Option Place) (m : List (List ℕ)) (level : ℕ) (limit : Option ℕ) (trees : Trees) → MatchOption o (trees ≡ tree null none none) (λ place. TreeAt m place level limit trees)
+    → count trees ≡ 1
+one_at None m level limit trees is = ap count is
+one_at (Some place) m level limit trees is = one_there m place trees is.charge is.stand
+
+pub one_value : (pointer : Pointer) (trees : Trees) → LeadsToTree pointer trees → count trees ≡ 1
+one_value pointer trees is = one_at pointer.place pointer.message pointer.level pointer.limit trees is

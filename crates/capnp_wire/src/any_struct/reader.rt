@@ -1,0 +1,142 @@
+//! Structs that are read.
+ghost use Rattle.std.specs.Prelude.{◌≡◌, ◌+◌, ◌/◌, ◌≤◌, length, slice_index, MatchResult};
+ghost use Rattle.capnp_wire.specs.Pointer.{words_of};
+ghost use Rattle.capnp_wire.specs.Object.{message_of};
+ghost use Rattle.capnp_wire.specs.Values.{HoldsPointers};
+
+use crate::any_pointer;
+use crate::entered::wrong_kind;
+use crate::layout::place::{Place, word};
+use crate::layout::pointer::StructSize;
+use crate::read_limiter::ReadLimiter;
+use crate::traits::FromPointerReader;
+use capnp_frame::Result;
+use capnp_frame::message::ReaderSegments;
+
+/// A struct in a message.
+#[derive(Drop)]
+pub struct StructReader<'a, S: ReaderSegments> {
+    pub(crate) segments: &'a S,
+    pub(crate) limiter: Option<&'a ReadLimiter>,
+    pub(crate) segment: &'a [u8],
+    pub(crate) start: Place,
+    pub(crate) size: StructSize,
+    pub(crate) level: u32,
+    ghost room: { start.word + (size.data_words + size.pointers) ≤ length segment.now / 8 },
+    ghost content: { HoldsPointers (message_of (S.segments segments.now)) (words_of segment.now)
+        start size },
+}
+
+impl<'a, S: ReaderSegments> StructReader<'a, S> {
+    ghost use Rattle.capnp_wire.specs.Readers.{struct_of, pointer_of};
+    ghost use Rattle.capnp_wire.specs.Views.{pointer_in, IsStruct, Refuses, DeclinesStruct};
+
+    /// The number of data words.
+    pub fn data_words(&self) -> u16
+        ensures { result ≡ length (struct_of S.segments self.now).words }
+    {
+        self.size.data_words
+    }
+
+    /// A data word; 0 past the last one.
+    pub fn get_word(&self, index: u16) -> u64
+        ensures { result ≡ slice_index (struct_of S.segments self.now).words index }
+    {
+        if index < self.size.data_words {
+            match word(self.segment, self.start.word + index as usize) {
+                Some(word) => word,
+                None => 0,
+            }
+        } else {
+            0
+        }
+    }
+
+    /// The number of pointers.
+    pub fn pointers(&self) -> u16
+        ensures { result ≡ length (struct_of S.segments self.now).held }
+    {
+        self.size.pointers
+    }
+
+    /// A pointer; null past the last one.
+    pub fn get_pointer(&self, index: u16) -> any_pointer::Reader<'a, S>
+        ensures { pointer_of S.segments result ≡ pointer_in (struct_of S.segments self.now) index }
+    {
+        let place = if index < self.size.pointers {
+            Some(Place {
+                segment: self.start.segment,
+                word: self.start.word + self.size.data_words as usize + index as usize,
+            })
+        } else {
+            None
+        };
+        any_pointer::Reader {
+            segments: self.segments,
+            limiter: self.limiter,
+            place,
+            level: self.level,
+        }
+    }
+
+    // The struct that a pointer leads to.
+    fn read(reader: &any_pointer::Reader<'a, S>) -> Result<StructReader<'a, S>>
+        ensures { let pointer = pointer_of S.segments reader.now in MatchResult result
+            (λ view. IsStruct pointer (struct_of S.segments view))
+            (λ error. Refuses pointer DeclinesStruct error.kind) }
+    {
+        let segments = reader.segments;
+        let limiter = reader.limiter;
+        let level = reader.level.saturating_sub(1);
+        let Some(object) = reader.enter()? else {
+            return Ok(StructReader {
+                segments,
+                limiter,
+                segment: &[],
+                start: Place {
+                    segment: 0,
+                    word: 0,
+                },
+                size: StructSize {
+                    data_words: 0,
+                    pointers: 0,
+                },
+                level,
+            });
+        };
+        let Some(size) = object.body.as_struct() else {
+            return Err(wrong_kind());
+        };
+        Ok(StructReader {
+            segments,
+            limiter,
+            segment: object.segment,
+            start: object.start,
+            size,
+            level,
+        })
+    }
+}
+
+// No data and no pointers from null; any object but a struct is refused by `WrongPointerKind`.
+impl<'a, S: ReaderSegments> FromPointerReader<'a, S> for StructReader<'a, S> {
+    ghost use Rattle.capnp_wire.specs.Readers.{struct_of, pointer_of};
+    ghost use Rattle.capnp_wire.specs.Views.{IsViewOf, Accepts, Refuses, Declines, IsStruct, TakesStruct, DeclinesStruct};
+
+    ghost shows = { λ pointer view. IsStruct pointer (struct_of S.segments view) };
+
+    ghost accepts = { λ pointer. Accepts pointer TakesStruct };
+
+    ghost refuses = { λ pointer kind. Refuses pointer DeclinesStruct kind };
+
+    ghost declines = { λ pointer kind. Declines pointer DeclinesStruct kind };
+
+    fn get_from_pointer(reader: any_pointer::Reader<'a, S>) -> Result<Self>
+        ensures { let pointer = pointer_of S.segments reader.entry in IsViewOf pointer
+            (λ view. IsStruct pointer (struct_of S.segments view))
+            (Accepts pointer TakesStruct) (Refuses pointer DeclinesStruct)
+            (Declines pointer DeclinesStruct) result }
+    {
+        StructReader::read(&reader)
+    }
+}

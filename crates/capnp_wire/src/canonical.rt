@@ -1,0 +1,67 @@
+//! The canonical form of what a pointer leads to: one segment, in which equal trees have equal words.
+ghost use Rattle.std.specs.Prelude.{◌≡◌, ◌⊎◌, ◌+◌, ◌*◌, ℕ, true, length, replicate, Ok, IfErr, MatchResult};
+ghost use Rattle.std.specs.Result.{IsErrAnd};
+ghost use Rattle.capnp_frame.specs.declared.error.ErrorKind.{ErrorKind};
+ghost use Rattle.capnp_frame.specs.declared.error.ErrorKind.TheVariants.{OutOfMemory};
+ghost use Rattle.capnp_wire.specs.Pointer.{words_of};
+ghost use Rattle.capnp_wire.specs.Readers.{pointer_of};
+ghost use Rattle.capnp_wire.specs.Values.{HasWords, LacksWords, LeadsToTree, StopsWalkFrom, IsCanonicalForm};
+
+use crate::any_pointer;
+use crate::traits::SetterInput;
+use capnp_frame::Result;
+use capnp_frame::message::ReaderSegments;
+use std::alloc::Global;
+
+/// The words of the canonical form of what a pointer leads to, with the root pointer.
+///
+/// It is refused where a walk over the tree stops, and by `CanonicalTooLarge` above 2^29 words.
+pub fn canonical_size<S: ReaderSegments>(reader: &any_pointer::Reader<'_, S>) -> Result<u32>
+    ensures answer { let pointer = pointer_of S.segments reader.now in MatchResult result
+        (λ words. (behind : ℕ) × HasWords (LeadsToTree pointer) true behind × (words ≡ behind + 1))
+        (λ error. LacksWords (LeadsToTree pointer) (StopsWalkFrom pointer) true error.kind) }
+    ensures found { (behind : ℕ) →
+        HasWords (LeadsToTree (pointer_of S.segments reader.now)) true behind →
+        result ≡ Ok (behind + 1) }
+    ensures exact { let pointer = pointer_of S.segments reader.now in
+        (kind : ErrorKind) → LacksWords (LeadsToTree pointer) (StopsWalkFrom pointer) true kind →
+        IsErrAnd result (λ error. error.kind ≡ kind) }
+{
+    let behind = reader.measure(true)?;
+    Ok(behind + 1)
+}
+
+/// The canonical form of what a pointer leads to, as bytes.
+pub fn canonical_bytes<S: ReaderSegments>(
+    alloc: Global,
+    reader: &any_pointer::Reader<'_, S>,
+) -> Result<Vec<u8>>
+    ensures answer { let pointer = pointer_of S.segments reader.now in MatchResult result
+        (λ bytes. IsCanonicalForm pointer (words_of bytes.items))
+        (λ error. LacksWords (LeadsToTree pointer) (StopsWalkFrom pointer) true error.kind
+        ⊎ (error.kind ≡ OutOfMemory)) }
+    ensures found { (behind : ℕ) →
+        HasWords (LeadsToTree (pointer_of S.segments reader.now)) true behind →
+        IfErr result (λ error. error.kind ≡ OutOfMemory) }
+    ensures exact { let pointer = pointer_of S.segments reader.now in
+        (kind : ErrorKind) → LacksWords (LeadsToTree pointer) (StopsWalkFrom pointer) true kind →
+        IsErrAnd result (λ error. error.kind ≡ kind) }
+{
+    let words = canonical_size(reader)? as usize;
+    let mut bytes = vec![in alloc; 0u8; 8 * words]?;
+    write_whole(reader, &mut bytes);
+    Ok(bytes)
+}
+
+// Writes the canonical form of what a pointer leads to into zeros of just its words.
+fn write_whole<S: ReaderSegments>(reader: &any_pointer::Reader<'_, S>, bytes: &mut [u8])
+    requires words { (behind : ℕ)
+        × HasWords (LeadsToTree (pointer_of S.segments reader.now)) true behind
+        × (length bytes.old ≡ 8 * (behind + 1)) }
+    requires zero { bytes.old ≡ replicate (length bytes.old) 0 }
+    ensures form { IsCanonicalForm (pointer_of S.segments reader.now) (words_of bytes.new) }
+    ensures len { length bytes.new ≡ length bytes.old }
+{
+    let pointer = reader.write(true, &mut bytes[8..]);
+    bytes[..8].copy_from_slice(&pointer.bytes());
+}

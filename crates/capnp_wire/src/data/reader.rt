@@ -1,0 +1,46 @@
+//! Bytes that are read.
+ghost use Rattle.std.specs.Prelude.{MatchResult};
+ghost use Rattle.capnp_wire.specs.Views.{IsViewOf, Accepts, Reads, Refuses, Declines, IsData, TakesNumbers, DeclinesNumbers};
+ghost use Rattle.capnp_wire.specs.Readers.{pointer_of};
+
+use crate::any_pointer;
+use crate::traits::FromPointerReader;
+use capnp_frame::Result;
+use capnp_frame::message::ReaderSegments;
+
+/// The bytes themselves.
+pub type Reader<'a> = &'a [u8];
+
+// Empty from null, else the bytes of a list of bytes; any other object is refused by
+// `WrongPointerKind`.
+impl<'a, S: ReaderSegments> FromPointerReader<'a, S> for &'a [u8] {
+    ghost shows = { λ pointer view. Reads pointer (λ form. IsData form view.now) };
+
+    ghost accepts = { λ pointer. Accepts pointer (TakesNumbers 2) };
+
+    ghost refuses = { λ pointer kind. Refuses pointer (DeclinesNumbers 2) kind };
+
+    ghost declines = { λ pointer kind. Declines pointer (DeclinesNumbers 2) kind };
+
+    fn get_from_pointer(reader: any_pointer::Reader<'a, S>) -> Result<Self>
+        ensures { let pointer = pointer_of S.segments reader.entry in IsViewOf pointer
+            (λ view. Reads pointer (λ form. IsData form view.now))
+            (Accepts pointer (TakesNumbers 2)) (Refuses pointer (DeclinesNumbers 2))
+            (Declines pointer (DeclinesNumbers 2)) result }
+    {
+        read_bytes(&reader)
+    }
+}
+
+// The bytes of a list of bytes.
+fn read_bytes<'a, S: ReaderSegments>(reader: &any_pointer::Reader<'a, S>) -> Result<&'a [u8]>
+    ensures { let pointer = pointer_of S.segments reader.now in MatchResult result
+        (λ bytes. Reads pointer (λ form. IsData form bytes.now))
+        (λ error. Refuses pointer (DeclinesNumbers 2) error.kind) }
+{
+    let Some(object) = reader.enter()? else {
+        return Ok(&[]);
+    };
+    let bytes = object.bytes()?;
+    Ok(bytes)
+}

@@ -1,0 +1,198 @@
+//! Walks that test whether objects stand as the canonical form has them.
+ghost use Rattle.std.specs.Prelude.{◌≡◌, ◌↔◌, ◌+◌, ◌/◌, ◌^◌, ◌<◌, ◌≤◌, [], ◌∷◌, length, Option, IfOk, IfErr, IsTrue, true, false};
+ghost use Rattle.capnp_wire.specs.Pointer.{words_of};
+ghost use Rattle.capnp_wire.specs.Object.{message_of};
+ghost use Rattle.capnp_wire.specs.Landing.{shape_of, room_of, words_in};
+ghost use Rattle.std.specs.Result.{IsErrAnd};
+ghost use Rattle.capnp_frame.specs.declared.error.ErrorKind.{ErrorKind};
+ghost use Rattle.capnp_wire.specs.Reached.{root};
+ghost use Rattle.capnp_wire.specs.Canonical.{IsCanonical};
+ghost use Rattle.capnp_wire.specs.Rows.{places_in, end_of};
+ghost use Rattle.capnp_wire.specs.Tested.{NextOf, PaddedOf, IsTight, links_at, PassesAt, IsMet, Ends, refused, not_canonical};
+ghost use Rattle.capnp_wire.specs.declared.layout.place.Place.{Place};
+
+use crate::layout::object::{Object, object_at};
+use crate::layout::place::{Place, pointer_at};
+use crate::layout::rows::PointerRows;
+use crate::layout::tested::{body_is_padded, is_next, is_tight};
+use crate::layout::walk::Walk;
+use capnp_frame::Result;
+use capnp_frame::message::ReaderSegments;
+
+/// A walk over the objects of a message of one segment, and the first word behind those that it
+/// met.
+#[derive(Drop)]
+pub(crate) struct CanonicalWalk {
+    walk: Walk,
+    next: usize,
+}
+
+/// What a pointer leads to: null, an object that doesn't stand as the canonical form has it, or one
+/// that does, by itself, with the pointers that are still to be tested.
+#[derive(Drop)]
+pub(crate) enum Met {
+    Null,
+    NotCanonical,
+    Pointers(PointerRows),
+}
+
+impl CanonicalWalk {
+    /// A walk that has met nothing: only the root pointer stands before the next free word.
+    pub(crate) fn new(limit: Option<usize>) -> CanonicalWalk
+        ensures left { result.walk.left ≡ limit }
+        ensures next { result.next ≡ 1 }
+    {
+        CanonicalWalk {
+            walk: Walk::new(limit),
+            next: 1,
+        }
+    }
+
+    /// The first word behind all objects that it has met.
+    pub(crate) fn next(&self) -> usize
+        ensures { result ≡ self.now.next }
+    {
+        self.next
+    }
+
+    /// Whether the object that the pointer at a word leads to, and all below it, stand as the
+    /// canonical form has them, from the next free word on. It goes in preorder, and stops at the
+    /// first that doesn't, or at the first refusal.
+    #[cycle(test)]
+    pub(crate) fn test<S: ReaderSegments>(
+        &mut self,
+        segments: &S,
+        segment: &[u8],
+        word: usize,
+        level: u32,
+    ) -> Result<bool>
+        requires one { message_of (S.segments segments.now) ≡ words_of segment.now ∷ [] }
+        requires before { word < self.now.next }
+        requires within { self.now.next ≤ length segment.now / 8 }
+        ensures passed { let place : Place = record { segment = 0; word = word } in
+            IfOk result (λ passes. passes ≡ true →
+            PassesAt (words_of segment.now) (place ∷ []) level
+            self.old.walk.left self.new.walk.left self.old.next self.new.next) }
+        ensures ended { let place : Place = record { segment = 0; word = word } in
+            IfOk result (λ passes. passes ≡ false → Ends (words_of segment.now) (place ∷ []) level
+            self.old.walk.left self.old.next not_canonical) }
+        ensures refused { let place : Place = record { segment = 0; word = word } in
+            IfErr result (λ error. Ends (words_of segment.now) (place ∷ []) level
+            self.old.walk.left self.old.next (refused error.kind)) }
+    {
+        match self.meet(segments, segment, word, level)? {
+            Met::Null => Ok(true),
+            Met::NotCanonical => Ok(false),
+            Met::Pointers(pointers) => self.test_pointers(segments, segment, pointers, level - 1),
+        }
+    }
+
+    // The same of all objects that these pointers lead to.
+    #[cycle(test)]
+    fn test_pointers<S: ReaderSegments>(
+        &mut self,
+        segments: &S,
+        segment: &[u8],
+        mut pointers: PointerRows,
+        level: u32,
+    ) -> Result<bool>
+        requires one { message_of (S.segments segments.now) ≡ words_of segment.now ∷ [] }
+        requires first { pointers.next.segment ≡ 0 }
+        requires before { end_of pointers ≤ self.now.next }
+        requires within { self.now.next ≤ length segment.now / 8 }
+        ensures passed { IfOk result (λ passes. passes ≡ true →
+            PassesAt (words_of segment.now) (places_in pointers) level
+            self.old.walk.left self.new.walk.left self.old.next self.new.next) }
+        ensures ended { IfOk result (λ passes. passes ≡ false → Ends (words_of segment.now)
+            (places_in pointers) level self.old.walk.left self.old.next not_canonical) }
+        ensures refused { IfErr result (λ error.
+            Ends (words_of segment.now) (places_in pointers) level
+            self.old.walk.left self.old.next (refused error.kind)) }
+    {
+        'pointers: while !pointers.is_empty() {
+            let place = pointers.take();
+            if !self.test(segments, segment, place.word, level)? {
+                return Ok(false);
+            }
+        }
+        Ok(true)
+    }
+
+    // Enters the object that the pointer at a word leads to, and tests it by itself.
+    fn meet<S: ReaderSegments>(
+        &mut self,
+        segments: &S,
+        segment: &[u8],
+        word: usize,
+        level: u32,
+    ) -> Result<Met>
+        requires one { message_of (S.segments segments.now) ≡ words_of segment.now ∷ [] }
+        requires before { word < self.now.next }
+        requires within { self.now.next ≤ length segment.now / 8 }
+        ensures found { let place : Place = record { segment = 0; word = word } in
+            IfOk result (λ met. IsMet (words_of segment.now) place level
+            self.old.walk.left self.new.walk.left self.old.next self.new.next met) }
+        ensures refused { let place : Place = record { segment = 0; word = word } in
+            IfErr result (λ error. Ends (words_of segment.now) (place ∷ []) level
+            self.old.walk.left self.old.next (refused error.kind)) }
+    {
+        let place = Place { segment: 0, word };
+        let pointer = pointer_at(segments, place)?;
+        if pointer % 4 == 2 {
+            return Ok(Met::NotCanonical);
+        }
+        let Some(object) = object_at(segments, place, level)? else {
+            return Ok(Met::Null);
+        };
+        self.walk.enter(&object, false)?;
+        if !is_laid_out(segment, pointer, word, self.next, &object) {
+            return Ok(Met::NotCanonical);
+        }
+        self.next += object.body.words() as usize;
+        Ok(Met::Pointers(object.pointers()))
+    }
+}
+
+/// Whether the one segment of a message is the canonical form of its root tree.
+pub(crate) fn is_canonical<S: ReaderSegments>(
+    segments: &S,
+    segment: &[u8],
+    level: u32,
+    limit: Option<usize>,
+) -> Result<bool>
+    requires { message_of (S.segments segments.now) ≡ words_of segment.now ∷ [] }
+    ensures said { IfOk result (λ is. IsTrue is ↔ IsCanonical (words_of segment.now ∷ [])) }
+    ensures refused { IfErr result (λ error.
+        Ends (words_of segment.now) (root ∷ []) level limit 1 (refused error.kind)) }
+    ensures exact { (kind : ErrorKind) →
+        Ends (words_of segment.now) (root ∷ []) level limit 1 (refused kind) →
+        IsErrAnd result (λ error. error.kind ≡ kind) }
+{
+    let root = Place {
+        segment: 0,
+        word: 0,
+    };
+    pointer_at(segments, root)?;
+    let mut walk = CanonicalWalk::new(limit);
+    let passes = walk.test(segments, segment, 0, level)?;
+    Ok(passes && walk.next() == segment.len() / 8)
+}
+
+// Whether an object stands as the canonical form has it, by itself.
+fn is_laid_out(segment: &[u8], pointer: u64, word: usize, next: usize, object: &Object<'_>) -> bool
+    requires before { word < next }
+    requires bound { next < 2 ^ 62 }
+    requires room { object.now.start.word + room_of object.now.body
+        ≤ length object.now.segment.now / 8 }
+    requires elements { words_in object.now.body ≤ room_of object.now.body }
+    ensures { let words = words_of object.now.segment.now in
+        let shape = shape_of words object.now.start object.now.body in
+        let is_next = NextOf pointer word next object.now.body in
+        (is_next → next + words_in object.now.body ≤ length segment.now / 8) →
+        IsTrue result ↔ (is_next × PaddedOf (words_of segment.now) next object.now.body
+        × IsTight shape.form (links_at words shape.held)) }
+{
+    is_next(pointer, word, next, object.body)
+        && body_is_padded(segment, next, object.body)
+        && is_tight(object)
+}

@@ -1,0 +1,200 @@
+//! Copies of objects, laid out one behind the other in one block of words.
+ghost use Rattle.std.specs.Prelude.{◌≡◌, ◌+◌, ◌-◌, ◌*◌, ◌/◌, ◌^◌, ◌<◌, ◌≤◌, ℕ, [], ◌∷◌, length, Some, MatchOption};
+ghost use Rattle.capnp_wire.specs.Pointer.{words_of};
+ghost use Rattle.capnp_wire.specs.Tree.{Trees, depth, total_words};
+ghost use Rattle.capnp_wire.specs.Object.{message_of, word_at, rows_from};
+ghost use Rattle.capnp_wire.specs.Landing.{IsObject, room_of, words_in};
+ghost use Rattle.capnp_wire.specs.Reached.{At};
+ghost use Rattle.capnp_wire.specs.Layout.{formed};
+ghost use Rattle.capnp_wire.specs.Block.{put_rows, fill};
+ghost use Rattle.capnp_wire.specs.Rows.{row_size, kept_in, slots_of};
+ghost use Rattle.capnp_wire.specs.Copy.{CanCopy, IsCopied, put_own, element_count, IsNarrower};
+
+use crate::layout::block::{put_elements, put_word, put_words};
+use crate::layout::formed::formed_as;
+use crate::layout::object::{Body, Object, object_at};
+use crate::layout::place::Place;
+use crate::layout::pointer::Elements;
+use crate::layout::pointer_word::{pointer_word, struct_word};
+use crate::layout::rows::PointerRows;
+use capnp_frame::message::ReaderSegments;
+
+/// The pointer word to a copy, and the first free word behind it.
+#[derive(Clone, Copy)]
+pub(crate) struct Copied {
+    pub pointer: u64,
+    pub next: usize,
+}
+
+/// Copies the object that the pointer at a place leads to, with all below it, into a block from the
+/// word `next` on. The pointer to the copy stands just before the word `behind`.
+#[cycle(copy)]
+pub(crate) fn copy<S: ReaderSegments>(
+    segments: &S,
+    place: Place,
+    level: u32,
+    canonical: bool,
+    block: &mut [u8],
+    behind: usize,
+    next: usize,
+) -> Copied
+    requires there { CanCopy (message_of (S.segments segments.now)) (place ∷ []) level canonical
+        next (length block.old / 8) }
+    requires behind { behind ≤ next }
+    requires small { length block.old / 8 < 2 ^ 29 }
+    ensures copied { let m = message_of (S.segments segments.now) in
+        (trees : Trees) (charge : ℕ) → At m (place ∷ []) trees charge →
+        IsCopied (formed canonical trees) (next - behind) next
+        (words_of block.old) (words_of block.new) result }
+    ensures len { length block.new ≡ length block.old }
+{
+    let Some(object) = object_there(segments, place, level) else {
+        return Copied { pointer: 0, next };
+    };
+    let copied = formed_as(&object, canonical);
+    put_own_words(&object, copied, block, next);
+    let free = copy_pointers(segments, &object, copied, level - 1, canonical, block, next);
+    Copied {
+        pointer: pointer_word(copied, (next - behind) as u64),
+        next: free,
+    }
+}
+
+/// Copies what the pointers of an object lead to, one behind the other behind its own copy, which
+/// begins at the word `next`, and puts the pointers to these copies into that. Answers the first
+/// free word.
+#[cycle(copy)]
+pub(crate) fn copy_pointers<S: ReaderSegments>(
+    segments: &S,
+    object: &Object<'_>,
+    copied: Body,
+    level: u32,
+    canonical: bool,
+    block: &mut [u8],
+    next: usize,
+) -> usize
+    requires there { CanCopy (message_of (S.segments segments.now))
+        (kept_in object.now.start object.now.body (row_size copied).pointers)
+        level canonical (next + words_in copied) (length block.old / 8) }
+    requires narrower { IsNarrower object.now.body copied }
+    requires room { object.now.start.word + room_of object.now.body
+        ≤ length object.now.segment.now / 8 }
+    requires elements { words_in object.now.body ≤ room_of object.now.body }
+    requires small { length block.old / 8 < 2 ^ 29 }
+    ensures words { let m = message_of (S.segments segments.now) in (trees : Trees) (charge : ℕ) →
+        At m (kept_in object.now.start object.now.body (row_size copied).pointers) trees charge →
+        words_of block.new ≡ fill (slots_of next copied) (next + words_in copied)
+        (formed canonical trees) (words_of block.old) }
+    ensures next { let m = message_of (S.segments segments.now) in (trees : Trees) (charge : ℕ) →
+        At m (kept_in object.now.start object.now.body (row_size copied).pointers) trees charge →
+        result ≡ next + words_in copied + total_words (formed canonical trees) }
+    ensures len { length block.new ≡ length block.old }
+{
+    let kept = copied.row_size().pointers;
+    let mut from = PointerRows::of(object.start, object.body, kept);
+    let begin = Place {
+        segment: 0,
+        word: next,
+    };
+    let mut to = PointerRows::of(begin, copied, kept);
+    let mut free = next + copied.words() as usize;
+    'pointers: while !from.is_empty() {
+        let source = from.take();
+        let slot = to.take().word;
+        let inner = copy(segments, source, level, canonical, block, slot + 1, free);
+        put_word(block, slot, inner.pointer);
+        free = inner.next;
+    }
+    free
+}
+
+// The object that the pointer at a place leads to, where a tree stands there; `None` for null.
+fn object_there<S: ReaderSegments>(segments: &S, place: Place, level: u32) -> Option<Object<'_>>
+    requires { (trees : Trees) × (charge : ℕ)
+        × At (message_of (S.segments segments.now)) (place ∷ []) trees charge
+        × (depth trees ≤ level) }
+    ensures { let m = message_of (S.segments segments.now) in
+        MatchOption result (word_at m place ≡ Some 0)
+        (λ object. IsObject m place object × (0 < level)) }
+{
+    match object_at(segments, place, level) {
+        Ok(found) => found,
+        Err(_) => None,
+    }
+}
+
+/// Puts the words of a copy into a block, but for its pointers.
+pub(crate) fn put_own_words(object: &Object<'_>, copied: Body, block: &mut [u8], next: usize)
+    requires room { object.now.start.word + room_of object.now.body
+        ≤ length object.now.segment.now / 8 }
+    requires elements { words_in object.now.body ≤ room_of object.now.body }
+    requires narrower { IsNarrower object.now.body copied }
+    requires many { element_count copied < 2 ^ 30 }
+    requires fits { next + words_in copied ≤ length block.old / 8 }
+    ensures words { words_of block.new
+        ≡ put_own (words_of object.now.segment.now) object.now.start.word object.now.body copied
+        next (words_of block.old) }
+    ensures len { length block.new ≡ length block.old }
+{
+    let start = object.start.word;
+    match copied {
+        Body::Struct(size) => put_words(
+            block,
+            next,
+            object.segment,
+            start,
+            size.data_words as usize,
+        ),
+        Body::Numbers(size, count) => put_elements(block, next, object.segment, start, size, count),
+        Body::Pointers(_) => {}
+        Body::Structs(elements, _) => {
+            put_word(
+                block,
+                next,
+                struct_word(elements.count as u64, elements.size),
+            );
+            if let Body::Structs(from, _) = object.body {
+                put_rows(
+                    block,
+                    next + 1,
+                    elements,
+                    object.segment,
+                    start + 1,
+                    from.size.words() as usize,
+                );
+            }
+        }
+    }
+}
+
+// Puts the data of structs into a block, each before the room for its pointers.
+fn put_rows(
+    block: &mut [u8],
+    next: usize,
+    elements: Elements,
+    segment: &[u8],
+    start: usize,
+    step: usize,
+)
+    requires inside { elements.size.data_words ≤ step }
+    requires small { step < 2 ^ 32 }
+    requires there { start + elements.count * step ≤ length segment.now / 8 }
+    requires room { next + elements.count * (elements.size.data_words + elements.size.pointers)
+        ≤ length block.old / 8 }
+    ensures words { words_of block.new ≡ put_rows next elements.size.pointers
+        (rows_from (words_of segment.now) start elements.size.data_words
+        (step - elements.size.data_words) elements.count) (words_of block.old) }
+    ensures len { length block.new ≡ length block.old }
+{
+    let data_words = elements.size.data_words as usize;
+    if data_words == 0 {
+        return;
+    }
+    let mut from = start;
+    let mut to = next;
+    'rows: for _row in 0..elements.count {
+        put_words(block, to, segment, from, data_words);
+        from += step;
+        to += elements.size.words() as usize;
+    }
+}

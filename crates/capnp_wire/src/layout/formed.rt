@@ -1,0 +1,52 @@
+//! Objects as they stand, or without what stands at their ends for nothing.
+ghost use Rattle.std.specs.Prelude.{◌≡◌, ◌+◌, ◌*◌, ◌/◌, ◌≤◌, length};
+ghost use Rattle.capnp_wire.specs.Pointer.{words_of};
+ghost use Rattle.capnp_wire.specs.Landing.{room_of, words_in};
+ghost use Rattle.capnp_wire.specs.Copy.{formed_body, least_size, IsNarrower};
+
+use crate::layout::block::most_used;
+use crate::layout::object::{Body, Object};
+use crate::layout::pointer::{Elements, StructSize};
+
+// What an object is once it is copied: in canonical form without what stands at the ends for
+// nothing.
+pub(crate) fn formed_as(object: &Object<'_>, canonical: bool) -> Body
+    requires room { object.now.start.word + room_of object.now.body
+        ≤ length object.now.segment.now / 8 }
+    requires elements { words_in object.now.body ≤ room_of object.now.body }
+    ensures narrower { IsNarrower object.now.body result }
+    ensures body { result ≡ formed_body canonical
+        (words_of object.now.segment.now) object.now.start.word object.now.body }
+{
+    if !canonical {
+        return object.body;
+    }
+    let start = object.start.word;
+    match object.body {
+        Body::Struct(size) => Body::Struct(least(object.segment, start, size, 1)),
+        Body::Structs(elements, words) => Body::Structs(
+            Elements {
+                size: least(object.segment, start + 1, elements.size, elements.count),
+                count: elements.count,
+            },
+            words,
+        ),
+        other => other,
+    }
+}
+
+// The words that some structs need which stand from a word on.
+fn least(segment: &[u8], start: usize, size: StructSize, count: u32) -> StructSize
+    requires { start + count * (size.data_words + size.pointers) ≤ length segment.now / 8 }
+    ensures size { result ≡ least_size (words_of segment.now) start size count }
+    ensures data { result.data_words ≤ size.data_words }
+    ensures pointers { result.pointers ≤ size.pointers }
+{
+    let data_words = size.data_words as usize;
+    let pointers = size.pointers as usize;
+    let step = data_words + pointers;
+    StructSize {
+        data_words: most_used(segment, start, data_words, step, count) as u16,
+        pointers: most_used(segment, start + data_words, pointers, step, count) as u16,
+    }
+}

@@ -1,0 +1,85 @@
+//! Structs that are read, as values: measured, and written into a block of their own.
+ghost use Rattle.std.specs.Prelude.{◌≡◌, ◌+◌, ◌/◌, ◌%◌, ◌<◌, ◌≤◌, ◌∷◌, ℕ, Option, length, MatchResult};
+ghost use Rattle.capnp_wire.specs.Pointer.{words_of};
+ghost use Rattle.capnp_wire.specs.Tree.{Trees};
+ghost use Rattle.capnp_wire.specs.Object.{message_of};
+ghost use Rattle.capnp_wire.specs.Layout.{layout, formed};
+ghost use Rattle.capnp_wire.specs.Values.{HasWords, LacksWords, IsTreeOf, StopsInside, HoldsPointers, fields_at};
+
+use crate::layout::copy::{copy_pointers, put_own_words};
+use crate::layout::formed::formed_as;
+use crate::layout::object::{Body, Object, words_fit};
+use crate::layout::place::Place;
+use crate::layout::pointer::StructSize;
+use crate::layout::pointer_word::pointer_word;
+use crate::layout::value::fitting;
+use crate::layout::walk::Walk;
+use capnp_frame::Result;
+use capnp_frame::message::ReaderSegments;
+
+/// The words of a struct with all below it, behind its pointer, as it stands or in canonical form.
+pub(crate) fn measure<S: ReaderSegments>(
+    segments: &S,
+    segment: &[u8],
+    start: Place,
+    size: StructSize,
+    level: u32,
+    limit: Option<usize>,
+    canonical: bool,
+) -> Result<u32>
+    requires room { start.word + (size.data_words + size.pointers) ≤ length segment.now / 8 }
+    requires content { HoldsPointers (message_of (S.segments segments.now))
+        (words_of segment.now) start size }
+    ensures { let fields = fields_at (message_of (S.segments segments.now))
+        (words_of segment.now) start size level limit in
+        MatchResult result (λ words. HasWords (IsTreeOf fields) canonical words)
+        (λ error. LacksWords (IsTreeOf fields) (StopsInside fields) canonical error.kind) }
+{
+    words_fit(segment);
+    let object = Object {
+        segment,
+        start,
+        body: Body::Struct(size),
+        charge: 0,
+    };
+    let mut walk = Walk::new(limit);
+    walk.count(formed_as(&object, canonical).words());
+    walk.walk_pointers(segments, object.pointers(), level, canonical)?;
+    fitting(walk.words(), canonical)
+}
+
+/// Writes the words of a struct with all below it into a block of just these, and answers the
+/// pointer to it for a block that follows this pointer at once.
+pub(crate) fn write<S: ReaderSegments>(
+    segments: &S,
+    segment: &[u8],
+    start: Place,
+    size: StructSize,
+    level: u32,
+    canonical: bool,
+    block: &mut [u8],
+) -> u64
+    requires room { start.word + (size.data_words + size.pointers) ≤ length segment.now / 8 }
+    requires content { HoldsPointers (message_of (S.segments segments.now))
+        (words_of segment.now) start size }
+    requires words { (limit : Option ℕ) × HasWords (IsTreeOf
+        (fields_at (message_of (S.segments segments.now))
+        (words_of segment.now) start size level limit)) canonical (length block.old / 8) }
+    requires whole { length block.old % 8 ≡ 0 }
+    ensures written { (limit : Option ℕ) (trees : Trees) →
+        IsTreeOf (fields_at (message_of (S.segments segments.now))
+        (words_of segment.now) start size level limit) trees →
+        result ∷ words_of block.new ≡ layout (formed canonical trees) }
+    ensures len { length block.new ≡ length block.old }
+{
+    let object = Object {
+        segment,
+        start,
+        body: Body::Struct(size),
+        charge: 0,
+    };
+    let copied = formed_as(&object, canonical);
+    put_own_words(&object, copied, block, 0);
+    copy_pointers(segments, &object, copied, level, canonical, block, 0);
+    pointer_word(copied, 0)
+}

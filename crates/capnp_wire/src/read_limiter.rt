@@ -1,0 +1,63 @@
+//! How many words of a message may still be read.
+ghost use Rattle.std.specs.Prelude.{◌≡◌, ◌≢◌, ◌<◌, None, IfErr, OnOk, OnErr};
+ghost use Rattle.capnp_frame.specs.declared.error.ErrorKind.{ErrorKind};
+ghost use Rattle.capnp_wire.specs.Charge.{Within};
+ghost use Rattle.capnp_wire.specs.Readers.{limit_of};
+
+use capnp_frame::{Error, ErrorKind, Result};
+use std::cell::Cell;
+
+/// The words that views have read of a message, and the most that they may.
+#[derive(Drop)]
+pub struct ReadLimiter {
+    pub(crate) limit: Option<usize>,
+    words_read: Cell<u64>,
+}
+
+impl ReadLimiter {
+    /// Nothing has been read.
+    pub(crate) fn new(limit: Option<usize>) -> ReadLimiter
+        ensures { result.limit ≡ limit }
+    {
+        ReadLimiter {
+            limit,
+            words_read: Cell::new(0),
+        }
+    }
+}
+
+/// The most words that may be read; none over a builder, whose readers have no limiter.
+pub(crate) fn limit_in_words(limiter: Option<&ReadLimiter>) -> Option<usize>
+    ensures { result ≡ limit_of limiter.entry }
+{
+    match limiter {
+        Some(limiter) => limiter.limit,
+        None => None,
+    }
+}
+
+/// Counts words that are read. A charge that would pass the limit is refused, and counts nothing; one of
+/// no words never is.
+pub(crate) fn charge(limiter: Option<&ReadLimiter>, words: u64) -> Result<()>
+    ensures kind { IfErr result (λ error. error.kind ≡ ErrorKind.ReadLimitExceeded) }
+    ensures limited { OnErr result (limit_of limiter.entry ≢ None) }
+    ensures some { OnErr result (0 < words) }
+    ensures enough { OnOk result (Within (limit_of limiter.entry) words) }
+{
+    let Some(limiter) = limiter else {
+        return Ok(());
+    };
+    let Some(limit) = limiter.limit else {
+        return Ok(());
+    };
+    if words == 0 {
+        return Ok(());
+    }
+    match limiter.words_read.get().checked_add(words) {
+        Some(total) if total <= limit as u64 => {
+            limiter.words_read.set(total);
+            Ok(())
+        }
+        _ => Err(Error::from_kind(ErrorKind::ReadLimitExceeded)),
+    }
+}

@@ -1,0 +1,83 @@
+//! Texts that are read.
+ghost use Rattle.std.specs.Prelude.{◌≡◌, ◌++◌, ◌∷◌, [], ℕ, List, length, MatchResult, MatchOption};
+ghost use Rattle.capnp_wire.specs.Views.{IsViewOf, Accepts, Reads, Refuses, Declines, IsText, TakesText, DeclinesText};
+ghost use Rattle.capnp_wire.specs.Readers.{pointer_of};
+
+use crate::any_pointer;
+use crate::traits::FromPointerReader;
+use capnp_frame::message::ReaderSegments;
+use capnp_frame::{Error, ErrorKind, Result};
+
+/// A text in a message, by its bytes.
+#[derive(Clone, Copy)]
+pub struct Reader<'a> {
+    pub(crate) bytes: &'a [u8],
+}
+
+impl<'a> Reader<'a> {
+    /// The bytes, without the zero byte that ends them in the message.
+    pub fn as_bytes(&self) -> &'a [u8]
+        ensures { result.now ≡ self.now.bytes.now }
+    {
+        self.bytes
+    }
+
+    /// The number of bytes.
+    pub fn len(&self) -> usize
+        ensures { result ≡ length self.now.bytes.now }
+    {
+        self.bytes.len()
+    }
+}
+
+// Empty from null, else the bytes of a list of bytes before the zero byte at its end, without which it
+// is refused by `TextNotTerminated`. Any other object is refused by `WrongPointerKind`.
+impl<'a, S: ReaderSegments> FromPointerReader<'a, S> for Reader<'a> {
+    ghost shows = { λ pointer view. Reads pointer (λ form. IsText form view.bytes.now) };
+
+    ghost accepts = { λ pointer. Accepts pointer TakesText };
+
+    ghost refuses = { λ pointer kind. Refuses pointer DeclinesText kind };
+
+    ghost declines = { λ pointer kind. Declines pointer DeclinesText kind };
+
+    fn get_from_pointer(reader: any_pointer::Reader<'a, S>) -> Result<Self>
+        ensures { let pointer = pointer_of S.segments reader.entry in IsViewOf pointer
+            (λ view. Reads pointer (λ form. IsText form view.bytes.now))
+            (Accepts pointer TakesText) (Refuses pointer DeclinesText)
+            (Declines pointer DeclinesText) result }
+    {
+        read_text(&reader)
+    }
+}
+
+// The text of a list of bytes.
+fn read_text<'a, S: ReaderSegments>(reader: &any_pointer::Reader<'a, S>) -> Result<Reader<'a>>
+    ensures { let pointer = pointer_of S.segments reader.now in MatchResult result
+        (λ view. Reads pointer (λ form. IsText form view.bytes.now))
+        (λ error. Refuses pointer DeclinesText error.kind) }
+{
+    let Some(object) = reader.enter()? else {
+        return Ok(Reader { bytes: &[] });
+    };
+    let bytes = object.bytes()?;
+    match before_zero(bytes) {
+        Some(bytes) => Ok(Reader { bytes }),
+        None => Err(Error::from_kind(ErrorKind::TextNotTerminated)),
+    }
+}
+
+// The bytes before a zero byte at the end.
+fn before_zero(bytes: &[u8]) -> Option<&[u8]>
+    ensures { MatchOption result ((text : List ℕ) → bytes.now ≡ text ++ 0 ∷ [] → ⊥)
+        (λ text. bytes.now ≡ text.now ++ 0 ∷ []) }
+{
+    let Some(end) = bytes.len().checked_sub(1) else {
+        return None;
+    };
+    let last = bytes[end];
+    if last != 0 {
+        return None;
+    }
+    Some(&bytes[..end])
+}
