@@ -1,3 +1,4 @@
+pub mod DigitLemmas
 pub mod LineLemmas
 pub mod RunLemmas
 pub mod MessageLemmas

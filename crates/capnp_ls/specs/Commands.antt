@@ -6,11 +6,11 @@ use Rattle.capnp_ls.specs.declared.command.Command.{Command}
 use Rattle.capnp_ls.specs.declared.command.Command.TheVariants.{Listing, Pack, Unpack}
 
 -- the words of a command, each its bytes
-abbrev pub words_of : Command → List (List ℕ)
-words_of (Listing Framed) = codes "list" ∷ []
-words_of (Listing Packed) = codes "list" ∷ codes "--packed" ∷ []
-words_of Pack = codes "pack" ∷ []
-words_of Unpack = codes "unpack" ∷ []
+abbrev pub command_words : Command → List (List ℕ)
+command_words (Listing Framed) = codes "list" ∷ []
+command_words (Listing Packed) = codes "list" ∷ codes "--packed" ∷ []
+command_words Pack = codes "pack" ∷ []
+command_words Unpack = codes "unpack" ∷ []
 
 -- what a command reads
 abbrev pub input_of : Command → Format

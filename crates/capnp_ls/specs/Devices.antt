@@ -1,4 +1,4 @@
--- What is known of the bytes behind a device's buffer.
+-- What is known of the bytes past a device's buffer.
 use Rattle.std.specs.Prelude.{◌≡◌, ℕ, List, Option}
 use Rattle.std.specs.IoError.{error_kind}
 use Rattle.std.specs.declared.io.Error.{Error as Fault}

@@ -2,9 +2,10 @@
 use Rattle.std.specs.Prelude.{◌≡◌, ℕ, ◌+◌, List, [], ◌∷◌, ◌++◌, length, decimal}
 use Rattle.std.specs.List.{flat_map}
 use Rattle.capnp_frame.specs.Message.{lengths, size_in_words}
-use Rattle.capnp_frame.specs.Sink.{Appending, AppendsAll}
+use Rattle.capnp_frame.specs.declared.error.ErrorKind.{ErrorKind}
+use Rattle.capnp_frame.specs.Sink.{Appending, AppendsAll, Declining, DeclinesSome}
 use Rattle.capnp_frame.specs.Writing.{pieces}
-use Rattle.capnp_pack.specs.PackedSink.{AppendsPacked}
+use Rattle.capnp_pack.specs.PackedSink.{AppendsPacked, DeclinesPacked}
 use Rattle.capnp_ls.specs.declared.command.Command.{Command}
 use Rattle.capnp_ls.specs.declared.command.Command.TheVariants.{Listing, Pack, Unpack}
 
@@ -21,6 +22,12 @@ abbrev pub Prints : Command → Appending → ℕ → List (List ℕ) → List �
 Prints (Listing format) appends index segments text = appends (line index segments) text
 Prints Pack appends index segments text = AppendsAll (AppendsPacked appends) (pieces segments) text
 Prints Unpack appends index segments text = AppendsAll appends (pieces segments) text
+
+-- and by which kinds it refuses this message
+abbrev pub DeclinesPrinted : Command → Declining → ℕ → List (List ℕ) → ErrorKind → Type 0
+DeclinesPrinted (Listing format) refuses index segments kind = refuses (line index segments) kind
+DeclinesPrinted Pack refuses index segments kind = DeclinesSome (DeclinesPacked refuses) (pieces segments) kind
+DeclinesPrinted Unpack refuses index segments kind = DeclinesSome refuses (pieces segments) kind
 
 -- what it adds for messages, the first of this index
 abbrev pub PrintsFrom : Command → Appending → ℕ → List (List (List ℕ)) → List ℕ → Type 0

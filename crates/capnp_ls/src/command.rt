@@ -1,7 +1,7 @@
 //! The words that the program takes.
 ghost use Rattle.std.specs.Prelude.{◌≡◌, map, string_bytes, IfSome, IfNone};
 ghost use Rattle.capnp_ls.specs.declared.command.Command.{Command};
-ghost use Rattle.capnp_ls.specs.Commands.{words_of, input_of};
+ghost use Rattle.capnp_ls.specs.Commands.{command_words, input_of};
 
 /// How messages stand in a stream.
 #[derive(Clone, Copy, Debug, PartialEq, Eq)]
@@ -22,11 +22,11 @@ pub enum Command {
 }
 
 impl Command {
-    /// The command of these words, which stand behind the program's name.
+    /// The command of these words, which stand after the program's name.
     pub fn from_words(words: &[String]) -> Option<Command>
-        ensures some { IfSome result (λ command. map string_bytes words.now ≡ words_of command) }
+        ensures some { IfSome result (λ command. map string_bytes words.now ≡ command_words command) }
         ensures none { IfNone result
-            ((command : Command) → map string_bytes words.now ≡ words_of command → ⊥) }
+            ((command : Command) → map string_bytes words.now ≡ command_words command → ⊥) }
     {
         match words {
             [word] => match word.as_str() {

@@ -15,8 +15,11 @@ use capnp_frame::{Error, ErrorKind};
 pub use input::Input;
 pub use output::Output;
 
-/// The size in bytes of the buffer before a device.
+/// The size in bytes of the buffer before a device that is read.
 pub const BUFFER_BYTES: usize = 4096;
+
+/// The size in bytes of the buffer before standard output.
+pub const OUTPUT_BYTES: usize = 32768;
 
 /// How often a device failed, up to 2^64 - 1.
 #[derive(Clone, Copy, Debug, PartialEq, Eq)]

@@ -1,29 +1,73 @@
 //! The line that stands for a message.
-ghost use Rattle.std.specs.Prelude.{◌≡◌, ◌<◌, ◌^◌, length, string_bytes, IfOk, IfErr};
+ghost use Rattle.std.specs.Prelude.{◌≡◌, ◌++◌, ◌<◌, ◌^◌, decimal, length, IfErr, OnOk};
+ghost use Rattle.capnp_frame.specs.declared.error.ErrorKind.{ErrorKind};
 ghost use Rattle.capnp_frame.specs.Message.{size_in_words};
-ghost use Rattle.capnp_ls.specs.Output.{line};
+ghost use Rattle.capnp_ls.specs.Output.{line, spaced};
 
+use capnp_frame::Result;
+use capnp_frame::io::Write;
 use capnp_frame::message::ReaderSegments;
-use capnp_frame::{ErrorKind, Result};
-use std::alloc::Global;
-use std::fmt::Write;
 
-/// The line of a message: its index, the number of its segments, their words in all, and the words
-/// of each.
-pub fn line_of<S: ReaderSegments>(alloc: Global, index: u64, segments: &S) -> Result<String>
+/// Makes `text` the line of a message: its index, the number of its segments, their words in all,
+/// and the words of each.
+pub fn write_line<S: ReaderSegments>(text: &mut Vec<u8>, index: u64, segments: &S) -> Result<()>
     requires few { length (S.segments segments.now) < 2 ^ 32 }
     requires small { size_in_words (S.segments segments.now) < 2 ^ 64 }
-    ensures ok { IfOk result (λ text. string_bytes text ≡ line index (S.segments segments.now)) }
+    ensures ok { OnOk result (text.new.items ≡ line index (S.segments segments.now)) }
     ensures memory { IfErr result (λ error. error.kind ≡ ErrorKind.OutOfMemory) }
 {
-    let mut lengths = String::new(alloc);
+    text.clear();
+    push_decimal(text, index)?;
+    push_spaced(text, segments.len() as u64)?;
+    push_spaced(text, total_words(segments) as u64)?;
+    let mut id = 0;
+    while let Some(segment) = segments.get_segment(id) {
+        push_spaced(text, (segment.len() / 8) as u64)?;
+        id += 1;
+    }
+    text.push(b'\n')?;
+    Ok(())
+}
+
+// The words of all segments.
+fn total_words<S: ReaderSegments>(segments: &S) -> usize
+    requires few { length (S.segments segments.now) < 2 ^ 32 }
+    requires small { size_in_words (S.segments segments.now) < 2 ^ 64 }
+    ensures { result ≡ size_in_words (S.segments segments.now) }
+{
     let mut total = 0;
     let mut count = 0;
     while let Some(segment) = segments.get_segment(count) {
-        let words = segment.len() / 8;
-        write!(lengths, " {words}")?;
-        total += words;
+        total += segment.len() / 8;
         count += 1;
     }
-    Ok(format!(in alloc; "{index} {count} {total}{lengths}\n")?)
+    total
+}
+
+// Adds a space and a number.
+fn push_spaced(text: &mut Vec<u8>, number: u64) -> Result<()>
+    ensures ok { OnOk result (text.new.items ≡ text.old.items ++ spaced number) }
+    ensures memory { IfErr result (λ error. error.kind ≡ ErrorKind.OutOfMemory) }
+{
+    text.push(b' ')?;
+    push_decimal(text, number)
+}
+
+// Adds a number in decimal.
+fn push_decimal(text: &mut Vec<u8>, number: u64) -> Result<()>
+    ensures ok { OnOk result (text.new.items ≡ text.old.items ++ decimal number) }
+    ensures memory { IfErr result (λ error. error.kind ≡ ErrorKind.OutOfMemory) }
+{
+    let mut digits = [0; 20];
+    let mut at = 20;
+    let mut left = number;
+    while left >= 10 {
+        at -= 1;
+        digits[at] = 48 + (left % 10) as u8;
+        left /= 10;
+    }
+    at -= 1;
+    digits[at] = 48 + left as u8;
+    text.write_all(&digits[at..])?;
+    Ok(())
 }

@@ -1,11 +1,14 @@
 //! Lists and converts the messages of Cap'n Proto that come on standard input.
 #![tactic(auto)]
 
-ghost use Rattle.std.specs.Prelude.{◌≡◌};
+ghost use Rattle.std.specs.Prelude.{◌≡◌, [], OnOk, OnErr, IfErr, IsErrOf};
+ghost use Rattle.std.specs.Process.{exit_status};
+ghost use Rattle.std.specs.Io.KnownBytes.{Keeps};
+ghost use Rattle.capnp_frame.specs.Source.{Fails};
 ghost use Rattle.capnp_frame.specs.declared.error.ErrorKind.{ErrorKind};
-ghost use Rattle.capnp_ls.specs.Devices.{IsOutOfMemory};
+ghost use Rattle.capnp_ls.specs.Devices.{pending, taken_so_far, IsOutOfMemory};
 ghost use Rattle.capnp_ls.specs.declared.stop.Stop.TheVariants.{Usage, Refused};
-ghost use Rattle.capnp_ls.specs.Stop.{IsAtStart};
+ghost use Rattle.capnp_ls.specs.Stop.{IsAtStart, status_of};
 
 mod command;
 mod devices;
@@ -13,37 +16,61 @@ mod listing;
 mod program;
 mod stop;
 
-use crate::devices::{BUFFER_BYTES, Input, Output};
+use crate::devices::{Input, OUTPUT_BYTES, Output};
 use crate::stop::{Stop, report};
 use capnp_frame::{Error, ErrorKind};
+use std::io::Write;
 use std::process::ExitCode;
 use std::{env, io};
 
 fn main(rt: HostRuntime) -> ExitCode {
-    let Err(stop) = run_on_standard_streams(rt) else {
-        return ExitCode::SUCCESS;
-    };
-    if let Ok(mut diagnostics) = Output::new(rt.alloc(), 0, rt.stderr()) {
-        let _ = report(rt.alloc(), &stop, &mut diagnostics);
+    let answer = run_on_standard_streams(rt);
+    if let Err(stop) = &answer
+        && let Ok(mut diagnostics) = Output::new(rt.alloc(), 0, rt.stderr())
+    {
+        let _ = report(rt.alloc(), stop, &mut diagnostics);
     }
-    ExitCode::from(stop.status())
+    exit_code(&answer)
 }
 
-/// What was written is with the device before this returns, or the call is refused.
-///
-/// How many messages' output a failed last flush held back is not known, so it is refused at
-/// message 0.
 fn run_on_standard_streams(rt: HostRuntime) -> Result<(), Stop> {
     let alloc = rt.alloc();
     let words = words(rt).map_err(stop_without_words)?;
     let mut source = Input::new(alloc, rt.stdin()).map_err(stop_at_start)?;
-    let mut sink = Output::new(alloc, BUFFER_BYTES, rt.stdout()).map_err(stop_at_start)?;
+    let mut sink = Output::new(alloc, OUTPUT_BYTES, rt.stdout()).map_err(stop_at_start)?;
     let answer = program::run(alloc, &words, &mut source, &mut sink);
-    let flushed = sink.flush().map_err(stop_at_start);
-    answer.and(flushed)
+    flush_after(answer, &mut sink)
 }
 
-/// The words behind the program's name.
+/// Hands what is pending to the device, whatever the run answered.
+///
+/// A run's own stop stays the answer. How many messages' output a failed flush held back is not
+/// known, so it is refused at message 0.
+fn flush_after<W: Write + Drop>(answer: Result<(), Stop>, sink: &mut Output<W>) -> Result<(), Stop>
+    ensures flushed { OnOk result (pending sink.new ≡ []) }
+    ensures stopped { IfErr answer (λ stop. IsErrOf result stop) }
+    ensures fault { OnOk answer (IfErr result (λ stop. IsAtStart stop ErrorKind.DeviceFailed)) }
+    ensures failed { OnOk answer (OnErr result
+        (Fails sink.old.failures.count sink.new.failures.count)) }
+    ensures kept { Keeps (taken_so_far W.contents sink.old) (taken_so_far W.contents sink.new) }
+{
+    let flushed = sink.flush();
+    answer?;
+    flushed.map_err(stop_at_start)
+}
+
+/// The status that the program ends with: 0, or that of its stop.
+fn exit_code(answer: &Result<(), Stop>) -> ExitCode
+    ensures done { OnOk answer.now (exit_status result ≡ 0) }
+    ensures stopped { IfErr answer.now (λ stop. exit_status result ≡ status_of stop) }
+{
+    match answer {
+        Ok(()) => ExitCode::SUCCESS,
+        Err(stop) => ExitCode::from(stop.status()),
+    }
+}
+
+/// The words after the program's name.
 fn words(rt: HostRuntime) -> io::Result<Vec<String>> {
     let mut words = Vec::new(rt.alloc());
     for word in env::args(&rt)?.skip(1) {

@@ -1,7 +1,7 @@
 //! Why the program stops before the end of its input.
 ghost use Rattle.std.specs.Prelude.{◌≡◌, ◌⊎◌, List, ℕ, IfOk, IfErr, OnOk, string_bytes};
 ghost use Rattle.capnp_frame.specs.declared.error.ErrorKind.{ErrorKind};
-ghost use Rattle.capnp_frame.specs.Source.{Fails, Known};
+ghost use Rattle.capnp_frame.specs.Source.{Fails, IfKnown};
 ghost use Rattle.capnp_frame.specs.Sink.{Adds, Grows};
 ghost use Rattle.capnp_ls.specs.declared.stop.Stop.TheVariants.{Refused};
 ghost use Rattle.capnp_ls.specs.Stop.{IsLineOf, status_of};
@@ -15,7 +15,7 @@ const USAGE: &str = "usage: capnp_ls list [--packed] | pack | unpack | canon [--
 /// Why the program stops before the end of its input.
 #[derive(Debug, Drop)]
 pub enum Stop {
-    /// The words behind the program's name are none of its commands.
+    /// The words after the program's name are none of its commands.
     Usage,
     /// `error` came up when `message` messages were done.
     Refused { message: u64, error: Error },
@@ -37,7 +37,7 @@ impl Stop {
 ///
 /// It is refused as the sink refuses that piece, or by `OutOfMemory` where the line has no room.
 pub fn report<W: Write>(alloc: Global, stop: &Stop, sink: &mut W) -> Result<()>
-    ensures line { OnOk result (Known (W.written sink.old) (W.written sink.new)
+    ensures line { OnOk result (IfKnown (W.written sink.old) (W.written sink.new)
         (Adds (λ text. (line : List ℕ) × IsLineOf stop.now line × W.appends line text))) }
     ensures failed { IfErr result (λ error. error.kind ≡ ErrorKind.DeviceFailed →
         Fails (W.failures sink.old) (W.failures sink.new)) }

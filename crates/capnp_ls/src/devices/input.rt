@@ -4,8 +4,8 @@ ghost use Rattle.std.specs.Borrow.{sem};
 ghost use Rattle.std.specs.Io.BufRead.{Rests};
 ghost use Rattle.std.specs.Io.KnownBytes.{Keeps, Consumes, IsAtEnd};
 ghost use Rattle.capnp_frame.specs.declared.error.ErrorKind.{ErrorKind};
-ghost use Rattle.capnp_frame.specs.Source.{Splits, RunsShort, Fails, Fills, Known, IsFront, IsRefused};
-ghost use Rattle.capnp_frame.specs.Splitting.{splitting, always};
+ghost use Rattle.capnp_frame.specs.Source.{Splits, RunsShort, Fails, Fills, IfKnown, IsFront, IsRefused};
+ghost use Rattle.capnp_frame.specs.SplittingLaws.{splitting, always};
 ghost use Rattle.capnp_ls.specs.Devices.{read_ahead, coming};
 ghost use Rattle.capnp_ls.specs.contracts.devices.input.Input.{the_row};
 
@@ -108,7 +108,7 @@ impl<R: io::Read> BufRead for Input<R> {
 
     fn consume(&mut self, amount: usize)
         requires { amount ≤ length (read_ahead self.old) }
-        ensures taken { Known (coming R.remaining self.old) (coming R.remaining self.new)
+        ensures taken { IfKnown (coming R.remaining self.old) (coming R.remaining self.new)
             (λ raw left. left ≡ drop amount raw) }
         ensures shown { read_ahead self.new ≡ drop amount (read_ahead self.old) }
         ensures kept { self.new.failures ≡ self.old.failures }

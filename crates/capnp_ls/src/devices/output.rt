@@ -5,7 +5,7 @@ ghost use Rattle.std.specs.Io.KnownBytes.{Keeps};
 ghost use Rattle.capnp_frame.specs.declared.error.ErrorKind.{ErrorKind};
 ghost use Rattle.capnp_frame.specs.Source.{Fails};
 ghost use Rattle.capnp_frame.specs.Sink.{AppendsSame};
-ghost use Rattle.capnp_frame.specs.Splitting.{always};
+ghost use Rattle.capnp_frame.specs.SplittingLaws.{always};
 ghost use Rattle.capnp_ls.specs.Devices.{pending, taken_so_far};
 
 use crate::devices::Failures;

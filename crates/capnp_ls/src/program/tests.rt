@@ -55,7 +55,7 @@ fn messages_are_listed(rt: HostRuntime) -> Result<(), Fail> {
     Ok(())
 }
 
-// What stands behind the first message stops the run: cut, of too many segments, or too large.
+// What stands after the first message stops the run: cut, of too many segments, or too large.
 #[test]
 fn lines_before_a_refusal_stay(rt: HostRuntime) -> Result<(), Fail> {
     let words = words(rt.alloc(), &["list"])?;
@@ -65,9 +65,9 @@ fn lines_before_a_refusal_stay(rt: HostRuntime) -> Result<(), Fail> {
         (&[255, 1, 0, 0, 7, 7, 7, 7, 5], 5, 1),
         (&[0, 0, 0, 0, 1, 0, 128, 0, 5], 8, 1),
     ];
-    for (behind, number, unread) in refused {
+    for (others, number, unread) in refused {
         let mut bytes = STREAM[..24].to_vec(rt.alloc())?;
-        bytes.extend_from_slice(behind)?;
+        bytes.extend_from_slice(others)?;
         let mut source = bytes.as_slice();
         let mut sink = Vec::new(rt.alloc());
         let answer = run(rt.alloc(), &words, &mut source, &mut sink);
@@ -165,7 +165,7 @@ fn output_before_a_refusal_stays(rt: HostRuntime) -> Result<(), Fail> {
 
 // The device fails at its nth read of at most 8 bytes, one of the 8 that the stream and its end take.
 #[test]
-fn a_failed_read_stops_behind_the_messages_done(rt: HostRuntime) -> Result<(), Fail> {
+fn a_failed_read_stops_after_the_messages_done(rt: HostRuntime) -> Result<(), Fail> {
     let words = words(rt.alloc(), &["list"])?;
     let done = [0, 0, 0, 1, 2, 2, 2, 3];
     for (bad_read, messages) in (1..).zip(done) {

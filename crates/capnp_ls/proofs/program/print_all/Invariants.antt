@@ -1,12 +1,12 @@
 -- The messages before this index are printed.
-use Rattle.capnp_frame.specs.Source.{Known, Advances}
+use Rattle.capnp_frame.specs.Source.{IfKnown, Advances}
 use Rattle.capnp_frame.specs.Sink.{Grows}
 use Rattle.capnp_ls.specs.Runs.{HasPrinted}
 use Rattle.capnp_ls.proofs.program.print_all.Given as goal
 
 abbrev pub invariant-loop-message : goal.invariant-loop-message
 invariant-loop-message g l = let R = g.R.Read in let W = g.W.Write in record {
-  printed : Known (R.unread l.initial.source) (R.unread l.source) (HasPrinted l.command W.appends l.message (W.written l.initial.sink) (W.written l.sink));
+  printed : IfKnown (R.unread l.initial.source) (R.unread l.source) (HasPrinted l.command W.appends l.message (W.written l.initial.sink) (W.written l.sink));
   advances : Advances R.unread R.failures R.same l.initial.source l.source;
   grows : Grows W.written W.failures W.same l.initial.sink l.sink;
 }

@@ -7,4 +7,7 @@ pub returns-in-len2-clause-some : goal.returns-in-len2-clause-some
 returns-in-len2-clause-some c =
     let first : string_bytes c.word-item-then-words-lt3.result ≡ codes "list" = search rules in
     let second : string_bytes c.option-item.result ≡ codes "--packed" = search rules in
-    ap (map string_bytes) (two_items c.args.words.now c.word-item-then-words-lt3.result c.option-item.result c.in-len2.len_at_least c.in-len2.len_below c.word-item-then-words-lt3.is c.option-item.is) ∙ ap (λ word. word ∷ string_bytes c.option-item.result ∷ []) first ∙ ap (λ word. codes "list" ∷ word ∷ []) second
+    ap (map string_bytes) (two_items c.args.words.now c.word-item-then-words-lt3.result c.option-item.result
+    c.in-len2.len_at_least c.in-len2.len_below c.word-item-then-words-lt3.is c.option-item.is)
+    ∙ ap (λ word. word ∷ string_bytes c.option-item.result ∷ []) first
+    ∙ ap (λ word. codes "list" ∷ word ∷ []) second

@@ -1,4 +1,4 @@
--- The bytes of one more write stand behind those of the earlier ones.
+-- The bytes of one more write follow those of the earlier ones.
 use Rattle.std.proofs.Common.{◌-◌, ◌++◌, length, take, drop, sym, ap, subst, ◌∙◌, arith, length-take}
 use lib.Seq.{take-add, take-take}
 use Rattle.std.specs.Io.KnownBytes.{Appends}

@@ -1,4 +1,4 @@
--- What is done of the piece stands behind what was written before.
+-- What is done of the piece follows what was written before.
 use Rattle.std.proofs.Common.{◌-◌, ◌≤◌, length, take}
 use Rattle.std.specs.Io.KnownBytes.{Appends}
 use Rattle.capnp_ls.specs.Devices.{taken_so_far}
