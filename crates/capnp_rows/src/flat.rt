@@ -1,6 +1,8 @@
 //! Messages in a slice, by each call that finds them there.
 use crate::flat_rows::{FLAT_ROWS, FlatAnswer, FlatRow};
 use crate::messages::has_segments;
+use crate::packed_rows::NO_WORDS;
+use crate::streams::{DEFAULT_LIMIT, NO_LIMIT};
 use capnp_frame::message::{ReaderOptions, ReaderSegments};
 use capnp_frame::serialize::{
     BufferSegments, NoAllocBufferSegments, NoAllocSliceSegments, take_segments,
@@ -10,7 +12,7 @@ use std::process::Abort;
 
 // The calls that find a message, over what holds it.
 #[derive(Clone, Copy, Debug, PartialEq, Eq)]
-enum Form {
+pub enum Form {
     Take,
     New,
     NewOfVector,
@@ -19,7 +21,7 @@ enum Form {
     FromVector,
 }
 
-const FORMS: [Form; 6] = [
+pub const FORMS: [Form; 6] = [
     Form::Take,
     Form::New,
     Form::NewOfVector,
@@ -28,11 +30,23 @@ const FORMS: [Form; 6] = [
     Form::FromVector,
 ];
 
-// Whether the form takes the table word by word.
-fn is_by_words(form: Form) -> bool {
-    match form {
-        Form::Take | Form::New | Form::NewOfVector => true,
-        Form::FromSlice | Form::FromBuffer | Form::FromVector => false,
+impl Form {
+    // Whether the form takes the table word by word.
+    fn is_by_words(self) -> bool {
+        match self {
+            Form::Take | Form::New | Form::NewOfVector => true,
+            Form::FromSlice | Form::FromBuffer | Form::FromVector => false,
+        }
+    }
+
+    /// The kind where only so many bytes of a table are there.
+    pub fn refusal_of_a_cut_table(self, length: usize) -> ErrorKind {
+        match self {
+            Form::Take if length == 0 => ErrorKind::EmptySlice,
+            Form::New | Form::NewOfVector if length == 0 => ErrorKind::EmptyBuffer,
+            Form::Take | Form::New | Form::NewOfVector => ErrorKind::FailedToFillTheWholeBuffer,
+            _ => ErrorKind::MessageEndsPrematurely(4, length % 4),
+        }
     }
 }
 
@@ -42,8 +56,8 @@ fn with_limit(limit: Option<usize>) -> ReaderOptions {
     options
 }
 
-// The segments that are wanted, or the kind.
-type Wanted<'a> = std::result::Result<&'a [&'a [u8]], ErrorKind>;
+/// The segments that are wanted, or the kind.
+pub type Wanted<'a> = std::result::Result<&'a [&'a [u8]], ErrorKind>;
 
 // Whether this is the answer. One for want of memory is handed back.
 fn is_wanted<S: ReaderSegments + Drop>(answer: Result<S>, wanted: Wanted<'_>) -> Result<bool> {
@@ -54,8 +68,8 @@ fn is_wanted<S: ReaderSegments + Drop>(answer: Result<S>, wanted: Wanted<'_>) ->
     }
 }
 
-// Whether the form answers what is wanted of these bytes, and how many of them it leaves.
-fn find(
+/// Whether the form answers what is wanted of these bytes, and how many of them it leaves.
+pub fn find(
     rt: &(impl Abort + AllocGlobal),
     form: Form,
     bytes: &[u8],
@@ -87,8 +101,8 @@ fn find(
     Ok((answered, slice.len()))
 }
 
-// How many bytes a form leaves: those that take a slice move it behind a message.
-fn left_by(form: Form, whole: usize, behind: usize) -> usize {
+/// How many bytes a form leaves: those that take a slice move it behind a message.
+pub fn left_by(form: Form, whole: usize, behind: usize) -> usize {
     match form {
         Form::Take | Form::FromSlice => behind,
         _ => whole,
@@ -99,7 +113,7 @@ fn left_by(form: Form, whole: usize, behind: usize) -> usize {
 fn rows_in_each_form(rt: HostRuntime) -> Result<()> {
     for form in FORMS {
         for row in FLAT_ROWS {
-            find_row(&rt, form, &row).or_else(|_| find_row(&rt, form, &row))?;
+            retried!(find_row(&rt, form, &row))?;
         }
     }
     Ok(())
@@ -109,7 +123,7 @@ fn find_row(rt: &(impl Abort + AllocGlobal), form: Form, row: &FlatRow) -> Resul
     let name = row.name;
     let (wanted, behind) = match row.answer {
         FlatAnswer::Segments(segments, behind) => (Ok(segments), behind),
-        FlatAnswer::Refused(kind, _) if is_by_words(form) => (Err(kind), row.bytes.len()),
+        FlatAnswer::Refused(kind, _) if form.is_by_words() => (Err(kind), row.bytes.len()),
         FlatAnswer::Refused(_, kind) => (Err(kind), row.bytes.len()),
     };
     let (answered, left) = find(rt, form, row.bytes, with_limit(row.limit), wanted)?;
@@ -122,115 +136,50 @@ fn find_row(rt: &(impl Abort + AllocGlobal), form: Form, row: &FlatRow) -> Resul
     Ok(())
 }
 
-// Row nothing: each form has its kind for no bytes.
-#[test]
-fn no_bytes(rt: HostRuntime) -> Result<()> {
-    for form in FORMS {
-        let kind = match form {
-            Form::Take => ErrorKind::EmptySlice,
-            Form::New | Form::NewOfVector => ErrorKind::EmptyBuffer,
-            _ => ErrorKind::MessageEndsPrematurely(4, 0),
-        };
-        let options = ReaderOptions::new();
-        let (answered, _) = find(&rt, form, &[], options, Err(kind)).or_else(|_| find(
-            &rt,
-            form,
-            &[],
-            options,
-            Err(kind),
-        ))?;
-        assert!(rt; answered, "{form:?}");
-    }
-    Ok(())
-}
-
-// Row two-segments.
-const TEXT: [u8; 24] = [
-    1, 0, 0, 0, 0, 0, 0, 0, 1, 0, 0, 0, 9, 9, 9, 9, 1, 2, 3, 4, 5, 6, 7, 8,
+// A table of 2,048 bytes: the low byte of its count, each byte of its lengths, a limit, and the kind.
+#[rattlefmt::skip]
+const TABLES: [(u8, u8, Option<usize>, ErrorKind); 3] = [
+    (255, 0, DEFAULT_LIMIT, ErrorKind::InvalidNumberOfSegments(512)),
+    (254, 255, DEFAULT_LIMIT, ErrorKind::MessageTooLarge(2194728287745)),
+    (254, 255, NO_LIMIT, ErrorKind::MessageEndsPrematurely(2194728287745, 0)),
 ];
 
+// As many segments as a reader accepts, all empty, with 3 bytes behind them; then one segment more, and
+// lengths that come to more words than the limit, or than are there.
 #[test]
-fn prefixes(rt: HostRuntime) -> Result<()> {
-    let options = ReaderOptions::new();
+fn the_longest_tables(rt: HostRuntime) -> Result<()> {
     for form in FORMS {
-        for length in 1..24 {
-            let kind = match length {
-                16.. => ErrorKind::MessageEndsPrematurely(1, 0),
-                _ if is_by_words(form) => ErrorKind::FailedToFillTheWholeBuffer,
-                _ => ErrorKind::MessageEndsPrematurely(4, length % 4),
-            };
-            let front = &TEXT[..length];
-            let (answered, left) = find(&rt, form, front, options, Err(kind)).or_else(|_| find(
-                &rt,
-                form,
-                front,
-                options,
-                Err(kind),
-            ))?;
-            assert!(rt; answered, "{length} bytes, {form:?}");
-            assert_eq!(rt; left, length);
+        retried!(find_table(&rt, form, 254, 0, DEFAULT_LIMIT, Ok(&NO_WORDS)))?;
+        for (count, lengths, limit, kind) in TABLES {
+            retried!(find_table(&rt, form, count, lengths, limit, Err(kind)))?;
         }
     }
     Ok(())
 }
 
-// 511 segments, each as long as a field tells.
-#[test]
-fn the_longest_table(rt: HostRuntime) -> Result<()> {
-    let mut bytes = [255; 2048];
-    bytes[0] = 254;
+fn find_table(
+    rt: &(impl Abort + AllocGlobal),
+    form: Form,
+    count: u8,
+    lengths: u8,
+    limit: Option<usize>,
+    wanted: Wanted<'_>,
+) -> Result<()> {
+    let mut bytes = [lengths; 2051];
+    bytes[0] = count;
     bytes[1] = 1;
     bytes[2] = 0;
     bytes[3] = 0;
-    for form in FORMS {
-        for (limit, kind) in [
-            (Some(8388608), ErrorKind::MessageTooLarge(2194728287745)),
-            (None, ErrorKind::MessageEndsPrematurely(2194728287745, 0)),
-        ] {
-            let options = with_limit(limit);
-            let (answered, left) = find(&rt, form, &bytes, options, Err(kind)).or_else(|_| find(
-                &rt,
-                form,
-                &bytes,
-                options,
-                Err(kind),
-            ))?;
-            assert!(rt; answered, "{form:?}");
-            assert_eq!(rt; left, 2048);
-        }
-    }
-    Ok(())
-}
-
-// 511 empty segments, and 3 bytes behind them; with one more there are too many.
-#[test]
-fn as_many_segments_as_a_reader_accepts(rt: HostRuntime) -> Result<()> {
-    let none: [&[u8]; 511] = [&[]; 511];
-    let mut bytes = [0; 2051];
-    bytes[1] = 1;
-    let options = ReaderOptions::new();
-    for form in FORMS {
-        bytes[0] = 254;
-        let (answered, left) = find(&rt, form, &bytes, options, Ok(&none)).or_else(|_| find(
-            &rt,
-            form,
-            &bytes,
-            options,
-            Ok(&none),
-        ))?;
-        assert!(rt; answered, "{form:?}");
-        assert_eq!(rt; left, left_by(form, 2051, 3), "{form:?}");
-        bytes[0] = 255;
-        let kind = ErrorKind::InvalidNumberOfSegments(512);
-        let (answered, left) = find(&rt, form, &bytes, options, Err(kind)).or_else(|_| find(
-            &rt,
-            form,
-            &bytes,
-            options,
-            Err(kind),
-        ))?;
-        assert!(rt; answered, "{form:?}");
-        assert_eq!(rt; left, 2051, "{form:?}");
-    }
+    let wanted_left = match wanted {
+        Ok(_) => left_by(form, 2051, 3),
+        Err(_) => 2051,
+    };
+    let (answered, left) = find(rt, form, &bytes, with_limit(limit), wanted)?;
+    assert!(rt; answered, "{form:?}, count {count}, lengths {lengths}");
+    assert_eq!(rt;
+        left,
+        wanted_left,
+        "{form:?}, count {count}, lengths {lengths}"
+    );
     Ok(())
 }

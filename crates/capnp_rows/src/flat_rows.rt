@@ -1,4 +1,5 @@
 //! The worked rows of messages in a slice, as bytes and answers.
+use crate::streams::{DEFAULT_LIMIT, NO_LIMIT};
 use capnp_frame::ErrorKind;
 
 /// What a reader of a slice answers.
@@ -19,10 +20,6 @@ pub struct FlatRow {
     pub limit: Option<usize>,
     pub answer: FlatAnswer,
 }
-
-const NO_LIMIT: Option<usize> = None;
-
-const DEFAULT_LIMIT: Option<usize> = Some(8 * 1024 * 1024);
 
 const CUT: ErrorKind = ErrorKind::FailedToFillTheWholeBuffer;
 

@@ -7,6 +7,17 @@
 //! [encoding document]: https://capnproto.org/encoding.html
 #![tactic(auto)]
 
+// What a body answers, or answers when it is run once more.
+#[cfg(test)]
+macro_rules! retried {
+    ($run:expr) => {
+        match $run {
+            Ok(found) => Ok(found),
+            Err(_) => $run,
+        }
+    };
+}
+
 #[cfg(test)]
 mod faults;
 #[cfg(test)]
@@ -14,7 +25,11 @@ mod flat;
 #[cfg(test)]
 mod flat_rows;
 #[cfg(test)]
-mod framed;
+mod framed_rows;
+#[cfg(test)]
+mod hostile;
+#[cfg(test)]
+mod lengths;
 #[cfg(test)]
 mod lent;
 #[cfg(test)]
@@ -24,21 +39,27 @@ mod messages;
 #[cfg(test)]
 mod no_memory;
 #[cfg(test)]
-mod packed;
-#[cfg(test)]
-mod packed_faults;
+mod packed_calls;
 #[cfg(test)]
 mod packed_rows;
 #[cfg(test)]
 mod pieces;
 #[cfg(test)]
-mod rows;
+mod prefixes;
+#[cfg(test)]
+mod roots;
+#[cfg(test)]
+mod samples;
+#[cfg(test)]
+mod segment_ends;
 #[cfg(test)]
 mod sink_faults;
 #[cfg(test)]
 mod sinks;
 #[cfg(test)]
 mod sources;
+#[cfg(test)]
+mod streams;
 #[cfg(test)]
 mod tables;
 #[cfg(test)]

@@ -25,8 +25,7 @@ fn more_than_an_address_space(rt: HostRuntime) -> Result<()> {
         (1 << 61, ErrorKind::MessageSizeOverflow),
         (usize::MAX, ErrorKind::MessageSizeOverflow),
     ] {
-        let again = SegmentLengthsBuilder::with_capacity(rt.alloc(), 1);
-        let mut lengths = again.or_else(|_| SegmentLengthsBuilder::with_capacity(rt.alloc(), 1))?;
+        let mut lengths = retried!(SegmentLengthsBuilder::with_capacity(rt.alloc(), 1))?;
         lengths.try_push_segment(total)?;
         let refused = lengths.into_owned_segments();
         assert!(rt; refused.is_err_and(|error| error.kind == kind), "{total}");
@@ -36,7 +35,7 @@ fn more_than_an_address_space(rt: HostRuntime) -> Result<()> {
 
 #[test]
 fn a_refused_length_is_not_added(rt: HostRuntime) -> Result<()> {
-    push_behind_three(&rt).or_else(|_| push_behind_three(&rt))
+    retried!(push_behind_three(&rt))
 }
 
 // There is room for the first length, and the second grows.
@@ -64,12 +63,9 @@ fn push_behind_three(rt: &(impl Abort + AllocGlobal)) -> Result<()> {
 // After a refused push the same one is added.
 #[test]
 fn a_refused_length_is_added_later(rt: HostRuntime) -> Result<()> {
-    let first = SegmentLengthsBuilder::with_capacity(rt.alloc(), 0);
-    let mut lengths = first.or_else(|_| SegmentLengthsBuilder::with_capacity(rt.alloc(), 0))?;
+    let mut lengths = retried!(SegmentLengthsBuilder::with_capacity(rt.alloc(), 0))?;
     for length in 1..=9 {
-        lengths
-            .try_push_segment(length)
-            .or_else(|_| lengths.try_push_segment(length))?;
+        retried!(lengths.try_push_segment(length))?;
     }
     assert_eq!(rt; lengths.total_words(), 45);
     assert_eq!(rt;
@@ -92,7 +88,7 @@ fn a_refused_length_is_added_later(rt: HostRuntime) -> Result<()> {
 
 #[test]
 fn a_refused_piece_is_not_written(rt: HostRuntime) -> Result<()> {
-    write_behind_three(&rt).or_else(|_| write_behind_three(&rt))
+    retried!(write_behind_three(&rt))
 }
 
 fn write_behind_three(rt: &(impl Abort + AllocGlobal)) -> Result<()> {
@@ -113,7 +109,7 @@ fn write_behind_three(rt: &(impl Abort + AllocGlobal)) -> Result<()> {
 
 #[test]
 fn segments_of_zeros(rt: HostRuntime) -> Result<()> {
-    make_segments(&rt).or_else(|_| make_segments(&rt))
+    retried!(make_segments(&rt))
 }
 
 fn make_segments(rt: &(impl Abort + AllocGlobal)) -> Result<()> {
@@ -136,7 +132,7 @@ const MESSAGE: [u8; 24] = [
 
 #[test]
 fn a_message_without_memory(rt: HostRuntime) -> Result<()> {
-    read_message(&rt).or_else(|_| read_message(&rt))
+    retried!(read_message(&rt))
 }
 
 // Memory is asked for behind the first word, for the lengths, and behind the table, for the segments.
@@ -160,7 +156,7 @@ fn read_message(rt: &(impl Abort + AllocGlobal)) -> Result<()> {
 // A message that is too large: the segments aren't asked for.
 #[test]
 fn a_message_past_the_limit(rt: HostRuntime) -> Result<()> {
-    read_past_the_limit(&rt).or_else(|_| read_past_the_limit(&rt))
+    retried!(read_past_the_limit(&rt))
 }
 
 fn read_past_the_limit(rt: &(impl Abort + AllocGlobal)) -> Result<()> {

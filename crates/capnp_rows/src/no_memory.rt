@@ -7,7 +7,7 @@ use capnp_frame::serialize::{
     serialized_size_in_words, try_read_segments_into, write_segments,
 };
 use capnp_frame::{ErrorKind, Result};
-use capnp_pack::messages::try_read_packed_segments;
+use capnp_pack::stream::try_read_packed_segments;
 use capnp_pack::{PackedRead, PackedWrite};
 
 // Segments of 1, 0 and 1 words.

@@ -1,22 +1,7 @@
 //! The worked rows of packed messages, as bytes and answers.
-use crate::rows::Wanted;
+use crate::framed_rows::HELLO_FAR_SEGMENTS;
+use crate::streams::{Answer, DEFAULT_LIMIT, END, Stream, Wanted};
 use capnp_frame::ErrorKind;
-
-/// What a call answers, and how many bytes stay unread; where a piece is refused, that is open.
-pub type Answer = (Wanted, Option<usize>);
-
-/// What the calls answer one after another where these bytes are unread.
-#[derive(Clone, Copy)]
-pub struct Stream {
-    pub name: &'static str,
-    pub bytes: &'static [u8],
-    pub limit: Option<usize>,
-    pub answers: &'static [Answer],
-}
-
-pub const DEFAULT_LIMIT: Option<usize> = Some(8 * 1024 * 1024);
-
-const END: Answer = (Wanted::End, Some(0));
 
 const CUT_GROUP: Answer = (Wanted::Refused(ErrorKind::PrematureEndOfPackedInput), None);
 
@@ -25,7 +10,7 @@ const LONG_RUN: Answer = (
     None,
 );
 
-pub const HELLO: &[u8] = &[
+const HELLO: &[u8] = &[
     0x10, 3, 0x11, 1, 0x72, 0xff, 0x48, 0x65, 0x6c, 0x6c, 0x6f, 0x2c, 0x20, 0x57, 0, 0x1f, 0x6f,
     0x72, 0x6c, 0x64, 0x21,
 ];
@@ -35,10 +20,13 @@ const HELLO_SEGMENT: &[u8] = &[
     0x64, 0x21, 0, 0, 0,
 ];
 
-const TWO_SEGMENTS: Wanted = Wanted::Segments(&[&[], &[1, 2, 3, 4, 5, 6, 7, 8]]);
+/// 511 empty segments.
+pub const NO_WORDS: [&[u8]; 511] = [&[]; 511];
+
+const TWO_SEGMENTS: Wanted<'static> = Wanted::Segments(&[&[], &[1, 2, 3, 4, 5, 6, 7, 8]]);
 
 #[rattlefmt::skip]
-pub const STREAMS: [Stream; 13] = [
+pub const PACKED: [Stream; 20] = [
     Stream {
         name: "nothing",
         bytes: &[],
@@ -116,5 +104,54 @@ pub const STREAMS: [Stream; 13] = [
         bytes: &[0x11, 3, 77, 0x11, 23, 1, 1, 99],
         limit: Some(199),
         answers: &[(Wanted::Refused(ErrorKind::MessageTooLarge(200)), Some(0))],
+    },
+    Stream {
+        name: "two segments, and a zero run past the table",
+        bytes: &[1, 1, 0, 3],
+        limit: DEFAULT_LIMIT,
+        answers: &[LONG_RUN],
+    },
+    Stream {
+        name: "two words, and a zero run past them",
+        bytes: &[0x10, 2, 0, 2],
+        limit: DEFAULT_LIMIT,
+        answers: &[LONG_RUN],
+    },
+    Stream {
+        name: "two words, and a literal run past them, whose bytes are not looked for",
+        bytes: &[0x10, 2, 0xff, 1, 2, 3, 4, 5, 6, 7, 8, 2],
+        limit: DEFAULT_LIMIT,
+        answers: &[LONG_RUN],
+    },
+    Stream {
+        name: "two words, and a cut literal run",
+        bytes: &[0x10, 2, 0xff, 1, 2, 3, 4, 5, 6, 7, 8, 1, 9, 10],
+        limit: DEFAULT_LIMIT,
+        answers: &[(Wanted::Refused(ErrorKind::FailedToFillTheWholeBuffer), None)],
+    },
+    Stream {
+        name: "five segments, one zero word, and a tag",
+        bytes: &[0x11, 4, 1, 0, 1, 0, 0, 0x10, 1, 0, 0, 0xaa],
+        limit: DEFAULT_LIMIT,
+        answers: &[
+            (Wanted::Segments(&[&[0; 8], &[], &[], &[], &[]]), Some(5)),
+            (Wanted::Segments(&[&[0; 8]]), Some(1)),
+            CUT_GROUP,
+        ],
+    },
+    Stream {
+        name: "as many segments as a reader accepts, all empty, and a byte behind",
+        bytes: &[3, 254, 1, 0, 254, 0x33],
+        limit: DEFAULT_LIMIT,
+        answers: &[(Wanted::Segments(&NO_WORDS), Some(1)), CUT_GROUP],
+    },
+    Stream {
+        name: "hello-far",
+        bytes: &[
+            0x11, 1, 1, 1, 3, 0x11, 2, 1, 0x11, 1, 0x6a, 0xff, 0x68, 0x65, 0x6c, 0x6c, 0x6f, 0x20, 0x77,
+            0x6f, 0, 0x0f, 0x72, 0x6c, 0x64, 0x21,
+        ],
+        limit: DEFAULT_LIMIT,
+        answers: &[(Wanted::Segments(HELLO_FAR_SEGMENTS), Some(0)), END],
     },
 ];

@@ -1,38 +1,57 @@
 //! Pieces that are packed by themselves.
-use crate::sources::Trickle;
+use crate::sinks::FaultySink;
+use crate::sources::{Faulty, Trickle};
 use capnp_frame::io::{BufRead, Read, Write};
 use capnp_frame::{ErrorKind, Result};
 use capnp_pack::{PackedRead, PackedWrite};
-use std::alloc::Global;
 use std::process::Abort;
 
 // Pieces, and their packed texts behind one another.
 #[rattlefmt::skip]
-const PIECES: [(&[&[u8]], &[u8]); 6] = [
+const PIECES: [(&[&[u8]], &[u8]); 18] = [
+    (&[], &[]),
+    // Row packer.
+    (&[&[]], &[]),
+    (&[&[0; 8]], &[0, 0]),
+    (&[&[0; 2064]], &[0, 255, 0, 1]),
+    (&[&[0, 0, 12, 0, 0, 34, 0, 0]], &[0x24, 12, 34]),
+    (&[&[1, 3, 2, 4, 5, 7, 6, 8, 8, 6, 7, 4, 5, 2, 3, 1]],
+     &[0xff, 1, 3, 2, 4, 5, 7, 6, 8, 1, 8, 6, 7, 4, 5, 2, 3, 1]),
+    (&[&[8, 0, 100, 6, 0, 1, 1, 2, 0, 0, 0, 0, 0, 0, 0, 0, 0, 0, 0, 0, 0, 0, 0, 0,
+         0, 0, 0, 0, 0, 0, 0, 0, 0, 0, 1, 0, 2, 0, 3, 1]],
+     &[0xed, 8, 100, 6, 1, 1, 2, 0, 2, 0xd4, 1, 2, 3, 1]),
+    // Row literal-runs, and a run of one word thrice.
+    (&[&[1, 2, 3, 4, 5, 6, 7, 8, 1, 2, 3, 4, 5, 6, 7, 8, 6, 2, 4, 3, 9, 0, 5, 1,
+         1, 2, 3, 4, 5, 6, 7, 8, 0, 2, 4, 0, 9, 0, 5, 1]],
+     &[0xff, 1, 2, 3, 4, 5, 6, 7, 8, 3, 1, 2, 3, 4, 5, 6, 7, 8, 6, 2, 4, 3, 9, 0, 5, 1,
+       1, 2, 3, 4, 5, 6, 7, 8, 0xd6, 2, 4, 9, 5, 1]),
+    (&[&[1, 2, 3, 4, 5, 6, 7, 8, 1, 2, 3, 4, 5, 6, 7, 8, 1, 2, 3, 4, 5, 6, 7, 8,
+         1, 2, 3, 4, 5, 6, 7, 8, 0, 2, 4, 0, 9, 0, 5, 1]],
+     &[0xff, 1, 2, 3, 4, 5, 6, 7, 8, 3, 1, 2, 3, 4, 5, 6, 7, 8, 1, 2, 3, 4, 5, 6, 7, 8,
+       1, 2, 3, 4, 5, 6, 7, 8, 0xd6, 2, 4, 9, 5, 1]),
+    (&[&[1, 3, 2, 4, 5, 7, 6, 8]], &[0xff, 1, 3, 2, 4, 5, 7, 6, 8, 0]),
+    (&[&[0, 0, 0, 0, 0, 0, 0, 0, 1, 3, 2, 4, 5, 7, 6, 8]],
+     &[0, 0, 0xff, 1, 3, 2, 4, 5, 7, 6, 8, 0]),
+    (&[&[0, 0, 12, 0, 0, 34, 0, 0, 1, 3, 2, 4, 5, 7, 6, 8]],
+     &[0x24, 12, 34, 0xff, 1, 3, 2, 4, 5, 7, 6, 8, 0]),
     // No run goes from a piece into the next.
     (&[&[0; 8], &[0; 8]], &[0, 0, 0, 0]),
     (&[&[0; 16], &[], &[0; 2064]], &[0, 1, 0, 255, 0, 1]),
     (&[&[1, 2, 3, 4, 5, 6, 7, 8], &[1, 2, 3, 4, 5, 6, 7, 8]],
      &[0xff, 1, 2, 3, 4, 5, 6, 7, 8, 0, 0xff, 1, 2, 3, 4, 5, 6, 7, 8, 0]),
     (&[&[0, 0, 12, 0, 0, 34, 0, 0], &[0; 24]], &[0x24, 12, 34, 0, 2]),
+    (&[&[0; 24], &[0, 0, 12, 0, 0, 34, 0, 0]], &[0, 2, 0x24, 12, 34]),
     // A literal run ends before a word with two zero bytes: three words of 27 bytes.
     (&[&[1, 2, 3, 4, 5, 6, 7, 8, 1, 2, 3, 4, 5, 6, 0, 0, 1, 2, 3, 4, 5, 6, 7, 8]],
      &[0xff, 1, 2, 3, 4, 5, 6, 7, 8, 0, 0x3f, 1, 2, 3, 4, 5, 6, 0xff, 1, 2, 3, 4, 5, 6, 7, 8, 0]),
-    (&[], &[]),
 ];
 
 #[test]
 fn pieces_behind_one_another(rt: HostRuntime) -> Result<()> {
     for (pieces, text) in PIECES {
-        pack_each(&rt, pieces, text).or_else(|_| pack_each(&rt, pieces, text))?;
-        for most in 1..=16 {
-            assert!(rt; most > 0);
-            let mut source = Trickle::new(text, most);
-            unpack_each(&rt, pieces, &mut source).or_else(|_| {
-                source = Trickle::new(text, most);
-                unpack_each(&rt, pieces, &mut source)
-            })?;
-            assert!(rt; source.bytes.is_empty());
+        retried!(pack_each(&rt, pieces, text))?;
+        for most in 1..=24 {
+            retried!(unpack_each(&rt, pieces, text, most))?;
         }
     }
     Ok(())
@@ -48,17 +67,114 @@ fn pack_each(rt: &(impl Abort + AllocGlobal), pieces: &[&[u8]], text: &[u8]) -> 
     Ok(())
 }
 
-fn unpack_each<R: BufRead>(
+// The pieces by `read_exact`. Of a source that shows a piece whole, it asks once for each.
+fn unpack_each(
     rt: &(impl Abort + AllocGlobal),
     pieces: &[&[u8]],
-    source: &mut R,
+    text: &[u8],
+    most: usize,
 ) -> Result<()> {
-    let mut packed = PackedRead::new(source);
+    let mut source = Faulty::new(Trickle::new(text, most), 0);
+    let mut asked: u64 = 0;
     for piece in pieces {
         let mut bytes = vec![in rt.alloc(); 0xaa; piece.len()]?;
-        packed.read_exact(&mut bytes)?;
-        assert_eq!(rt; bytes.as_slice(), *piece);
+        PackedRead::new(&mut source).read_exact(&mut bytes)?;
+        assert_eq!(rt; bytes.as_slice(), *piece, "{text:?}, {most} bytes shown");
+        asked = asked.saturating_add(u64::from(!piece.is_empty()));
     }
+    assert!(rt;
+        source.source.bytes.is_empty(),
+        "{text:?}, {most} bytes shown"
+    );
+    if text.len() <= most {
+        assert_eq!(rt; source.calls, asked, "{text:?}");
+    }
+    Ok(())
+}
+
+// The packer hands on what it collected at the end of a piece: few bytes in one call.
+#[test]
+fn a_short_text_is_handed_on_at_once(rt: HostRuntime) -> Result<()> {
+    retried!(pack_zeros(&rt))
+}
+
+fn pack_zeros(rt: &(impl Abort + AllocGlobal)) -> Result<()> {
+    let mut sink = FaultySink::new(Vec::new(rt.alloc()), 0);
+    PackedWrite::new(&mut sink).write_all(&[0; 2064])?;
+    assert_eq!(rt; sink.written.as_slice(), [0, 255, 0, 1].as_slice());
+    assert_eq!(rt; sink.calls, 1);
+    Ok(())
+}
+
+// Rows marked-zero and literal-cut: texts that this packer does not write, or that go on behind a cut.
+const OTHERS: [(&[u8], &[u8]); 2] = [
+    (&[1, 0], &[0; 8]),
+    (
+        &[
+            0xff, 1, 2, 3, 4, 5, 6, 7, 8, 1, 9, 10, 11, 12, 13, 14, 15, 16,
+        ],
+        &[1, 2, 3, 4, 5, 6, 7, 8, 9, 10, 11, 12, 13, 14, 15, 16],
+    ),
+];
+
+#[test]
+fn texts_of_other_packers(rt: HostRuntime) -> Result<()> {
+    for (text, words) in OTHERS {
+        for most in 1..=24 {
+            retried!(unpack_twice(&rt, text, words, most))?;
+        }
+    }
+    Ok(())
+}
+
+// The same by `read_exact`, and by one `read`, which answers all that was asked for.
+fn unpack_twice(
+    rt: &(impl Abort + AllocGlobal),
+    text: &[u8],
+    words: &[u8],
+    most: usize,
+) -> Result<()> {
+    unpack_each(rt, &[words], text, most)?;
+    let mut source = Trickle::new(text, most);
+    let mut bytes = vec![in rt.alloc(); 0xaa; words.len()]?;
+    let count = PackedRead::new(&mut source).read(&mut bytes)?;
+    assert_eq!(rt; count, words.len());
+    assert_eq!(rt; bytes.as_slice(), words, "{most} bytes shown");
+    assert!(rt; source.bytes.is_empty());
+    Ok(())
+}
+
+// Row piece-refusals: texts, how many bytes are asked for, and the kind.
+#[rattlefmt::skip]
+const REFUSED: [(&[u8], usize, ErrorKind); 8] = [
+    (&[0xff, 1, 2, 3, 4, 5, 6, 7, 8, 1, 1, 2], 16, ErrorKind::FailedToFillTheWholeBuffer),
+    (&[0xff, 1, 2, 3, 4, 5, 6, 7, 8, 37, 1, 2], 200,
+     ErrorKind::PackedInputDidNotEndCleanlyOnASegmentBoundary),
+    (&[0xf0, 1, 2], 200, ErrorKind::PrematureEndOfPackedInput),
+    (&[0], 200, ErrorKind::PrematureEndOfPackedInput),
+    (&[0xff, 1, 2, 3, 4, 5, 6, 7, 8], 200, ErrorKind::PrematureEndOfPackedInput),
+    (&[1, 1], 200, ErrorKind::PrematureEndOfPackedInput),
+    (&[], 8, ErrorKind::FailedToFillTheWholeBuffer),
+    (&[], 12, ErrorKind::NotWholeWords),
+];
+
+#[test]
+fn pieces_are_refused(rt: HostRuntime) -> Result<()> {
+    for (text, length, kind) in REFUSED {
+        for most in 1..=24 {
+            let mut source = Trickle::new(text, most);
+            let mut space = [0xaa; 200];
+            let answer = PackedRead::new(&mut source).read_exact(&mut space[..length.min(200)]);
+            assert!(rt;
+                answer.is_err_and(|error| error.kind == kind),
+                "{text:?}, {most} bytes shown"
+            );
+        }
+    }
+    assert_eq!(rt;
+        PackedRead::new(&mut Trickle::new(&[], 8)).read(&mut [0; 8])?,
+        0
+    );
     Ok(())
 }
 
@@ -67,7 +183,6 @@ fn unpack_each<R: BufRead>(
 fn a_part_of_a_word_is_not_read(rt: HostRuntime) -> Result<()> {
     let text = [1, 7, 0, 0];
     for most in 1..=4 {
-        assert!(rt; most > 0);
         let mut source = Trickle::new(&text, most);
         let mut packed = PackedRead::new(&mut source);
         let answer = packed.read(&mut [0; 12]);
@@ -87,7 +202,7 @@ fn a_part_of_a_word_is_not_read(rt: HostRuntime) -> Result<()> {
 
 #[test]
 fn a_part_of_a_word_is_not_written(rt: HostRuntime) -> Result<()> {
-    write_parts(&rt).or_else(|_| write_parts(&rt))
+    retried!(write_parts(&rt))
 }
 
 fn write_parts(rt: &(impl Abort + AllocGlobal)) -> Result<()> {
@@ -110,7 +225,6 @@ const THREE_WORDS: [&[u8]; 2] = [&[1, 7, 0, 1], &[0x81, 7, 0, 0, 0, 0, 0]];
 fn reads_answer_the_words_in_order(rt: HostRuntime) -> Result<()> {
     for text in THREE_WORDS {
         for most in 1..=16 {
-            assert!(rt; most > 0);
             let mut source = Trickle::new(text, most);
             let mut packed = PackedRead::new(&mut source);
             let mut words = [0; 24];

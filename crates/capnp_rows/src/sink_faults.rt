@@ -26,9 +26,7 @@ fn whole_pieces_before_the_fault_are_written(rt: HostRuntime) -> Result<()> {
     for (segments, ends) in PIECES {
         for (fails_at, end) in (1..).zip(ends) {
             let pieces = ends.len();
-            write_to(&rt, segments, pieces, fails_at, *end).or_else(|_| write_to(
-                &rt, segments, pieces, fails_at, *end,
-            ))?;
+            retried!(write_to(&rt, segments, pieces, fails_at, *end))?;
         }
     }
     Ok(())
@@ -68,9 +66,7 @@ fn packed_texts_before_the_fault(rt: HostRuntime) -> Result<()> {
         let name = message.name;
         let mut calls = 0;
         for fails_at in 1..=64 {
-            let ended = pack_to(&rt, &message, fails_at).or_else(|_| pack_to(
-                &rt, &message, fails_at,
-            ))?;
+            let ended = retried!(pack_to(&rt, &message, fails_at))?;
             if ended {
                 calls = fails_at - 1;
                 break;
@@ -121,9 +117,7 @@ fn pack_to(rt: &(impl Abort + AllocGlobal), message: &Message, fails_at: u64) ->
 fn lent_slices_of_each_length(rt: HostRuntime) -> Result<()> {
     for (segments, ends) in PIECES {
         for room in 0..=64 {
-            write_into(&rt, segments, ends, room).or_else(|_| write_into(
-                &rt, segments, ends, room,
-            ))?;
+            retried!(write_into(&rt, segments, ends, room))?;
         }
     }
     Ok(())

@@ -1,7 +1,8 @@
 //! A sink that fails.
 ghost use Rattle.std.specs.Prelude.{Some, ⊤};
-ghost use Rattle.capnp_frame.specs.Sink.{AppendsSame, LacksMemory};
-ghost use Rattle.capnp_frame.specs.Splitting.{always};
+ghost use Rattle.capnp_frame.specs.Sink.{AppendsSame, ByKind};
+ghost use Rattle.capnp_frame.specs.SplittingLaws.{always};
+ghost use Rattle.capnp_frame.specs.declared.error.ErrorKind.{ErrorKind};
 
 use capnp_frame::io::Write;
 use capnp_frame::{Error, ErrorKind, Result};
@@ -34,7 +35,7 @@ impl Write for FaultySink {
 
     ghost appends = { AppendsSame };
 
-    ghost refuses = { LacksMemory };
+    ghost refuses = { ByKind ErrorKind.OutOfMemory };
 
     ghost same = { λ _ _. ⊤ };
 

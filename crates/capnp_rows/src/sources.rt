@@ -1,28 +1,31 @@
 //! Sources that answer little at a time, or fail.
 ghost use Rattle.std.specs.Prelude.{◌≡◌, ◌<◌, Some, take, ⊤};
 ghost use Rattle.capnp_frame.specs.Source.{Splits, RunsShort};
-ghost use Rattle.capnp_frame.specs.Splitting.{splitting, always};
+ghost use Rattle.capnp_frame.specs.SplittingLaws.{splitting, always};
 
 use capnp_frame::io::{BufRead, Read};
 use capnp_frame::{Error, ErrorKind, Result};
 
-/// A slice that answers, or shows, at most so many bytes at once.
+/// A slice that answers, or shows, at most so many bytes at once, and at least one. It counts how
+/// often it is asked to show bytes, and how often to read some.
 #[derive(Drop)]
 pub struct Trickle<'a> {
     pub bytes: &'a [u8],
     pub most: usize,
     shown: usize,
+    pub fills: u64,
+    pub reads: u64,
     ghost some: { 0 < most },
 }
 
 impl<'a> Trickle<'a> {
-    pub fn new(bytes: &'a [u8], most: usize) -> Trickle<'a>
-        requires { 0 < most }
-    {
+    pub fn new(bytes: &'a [u8], most: usize) -> Trickle<'a> {
         Trickle {
             bytes,
-            most,
+            most: most.max(1),
             shown: 0,
+            fills: 0,
+            reads: 0,
         }
     }
 }
@@ -39,6 +42,7 @@ impl Read for Trickle<'_> {
     ghost same = { λ _ _. ⊤ };
 
     fn read(&mut self, buffer: &mut [u8]) -> Result<usize> {
+        self.reads = self.reads.saturating_add(1);
         let count = self.bytes.len().min(buffer.len()).min(self.most);
         buffer[..count].copy_from_slice(&self.bytes[..count]);
         self.bytes = &self.bytes[count..];
@@ -54,6 +58,7 @@ impl BufRead for Trickle<'_> {
     ghost shown = { λ source. take source.shown source.bytes.now };
 
     fn fill_buf(&mut self) -> Result<&[u8]> {
+        self.fills = self.fills.saturating_add(1);
         self.shown = self.bytes.len().min(self.most);
         Ok(&self.bytes[..self.shown])
     }
@@ -133,4 +138,50 @@ impl BufRead for Faulty<'_> {
     ghost plain = { λ _ _ _ _. (λ p. p, λ p. p) };
 
     ghost plain_refusals = { λ _ _ _. (λ p. p, λ p. p) };
+}
+
+/// A source that counts what it is asked for, and how many of these requests are of no bytes.
+#[derive(Drop)]
+pub struct Counting<'a> {
+    pub source: Trickle<'a>,
+    pub requests: u64,
+    pub empty: u64,
+}
+
+impl<'a> Counting<'a> {
+    pub fn new(bytes: &'a [u8]) -> Counting<'a> {
+        Counting {
+            source: Trickle::new(bytes, usize::MAX),
+            requests: 0,
+            empty: 0,
+        }
+    }
+}
+
+impl Read for Counting<'_> {
+    ghost unread = { λ source. Some source.source.bytes.now };
+
+    ghost failures = { λ _. 0 };
+
+    ghost gives = { Splits };
+
+    ghost refuses = { RunsShort };
+
+    ghost same = { λ _ _. ⊤ };
+
+    fn read(&mut self, buffer: &mut [u8]) -> Result<usize> {
+        self.requests = self.requests.saturating_add(1);
+        self.empty = self.empty.saturating_add(u64::from(buffer.is_empty()));
+        self.source.read(buffer)
+    }
+
+    fn read_exact(&mut self, buffer: &mut [u8]) -> Result<()> {
+        self.requests = self.requests.saturating_add(1);
+        self.empty = self.empty.saturating_add(u64::from(buffer.is_empty()));
+        self.source.read_exact(buffer)
+    }
+
+    ghost lawful = { splitting };
+
+    ghost keeps = { always };
 }

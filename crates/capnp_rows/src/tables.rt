@@ -70,7 +70,7 @@ fn segments_by_a_known_table(rt: HostRuntime) {
 
 #[test]
 fn segments_of_known_lengths(rt: HostRuntime) -> Result<()> {
-    cut_by_lengths(&rt).or_else(|_| cut_by_lengths(&rt))
+    retried!(cut_by_lengths(&rt))
 }
 
 fn cut_by_lengths(rt: &(impl Abort + AllocGlobal)) -> Result<()> {

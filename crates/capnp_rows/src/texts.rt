@@ -37,7 +37,7 @@ const TEXTS: [(u8, ErrorKind, &[u8]); 25] = [
 
 #[test]
 fn texts_and_numbers(rt: HostRuntime) -> Result<()> {
-    print_each(&rt).or_else(|_| print_each(&rt))
+    retried!(print_each(&rt))
 }
 
 fn print_each(rt: &(impl Abort + AllocGlobal)) -> Result<()> {

@@ -25,7 +25,7 @@ fn options(rt: HostRuntime) {
 
 #[test]
 fn segments_that_are_written(rt: HostRuntime) -> Result<()> {
-    write_into_segments(&rt).or_else(|_| write_into_segments(&rt))
+    retried!(write_into_segments(&rt))
 }
 
 fn write_into_segments(rt: &(impl Abort + AllocGlobal)) -> Result<()> {
@@ -123,7 +123,7 @@ fn a_source_shows_little(rt: HostRuntime) -> Result<()> {
 
 #[test]
 fn a_message_through_a_reference(rt: HostRuntime) -> Result<()> {
-    read_through_a_reference(&rt).or_else(|_| read_through_a_reference(&rt))
+    retried!(read_through_a_reference(&rt))
 }
 
 fn read_through_a_reference(rt: &(impl Abort + AllocGlobal)) -> Result<()> {
@@ -144,7 +144,7 @@ fn write_twice<W: Write>(sink: &mut W) -> Result<()> {
 
 #[test]
 fn a_vector_is_written(rt: HostRuntime) -> Result<()> {
-    write_vectors(&rt).or_else(|_| write_vectors(&rt))
+    retried!(write_vectors(&rt))
 }
 
 fn write_vectors(rt: &(impl Abort + AllocGlobal)) -> Result<()> {

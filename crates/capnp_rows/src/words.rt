@@ -6,7 +6,7 @@ use std::process::Abort;
 
 #[test]
 fn zero_words(rt: HostRuntime) -> Result<()> {
-    make_words(&rt).or_else(|_| make_words(&rt))
+    retried!(make_words(&rt))
 }
 
 fn make_words(rt: &(impl Abort + AllocGlobal)) -> Result<()> {
@@ -67,7 +67,7 @@ fn a_piece_that_does_not_fit(rt: HostRuntime) {
 
 #[test]
 fn what_shows_bytes(rt: HostRuntime) -> Result<()> {
-    show_bytes(&rt).or_else(|_| show_bytes(&rt))
+    retried!(show_bytes(&rt))
 }
 
 fn show_bytes(rt: &(impl Abort + AllocGlobal)) -> Result<()> {

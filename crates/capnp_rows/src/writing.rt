@@ -7,7 +7,7 @@ use capnp_frame::serialize::{
 };
 use capnp_frame::{Error, ErrorKind, Result};
 use capnp_pack::PackedWrite;
-use capnp_pack::messages::try_read_packed_segments;
+use capnp_pack::stream::try_read_packed_segments;
 use std::alloc::Global;
 use std::process::Abort;
 
@@ -86,7 +86,7 @@ fn messages_in_each_form(rt: HostRuntime) -> Result<()> {
         Form::Vectors,
         Form::Owned,
     ] {
-        write_each(&rt, form).or_else(|_| write_each(&rt, form))?;
+        retried!(write_each(&rt, form))?;
     }
     Ok(())
 }
@@ -101,7 +101,7 @@ fn write_each(rt: &(impl Abort + AllocGlobal), form: Form) -> Result<()> {
 // Row flatten, byte by byte.
 #[test]
 fn a_flattened_message(rt: HostRuntime) -> Result<()> {
-    flatten(&rt).or_else(|_| flatten(&rt))
+    retried!(flatten(&rt))
 }
 
 fn flatten(rt: &(impl Abort + AllocGlobal)) -> Result<()> {
@@ -125,7 +125,7 @@ fn flatten(rt: &(impl Abort + AllocGlobal)) -> Result<()> {
 
 #[test]
 fn as_many_segments_as_a_reader_accepts(rt: HostRuntime) -> Result<()> {
-    write_empty_segments(&rt).or_else(|_| write_empty_segments(&rt))
+    retried!(write_empty_segments(&rt))
 }
 
 // 511 empty segments: a table of 256 words, of which only the first isn't zero.
@@ -155,7 +155,7 @@ fn write_empty_segments(rt: &(impl Abort + AllocGlobal)) -> Result<()> {
 
 #[test]
 fn messages_behind_one_another(rt: HostRuntime) -> Result<()> {
-    write_and_read_back(&rt).or_else(|_| write_and_read_back(&rt))
+    retried!(write_and_read_back(&rt))
 }
 
 // What is written is read back as it was, and then there is no message.
