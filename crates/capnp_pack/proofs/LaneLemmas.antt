@@ -6,7 +6,7 @@ use Rattle.std.specs.Simd.Lanes.{zip2, mask_l, top}
 use Rattle.std.specs.List.{prefix_len}
 use lib.Count.{count_trailing_zeros}
 use Rattle.std.proofs.lemmas.Simd.{bitmask_splat, ones-mask_l, trailing_mask_l}
-use Rattle.capnp_pack.specs.Group.{IsWord, zero_bytes}
+use Rattle.capnp_pack.specs.Group.{zero_bytes}
 use Rattle.capnp_pack.specs.Steps.{tag_of}
 
 bit_is : (b : Bool) → ◌≡◌ {A = ℕ} (cond (not b) 1 0) (if b then 0 else 1)
@@ -21,15 +21,9 @@ mask_tag (b ∷ w) = ap (λ n. cond (not (eqb b 0)) 1 0 + 2 * n) (mask_tag w) �
 pub marks_lanes : (n : ℕ) (w : List ℕ) → length w ≡ n → n ≤ 64 → mask_l (map (top 7) (zip2 (λ a b. cond (not (eqb a b)) 255 0) w (replicate n 0))) % 2 ^ 64 ≡ tag_of w
 marks_lanes n w is few = bitmask_splat w8 (λ a b. not (eqb a b)) w n 0 is few ∙ mask_tag w
 
-pub marks_word : (w : List ℕ) → IsWord w → mask_l (map (top 7) (zip2 (λ a b. cond (not (eqb a b)) 255 0) w (replicate 8 0))) % 2 ^ 64 ≡ tag_of w
-marks_word w is = marks_lanes 8 w is (omega arith)
-
 -- how many lanes are zero
 pub zeros_lanes : (n : ℕ) (w : List ℕ) → length w ≡ n → n ≤ 64 → count_ones (mask_l (map (top 7) (zip2 (λ a b. cond (eqb a b) 255 0) w (replicate n 0))) % 2 ^ 64) ≡ zero_bytes w
 zeros_lanes n w is few = ap count_ones (bitmask_splat w8 eqb w n 0 is few) ∙ ones-mask_l (λ x. eqb x 0) w
-
-pub zeros_word : (w : List ℕ) → IsWord w → count_ones (mask_l (map (top 7) (zip2 (λ a b. cond (eqb a b) 255 0) w (replicate 8 0))) % 2 ^ 64) ≡ zero_bytes w
-zeros_word w is = zeros_lanes 8 w is (omega arith)
 
 -- the lowest mark stands after the zeros at the front
 pub trailing_tag : (bytes : List ℕ) → length bytes ≡ 64 → 0 < tag_of bytes → count_trailing_zeros 64 (tag_of bytes) ≡ prefix_len (λ x. not (not (eqb x 0))) bytes

@@ -5,7 +5,8 @@ use Rattle.std.specs.Prelude.{◌==◌, if◌then◌else◌}
 use Rattle.std.proofs.Math.Nat.{pow-suc}
 use Rattle.std.proofs.lemmas.List.{nil_from_length}
 use Rattle.std.proofs.lemmas.Simd.{SwzOk-from_Each1, get_or-swz_l_below, length-replicate}
-use Rattle.std.specs.Simd.Lanes.{Each1}
+use Rattle.std.proofs.Common.{map, cond, not, eqb}
+use Rattle.std.specs.Simd.Lanes.{Each1, zip2, mask_l, top}
 use lib.Dec.{ltb, lt→ltb}
 use lib.Count.{ones, ones_step, ones-le}
 use mir.Val.{zeroes}
@@ -16,6 +17,7 @@ use Rattle.capnp_pack.specs.Group.{IsWord, marked}
 use Rattle.capnp_pack.specs.Steps.{tag_of, nonzero}
 use Rattle.capnp_pack.proofs.TagLemmas.{marked_tag, tag_below, top_word, tag_suc, nonzero_suc}
 use Rattle.capnp_pack.proofs.PlaceLemmas.{IsPlace, later, lane_at}
+use Rattle.capnp_pack.proofs.LaneLemmas.{marks_lanes}
 
 -- the places from i on of the bits that are set
 abbrev pub marks : ℕ → ℕ → ℕ → List ℕ
@@ -117,6 +119,22 @@ padded_at word (suc (suc (suc (suc (suc zero))))) low = refl
 padded_at word (suc (suc (suc (suc (suc (suc zero)))))) low = refl
 padded_at word (suc (suc (suc (suc (suc (suc (suc zero))))))) low = refl
 padded_at word (suc (suc (suc (suc (suc (suc (suc (suc j)))))))) low = absurd (omega arith)
+
+padded_tag : (word : List ℕ) → IsWord word → tag_of (padded word) ≡ tag_of word
+padded_tag [] is = absurd (omega (arith, is))
+padded_tag (a ∷ []) is = absurd (omega (arith, is))
+padded_tag (a ∷ b ∷ []) is = absurd (omega (arith, is))
+padded_tag (a ∷ b ∷ c ∷ []) is = absurd (omega (arith, is))
+padded_tag (a ∷ b ∷ c ∷ d ∷ []) is = absurd (omega (arith, is))
+padded_tag (a ∷ b ∷ c ∷ d ∷ e ∷ []) is = absurd (omega (arith, is))
+padded_tag (a ∷ b ∷ c ∷ d ∷ e ∷ f ∷ []) is = absurd (omega (arith, is))
+padded_tag (a ∷ b ∷ c ∷ d ∷ e ∷ f ∷ g ∷ []) is = absurd (omega (arith, is))
+padded_tag (a ∷ b ∷ c ∷ d ∷ e ∷ f ∷ g ∷ h ∷ []) is = refl
+padded_tag (a ∷ b ∷ c ∷ d ∷ e ∷ f ∷ g ∷ h ∷ i ∷ w) is = absurd (omega (arith, is))
+
+-- the lanes that aren't zero
+pub marks_word : (word : List ℕ) → IsWord word → mask_l (map (top 7) (zip2 (λ a b. cond (not (eqb a b)) 255 0) (padded word) (replicate 16 0))) % 2 ^ 64 ≡ tag_of word
+marks_word word is = marks_lanes 16 (padded word) refl (omega arith) ∙ padded_tag word is
 
 pub nonzero_lanes : (tag : ℕ) (word : List ℕ) → IsWord word → tag ≡ tag_of word → take (ones tag) (take 8 (swz_l w8 16 (padded word) 0 (mark_row tag))) ≡ nonzero word
 nonzero_lanes tag word is e =

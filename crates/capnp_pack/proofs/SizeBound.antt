@@ -11,7 +11,7 @@ use Rattle.capnp_pack.specs.UnpackingLaws.{length-words}
 use Rattle.capnp_pack.proofs.TagLemmas.{zeros_cons, zeros_suc, nonzero_suc, tag_once, tag_whole, top, top_word, marked_tag}
 use Rattle.capnp_pack.proofs.PackerLemmas.{words_whole}
 
-nonzero_len : (w : List ℕ) → length (nonzero w) + zero_bytes w ≡ length w
+pub nonzero_len : (w : List ℕ) → length (nonzero w) + zero_bytes w ≡ length w
 nonzero_len [] = refl
 nonzero_len (zero ∷ w) = omega (arith, zeros_cons 0 w, nonzero_len w)
 nonzero_len (suc b ∷ w) = omega (arith, zeros_suc b w, ap length (nonzero_suc b w), nonzero_len w)

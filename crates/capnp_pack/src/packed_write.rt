@@ -12,7 +12,7 @@ ghost use Rattle.capnp_pack.specs.PackedSink.{AppendsPacked, DeclinesPacked};
 ghost use Rattle.capnp_pack.specs.Steps.{IsRun, IsZero, HasFewZeros, Hands, IsGroupOf};
 
 use crate::buffer::{flush, make_room, push, push_word};
-use crate::runs::{first_tag, literal_run, tag, zero_run};
+use crate::runs::{first_mark, literal_run, tag, zero_run};
 use capnp_frame::io::Write;
 use capnp_frame::{Error, ErrorKind, Result};
 
@@ -133,7 +133,7 @@ fn pack_group<W: Write>(
         return pack_literal(sink, bytes, end, others);
     }
     // A sum, so that a zero word alone takes no branch of its own.
-    if tag as usize + first_tag(others) as usize == 0 {
+    if tag as usize + first_mark(others) as usize == 0 {
         return Ok(pack_zeros(bytes, end, others));
     }
     let used = if tag == 0 { end + 1 } else { end };

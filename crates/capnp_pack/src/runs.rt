@@ -82,10 +82,7 @@ fn zeros_of_eight(words: &[[u8; 8]]) -> u32
 fn zeros(word: &[u8; 8]) -> u32
     ensures { result ≡ zero_bytes word.now }
 {
-    u8x8::from_array(*word)
-        .simd_eq(u8x8::splat(0))
-        .to_bitmask()
-        .count_ones()
+    8 - tag(word).count_ones()
 }
 
 // A bit for each byte that isn't zero, the first byte's the least significant.
@@ -93,17 +90,20 @@ fn zeros(word: &[u8; 8]) -> u32
 pub(crate) fn tag(word: &[u8; 8]) -> u8
     ensures { result ≡ tag_of word.now }
 {
-    let marks = u8x8::from_array(*word).simd_ne(u8x8::splat(0)).to_bitmask();
-    marks as u8
+    let bytes = u8x16::from_array([
+        word[0], word[1], word[2], word[3], word[4], word[5], word[6], word[7], 0, 0, 0, 0, 0, 0,
+        0, 0,
+    ]);
+    bytes.simd_ne(u8x16::splat(0)).to_bitmask() as u8
 }
 
-// The tag of the first word, or 1 where there is none.
+// 0 where the first word is zero, and else 1.
 #[inline(always)]
-pub(crate) fn first_tag(words: &[[u8; 8]]) -> u8
+pub(crate) fn first_mark(words: &[[u8; 8]]) -> u8
     ensures { 0 < result → IfFirst words.now (λ word. IsZero word → ⊥) }
 {
     match words.first() {
-        Some(word) => tag(word),
+        Some(word) => u8::from(u64::from_le_bytes(*word) != 0),
         None => 1,
     }
 }

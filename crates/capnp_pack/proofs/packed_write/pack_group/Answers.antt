@@ -12,8 +12,8 @@ returns-then-tag-clause-group g c =
     (λ packed. take packed.used _) g.W.Write.appends _ _ c.tag-tag.result _ _ _ _ _ _ c.pack_literal.result is all c.tag-tag.ensures
     (search rules) c.push_word-end.ensures.word c.in_ok-start.ensures.handed c.pack_literal.ensures.run c.pack_literal.ensures.handed
 
-pub returns-then-tag-first_tag-eq0-clause-group : goal.returns-then-tag-first_tag-eq0-clause-group
-returns-then-tag-first_tag-eq0-clause-group g c =
+pub returns-then-tag-first_mark-eq0-clause-group : goal.returns-then-tag-first_mark-eq0-clause-group
+returns-then-tag-first_mark-eq0-clause-group g c =
     let is : length c.args.word.now ≡ 8 = search rules in
     let none : c.tag-tag.result ≡ 0 = omega arith in
     made_zeros g.W.Write.appends _ _ _ c.tag-tag.result _ _ _ _ _ _ is c.tag-tag.ensures none c.pack_zeros.ensures.run c.push_word-end.ensures.word
@@ -23,9 +23,9 @@ pub returns-then-tag-eq0-clause-group : goal.returns-then-tag-eq0-clause-group
 returns-then-tag-eq0-clause-group g c =
     let is : length c.args.word.now ≡ 8 = search rules in
     let none : c.tag-tag.result ≡ 0 = search rules in
-    let some : 0 < c.first_tag.result = omega (arith, none) in
+    let some : 0 < c.first_mark.result = omega (arith, none) in
     made_zeros g.W.Write.appends _ _ _ c.tag-tag.result _ _ _ _ _ _ is c.tag-tag.ensures none
-    (run_of_none c.args.others.now (c.first_tag.ensures some)) c.push_word-end.ensures.word c.push_word-end.ensures.zero c.in_ok-start.ensures.handed
+    (run_of_none c.args.others.now (c.first_mark.ensures some)) c.push_word-end.ensures.word c.push_word-end.ensures.zero c.in_ok-start.ensures.handed
 
 pub returns-else-tag-eq0-clause-group : goal.returns-else-tag-eq0-clause-group
 returns-else-tag-eq0-clause-group g c =

@@ -1,6 +1,6 @@
 -- Each bit is a lane's.
 use Rattle.std.proofs.Common.{rules, ◌≡◌, length, arith}
-use Rattle.capnp_pack.proofs.LaneLemmas.{marks_word}
+use Rattle.capnp_pack.proofs.MarkLemmas.{marks_word}
 use Rattle.capnp_pack.proofs.TagLemmas.{tag_below, top_word}
 use Rattle.capnp_pack.proofs.runs.tag.Goals as goal
 

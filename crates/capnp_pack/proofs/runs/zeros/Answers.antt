@@ -1,9 +1,13 @@
--- Each bit is a lane's.
-use Rattle.std.proofs.Common.{rules, ◌≡◌, length}
-use Rattle.capnp_pack.proofs.LaneLemmas.{zeros_word}
+-- The other bytes are marked.
+use Rattle.std.proofs.Common.{rules, arith, ◌≡◌, ap, ◌∙◌, length}
+use lib.Count.{ones}
+use Rattle.capnp_pack.specs.Steps.{nonzero}
+use Rattle.capnp_pack.proofs.MarkLemmas.{ones_tag}
+use Rattle.capnp_pack.proofs.SizeBound.{nonzero_len}
 use Rattle.capnp_pack.proofs.runs.zeros.Goals as goal
 
 pub returns : goal.returns
 returns c =
     let is : length c.args.word.now ≡ 8 = search rules in
-    zeros_word c.args.word.now is
+    let marked : ones c.tag.result ≡ length (nonzero c.args.word.now) = ap ones c.tag.ensures ∙ ones_tag c.args.word.now in
+    omega (arith, marked, nonzero_len c.args.word.now, is)

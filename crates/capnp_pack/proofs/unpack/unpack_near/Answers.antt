@@ -1,5 +1,5 @@
 -- The tag says which group it is.
-use Rattle.std.proofs.Common.{rules, arith, length, ◌≡◌, ◌<◌, get_or}
+use Rattle.std.proofs.Common.{rules, arith, length, ◌≡◌, get_or}
 use Rattle.std.proofs.lemmas.List.{take_at}
 use Rattle.capnp_pack.proofs.UnpackedLemmas.{tagged_behind, lone_zero_behind}
 use Rattle.capnp_pack.proofs.unpack.unpack_near.Goals as goal
