@@ -1,10 +1,11 @@
 -- What contracts see of readers (src/arena/reader_arena.rt, src/any_pointer/reader.rt, src/any_struct/reader.rt).
-use Rattle.std.specs.Prelude.{◌≡◌, ℕ, ◌+◌, ◌<◌, ℤ, pos, negsuc, List, Option, Some, None}
+use Rattle.std.specs.Prelude.{◌≡◌, ℕ, ◌+◌, ◌-◌, ◌^◌, ◌<◌, ℤ, pos, negsuc, List, [], ◌∷◌, Option, Some, None}
 use denote.Ref.{Bor}
 use Rattle.capnp_frame.specs.declared.message.segments.ReaderSegments.{Ghosts}
 use Rattle.capnp_wire.specs.Pointer.{words_of, words_from}
 use Rattle.capnp_wire.specs.Tree.{Form}
 use Rattle.capnp_wire.specs.Object.{message_of, places}
+use Rattle.capnp_wire.specs.Reached.{root}
 use Rattle.capnp_wire.specs.Charge.{Within}
 use Rattle.capnp_wire.specs.Landing.{IsObject, shape_of}
 use Rattle.capnp_wire.specs.Views.{Pointer, Struct}
@@ -32,6 +33,15 @@ pointer_of segments reader = record {
   level = reader.level;
   limit = limit_of reader.limiter;
 }
+
+-- where the root stands; without a first segment it stands nowhere, and is null
+abbrev pub root_place : List (List ℕ) → Option Place
+root_place [] = None
+root_place (segment ∷ segments) = Some root
+
+-- the root of segments that are read without limits, as those of a message that is built
+abbrev pub unlimited_root : List (List ℕ) → Pointer
+unlimited_root segments = record { message = message_of segments; place = root_place segments; level = 2 ^ 31 - 1; limit = None }
 
 -- the struct of a reader
 abbrev pub struct_of : {S : Type 0} {ghosts : Ghosts S} → (S → List (List ℕ)) → StructReader S ghosts → Struct

@@ -1,6 +1,7 @@
 //! The canonical form of what a pointer leads to: one segment, in which equal trees have equal words.
-ghost use Rattle.std.specs.Prelude.{◌≡◌, ◌⊎◌, ◌+◌, ◌*◌, ℕ, true, length, replicate, Ok, IfErr, MatchResult};
+ghost use Rattle.std.specs.Prelude.{◌≡◌, ◌⊎◌, ◌+◌, ◌*◌, ℕ, true, length, replicate, Ok, IfOk, IfErr, MatchResult};
 ghost use Rattle.std.specs.Result.{IsErrAnd};
+ghost use Rattle.capnp_frame.specs.Message.{IsWholeWords};
 ghost use Rattle.capnp_frame.specs.declared.error.ErrorKind.{ErrorKind};
 ghost use Rattle.capnp_frame.specs.declared.error.ErrorKind.TheVariants.{OutOfMemory};
 ghost use Rattle.capnp_wire.specs.Pointer.{words_of};
@@ -40,6 +41,7 @@ pub fn canonical_bytes<S: ReaderSegments>(
         (λ bytes. IsCanonicalForm pointer (words_of bytes.items))
         (λ error. LacksWords (LeadsToTree pointer) (StopsWalkFrom pointer) true error.kind
         ⊎ (error.kind ≡ OutOfMemory)) }
+    ensures whole { IfOk result (λ bytes. IsWholeWords bytes.items) }
     ensures found { (behind : ℕ) →
         HasWords (LeadsToTree (pointer_of S.segments reader.now)) true behind →
         IfErr result (λ error. error.kind ≡ OutOfMemory) }

@@ -5,7 +5,7 @@ ghost use Rattle.capnp_frame.specs.declared.error.ErrorKind.{ErrorKind};
 ghost use Rattle.capnp_frame.specs.declared.error.ErrorKind.TheVariants.{ReadLimitExceeded};
 ghost use Rattle.capnp_wire.specs.Object.{nothing};
 ghost use Rattle.capnp_wire.specs.Views.{Pointer, IsViewOf, Denotes, Barred, LeadsAstray, MeetsLimit, Measures, Unmeasured};
-ghost use Rattle.capnp_wire.specs.Readers.{pointer_of, IsEntered};
+ghost use Rattle.capnp_wire.specs.Readers.{pointer_of, unlimited_root, IsEntered};
 
 use crate::layout::object::{Object, object_at};
 use crate::layout::place::{Place, pointer_at};
@@ -26,6 +26,26 @@ pub struct Reader<'a, S> {
 }
 
 impl<'a, S: ReaderSegments> Reader<'a, S> {
+    /// The root pointer of segments that are read without a traversal limit, with objects nested up to
+    /// 2^31 - 1 deep, as those of a message that is built. Without a first segment it is null.
+    pub fn root_of(segments: &'a S) -> Reader<'a, S>
+        ensures { pointer_of S.segments result ≡ unlimited_root (S.segments segments.now) }
+    {
+        let place = match segments.get_segment(0) {
+            None => None,
+            Some(_) => Some(Place {
+                segment: 0,
+                word: 0,
+            }),
+        };
+        Reader {
+            segments,
+            limiter: None,
+            place,
+            level: i32::MAX as u32,
+        }
+    }
+
     /// Whether the pointer is null, and so leads to no object. Nothing is read beside its own word.
     pub fn is_null(&self) -> bool
         ensures { IsTrue result ↔ Denotes (pointer_of S.segments self.now) nothing }

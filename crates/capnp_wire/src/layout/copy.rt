@@ -109,6 +109,7 @@ pub(crate) fn copy_pointers<S: ReaderSegments>(
 }
 
 // The object that the pointer at a place leads to, where a tree stands there; `None` for null.
+#[inline(always)]
 fn object_there<S: ReaderSegments>(segments: &S, place: Place, level: u32) -> Option<Object<'_>>
     requires { (trees : Trees) × (charge : ℕ)
         × At (message_of (S.segments segments.now)) (place ∷ []) trees charge
@@ -124,6 +125,7 @@ fn object_there<S: ReaderSegments>(segments: &S, place: Place, level: u32) -> Op
 }
 
 /// Puts the words of a copy into a block, but for its pointers.
+#[inline(always)]
 pub(crate) fn put_own_words(object: &Object<'_>, copied: Body, block: &mut [u8], next: usize)
     requires room { object.now.start.word + room_of object.now.body
         ≤ length object.now.segment.now / 8 }

@@ -10,6 +10,7 @@ use crate::layout::pointer::{Elements, StructSize};
 
 // What an object is once it is copied: in canonical form without what stands at the ends for
 // nothing.
+#[inline(always)]
 pub(crate) fn formed_as(object: &Object<'_>, canonical: bool) -> Body
     requires room { object.now.start.word + room_of object.now.body
         ≤ length object.now.segment.now / 8 }

@@ -25,6 +25,7 @@ pub(crate) struct Landing<'a> {
 }
 
 /// Where the pointer at a place leads; `None` for null.
+#[inline(always)]
 pub(crate) fn land<S: ReaderSegments>(segments: &S, place: Place) -> Result<Option<Landing<'_>>>
     ensures found { let m = message_of (S.segments segments.now) in
         IfOk result (λ found. MatchOption found (word_at m place ≡ Some 0)
@@ -45,6 +46,7 @@ pub(crate) fn land<S: ReaderSegments>(segments: &S, place: Place) -> Result<Opti
 }
 
 // Where a struct or list pointer leads that stands at a place of this segment.
+#[inline(always)]
 fn land_near(segment: &[u8], place: Place, near: NearPointer, pads: u64) -> Landing<'_>
     requires offset { near.offset.0 < 2 ^ 30 }
     requires place { place.word < 2 ^ 61 }

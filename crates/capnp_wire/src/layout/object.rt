@@ -41,6 +41,7 @@ pub(crate) enum Body {
 
 /// The object that the pointer at a place leads to, where it may be entered at this level; `None`
 /// for null.
+#[inline(always)]
 pub(crate) fn object_at<S: ReaderSegments>(
     segments: &S,
     place: Place,
@@ -80,6 +81,7 @@ pub(crate) fn words_fit(segment: &[u8])
 {}
 
 // What stands at a word of a segment, as its pointer says.
+#[inline(always)]
 fn body_at(segment: &[u8], start: usize, shape: NearShape) -> Result<Body>
     ensures found { let words = words_of segment.now in
         IfOk result (λ body. (tag number : ℕ) → IsNearShape tag shape →
@@ -130,6 +132,7 @@ fn structs(segment: &[u8], start: usize, words: u32) -> Result<Body>
 }
 
 // Whether some words from a start on lie within a segment.
+#[inline(always)]
 fn expect_room(segment: &[u8], start: usize, words: u64) -> Result<()>
     ensures { let there = length segment.now / 8 in
         MatchResult result (λ _. start + words ≤ there)
@@ -144,6 +147,7 @@ fn expect_room(segment: &[u8], start: usize, words: u64) -> Result<()>
 
 impl<'a> Object<'a> {
     /// Its pointers.
+    #[inline(always)]
     pub(crate) fn pointers(&self) -> PointerRows
         requires room { self.now.start.word + room_of self.now.body
             ≤ length self.now.segment.now / 8 }
@@ -159,6 +163,7 @@ impl<'a> Object<'a> {
 
 impl Body {
     /// The words that a reader is charged for it.
+    #[inline(always)]
     pub(crate) fn charge(self) -> u64
         ensures charge { result ≡ charge_of self }
         ensures bound { result < 2 ^ 40 }
@@ -180,6 +185,7 @@ impl Body {
     }
 
     /// The words of it, of a list of structs its tag and its elements.
+    #[inline(always)]
     pub(crate) fn words(self) -> u64
         ensures { result ≡ words_in self }
     {

@@ -29,6 +29,7 @@ pub(crate) fn pointer_at<S: ReaderSegments>(segments: &S, place: Place) -> Resul
 }
 
 /// A segment of a message.
+#[inline(always)]
 pub(crate) fn segment<S: ReaderSegments>(segments: &S, number: u32) -> Result<&[u8]>
     ensures { let found = slice_get (S.segments segments.now) number in
         MatchResult result (λ bytes. found ≡ Some bytes.now)
@@ -41,6 +42,7 @@ pub(crate) fn segment<S: ReaderSegments>(segments: &S, number: u32) -> Result<&[
 }
 
 /// A word that a segment has to have.
+#[inline(always)]
 pub(crate) fn existing_word(segment: &[u8], index: usize) -> Result<u64>
     ensures { let found = slice_get (words_of segment.now) index in
         MatchResult result (λ word. (found ≡ Some word) × (index < 2 ^ 61))
@@ -53,6 +55,7 @@ pub(crate) fn existing_word(segment: &[u8], index: usize) -> Result<u64>
 }
 
 /// A word of a segment.
+#[inline(always)]
 pub(crate) fn word(segment: &[u8], index: usize) -> Option<u64>
     ensures value { result ≡ slice_get (words_of segment.now) index }
     ensures within { OnSome result (index < length segment.now / 8) }

@@ -33,6 +33,7 @@ impl Body {
     ghost use Rattle.capnp_wire.specs.Rows.{row_size, row_count, first_row};
 
     /// The size of its rows.
+    #[inline(always)]
     pub(crate) fn row_size(self) -> RowSize
         ensures { result ≡ row_size self }
     {
@@ -57,6 +58,7 @@ impl Body {
     }
 
     // How many rows it has.
+    #[inline(always)]
     fn row_count(self) -> u32
         ensures { result ≡ row_count self }
     {
@@ -69,6 +71,7 @@ impl Body {
     }
 
     // The word of its first row, where it begins at a word.
+    #[inline(always)]
     fn first_row(self, start: usize) -> usize
         requires { start < 2 ^ 62 }
         ensures { result ≡ first_row self start }
@@ -87,6 +90,7 @@ impl PointerRows {
     ghost use Rattle.capnp_wire.specs.Rows.{row_size, kept_places, row_slots, kept_in, slots_of, places_in, slots_in, end_of, Takes};
 
     /// The first `kept` pointers in each row of an object that begins at a place.
+    #[inline(always)]
     pub(crate) fn of(start: Place, body: Body, kept: u32) -> PointerRows
         requires kept { kept ≤ (row_size body).pointers }
         requires bound { start.word + words_in body < 2 ^ 61 }
@@ -104,6 +108,7 @@ impl PointerRows {
     }
 
     // The first `kept` pointers in each of some rows, which begin at a place.
+    #[inline(always)]
     fn new(first: Place, size: RowSize, kept: u32, rows: u32) -> PointerRows
         requires kept { kept ≤ size.pointers }
         requires bound { first.word + rows * (size.data_words + size.pointers) < 2 ^ 61 }
@@ -137,6 +142,7 @@ impl PointerRows {
     }
 
     /// Whether no pointer is left.
+    #[inline(always)]
     pub(crate) fn is_empty(&self) -> bool
         ensures { IsTrue result ↔ (places_in self.now ≡ []) }
     {
@@ -144,6 +150,7 @@ impl PointerRows {
     }
 
     /// Where the next pointer stands, which is not left then.
+    #[inline(always)]
     pub(crate) fn take(&mut self) -> Place
         requires { places_in self.old ≢ [] }
         ensures taken { Takes self.old self.new result }
@@ -173,6 +180,7 @@ impl PointerRows {
     }
 
     // Takes the next pointer of this row.
+    #[inline(always)]
     fn take_here(&mut self) -> Place
         requires { 0 < self.old.here }
         ensures taken { Takes self.old self.new result }

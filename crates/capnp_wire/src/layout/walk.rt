@@ -44,6 +44,7 @@ impl Walk {
     }
 
     // Charges an object, and counts its words.
+    #[inline(always)]
     pub(crate) fn enter(&mut self, object: &Object<'_>, canonical: bool) -> Result<()>
         requires room { object.now.start.word + room_of object.now.body
             ≤ length object.now.segment.now / 8 }
@@ -68,6 +69,7 @@ impl Walk {
     }
 
     /// Counts words that no pointer leads to.
+    #[inline(always)]
     pub(crate) fn count(&mut self, more: u64)
         ensures words { CountsMore self.old.words self.new.words more }
         ensures left { self.new.left ≡ self.old.left }
