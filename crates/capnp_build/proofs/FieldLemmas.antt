@@ -1,0 +1,94 @@
+-- A data word of the struct at the root that is another one.
+use Rattle.std.proofs.Common.{◌≡◌, ℕ, zero, suc, ◌+◌, ◌-◌, ◌*◌, ◌^◌, ◌<◌, ◌≤◌, ◌==◌, if◌then◌else◌, List, [], ◌∷◌, ◌++◌, length, take, drop, Some, slice_set, w64, refl, ap, sym, subst, ◌∙◌}
+use Rattle.std.proofs.Common.{arith, length-append, length-set}
+use Rattle.std.proofs.lemmas.List.{set-append_left, drop-set-add}
+use Rattle.std.proofs.lemmas.List.Elements.{All-set}
+use Rattle.std.proofs.Math.Seq.{take-set-lt}
+use Rattle.std.specs.Int.{to_le_bytes}
+use Rattle.capnp_wire.proofs.ObjectLemmas.{one_tree}
+use Rattle.capnp_wire.specs.Pointer.{words_of, words_from}
+use Rattle.capnp_wire.specs.Tree.{struct, Trees, none, tree, count, own_words, total_words}
+use Rattle.capnp_wire.specs.Object.{word_at}
+use Rattle.capnp_wire.specs.Reached.{At, root}
+use Rattle.capnp_wire.specs.Layout.{struct_pointer, minus_one, body, pointers_to, slots, run, Laid}
+use Rattle.capnp_wire.proofs.WordLemmas.{length-words_of}
+use Rattle.capnp_build.specs.Bytes.{Space, written, with_bytes}
+use Rattle.capnp_build.specs.Held.{space_at}
+use Rattle.capnp_build.specs.Built.{message, root_word, pad_of, IsLaid}
+use Rattle.capnp_build.specs.declared.arena.spot.Spot.{Spot}
+use Rattle.capnp_build.proofs.WordLemmas.{words_set}
+use Rattle.capnp_build.proofs.SpaceLemmas.{set_used}
+use Rattle.capnp_build.proofs.UsedLemmas.{written_length}
+use Rattle.capnp_build.proofs.ByteLemmas.{root_kept, word_kept}
+
+-- a data word is another one
+set_body : (words : List ℕ) (held : Trees) (i x : ℕ) → i < length words → slice_set (body (tree (struct words) held none)) i x ≡ body (tree (struct (slice_set words i x)) held none)
+set_body words held i x within =
+    let long : length (slice_set words i x) ≡ length words = length-set words i x in
+    let links : List ℕ = pointers_to (slots (struct words) (count held)) (own_words (struct words) (count held)) held in
+    let more : i < length (words ++ links) = omega (arith, within, length-append words links) in
+    let most : i < length ((words ++ links) ++ body held) = omega (arith, more, length-append (words ++ links) (body held)) in
+    let same : pointers_to (slots (struct (slice_set words i x)) (count held)) (own_words (struct (slice_set words i x)) (count held)) held ≡ links =
+    ap (λ (n : ℕ). pointers_to (run n (count held)) (n + count held) held) long in
+    set-append_left ((words ++ links) ++ body held) [] i x most
+    ∙ ap (λ (l : List ℕ). l ++ []) (set-append_left (words ++ links) (body held) i x more)
+    ∙ ap (λ (l : List ℕ). (l ++ body held) ++ []) (set-append_left words links i x within)
+    ∙ ap (λ (l : List ℕ). ((slice_set words i x ++ l) ++ body held) ++ []) (sym same)
+
+set_laid : (words : List ℕ) (start i x : ℕ) (fields : List ℕ) (held : Trees) → i < length fields → Laid words start (tree (struct fields) held none)
+    → Laid (slice_set words (start + i) x) start (tree (struct (slice_set fields i x)) held none)
+set_laid words start i x fields held within laid =
+    let long : length (slice_set fields i x) ≡ length fields = length-set fields i x in
+    let total : total_words (tree (struct (slice_set fields i x)) held none) ≡ total_words (tree (struct fields) held none) = ap (λ (n : ℕ). n + count held + total_words held + 0) long in
+    let inside : i < total_words (tree (struct fields) held none) = omega (arith, within) in
+    record {
+      within = omega (arith, total, laid.within, length-set words (start + i) x);
+      words_are = ap (λ (n : ℕ). words_from (slice_set words (start + i) x) start n) total
+          ∙ ap (take (total_words (tree (struct fields) held none))) (drop-set-add start words i x)
+          ∙ take-set-lt (total_words (tree (struct fields) held none)) (drop start words) i x inside
+          ∙ ap (λ (l : List ℕ). slice_set l i x) laid.words_are ∙ set_body fields held i x within;
+    }
+
+root_same : (k start : ℕ) (fields : List ℕ) (held : Trees) (i x : ℕ) → root_word k start (struct (slice_set fields i x)) held ≡ root_word k start (struct fields) held
+root_same zero start fields held i x = ap (λ (n : ℕ). struct_pointer (if n + count held == 0 then minus_one else start - 1) n (count held)) (length-set fields i x)
+root_same (suc k) start fields held i x = refl
+
+pub field_laid : (spaces last : List Space) (spot : Spot) (fields : List ℕ) (held : Trees) (i x : ℕ) (w : List ℕ) → IsLaid spaces spot (struct fields) held → i < length fields
+    → x < 2 ^ 64 → w ≡ to_le_bytes w64 x → length w ≡ 8
+    → last ≡ slice_set spaces spot.segment (with_bytes (space_at spaces spot.segment) (8 * (spot.start + i)) w) → IsLaid last spot (struct (slice_set fields i x)) held
+field_laid spaces last spot fields held i x w r within small is eight e =
+    let old : List ℕ = (space_at spaces spot.segment).used in
+    let a = set_used spaces last spot.segment (with_bytes (space_at spaces spot.segment) (8 * (spot.start + i)) w) r.within e in
+    let used : (space_at last spot.segment).used ≡ written old (8 * (spot.start + i)) w = ap (λ (s : Space). s.used) a.1 in
+    let room : 8 * (spot.start + i) + length w ≤ length old = omega (arith, eight, r.room, r.size, within) in
+    let long : length (space_at last spot.segment).used ≡ length old = ap length used ∙ written_length (8 * (spot.start + i)) old w room in
+    let wide : length (slice_set fields i x) ≡ length fields = length-set fields i x in
+    let inside : spot.start + i < length (words_of old) = omega (arith, room, eight, length-words_of old) in
+    let words : words_of (space_at last spot.segment).used ≡ slice_set (words_of old) (spot.start + i) x = ap words_of used ∙ words_set old (spot.start + i) x w inside small is eight in
+    record {
+      within = omega (arith, a.0, r.within);
+      room = omega (arith, long, r.room);
+      behind = r.behind;
+      near = r.near;
+      rooms = ((omega (arith, wide, r.rooms.0.0), r.rooms.0.1, All-set (λ (v : ℕ). v < 2 ^ 64) fields i x small r.rooms.0.2), r.rooms.1, tt);
+      size = r.size ∙ ap (λ (n : ℕ). n + count held + total_words held + 0) (sym wide);
+      few = r.few;
+      tag = r.tag ∙ ap (λ (n : ℕ). struct_pointer (if n + count held == 0 then minus_one else 0) n (count held)) (sym wide);
+      laid = subst (λ (l : List ℕ). Laid l spot.start (tree (struct (slice_set fields i x)) held none)) (sym words) (set_laid (words_of old) spot.start i x fields held within r.laid);
+      root_is = ap (λ (l : List Space). word_at (message l) root) e ∙ root_kept spaces spot.segment (8 * (spot.start + i)) w r.within (omega (arith, r.behind)) room ∙ r.root_is
+          ∙ ap Some (sym (root_same spot.segment spot.start fields held i x));
+      pad_is = λ p. (
+        (r.pad_is p).0,
+        ap (λ (l : List Space). word_at (message l) (pad_of spot)) e
+            ∙ word_kept spaces spot.segment (spot.start - 1) (8 * (spot.start + i)) w r.within (omega (arith, r.behind)) room ∙ (r.pad_is p).1,
+      );
+    }
+
+-- a root has so many data words
+pub same_fields : (spaces : List Space) (words others : List ℕ) (held h : Trees) (charge c : ℕ) → At (message spaces) (root ∷ []) (tree (struct words) held none) charge
+    → At (message spaces) (root ∷ []) (tree (struct others) h none) c
+    → length words ≡ length others
+same_fields spaces words others held h charge c one other =
+    let same : tree (struct words) held none ≡ tree (struct others) h none = (one_tree (message spaces) (root ∷ []) (tree (struct words) held none) (tree
+    (struct others) h none) charge c one other).0 in
+    let forms : words ≡ others = cc in ap length forms

@@ -1,0 +1,163 @@
+-- Where a tree is laid out, and the root that leads to it.
+use Rattle.std.proofs.Common.{◌≡◌, ℕ, zero, suc, ◌+◌, ◌-◌, ◌*◌, ◌^◌, ◌<◌, ◌≤◌, ◌==◌, if◌then◌else◌, Bool, true, false, List, [], ◌∷◌, ◌++◌, length, map, take, drop, Some, slice_get, w64, ap}
+use Rattle.std.proofs.Common.{sym, subst, ◌∙◌, arith, length-append}
+use Rattle.std.specs.Option.{option_and_then}
+use Rattle.std.proofs.lemmas.List.{take_all}
+use Rattle.std.specs.Int.{to_le_bytes}
+use Rattle.capnp_wire.proofs.ObjectLemmas.{one_tree}
+use Rattle.capnp_wire.specs.Pointer.{number_of, words_of, words_from}
+use Rattle.capnp_wire.specs.Tree.{Form, null, struct, numbers, pointers, structs, Trees, none, tree, count, total_words}
+use Rattle.capnp_wire.specs.Object.{word_at}
+use Rattle.capnp_wire.specs.Reached.{At, root}
+use Rattle.capnp_wire.specs.Layout.{pointer, minus_one, far_pointer, body, Laid, HasRoom, AllHaveRoom}
+use Rattle.capnp_wire.specs.declared.layout.place.Place.{Place}
+use Rattle.capnp_wire.proofs.WordLemmas.{length-words_of}
+use Rattle.capnp_wire.proofs.MessageLemmas.{segment_stands}
+use Rattle.capnp_wire.proofs.PlacedLemmas.{near_tree, far_tree, some_form}
+use Rattle.capnp_build.specs.Bytes.{Space, written}
+use Rattle.capnp_build.specs.Held.{used_of, space_at}
+use Rattle.capnp_build.specs.Built.{message, IsLaid}
+use Rattle.capnp_build.specs.declared.arena.spot.Spot.{Spot}
+use Rattle.capnp_build.proofs.WordLemmas.{part_words}
+use Rattle.capnp_build.proofs.SpaceLemmas.{drop_all}
+use Rattle.capnp_build.proofs.UsedLemmas.{written_length, written_zero}
+use Rattle.capnp_build.proofs.ByteLemmas.{used_at, word_there, eight_here, word_back}
+
+-- pointer words fit
+pub if_small : (b : Bool) (x y k : ℕ) → x < k → y < k → (if b then x else y) < k
+if_small true x y k one two = one
+if_small false x y k one two = two
+
+pub pointer_small : (form : Form) (n offset : ℕ) → HasRoom form n → offset < 2 ^ 29 → pointer form n offset < 2 ^ 64
+pointer_small null n offset room low = omega arith
+pointer_small (struct words) n offset room low =
+    let o = if_small (length words + n == 0) minus_one offset (2 ^ 30) (omega arith) (omega (arith, low)) in
+    omega (arith, o, room.0, room.1)
+pointer_small (numbers c values) n offset room low = omega (arith, room.0, room.1, low)
+pointer_small pointers n offset room low = omega (arith, room, low)
+pointer_small (structs d p rows) n offset room low = omega (arith, room.3, low)
+
+-- a block behind other bytes, of which some are written over, is the body of trees
+pub laid_behind : (at start n : ℕ) (u block w : List ℕ) (trees : Trees) → length u ≡ 8 * start → at + length w ≤ 8 * start → length block ≡ 8 * n → n ≡ total_words trees → words_of block ≡ body trees
+    → Laid (words_of (written (u ++ block) at w)) start trees
+laid_behind at start n u block w trees long front size words body_is =
+    let whole : length (u ++ block) ≡ 8 * (start + n) = omega (arith, length-append u block, long, size) in
+    let same : length (written (u ++ block) at w) ≡ length (u ++ block) = written_length at (u ++ block) w (omega (arith, whole, front)) in
+    let past : drop (8 * start) (written (u ++ block) at w) ≡ drop (8 * start) (u ++ block) = written_zero at (8 * start) (u ++ block) w front (omega (arith, whole)) in
+    let rest : drop (8 * start) (u ++ block) ≡ block = drop_all u block (8 * start) (sym long) in
+    record {
+      within = omega (arith, length-words_of (written (u ++ block) at w), same, whole, words);
+      words_are = ap (words_from (words_of (written (u ++ block) at w)) start) (sym words)
+          ∙ part_words start n (written (u ++ block) at w) (omega (arith, same, whole))
+          ∙ ap (λ (l : List ℕ). words_of (take (8 * n) l)) (past ∙ rest) ∙ ap words_of (take_all (8 * n) block (omega (arith, size))) ∙ body_is;
+    }
+
+pub near_laid : (spaces : List Space) (u block w : List ℕ) (start n tag : ℕ) (form : Form) (held : Trees) → 0 < length spaces → (space_at spaces 0).used ≡ written (u ++ block) 0 w
+    → length u ≡ 8 * start → 0 < start → start ≤ 2 ^ 29 → length block ≡ 8 * n → n ≡ total_words (tree form held none) → n < 2 ^ 29 → AllHaveRoom (tree form held none)
+    → tag ≡ pointer form (count held) 0 → words_of block ≡ body (tree form held none) → w ≡ to_le_bytes w64 (pointer form (count held) (start - 1)) → length w ≡ 8
+    → (let spot : Spot = record { segment = 0; start = start; words = n; tag = tag } in IsLaid spaces spot form held)
+near_laid spaces u block w start n tag form held there used_is long behind near size words few rooms tag_is body_is is eight =
+    let whole : length (u ++ block) ≡ 8 * (start + n) = omega (arith, length-append u block, long, size) in
+    let same : length (space_at spaces 0).used ≡ 8 * (start + n) = ap length used_is ∙ written_length 0 (u ++ block) w (omega (arith, whole, eight, behind)) ∙ whole in
+    let small : pointer form (count held) (start - 1) < 2 ^ 64 = pointer_small form (count held) (start - 1) rooms.0 (omega (arith, near, behind)) in
+    let first : take 8 (drop (8 * 0) (space_at spaces 0).used) ≡ w = ap (λ (l : List ℕ). take 8 (drop (8 * 0) l)) used_is ∙ eight_here 0 (u ++ block) w (omega arith) eight in
+    record {
+      within = there;
+      room = omega (arith, same);
+      behind = behind;
+      near = near;
+      rooms = rooms;
+      size = words;
+      few = few;
+      tag = tag_is;
+      laid = subst (λ (l : List ℕ). Laid (words_of l) start (tree form held none)) (sym used_is) (laid_behind 0 start n u block w (tree form held none) long (omega (
+        arith,
+        eight,
+        behind,
+      )) size words body_is);
+      root_is = word_there spaces root there (omega (arith, same, behind)) ∙ ap (λ (b : List ℕ). Some (number_of 256 b)) first
+          ∙ ap Some (word_back (pointer form (count held) (start - 1)) w small is eight);
+      pad_is = λ p. absurd (omega (arith, p));
+    }
+
+pub far_laid : (spaces : List Space) (u block w : List ℕ) (i pad n tag : ℕ) (form : Form) (held : Trees) → 0 < i → i < length spaces → (space_at spaces i).used ≡ written (u ++ block) (8 * pad) w
+    → length u ≡ 8 * (pad + 1) → pad < 2 ^ 29 → length block ≡ 8 * n → 0 < n → n ≡ total_words (tree form held none) → n < 2 ^ 29 → AllHaveRoom (tree form held none)
+    → tag ≡ pointer form (count held) 0 → words_of block ≡ body (tree form held none) → w ≡ to_le_bytes w64 tag → length w ≡ 8 → word_at (message spaces) root ≡ Some (far_pointer i pad)
+    → (let spot : Spot = record { segment = i; start = pad + 1; words = n; tag = tag } in IsLaid spaces spot form held)
+far_laid spaces u block w zero pad n tag form held other within used_is long near size some words few rooms tag_is body_is is eight root_is = absurd (omega (arith, other))
+far_laid spaces u block w (suc k) pad n tag form held other within used_is long near size some words few rooms tag_is body_is is eight root_is =
+    let whole : length (u ++ block) ≡ 8 * (pad + 1 + n) = omega (arith, length-append u block, long, size) in
+    let same : length (space_at spaces (suc k)).used ≡ 8 * (pad + 1 + n) = ap length used_is ∙ written_length (8 * pad) (u ++ block) w (omega (arith, whole, eight)) ∙ whole in
+    let back : pad + 1 - 1 ≡ pad = omega arith in
+    let small : tag < 2 ^ 64 = omega (arith, tag_is, pointer_small form (count held) 0 rooms.0 (omega arith)) in
+    let place : Place = record { segment = suc k; word = pad + 1 - 1 } in
+    let first : take 8 (drop (8 * (pad + 1 - 1)) (space_at spaces (suc k)).used) ≡ w =
+    ap (λ (l : List ℕ). take 8 (drop (8 * (pad + 1 - 1)) l)) used_is ∙ ap (λ (x : ℕ). take 8 (drop (8 * x) (written (u ++ block) (8 * pad) w))) back
+    ∙ eight_here (8 * pad) (u ++ block) w (omega (arith, whole)) eight in
+    record {
+      within = within;
+      room = omega (arith, same);
+      behind = omega arith;
+      near = omega (arith, near);
+      rooms = rooms;
+      size = words;
+      few = few;
+      tag = tag_is;
+      laid = subst (λ (l : List ℕ). Laid (words_of l) (pad + 1) (tree form held none)) (sym used_is) (laid_behind (8 * pad) (pad + 1) n u block w (tree form held none) long (omega (
+        arith,
+        eight,
+      )) size words body_is);
+      root_is = root_is ∙ ap (λ (x : ℕ). Some (far_pointer (suc k) x)) (sym back);
+      pad_is = λ p. (some, word_there spaces place within (omega (arith, same, back)) ∙ ap (λ (b : List ℕ). Some (number_of 256 b)) first ∙ ap Some (word_back tag w small is eight));
+    }
+
+-- the word of a place in its segment
+word_of : (m : List (List ℕ)) (place : Place) (words : List ℕ) (x : ℕ) → slice_get m place.segment ≡ Some words → word_at m place ≡ Some x → slice_get words place.word ≡ Some x
+word_of m place words x there is = sym (ap (option_and_then (λ (l : List ℕ). slice_get l place.word)) there) ∙ is
+
+content : (spaces : List Space) (i : ℕ) → i < length spaces → slice_get (message spaces) i ≡ Some (words_of (space_at spaces i).used)
+content spaces i within = segment_stands (map used_of spaces) i (space_at spaces i).used (used_at spaces i within)
+
+-- the tree stands at the root, as readers define it
+rooted : (spaces : List Space) (k start n tag : ℕ) (form : Form) (held : Trees) → (let spot : Spot = record { segment = k; start = start; words = n; tag = tag } in IsLaid spaces spot form held)
+    → (charge : ℕ) × At (message spaces) (root ∷ []) (tree form held none) charge
+rooted spaces zero start n tag form held r =
+    let back : start ≡ 0 + 1 + (start - 1) = omega (arith, r.behind) in
+    let words : List ℕ = words_of (space_at spaces 0).used in
+    near_tree (message spaces) 0 0 (start - 1) words form held (content spaces 0 r.within) r.rooms (omega (arith, r.size, r.few)) (omega (arith, r.near, r.behind))
+    (word_of (message spaces) root words _ (content spaces 0 r.within) r.root_is) (subst (λ (x : ℕ). Laid words x (tree form held none)) back r.laid)
+rooted spaces (suc k) start n tag form held r =
+    let back : start ≡ start - 1 + 1 = omega (arith, r.behind) in
+    let words : List ℕ = words_of (space_at spaces (suc k)).used in
+    let place : Place = record { segment = suc k; word = start - 1 } in
+    let pad = r.pad_is (omega arith) in
+    far_tree (message spaces) root (suc k) (start - 1) words form held (content spaces (suc k) r.within) r.rooms (omega (arith, r.size, r.few)) (some_form form held r.rooms (omega (
+      arith,
+      r.size,
+      pad.0,
+    )))
+    (omega (arith, r.near, r.behind)) r.root_is (word_of (message spaces) place words _ (content spaces (suc k) r.within) (pad.1 ∙ ap Some r.tag))
+    (subst (λ (x : ℕ). Laid words x (tree form held none)) back r.laid)
+
+pub laid_root : (spaces : List Space) (spot : Spot) (form : Form) (held : Trees) → IsLaid spaces spot form held → (charge : ℕ) × At (message spaces) (root ∷ []) (tree form held none) charge
+laid_root spaces spot form held r = rooted spaces spot.segment spot.start spot.words spot.tag form held r
+
+-- the root's word once it is a far pointer
+pub far_root_is : (spaces last : List Space) (i pad word : ℕ) (v : List ℕ) → 0 < length last → 8 ≤ length (space_at spaces 0).used → (space_at last 0).used ≡ written (space_at spaces 0).used 0 v
+    → i < 2 ^ 32 → pad < 2 ^ 29 → word ≡ far_pointer i pad → v ≡ to_le_bytes w64 word → length v ≡ 8 → word_at (message last) root ≡ Some (far_pointer i pad)
+far_root_is spaces last i pad word v there room first_is few near word_is is eight =
+    let long : length (space_at last 0).used ≡ length (space_at spaces 0).used = ap length first_is ∙ written_length 0 (space_at spaces 0).used v (omega (arith, eight, room)) in
+    let small : word < 2 ^ 64 = omega (arith, word_is, few, near) in
+    let first : take 8 (drop (8 * 0) (space_at last 0).used) ≡ v = ap (λ (l : List ℕ). take 8 (drop (8 * 0) l)) first_is ∙ eight_here 0 (space_at spaces 0).used v (omega arith) eight in
+    let same : word ≡ far_pointer i pad = omega (arith, word_is) in
+    word_there last root there (omega (arith, long, room)) ∙ ap (λ (b : List ℕ). Some (number_of 256 b)) first ∙ ap Some (word_back word v small is eight ∙ same)
+
+-- a tree of a known root
+pub laid_as : (spaces : List Space) (spot : Spot) (form f : Form) (held h : Trees) (charge : ℕ) → IsLaid spaces spot form held → At (message spaces) (root ∷ []) (tree f h none) charge
+    → IsLaid spaces spot f h
+laid_as spaces spot form f held h charge r there =
+    let t = laid_root spaces spot form held r in
+    let same : tree form held none ≡ tree f h none = (one_tree (message spaces) (root ∷ []) (tree form held none) (tree f h none) t.0 charge t.1 there).0 in
+    let forms : form ≡ f = cc in
+    let helds : held ≡ h = cc in
+    subst (λ (x : Form). IsLaid spaces spot x h) forms (subst (λ (x : Trees). IsLaid spaces spot form x) helds r)

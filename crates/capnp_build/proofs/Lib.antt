@@ -1,0 +1,15 @@
+-- The lemmas, by subject.
+pub mod UsedLemmas
+pub mod WordLemmas
+pub mod ByteLemmas
+pub mod HeldLemmas
+pub mod SpaceLemmas
+pub mod NullLemmas
+pub mod LaidLemmas
+pub mod ReadyLemmas
+pub mod FieldLemmas
+pub mod RewriteLemmas
+pub mod ReadLemmas
+pub mod PlaceLemmas
+pub mod WriteLemmas
+pub mod FreshLemmas

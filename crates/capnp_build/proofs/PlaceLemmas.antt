@@ -1,0 +1,75 @@
+-- Where a block is placed.
+use Rattle.std.proofs.Common.{◌≡◌, inl, inr, ℕ, ◌+◌, ◌*◌, ◌<◌, ◌≤◌, List, [], ◌∷◌, length, max, None, MatchOption, Result, Ok, Err, OnOk, OnErr, ap, sym, subst, ◌∙◌, arith, length-append}
+use Rattle.std.specs.Prelude.{⊤}
+use Rattle.std.proofs.lemmas.Bool.{cases_lt}
+use Rattle.capnp_frame.specs.declared.error.Error.{Error}
+use Rattle.capnp_build.specs.Bytes.{Space}
+use Rattle.capnp_build.specs.Held.{space_at, room_of}
+use Rattle.capnp_build.specs.Built.{Built, size_in_words, HasNullRoot, IsAdded, IsAtEnd, IsPlaced, IsZeroAt, IsCleared, KeepsRooms}
+use Rattle.capnp_build.specs.Out.{IsPreorder}
+use Rattle.capnp_build.proofs.SpaceLemmas.{size_added, past_all, added_there}
+
+-- a place in a segment that is new
+at_new_end : {A : Type 0} (old mid : List Space) (new : Built A) (segment words : ℕ) → segment ≡ length old → IsAdded old mid → IsAtEnd mid new.spot segment 1 words
+    → IsAtEnd old new.spot segment 1 words
+at_new_end old mid new segment words e more at_end =
+    let here : (space_at mid segment).used ≡ (space_at old segment).used =
+    ap (λ (i : ℕ). (space_at mid i).used) e ∙ ap (λ (l : List Space). (space_at l (length old)).used) more.1 ∙ ap (λ (s : Space). s.used) (added_there old more.0) ∙ more.2
+    ∙ sym (past_all old) ∙ ap (λ (i : ℕ). (space_at old i).used) (sym e) in
+    record { place = at_end.place; place_is = at_end.place_is; segment_is = at_end.segment_is; words_are = at_end.words_are; start_is = at_end.start_is ∙ ap (λ (l : List ℕ). length l + 8 * 1) here }
+
+pub placed_far : {A : Type 0} (old mid : List Space) (new : Built A) (segment words : ℕ) → room_of (space_at old 0) < words → 0 < segment
+    → ((i : ℕ) → 0 < i → i < segment → room_of (space_at old i) < words + 1) → (segment < length old → mid ≡ old) → (length old ≤ segment → (segment ≡ length old) × IsAdded old mid)
+    → length new.spaces ≡ length mid → IsAtEnd mid new.spot segment 1 words → size_in_words new.spaces ≡ size_in_words mid + words + 1 → IsPlaced old new words
+placed_far old mid new segment words full behind first older newer count at_end size = elim (cases_lt segment (length old)) [
+  | inl among ↦ (let same = older among in record {
+    near = λ room. absurd (omega (arith, room, full));
+    far = λ _. (
+      segment,
+      behind,
+      subst (λ (l : List Space). IsAtEnd l new.spot segment 1 words) same at_end,
+      first,
+      omega (arith, among),
+      count ∙ ap length same ∙ omega (arith, among),
+      size ∙ ap (λ (l : List Space). size_in_words l + words + 1) same,
+    );
+  })
+  | inr past ↦ (let more = newer past in let long : length mid ≡ length old + 1 = ap length more.1.1 ∙ omega (arith, length-append old (more.1.0 ∷ [])) in record {
+    near = λ room. absurd (omega (arith, room, full));
+    far = λ _. (
+      segment,
+      behind,
+      at_new_end old mid new segment words more.0 more.1 at_end,
+      first,
+      omega (arith, more.0),
+      count ∙ long ∙ omega (arith, more.0),
+      size ∙ ap (λ (k : ℕ). k + words + 1) (ap size_in_words more.1.1 ∙ size_added old more.1.0 more.1.2),
+    );
+  })
+]
+
+pub on_ok : {A E : Type 0} (r : Result A E) (P Q : Type 0) → (P → Q) → OnOk r P → OnOk r Q
+on_ok (Ok a) P Q step p = step p
+on_ok (Err e) P Q step p = tt
+
+on_err : {A E : Type 0} (r : Result A E) (P Q : Type 0) → (P → Q) → OnErr r P → OnErr r Q
+on_err (Ok a) P Q step p = tt
+on_err (Err e) P Q step p = step p
+
+-- what is refused later leaves the root cleared
+pub still_cleared : {A : Type 0} (same : A → A → Type 0) (old cleared last : Built A) (r : Result (Unit {0}) Error) → IsPreorder same → IsCleared same old cleared → OnErr r (last.spot ≡ None)
+    → OnErr r (last.spaces ≡ cleared.spaces) → same cleared.allocator last.allocator → OnErr r (IsCleared same old last)
+still_cleared same old cleared last (Ok done) keeps c null kept alike = tt
+still_cleared same old cleared last (Err error) keeps c null kept alike = record {
+  null = null;
+  null_word = subst HasNullRoot (sym kept) c.null_word;
+  zero = subst (λ (l : List Space). MatchOption old.spot ⊤ (IsZeroAt l)) (sym kept) c.zero;
+  size = subst (λ (l : List Space). size_in_words l ≤ max 1 (size_in_words old.spaces)) (sym kept) c.size;
+  rooms = subst (λ (l : List Space). KeepsRooms old.spaces l) (sym kept) c.rooms;
+  same_allocator = keeps.transitive old.allocator cleared.allocator last.allocator c.same_allocator alike;
+}
+
+-- a block in the first segment
+pub placed_near : {A : Type 0} (old : List Space) (new : Built A) (words : ℕ) → words ≤ room_of (space_at old 0) → IsAtEnd old new.spot 0 0 words → length new.spaces ≡ length old
+    → size_in_words new.spaces ≡ size_in_words old + words → IsPlaced old new words
+placed_near old new words room at_end count size = record { near = λ _. (at_end, count, size); far = λ full. absurd (omega (arith, room, full)) }

@@ -1,0 +1,156 @@
+-- What stands at the root, read back from its bytes.
+use Rattle.std.proofs.Common.{◌≡◌, ℕ, zero, suc, ◌+◌, ◌*◌, ◌/◌, ◌^◌, ◌<◌, ◌≤◌, List, [], ◌∷◌, ◌++◌, length, take, drop, slice_index_or, slice_set, w64, refl, ap, sym, subst, ◌∙◌, arith}
+use Rattle.std.proofs.Common.{length-append, length-take, length-drop, length-set}
+use Rattle.std.specs.Prelude.{All}
+use Rattle.std.specs.Int.{to_le_bytes}
+use Rattle.std.proofs.lemmas.List.{take_all, append-nil, take-append-le}
+use Rattle.std.proofs.lemmas.List.Elements.{All-set}
+use Rattle.std.proofs.Math.Seq.{take-append_seam}
+use Rattle.capnp_wire.specs.Pointer.{number_of, digits, words_of, words_from}
+use Rattle.capnp_wire.specs.Element.{words_for}
+use Rattle.capnp_wire.specs.Tree.{Form, null, struct, numbers, pointers, structs, Trees, none, tree, count, own_words}
+use Rattle.capnp_wire.specs.Reached.{At, root}
+use Rattle.capnp_wire.specs.Views.{HasData, IsWords}
+use Rattle.capnp_wire.specs.Layout.{body, pointers_to, slots}
+use Rattle.capnp_wire.proofs.DigitLemmas.{digits-number_of}
+use Rattle.capnp_wire.proofs.WordLemmas.{length-words_of}
+use Rattle.capnp_wire.proofs.ObjectLemmas.{one_tree}
+use Rattle.capnp_build.specs.Bytes.{Space, written, with_bytes}
+use Rattle.capnp_build.specs.Held.{space_at}
+use Rattle.capnp_build.specs.Built.{message, IsLaid, IsShown}
+use Rattle.capnp_build.specs.Shown.{Shows, HoldsForm}
+use Rattle.capnp_build.specs.declared.shown.Shown.{Shown}
+use Rattle.capnp_build.specs.declared.shown.Shown.TheVariants.{Null, Bytes, Words, Struct, Other}
+use Rattle.capnp_build.specs.declared.arena.spot.Spot.{Spot}
+use Rattle.capnp_build.proofs.WordLemmas.{part_words, words_set}
+use Rattle.capnp_build.proofs.LaidLemmas.{laid_root}
+use Rattle.capnp_build.proofs.RewriteLemmas.{body_bytes, bytes_there, rewritten}
+
+list_body : (values : List ℕ) → All (λ v. v < 2 ^ 64) values → body (tree (numbers 5 values) none none) ≡ values
+list_body values all =
+    let own_is : List ℕ = digits (2 ^ 64) (words_for (length values) 64) (number_of (2 ^ 64) values) in
+    let n : words_for (length values) 64 ≡ length values = omega arith in
+    append-nil (own_is ++ []) ∙ append-nil own_is ∙ ap (λ (k : ℕ). digits (2 ^ 64) k (number_of (2 ^ 64) values)) n ∙ digits-number_of (2 ^ 64) values all
+
+-- the words of the body
+body_words : (spaces : List Space) (spot : Spot) (form : Form) (held : Trees) → IsLaid spaces spot form held → words_of (body_bytes spaces spot) ≡ body (tree form held none)
+body_words spaces spot form held r =
+    let old : List ℕ = (space_at spaces spot.segment).used in
+    sym (part_words spot.start spot.words old r.room) ∙ ap (words_from (words_of old) spot.start) r.size ∙ r.laid.words_are
+
+pub body_long : (spaces : List Space) (spot : Spot) (form : Form) (held : Trees) → IsLaid spaces spot form held → length (body_bytes spaces spot) ≡ 8 * spot.words
+body_long spaces spot form held r =
+    let old : List ℕ = (space_at spaces spot.segment).used in
+    omega (arith, r.room, length-take (8 * spot.words) (drop (8 * spot.start) old), length-drop (8 * spot.start) old)
+
+-- the numbers of a list of words
+list_there : (spaces : List Space) (spot : Spot) (values : List ℕ) → IsLaid spaces spot (numbers 5 values) none → words_of (body_bytes spaces spot) ≡ values
+list_there spaces spot values r = body_words spaces spot (numbers 5 values) none r ∙ list_body values r.rooms.0.3
+
+first_words : (n : ℕ) (bytes : List ℕ) → 8 * n ≤ length bytes → words_of (take (8 * n) bytes) ≡ take n (words_of bytes)
+first_words n bytes room = sym (part_words 0 n bytes (omega (arith, room)))
+
+-- the data words of a struct
+fields_there : (spaces : List Space) (spot : Spot) (words : List ℕ) (held : Trees) → IsLaid spaces spot (struct words) held → words_of (take (8 * length words) (body_bytes spaces spot)) ≡ words
+fields_there spaces spot words held r =
+    let links : List ℕ = pointers_to (slots (struct words) (count held)) (own_words (struct words) (count held)) held in
+    let bytes : List ℕ = body_bytes spaces spot in
+    first_words (length words) bytes (omega (arith, body_long spaces spot (struct words) held r, r.size)) ∙ ap (take (length words)) (body_words spaces spot (struct words) held r)
+    ∙ take-append-le (length words) ((words ++ links) ++ body held) [] (omega (arith, length-append (words ++ links) (body held), length-append words links))
+    ∙ take-append-le (length words) (words ++ links) (body held) (omega (arith, length-append words links)) ∙ take-append_seam words links
+
+none_held : (held : Trees) → count held ≡ 0 → held ≡ none
+none_held none e = refl
+none_held (tree form inner rest) e = absurd (omega (arith, e))
+
+code_is : (spaces : List Space) (spot : Spot) (c d : ℕ) (values : List ℕ) (held : Trees) → c ≡ d → IsLaid spaces spot (numbers c values) held → IsLaid spaces spot (numbers d values) none
+code_is spaces spot c d values held e r =
+    subst (λ (t : Trees). IsLaid spaces spot (numbers d values) t) (none_held held r.rooms.0.2) (subst (λ (k : ℕ). IsLaid spaces spot (numbers k values) held) e r)
+
+bytes_read : (spaces : List Space) (spot : Spot) (values : List ℕ) → IsLaid spaces spot (numbers 2 values) none → ((i : ℕ) → slice_index_or (space_at spaces spot.segment).used i 0 < 256)
+    → take (length values) (body_bytes spaces spot) ≡ values
+bytes_read spaces spot values r low = ap (take (length values)) (bytes_there spaces spot values r low) ∙ take-append_seam values _
+
+words_read : (spaces : List Space) (spot : Spot) (values : List ℕ) → IsLaid spaces spot (numbers 5 values) none → words_of (take (8 * length values) (body_bytes spaces spot)) ≡ values
+words_read spaces spot values r =
+    let long = body_long spaces spot (numbers 5 values) none r in
+    ap words_of (take_all (8 * length values) (body_bytes spaces spot) (omega (arith, long, r.size))) ∙ list_there spaces spot values r
+
+pub holds_form : (spaces : List Space) (spot : Spot) (form : Form) (held : Trees) → IsLaid spaces spot form held → ((i : ℕ) → slice_index_or (space_at spaces spot.segment).used i 0 < 256)
+    → HoldsForm (body_bytes spaces spot) form
+holds_form spaces spot null held r low = tt
+holds_form spaces spot (struct words) held r low = fields_there spaces spot words held r
+holds_form spaces spot (numbers c values) held r low = (
+  λ e. bytes_read spaces spot values (code_is spaces spot c 2 values held e r) low,
+  λ e. words_read spaces spot values (code_is spaces spot c 5 values held e r),
+)
+holds_form spaces spot pointers held r low = tt
+holds_form spaces spot (structs d p rows) held r low = tt
+
+-- a number of a list of words is another one
+pub number_laid : (spaces last : List Space) (spot : Spot) (values : List ℕ) (i x : ℕ) (w : List ℕ) → IsLaid spaces spot (numbers 5 values) none → i < length values → x < 2 ^ 64
+    → w ≡ to_le_bytes w64 x → length w ≡ 8
+    → last ≡ slice_set spaces spot.segment (with_bytes (space_at spaces spot.segment) (8 * spot.start + 8 * i) w) → IsLaid last spot (numbers 5 (slice_set values i x)) none
+number_laid spaces last spot values i x w r within small is eight e =
+    let wide : length (slice_set values i x) ≡ length values = length-set values i x in
+    let all : All (λ v. v < 2 ^ 64) (slice_set values i x) = All-set (λ (v : ℕ). v < 2 ^ 64) values i x small r.rooms.0.3 in
+    let there = list_there spaces spot values r in
+    let inside : i < length (words_of (body_bytes spaces spot)) = omega (arith, within, ap length there) in
+    let words : words_of (written (body_bytes spaces spot) (8 * i) w) ≡ body (tree (numbers 5 (slice_set values i x)) none none) =
+    words_set (body_bytes spaces spot) i x w inside small is eight ∙ ap (λ (l : List ℕ). slice_set l i x) there ∙ sym (list_body (slice_set values i x) all) in
+    rewritten spaces last spot (numbers 5 values) (numbers 5 (slice_set values i x)) none (8 * i) w r (omega (arith, eight, within, r.size)) e
+    (λ offset. ap (λ (n : ℕ). 1 + 4 * offset + 2 ^ 32 * 5 + 2 ^ 35 * n) wide) (ap (λ (n : ℕ). words_for n 64) wide)
+    (omega arith, omega (arith, wide, r.rooms.0.1), refl, all) words
+
+-- a root has so many values
+pub same_numbers : (spaces : List Space) (c : ℕ) (values others : List ℕ) (charge more : ℕ) → At (message spaces) (root ∷ []) (tree (numbers c values) none none) charge
+    → At (message spaces) (root ∷ []) (tree (numbers c others) none none) more → length values ≡ length others
+same_numbers spaces c values others charge more one other =
+    let same : tree (numbers c values) none none ≡ tree (numbers c others) none none =
+    (one_tree (message spaces) (root ∷ []) (tree (numbers c values) none none) (tree (numbers c others) none none) charge more one other).0 in
+    let forms : values ≡ others = cc in ap length forms
+
+no_first : (xs words : List ℕ) (i : ℕ) → xs ≡ [] → i < length (take (length words) xs) → ⊥
+no_first xs words i e within = let l : length xs ≡ 0 = ap length e in absurd (omega (arith, within, l, length-take (length words) xs))
+
+first_of_many : (xs words : List ℕ) (i : ℕ) → i < length (take (length words) xs) → slice_index_or (take (length words) xs) i 0 ≡ slice_index_or xs i 0
+first_of_many [] words i within = absurd (no_first [] words i refl within)
+first_of_many (x ∷ xs) [] i within = absurd (omega (arith, within))
+first_of_many (x ∷ xs) (w ∷ words) zero within = refl
+first_of_many (x ∷ xs) (w ∷ words) (suc i) within = first_of_many xs words i (omega (arith, within))
+
+-- a word of those that the bytes begin with
+word_read : (bytes words : List ℕ) (i : ℕ) → words_of (take (8 * length words) bytes) ≡ words → i < length words → slice_index_or (words_of bytes) i 0 ≡ slice_index_or words i 0
+word_read bytes words i are within =
+    let long : length (take (8 * length words) bytes) / 8 ≡ length words = sym (length-words_of (take (8 * length words) bytes)) ∙ ap length are in
+    let room : 8 * length words ≤ length bytes = omega (arith, long, length-take (8 * length words) bytes) in
+    let same : take (length words) (words_of bytes) ≡ words = sym (first_words (length words) bytes room) ∙ are in
+    sym (first_of_many (words_of bytes) words i (omega (arith, within, ap length same))) ∙ ap (λ (l : List ℕ). slice_index_or l i 0) same
+
+pub field_read : (form : Form) (bytes words : List ℕ) (i : ℕ) → HoldsForm bytes form → HasData form words → i < length words → slice_index_or (words_of bytes) i 0 ≡ slice_index_or words i 0
+field_read null bytes words i holds has within = let l : length words ≡ 0 = ap length has in absurd (omega (arith, l, within))
+field_read (struct fields) bytes words i holds has within = word_read bytes words i (subst (λ (l : List ℕ). words_of (take (8 * length l) bytes) ≡ l) (sym has) holds) within
+field_read (numbers c values) bytes words i holds has within = absurd has
+field_read pointers bytes words i holds has within = absurd has
+field_read (structs d p rows) bytes words i holds has within = absurd has
+
+pub number_read : (form : Form) (bytes words : List ℕ) (i : ℕ) → HoldsForm bytes form → IsWords form words → i < length words → slice_index_or (words_of bytes) i 0 ≡ slice_index_or words i 0
+number_read null bytes words i holds has within = let l : length words ≡ 0 = ap length has in absurd (omega (arith, l, within))
+number_read (struct fields) bytes words i holds has within = absurd has
+number_read (numbers c values) bytes words i holds has within =
+    word_read bytes words i (subst (λ (l : List ℕ). words_of (take (8 * length l) bytes) ≡ l) (sym has.1) (holds.1 has.0)) within
+number_read pointers bytes words i holds has within = absurd has
+number_read (structs d p rows) bytes words i holds has within = absurd has
+
+-- what is shown stands there
+pub shown_there : (spaces : List Space) (spot : Spot) (shown : Shown) (form : Form) (held : Trees) → IsLaid spaces spot form held → Shows shown form → IsShown shown spaces
+shown_there spaces spot Null form held r shows = tt
+shown_there spaces spot (Bytes n) form held r shows =
+    let laid = code_is spaces spot 2 2 shows.0 held refl (subst (λ (f : Form). IsLaid spaces spot f held) shows.1 r) in
+    let t = laid_root spaces spot (numbers 2 shows.0) none laid in (shows.0, t.0, t.1, shows.2)
+shown_there spaces spot (Words n) form held r shows =
+    let laid = code_is spaces spot 5 5 shows.0 held refl (subst (λ (f : Form). IsLaid spaces spot f held) shows.1 r) in
+    let t = laid_root spaces spot (numbers 5 shows.0) none laid in (shows.0, t.0, t.1, shows.2)
+shown_there spaces spot (Struct n) form held r shows =
+    let t = laid_root spaces spot (struct shows.0) held (subst (λ (f : Form). IsLaid spaces spot f held) shows.1 r) in (shows.0, held, t.0, t.1, shows.2)
+shown_there spaces spot Other form held r shows = tt

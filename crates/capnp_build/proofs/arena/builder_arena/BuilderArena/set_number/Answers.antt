@@ -1,0 +1,61 @@
+-- A number of the list at the root is another one, and all else stays.
+use Rattle.std.proofs.Common.{◌≡◌, ℕ, ◌+◌, ◌*◌, ◌^◌, ◌<◌, ◌≤◌, List, length, Option, Some, slice_set, w64, refl, ap, sym, subst, arith}
+use Rattle.std.specs.Int.{to_le_bytes}
+use Rattle.capnp_wire.specs.Tree.{null, numbers, none}
+use Rattle.capnp_build.specs.Bytes.{Space, with_bytes}
+use Rattle.capnp_build.specs.Held.{Held, space_at}
+use Rattle.capnp_build.specs.Built.{Built, IsWritten, HasNullRoot, IsLaid, IsBuilt, HasNumber, IsNumberSet}
+use Rattle.capnp_build.specs.declared.arena.spot.Spot.{Spot}
+use Rattle.capnp_build.proofs.UsedLemmas.{written_length}
+use Rattle.capnp_build.proofs.WriteLemmas.{written_by, number_known, number_room, number_set, no_list}
+use Rattle.capnp_build.proofs.NullLemmas.{null_only}
+use Rattle.capnp_build.proofs.LaidLemmas.{laid_as, laid_root}
+use Rattle.capnp_build.proofs.ReadLemmas.{number_laid, same_numbers}
+use Rattle.capnp_build.proofs.arena.builder_arena.BuilderArena.set_number.Goals as goal
+
+pub write_at-requires-clause-room : goal.write_at-requires-clause-room
+write_at-requires-clause-room g c =
+    let spaces : List Space = c.self.inside.segments.spaces in
+    let f : HasNumber spaces c.args.index = subst (λ (v : Built g.row.A.Denot). HasNumber v.spaces c.args.index) (sym c.self.view_is) c.requires in
+    let p : IsBuilt spaces (Some c.in-Some.spot) = subst (λ (o : Option Spot). IsBuilt spaces o) c.in-Some.is c.self.invariant in
+    number_room spaces c.in-Some.spot c.args.index (length c.to_le_bytes.result) f p (ap length c.to_le_bytes.ensures)
+
+pub invariant_of-self : goal.invariant_of-self
+invariant_of-self g c =
+    let spaces : List Space = c.self.inside.segments.spaces in
+    let f : HasNumber spaces c.args.index = subst (λ (v : Built g.row.A.Denot). HasNumber v.spaces c.args.index) (sym c.self.view_is) c.requires in
+    let p : IsBuilt spaces (Some c.in-Some.spot) = subst (λ (o : Option Spot). IsBuilt spaces o) c.in-Some.is c.self.invariant in
+    let r = number_known spaces c.in-Some.spot c.args.index f p in
+    let laid = number_laid spaces c.write_at.new.self.spaces c.in-Some.spot f.values c.args.index c.args.number c.to_le_bytes.result r f.within c.ranges.number.fits
+    c.to_le_bytes.ensures (ap length c.to_le_bytes.ensures) (ap (λ (h : Held g.row.A.Denot). h.spaces) c.write_at.ensures) in
+    let after : IsBuilt c.write_at.new.self.spaces (Some c.in-Some.spot) = (numbers 5 (slice_set f.values c.args.index c.args.number), none, laid) in
+    subst (λ (o : Option Spot). IsBuilt c.write_at.new.self.spaces o) (sym c.in-Some.is) after
+
+pub returns-in-Some-clause-set : goal.returns-in-Some-clause-set
+returns-in-Some-clause-set g c = λ values charge there.
+    let spaces : List Space = c.self.inside.segments.spaces in
+    let f : HasNumber spaces c.args.index = subst (λ (v : Built g.row.A.Denot). HasNumber v.spaces c.args.index) (sym c.self.view_is) c.requires in
+    let p : IsBuilt spaces (Some c.in-Some.spot) = subst (λ (o : Option Spot). IsBuilt spaces o) c.in-Some.is c.self.invariant in
+    let a = number_set spaces c.write_at.new.self.spaces c.in-Some.spot c.args.index c.args.number c.to_le_bytes.result f p c.ranges.number.fits
+    c.to_le_bytes.ensures (ap length c.to_le_bytes.ensures) (ap (λ (h : Held g.row.A.Denot). h.spaces) c.write_at.ensures) in
+    subst (λ (v : Built g.row.A.Denot). IsNumberSet v.spaces c.write_at.new.self.spaces c.args.index c.args.number) c.self.view_is a values charge there
+
+pub returns-in-Some-clause-written : goal.returns-in-Some-clause-written
+returns-in-Some-clause-written g c =
+    let spaces : List Space = c.self.inside.segments.spaces in
+    let spot : Spot = c.in-Some.spot in
+    let f : HasNumber spaces c.args.index = subst (λ (v : Built g.row.A.Denot). HasNumber v.spaces c.args.index) (sym c.self.view_is) c.requires in
+    let p : IsBuilt spaces (Some spot) = subst (λ (o : Option Spot). IsBuilt spaces o) c.in-Some.is c.self.invariant in
+    let s : Space = space_at spaces spot.segment in
+    let from : ℕ = 8 * spot.start + 8 * c.args.index in
+    let new : Built g.row.A.Denot = record { spaces = c.write_at.new.self.spaces; spot = c.self.inside.spot; allocator = c.write_at.new.self.allocator } in
+    subst (λ (v : Built g.row.A.Denot). IsWritten v new) c.self.view_is
+    (written_by c.self.inside.segments c.write_at.new.self c.self.inside.spot spot.segment (with_bytes s from c.to_le_bytes.result) c.write_at.ensures refl
+    (written_length from s.used c.to_le_bytes.result (number_room spaces spot c.args.index (length c.to_le_bytes.result) f p (ap length c.to_le_bytes.ensures))))
+
+pub returns-in_default-clause-set : goal.returns-in_default-clause-set
+returns-in_default-clause-set g c =
+    let spaces : List Space = c.self.inside.segments.spaces in
+    let f : HasNumber spaces c.args.index = subst (λ (v : Built g.row.A.Denot). HasNumber v.spaces c.args.index) (sym c.self.view_is) c.requires in
+    let r : HasNullRoot spaces = subst (λ (o : Option Spot). IsBuilt spaces o) c.in_default.is c.self.invariant in
+    absurd (no_list f.values (null_only spaces (numbers 5 f.values) none f.charge r f.stands))

@@ -1,0 +1,45 @@
+-- New objects (src/object.rt).
+use Rattle.std.specs.Prelude.{ℕ, zero, suc, ◌+◌, ◌-◌, ◌*◌, ◌^◌, ◌<◌, ⊤, Bool, true, Option, Some, None, replicate}
+use Rattle.capnp_wire.specs.Element.{words_for}
+use Rattle.capnp_wire.specs.Tree.{Form, null, struct, numbers}
+use Rattle.capnp_build.specs.declared.object.Body.{Body}
+use Rattle.capnp_build.specs.declared.object.Body.TheVariants.{Bytes, Words, Struct}
+
+-- the words of an object
+abbrev pub words_in : Body → ℕ
+words_in (Bytes n) = words_for n 8
+words_in (Words n) = n
+words_in (Struct d) = d
+
+-- each number has room in its field
+abbrev pub Fits : Body → Type 0
+Fits (Bytes n) = n < 2 ^ 29
+Fits (Words n) = n < 2 ^ 29
+Fits (Struct d) = d < 2 ^ 16
+
+-- the pointer to an object that begins so many words behind it
+abbrev pub tag_of : ℕ → Body → ℕ
+tag_of offset (Bytes n) = 1 + 4 * offset + 2 * 2 ^ 32 + n * 2 ^ 35
+tag_of offset (Words n) = 1 + 4 * offset + 5 * 2 ^ 32 + n * 2 ^ 35
+-- of a struct of no words it leads to itself, since a word of zeros is null
+tag_of offset (Struct zero) = 4 * (2 ^ 30 - 1)
+tag_of offset (Struct (suc n)) = 4 * offset + suc n * 2 ^ 32
+
+-- a new object
+abbrev pub zero_form : Body → Form
+zero_form (Bytes n) = numbers 2 (replicate n 0)
+zero_form (Words n) = numbers 5 (replicate n 0)
+zero_form (Struct d) = struct (replicate d 0)
+
+abbrev pub new_form : Option Body → Form
+new_form None = null
+new_form (Some body) = zero_form body
+
+abbrev pub OptionFits : Option Body → Type 0
+OptionFits None = ⊤
+OptionFits (Some body) = Fits body
+
+-- in canonical form a new struct has no data words
+abbrev pub formed_body : Bool → Body → Body
+formed_body true (Struct d) = Struct 0
+formed_body canonical body = body

@@ -1,0 +1,209 @@
+-- A message that is built, whose root is a tree.
+use Rattle.std.specs.Prelude.{⊤, ◌≡◌, ◌⊎◌, ℕ, ◌+◌, ◌-◌, ◌*◌, ◌/◌, ◌^◌, ◌<◌, ◌≤◌, max, Bool, false, List, zero, suc, [], ◌∷◌, ◌++◌, length, map, slice_set, Option, Some, None, MatchOption}
+use Rattle.std.specs.Prelude.{take, drop, replicate}
+use Rattle.capnp_frame.specs.declared.error.ErrorKind.{ErrorKind}
+use Rattle.capnp_wire.specs.Pointer.{words_of}
+use Rattle.capnp_wire.specs.Tree.{Form, null, struct, numbers, Trees, none, tree, count, total_words}
+use Rattle.capnp_wire.specs.Object.{message_of, word_at}
+use Rattle.capnp_wire.specs.Reached.{At, root, Root}
+use Rattle.capnp_wire.specs.Layout.{pointer, far_pointer, layout, Laid, formed, AllHaveRoom}
+use Rattle.capnp_wire.specs.Values.{HasWords}
+use Rattle.capnp_wire.specs.declared.layout.place.Place.{Place}
+use Rattle.capnp_build.specs.Bytes.{Space, written}
+use Rattle.capnp_build.specs.Out.{Out, MayRefuse}
+use Rattle.capnp_build.specs.Held.{Held, pairs as pairs_of, used_of, space_at, room_of}
+use Rattle.capnp_build.specs.declared.arena.spot.Spot.{Spot}
+use Rattle.capnp_build.specs.declared.shown.Shown.{Shown}
+use Rattle.capnp_build.specs.declared.shown.Shown.TheVariants.{Null, Bytes, Words, Struct, Other}
+
+-- the message that the segments show, by their used words
+abbrev pub message : List Space → List (List ℕ)
+message spaces = message_of (map used_of spaces)
+
+-- the words that are used
+abbrev pub size_in_words : List Space → ℕ
+size_in_words [] = 0
+size_in_words (space ∷ spaces) = length space.used / 8 + size_in_words spaces
+
+-- the root is null, also where there is no segment yet
+abbrev pub HasNullRoot : List Space → Type 0
+HasNullRoot spaces = (spaces ≡ []) ⊎ (word_at (message spaces) root ≡ Some 0)
+
+-- the segments in order, where the root's tree stands, and the allocator as it is
+pub record Built (A : Type 0) : Type 0 where
+  pub spaces : List Space
+  pub spot : Option Spot
+  pub allocator : A
+
+-- its segments, and the allocator that they come from
+abbrev pub held_of : {A : Type 0} → Built A → Held A
+held_of built = record { spaces = built.spaces; allocator = built.allocator }
+
+-- what holds of the form of the root's tree
+abbrev pub ForRoot : List Space → (Form → Type 0) → Type 0
+ForRoot spaces fact = (form : Form) (held : Trees) (charge : ℕ) → Root (message spaces) form held charge → fact form
+
+-- the root's object is the one that is shown, unless nothing or another one is
+abbrev pub IsShown : Shown → List Space → Type 0
+IsShown Null spaces = ⊤
+IsShown (Bytes n) spaces = (values : List ℕ) × (charge : ℕ) × Root (message spaces) (numbers 2 values) none charge × (length values ≡ n)
+IsShown (Words n) spaces = (values : List ℕ) × (charge : ℕ) × Root (message spaces) (numbers 5 values) none charge × (length values ≡ n)
+IsShown (Struct n) spaces = (words : List ℕ) × (held : Trees) × (charge : ℕ) × Root (message spaces) (struct words) held charge × (length words ≡ n)
+IsShown Other spaces = ⊤
+
+-- the root's own word, to a body in the first segment, or behind its pad in another one
+abbrev pub root_word : ℕ → ℕ → Form → Trees → ℕ
+root_word zero start form held = pointer form (count held) (start - 1)
+root_word (suc k) start form held = far_pointer (suc k) (start - 1)
+
+abbrev pub pad_of : Spot → Place
+pad_of spot = record { segment = spot.segment; word = spot.start - 1 }
+
+-- a tree's body stands there, and the root leads to it
+pub record IsLaid (spaces : List Space) (spot : Spot) (form : Form) (held : Trees) : Type 0 where
+  pub within : spot.segment < length spaces
+  pub room : 8 * (spot.start + spot.words) ≤ length (space_at spaces spot.segment).used
+  pub behind : 0 < spot.start
+  pub near : spot.start ≤ 2 ^ 29
+  pub rooms : AllHaveRoom (tree form held none)
+  pub size : spot.words ≡ total_words (tree form held none)
+  pub few : spot.words < 2 ^ 29
+  pub tag : spot.tag ≡ pointer form (count held) 0
+  pub laid : Laid (words_of (space_at spaces spot.segment).used) spot.start (tree form held none)
+  pub root_is : word_at (message spaces) root ≡ Some (root_word spot.segment spot.start form held)
+  pub pad_is : 0 < spot.segment → (0 < spot.words) × (word_at (message spaces) (pad_of spot) ≡ Some spot.tag)
+
+-- the root is null, also where there is no segment yet, or a tree stands there
+abbrev pub IsBuilt : List Space → Option Spot → Type 0
+IsBuilt spaces None = HasNullRoot spaces
+IsBuilt spaces (Some spot) = (form : Form) × (held : Trees) × IsLaid spaces spot form held
+
+-- the root is a value's tree
+pub record IsSet (has_tree : Trees → Type 0) (canonical : Bool) (spaces : List Space) : Type 0 where
+  pub trees : Trees
+  pub tree_is : has_tree trees
+  pub charge : ℕ
+  pub stands : At (message spaces) (root ∷ []) (formed canonical trees) charge
+
+-- the one segment is a value's layout and nothing else: in canonical form, its canonical form
+pub record IsWhole (has_tree : Trees → Type 0) (canonical : Bool) (spaces : List Space) : Type 0 where
+  pub trees : Trees
+  pub tree_is : has_tree trees
+  pub words_are : message spaces ≡ layout (formed canonical trees) ∷ []
+
+-- so many words do not stand in one segment
+abbrev pub NotInOne : (ℕ → Type 0) → List Space → Type 0
+NotInOne measured spaces = (1 < length spaces) ⊎ ((words : ℕ) × measured words × (room_of (space_at spaces 0) < words))
+
+-- no segment has room for a block of so many words, nor one behind the first for it and its pad
+pub record HasNoRoom (spaces : List Space) (words : ℕ) : Type 0 where
+  pub first : room_of (space_at spaces 0) < words
+  pub others : (i : ℕ) → 0 < i → i < length spaces → room_of (space_at spaces i) < words + 1
+
+-- want of room: the value has so many words, and no segment has room for them
+abbrev pub IsCrowded : (ℕ → Type 0) → List Space → ErrorKind → Type 0
+IsCrowded measured spaces kind = (words : ℕ) × measured words × HasNoRoom spaces words × MayRefuse (words + 1) kind
+
+-- the words of a new object, and of one that an init gives
+abbrev pub NewWords : Form → ℕ → Type 0
+NewWords form words = HasWords (λ trees. trees ≡ tree form none none) false words
+
+abbrev pub InitWords : (ℕ → Form → Type 0) → ℕ → ℕ → Type 0
+InitWords inits n words = (form : Form) × inits n form × NewWords form words
+
+-- one segment more, of which nothing is used
+abbrev pub IsAdded : List Space → List Space → Type 0
+IsAdded old new = (space : Space) × (new ≡ old ++ space ∷ []) × (space.used ≡ [])
+
+-- a block of so many words stands behind the used words of a segment and a pad of so many
+pub record IsAtEnd (old : List Space) (spot : Option Spot) (segment pad words : ℕ) : Type 0 where
+  pub place : Spot
+  pub place_is : spot ≡ Some place
+  pub segment_is : place.segment ≡ segment
+  pub words_are : place.words ≡ words
+  pub start_is : 8 * place.start ≡ length (space_at old segment).used + 8 * pad
+
+-- a block of so many words stands in the first segment where that has room, else behind a pad in the first one
+-- with room for both, else in a new one; no other words are taken
+pub record IsPlaced {A : Type 0} (old : List Space) (new : Built A) (words : ℕ) : Type 0 where
+  pub near : words ≤ room_of (space_at old 0) → IsAtEnd old new.spot 0 0 words × (length new.spaces ≡ length old)
+      × (size_in_words new.spaces ≡ size_in_words old + words)
+  pub far : room_of (space_at old 0) < words → (segment : ℕ) × (0 < segment) × IsAtEnd old new.spot segment 1 words
+      × ((i : ℕ) → 0 < i → i < segment → room_of (space_at old i) < words + 1) × (segment ≤ length old)
+      × (length new.spaces ≡ max (length old) (segment + 1)) × (size_in_words new.spaces ≡ size_in_words old + words + 1)
+
+-- the root is a struct with such a data word
+pub record HasField (spaces : List Space) (index : ℕ) : Type 0 where
+  pub words : List ℕ
+  pub held : Trees
+  pub charge : ℕ
+  pub stands : At (message spaces) (root ∷ []) (tree (struct words) held none) charge
+  pub within : index < length words
+
+-- one of the root's data words is another one, and all else is as it was
+abbrev pub IsFieldSet : List Space → List Space → ℕ → ℕ → Type 0
+IsFieldSet spaces last index word =
+    (words : List ℕ) (held : Trees) (charge : ℕ) → At (message spaces) (root ∷ []) (tree (struct words) held none) charge
+    → (after : ℕ) × At (message last) (root ∷ []) (tree (struct (slice_set words index word)) held none) after
+
+-- the root is a list of bytes with so many of them from an index on
+pub record HasBytes (spaces : List Space) (index n : ℕ) : Type 0 where
+  pub values : List ℕ
+  pub charge : ℕ
+  pub stands : At (message spaces) (root ∷ []) (tree (numbers 2 values) none none) charge
+  pub within : index + n ≤ length values
+
+-- some of the root's bytes are others, and all else is as it was
+abbrev pub IsBytesSet : List Space → List Space → ℕ → List ℕ → Type 0
+IsBytesSet spaces last index bytes =
+    (values : List ℕ) (charge : ℕ) → At (message spaces) (root ∷ []) (tree (numbers 2 values) none none) charge
+    → (after : ℕ) × At (message last) (root ∷ []) (tree (numbers 2 (written values index bytes)) none none) after
+
+-- the root is a list of words with such a number
+pub record HasNumber (spaces : List Space) (index : ℕ) : Type 0 where
+  pub values : List ℕ
+  pub charge : ℕ
+  pub stands : At (message spaces) (root ∷ []) (tree (numbers 5 values) none none) charge
+  pub within : index < length values
+
+-- one of the root's numbers is another one, and all else is as it was
+abbrev pub IsNumberSet : List Space → List Space → ℕ → ℕ → Type 0
+IsNumberSet spaces last index number =
+    (values : List ℕ) (charge : ℕ) → At (message spaces) (root ∷ []) (tree (numbers 5 values) none none) charge
+    → (after : ℕ) × At (message last) (root ∷ []) (tree (numbers 5 (slice_set values index number)) none none) after
+
+-- what a write through a view keeps
+pub record IsWritten {A : Type 0} (old new : Built A) : Type 0 where
+  pub spot : new.spot ≡ old.spot
+  pub size : size_in_words new.spaces ≡ size_in_words old.spaces
+  pub allocator : new.allocator ≡ old.allocator
+  pub pairs : (others : List Out) → pairs_of new.spaces others ≡ pairs_of old.spaces others
+
+-- the same segments with as many free words, where there were some
+abbrev pub KeepsRooms : List Space → List Space → Type 0
+KeepsRooms old last = 0 < length old → (length last ≡ length old) × ((i : ℕ) → room_of (space_at last i) ≡ room_of (space_at old i))
+
+-- all bytes of a block are zero
+abbrev pub IsZeroAt : List Space → Spot → Type 0
+IsZeroAt spaces spot = take (8 * spot.words) (drop (8 * spot.start) (space_at spaces spot.segment).used) ≡ replicate (8 * spot.words) 0
+
+-- after a refusal: a null root, the old block zero, and no words taken but the root's own
+pub record IsCleared {A : Type 0} (same : A → A → Type 0) (old last : Built A) : Type 0 where
+  pub null : last.spot ≡ None
+  pub null_word : HasNullRoot last.spaces
+  pub zero : MatchOption old.spot ⊤ (IsZeroAt last.spaces)
+  pub size : size_in_words last.spaces ≤ max 1 (size_in_words old.spaces)
+  pub rooms : KeepsRooms old.spaces last.spaces
+  pub same_allocator : same old.allocator last.allocator
+
+-- after a look at the root: all is as it was, but that there is a null root where there was no segment
+pub record IsLookedAt {A : Type 0} (same : A → A → Type 0) (old last : Built A) : Type 0 where
+  pub stays : 0 < length old.spaces → last ≡ old
+  pub null_word : old.spaces ≡ [] → HasNullRoot last.spaces
+  pub size : size_in_words last.spaces ≤ max 1 (size_in_words old.spaces)
+  pub same_allocator : same old.allocator last.allocator
+
+-- the root is declined, null where there is no segment
+abbrev pub DeclinesRoot : (Form → ErrorKind → Type 0) → List Space → ErrorKind → Type 0
+DeclinesRoot declines [] kind = declines null kind
+DeclinesRoot declines (space ∷ spaces) kind = ForRoot (space ∷ spaces) (λ form. declines form kind)

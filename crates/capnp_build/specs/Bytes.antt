@@ -1,0 +1,24 @@
+-- Bytes that are written over.
+use Rattle.std.specs.Prelude.{◌≡◌, ℕ, ◌+◌, Bool, List, ◌++◌, length, take, drop, replicate, All}
+
+-- the bytes with others from an index on
+abbrev pub written : List ℕ → ℕ → List ℕ → List ℕ
+written bytes start w = take start bytes ++ (w ++ drop (start + length w) bytes)
+
+-- all bytes from an index on are zero
+abbrev pub ZeroFrom : ℕ → List ℕ → Type 0
+ZeroFrom start bytes = All (λ b. b ≡ 0) (drop start bytes)
+
+-- what is seen of a segment of an arena: its used bytes, how many it has, and whether it is lent
+pub record Space : Type 0 where
+  pub used : List ℕ
+  pub size : ℕ
+  pub is_lent : Bool
+
+-- with so many more bytes used, which are zero
+abbrev pub with_block : Space → ℕ → Space
+with_block space n = record { used = space.used ++ replicate n 0; size = space.size; is_lent = space.is_lent }
+
+-- with other bytes from an index on
+abbrev pub with_bytes : Space → ℕ → List ℕ → Space
+with_bytes space at w = record { used = written space.used at w; size = space.size; is_lent = space.is_lent }

@@ -1,0 +1,74 @@
+//! What hands out segments and takes them back.
+ghost use Rattle.std.specs.Prelude.{◌≡◌, ℕ, ◌+◌, ◌*◌, ◌/◌, ◌^◌, ◌<◌, ◌≤◌, ◌⊎◌, List, length, IfOk, IfErr, OnErr};
+ghost use Rattle.capnp_build.specs.Bytes.{ZeroFrom};
+ghost use Rattle.capnp_build.specs.Out.{Out, Adds, TakesOff, IsOut, IsPreorder, MayRefuse};
+
+use crate::segment_space::SegmentSpace;
+use capnp_frame::Result;
+
+/// What hands out segments and takes them back.
+///
+/// For implementers: `out` says which segments may be out, each by its length in bytes and whether it
+/// is lent; `same` what each call keeps, as the region that an allocator lends.
+pub trait Allocator: Drop {
+    /// The bytes of what it hands out.
+    type Segment: SegmentSpace;
+
+    /// The allocator may have these segments out.
+    ghost out: { Self → List Out → Type 0 };
+
+    /// What each call keeps.
+    ghost same: { Self → Self → Type 0 };
+
+    /// Hands out a segment of at least so many words and fewer than 2^32, all zero. It is refused by
+    /// `OutOfMemory`, `AllocationTooLarge` with the words asked, or `SegmentTaken` alone.
+    fn allocate_segment(&mut self, minimum_size: u32) -> Result<Self::Segment>
+        ensures room { IfOk result (λ s. minimum_size ≤ length (Self.Segment.content s) / 8) }
+        ensures field { IfOk result (λ s. length (Self.Segment.content s) / 8 < 2 ^ 32) }
+        ensures zero { IfOk result (λ s. ZeroFrom 0 (Self.Segment.content s)) }
+        ensures adds { IfOk result (λ s. Adds (out self.old) (out self.new) (record { length = length (Self.Segment.content s); is_lent = Self.Segment.is_lent s })) }
+        ensures refusal { IfErr result (λ error. MayRefuse minimum_size error.kind) }
+        ensures refused { OnErr result ((list : List Out) → out self.old list → out self.new list) }
+        ensures same { same self.old self.new };
+
+    /// Takes a segment back, of which the first words were used. What lies past these is zero.
+    fn deallocate_segment(&mut self, segment: Self::Segment, words_used: u32)
+        requires is_out { IsOut (out self.old) (record { length = length (Self.Segment.content segment); is_lent = Self.Segment.is_lent segment }) }
+        requires used { 8 * words_used ≤ length (Self.Segment.content segment) }
+        requires zero { ZeroFrom (8 * words_used) (Self.Segment.content segment) }
+        ensures takes_off { TakesOff (out self.old) (out self.new) (record { length = length (Self.Segment.content segment); is_lent = Self.Segment.is_lent segment }) }
+        ensures same { same self.old self.new };
+
+    /// What each call keeps, the calls together keep.
+    ghost keeps: { IsPreorder same };
+
+    /// Some segments are out, if only none.
+    ghost accounts: { (allocator : Self) → (list : List Out) × out allocator list };
+}
+
+/// The same allocator, which its owner keeps.
+impl<A: Allocator> Allocator for &mut A {
+    type Segment = A::Segment;
+
+    ghost use Rattle.std.specs.Prelude.{◌≡◌, refl};
+    ghost use Rattle.std.proofs.Common.{◌∙◌};
+
+    ghost out = { λ allocator list. A.out allocator.now list };
+
+    ghost same = { λ old new. (new.ghost_name ≡ old.ghost_name) × A.same old.now new.now };
+
+    fn allocate_segment(&mut self, minimum_size: u32) -> Result<A::Segment> {
+        (**self).allocate_segment(minimum_size)
+    }
+
+    fn deallocate_segment(&mut self, segment: A::Segment, words_used: u32) {
+        (**self).deallocate_segment(segment, words_used);
+    }
+
+    ghost keeps = { record {
+      reflexive = λ s. (refl, A.keeps.reflexive s.now);
+      transitive = λ s t u p q. (q.0 ∙ p.0, A.keeps.transitive s.now t.now u.now p.1 q.1);
+    } };
+
+    ghost accounts = { λ s. A.accounts s.now };
+}

@@ -1,0 +1,73 @@
+//! Structs that are built.
+ghost use Rattle.std.specs.Prelude.{◌≡◌, ℕ, ◌+◌, ◌-◌, ◌*◌, ◌^◌, ◌/◌, ◌<◌, ◌≤◌, List, length, replicate, slice_index_or};
+ghost use Rattle.capnp_frame.specs.declared.error.ErrorKind.TheVariants.{AllocationTooLarge};
+ghost use Rattle.capnp_wire.specs.Tree.{struct};
+ghost use Rattle.capnp_wire.specs.Views.{HasData, TakesStruct, DeclinesStruct};
+ghost use Rattle.capnp_build.specs.Built.{ForRoot, HasField, IsFieldSet, IsWritten};
+
+use crate::object::Body;
+use crate::owned_builder::OwnedBuilder;
+use crate::shown::{Shown, word_at};
+use crate::view::{Building, View};
+use capnp_frame::{Error, ErrorKind, Result};
+pub use capnp_wire::any_struct::Owned;
+
+/// A struct whose data words are written in place.
+pub type StructBuilder<'a, M> = View<'a, M, Owned>;
+
+impl OwnedBuilder for Owned {
+    ghost inits = { λ n form. form ≡ struct (replicate n 0) };
+
+    ghost refuses = { λ n kind. (2 ^ 16 ≤ n) × (kind ≡ AllocationTooLarge n) };
+
+    fn object(n: u32) -> Result<Option<Body>> {
+        if n > 65535 {
+            return Err(Error::from_kind(ErrorKind::AllocationTooLarge(n)));
+        }
+        Ok(Some(Body::Struct(n)))
+    }
+
+    ghost takes = { TakesStruct };
+
+    ghost declines = { DeclinesStruct };
+
+    fn accept(shown: Shown, bytes: &[u8]) -> Result<()> {
+        match shown {
+            Shown::Null | Shown::Struct(_) => Ok(()),
+            _ => Err(Error::from_kind(ErrorKind::WrongPointerKind)),
+        }
+    }
+}
+
+impl<'a, M: Building> View<'a, M, Owned> {
+    /// Sets a data word.
+    pub fn set_word(&mut self, index: u16, word: u64)
+        requires { HasField (M.built self.old.message.now).spaces index }
+        ensures same { self.new.message.ghost_name ≡ self.old.message.ghost_name }
+        ensures set { IsFieldSet (M.built self.old.message.now).spaces (M.built self.new.message.now).spaces index word }
+        ensures written { IsWritten (M.built self.old.message.now) (M.built self.new.message.now) }
+    {
+        self.message.set_word(index, word);
+    }
+
+    /// A data word; 0 past the end.
+    pub fn get_word(&self, index: u16) -> u64
+        ensures { ForRoot (M.built self.now.message.now).spaces (λ form. (words : List ℕ) → HasData form words → result ≡ slice_index_or words index 0) }
+    {
+        if index >= self.data_words() {
+            return 0;
+        }
+        word_at(self.message.root_bytes(), index as u32)
+    }
+
+    /// How many data words there are.
+    pub fn data_words(&self) -> u16
+        ensures count { ForRoot (M.built self.now.message.now).spaces (λ form. (words : List ℕ) → HasData form words → result ≡ length words) }
+        ensures each { (index : ℕ) → index < result → HasField (M.built self.now.message.now).spaces index }
+    {
+        match self.message.root_shown() {
+            Shown::Struct(n) => n,
+            _ => 0,
+        }
+    }
+}

@@ -1,0 +1,175 @@
+//! The arena that a message is built in.
+ghost use Rattle.std.specs.Prelude.{⊤, MatchOption, ◌≡◌, ℕ, ◌+◌, ◌-◌, ◌*◌, ◌/◌, ◌<◌, ◌≤◌, [], ◌∷◌, length, map, max, slice_index_or, take, drop, Some, None, IfErr, OnOk, OnErr};
+ghost use Rattle.capnp_build.specs.Out.{MayRefuse};
+ghost use Rattle.capnp_build.specs.Held.{used_of, space_at, KeepsOthers, BringsHome};
+ghost use Rattle.capnp_build.specs.Built.{held_of, ForRoot, IsShown, IsLookedAt, size_in_words, message, HasNullRoot, Built, IsZeroAt, KeepsRooms};
+ghost use Rattle.capnp_build.specs.Shown.{Shows, HoldsForm};
+ghost use Rattle.capnp_wire.specs.Tree.{Form, Trees, none, tree, count};
+ghost use Rattle.capnp_wire.specs.Reached.{At, root};
+ghost use Rattle.capnp_wire.specs.Layout.{pointer};
+ghost use Rattle.capnp_wire.specs.Readers.{pointer_of, unlimited_root};
+
+use crate::allocator::Allocator;
+use crate::arena::spot::Spot;
+use crate::segments::Segments;
+use crate::shown::{Shown, read_tag};
+use capnp_frame::Result;
+use capnp_frame::message::ReaderSegments;
+use capnp_wire::any_pointer;
+use std::alloc::Global;
+use std::marker::Model;
+
+/// The segments of a message, and where the tree at its root stands.
+#[derive(Drop)]
+pub struct BuilderArena<A: Allocator> {
+    pub(crate) segments: Segments<A>,
+    pub(crate) spot: Option<Spot>,
+}
+
+impl<A: Allocator> Model for BuilderArena<A> {
+    ghost use Rattle.capnp_build.specs.Built.{Built, IsBuilt};
+
+    ghost Value = { Built A };
+
+    ghost view = { λ arena. record { spaces = arena.segments.spaces; spot = arena.spot; allocator = arena.segments.allocator } };
+
+    ghost invariant = { λ arena. IsBuilt arena.segments.spaces arena.spot };
+}
+
+impl<A: Allocator> BuilderArena<A> {
+    /// A message of no segments, whose root is null.
+    pub fn new(alloc: Global, allocator: A) -> BuilderArena<A>
+        ensures spaces { result.spaces ≡ [] }
+        ensures spot { result.spot ≡ None }
+        ensures allocator { result.allocator ≡ allocator }
+    {
+        BuilderArena {
+            segments: Segments::new(alloc, allocator),
+            spot: None,
+        }
+    }
+
+    /// Makes the root null, and the old body zero.
+    pub fn clear_root(&mut self) -> Result<()>
+        ensures null { self.new.spot ≡ None }
+        ensures null_word { HasNullRoot self.new.spaces }
+        ensures zero { MatchOption self.old.spot ⊤ (IsZeroAt self.new.spaces) }
+        ensures there { OnOk result (0 < length self.new.spaces) }
+        ensures none { OnErr result (self.new.spaces ≡ []) }
+        ensures kind { IfErr result (λ error. (length self.old.spaces ≡ 0) × MayRefuse 1 error.kind) }
+        ensures same { A.same self.old.allocator self.new.allocator }
+        ensures others { KeepsOthers A.out (held_of self.old) (held_of self.new) }
+        ensures size { OnOk result (size_in_words self.new.spaces ≡ max 1 (size_in_words self.old.spaces)) }
+        ensures rooms { KeepsRooms self.old.spaces self.new.spaces }
+        ensures fresh { self.old.spaces ≡ [] → OnOk result ((length self.new.spaces ≡ 1) × (length (space_at self.new.spaces 0).used ≡ 8)) }
+    {
+        if self.segments.len() == 0 {
+            self.spot = None;
+            self.segments.add(1)?;
+            self.segments.grow(0, 1);
+            return Ok(());
+        }
+        if let Some(spot) = self.spot {
+            let from = 8 * spot.start as usize;
+            let to = from + 8 * spot.words as usize;
+            self.segments.zero(spot.segment, from, to);
+            self.segments.zero(0, 0, 8);
+            self.spot = None;
+            return Ok(());
+        }
+        self.segments.zero(0, 0, 8);
+        Ok(())
+    }
+
+    /// There is a root; where there was no segment, a null one in a new segment.
+    pub fn ensure_root(&mut self) -> Result<()>
+        ensures there { OnOk result (0 < length self.new.spaces) }
+        ensures none { OnErr result (self.new.spaces ≡ []) }
+        ensures looked { IsLookedAt A.same self.old self.new }
+        ensures kind { IfErr result (λ error. (length self.old.spaces ≡ 0) × MayRefuse 1 error.kind) }
+        ensures others { KeepsOthers A.out (held_of self.old) (held_of self.new) }
+    {
+        if self.segments.len() == 0 {
+            return self.clear_root();
+        }
+        Ok(())
+    }
+
+    /// The allocator, once each segment has gone back to it with its used words.
+    pub fn into_allocator(self) -> A
+        ensures home { BringsHome A.out (held_of self) result }
+        ensures same { A.same self.allocator result }
+    {
+        let BuilderArena { segments, spot: _ } = self;
+        segments.into_allocator()
+    }
+
+    /// What the object at the root is.
+    pub fn root_shown(&self) -> Shown
+        ensures form { ForRoot self.now.spaces (Shows result) }
+        ensures stands { IsShown result self.now.spaces }
+    {
+        match self.spot {
+            None => Shown::Null,
+            Some(spot) => read_tag(spot.tag),
+        }
+    }
+
+    /// The words of the tree at the root, behind its pointer; none where it is null.
+    pub fn root_bytes(&self) -> &[u8]
+        ensures { ForRoot self.now.spaces (HoldsForm result.now) }
+    {
+        let Some(spot) = self.spot else {
+            return &[];
+        };
+        let Some(used) = self.segments.get(spot.segment) else {
+            return &[];
+        };
+        each_is_a_byte(used);
+        stretch(used, 8 * spot.start as usize, 8 * spot.words as usize)
+    }
+
+    /// The root, to be read from the segments as they are; null where there are none.
+    pub fn get_root_as_reader(&self) -> any_pointer::Reader<'_, BuilderArena<A>>
+        ensures { let segments = λ (arena : Built A). map used_of arena.spaces in
+            pointer_of segments result ≡ unlimited_root (map used_of self.now.spaces) }
+    {
+        any_pointer::Reader::root_of(self)
+    }
+
+    /// The words that are used.
+    pub fn size_in_words(&self) -> usize
+        ensures { result ≡ size_in_words self.now.spaces }
+    {
+        self.segments.size_in_words()
+    }
+
+    /// The tree at the root.
+    pub fn root_stands(&self)
+        ensures { 0 < length self.now.spaces → (form : Form) × (held : Trees) × (charge : ℕ) × At (message self.now.spaces) (root ∷ []) (tree form held none) charge }
+    {
+        let spot = self.spot;
+    }
+}
+
+impl<A: Allocator> ReaderSegments for BuilderArena<A> {
+    ghost segments = { λ arena. map used_of arena.spaces };
+
+    fn get_segment(&self, id: u32) -> Option<&[u8]> {
+        self.segments.get(id)
+    }
+}
+
+// So many bytes from an index on.
+fn stretch(bytes: &[u8], from: usize, count: usize) -> &[u8]
+    requires { from + count ≤ length bytes.now }
+    ensures { result.now ≡ take count (drop from bytes.now) }
+{
+    let rest = &bytes[from..];
+    &rest[..count]
+}
+
+// Bytes are numbers below 256.
+pub(crate) fn each_is_a_byte(bytes: &[u8])
+    ensures { (i : ℕ) → slice_index_or bytes.now i 0 < 256 }
+{}

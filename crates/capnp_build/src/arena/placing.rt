@@ -1,0 +1,132 @@
+//! Where the block of a value is placed, and the pointer to it.
+ghost use Rattle.std.specs.Prelude.{◌≡◌, ℕ, ◌+◌, ◌-◌, ◌*◌, ◌/◌, ◌^◌, ◌<◌, ◌≤◌, length, Some, None, IfOk, IfErr, OnOk, OnErr};
+ghost use Rattle.capnp_build.specs.Out.{MayRefuse};
+ghost use Rattle.capnp_build.specs.Held.{space_at, room_of, KeepsOthers};
+ghost use Rattle.capnp_build.specs.Built.{held_of, size_in_words, IsSet, IsWhole, HasNoRoom, IsAdded, IsAtEnd, IsPlaced};
+ghost use Rattle.capnp_wire.specs.Tree.{count};
+ghost use Rattle.capnp_wire.specs.Reached.{root};
+ghost use Rattle.capnp_wire.specs.Layout.{pointer};
+ghost use Rattle.capnp_wire.specs.Values.{HasWords};
+
+use crate::allocator::Allocator;
+use crate::arena::builder_arena::BuilderArena;
+use crate::arena::spot::{Spot, far, moved};
+use capnp_frame::Result;
+use capnp_wire::traits::SetterInput;
+
+impl<A: Allocator> BuilderArena<A> {
+    // A segment with room for so many words, behind the first.
+    pub(crate) fn find_room(&mut self, words: u32) -> Result<u32>
+        requires there { 0 < length self.old.spaces }
+        requires null { self.old.spot ≡ None }
+        requires few { words ≤ 2 ^ 29 }
+        ensures found { IfOk result (λ segment. (0 < segment) × (segment < length self.new.spaces) × (words ≤ room_of (space_at self.new.spaces segment))) }
+        ensures first { IfOk result (λ segment. (i : ℕ) → 0 < i → i < segment → room_of (space_at self.old.spaces i) < words) }
+        ensures older { IfOk result (λ segment. segment < length self.old.spaces → self.new.spaces ≡ self.old.spaces) }
+        ensures newer { IfOk result (λ segment. length self.old.spaces ≤ segment → (segment ≡ length self.old.spaces) × IsAdded self.old.spaces self.new.spaces) }
+        ensures null { self.new.spot ≡ None }
+        ensures kept { OnErr result (self.new.spaces ≡ self.old.spaces) }
+        ensures full { OnErr result ((i : ℕ) → 0 < i → i < length self.old.spaces → room_of (space_at self.old.spaces i) < words) }
+        ensures kind { IfErr result (λ error. MayRefuse words error.kind) }
+        ensures same { A.same self.old.allocator self.new.allocator }
+        ensures others { KeepsOthers A.out (held_of self.old) (held_of self.new) }
+    {
+        let count = self.segments.len();
+        for segment in 1..count {
+            if words <= self.segments.room(segment) {
+                return Ok(segment);
+            }
+        }
+        self.segments.add(words)?;
+        Ok(count)
+    }
+
+    pub(crate) fn put_near<T, V: SetterInput<T>>(&mut self, canonical: bool, value: &V, words: u32)
+        requires there { 0 < length self.old.spaces }
+        requires null { self.old.spot ≡ None }
+        requires value { HasWords (V.has_tree value.now) canonical words }
+        requires room { words ≤ room_of (space_at self.old.spaces 0) }
+        ensures set { IsSet (V.has_tree value.now) canonical self.new.spaces }
+        ensures whole { length self.old.spaces ≡ 1 → length (space_at self.old.spaces 0).used ≡ 8 → IsWhole (V.has_tree value.now) canonical self.new.spaces }
+        ensures count { length self.new.spaces ≡ length self.old.spaces }
+        ensures spot { IsAtEnd self.old.spaces self.new.spot 0 0 words }
+        ensures size { size_in_words self.new.spaces ≡ size_in_words self.old.spaces + words }
+        ensures same { self.new.allocator ≡ self.old.allocator }
+        ensures others { KeepsOthers A.out (held_of self.old) (held_of self.new) }
+    {
+        let start = self.segments.words(0);
+        let word = self.segments.append(0, canonical, value, words);
+        let tag = u64::from_le_bytes(word.bytes());
+        let pointer = moved(tag, start - 1);
+        self.segments.write_at(0, 0, &pointer.to_le_bytes());
+        self.spot = Some(Spot {
+            segment: 0,
+            start,
+            words,
+            tag,
+        });
+    }
+
+    pub(crate) fn put_far<T, V: SetterInput<T>>(
+        &mut self,
+        segment: u32,
+        canonical: bool,
+        value: &V,
+        words: u32,
+    )
+        requires within { segment < length self.old.spaces }
+        requires other { 0 < segment }
+        requires null { self.old.spot ≡ None }
+        requires some { 0 < words }
+        requires value { HasWords (V.has_tree value.now) canonical words }
+        requires room { words + 1 ≤ room_of (space_at self.old.spaces segment) }
+        ensures set { IsSet (V.has_tree value.now) canonical self.new.spaces }
+        ensures count { length self.new.spaces ≡ length self.old.spaces }
+        ensures spot { IsAtEnd self.old.spaces self.new.spot segment 1 words }
+        ensures size { size_in_words self.new.spaces ≡ size_in_words self.old.spaces + words + 1 }
+        ensures same { self.new.allocator ≡ self.old.allocator }
+        ensures others { KeepsOthers A.out (held_of self.old) (held_of self.new) }
+    {
+        let pad = self.segments.words(segment);
+        self.segments.grow(segment, 1);
+        let word = self.segments.append(segment, canonical, value, words);
+        let tag = u64::from_le_bytes(word.bytes());
+        self.segments
+            .write_at(segment, 8 * pad as usize, &tag.to_le_bytes());
+        let pointer = far(segment, pad);
+        self.segments.write_at(0, 0, &pointer.to_le_bytes());
+        self.spot = Some(Spot {
+            segment,
+            start: pad + 1,
+            words,
+            tag,
+        });
+    }
+
+    // Places a value at the null root.
+    pub(crate) fn put<T, V: SetterInput<T>>(
+        &mut self,
+        canonical: bool,
+        value: &V,
+        words: u32,
+    ) -> Result<()>
+        requires there { 0 < length self.old.spaces }
+        requires null { self.old.spot ≡ None }
+        requires value { HasWords (V.has_tree value.now) canonical words }
+        ensures set { OnOk result (IsSet (V.has_tree value.now) canonical self.new.spaces) }
+        ensures placed { OnOk result (IsPlaced self.old.spaces self.new words) }
+        ensures refused { OnErr result (self.new.spot ≡ None) }
+        ensures kept { OnErr result (self.new.spaces ≡ self.old.spaces) }
+        ensures kind { IfErr result (λ error. HasNoRoom self.old.spaces words × MayRefuse (words + 1) error.kind) }
+        ensures same { A.same self.old.allocator self.new.allocator }
+        ensures others { KeepsOthers A.out (held_of self.old) (held_of self.new) }
+    {
+        if words <= self.segments.room(0) {
+            self.put_near(canonical, value, words);
+            return Ok(());
+        }
+        let segment = self.find_room(words + 1)?;
+        self.put_far(segment, canonical, value, words);
+        Ok(())
+    }
+}

@@ -1,0 +1,92 @@
+//! Bytes that are built.
+ghost use Rattle.std.specs.Prelude.{◌≡◌, ℕ, ◌+◌, ◌-◌, ◌*◌, ◌^◌, ◌/◌, ◌<◌, ◌≤◌, List, [], ◌∷◌, length, take, min, replicate};
+ghost use Rattle.capnp_frame.specs.declared.error.ErrorKind.TheVariants.{AllocationTooLarge};
+ghost use Rattle.capnp_wire.specs.Tree.{numbers};
+ghost use Rattle.capnp_wire.specs.Element.{words_for};
+ghost use Rattle.capnp_wire.specs.Views.{IsData, TakesNumbers, DeclinesNumbers};
+ghost use Rattle.capnp_build.specs.Built.{ForRoot, HasBytes, IsBytesSet, IsWritten};
+
+use crate::object::Body;
+use crate::owned_builder::OwnedBuilder;
+use crate::shown::Shown;
+use crate::view::{Building, View};
+use capnp_frame::{Error, ErrorKind, Result};
+pub use capnp_wire::data::Owned;
+
+/// Bytes that are written in place.
+pub type Builder<'a, M> = View<'a, M, Owned>;
+
+impl OwnedBuilder for Owned {
+    ghost inits = { λ n form. form ≡ numbers 2 (replicate n 0) };
+
+    ghost refuses = { λ n kind. (2 ^ 29 - 1 < n) × (kind ≡ AllocationTooLarge (words_for n 8)) };
+
+    fn object(n: u32) -> Result<Option<Body>> {
+        if n > (1 << 29) - 1 {
+            return Err(Error::from_kind(ErrorKind::AllocationTooLarge(n.div_ceil(8))));
+        }
+        Ok(Some(Body::Bytes(n)))
+    }
+
+    ghost takes = { TakesNumbers 2 };
+
+    ghost declines = { DeclinesNumbers 2 };
+
+    fn accept(shown: Shown, bytes: &[u8]) -> Result<()> {
+        match shown {
+            Shown::Null | Shown::Bytes(_) => Ok(()),
+            _ => Err(Error::from_kind(ErrorKind::WrongPointerKind)),
+        }
+    }
+}
+
+impl<'a, M: Building> View<'a, M, Owned> {
+    /// Sets a byte.
+    pub fn set(&mut self, index: u32, byte: u8)
+        requires { HasBytes (M.built self.old.message.now).spaces index 1 }
+        ensures same { self.new.message.ghost_name ≡ self.old.message.ghost_name }
+        ensures set { IsBytesSet (M.built self.old.message.now).spaces (M.built self.new.message.now).spaces index (byte ∷ []) }
+        ensures written { IsWritten (M.built self.old.message.now) (M.built self.new.message.now) }
+    {
+        self.message.write_bytes(index, &[byte]);
+    }
+
+    /// Writes bytes over those from an index on.
+    pub fn write(&mut self, index: u32, bytes: &[u8])
+        requires { HasBytes (M.built self.old.message.now).spaces index (length bytes.now) }
+        ensures same { self.new.message.ghost_name ≡ self.old.message.ghost_name }
+        ensures set { IsBytesSet (M.built self.old.message.now).spaces (M.built self.new.message.now).spaces index bytes.now }
+        ensures written { IsWritten (M.built self.old.message.now) (M.built self.new.message.now) }
+    {
+        self.message.write_bytes(index, bytes);
+    }
+
+    /// The bytes.
+    pub fn as_bytes(&self) -> &[u8]
+        ensures { ForRoot (M.built self.now.message.now).spaces (λ form. (bytes : List ℕ) → IsData form bytes → result.now ≡ bytes) }
+    {
+        match self.message.root_shown() {
+            Shown::Bytes(n) => first_of(self.message.root_bytes(), n),
+            _ => &[],
+        }
+    }
+
+    /// How many bytes there are.
+    pub fn len(&self) -> u32
+        ensures count { ForRoot (M.built self.now.message.now).spaces (λ form. (bytes : List ℕ) → IsData form bytes → result ≡ length bytes) }
+        ensures each { (index count : ℕ) → 0 < count → index + count ≤ result → HasBytes (M.built self.now.message.now).spaces index count }
+    {
+        match self.message.root_shown() {
+            Shown::Bytes(n) => n,
+            _ => 0,
+        }
+    }
+}
+
+// The first of some bytes.
+fn first_of(bytes: &[u8], count: u32) -> &[u8]
+    ensures { result.now ≡ take (min count (length bytes.now)) bytes.now }
+{
+    let end = (count as usize).min(bytes.len());
+    &bytes[..end]
+}

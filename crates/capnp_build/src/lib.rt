@@ -1,0 +1,20 @@
+//! Cap'n Proto messages that are built in place, in segments that an allocator hands out.
+#![tactic(auto)]
+
+pub mod allocator;
+pub mod any_pointer;
+pub mod any_struct;
+pub mod arena;
+pub mod data;
+pub mod fresh;
+pub mod object;
+pub mod owned_builder;
+pub mod part;
+pub mod primitive_list;
+pub mod segment_space;
+pub mod segments;
+pub mod shown;
+#[cfg(test)]
+mod tests;
+pub mod text;
+pub mod view;

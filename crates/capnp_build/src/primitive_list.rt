@@ -1,0 +1,73 @@
+//! Lists of numbers that are built.
+ghost use Rattle.std.specs.Prelude.{◌≡◌, ℕ, ◌+◌, ◌-◌, ◌*◌, ◌^◌, ◌/◌, ◌<◌, ◌≤◌, List, length, replicate, slice_index_or};
+ghost use Rattle.capnp_frame.specs.declared.error.ErrorKind.TheVariants.{AllocationTooLarge};
+ghost use Rattle.capnp_wire.specs.Tree.{numbers};
+ghost use Rattle.capnp_wire.specs.Views.{IsWords, TakesNumbers, DeclinesNumbers};
+ghost use Rattle.capnp_build.specs.Built.{ForRoot, HasNumber, IsNumberSet, IsWritten};
+
+use crate::object::Body;
+use crate::owned_builder::OwnedBuilder;
+use crate::shown::{Shown, word_at};
+use crate::view::{Building, View};
+use capnp_frame::{Error, ErrorKind, Result};
+pub use capnp_wire::primitive_list::Owned;
+
+/// A list of numbers that is written in place.
+pub type Builder<'a, M, T> = View<'a, M, Owned<T>>;
+
+impl OwnedBuilder for Owned<u64> {
+    ghost inits = { λ n form. form ≡ numbers 5 (replicate n 0) };
+
+    ghost refuses = { λ n kind. (2 ^ 29 - 1 < n) × (kind ≡ AllocationTooLarge n) };
+
+    fn object(n: u32) -> Result<Option<Body>> {
+        if n > (1 << 29) - 1 {
+            return Err(Error::from_kind(ErrorKind::AllocationTooLarge(n)));
+        }
+        Ok(Some(Body::Words(n)))
+    }
+
+    ghost takes = { TakesNumbers 5 };
+
+    ghost declines = { DeclinesNumbers 5 };
+
+    fn accept(shown: Shown, bytes: &[u8]) -> Result<()> {
+        match shown {
+            Shown::Null | Shown::Words(_) => Ok(()),
+            _ => Err(Error::from_kind(ErrorKind::WrongPointerKind)),
+        }
+    }
+}
+
+impl<'a, M: Building> View<'a, M, Owned<u64>> {
+    /// Sets a number.
+    pub fn set(&mut self, index: u32, number: u64)
+        requires { HasNumber (M.built self.old.message.now).spaces index }
+        ensures same { self.new.message.ghost_name ≡ self.old.message.ghost_name }
+        ensures set { IsNumberSet (M.built self.old.message.now).spaces (M.built self.new.message.now).spaces index number }
+        ensures written { IsWritten (M.built self.old.message.now) (M.built self.new.message.now) }
+    {
+        self.message.set_number(index, number);
+    }
+
+    /// A number; 0 past the end.
+    pub fn get(&self, index: u32) -> u64
+        ensures { ForRoot (M.built self.now.message.now).spaces (λ form. (words : List ℕ) → IsWords form words → result ≡ slice_index_or words index 0) }
+    {
+        if index >= self.len() {
+            return 0;
+        }
+        word_at(self.message.root_bytes(), index)
+    }
+
+    /// How many numbers there are.
+    pub fn len(&self) -> u32
+        ensures count { ForRoot (M.built self.now.message.now).spaces (λ form. (words : List ℕ) → IsWords form words → result ≡ length words) }
+        ensures each { (index : ℕ) → index < result → HasNumber (M.built self.now.message.now).spaces index }
+    {
+        match self.message.root_shown() {
+            Shown::Words(n) => n,
+            _ => 0,
+        }
+    }
+}

@@ -1,0 +1,107 @@
+//! The bytes of segments.
+ghost use Rattle.std.specs.Prelude.{◌≡◌, ℕ, ◌+◌, ◌-◌, ◌/◌, ◌%◌, ◌≤◌, Bool, true, false, List, length, replicate, take, drop};
+ghost use Rattle.capnp_wire.specs.Values.{HasWords};
+ghost use Rattle.capnp_build.specs.Bytes.{written};
+ghost use Rattle.capnp_build.specs.Filled.{IsFilled};
+
+use capnp_frame::Word;
+use capnp_wire::traits::SetterInput;
+
+/// The bytes of a segment. How many there are, and whether they are lent, stays as it is.
+pub trait SegmentSpace: Drop {
+    /// The bytes.
+    ghost content: { Self → List ℕ };
+
+    /// Whether they are a region that the caller of an allocator lent it.
+    ghost is_lent: { Self → Bool };
+
+    /// The bytes, to read.
+    fn bytes(&self) -> &[u8]
+        ensures { result.now ≡ content self.now };
+
+    /// Writes bytes from an index on.
+    fn write_at(&mut self, at: usize, bytes: &[u8])
+        requires { at + length bytes.now ≤ length (content self.old) }
+        ensures bytes { content self.new ≡ written (content self.old) at bytes.now }
+        ensures lent { is_lent self.new ≡ is_lent self.old };
+
+    /// Makes the bytes between two indexes zero.
+    fn zero(&mut self, from: usize, to: usize)
+        requires order { from ≤ to }
+        requires within { to ≤ length (content self.old) }
+        ensures bytes { content self.new ≡ written (content self.old) from (replicate (to - from) 0) }
+        ensures lent { is_lent self.new ≡ is_lent self.old };
+
+    /// Writes a value into the bytes between two indexes, which are zero and just its words, and answers
+    /// the pointer to it for a block that follows this pointer at once.
+    fn write_value<T, V: SetterInput<T>>(
+        &mut self,
+        from: usize,
+        to: usize,
+        canonical: bool,
+        value: &V,
+    ) -> Word
+        requires order { from ≤ to }
+        requires within { to ≤ length (content self.old) }
+        requires whole { (to - from) % 8 ≡ 0 }
+        requires zero { take (to - from) (drop from (content self.old)) ≡ replicate (to - from) 0 }
+        requires words { HasWords (V.has_tree value.now) canonical ((to - from) / 8) }
+        ensures filled { IsFilled (V.has_tree value.now) canonical result from (to - from) (content self.old) (content self.new) }
+        ensures lent { is_lent self.new ≡ is_lent self.old };
+}
+
+impl SegmentSpace for Vec<u8> {
+    ghost content = { λ vector. vector.items };
+
+    ghost is_lent = { λ vector. false };
+
+    fn bytes(&self) -> &[u8] {
+        self.as_slice()
+    }
+
+    fn write_at(&mut self, at: usize, bytes: &[u8]) {
+        self[at..at + bytes.len()].copy_from_slice(bytes);
+    }
+
+    fn zero(&mut self, from: usize, to: usize) {
+        self[from..to].fill(0);
+    }
+
+    fn write_value<T, V: SetterInput<T>>(
+        &mut self,
+        from: usize,
+        to: usize,
+        canonical: bool,
+        value: &V,
+    ) -> Word {
+        value.write(canonical, &mut self[from..to])
+    }
+}
+
+impl<'a> SegmentSpace for &'a mut [u8] {
+    ghost content = { λ slice. slice.now };
+
+    ghost is_lent = { λ slice. true };
+
+    fn bytes(&self) -> &[u8] {
+        &**self
+    }
+
+    fn write_at(&mut self, at: usize, bytes: &[u8]) {
+        self[at..at + bytes.len()].copy_from_slice(bytes);
+    }
+
+    fn zero(&mut self, from: usize, to: usize) {
+        self[from..to].fill(0);
+    }
+
+    fn write_value<T, V: SetterInput<T>>(
+        &mut self,
+        from: usize,
+        to: usize,
+        canonical: bool,
+        value: &V,
+    ) -> Word {
+        value.write(canonical, &mut self[from..to])
+    }
+}

@@ -1,0 +1,245 @@
+//! The segments of a message that is built.
+ghost use Rattle.std.specs.Prelude.{◌≡◌, ◌⊎◌, ℕ, ◌+◌, ◌-◌, ◌*◌, ◌/◌, ◌^◌, ◌<◌, ◌≤◌, List, [], ◌∷◌, ◌++◌, length, map, replicate, slice_get, slice_index_or, slice_set, option_copied, Some};
+ghost use Rattle.std.specs.Prelude.{None, IfOk, IfErr, OnOk, OnErr};
+ghost use Rattle.capnp_frame.specs.declared.error.ErrorKind.{ErrorKind};
+ghost use Rattle.capnp_build.specs.Bytes.{Space, with_block, with_bytes};
+ghost use Rattle.capnp_build.specs.Out.{MayRefuse};
+ghost use Rattle.capnp_build.specs.Built.{size_in_words};
+ghost use Rattle.capnp_build.specs.Held.{IsAppendedAt, Held, spaces_of, used_of, space_at, room_of, with_space, KeepsOthers, BringsHome};
+ghost use Rattle.capnp_wire.specs.Values.{HasWords};
+
+use crate::allocator::Allocator;
+use crate::part::Part;
+use capnp_frame::{Error, ErrorKind, Result, Word, word};
+use capnp_wire::traits::SetterInput;
+use std::alloc::Global;
+use std::marker::Model;
+
+/// The segments of a message: the first one in place, the others in a vector.
+pub struct Segments<A: Allocator> {
+    allocator: A,
+    first: Option<Part<A::Segment>>,
+    others: Vec<Part<A::Segment>>,
+}
+
+impl<A: Allocator> Model for Segments<A> {
+    ghost use Rattle.std.specs.Prelude.{◌≡◌, ℕ, ◌+◌, ◌<◌, ◌^◌, List, [], ⊤, MatchOption, length};
+    ghost use Rattle.capnp_build.specs.Held.{Held, spaces_of, AreOut};
+
+    ghost Value = { Held A };
+
+    ghost view = { λ s. record { spaces = spaces_of s.first s.others.items; allocator = s.allocator } };
+
+    ghost invariant = { λ s. (MatchOption s.first (s.others.items ≡ []) (λ _. ⊤)) × AreOut (A.out s.allocator) (spaces_of s.first s.others.items) × (length s.others.items + 1 < 2 ^ 32) };
+}
+
+impl<A: Allocator> Segments<A> {
+    /// No segments yet.
+    pub fn new(alloc: Global, allocator: A) -> Segments<A>
+        ensures spaces { result.spaces ≡ [] }
+        ensures allocator { result.allocator ≡ allocator }
+    {
+        Segments {
+            allocator,
+            first: None,
+            others: Vec::new(alloc),
+        }
+    }
+
+    pub fn len(&self) -> u32
+        ensures { result ≡ length self.now.spaces }
+    {
+        match &self.first {
+            None => 0,
+            Some(_) => self.others.len() as u32 + 1,
+        }
+    }
+
+    /// The used bytes of a segment.
+    pub fn get(&self, index: u32) -> Option<&[u8]>
+        ensures { option_copied result ≡ slice_get (map used_of self.now.spaces) index }
+    {
+        match &self.first {
+            None => None,
+            Some(first) => {
+                if index == 0 {
+                    return Some(first.bytes());
+                }
+                let index = index as usize - 1;
+                if index >= self.others.len() {
+                    return None;
+                }
+                Some(self.others[index].bytes())
+            }
+        }
+    }
+
+    /// The words that are free in a segment.
+    pub fn room(&self, index: u32) -> u32
+        requires { index < length self.now.spaces }
+        ensures { result ≡ room_of (space_at self.now.spaces index) }
+    {
+        match &self.first {
+            None => 0,
+            Some(first) => {
+                if index == 0 {
+                    return first.room();
+                }
+                self.others[index as usize - 1].room()
+            }
+        }
+    }
+
+    /// The words that are used of a segment.
+    pub fn words(&self, index: u32) -> u32
+        requires { index < length self.now.spaces }
+        ensures words { 8 * result ≡ length (space_at self.now.spaces index).used }
+        ensures bound { result ≤ 2 ^ 29 }
+    {
+        match &self.first {
+            None => 0,
+            Some(first) => {
+                if index == 0 {
+                    return first.words();
+                }
+                self.others[index as usize - 1].words()
+            }
+        }
+    }
+
+    /// The words that are used of all segments.
+    pub fn size_in_words(&self) -> usize
+        ensures { result ≡ size_in_words self.now.spaces }
+    {
+        let mut words: usize = 0;
+        for index in 0..self.len() {
+            words += self.words(index) as usize;
+        }
+        words
+    }
+
+    /// Uses so many words more of a segment.
+    pub fn grow(&mut self, index: u32, words: u32)
+        requires within { index < length self.old.spaces }
+        requires room { words ≤ room_of (space_at self.old.spaces index) }
+        ensures { self.new ≡ with_space self.old index (with_block (space_at self.old.spaces index) (8 * words)) }
+    {
+        if index == 0 {
+            if let Some(first) = &mut self.first {
+                first.grow(words);
+            }
+            return;
+        }
+        let part = &mut self.others[index as usize - 1];
+        part.grow(words);
+    }
+
+    /// Writes bytes into those of a segment that are used.
+    pub fn write_at(&mut self, index: u32, at: usize, bytes: &[u8])
+        requires within { index < length self.old.spaces }
+        requires room { at + length bytes.now ≤ length (space_at self.old.spaces index).used }
+        ensures { self.new ≡ with_space self.old index (with_bytes (space_at self.old.spaces index) at bytes.now) }
+    {
+        if index == 0 {
+            if let Some(first) = &mut self.first {
+                first.write_at(at, bytes);
+            }
+            return;
+        }
+        let part = &mut self.others[index as usize - 1];
+        part.write_at(at, bytes);
+    }
+
+    /// Makes some of the used bytes of a segment zero.
+    pub fn zero(&mut self, index: u32, from: usize, to: usize)
+        requires within { index < length self.old.spaces }
+        requires order { from ≤ to }
+        requires room { to ≤ length (space_at self.old.spaces index).used }
+        ensures { self.new ≡ with_space self.old index (with_bytes (space_at self.old.spaces index) from (replicate (to - from) 0)) }
+    {
+        if index == 0 {
+            if let Some(first) = &mut self.first {
+                first.zero(from, to);
+            }
+            return;
+        }
+        let part = &mut self.others[index as usize - 1];
+        part.zero(from, to);
+    }
+
+    /// A value written behind the used words of a segment, in so many words.
+    pub fn append<T, V: SetterInput<T>>(
+        &mut self,
+        index: u32,
+        canonical: bool,
+        value: &V,
+        words: u32,
+    ) -> Word
+        requires within { index < length self.old.spaces }
+        requires room { words ≤ room_of (space_at self.old.spaces index) }
+        requires words { HasWords (V.has_tree value.now) canonical words }
+        ensures { IsAppendedAt (V.has_tree value.now) canonical result words index self.old self.new }
+    {
+        if index == 0 {
+            if let Some(first) = &mut self.first {
+                return first.append(canonical, value, words);
+            }
+            return word(0, 0, 0, 0, 0, 0, 0, 0);
+        }
+        let part = &mut self.others[index as usize - 1];
+        part.append(canonical, value, words)
+    }
+
+    /// A further segment, of at least so many words, of which nothing is used.
+    pub fn add(&mut self, words: u32) -> Result<()>
+        ensures added { OnOk result ((space : Space) × (self.new.spaces ≡ self.old.spaces ++ space ∷ []) × (space.used ≡ []) × (words ≤ space.size / 8)) }
+        ensures refused { OnErr result (self.new.spaces ≡ self.old.spaces) }
+        ensures kind { IfErr result (λ error. MayRefuse words error.kind) }
+        ensures same { A.same self.old.allocator self.new.allocator }
+        ensures others { KeepsOthers A.out self.old self.new }
+    {
+        if self.first.is_none() {
+            let segment = self.allocator.allocate_segment(words)?;
+            self.first = Some(Part::new(segment));
+            return Ok(());
+        }
+        if self.others.len() as u64 + 2 >= 1 << 32 {
+            return Err(Error::from_kind(ErrorKind::AllocationTooLarge(words)));
+        }
+        if self.others.reserve(1).is_err() {
+            return Err(Error::from_kind(ErrorKind::OutOfMemory));
+        }
+        let segment = self.allocator.allocate_segment(words)?;
+        self.others.push_reserved(Part::new(segment));
+        Ok(())
+    }
+
+    /// The allocator, once each segment has gone back to it.
+    pub fn into_allocator(self) -> A
+        ensures home { BringsHome A.out self result }
+        ensures same { A.same self.allocator result }
+    {
+        let Segments {
+            mut allocator,
+            first,
+            mut others,
+        } = self;
+        while let Some(part) = others.pop() {
+            let (segment, words) = part.into_segment();
+            allocator.deallocate_segment(segment, words);
+        }
+        if let Some(part) = first {
+            let (segment, words) = part.into_segment();
+            allocator.deallocate_segment(segment, words);
+            return allocator;
+        }
+        allocator
+    }
+}
+
+impl<A: Allocator> Drop for Segments<A> {
+    fn drop(self) {
+        let allocator = self.into_allocator();
+        drop(allocator);
+    }
+}

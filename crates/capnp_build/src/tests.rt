@@ -1,0 +1,302 @@
+//! Messages that are built, by their bytes.
+use crate::allocator::Allocator;
+use crate::arena::builder_arena::BuilderArena;
+use crate::{any_pointer, any_struct, data, primitive_list, text};
+use capnp_frame::message::{ReaderOptions, ReaderSegments};
+use capnp_frame::{Error, ErrorKind, Result};
+use capnp_wire::arena::ReaderArena;
+use std::alloc::Global;
+use std::test::Fail;
+
+/// Segments of so many words, or as many as are asked.
+#[derive(Drop)]
+struct WordsAllocator {
+    alloc: Global,
+    words: u32,
+    segments_left: u32,
+}
+
+impl Allocator for WordsAllocator {
+    type Segment = Vec<u8>;
+
+    ghost use Rattle.std.specs.Prelude.{⊤, []};
+
+    ghost out = { λ allocator list. ⊤ };
+
+    ghost same = { λ old new. ⊤ };
+
+    fn allocate_segment(&mut self, minimum_size: u32) -> Result<Vec<u8>> {
+        if self.segments_left == 0 {
+            return Err(Error::from_kind(ErrorKind::OutOfMemory));
+        }
+        let size = minimum_size.max(self.words);
+        let Ok(segment) = vec![in self.alloc; 0u8; 8 * size as usize] else {
+            return Err(Error::from_kind(ErrorKind::OutOfMemory));
+        };
+        self.segments_left -= 1;
+        Ok(segment)
+    }
+
+    fn deallocate_segment(&mut self, segment: Vec<u8>, words_used: u32) {
+        drop(segment);
+    }
+
+    ghost keeps = { record { reflexive = λ s. tt; transitive = λ s t u p q. tt } };
+
+    ghost accounts = { λ s. ([], tt) };
+}
+
+fn arena_of(alloc: Global, words: u32) -> BuilderArena<WordsAllocator> {
+    let allocator = WordsAllocator {
+        alloc,
+        words,
+        segments_left: 9,
+    };
+    BuilderArena::new(alloc, allocator)
+}
+
+/// The segments of a caller's slices.
+#[derive(Drop)]
+struct Slices<'a> {
+    segments: &'a [&'a [u8]],
+}
+
+impl<'a> ReaderSegments for Slices<'a> {
+    ghost use Rattle.std.specs.Prelude.{map};
+
+    ghost segments = { λ slices. map (λ bytes. bytes.now) slices.segments.now };
+
+    fn get_segment(&self, id: u32) -> Option<&[u8]> {
+        self.segments.get(id as usize).copied()
+    }
+}
+
+// The number of a refusal, and the one that comes with it; 0 for none.
+fn refusal<T: Drop>(answer: Result<T>) -> (u8, u32) {
+    match answer {
+        Ok(_) => (0, 0),
+        Err(error) => match error.kind {
+            ErrorKind::AllocationTooLarge(words) => (15, words),
+            kind => (kind.number(), 0),
+        },
+    }
+}
+
+const HELLO: &[u8] = b"\x05\0\0\0\x72\0\0\0\0\0\0\0\0\0\0\0Hello, World!\0\0\0";
+
+#[test]
+fn text_in_one_segment(rt: HostRuntime) -> std::result::Result<(), Fail> {
+    let mut arena = arena_of(rt.alloc(), 1024);
+    arena.set_root::<text::Owned, &str>(&"hello")?;
+    arena.set_root::<text::Owned, &str>(&"Hello, World!")?;
+    assert_eq!(rt; arena.size_in_words(), 4);
+    let segment = arena.get_segment(0).ok_or("no segment")?;
+    assert_eq!(rt; segment, HELLO);
+    Ok(())
+}
+
+#[test]
+fn text_that_is_got(rt: HostRuntime) -> std::result::Result<(), Fail> {
+    let mut arena = arena_of(rt.alloc(), 1024);
+    arena.set_root::<text::Owned, &str>(&"Hello, World!")?;
+    let mut view = arena.get_root::<text::Owned>()?;
+    if view.len() > 12 {
+        view.write(7, b"Earth?");
+    }
+    assert_eq!(rt; view.len(), 13);
+    assert_eq!(rt; view.as_bytes(), b"Hello, Earth?".as_slice());
+    Ok(())
+}
+
+#[test]
+fn text_that_is_read(rt: HostRuntime) -> std::result::Result<(), Fail> {
+    let mut arena = arena_of(rt.alloc(), 1024);
+    arena.set_root::<text::Owned, &str>(&"hello")?;
+    assert_eq!(rt;
+        refusal(arena.get_root::<primitive_list::Owned<u64>>()),
+        (22, 0)
+    );
+    let reader = arena.get_root_as_reader();
+    let read: capnp_wire::text::Reader<'_> = reader.get_as()?;
+    assert_eq!(rt; read.as_bytes(), b"hello".as_slice());
+    Ok(())
+}
+
+#[test]
+fn text_in_a_second_segment(rt: HostRuntime) -> std::result::Result<(), Fail> {
+    let mut arena = arena_of(rt.alloc(), 1);
+    let mut view = arena.initn_root::<text::Owned>(12)?;
+    view.write(0, b"hello world!");
+    let first = arena.get_segment(0).ok_or("no segment")?;
+    assert_eq!(rt; first, b"\x02\0\0\0\x01\0\0\0".as_slice());
+    let second = arena.get_segment(1).ok_or("no segment")?;
+    assert_eq!(rt;
+        second,
+        b"\x01\0\0\0\x6a\0\0\0hello world!\0\0\0\0".as_slice()
+    );
+    Ok(())
+}
+
+#[test]
+fn canonical_in_one_segment_alone(rt: HostRuntime) -> std::result::Result<(), Fail> {
+    let mut arena = arena_of(rt.alloc(), 1);
+    arena.set_root::<text::Owned, &str>(&"hello")?;
+    assert_eq!(rt;
+        refusal(arena.set_root_canonical::<text::Owned, &str>(&"a")),
+        (25, 0)
+    );
+    let null = arena.get_segment(0).ok_or("no segment")?;
+    assert_eq!(rt; null, b"\0\0\0\0\0\0\0\0".as_slice());
+    Ok(())
+}
+
+#[test]
+fn lengths_that_are_refused(rt: HostRuntime) -> std::result::Result<(), Fail> {
+    let mut arena = arena_of(rt.alloc(), 1024);
+    assert_eq!(rt;
+        refusal(arena.initn_root::<any_struct::Owned>(65536)),
+        (15, 65536)
+    );
+    assert_eq!(rt; arena.size_in_words(), 1);
+    assert_eq!(rt;
+        refusal(arena.initn_root::<data::Owned>(536870912)),
+        (15, 67108864)
+    );
+    assert_eq!(rt;
+        refusal(arena.initn_root::<primitive_list::Owned<u64>>(536870912)),
+        (15, 536870912)
+    );
+    assert_eq!(rt;
+        refusal(arena.initn_root::<text::Owned>(536870911)),
+        (15, 67108864)
+    );
+    let null = arena.get_segment(0).ok_or("no segment")?;
+    assert_eq!(rt; null, b"\0\0\0\0\0\0\0\0".as_slice());
+    Ok(())
+}
+
+#[test]
+fn struct_of_no_words(rt: HostRuntime) -> std::result::Result<(), Fail> {
+    let mut arena = arena_of(rt.alloc(), 1024);
+    arena.init_root::<any_struct::Owned>()?;
+    let empty = arena.get_segment(0).ok_or("no segment")?;
+    assert_eq!(rt; empty, b"\xfc\xff\xff\xff\0\0\0\0".as_slice());
+    Ok(())
+}
+
+#[test]
+fn data_words(rt: HostRuntime) -> std::result::Result<(), Fail> {
+    let mut arena = arena_of(rt.alloc(), 1024);
+    let mut view = arena.initn_root::<any_struct::Owned>(2)?;
+    view.set_word(0, 10);
+    view.set_word(1, 20);
+    assert_eq!(rt; view.data_words(), 2);
+    assert_eq!(rt; view.get_word(1), 20);
+    assert_eq!(rt; view.get_word(2), 0);
+    let segment = arena.get_segment(0).ok_or("no segment")?;
+    assert_eq!(rt;
+        segment,
+        b"\0\0\0\0\x02\0\0\0\x0a\0\0\0\0\0\0\0\x14\0\0\0\0\0\0\0".as_slice()
+    );
+    Ok(())
+}
+
+#[test]
+fn words_in_place(rt: HostRuntime) -> std::result::Result<(), Fail> {
+    let mut arena = arena_of(rt.alloc(), 1024);
+    let mut list = arena.initn_root::<primitive_list::Owned<u64>>(3)?;
+    list.set(1, 7);
+    assert_eq!(rt; list.len(), 3);
+    assert_eq!(rt; list.get(1), 7);
+    let segment = arena.get_segment(0).ok_or("no segment")?;
+    assert_eq!(rt;
+        segment,
+        b"\x01\0\0\0\x1d\0\0\0\0\0\0\0\0\0\0\0\x07\0\0\0\0\0\0\0\0\0\0\0\0\0\0\0".as_slice()
+    );
+    Ok(())
+}
+
+#[test]
+fn bytes_in_place(rt: HostRuntime) -> std::result::Result<(), Fail> {
+    let mut arena = arena_of(rt.alloc(), 1024);
+    let mut bytes = arena.initn_root::<data::Owned>(3)?;
+    bytes.set(2, 255);
+    bytes.write(0, b"ab");
+    assert_eq!(rt; bytes.as_bytes(), b"ab\xff".as_slice());
+    assert_eq!(rt; bytes.len(), 3);
+    assert_eq!(rt; refusal(arena.get_root::<text::Owned>()), (23, 0));
+    let root = arena.init_root::<any_pointer::Owned>()?;
+    assert_eq!(rt; root.is_null(), true);
+    Ok(())
+}
+
+// A struct of two data words, of which the last is zero, and a text, behind a far pointer.
+const SOURCE: &[&[u8]] = &[
+    b"\x02\0\0\0\x01\0\0\0",
+    b"\0\0\0\0\x02\0\x01\0\x07\0\0\0\0\0\0\0\0\0\0\0\0\0\0\0\x05\0\0\0\x12\0\0\0\xff\0\0\0\0\0\0\0A\0\0\0\0\0\0\0",
+];
+
+#[test]
+fn objects_with_pointers(rt: HostRuntime) -> std::result::Result<(), Fail> {
+    let source = ReaderArena::new(Slices { segments: SOURCE }, ReaderOptions::new());
+    let reader = source.get_root()?;
+    let mut arena = arena_of(rt.alloc(), 1024);
+    arena.set_root::<any_pointer::Owned, capnp_wire::any_pointer::Reader<'_, Slices<'_>>>(&reader)?;
+    let mut view = arena.get_root::<any_struct::Owned>()?;
+    if view.data_words() > 1 {
+        view.set_word(1, 9);
+    }
+    let segment = arena.get_segment(0).ok_or("no segment")?;
+    assert_eq!(rt;
+        segment,
+        b"\0\0\0\0\x02\0\x01\0\x07\0\0\0\0\0\0\0\x09\0\0\0\0\0\0\0\x01\0\0\0\x12\0\0\0A\0\0\0\0\0\0\0".as_slice()
+    );
+    Ok(())
+}
+
+#[test]
+fn objects_behind_a_pad(rt: HostRuntime) -> std::result::Result<(), Fail> {
+    let source = ReaderArena::new(Slices { segments: SOURCE }, ReaderOptions::new());
+    let reader = source.get_root()?;
+    let mut small = arena_of(rt.alloc(), 1);
+    small.set_root::<any_pointer::Owned, capnp_wire::any_pointer::Reader<'_, Slices<'_>>>(&reader)?;
+    let first = small.get_segment(0).ok_or("no segment")?;
+    assert_eq!(rt; first, b"\x02\0\0\0\x01\0\0\0".as_slice());
+    Ok(())
+}
+
+#[test]
+fn canonical_form(rt: HostRuntime) -> std::result::Result<(), Fail> {
+    let source = ReaderArena::new(Slices { segments: SOURCE }, ReaderOptions::new());
+    let reader = source.get_root()?;
+    let mut whole = arena_of(rt.alloc(), 1024);
+    whole.set_root_canonical::<any_pointer::Owned, capnp_wire::any_pointer::Reader<'_, Slices<'_>>>(
+        &reader,
+    )?;
+    let canonical = whole.get_segment(0).ok_or("no segment")?;
+    assert_eq!(rt;
+        canonical,
+        b"\0\0\0\0\x01\0\x01\0\x07\0\0\0\0\0\0\0\x01\0\0\0\x12\0\0\0A\0\0\0\0\0\0\0".as_slice()
+    );
+    Ok(())
+}
+
+#[test]
+fn segments_that_are_refused(rt: HostRuntime) -> std::result::Result<(), Fail> {
+    let allocator = WordsAllocator {
+        alloc: rt.alloc(),
+        words: 2,
+        segments_left: 1,
+    };
+    let mut arena = BuilderArena::new(rt.alloc(), allocator);
+    arena.set_root::<text::Owned, &str>(&"hello")?;
+    assert_eq!(rt;
+        refusal(arena.set_root::<text::Owned, &str>(&"a longer text")),
+        (12, 0)
+    );
+    let null = arena.get_segment(0).ok_or("no segment")?;
+    assert_eq!(rt; null, b"\0\0\0\0\0\0\0\0\0\0\0\0\0\0\0\0".as_slice());
+    let home = arena.into_allocator();
+    assert_eq!(rt; home.segments_left, 0);
+    Ok(())
+}

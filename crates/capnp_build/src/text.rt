@@ -1,0 +1,113 @@
+//! Text that is built.
+ghost use Rattle.std.specs.Prelude.{◌≡◌, ℕ, ◌+◌, ◌-◌, ◌^◌, ◌/◌, ◌<◌, ◌≤◌, List, [], ◌∷◌, ◌++◌, length, take, min, replicate, true, false};
+ghost use Rattle.capnp_frame.specs.declared.error.ErrorKind.TheVariants.{AllocationTooLarge};
+ghost use Rattle.capnp_wire.specs.Tree.{numbers};
+ghost use Rattle.capnp_wire.specs.Views.{IsText, TakesText, DeclinesText};
+ghost use Rattle.capnp_build.specs.Built.{ForRoot, HasBytes, IsBytesSet, IsWritten};
+
+use crate::object::Body;
+use crate::owned_builder::OwnedBuilder;
+use crate::shown::Shown;
+use crate::view::{Building, View};
+use capnp_frame::{Error, ErrorKind, Result};
+pub use capnp_wire::text::Owned;
+
+/// A text that is written in place.
+pub type Builder<'a, M> = View<'a, M, Owned>;
+
+impl OwnedBuilder for Owned {
+    ghost inits = { λ n form. form ≡ numbers 2 (replicate (n + 1) 0) };
+
+    ghost refuses = { λ n kind. (2 ^ 29 - 2 < n) × (kind ≡ AllocationTooLarge (n / 8 + 1)) };
+
+    fn object(n: u32) -> Result<Option<Body>> {
+        if n > (1 << 29) - 2 {
+            return Err(Error::from_kind(ErrorKind::AllocationTooLarge(n / 8 + 1)));
+        }
+        Ok(Some(Body::Bytes(n + 1)))
+    }
+
+    ghost takes = { TakesText };
+
+    ghost declines = { DeclinesText };
+
+    fn accept(shown: Shown, bytes: &[u8]) -> Result<()> {
+        match shown {
+            Shown::Null => Ok(()),
+            Shown::Bytes(n) => {
+                let end = bytes.len().min(n as usize);
+                if ends_with_zero(&bytes[..end]) {
+                    return Ok(());
+                }
+                Err(Error::from_kind(ErrorKind::TextNotTerminated))
+            }
+            _ => Err(Error::from_kind(ErrorKind::WrongPointerKind)),
+        }
+    }
+}
+
+impl<'a, M: Building> View<'a, M, Owned> {
+    /// Sets a byte before the last zero byte.
+    pub fn set(&mut self, index: u32, byte: u8)
+        requires { HasBytes (M.built self.old.message.now).spaces index 2 }
+        ensures same { self.new.message.ghost_name ≡ self.old.message.ghost_name }
+        ensures set { IsBytesSet (M.built self.old.message.now).spaces (M.built self.new.message.now).spaces index (byte ∷ []) }
+        ensures written { IsWritten (M.built self.old.message.now) (M.built self.new.message.now) }
+    {
+        self.message.write_bytes(index, &[byte]);
+    }
+
+    /// Writes bytes over those before the last zero byte, from an index on.
+    pub fn write(&mut self, index: u32, bytes: &[u8])
+        requires { HasBytes (M.built self.old.message.now).spaces index (length bytes.now + 1) }
+        ensures same { self.new.message.ghost_name ≡ self.old.message.ghost_name }
+        ensures set { IsBytesSet (M.built self.old.message.now).spaces (M.built self.new.message.now).spaces index bytes.now }
+        ensures written { IsWritten (M.built self.old.message.now) (M.built self.new.message.now) }
+    {
+        self.message.write_bytes(index, bytes);
+    }
+
+    /// The bytes before the last zero byte.
+    pub fn as_bytes(&self) -> &[u8]
+        ensures { ForRoot (M.built self.now.message.now).spaces (λ form. (bytes : List ℕ) → IsText form bytes → result.now ≡ bytes) }
+    {
+        match self.message.root_shown() {
+            Shown::Bytes(n) => before_the_last(self.message.root_bytes(), n),
+            _ => &[],
+        }
+    }
+
+    /// How many bytes there are before the last zero byte.
+    pub fn len(&self) -> u32
+        ensures count { ForRoot (M.built self.now.message.now).spaces (λ form. (bytes : List ℕ) → IsText form bytes → result ≡ length bytes) }
+        ensures each { (index count : ℕ) → 0 < count → index + count ≤ result → HasBytes (M.built self.now.message.now).spaces index (count + 1) }
+    {
+        match self.message.root_shown() {
+            Shown::Bytes(n) => n.saturating_sub(1),
+            _ => 0,
+        }
+    }
+}
+
+// Whether a text stands there, before a zero byte.
+fn ends_with_zero(bytes: &[u8]) -> bool
+    ensures yes { result ≡ true → ((text : List ℕ) × (bytes.now ≡ text ++ 0 ∷ [])) }
+    ensures no { result ≡ false → (text : List ℕ) → bytes.now ≡ text ++ 0 ∷ [] → ⊥ }
+{
+    let n = bytes.len();
+    if n == 0 {
+        return false;
+    }
+    if bytes[n - 1] != 0 {
+        return false;
+    }
+    true
+}
+
+// The first bytes but the last of these.
+fn before_the_last(bytes: &[u8], count: u32) -> &[u8]
+    ensures { result.now ≡ take (min (count - 1) (length bytes.now)) bytes.now }
+{
+    let end = (count.saturating_sub(1) as usize).min(bytes.len());
+    &bytes[..end]
+}
