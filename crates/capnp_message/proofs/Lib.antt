@@ -1,0 +1,6 @@
+-- The lemmas, by subject.
+pub mod RootLemmas
+pub mod CanonicalLemmas
+pub mod StableLemmas
+pub mod RegionLemmas
+pub mod BackLemmas

@@ -1,0 +1,131 @@
+-- A canonical form is the canonical form of itself.
+use Rattle.std.proofs.Common.{◌≡◌, ℕ, ◌+◌, ◌<◌, ◌≤◌, ◌^◌, if◌then◌else◌, List, [], ◌∷◌, Option, Some, None, MatchOption, refl, sym, ◌∙◌, ap, subst, arith}
+use Rattle.capnp_wire.specs.Tree.{Form, null, struct, numbers, pointers, structs, Trees, none, tree, count, depth, is_null, total_words}
+use Rattle.capnp_wire.specs.Trim.{trim, trim_form, trim_held, cut_nulls, keep_tree, least_pointers}
+use Rattle.capnp_wire.specs.Reached.{At, root}
+use Rattle.capnp_wire.specs.Layout.{canon, layout, AllHaveRoom}
+use Rattle.capnp_wire.specs.Charge.{Within}
+use Rattle.capnp_wire.specs.Canonical.{IsCanonical}
+use Rattle.capnp_wire.specs.Views.{Pointer}
+use Rattle.capnp_wire.specs.Values.{TreeAt, LeadsToTree, IsCanonicalForm, one_value}
+use Rattle.capnp_wire.specs.declared.layout.place.Place.{Place}
+use Rattle.capnp_wire.proofs.CanonLemmas.{root_of_canon}
+use Rattle.capnp_wire.proofs.TrimLemmas.{trim_twice, room_trim}
+use Rattle.capnp_wire.proofs.KeptLemmas.{shallow_narrowed}
+use Rattle.capnp_wire.proofs.OneValueLemmas.{one_of_pointer}
+use Rattle.capnp_wire.proofs.SetterLemmas.{form_is_canonical}
+use Rattle.capnp_message.specs.Canonical.{HasForm}
+use Rattle.capnp_message.specs.Seen.{ReadMessage, root_of}
+use Rattle.capnp_frame.specs.declared.message.options.ReaderOptions.{ReaderOptions}
+use Rattle.capnp_wire.specs.Pointer.{words_of}
+use Rattle.capnp_wire.specs.Object.{message_of}
+use Rattle.capnp_wire.specs.Readers.{level_of}
+
+-- what trimming keeps of trees is as deep at most
+kept_shallow : (level : ℕ) (rest : Trees) (form : Form) (held : Trees) → depth rest ≤ level → (if is_null form then 0 else depth held + 1) ≤ level → depth (keep_tree rest form held) ≤ level
+kept_shallow level (tree f h r) form held p q = omega arith
+kept_shallow level none null held p q = omega arith
+kept_shallow level none (struct words) held p q = omega arith
+kept_shallow level none (numbers code values) held p q = omega arith
+kept_shallow level none pointers held p q = omega arith
+kept_shallow level none (structs d n rows) held p q = omega arith
+
+cut_shallow : (level : ℕ) (t : Trees) → depth t ≤ level → depth (cut_nulls t) ≤ level
+cut_shallow level none p = omega arith
+cut_shallow level (tree form held rest) p = kept_shallow level (cut_nulls rest) form held (cut_shallow level rest (omega arith)) (omega arith)
+
+held_shallow : (level : ℕ) (form : Form) (held : Trees) → depth held ≤ level → depth (trim_held form held) ≤ level
+held_shallow level null held p = p
+held_shallow level (struct words) held p = cut_shallow level held p
+held_shallow level (numbers code values) held p = p
+held_shallow level pointers held p = p
+held_shallow level (structs d n rows) held p = shallow_narrowed level (least_pointers n rows held) n rows held p
+
+one_shallow : (form : Form) (a b c d : Trees) → is_null (trim_form form c) ≡ is_null form → depth b ≤ depth a
+    → (if is_null (trim_form form c) then 0 else depth b + 1) ≤ (if is_null form then 0 else depth a + 1)
+one_shallow null a b c d same p = omega arith
+one_shallow (struct words) a b c d same p = omega arith
+one_shallow (numbers code values) a b c d same p = omega arith
+one_shallow pointers a b c d same p = omega arith
+one_shallow (structs n q rows) a b c d same p = omega arith
+
+same_null : (form : Form) (held : Trees) → is_null (trim_form form held) ≡ is_null form
+same_null null held = refl
+same_null (struct words) held = refl
+same_null (numbers code values) held = refl
+same_null pointers held = refl
+same_null (structs d p rows) held = refl
+
+pub trim_shallow : (t : Trees) → depth (trim t) ≤ depth t
+trim_shallow none = omega arith
+trim_shallow (tree form held rest) =
+    let inside : depth (trim_held form (trim held)) ≤ depth held = held_shallow (depth held) form (trim held) (trim_shallow held) in
+    let first = one_shallow form held (trim_held form (trim held)) (trim held) none (same_null form (trim held)) inside in
+    omega (arith, first, trim_shallow rest)
+
+-- one tree
+single : (t : Trees) → count t ≡ 1 → (form : Form) × (held : Trees) × (t ≡ tree form held none)
+single none e = absurd (omega arith)
+single (tree form held none) e = (form, held, refl)
+single (tree form held (tree f h r)) e = absurd (omega arith)
+
+depth_at : (o : Option Place) (m : List (List ℕ)) (level : ℕ) (limit : Option ℕ) (t : Trees) → MatchOption o (t ≡ tree null none none) (λ place. TreeAt m place level limit t) → depth t ≤ level
+depth_at None m level limit t is = let null_depth : depth t ≡ 0 = ap depth is in omega arith
+depth_at (Some place) m level limit t is = is.shallow
+
+leads_at : (q : Pointer) (place : Place) (t : Trees) → q.place ≡ Some place → TreeAt q.message place q.level q.limit t → LeadsToTree q t
+leads_at q place t there is = subst (λ (o : Option Place). MatchOption o (t ≡ tree null none none) (λ p. TreeAt q.message p q.level q.limit t)) (sym there) is
+
+no_limit : (limit : Option ℕ) (charge : ℕ) → limit ≡ None → Within limit charge
+no_limit limit charge e = subst (λ (o : Option ℕ). Within o charge) (sym e) tt
+
+-- a canonical form, read as the one segment of a message without a traversal limit, is its own
+pub own_form : (p q : Pointer) (words : List ℕ) → IsCanonicalForm p words → q.message ≡ words ∷ [] → q.place ≡ Some root → q.limit ≡ None → p.level ≤ q.level → IsCanonicalForm q words
+own_form p q words a message there unlimited deep =
+    let x = single a.trees (one_value p a.trees a.tree_is) in
+    let rooms : AllHaveRoom (tree x.0 x.1 none) = subst AllHaveRoom x.2 a.rooms in
+    let few : total_words (trim (tree x.0 x.1 none)) < 2 ^ 29 = subst (λ (t : Trees). total_words (trim t) < 2 ^ 29) x.2 a.few in
+    let is : words ≡ canon (tree x.0 x.1 none) = a.words_are ∙ ap canon x.2 in
+    let there_is = root_of_canon x.0 x.1 rooms few in
+    let twice : trim (trim (tree x.0 x.1 none)) ≡ trim (tree x.0 x.1 none) = trim_twice (tree x.0 x.1 none) rooms in
+    let shown : q.message ≡ canon (tree x.0 x.1 none) ∷ [] = message ∙ ap (λ (l : List ℕ). l ∷ []) is in
+    let depths : depth (tree x.0 x.1 none) ≤ p.level = subst (λ (t : Trees). depth t ≤ p.level) x.2 (depth_at p.place p.message p.level p.limit a.trees a.tree_is) in
+    let stands : At q.message (root ∷ []) (trim (tree x.0 x.1 none)) there_is.0 =
+    subst (λ (m : List (List ℕ)). At m (root ∷ []) (trim (tree x.0 x.1 none)) there_is.0) (sym shown) there_is.1 in
+    record {
+      trees = trim (tree x.0 x.1 none);
+      tree_is =
+          leads_at q root (trim (tree x.0 x.1 none)) there (record {
+            charge = there_is.0;
+            stand = stands;
+            shallow = omega (arith, trim_shallow (tree x.0 x.1 none));
+            within = no_limit q.limit there_is.0 unlimited;
+          });
+      rooms = room_trim (tree x.0 x.1 none) rooms;
+      few = subst (λ (t : Trees). total_words t < 2 ^ 29) (sym twice) few;
+      words_are = is ∙ ap layout (sym twice);
+    }
+
+-- a message with a canonical form has one, and one alone
+pub has_form : (p : Pointer) (words : List ℕ) → IsCanonicalForm p words → HasForm p
+has_form p words a = record { trees = a.trees; tree_is = a.tree_is; few = omega (arith, a.few) }
+
+pub one_form : (p : Pointer) (words others : List ℕ) → IsCanonicalForm p words → IsCanonicalForm p others → words ≡ others
+one_form p words others a b = a.words_are ∙ ap canon ((one_of_pointer p).same_tree a.trees b.trees a.tree_is b.tree_is) ∙ sym b.words_are
+
+-- and it is canonical
+pub form_canonical : (p : Pointer) (words : List ℕ) → IsCanonicalForm p words → p.message ≡ words ∷ [] → IsCanonical p.message
+form_canonical p words a message = subst IsCanonical (sym message) (form_is_canonical p words a)
+
+-- the reader of a form as the one segment of a message
+pub own_of : (reader : ReadMessage (List (List ℕ))) (options : ReaderOptions) (segments : List (List ℕ)) (form : List ℕ)
+    → reader ≡ record { segments = segments; options = options } → segments ≡ form ∷ [] → options.traversal_limit_in_words ≡ None
+    → (p : Pointer) × IsCanonicalForm p (words_of form) × (p.level ≤ level_of options.nesting_limit)
+    → IsCanonicalForm (root_of (λ s. s) reader) (words_of form) × ((root_of (λ s. s) reader).message ≡ words_of form ∷ [])
+own_of reader options segments form is one unlimited (p, form_is, deep) =
+    let same_options : reader.options ≡ options = ap (λ (r : ReadMessage (List (List ℕ))). r.options) is in
+    let same_segments : reader.segments ≡ form ∷ [] = ap (λ (r : ReadMessage (List (List ℕ))). r.segments) is ∙ one in
+    let message : message_of reader.segments ≡ words_of form ∷ [] = ap message_of same_segments in
+    let no_limit_there : reader.options.traversal_limit_in_words ≡ None = ap (λ (o : ReaderOptions). o.traversal_limit_in_words) same_options ∙ unlimited in
+    let levels : level_of reader.options.nesting_limit ≡ level_of options.nesting_limit = ap (λ (o : ReaderOptions). level_of o.nesting_limit) same_options in
+    (own_form p (root_of (λ s. s) reader) (words_of form) form_is message refl no_limit_there (omega arith), message)

@@ -1,0 +1,14 @@
+-- The text that is read is the one that was set.
+use Rattle.std.proofs.Common.{sym, ◌∙◌}
+use Rattle.capnp_message.proofs.BackLemmas.{text_accepted, text_read, bytes_same}
+use Rattle.capnp_message.proofs.callers.text_is_read_back.Goals as goal
+
+pub returns-in_err-view-clause-cleared : goal.returns-in_err-view-clause-cleared
+returns-in_err-view-clause-cleared g c =
+    let never = c.in_err-view.ensures.found (text_accepted _ _ c.in_ok-set_root.ensures.set) in
+    absurd (cc)
+
+pub returns-clause-back : goal.returns-clause-back
+returns-clause-back g c =
+    let same = text_read _ _ _ c.in_ok-set_root.ensures.set c.in_ok-view.ensures.answer in
+    bytes_same _ _ _ c.eq.ensures (c.as_bytes.ensures ∙ same ∙ sym c.as_bytes-2.ensures.value)

@@ -1,0 +1,30 @@
+-- What comes back as lent is the region, which is made zero; all else goes to the heap.
+use Rattle.std.proofs.Common.{◌≡◌, ℕ, ◌*◌, ◌≤◌, List, ◌++◌, length, drop, subst, ◌∙◌}
+use Rattle.capnp_build.specs.Bytes.{ZeroFrom}
+use Rattle.capnp_message.proofs.RegionLemmas.{all_zero, held, filled_length, comes_home_as, stays_out}
+use Rattle.capnp_message.proofs.scratch_space.ScratchSpaceHeapAllocatorAllocator.deallocate_segment.Goals as goal
+
+pub invariant_of-self : goal.invariant_of-self
+invariant_of-self c =
+    let out = c.requires.is_out in
+    let region = c.in-Lent.region in
+    let same = comes_home_as c.args.self.now.region c.args.segment region c.args.self.now.size out.0 out.1 c.in-Lent.is out.2 out.3 in
+    let n : ℕ = 8 * c.args.words_used in
+    let used : n ≤ length region.now = (rw c.in-Lent.is at c.requires.used) in
+    let clean : ZeroFrom n region.now = (rw c.in-Lent.is at c.requires.zero) in
+    let kept : length (c.fill.new.self ++ drop n region.now) ≡ c.args.self.now.size = filled_length n c.fill.new.self region.now c.fill.ensures.len used ∙ same.0 in
+    let zero = all_zero n _ c.fill.new.self region.now (c.fill.ensures.after (λ y h. h)) clean in
+    record {
+      whole = λ x is. subst (λ (l : List ℕ). length l ≡ c.args.self.now.size) (held _ x is) kept;
+      few = c.args.self.now.few;
+      zero = λ x is. subst (ZeroFrom 0) (held _ x is) zero;
+      maximum = c.args.self.now.maximum;
+    }
+
+pub returns-in-Lent-clause-takes_off : goal.returns-in-Lent-clause-takes_off
+returns-in-Lent-clause-takes_off c list left out removed =
+    (comes_home_as c.args.self.now.region c.args.segment c.in-Lent.region c.args.self.now.size list left c.in-Lent.is out removed).1
+
+pub returns-in-Owned-clause-takes_off : goal.returns-in-Owned-clause-takes_off
+returns-in-Owned-clause-takes_off c list left out removed =
+    stays_out c.args.self.now.region (length c.in-Owned.owned.items) c.args.self.now.size list left out (rw c.in-Owned.is at removed)

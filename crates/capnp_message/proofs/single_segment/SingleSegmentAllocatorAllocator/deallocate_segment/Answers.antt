@@ -1,0 +1,23 @@
+-- What comes back is the region, which is made zero.
+use Rattle.std.proofs.Common.{◌≡◌, ℕ, ◌*◌, List, ◌++◌, length, drop, ap, subst, ◌∙◌}
+use Rattle.capnp_build.specs.Out.{Out}
+use Rattle.capnp_build.specs.Bytes.{ZeroFrom}
+use Rattle.capnp_message.proofs.RegionLemmas.{comes_back, all_zero, held, filled_length}
+use Rattle.capnp_message.proofs.single_segment.SingleSegmentAllocatorAllocator.deallocate_segment.Goals as goal
+
+pub invariant_of-self : goal.invariant_of-self
+invariant_of-self c =
+    let out = c.requires.is_out in
+    let n : ℕ = 8 * c.args.words_used in
+    let same = comes_back c.args.self.now.region _ _ out.0 out.1 out.2 out.3 in
+    let kept : length (c.fill.new.self ++ drop n c.args.segment.now) ≡ c.args.self.now.size =
+    filled_length n c.fill.new.self c.args.segment.now c.fill.ensures.len c.requires.used ∙ ap (λ (o : Out). o.length) same.0 in
+    let zero = all_zero n _ c.fill.new.self c.args.segment.now (c.fill.ensures.after (λ y h. h)) c.requires.zero in
+    record {
+      whole = λ x is. subst (λ (l : List ℕ). length l ≡ c.args.self.now.size) (held _ x is) kept;
+      few = c.args.self.now.few;
+      zero = λ x is. subst (ZeroFrom 0) (held _ x is) zero;
+    }
+
+pub returns-clause-takes_off : goal.returns-clause-takes_off
+returns-clause-takes_off c list left out removed = (comes_back c.args.self.now.region _ _ list left out removed).1

@@ -1,0 +1,5 @@
+pub mod Seen
+pub mod Canonical
+pub mod Next
+pub mod Region
+pub mod Scratch

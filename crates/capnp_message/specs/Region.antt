@@ -1,0 +1,24 @@
+-- One region that is lent: at home, or away (src/scratch_space.rt, src/single_segment.rt).
+use Rattle.std.specs.Prelude.{◌≡◌, ℕ, true, List, [], ◌∷◌, Option, Some, None, MatchOption, refl}
+use Rattle.capnp_build.specs.Out.{Out, lent_of}
+
+-- a region of so many bytes, as a segment that is out
+abbrev pub region_out : ℕ → Out
+region_out size = record { length = size; is_lent = true }
+
+-- the region alone is out while it is away, and nothing while it is at home
+abbrev pub IsOutAlone : {X : Type 0} → Option X → ℕ → List Out → Type 0
+IsOutAlone region size list = MatchOption region (list ≡ region_out size ∷ []) (λ _. list ≡ [])
+
+-- the same of what is lent among others
+abbrev pub IsLentAlone : {X : Type 0} → Option X → ℕ → List Out → Type 0
+IsLentAlone region size list = MatchOption region (lent_of list ≡ size ∷ []) (λ _. lent_of list ≡ [])
+
+-- either way some segments are out, if only none
+pub some_out : {X : Type 0} (region : Option X) (size : ℕ) → (list : List Out) × IsOutAlone region size list
+some_out None size = (region_out size ∷ [], refl)
+some_out (Some x) size = ([], refl)
+
+pub some_lent : {X : Type 0} (region : Option X) (size : ℕ) → (list : List Out) × IsLentAlone region size list
+some_lent None size = (region_out size ∷ [], refl)
+some_lent (Some x) size = ([], refl)

@@ -1,0 +1,181 @@
+//! Builders of messages.
+ghost use Rattle.std.specs.Prelude.{◌≡◌, ◌≢◌, ◌⊎◌, ◌<◌, ◌≤◌, ◌^◌, ◌-◌, ℕ, [], false, true, length, map, None, IfErr, OnOk, OnErr, IsOk, MatchResult, pos};
+ghost use Rattle.std.specs.Result.{IsErrAnd};
+ghost use Rattle.capnp_frame.specs.declared.error.ErrorKind.{ErrorKind};
+ghost use Rattle.capnp_frame.specs.declared.error.ErrorKind.TheVariants.{ReadLimitExceeded, NotOneSegment};
+ghost use Rattle.capnp_wire.specs.Readers.{unlimited_root};
+ghost use Rattle.capnp_wire.specs.Values.{HasWords, LacksWords};
+ghost use Rattle.capnp_wire.specs.Views.{LeadsAstray};
+ghost use Rattle.capnp_build.specs.Out.{MayRefuse};
+ghost use Rattle.capnp_build.specs.Held.{used_of, KeepsOthers, BringsHome};
+ghost use Rattle.capnp_build.specs.Built.{Built, held_of, size_in_words, IsSet, IsWhole, IsPlaced, IsCrowded, NotInOne, IsCleared};
+
+use crate::heap_allocator::HeapAllocator;
+use crate::output_segments::OutputSegments;
+use crate::reader::Reader;
+use crate::typed_builder::TypedBuilder;
+use capnp_build::allocator::Allocator;
+use capnp_build::arena::builder_arena::BuilderArena;
+use capnp_frame::Result;
+use capnp_frame::message::{ReaderOptions, ReaderSegments};
+use capnp_wire::traits::{FromPointerReader, SetterInput};
+use std::alloc::Global;
+use std::marker::Model;
+
+/// A message that is built, in segments that an allocator hands out. Once it is dropped, each segment
+/// goes back.
+#[derive(Drop)]
+pub struct Builder<A: Allocator> {
+    pub(crate) arena: BuilderArena<A>,
+}
+
+// Clauses see the segments, where the root's tree stands, and the allocator.
+impl<A: Allocator> Model for Builder<A> {
+    ghost use Rattle.capnp_build.specs.Built.{Built};
+
+    ghost Value = { Built A };
+
+    ghost view = { λ message. message.arena };
+}
+
+impl<A: Allocator> Builder<A> {
+    /// A message of no segments, whose root is null. `alloc` serves the list of its segments from the
+    /// second on.
+    pub fn new(alloc: Global, allocator: A) -> Builder<A>
+        ensures spaces { result.spaces ≡ [] }
+        ensures spot { result.spot ≡ None }
+        ensures allocator { result.allocator ≡ allocator }
+    {
+        Builder {
+            arena: BuilderArena::new(alloc, allocator),
+        }
+    }
+
+    /// Sets the root to a value.
+    ///
+    /// The value is one block: behind the used words of the first segment where these leave room for it,
+    /// else with its pad in another segment that has room, else in a new one. It is refused as the
+    /// value's `measure` is, and as the allocator refuses a segment; then the root is null.
+    pub fn set_root<T, V: SetterInput<T> + Drop>(&mut self, value: V) -> Result<()>
+        ensures set { OnOk result (IsSet (V.has_tree value) false self.new.spaces) }
+        // Which words it takes, once the old root is cleared.
+        ensures placed { OnOk result ((cleared : Built A) × (words : ℕ)
+            × IsCleared A.same self.old cleared × HasWords (V.has_tree value) false words
+            × IsPlaced cleared.spaces self.new words) }
+        ensures nulled { OnErr result (IsCleared A.same self.old self.new) }
+        ensures kind { IfErr result (λ error.
+            LacksWords (V.has_tree value) (V.refuses value) false error.kind
+            ⊎ ((length self.old.spaces ≡ 0) × MayRefuse 1 error.kind)
+            ⊎ IsCrowded (HasWords (V.has_tree value) false) self.new.spaces error.kind) }
+        ensures same { A.same self.old.allocator self.new.allocator }
+        ensures others { KeepsOthers A.out (held_of self.old) (held_of self.new) }
+    {
+        self.arena.set_root::<T, V>(&value)
+    }
+
+    /// Sets the root to a value in canonical form, in the first segment. As the first action on the
+    /// message it makes the one segment the canonical form.
+    ///
+    /// It is refused as the value's `measure` is, as the allocator refuses the first segment, and by
+    /// `NotOneSegment` where there are more segments or the first has no room; then the root is null.
+    pub fn set_root_canonical<T, V: SetterInput<T> + Drop>(&mut self, value: V) -> Result<()>
+        ensures set { OnOk result (IsSet (V.has_tree value) true self.new.spaces) }
+        ensures placed { OnOk result ((cleared : Built A) × (words : ℕ)
+            × IsCleared A.same self.old cleared × HasWords (V.has_tree value) true words
+            × IsPlaced cleared.spaces self.new words) }
+        ensures one { OnOk result (length self.new.spaces ≡ 1) }
+        ensures whole { self.old.spaces ≡ [] →
+            OnOk result (IsWhole (V.has_tree value) true self.new.spaces) }
+        ensures nulled { OnErr result (IsCleared A.same self.old self.new) }
+        ensures kind { IfErr result (λ error.
+            LacksWords (V.has_tree value) (V.refuses value) true error.kind
+            ⊎ ((length self.old.spaces ≡ 0) × MayRefuse 1 error.kind)
+            ⊎ ((error.kind ≡ NotOneSegment)
+            × NotInOne (HasWords (V.has_tree value) true) self.new.spaces)) }
+        ensures same { A.same self.old.allocator self.new.allocator }
+        ensures others { KeepsOthers A.out (held_of self.old) (held_of self.new) }
+    {
+        self.arena.set_root_canonical::<T, V>(&value)
+    }
+
+    /// The root as a reading view, which borrows it from the segments: null without a segment. It has
+    /// no traversal limit, and takes no segment.
+    pub fn get_root_as_reader<'a, T: FromPointerReader<'a, BuilderArena<A>>>(&'a self) -> Result<T>
+        ensures answer { let pointer = unlimited_root (map used_of self.now.spaces) in
+            MatchResult result (λ view. T.shows pointer view) (λ error. T.refuses pointer error.kind) }
+        ensures found { let pointer = unlimited_root (map used_of self.now.spaces) in
+            T.accepts pointer → IsOk result }
+        ensures unlimited { IfErr result (λ error. error.kind ≢ ReadLimitExceeded) }
+        ensures exact { let pointer = unlimited_root (map used_of self.now.spaces) in
+            (kind : ErrorKind) → LeadsAstray pointer kind → (T.accepts pointer → ⊥) →
+            IsErrAnd result (λ error. error.kind ≡ kind) }
+    {
+        self.arena.get_root_as_reader().get_as()
+    }
+
+    /// The used words of each segment, to be written.
+    pub fn get_segments_for_output(&self) -> OutputSegments<'_, A>
+        ensures { result ≡ map used_of self.now.spaces }
+    {
+        OutputSegments::new(&self.arena)
+    }
+
+    /// The used words of all segments.
+    pub fn size_in_words(&self) -> usize
+        ensures { result ≡ size_in_words self.now.spaces }
+    {
+        self.arena.size_in_words()
+    }
+
+    /// The message as one that is read, without a traversal limit and with objects nested up to 2^31 - 1
+    /// deep.
+    pub fn into_reader(self) -> Reader<Builder<A>>
+        ensures segments { result.segments ≡ self }
+        ensures unlimited { result.options.traversal_limit_in_words ≡ None }
+        ensures nesting { result.options.nesting_limit ≡ pos (2 ^ 31 - 1) }
+    {
+        Reader::new(
+            self,
+            ReaderOptions {
+                traversal_limit_in_words: None,
+                nesting_limit: i32::MAX,
+            },
+        )
+    }
+
+    /// The same message, whose root is of this type.
+    pub fn into_typed<T>(self) -> TypedBuilder<T, A>
+        ensures { result ≡ self }
+    {
+        TypedBuilder::new(self)
+    }
+
+    /// The allocator, once each segment has gone back to it with its used words.
+    pub fn into_allocator(self) -> A
+        ensures home { BringsHome A.out (held_of self) result }
+        ensures same { A.same self.allocator result }
+    {
+        let Builder { arena } = self;
+        arena.into_allocator()
+    }
+}
+
+impl Builder<HeapAllocator> {
+    /// A message over a heap that begins with 1,024 words.
+    pub fn new_default(alloc: Global) -> Builder<HeapAllocator>
+        ensures spaces { result.spaces ≡ [] }
+        ensures spot { result.spot ≡ None }
+        ensures next { result.allocator.next_size ≡ 1024 }
+    {
+        Builder::new(alloc, HeapAllocator::new(alloc))
+    }
+}
+
+// Segment `id` is the used words of the builder's.
+impl<A: Allocator> ReaderSegments for Builder<A> {
+    ghost segments = { λ message. map used_of message.spaces };
+
+    fn get_segment(&self, id: u32) -> Option<&[u8]> {
+        self.arena.get_segment(id)
+    }
+}

@@ -1,0 +1,172 @@
+//! Segments from the heap.
+ghost use Rattle.std.specs.Prelude.{⊤, ◌≡◌, ℕ, ◌-◌, ◌*◌, ◌/◌, ◌≤◌, ◌<◌, ◌^◌, false, List, [], length, min, IfOk, OnOk, OnErr, IfErr};
+ghost use Rattle.capnp_frame.specs.declared.error.ErrorKind.TheVariants.{OutOfMemory};
+ghost use Rattle.capnp_build.specs.Bytes.{ZeroFrom};
+ghost use Rattle.capnp_build.specs.Out.{Out, MayRefuse, Removed};
+ghost use Rattle.capnp_message.specs.Next.{size_of, next_after};
+
+use capnp_build::allocator::Allocator;
+use capnp_frame::{Error, ErrorKind, Result};
+use std::alloc::Global;
+
+/// How large the segments of a heap are, one after the other.
+#[derive(Clone, Copy, Debug)]
+pub enum AllocationStrategy {
+    /// Each has as many words as the first, or as many as are asked.
+    FixedSize,
+    /// Each has as many words as all before it, up to the maximum.
+    GrowHeuristically,
+}
+
+/// Words of the first segment.
+pub const SUGGESTED_FIRST_SEGMENT_WORDS: u32 = 1024;
+
+/// How segments grow.
+pub const SUGGESTED_ALLOCATION_STRATEGY: AllocationStrategy = AllocationStrategy::GrowHeuristically;
+
+/// Segments from the heap. Each has as many words as are asked, or the next size where that is more.
+#[derive(Drop)]
+pub struct HeapAllocator {
+    alloc: Global,
+    next_size: u32,
+    allocation_strategy: AllocationStrategy,
+    max_segment_words: u32,
+    ghost most: { next_size ≤ max_segment_words },
+}
+
+impl HeapAllocator {
+    /// A first segment of 1,024 words, growing up to 2^29.
+    pub fn new(alloc: Global) -> HeapAllocator
+        ensures next { result.next_size ≡ 1024 }
+        ensures strategy { result.allocation_strategy ≡ AllocationStrategy.GrowHeuristically }
+        ensures maximum { result.max_segment_words ≡ 2 ^ 29 }
+    {
+        HeapAllocator {
+            alloc,
+            next_size: SUGGESTED_FIRST_SEGMENT_WORDS,
+            allocation_strategy: AllocationStrategy::GrowHeuristically,
+            max_segment_words: 1 << 29,
+        }
+    }
+
+    /// With so many words in the first segment, at most the maximum.
+    pub fn first_segment_words(self, words: u32) -> HeapAllocator
+        requires { words ≤ self.max_segment_words }
+        ensures next { result.next_size ≡ words }
+        ensures strategy { result.allocation_strategy ≡ self.allocation_strategy }
+        ensures maximum { result.max_segment_words ≡ self.max_segment_words }
+    {
+        HeapAllocator {
+            alloc: self.alloc,
+            next_size: words,
+            allocation_strategy: self.allocation_strategy,
+            max_segment_words: self.max_segment_words,
+        }
+    }
+
+    /// With so many words at most in a segment, where no more are asked; at least the next size.
+    pub fn max_segment_words(self, words: u32) -> HeapAllocator
+        requires { self.next_size ≤ words }
+        ensures next { result.next_size ≡ self.next_size }
+        ensures strategy { result.allocation_strategy ≡ self.allocation_strategy }
+        ensures maximum { result.max_segment_words ≡ words }
+    {
+        HeapAllocator {
+            alloc: self.alloc,
+            next_size: self.next_size,
+            allocation_strategy: self.allocation_strategy,
+            max_segment_words: words,
+        }
+    }
+
+    /// With segments that grow so.
+    pub fn allocation_strategy(self, strategy: AllocationStrategy) -> HeapAllocator
+        ensures next { result.next_size ≡ self.next_size }
+        ensures strategy { result.allocation_strategy ≡ strategy }
+        ensures maximum { result.max_segment_words ≡ self.max_segment_words }
+    {
+        HeapAllocator {
+            alloc: self.alloc,
+            next_size: self.next_size,
+            allocation_strategy: strategy,
+            max_segment_words: self.max_segment_words,
+        }
+    }
+
+    // Counts a segment of so many words.
+    fn grow(&mut self, size: u32)
+        ensures next { self.new.next_size ≡ next_after self.old.allocation_strategy
+            self.old.next_size self.old.max_segment_words size }
+        ensures strategy { self.new.allocation_strategy ≡ self.old.allocation_strategy }
+        ensures maximum { self.new.max_segment_words ≡ self.old.max_segment_words }
+    {
+        if size == 0 {
+            return;
+        }
+        match self.allocation_strategy {
+            AllocationStrategy::FixedSize => {}
+            AllocationStrategy::GrowHeuristically => {
+                if size < self.max_segment_words - self.next_size {
+                    self.next_size += size;
+                } else {
+                    self.next_size = self.max_segment_words;
+                }
+            }
+        }
+    }
+}
+
+impl Allocator for HeapAllocator {
+    type Segment = Vec<u8>;
+
+    ghost out = { λ allocator list. ⊤ };
+
+    ghost same = { λ old new. ⊤ };
+
+    // Beside what any allocator ensures: how many words there are, and what is next.
+    fn allocate_segment(&mut self, minimum_size: u32) -> Result<Vec<u8>>
+        ensures room { IfOk result (λ s. minimum_size ≤ length s.items / 8) }
+        ensures field { IfOk result (λ s. length s.items / 8 < 2 ^ 32) }
+        ensures zero { IfOk result (λ s. ZeroFrom 0 s.items) }
+        ensures adds { IfOk result (λ s. (list : List Out) → ⊤ → ⊤) }
+        ensures refusal { IfErr result (λ error. MayRefuse minimum_size error.kind) }
+        ensures refused { OnErr result ((list : List Out) → ⊤ → ⊤) }
+        ensures same { ⊤ }
+        ensures kind { IfErr result (λ error. error.kind ≡ OutOfMemory) }
+        ensures size { IfOk result (λ s.
+            length s.items ≡ 8 * size_of self.old.next_size minimum_size) }
+        ensures next { OnOk result (self.new.next_size ≡ next_after self.old.allocation_strategy
+            self.old.next_size self.old.max_segment_words (size_of self.old.next_size minimum_size)) }
+        ensures unchanged { OnErr result (self.new.next_size ≡ self.old.next_size) }
+        ensures strategy { self.new.allocation_strategy ≡ self.old.allocation_strategy }
+        ensures maximum { self.new.max_segment_words ≡ self.old.max_segment_words }
+    {
+        let size = minimum_size.max(self.next_size);
+        let Ok(segment) = vec![in self.alloc; 0u8; 8 * size as usize] else {
+            return Err(Error::from_kind(ErrorKind::OutOfMemory));
+        };
+        self.grow(size);
+        Ok(segment)
+    }
+
+    // The next size is the suggested first one again, or the maximum.
+    fn deallocate_segment(&mut self, segment: Vec<u8>, words_used: u32)
+        requires is_out { (list : List Out) × (left : List Out) × ⊤
+            × Removed (record { length = length segment.items; is_lent = false }) list left }
+        requires used { 8 * words_used ≤ length segment.items }
+        requires zero { ZeroFrom (8 * words_used) segment.items }
+        ensures takes_off { (list left : List Out) → ⊤ →
+            Removed (record { length = length segment.items; is_lent = false }) list left → ⊤ }
+        ensures same { ⊤ }
+        ensures next { self.new.next_size ≡ min 1024 self.old.max_segment_words }
+        ensures strategy { self.new.allocation_strategy ≡ self.old.allocation_strategy }
+        ensures maximum { self.new.max_segment_words ≡ self.old.max_segment_words }
+    {
+        self.next_size = SUGGESTED_FIRST_SEGMENT_WORDS.min(self.max_segment_words);
+        drop(segment);
+    }
+
+    ghost keeps = { record { reflexive = λ s. tt; transitive = λ s t u p q. tt } };
+
+    ghost accounts = { λ s. ([], tt) };
+}

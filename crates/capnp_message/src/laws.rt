@@ -1,0 +1,77 @@
+//! Facts about the canonical forms of messages.
+ghost use Rattle.std.specs.Prelude.{◌≡◌, ◌≤◌, ◌⊎◌, ℕ, List, [], ◌∷◌, Some, None, true, IfOk, IfErr};
+ghost use Rattle.capnp_frame.specs.declared.error.ErrorKind.TheVariants.{OutOfMemory};
+ghost use Rattle.capnp_wire.specs.Pointer.{words_of};
+ghost use Rattle.capnp_wire.specs.Reached.{root};
+ghost use Rattle.capnp_wire.specs.Readers.{level_of};
+ghost use Rattle.capnp_wire.specs.Views.{Pointer};
+ghost use Rattle.capnp_wire.specs.Values.{IsCanonicalForm};
+ghost use Rattle.capnp_message.specs.Seen.{root_of};
+ghost use Rattle.capnp_message.specs.Canonical.{numbers, LacksForm};
+
+use crate::reader::Reader;
+use capnp_frame::message::{ReaderOptions, ReaderSegments, SegmentArray};
+use capnp_frame::{Result, Word};
+use std::alloc::Global;
+
+/// A canonical form, read as the one segment of a message without a traversal limit, is its own
+/// canonical form.
+pub fn a_canonical_form_is_its_own()
+    ensures { (pointer other : Pointer) (words : List ℕ) → IsCanonicalForm pointer words →
+        other.message ≡ words ∷ [] → other.place ≡ Some root → other.limit ≡ None →
+        pointer.level ≤ other.level → IsCanonicalForm other words }
+{}
+
+/// The canonical words of a message, whether they are canonical as the one segment of a message, and
+/// the canonical words of that message.
+#[derive(Drop)]
+pub struct Canonicalized {
+    pub words: Vec<Word>,
+    pub is_canonical: bool,
+    pub again: Vec<Word>,
+}
+
+/// Canonicalizes a message, and what that answers once more: it is canonical, and its own canonical
+/// form.
+pub fn canonicalize_twice<S: ReaderSegments + Drop>(
+    alloc: Global,
+    segments: S,
+    options: ReaderOptions,
+) -> Result<Canonicalized>
+    ensures canonical { IfOk result (λ answer. answer.is_canonical ≡ true) }
+    ensures same { IfOk result (λ answer. numbers answer.again.items ≡ numbers answer.words.items) }
+    ensures kinds { let pointer = root_of S.segments (record { segments = segments; options = options }) in
+        IfErr result (λ error. LacksForm pointer error.kind ⊎ (error.kind ≡ OutOfMemory)) }
+{
+    let reader = Reader::new(segments, options);
+    let words = reader.canonicalize(alloc)?;
+    let segment = reader.canonical_segment(alloc)?;
+    let mut unlimited = options;
+    unlimited.traversal_limit_in_words(None);
+    let (is_canonical, again) = canonicalize_form(alloc, &segment, unlimited)?;
+    Ok(Canonicalized {
+        words,
+        is_canonical,
+        again,
+    })
+}
+
+// Whether a canonical form of a pointer is canonical by itself, and its own canonical words.
+fn canonicalize_form(
+    alloc: Global,
+    form: &[u8],
+    options: ReaderOptions,
+) -> Result<(bool, Vec<Word>)>
+    requires form { (pointer : Pointer) × IsCanonicalForm pointer (words_of form.now)
+        × (pointer.level ≤ level_of options.nesting_limit) }
+    requires unlimited { options.traversal_limit_in_words ≡ None }
+    ensures canonical { IfOk result (λ answer. answer.0 ≡ true) }
+    ensures same { IfOk result (λ answer. numbers answer.1.items ≡ words_of form.now) }
+    ensures kind { IfErr result (λ error. error.kind ≡ OutOfMemory) }
+{
+    let segments = [form];
+    let reader = Reader::new(SegmentArray::new(&segments), options);
+    let is_canonical = reader.is_canonical()?;
+    let words = reader.canonicalize(alloc)?;
+    Ok((is_canonical, words))
+}

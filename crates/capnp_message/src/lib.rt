@@ -1,0 +1,38 @@
+//! Messages that are read, and what messages are built from.
+//!
+//! A [`Reader`](reader::Reader) holds the segments of a message and answers its root as a view, or says
+//! what is wrong there by the [encoding document]. A [`TypedReader`](typed_reader::TypedReader) is one
+//! whose root has a type. Allocators hand out the segments of messages that are built.
+//!
+//! [encoding document]: https://capnproto.org/encoding.html
+#![tactic(auto)]
+
+#[cfg(test)]
+mod allocator_tests;
+pub mod builder;
+#[cfg(test)]
+mod builder_tests;
+pub mod callers;
+#[cfg(test)]
+mod canonical_tests;
+pub mod heap_allocator;
+pub mod laws;
+pub mod output_segments;
+pub mod reader;
+mod root;
+pub mod scratch_space;
+pub mod single_segment;
+pub mod typed_builder;
+pub mod typed_reader;
+mod words;
+
+pub use builder::Builder;
+pub use heap_allocator::{
+    AllocationStrategy, HeapAllocator, SUGGESTED_ALLOCATION_STRATEGY, SUGGESTED_FIRST_SEGMENT_WORDS,
+};
+pub use output_segments::OutputSegments;
+pub use reader::Reader;
+pub use scratch_space::{ScratchSegment, ScratchSpaceHeapAllocator};
+pub use single_segment::SingleSegmentAllocator;
+pub use typed_builder::TypedBuilder;
+pub use typed_reader::TypedReader;

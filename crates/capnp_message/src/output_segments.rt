@@ -1,0 +1,38 @@
+//! What of a message that is built is written.
+ghost use Rattle.std.specs.Prelude.{◌≡◌, ℕ, List, map};
+ghost use Rattle.capnp_build.specs.Held.{used_of};
+
+use capnp_build::allocator::Allocator;
+use capnp_build::arena::builder_arena::BuilderArena;
+use capnp_frame::message::ReaderSegments;
+use std::marker::Model;
+
+/// The segments of a message that is built, each as far as it is used.
+#[derive(Drop)]
+pub struct OutputSegments<'a, A: Allocator> {
+    arena: &'a BuilderArena<A>,
+}
+
+// Clauses see the segments, each its used bytes.
+impl<'a, A: Allocator> Model for OutputSegments<'a, A> {
+    ghost Value = { List (List ℕ) };
+
+    ghost view = { λ output. map used_of output.arena.now.spaces };
+}
+
+impl<'a, A: Allocator> OutputSegments<'a, A> {
+    /// Those of an arena.
+    pub(crate) fn new(arena: &'a BuilderArena<A>) -> OutputSegments<'a, A>
+        ensures { result ≡ map used_of arena.now.spaces }
+    {
+        OutputSegments { arena }
+    }
+}
+
+impl<A: Allocator> ReaderSegments for OutputSegments<'_, A> {
+    ghost segments = { λ output. output };
+
+    fn get_segment(&self, id: u32) -> Option<&[u8]> {
+        self.arena.get_segment(id)
+    }
+}

@@ -1,0 +1,175 @@
+//! Readers of messages.
+ghost use Rattle.std.specs.Prelude.{◌≡◌, ◌≢◌, ◌⊎◌, ◌<◌, ◌^◌, ◌-◌, ◌↔◌, ℕ, length, min, None, IfOk, IfErr, OnOk, IsOk, IsTrue, MatchResult};
+ghost use Rattle.std.specs.Result.{IsErrAnd};
+ghost use Rattle.capnp_frame.specs.Message.{IsWholeWords, size_in_words};
+ghost use Rattle.capnp_frame.specs.declared.error.ErrorKind.{ErrorKind};
+ghost use Rattle.capnp_frame.specs.declared.error.ErrorKind.TheVariants.{ReadLimitExceeded, OutOfMemory};
+ghost use Rattle.capnp_wire.specs.Reached.{root};
+ghost use Rattle.capnp_wire.specs.Faults.{NoWord};
+ghost use Rattle.capnp_wire.specs.Views.{LeadsAstray, MeetsLimit};
+ghost use Rattle.capnp_wire.specs.Pointer.{words_of};
+ghost use Rattle.capnp_wire.specs.Tree.{Trees};
+ghost use Rattle.capnp_wire.specs.Canonical.{IsCanonical};
+ghost use Rattle.capnp_wire.specs.Tested.{Unsaid};
+ghost use Rattle.capnp_wire.specs.Values.{LeadsToTree, StopsWalkFrom, IsCanonicalForm};
+ghost use Rattle.capnp_message.specs.Seen.{root_of, HasRoot};
+ghost use Rattle.capnp_message.specs.Canonical.{numbers, HasForm, LacksForm};
+
+use crate::typed_reader::TypedReader;
+use crate::words::whole_words;
+use capnp_frame::message::{ReaderOptions, ReaderSegments};
+use capnp_frame::{Result, Word};
+use capnp_wire::arena::ReaderArena;
+use capnp_wire::canonical::canonical_bytes;
+use capnp_wire::traits::FromPointerReader;
+use std::alloc::Global;
+use std::marker::Model;
+
+/// A message that is read in place from its segments.
+#[derive(Drop)]
+pub struct Reader<S> {
+    arena: ReaderArena<S>,
+}
+
+// Clauses see the segments and the options.
+impl<S> Model for Reader<S> {
+    ghost use Rattle.capnp_message.specs.Seen.{ReadMessage};
+
+    ghost Value = { ReadMessage S };
+
+    ghost view = { λ reader. record {
+      segments = reader.arena.segments;
+      options = record {
+        traversal_limit_in_words = reader.arena.limiter.limit;
+        nesting_limit = reader.arena.nesting_limit;
+      };
+    } };
+}
+
+impl<S: ReaderSegments> Reader<S> {
+    /// Reads a message from these segments.
+    pub fn new(segments: S, options: ReaderOptions) -> Reader<S>
+        ensures { result ≡ record { segments = segments; options = options } }
+    {
+        Reader {
+            arena: ReaderArena::new(segments, options),
+        }
+    }
+
+    /// The root as a view, which borrows it from the segments.
+    ///
+    /// It is refused by `InvalidSegmentId(0)` without a segment, by `PointerOutOfBounds` where the first
+    /// segment has no word, and else as `get_as` refuses the root pointer.
+    pub fn get_root<'a, T: FromPointerReader<'a, S>>(&'a self) -> Result<T>
+        ensures answer { let pointer = root_of S.segments self.now in MatchResult result
+            (λ view. T.shows pointer view)
+            (λ error. NoWord pointer.message root error.kind ⊎ T.refuses pointer error.kind) }
+        ensures stands { OnOk result (HasRoot (root_of S.segments self.now)) }
+        ensures found { let pointer = root_of S.segments self.now in
+            pointer.limit ≡ None → HasRoot pointer → T.accepts pointer → IsOk result }
+        ensures unlimited { let pointer = root_of S.segments self.now in
+            pointer.limit ≡ None → IfErr result (λ error. error.kind ≢ ReadLimitExceeded) }
+        // Where no object stands, and the root itself is no view, whatever was read before.
+        ensures exact { let pointer = root_of S.segments self.now in
+            (kind : ErrorKind) → LeadsAstray pointer kind → (T.accepts pointer → ⊥) →
+            IsErrAnd result (λ error. error.kind ≡ kind) }
+        // Where an object stands that is no such view.
+        ensures declined { let pointer = root_of S.segments self.now in
+            (kind : ErrorKind) → HasRoot pointer → T.declines pointer kind →
+            IsErrAnd result (λ error. (error.kind ≡ kind) ⊎ MeetsLimit pointer error.kind) }
+        // Where the root's own word does not stand.
+        ensures nowhere { (kind : ErrorKind) → NoWord (root_of S.segments self.now).message root kind →
+            IsErrAnd result (λ error. error.kind ≡ kind) }
+    {
+        self.arena.get_root()?.get_as()
+    }
+
+    /// Whether the message is in canonical form: one segment that is the canonical form of its root tree.
+    ///
+    /// A message of more than one segment is not canonical, nor is one with a far pointer. It is
+    /// refused by `InvalidSegmentId(0)` without a segment, and else where the walk over its objects
+    /// is, before it meets what is not canonical: as a view of one of them, or by `ReadLimitExceeded`
+    /// where they come to more words than the traversal limit. The walk counts from 0, takes no
+    /// memory, and what is read of the message by views stays as it was.
+    pub fn is_canonical(&self) -> Result<bool>
+        ensures answer { let pointer = root_of S.segments self.now in
+            MatchResult result (λ is. IsTrue is ↔ IsCanonical pointer.message)
+            (λ error. Unsaid pointer.message pointer.level pointer.limit error.kind) }
+        ensures exact { let pointer = root_of S.segments self.now in
+            (kind : ErrorKind) → Unsaid pointer.message pointer.level pointer.limit kind →
+            IsErrAnd result (λ error. error.kind ≡ kind) }
+        ensures found { (trees : Trees) → LeadsToTree (root_of S.segments self.now) trees → IsOk result }
+        ensures stops { IfErr result (λ error.
+            StopsWalkFrom (root_of S.segments self.now) error.kind) }
+    {
+        self.arena.is_canonical()
+    }
+
+    /// The canonical form of the message, as the bytes of its one segment.
+    ///
+    /// It is refused where a walk over the root tree is: as a view of one of its objects, or by
+    /// `ReadLimitExceeded` where they come to more words than the traversal limit. Above 2^29 words, the
+    /// root pointer among them, it is refused by `CanonicalTooLarge`. The walk counts from 0, and what is
+    /// read of the message by views stays as it was. Memory is asked for once the form is measured.
+    pub fn canonical_segment(&self, alloc: Global) -> Result<Vec<u8>>
+        ensures answer { let pointer = root_of S.segments self.now in MatchResult result
+            (λ bytes. IsCanonicalForm pointer (words_of bytes.items))
+            (λ error. LacksForm pointer error.kind ⊎ (error.kind ≡ OutOfMemory)) }
+        ensures whole { IfOk result (λ bytes. IsWholeWords bytes.items) }
+        ensures found { HasForm (root_of S.segments self.now) →
+            IfErr result (λ error. error.kind ≡ OutOfMemory) }
+        ensures exact { (kind : ErrorKind) → LacksForm (root_of S.segments self.now) kind →
+            IsErrAnd result (λ error. error.kind ≡ kind) }
+    {
+        let root = self.arena.get_root()?;
+        canonical_bytes(alloc, &root)
+    }
+
+    /// The canonical form of the message, word by word: equal for two messages exactly where their root
+    /// trees are equal, trimmed.
+    ///
+    /// It is refused as `canonical_segment`.
+    pub fn canonicalize(&self, alloc: Global) -> Result<Vec<Word>>
+        ensures answer { let pointer = root_of S.segments self.now in MatchResult result
+            (λ words. IsCanonicalForm pointer (numbers words.items))
+            (λ error. LacksForm pointer error.kind ⊎ (error.kind ≡ OutOfMemory)) }
+        ensures found { HasForm (root_of S.segments self.now) →
+            IfErr result (λ error. error.kind ≡ OutOfMemory) }
+        ensures exact { (kind : ErrorKind) → LacksForm (root_of S.segments self.now) kind →
+            IsErrAnd result (λ error. error.kind ≡ kind) }
+    {
+        let bytes = self.canonical_segment(alloc)?;
+        whole_words(alloc, &bytes)
+    }
+
+    /// The segments.
+    pub fn get_segments(&self) -> &S
+        ensures { result.now ≡ self.now.segments }
+    {
+        self.arena.get_segments()
+    }
+
+    /// The segments, back from the reader.
+    pub fn into_segments(self) -> S
+        ensures { result ≡ self.segments }
+    {
+        let Reader { arena } = self;
+        arena.into_segments()
+    }
+
+    /// The words of all segments, at most `usize::MAX`. Bytes behind the last whole word of a segment
+    /// count for nothing.
+    pub fn size_in_words(&self) -> usize
+        requires { length (S.segments self.now.segments) < 2 ^ 32 }
+        ensures { result ≡ min (size_in_words (S.segments self.now.segments)) (2 ^ 64 - 1) }
+    {
+        self.arena.size_in_words()
+    }
+
+    /// The same message, whose root is of this type.
+    pub fn into_typed<T>(self) -> TypedReader<S, T>
+        ensures { result ≡ self }
+    {
+        TypedReader::new(self)
+    }
+}

@@ -1,0 +1,106 @@
+//! The object at the root of a message that is built, as a view that writes it.
+ghost use Rattle.std.specs.Prelude.{◌≡◌, ◌⊎◌, ◌+◌, ℕ, length, IfOk, IfErr};
+ghost use Rattle.std.specs.Borrow.{RestsIfErr, sem};
+ghost use Rattle.capnp_wire.specs.Tree.{Form, none};
+ghost use Rattle.capnp_wire.specs.Reached.{Root};
+ghost use Rattle.capnp_build.specs.Out.{MayRefuse};
+ghost use Rattle.capnp_build.specs.Held.{KeepsOthers};
+ghost use Rattle.capnp_build.specs.Built.{held_of, message, ForRoot, DeclinesRoot, InitWords, IsCleared, IsLookedAt};
+
+use crate::builder::Builder;
+use capnp_build::allocator::Allocator;
+use capnp_build::owned_builder::OwnedBuilder;
+use capnp_build::shown::Shown;
+use capnp_build::view::{Building, View};
+use capnp_frame::Result;
+
+impl<A: Allocator> Building for Builder<A> {
+    type Allocator = A;
+
+    ghost built = { λ message. message };
+
+    fn root_shown(&self) -> Shown {
+        self.arena.root_shown()
+    }
+
+    fn root_bytes(&self) -> &[u8] {
+        self.arena.root_bytes()
+    }
+
+    fn set_word(&mut self, index: u16, word: u64) {
+        self.arena.set_word(index, word);
+    }
+
+    fn set_number(&mut self, index: u32, number: u64) {
+        self.arena.set_number(index, number);
+    }
+
+    fn write_bytes(&mut self, index: u32, bytes: &[u8]) {
+        self.arena.write_bytes(index, bytes);
+    }
+}
+
+impl<A: Allocator> Builder<A> {
+    ghost use Rattle.capnp_message.specs.contracts.builder.Builder.{the_row};
+
+    /// Makes the root a new object of some length, all zero, and answers a view that writes it. Where it
+    /// is refused, the root is null.
+    pub fn initn_root<'a, K: OwnedBuilder>(&'a mut self, n: u32) -> Result<View<'a, Builder<A>, K>>
+        ensures* rests { sem 𝓛 (RestsIfErr
+            (the_row A.row A.Segment.row A.Allocator A.Segment.SegmentSpace)
+            self.entry (λ view. view.message.ghost_name) result
+            (λ last. IsCleared A.same self.old last)) }
+        ensures same { IfOk result (λ view. view.message.ghost_name ≡ self.entry.ghost_name) }
+        ensures inits { IfOk result (λ view. (form : Form) × (charge : ℕ) × K.inits n form
+            × Root (message view.message.now.spaces) form none charge) }
+        ensures kind { IfErr result (λ error. K.refuses n error.kind
+            ⊎ ((length self.old.spaces ≡ 0) × MayRefuse 1 error.kind)
+            ⊎ ((words : ℕ) × InitWords K.inits n words × MayRefuse (words + 1) error.kind)) }
+        ensures allocator { IfOk result (λ view.
+            A.same self.old.allocator view.message.now.allocator) }
+        ensures others { IfOk result (λ view.
+            KeepsOthers A.out (held_of self.old) (held_of view.message.now)) }
+    {
+        self.arena.init_object::<K>(n)?;
+        Ok(View::new(self))
+    }
+
+    /// The same, of length 0.
+    pub fn init_root<'a, K: OwnedBuilder>(&'a mut self) -> Result<View<'a, Builder<A>, K>>
+        ensures* rests { sem 𝓛 (RestsIfErr
+            (the_row A.row A.Segment.row A.Allocator A.Segment.SegmentSpace)
+            self.entry (λ view. view.message.ghost_name) result
+            (λ last. IsCleared A.same self.old last)) }
+        ensures same { IfOk result (λ view. view.message.ghost_name ≡ self.entry.ghost_name) }
+        ensures inits { IfOk result (λ view. (form : Form) × (charge : ℕ) × K.inits 0 form
+            × Root (message view.message.now.spaces) form none charge) }
+        ensures kind { IfErr result (λ error. K.refuses 0 error.kind
+            ⊎ ((length self.old.spaces ≡ 0) × MayRefuse 1 error.kind)
+            ⊎ ((words : ℕ) × InitWords K.inits 0 words × MayRefuse (words + 1) error.kind)) }
+        ensures allocator { IfOk result (λ view.
+            A.same self.old.allocator view.message.now.allocator) }
+        ensures others { IfOk result (λ view.
+            KeepsOthers A.out (held_of self.old) (held_of view.message.now)) }
+    {
+        self.initn_root::<K>(0)
+    }
+
+    /// The object at the root, as a view that writes it. It is refused where it is of another kind, and
+    /// as the allocator refuses the first segment; then the root stays.
+    pub fn get_root<'a, K: OwnedBuilder>(&'a mut self) -> Result<View<'a, Builder<A>, K>>
+        ensures* rests { sem 𝓛 (RestsIfErr
+            (the_row A.row A.Segment.row A.Allocator A.Segment.SegmentSpace)
+            self.entry (λ view. view.message.ghost_name) result
+            (λ last. IsLookedAt A.same self.old last)) }
+        ensures same { IfOk result (λ view. view.message.ghost_name ≡ self.entry.ghost_name) }
+        ensures taken { IfOk result (λ view. ForRoot view.message.now.spaces K.takes) }
+        ensures looked { IfOk result (λ view. IsLookedAt A.same self.old view.message.now) }
+        ensures others { IfOk result (λ view.
+            KeepsOthers A.out (held_of self.old) (held_of view.message.now)) }
+        ensures kind { IfErr result (λ error. ((length self.old.spaces ≡ 0) × MayRefuse 1 error.kind)
+            ⊎ DeclinesRoot K.declines self.old.spaces error.kind) }
+    {
+        self.arena.accept_root::<K>()?;
+        Ok(View::new(self))
+    }
+}

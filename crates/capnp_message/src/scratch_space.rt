@@ -1,0 +1,190 @@
+//! One region first, then segments from the heap.
+ghost use Rattle.std.specs.Prelude.{◌≡◌, ◌⊎◌, ℕ, ◌*◌, ◌/◌, ◌^◌, ◌<◌, ◌≤◌, true, false, List, length, IfOk, IfErr, IfSome, IsSome, IsOk, OnOk, OnErr, None};
+ghost use Rattle.std.specs.Option.{ForSome};
+ghost use Rattle.capnp_frame.specs.declared.error.ErrorKind.TheVariants.{OutOfMemory};
+ghost use Rattle.capnp_build.specs.Bytes.{ZeroFrom};
+ghost use Rattle.capnp_build.specs.Out.{Out, Adds, MayRefuse};
+ghost use Rattle.capnp_message.specs.Next.{size_of};
+ghost use Rattle.capnp_message.specs.Region.{IsLentAlone};
+ghost use Rattle.capnp_message.specs.Scratch.{scratch_bytes, scratch_lent};
+
+use crate::heap_allocator::{AllocationStrategy, HeapAllocator};
+use capnp_build::allocator::Allocator;
+use capnp_build::segment_space::SegmentSpace;
+use capnp_frame::{Result, Word};
+use capnp_wire::traits::SetterInput;
+use std::alloc::Global;
+
+/// A segment of a `ScratchSpaceHeapAllocator`.
+#[derive(Drop)]
+pub enum ScratchSegment<'a> {
+    /// The region.
+    Lent(&'a mut [u8]),
+    /// One from the heap.
+    Owned(Vec<u8>),
+}
+
+impl<'a> SegmentSpace for ScratchSegment<'a> {
+    ghost content = { scratch_bytes };
+
+    ghost is_lent = { scratch_lent };
+
+    fn bytes(&self) -> &[u8] {
+        match self {
+            ScratchSegment::Lent(lent) => lent.bytes(),
+            ScratchSegment::Owned(owned) => owned.bytes(),
+        }
+    }
+
+    fn write_at(&mut self, at: usize, bytes: &[u8]) {
+        match self {
+            ScratchSegment::Lent(lent) => lent.write_at(at, bytes),
+            ScratchSegment::Owned(owned) => owned.write_at(at, bytes),
+        }
+    }
+
+    fn zero(&mut self, from: usize, to: usize) {
+        match self {
+            ScratchSegment::Lent(lent) => lent.zero(from, to),
+            ScratchSegment::Owned(owned) => owned.zero(from, to),
+        }
+    }
+
+    fn write_value<T, V: SetterInput<T>>(
+        &mut self,
+        from: usize,
+        to: usize,
+        canonical: bool,
+        value: &V,
+    ) -> Word {
+        match self {
+            ScratchSegment::Lent(lent) => lent.write_value::<T, V>(from, to, canonical, value),
+            ScratchSegment::Owned(owned) => owned.write_value::<T, V>(from, to, canonical, value),
+        }
+    }
+}
+
+/// One region that its caller lends, where it is at home and large enough, else segments from the heap.
+/// At home the region is all zero.
+#[derive(Drop)]
+pub struct ScratchSpaceHeapAllocator<'a> {
+    region: Option<&'a mut [u8]>,
+    size: usize,
+    heap: HeapAllocator,
+    ghost whole: { ForSome region (λ r. length r.now ≡ size) },
+    ghost few: { size / 8 < 2 ^ 32 },
+    ghost zero: { ForSome region (λ r. ZeroFrom 0 r.now) },
+    ghost maximum: { heap.max_segment_words ≡ 2 ^ 29 },
+}
+
+impl<'a> ScratchSpaceHeapAllocator<'a> {
+    /// The region, which is made zero, and a heap behind it. Bytes behind the region's last whole word
+    /// are not used.
+    pub fn new(alloc: Global, region: &'a mut [u8]) -> ScratchSpaceHeapAllocator<'a>
+        requires { length region.old / 8 < 2 ^ 32 }
+        ensures same { IfSome result.region (λ r. r.ghost_name ≡ region.entry.ghost_name) }
+        ensures home { IsSome result.region }
+        ensures size { result.size ≡ length region.old }
+        ensures next { result.heap.next_size ≡ 1024 }
+        ensures strategy { result.heap.allocation_strategy ≡ AllocationStrategy.GrowHeuristically }
+    {
+        region.fill(0);
+        let size = region.len();
+        ScratchSpaceHeapAllocator {
+            region: Some(region),
+            size,
+            heap: HeapAllocator::new(alloc),
+        }
+    }
+
+    /// With so many words in the heap's first segment, at most 2^29.
+    pub fn second_segment_words(self, words: u32) -> ScratchSpaceHeapAllocator<'a>
+        requires { words ≤ 2 ^ 29 }
+        ensures region { result.region ≡ self.entry.region }
+        ensures size { result.size ≡ self.entry.size }
+        ensures next { result.heap.next_size ≡ words }
+        ensures strategy { result.heap.allocation_strategy ≡ self.entry.heap.allocation_strategy }
+    {
+        let ScratchSpaceHeapAllocator { region, size, heap } = self;
+        ScratchSpaceHeapAllocator {
+            region,
+            size,
+            heap: heap.first_segment_words(words),
+        }
+    }
+
+    /// With segments of the heap that grow so.
+    pub fn allocation_strategy(self, strategy: AllocationStrategy) -> ScratchSpaceHeapAllocator<'a>
+        ensures region { result.region ≡ self.entry.region }
+        ensures size { result.size ≡ self.entry.size }
+        ensures next { result.heap.next_size ≡ self.entry.heap.next_size }
+        ensures strategy { result.heap.allocation_strategy ≡ strategy }
+    {
+        let ScratchSpaceHeapAllocator { region, size, heap } = self;
+        ScratchSpaceHeapAllocator {
+            region,
+            size,
+            heap: heap.allocation_strategy(strategy),
+        }
+    }
+}
+
+impl<'a> Allocator for ScratchSpaceHeapAllocator<'a> {
+    type Segment = ScratchSegment<'a>;
+
+    ghost use Rattle.std.specs.Prelude.{refl};
+    ghost use Rattle.std.proofs.Common.{◌∙◌};
+    ghost use Rattle.capnp_message.specs.Region.{some_lent};
+
+    ghost out = { λ allocator list. IsLentAlone allocator.region allocator.size list };
+
+    ghost same = { λ old new. new.size ≡ old.size };
+
+    // Beside what any allocator ensures: where the region is lent, and what the heap hands out.
+    fn allocate_segment(&mut self, minimum_size: u32) -> Result<ScratchSegment<'a>>
+        ensures room { IfOk result (λ s. minimum_size ≤ length (scratch_bytes s) / 8) }
+        ensures field { IfOk result (λ s. length (scratch_bytes s) / 8 < 2 ^ 32) }
+        ensures zero { IfOk result (λ s. ZeroFrom 0 (scratch_bytes s)) }
+        ensures adds { IfOk result (λ s. Adds (IsLentAlone self.old.region self.old.size)
+            (IsLentAlone self.new.region self.new.size)
+            (record { length = length (scratch_bytes s); is_lent = scratch_lent s })) }
+        ensures refusal { IfErr result (λ error. MayRefuse minimum_size error.kind) }
+        ensures refused { OnErr result ((list : List Out) →
+            IsLentAlone self.old.region self.old.size list → IsLentAlone self.new.region self.new.size list) }
+        ensures same { self.new.size ≡ self.old.size }
+        ensures lent { minimum_size ≤ self.old.size / 8 → IsSome self.old.region →
+            IsOk result × IfOk result (λ s. scratch_lent s ≡ true) }
+        ensures large { self.old.size / 8 < minimum_size → IfOk result (λ s.
+            (scratch_lent s ≡ false)
+            × (length (scratch_bytes s) ≡ 8 * size_of self.old.heap.next_size minimum_size)) }
+        ensures away { self.old.region ≡ None → IfOk result (λ s. (scratch_lent s ≡ false)
+            × (length (scratch_bytes s) ≡ 8 * size_of self.old.heap.next_size minimum_size)) }
+        ensures kind { IfErr result (λ error. error.kind ≡ OutOfMemory) }
+    {
+        if minimum_size as usize <= self.size / 8 {
+            match self.region.take() {
+                Some(region) => return Ok(ScratchSegment::Lent(region)),
+                None => {}
+            }
+        }
+        let segment = self.heap.allocate_segment(minimum_size)?;
+        Ok(ScratchSegment::Owned(segment))
+    }
+
+    // What was used of the region is made zero, so that at home it is all zero.
+    fn deallocate_segment(&mut self, segment: ScratchSegment<'a>, words_used: u32) {
+        match segment {
+            ScratchSegment::Lent(region) => {
+                region[..8 * words_used as usize].fill(0);
+                self.region = Some(region);
+            }
+            ScratchSegment::Owned(owned) => {
+                self.heap.deallocate_segment(owned, words_used);
+            }
+        }
+    }
+
+    ghost keeps = { record { reflexive = λ s. refl; transitive = λ s t u p q. q ∙ p } };
+
+    ghost accounts = { λ s. some_lent s.region s.size };
+}

@@ -1,0 +1,87 @@
+//! One region, as the only segment.
+ghost use Rattle.std.specs.Prelude.{◌≡◌, ◌≢◌, ◌⊎◌, ℕ, ◌*◌, ◌/◌, ◌^◌, ◌<◌, ◌≤◌, true, List, length, IfSome, IsSome, IsNone, IsOk, OnOk, IfOk, IfErr, OnErr, None, Some};
+ghost use Rattle.std.specs.Option.{ForSome};
+ghost use Rattle.std.specs.Result.{IsErrAnd};
+ghost use Rattle.capnp_frame.specs.declared.error.ErrorKind.TheVariants.{AllocationTooLarge, SegmentTaken};
+ghost use Rattle.capnp_build.specs.Bytes.{ZeroFrom};
+ghost use Rattle.capnp_build.specs.Out.{Out, Adds, TakesOff, IsOut, MayRefuse};
+ghost use Rattle.capnp_message.specs.Region.{IsOutAlone, region_out};
+
+use capnp_build::allocator::Allocator;
+use capnp_frame::{Error, ErrorKind, Result};
+
+/// One region that its caller lends, as the only segment. It takes no memory. At home it is all zero.
+#[derive(Drop)]
+pub struct SingleSegmentAllocator<'a> {
+    region: Option<&'a mut [u8]>,
+    size: usize,
+    ghost whole: { ForSome region (λ r. length r.now ≡ size) },
+    ghost few: { size / 8 < 2 ^ 32 },
+    ghost zero: { ForSome region (λ r. ZeroFrom 0 r.now) },
+}
+
+impl<'a> SingleSegmentAllocator<'a> {
+    /// The region, which is made zero. Bytes behind its last whole word are not used.
+    pub fn new(region: &'a mut [u8]) -> SingleSegmentAllocator<'a>
+        requires { length region.old / 8 < 2 ^ 32 }
+        ensures same { IfSome result.region (λ r. r.ghost_name ≡ region.entry.ghost_name) }
+        ensures home { IsSome result.region }
+        ensures size { result.size ≡ length region.old }
+    {
+        region.fill(0);
+        let size = region.len();
+        SingleSegmentAllocator {
+            region: Some(region),
+            size,
+        }
+    }
+}
+
+impl<'a> Allocator for SingleSegmentAllocator<'a> {
+    type Segment = &'a mut [u8];
+
+    ghost use Rattle.std.specs.Prelude.{refl};
+    ghost use Rattle.std.proofs.Common.{◌∙◌};
+    ghost use Rattle.capnp_message.specs.Region.{some_out};
+
+    ghost out = { λ allocator list. IsOutAlone allocator.region allocator.size list };
+
+    ghost same = { λ old new. new.size ≡ old.size };
+
+    // Beside what any allocator ensures: where it is refused, and by what.
+    fn allocate_segment(&mut self, minimum_size: u32) -> Result<&'a mut [u8]>
+        ensures room { IfOk result (λ s. minimum_size ≤ length s.now / 8) }
+        ensures field { IfOk result (λ s. length s.now / 8 < 2 ^ 32) }
+        ensures zero { IfOk result (λ s. ZeroFrom 0 s.now) }
+        ensures adds { IfOk result (λ s. Adds (IsOutAlone self.old.region self.old.size)
+            (IsOutAlone self.new.region self.new.size) (record { length = length s.now; is_lent = true })) }
+        ensures refusal { IfErr result (λ error. MayRefuse minimum_size error.kind) }
+        ensures refused { OnErr result ((list : List Out) →
+            IsOutAlone self.old.region self.old.size list → IsOutAlone self.new.region self.new.size list) }
+        ensures same { self.new.size ≡ self.old.size }
+        ensures too_large { self.old.size / 8 < minimum_size →
+            IsErrAnd result (λ error. error.kind ≡ AllocationTooLarge minimum_size) }
+        ensures taken { minimum_size ≤ self.old.size / 8 → self.old.region ≡ None →
+            IsErrAnd result (λ error. error.kind ≡ SegmentTaken) }
+        ensures lent { minimum_size ≤ self.old.size / 8 → IsSome self.old.region → IsOk result }
+        ensures away { OnOk result (self.new.region ≡ None) }
+    {
+        if minimum_size as usize > self.size / 8 {
+            return Err(Error::from_kind(ErrorKind::AllocationTooLarge(minimum_size)));
+        }
+        match self.region.take() {
+            Some(region) => Ok(region),
+            None => Err(Error::from_kind(ErrorKind::SegmentTaken)),
+        }
+    }
+
+    // What was used is made zero, so that at home the region is all zero.
+    fn deallocate_segment(&mut self, segment: &'a mut [u8], words_used: u32) {
+        segment[..8 * words_used as usize].fill(0);
+        self.region = Some(segment);
+    }
+
+    ghost keeps = { record { reflexive = λ s. refl; transitive = λ s t u p q. q ∙ p } };
+
+    ghost accounts = { λ s. some_out s.region s.size };
+}

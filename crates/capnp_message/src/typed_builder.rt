@@ -1,0 +1,237 @@
+//! Builders of messages whose root has a type.
+ghost use Rattle.std.specs.Prelude.{◌≡◌, ◌≢◌, ◌⊎◌, ◌+◌, ◌^◌, ◌-◌, ℕ, [], false, length, map, None, IfOk, IfErr, OnOk, OnErr, IsOk, MatchResult, pos};
+ghost use Rattle.std.specs.Result.{IsErrAnd};
+ghost use Rattle.std.specs.Borrow.{RestsIfErr, sem};
+ghost use Rattle.capnp_frame.specs.declared.error.ErrorKind.{ErrorKind};
+ghost use Rattle.capnp_frame.specs.declared.error.ErrorKind.TheVariants.{ReadLimitExceeded};
+ghost use Rattle.capnp_wire.specs.Tree.{Form, none};
+ghost use Rattle.capnp_wire.specs.Reached.{Root};
+ghost use Rattle.capnp_wire.specs.Readers.{unlimited_root};
+ghost use Rattle.capnp_wire.specs.Values.{HasWords, LacksWords};
+ghost use Rattle.capnp_wire.specs.Views.{LeadsAstray};
+ghost use Rattle.capnp_build.specs.Out.{MayRefuse};
+ghost use Rattle.capnp_build.specs.Held.{used_of, KeepsOthers};
+ghost use Rattle.capnp_build.specs.Built.{Built, held_of, message, ForRoot, DeclinesRoot, InitWords, IsSet, IsPlaced, IsCrowded, IsCleared, IsLookedAt};
+
+use crate::builder::Builder;
+use crate::heap_allocator::HeapAllocator;
+use crate::typed_reader::TypedReader;
+use capnp_build::allocator::Allocator;
+use capnp_build::arena::builder_arena::BuilderArena;
+use capnp_build::owned_builder::OwnedBuilder;
+use capnp_build::shown::Shown;
+use capnp_build::view::{Building, View};
+use capnp_frame::Result;
+use capnp_wire::traits::{Owned, SetterInput};
+use std::alloc::Global;
+use std::marker::{Model, PhantomData};
+
+/// A message that is built, and whose root is of type `T`.
+#[derive(Drop)]
+pub struct TypedBuilder<T, A: Allocator> {
+    message: Builder<A>,
+    marker: PhantomData<T>,
+}
+
+// Clauses see the builder.
+impl<T, A: Allocator> Model for TypedBuilder<T, A> {
+    ghost use Rattle.capnp_build.specs.Built.{Built};
+
+    ghost Value = { Built A };
+
+    ghost view = { λ typed. typed.message };
+}
+
+impl<T, A: Allocator> TypedBuilder<T, A> {
+    ghost use Rattle.std.specs.Borrow.{Lends};
+    ghost use Rattle.capnp_message.specs.contracts.typed_builder.TypedBuilder.{the_row as typed_row};
+    ghost use Rattle.capnp_message.specs.contracts.builder.Builder.{the_row as inner_row};
+
+    /// Builds the root of this message as a `T`.
+    pub fn new(message: Builder<A>) -> TypedBuilder<T, A>
+        ensures { result ≡ message }
+    {
+        TypedBuilder {
+            message,
+            marker: PhantomData,
+        }
+    }
+
+    /// The message.
+    pub fn into_inner(self) -> Builder<A>
+        ensures { result ≡ self }
+    {
+        let TypedBuilder { message, marker: _ } = self;
+        message
+    }
+
+    /// The message.
+    pub fn borrow_inner(&self) -> &Builder<A>
+        ensures { result.now ≡ self.now }
+    {
+        &self.message
+    }
+
+    /// The message, to be changed.
+    pub fn borrow_inner_mut(&mut self) -> &mut Builder<A>
+        ensures* writes_back { sem 𝓛 (Lends
+            (typed_row T.row A.row A.Segment.row A.Allocator A.Segment.SegmentSpace)
+            (inner_row A.row A.Segment.row A.Allocator A.Segment.SegmentSpace)
+            self.entry result (λ message. message)) }
+        ensures value { result.now ≡ self.old }
+    {
+        &mut self.message
+    }
+
+    /// The message as one that is read, without a traversal limit and with objects nested up to 2^31 - 1
+    /// deep.
+    pub fn into_reader(self) -> TypedReader<Builder<A>, T>
+        ensures segments { result.segments ≡ self }
+        ensures unlimited { result.options.traversal_limit_in_words ≡ None }
+        ensures nesting { result.options.nesting_limit ≡ pos (2 ^ 31 - 1) }
+    {
+        TypedReader::new(self.into_inner().into_reader())
+    }
+
+    /// Sets the root to a value, as `set_root` of the message.
+    pub fn set_root<V: SetterInput<T> + Drop>(&mut self, value: V) -> Result<()>
+        ensures set { OnOk result (IsSet (V.has_tree value) false self.new.spaces) }
+        ensures placed { OnOk result ((cleared : Built A) × (words : ℕ)
+            × IsCleared A.same self.old cleared × HasWords (V.has_tree value) false words
+            × IsPlaced cleared.spaces self.new words) }
+        ensures nulled { OnErr result (IsCleared A.same self.old self.new) }
+        ensures kind { IfErr result (λ error.
+            LacksWords (V.has_tree value) (V.refuses value) false error.kind
+            ⊎ ((length self.old.spaces ≡ 0) × MayRefuse 1 error.kind)
+            ⊎ IsCrowded (HasWords (V.has_tree value) false) self.new.spaces error.kind) }
+        ensures same { A.same self.old.allocator self.new.allocator }
+        ensures others { KeepsOthers A.out (held_of self.old) (held_of self.new) }
+    {
+        self.message.set_root::<T, V>(value)
+    }
+
+    /// The root as a reading view of its type, as `get_root_as_reader` of the message.
+    pub fn get_root_as_reader<'a>(&'a self) -> Result<T::Reader>
+    where
+        T: Owned<'a, BuilderArena<A>>,
+        ensures answer { let pointer = unlimited_root (map used_of self.now.spaces) in
+            MatchResult result (λ view. T.Reader.shows pointer view)
+            (λ error. T.Reader.refuses pointer error.kind) }
+        ensures found { let pointer = unlimited_root (map used_of self.now.spaces) in
+            T.Reader.accepts pointer → IsOk result }
+        ensures unlimited { IfErr result (λ error. error.kind ≢ ReadLimitExceeded) }
+        ensures exact { let pointer = unlimited_root (map used_of self.now.spaces) in
+            (kind : ErrorKind) → LeadsAstray pointer kind → (T.Reader.accepts pointer → ⊥) →
+            IsErrAnd result (λ error. error.kind ≡ kind) }
+    {
+        self.message.get_root_as_reader()
+    }
+}
+
+impl<A: Allocator, T> From<Builder<A>> for TypedBuilder<T, A> {
+    ghost from_gives = { λ message typed. typed ≡ message };
+
+    fn from(message: Builder<A>) -> TypedBuilder<T, A> {
+        TypedBuilder::new(message)
+    }
+}
+
+impl<T> TypedBuilder<T, HeapAllocator> {
+    /// A message over a heap that begins with 1,024 words.
+    pub fn new_default(alloc: Global) -> TypedBuilder<T, HeapAllocator>
+        ensures spaces { result.spaces ≡ [] }
+        ensures spot { result.spot ≡ None }
+        ensures next { result.allocator.next_size ≡ 1024 }
+    {
+        TypedBuilder::new(Builder::new_default(alloc))
+    }
+}
+
+impl<T, A: Allocator> Building for TypedBuilder<T, A> {
+    type Allocator = A;
+
+    ghost built = { λ typed. typed };
+
+    fn root_shown(&self) -> Shown {
+        self.message.root_shown()
+    }
+
+    fn root_bytes(&self) -> &[u8] {
+        self.message.root_bytes()
+    }
+
+    fn set_word(&mut self, index: u16, word: u64) {
+        self.message.set_word(index, word);
+    }
+
+    fn set_number(&mut self, index: u32, number: u64) {
+        self.message.set_number(index, number);
+    }
+
+    fn write_bytes(&mut self, index: u32, bytes: &[u8]) {
+        self.message.write_bytes(index, bytes);
+    }
+}
+
+impl<T: OwnedBuilder, A: Allocator> TypedBuilder<T, A> {
+    ghost use Rattle.capnp_message.specs.contracts.typed_builder.TypedBuilder.{the_row as typed_row};
+
+    /// Makes the root a new object of some length, as `initn_root` of the message.
+    pub fn initn_root<'a>(&'a mut self, n: u32) -> Result<View<'a, TypedBuilder<T, A>, T>>
+        ensures* rests { sem 𝓛 (RestsIfErr
+            (typed_row T.row A.row A.Segment.row A.Allocator A.Segment.SegmentSpace)
+            self.entry (λ view. view.message.ghost_name) result
+            (λ last. IsCleared A.same self.old last)) }
+        ensures same { IfOk result (λ view. view.message.ghost_name ≡ self.entry.ghost_name) }
+        ensures inits { IfOk result (λ view. (form : Form) × (charge : ℕ) × T.inits n form
+            × Root (message view.message.now.spaces) form none charge) }
+        ensures kind { IfErr result (λ error. T.refuses n error.kind
+            ⊎ ((length self.old.spaces ≡ 0) × MayRefuse 1 error.kind)
+            ⊎ ((words : ℕ) × InitWords T.inits n words × MayRefuse (words + 1) error.kind)) }
+        ensures allocator { IfOk result (λ view.
+            A.same self.old.allocator view.message.now.allocator) }
+        ensures others { IfOk result (λ view.
+            KeepsOthers A.out (held_of self.old) (held_of view.message.now)) }
+    {
+        self.message.arena.init_object::<T>(n)?;
+        Ok(View::new(self))
+    }
+
+    /// The same, of length 0.
+    pub fn init_root<'a>(&'a mut self) -> Result<View<'a, TypedBuilder<T, A>, T>>
+        ensures* rests { sem 𝓛 (RestsIfErr
+            (typed_row T.row A.row A.Segment.row A.Allocator A.Segment.SegmentSpace)
+            self.entry (λ view. view.message.ghost_name) result
+            (λ last. IsCleared A.same self.old last)) }
+        ensures same { IfOk result (λ view. view.message.ghost_name ≡ self.entry.ghost_name) }
+        ensures inits { IfOk result (λ view. (form : Form) × (charge : ℕ) × T.inits 0 form
+            × Root (message view.message.now.spaces) form none charge) }
+        ensures kind { IfErr result (λ error. T.refuses 0 error.kind
+            ⊎ ((length self.old.spaces ≡ 0) × MayRefuse 1 error.kind)
+            ⊎ ((words : ℕ) × InitWords T.inits 0 words × MayRefuse (words + 1) error.kind)) }
+        ensures allocator { IfOk result (λ view.
+            A.same self.old.allocator view.message.now.allocator) }
+        ensures others { IfOk result (λ view.
+            KeepsOthers A.out (held_of self.old) (held_of view.message.now)) }
+    {
+        self.initn_root(0)
+    }
+
+    /// The object at the root, as `get_root` of the message.
+    pub fn get_root<'a>(&'a mut self) -> Result<View<'a, TypedBuilder<T, A>, T>>
+        ensures* rests { sem 𝓛 (RestsIfErr
+            (typed_row T.row A.row A.Segment.row A.Allocator A.Segment.SegmentSpace)
+            self.entry (λ view. view.message.ghost_name) result
+            (λ last. IsLookedAt A.same self.old last)) }
+        ensures same { IfOk result (λ view. view.message.ghost_name ≡ self.entry.ghost_name) }
+        ensures taken { IfOk result (λ view. ForRoot view.message.now.spaces T.takes) }
+        ensures looked { IfOk result (λ view. IsLookedAt A.same self.old view.message.now) }
+        ensures others { IfOk result (λ view.
+            KeepsOthers A.out (held_of self.old) (held_of view.message.now)) }
+        ensures kind { IfErr result (λ error. ((length self.old.spaces ≡ 0) × MayRefuse 1 error.kind)
+            ⊎ DeclinesRoot T.declines self.old.spaces error.kind) }
+    {
+        self.message.arena.accept_root::<T>()?;
+        Ok(View::new(self))
+    }
+}

@@ -1,0 +1,113 @@
+//! Readers of messages whose root has a type.
+ghost use Rattle.std.specs.Prelude.{◌≡◌, ◌≢◌, ◌⊎◌, ◌^◌, ◌-◌, pos, None, IfErr, OnOk, IsOk, MatchResult};
+ghost use Rattle.std.specs.Result.{IsErrAnd};
+ghost use Rattle.capnp_frame.specs.declared.error.ErrorKind.{ErrorKind};
+ghost use Rattle.capnp_frame.specs.declared.error.ErrorKind.TheVariants.{ReadLimitExceeded};
+ghost use Rattle.capnp_wire.specs.Reached.{root};
+ghost use Rattle.capnp_wire.specs.Faults.{NoWord};
+ghost use Rattle.capnp_wire.specs.Views.{LeadsAstray, MeetsLimit};
+ghost use Rattle.capnp_message.specs.Seen.{root_of, HasRoot};
+
+use crate::builder::Builder;
+use crate::reader::Reader;
+use crate::typed_builder::TypedBuilder;
+use capnp_build::allocator::Allocator;
+use capnp_frame::Result;
+use capnp_frame::message::ReaderSegments;
+use capnp_wire::traits::Owned;
+use std::marker::{Model, PhantomData};
+
+/// A message that is read, and whose root is of type `T`.
+#[derive(Drop)]
+pub struct TypedReader<S, T> {
+    message: Reader<S>,
+    marker: PhantomData<T>,
+}
+
+// Clauses see the reader.
+impl<S, T> Model for TypedReader<S, T> {
+    ghost use Rattle.capnp_message.specs.Seen.{ReadMessage};
+
+    ghost Value = { ReadMessage S };
+
+    ghost view = { λ typed. typed.message };
+}
+
+impl<S: ReaderSegments, T> TypedReader<S, T> {
+    /// Reads the root of this message as a `T`.
+    pub fn new(message: Reader<S>) -> TypedReader<S, T>
+        ensures { result ≡ message }
+    {
+        TypedReader {
+            message,
+            marker: PhantomData,
+        }
+    }
+
+    /// The root as a view of its type, refused as `get_root` of the message.
+    pub fn get<'a>(&'a self) -> Result<T::Reader>
+    where
+        T: Owned<'a, S>,
+        ensures answer { let pointer = root_of S.segments self.now in MatchResult result
+            (λ view. T.Reader.shows pointer view)
+            (λ error. NoWord pointer.message root error.kind ⊎ T.Reader.refuses pointer error.kind) }
+        ensures stands { OnOk result (HasRoot (root_of S.segments self.now)) }
+        ensures found { let pointer = root_of S.segments self.now in
+            pointer.limit ≡ None → HasRoot pointer → T.Reader.accepts pointer → IsOk result }
+        ensures unlimited { let pointer = root_of S.segments self.now in
+            pointer.limit ≡ None → IfErr result (λ error. error.kind ≢ ReadLimitExceeded) }
+        ensures exact { let pointer = root_of S.segments self.now in
+            (kind : ErrorKind) → LeadsAstray pointer kind → (T.Reader.accepts pointer → ⊥) →
+            IsErrAnd result (λ error. error.kind ≡ kind) }
+        ensures declined { let pointer = root_of S.segments self.now in
+            (kind : ErrorKind) → HasRoot pointer → T.Reader.declines pointer kind →
+            IsErrAnd result (λ error. (error.kind ≡ kind) ⊎ MeetsLimit pointer error.kind) }
+        ensures nowhere { (kind : ErrorKind) → NoWord (root_of S.segments self.now).message root kind →
+            IsErrAnd result (λ error. error.kind ≡ kind) }
+    {
+        self.message.get_root()
+    }
+
+    /// The segments.
+    pub fn get_segments(&self) -> &S
+        ensures { result.now ≡ self.now.segments }
+    {
+        self.message.get_segments()
+    }
+
+    /// The message.
+    pub fn into_inner(self) -> Reader<S>
+        ensures { result ≡ self }
+    {
+        let TypedReader { message, marker: _ } = self;
+        message
+    }
+}
+
+impl<S: ReaderSegments, T> From<Reader<S>> for TypedReader<S, T> {
+    ghost from_gives = { λ message typed. typed ≡ message };
+
+    fn from(message: Reader<S>) -> TypedReader<S, T> {
+        TypedReader::new(message)
+    }
+}
+
+impl<A: Allocator, T> From<Builder<A>> for TypedReader<Builder<A>, T> {
+    ghost from_gives = { λ built typed. (typed.segments ≡ built)
+        × (typed.options.traversal_limit_in_words ≡ None)
+        × (typed.options.nesting_limit ≡ pos (2 ^ 31 - 1)) };
+
+    fn from(built: Builder<A>) -> TypedReader<Builder<A>, T> {
+        TypedReader::new(built.into_reader())
+    }
+}
+
+impl<A: Allocator, T> From<TypedBuilder<T, A>> for TypedReader<Builder<A>, T> {
+    ghost from_gives = { λ built typed. (typed.segments ≡ built)
+        × (typed.options.traversal_limit_in_words ≡ None)
+        × (typed.options.nesting_limit ≡ pos (2 ^ 31 - 1)) };
+
+    fn from(built: TypedBuilder<T, A>) -> TypedReader<Builder<A>, T> {
+        built.into_reader()
+    }
+}
