@@ -1,0 +1,149 @@
+-- Messages one after the other.
+use Rattle.std.proofs.Common.{◌≡◌, ◌⊎◌, inl, inr, ℕ, ◌+◌, ◌-◌, ◌^◌, ◌<◌, ◌≤◌, min, Option, Some, None, IfSome, List, [], ◌∷◌, ◌++◌, length, map, take, refl, sym, ap, ◌∙◌, subst, arith, append_assoc, zero, suc}
+use Rattle.std.proofs.Math.ListN.{get_or}
+use Rattle.std.proofs.lemmas.List.{map-append, length-map, take_more, append-nil}
+use Rattle.std.specs.List.{AllByRecursion}
+use Rattle.capnp_frame.specs.declared.error.ErrorKind.{ErrorKind}
+use Rattle.capnp_frame.specs.declared.error.ErrorKind.TheVariants.{DeviceFailed, OutOfMemory}
+use Rattle.capnp_frame.specs.Sink.{Adds}
+use Rattle.capnp_frame.specs.Frame.{IsFrame}
+use Rattle.capnp_frame.specs.Limits.{IsWithin}
+use Rattle.capnp_frame.specs.Source.{Giving, Refusing, IfKnown}
+use Rattle.capnp_frame.specs.Texts.{Grammar, BeginsWith, AreTexts}
+use Rattle.capnp_frame.specs.Writing.{IsWritable}
+use Rattle.capnp_frame.proofs.SourceLemmas.{IfKnown-join, IfKnown-refl}
+use Rattle.capnp_frame.proofs.FrameLemmas.{frame_text_is}
+use Rattle.capnp_frame.proofs.SizeLemmas.{HasTable-writable}
+use Rattle.capnp_frame.proofs.TextLemmas.{PartsStreams, AreTexts-push}
+use Rattle.capnp_pack.proofs.PackedFrameLemmas.{packed_text_is}
+use Rattle.capnp.specs.declared.streams.Format.{Format}
+use Rattle.capnp.specs.declared.streams.Format.TheVariants.{Framed, Packed}
+use Rattle.capnp.specs.Streams.{grammar_of, StandsNext, IsStream}
+use Rattle.capnp.specs.Written.{IsTextOf, AppendsEach}
+use Rattle.capnp.proofs.RunLemmas.{format_lawful, format_requested, format_parts}
+use Rattle.capnp.proofs.ReaderLemmas.{nothing_begins_known}
+
+-- one more message is read
+pub texts_next : {X : Type 0} (format : Format) (limit : Option ℕ) (segments : X → List (List ℕ)) (xs ys : List X)
+    (x : X) (old mid new : Option (List ℕ)) → ys ≡ xs ++ x ∷ []
+    → IfKnown old mid (AreTexts (grammar_of format) limit (map segments xs))
+    → IfKnown mid new (StandsNext format limit (segments x))
+    → IfKnown old new (AreTexts (grammar_of format) limit (map segments ys))
+texts_next format limit segments xs ys x old mid new e texts begins =
+    let both : map segments ys ≡ map segments xs ++ segments x ∷ [] = ap (map segments) e ∙ map-append segments xs (x ∷ []) in
+    subst (λ ms. IfKnown old new (AreTexts (grammar_of format) limit ms)) (sym both)
+    (IfKnown-join old mid new (AreTexts-push (grammar_of format) limit (map segments xs) (segments x)) texts begins)
+
+-- behind fewer texts a next one stands
+texts_further : {IsText : Grammar} {gives : Giving} {refuses : Refusing} {limit : Option ℕ}
+    → PartsStreams IsText gives refuses limit
+    → (ns ms : List (List (List ℕ))) (raw mid rest : List ℕ) → AreTexts IsText limit ns raw mid
+    → AreTexts IsText limit ms raw rest → length ns < length ms
+    → (m : List (List ℕ)) × (left : List ℕ) × BeginsWith IsText limit m mid left
+texts_further parts ns [] raw mid rest had texts few = absurd (omega arith)
+texts_further {IsText} {limit = limit} parts [] (m ∷ ms) raw mid rest had texts few = (m, texts.0, subst (λ l. BeginsWith IsText limit m l texts.0) (sym had) texts.1)
+texts_further {IsText} {limit = limit} parts (n ∷ ns) (m ∷ ms) raw mid rest had texts few =
+    let same = parts.begins_once n m raw had.0 texts.0 had.1 texts.1 in
+    texts_further parts ns ms texts.0 mid rest (subst (λ l. AreTexts IsText limit ns l mid) same.1 had.2) texts.2 (omega arith)
+
+-- so where as many as are asked for stand, a refusal is a fault
+pub accepted_later : (format : Format) (limit : Option ℕ) (F : Type 0) (ns : List (List (List ℕ))) (count : ℕ)
+    (old mid : Option (List ℕ)) → length ns < count → IfKnown old mid (AreTexts (grammar_of format) limit ns)
+    → IfSome mid (λ raw. (m : List (List ℕ)) (rest : List ℕ) → StandsNext format limit m raw rest → F)
+    → IfSome old (λ raw. (ms : List (List (List ℕ))) (rest : List ℕ) → AreTexts (grammar_of format) limit ms raw rest
+    → length ms ≡ count → F)
+accepted_later format limit F ns count None mid few had accepted = tt
+accepted_later format limit F ns count (Some raw) None few had accepted = absurd had
+accepted_later format limit F ns count (Some raw) (Some left) few had accepted = λ ms rest texts counted.
+    let next = texts_further (format_parts format limit) ns ms raw left rest had texts (omega arith) in
+    accepted next.0 next.1 next.2
+
+-- as many texts are the same messages
+texts_same : {IsText : Grammar} {gives : Giving} {refuses : Refusing} {limit : Option ℕ}
+    → PartsStreams IsText gives refuses limit
+    → (ns ms : List (List (List ℕ))) (raw left rest : List ℕ) → AreTexts IsText limit ns raw left
+    → AreTexts IsText limit ms raw rest → length ns ≡ length ms → (ns ≡ ms) × (left ≡ rest)
+texts_same parts [] [] raw left rest had texts many = (refl, had ∙ sym texts)
+texts_same parts [] (m ∷ ms) raw left rest had texts many = absurd (omega arith)
+texts_same parts (n ∷ ns) [] raw left rest had texts many = absurd (omega arith)
+texts_same {IsText} {limit = limit} parts (n ∷ ns) (m ∷ ms) raw left rest had texts many =
+    let same = parts.begins_once n m raw had.0 texts.0 had.1 texts.1 in
+    let inner = texts_same parts ns ms texts.0 left rest (subst (λ l. AreTexts IsText limit ns l left) same.1 had.2) texts.2 (omega arith) in
+    (ap (λ x. x ∷ ns) same.0 ∙ ap (λ l. m ∷ l) inner.0, inner.1)
+
+-- what is written of a message is a text of it
+text_is : (format : Format) (m : List (List ℕ)) (text : List ℕ) → IsWritable m → IsTextOf format m text → grammar_of format text m
+text_is Framed m text writable e = subst (λ t. IsFrame t m) (sym e) (frame_text_is m (HasTable-writable m writable) writable.whole)
+text_is Packed m text writable p = packed_text_is text m (HasTable-writable m writable) p
+
+-- so what is written of messages is their texts
+appended_texts : (format : Format) (limit : Option ℕ) (ms : List (List (List ℕ))) (text : List ℕ)
+    → AllByRecursion IsWritable ms → AllByRecursion (λ m. IsWithin m limit) ms → AppendsEach (IsTextOf format) ms text
+    → AreTexts (grammar_of format) limit ms text []
+appended_texts format limit [] text writable within all = sym all
+appended_texts format limit (m ∷ ms) text writable within (first, others, here, more, e) = (
+  others,
+  record { text = first; is_text = text_is format m first writable.0 here; within = within.0; spelled = e },
+  appended_texts format limit ms others writable.1 within.1 more,
+)
+
+pub appended_stream : (format : Format) (limit : Option ℕ) (ms : List (List (List ℕ))) (text : List ℕ)
+    → AllByRecursion IsWritable ms → AllByRecursion (λ m. IsWithin m limit) ms → AppendsEach (IsTextOf format) ms text
+    → IsStream format limit ms None text
+appended_stream format limit ms text writable within all = record { rest = []; texts = appended_texts format limit ms text writable within all; ends = refl }
+
+-- one more message is written
+AppendsEach-push : (Writes : List (List ℕ) → List ℕ → Type 0) (ms : List (List (List ℕ))) (m : List (List ℕ))
+    (text more : List ℕ) → AppendsEach Writes ms text → Writes m more → AppendsEach Writes (ms ++ m ∷ []) (text ++ more)
+AppendsEach-push Writes [] m text more all here = (more, [], here, refl, ap (λ l. l ++ more) all ∙ sym (append-nil more))
+AppendsEach-push Writes (n ∷ ns) m text more (first, others, this, all, e) here =
+    (first, others ++ more, this, AppendsEach-push Writes ns m others more all here, ap (λ l. l ++ more) e ∙ append_assoc first others more)
+
+pub appended_next : {S : Type 0} (segments : S → List (List ℕ)) (Writes : List (List ℕ) → List ℕ → Type 0)
+    (xs : List S) (index : ℕ) (x : S) (old mid new : Option (List ℕ)) → index < length xs → x ≡ get_or xs index x
+    → IfKnown old mid (Adds (AppendsEach Writes (map segments (take index xs))))
+    → IfKnown mid new (Adds (Writes (segments x)))
+    → IfKnown old new (Adds (AppendsEach Writes (map segments (take (index + 1) xs))))
+appended_next segments Writes xs index x old mid new here is before next =
+    let more : take (index + 1) xs ≡ take index xs ++ x ∷ [] = take_more xs index x here ∙ ap (λ y. take index xs ++ y ∷ []) (sym is) in
+    let both : map segments (take (index + 1) xs) ≡ map segments (take index xs) ++ segments x ∷ [] = ap (map segments) more ∙ map-append segments (take index xs) (x ∷ []) in
+    subst (λ ms. IfKnown old new (Adds (AppendsEach Writes ms))) (sym both)
+    (IfKnown-join old mid new (λ a b c (text, all, e) (last, this, f). (text ++ last, AppendsEach-push Writes (map segments (take index xs)) (segments x) text last all this, f ∙ ap (λ l. l ++ last) e ∙ append_assoc a text last)) before next)
+
+pub appended_none : (Writes : List (List ℕ) → List ℕ → Type 0) (written : Option (List ℕ)) → IfKnown written written (Adds (AppendsEach Writes []))
+appended_none Writes written = IfKnown-refl (Adds (AppendsEach Writes [])) written (λ l. ([], refl, sym (append-nil l)))
+
+-- each of them can be written
+pub writable_at : {S : Type 0} (segments : S → List (List ℕ)) (xs : List S) (index : ℕ) (x : S) → index < length xs → x ≡ get_or xs index x → AllByRecursion IsWritable (map segments xs) → IsWritable (segments x)
+writable_at segments [] index x here is all = absurd (omega arith)
+writable_at segments (y ∷ ys) zero x here is all = subst (λ z. IsWritable (segments z)) (sym is) all.0
+writable_at segments (y ∷ ys) (suc index) x here is all = writable_at segments ys index x (omega arith) is all.1
+
+-- what was appended to nothing is texts
+pub read_texts : (format : Format) (limit : Option ℕ) (ms : List (List (List ℕ))) (start new shown : List ℕ)
+    → start ≡ [] → shown ≡ new → AllByRecursion IsWritable ms → AllByRecursion (λ m. IsWithin m limit) ms
+    → Adds (AppendsEach (IsTextOf format) ms) start new → AreTexts (grammar_of format) limit ms shown []
+read_texts format limit ms start new shown none same writable within (text, all, e) =
+    subst (λ l. AreTexts (grammar_of format) limit ms l []) (ap (λ l. l ++ text) (sym none) ∙ sym e ∙ sym same)
+    (appended_texts format limit ms text writable within all)
+
+-- and just these are read of it
+pub read_same : {X S : Type 0} (format : Format) (limit : Option ℕ) (segments : X → List (List ℕ))
+    (of : S → List (List ℕ)) (xs : List X) (ms : List S) (raw left : List ℕ)
+    → AreTexts (grammar_of format) limit (map segments xs) raw left
+    → AreTexts (grammar_of format) limit (map of ms) raw [] → length xs ≡ length ms
+    → (map segments xs ≡ map of ms) × (left ≡ [])
+read_same format limit segments of xs ms raw left had texts many =
+    texts_same (format_parts format limit) (map segments xs) (map of ms) raw left [] had texts
+    (length-map xs segments ∙ many ∙ sym (length-map ms of))
+
+-- behind them none is
+pub none_left : {X : Type 0} (format : Format) (limit : Option ℕ) (segments : X → List (List ℕ)) (end : Option X)
+    (left : List ℕ) (new : Option (List ℕ)) → left ≡ []
+    → IfSome end (λ x. IfKnown (Some left) new (StandsNext format limit (segments x))) → end ≡ None
+none_left format limit segments None left new none begins = refl
+none_left format limit segments (Some x) left new none begins = absurd (nothing_begins_known (format_lawful format) (format_requested format) limit (segments x) (Some left) new (ap Some none) begins)
+
+pub memory_only : (kind : ErrorKind) → (kind ≡ DeviceFailed) ⊎ (kind ≡ OutOfMemory) → (kind ≡ DeviceFailed → min (0 + 1) (2 ^ 64 - 1) ≤ 0) → kind ≡ OutOfMemory
+memory_only kind (inl device) failed = let fails = failed device in absurd (omega arith)
+memory_only kind (inr memory) failed = memory

@@ -1,0 +1,10 @@
+-- The lemmas, by subject.
+pub mod ReaderLemmas
+pub mod WriterLemmas
+pub mod ReadNextLemmas
+pub mod RunLemmas
+pub mod EndLemmas
+pub mod TranscodingLemmas
+pub mod PieceLemmas
+pub mod AppendedLemmas
+pub mod Passed

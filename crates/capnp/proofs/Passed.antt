@@ -1,0 +1,2 @@
+-- Lemmas of the crates below, for callers that stand on this crate alone.
+pub use Rattle.capnp_frame.proofs.WritingLemmas.{lengths-next, size-next}

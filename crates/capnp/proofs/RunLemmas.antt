@@ -1,0 +1,170 @@
+-- Runs over the messages of a stream, message by message.
+use Rattle.std.proofs.Common.{◌≡◌, inl, inr, ℕ, ◌+◌, Option, Some, None, IfSome, Ok, Err, List, [], ◌∷◌, ◌++◌, length, refl, sym, ap, ◌∙◌, subst, arith, append_assoc, length-append}
+use Rattle.std.proofs.lemmas.List.{append-nil, length_push, nil_from_length}
+use Rattle.std.specs.List.{AllByRecursion}
+use Rattle.capnp_frame.specs.declared.error.ErrorKind.{ErrorKind}
+use Rattle.capnp_frame.specs.Limits.{IsWithin}
+use Rattle.capnp_frame.specs.Message.{IsWholeWords}
+use Rattle.capnp_frame.specs.Source.{IsSource, IfKnown, IsTail, IsFront}
+use Rattle.capnp_frame.specs.Sink.{Adds}
+use Rattle.capnp_frame.specs.SplittingLaws.{splitting}
+use Rattle.capnp_frame.specs.Writing.{IsWritable}
+use Rattle.capnp_frame.proofs.SourceLemmas.{IfKnown-join, IfKnown-refl, IfKnown-weaker}
+use Rattle.capnp_frame.proofs.FrameLemmas.{plain_requests}
+use Rattle.capnp_frame.proofs.TextLemmas.{AreRequested, PartsStreams, parts_streams, AreTexts-push}
+use Rattle.capnp_pack.specs.RefusingLaws.{unpacking}
+use Rattle.capnp_pack.proofs.PackedFrameLemmas.{packed_requests}
+use Rattle.capnp.specs.declared.streams.Format.{Format}
+use Rattle.capnp.specs.declared.streams.Format.TheVariants.{Framed, Packed}
+use Rattle.capnp.specs.declared.streams.StoppedAt.{StoppedAt}
+use Rattle.capnp.specs.Streams.{grammar_of, gives_of, refuses_of, StandsNext}
+use Rattle.capnp.specs.Runs.{Writing, DecliningWriting, WritesFrom, WritesAll, HasWrittenNext, HasWritten, IsReadingFault, IsWritingFault, IsRunFault, LacksWriting, most_messages, HasRun}
+use Rattle.capnp.proofs.WriterLemmas.{IsWritable-within}
+
+-- Both formats.
+
+pub format_lawful : (format : Format) → IsSource (gives_of format) (refuses_of format)
+format_lawful Framed = splitting
+format_lawful Packed = unpacking
+
+pub format_requested : (format : Format) → AreRequested (grammar_of format) (gives_of format)
+format_requested Framed = plain_requests
+format_requested Packed = packed_requests
+
+pub format_parts : (format : Format) (limit : Option ℕ) → PartsStreams (grammar_of format) (gives_of format) (refuses_of format) limit
+format_parts format limit = parts_streams (format_lawful format) (format_requested format) limit
+
+-- What is written, message by message.
+
+WritesFrom-push : (Writes : Writing) (index : ℕ) (ms : List (List (List ℕ))) (m : List (List ℕ)) (text more : List ℕ)
+    → WritesFrom Writes index ms text → Writes (index + length ms) m more
+    → WritesFrom Writes index (ms ++ m ∷ []) (text ++ more)
+WritesFrom-push Writes index [] m text more all here =
+    let first : index + 0 ≡ index = omega arith in
+    (more, [], subst (λ k. Writes k m more) first here, refl, ap (λ l. l ++ more) all ∙ sym (append-nil more))
+WritesFrom-push Writes index (n ∷ ns) m text more all here =
+    let moved : index + length (n ∷ ns) ≡ index + 1 + length ns = omega arith in (
+      all.0,
+      all.1 ++ more,
+      all.2,
+      WritesFrom-push Writes (index + 1) ns m all.1 more all.3 (subst (λ k. Writes k m more) moved here),
+      ap (λ l. l ++ more) all.4 ∙ append_assoc all.0 all.1 more,
+    )
+
+-- no message is written yet
+pub HasWritten-none : (format : Format) (limit : Option ℕ) (Writes : Writing) (written : Option (List ℕ)) (raw : List ℕ) → HasWritten format limit Writes 0 written written raw raw
+HasWritten-none format limit Writes written raw = record {
+  messages = [];
+  counted = refl;
+  texts = refl;
+  written = IfKnown-refl (Adds (WritesAll Writes [])) written (λ l. ([], refl, sym (append-nil l)));
+}
+
+Adds-join : (Writes : Writing) (ms : List (List (List ℕ))) (m : List (List ℕ)) (x y z : List ℕ)
+    → Adds (WritesAll Writes ms) x y → Adds (Writes (length ms) m) y z → Adds (WritesAll Writes (ms ++ m ∷ [])) x z
+Adds-join Writes ms m x y z (text, all, e) (more, here, f) =
+    let at : length ms ≡ 0 + length ms = omega arith in
+    (text ++ more, WritesFrom-push Writes 0 ms m text more all (subst (λ k. Writes k m more) at here), f ∙ ap (λ l. l ++ more) e ∙ append_assoc x text more)
+
+-- one more message is written
+pub HasWritten-next : (format : Format) (limit : Option ℕ) (Writes : Writing) (count : ℕ)
+    (before between after : Option (List ℕ)) (raw mid rest : List ℕ)
+    → HasWritten format limit Writes count before between raw mid
+    → HasWrittenNext format limit Writes count between after mid rest
+    → HasWritten format limit Writes (count + 1) before after raw rest
+HasWritten-next format limit Writes count before between after raw mid rest written next = record {
+  messages = written.messages ++ next.message ∷ [];
+  counted = length_push written.messages next.message ∙ ap (λ k. k + 1) written.counted;
+  texts = AreTexts-push (grammar_of format) limit written.messages next.message raw mid rest written.texts next.stands;
+  written = IfKnown-join before between after (Adds-join Writes written.messages next.message) written.written
+      (subst (λ k. IfKnown between after (Adds (Writes k next.message))) (sym written.counted) next.written);
+}
+
+-- the next message stands, and is written, or not as a whole
+pub written_next : (format : Format) (limit : Option ℕ) (Writes : Writing) (index : ℕ) (message : List (List ℕ))
+    (old new before after : Option (List ℕ)) → IfKnown old new (StandsNext format limit message)
+    → IfKnown before after (Adds (Writes index message))
+    → IfKnown old new (HasWrittenNext format limit Writes index before after)
+written_next format limit Writes index message old new before after stands written =
+    IfKnown-weaker old new (λ raw rest begins. record { message = message; stands = begins; written = written }) stands
+
+lacks_writing : (format : Format) (limit : Option ℕ) (Declines : DecliningWriting) (index : ℕ)
+    (message : List (List ℕ)) (kind : ErrorKind) (old new : Option (List ℕ)) → IsWritable message
+    → IsWritingFault Declines index message kind → IfKnown old new (StandsNext format limit message)
+    → IfKnown old new (LacksWriting format limit Declines index kind)
+lacks_writing format limit Declines index message kind old new writable fault stands =
+    IfKnown-weaker old new (λ raw rest begins. record { message = message; stands = begins; writable = writable; fault = fault }) stands
+
+-- why a message was not written is a fault
+pub writing_faulted : (Declines : DecliningWriting) (index : ℕ) (message : List (List ℕ)) (kind : ErrorKind) → IsWritable message → IsWritingFault Declines index message kind → IsRunFault Declines index kind
+writing_faulted Declines index message kind writable (inl device) = inl device
+writing_faulted Declines index message kind writable (inr (inl memory)) = inr (inl memory)
+writing_faulted Declines index message kind writable (inr (inr declined)) = inr (inr (message, writable, declined))
+
+-- the same of a message that a reader accepts
+pub message_faulted : (limit : Option ℕ) (Declines : DecliningWriting) (index : ℕ) (message : List (List ℕ))
+    (kind : ErrorKind) → IsWithin message limit → AllByRecursion IsWholeWords message
+    → IsWritingFault Declines index message kind → IsRunFault Declines index kind
+message_faulted limit Declines index message kind within whole fault =
+    writing_faulted Declines index message kind (IsWritable-within message limit within whole) fault
+
+-- What a run comes to, by what its source had and has.
+
+pub all_written : (format : Format) (limit : Option ℕ) (Writes : Writing) (Declines : DecliningWriting) (count : ℕ)
+    (old mid left before between after : Option (List ℕ))
+    → IfKnown old mid (HasWritten format limit Writes count before between) → IfSome mid (λ raw. raw ≡ [])
+    → IfKnown mid left IsTail → after ≡ between
+    → IfSome old (HasRun format limit Writes Declines (Ok tt) left before after)
+all_written format limit Writes Declines count None mid left before between after written end tail same = tt
+all_written format limit Writes Declines count (Some raw) None left before between after written end tail same = absurd written
+all_written format limit Writes Declines count (Some raw) (Some rest) None before between after written end tail same = absurd tail
+all_written format limit Writes Declines count (Some raw) (Some rest) (Some left) before between after written end tail same =
+    let none : left ≡ [] = nil_from_length left (omega (arith, ap length end, ap length tail.1, length-append tail.0 left)) in
+    record {
+      count = count;
+      rest = left;
+      unread = refl;
+      written = subst (λ w. HasWritten format limit Writes count before w raw left) (sym same)
+          (subst (λ l. HasWritten format limit Writes count before between raw l) (end ∙ sym none) written);
+      done = inl none;
+    }
+
+pub most_written : (format : Format) (limit : Option ℕ) (Writes : Writing) (Declines : DecliningWriting) (count : ℕ)
+    (old left before after : Option (List ℕ)) → IfKnown old left (HasWritten format limit Writes count before after)
+    → count ≡ most_messages → IfSome old (HasRun format limit Writes Declines (Ok tt) left before after)
+most_written format limit Writes Declines count None left before after written most = tt
+most_written format limit Writes Declines count (Some raw) None before after written most = absurd written
+most_written format limit Writes Declines count (Some raw) (Some rest) before after written most = record { count = count; rest = rest; unread = refl; written = written; done = inr most }
+
+pub stopped_reading : (format : Format) (limit : Option ℕ) (Writes : Writing) (Declines : DecliningWriting)
+    (stop : StoppedAt) (old mid left before between after : Option (List ℕ))
+    → IfKnown old mid (HasWritten format limit Writes stop.message before between)
+    → IsReadingFault format limit stop.error.kind mid left → after ≡ between
+    → IfSome old (HasRun format limit Writes Declines (Err stop) left before after)
+stopped_reading format limit Writes Declines stop None mid left before between after written fault same = tt
+stopped_reading format limit Writes Declines stop (Some raw) None left before between after written fault same = absurd written
+stopped_reading format limit Writes Declines stop (Some raw) (Some rest) left before between after written fault same =
+    inl (record { rest = rest; written = subst (λ w. HasWritten format limit Writes stop.message before w raw rest) (sym same) written; fault = fault })
+
+stopped_writing : (format : Format) (limit : Option ℕ) (Writes : Writing) (Declines : DecliningWriting)
+    (stop : StoppedAt) (old mid left before between after : Option (List ℕ))
+    → IfKnown old mid (HasWritten format limit Writes stop.message before between)
+    → IfKnown mid left (LacksWriting format limit Declines stop.message stop.error.kind) → IfKnown between after IsFront
+    → IfSome old (HasRun format limit Writes Declines (Err stop) left before after)
+stopped_writing format limit Writes Declines stop None mid left before between after written lacks front = tt
+stopped_writing format limit Writes Declines stop (Some raw) None left before between after written lacks front = absurd written
+stopped_writing format limit Writes Declines stop (Some raw) (Some rest) left before between after written lacks front =
+    inr (record { rest = rest; between = between; written = written; lacks = lacks; front = front })
+
+-- the next message was read, and not written as a whole
+pub stopped_at_message : (format : Format) (limit : Option ℕ) (Writes : Writing) (Declines : DecliningWriting)
+    (stop : StoppedAt) (message : List (List ℕ)) (old mid left before between after : Option (List ℕ))
+    → IsWithin message limit → AllByRecursion IsWholeWords message
+    → IfKnown old mid (HasWritten format limit Writes stop.message before between)
+    → IfKnown mid left (StandsNext format limit message)
+    → IsWritingFault Declines stop.message message stop.error.kind → IfKnown between after IsFront
+    → IfSome old (HasRun format limit Writes Declines (Err stop) left before after)
+stopped_at_message format limit Writes Declines stop message old mid left before between after within whole written stands fault front =
+    stopped_writing format limit Writes Declines stop old mid left before between after written
+    (lacks_writing format limit Declines stop.message message stop.error.kind mid left
+    (IsWritable-within message limit within whole) fault stands) front

@@ -1,0 +1,65 @@
+-- What writers add to a plain sink, and what a reader's message is to a writer.
+use Rattle.std.proofs.Common.{◌≡◌, ◌⊎◌, inl, inr, ℕ, Option, None, Result, Ok, Err, OnOk, IfErr, List, [], ◌∷◌, ◌∙◌, arith}
+use Rattle.std.proofs.lemmas.List.{length-map}
+use Rattle.std.specs.List.{AllByRecursion}
+use Rattle.capnp_frame.specs.declared.error.Error.{Error}
+use Rattle.capnp_frame.specs.declared.error.ErrorKind.{ErrorKind}
+use Rattle.capnp_frame.specs.declared.error.ErrorKind.TheVariants.{DeviceFailed, OutOfMemory}
+use Rattle.capnp_frame.specs.Limits.{IsWithin}
+use Rattle.capnp_frame.specs.Message.{IsWholeWords, word_count}
+use Rattle.capnp_frame.specs.Source.{IfKnown}
+use Rattle.capnp_frame.specs.Sink.{Appending, Declining, DeclinesSome, Adds, AppendsAll, AppendsSame}
+use Rattle.capnp_frame.specs.Writing.{IsWritable, pieces}
+use Rattle.capnp_frame.proofs.SourceLemmas.{IfKnown-weaker}
+use Rattle.capnp_frame.proofs.SizeLemmas.{concat-pieces}
+use Rattle.capnp_frame.proofs.TextLemmas.{pieces_joined}
+use Rattle.capnp_pack.specs.PackedSink.{AppendsPacked}
+use Rattle.capnp_pack.proofs.PackedTextLemmas.{packed_pieces}
+use Rattle.capnp.specs.Written.{IsPlainSink, IsFrameText, IsPackedTextOf, RefusesWriter}
+
+-- a plain sink gets the pieces themselves
+AppendsAll-plain : (appends : Appending) (xs : List (List ℕ)) (text : List ℕ) → IsPlainSink appends → AppendsAll appends xs text → AppendsAll AppendsSame xs text
+AppendsAll-plain appends [] text plain all = all
+AppendsAll-plain appends (x ∷ xs) text plain (first, others, here, more, e) = (first, others, plain x first here, AppendsAll-plain appends xs others plain more, e)
+
+AppendsAll-packed : (appends : Appending) (xs : List (List ℕ)) (text : List ℕ) → IsPlainSink appends → AppendsAll (AppendsPacked appends) xs text → AppendsAll (AppendsPacked AppendsSame) xs text
+AppendsAll-packed appends [] text plain all = all
+AppendsAll-packed appends (x ∷ xs) text plain (first, others, here, more, e) =
+    (first, others, (here.0, here.1, AppendsAll-plain appends here.0 first plain here.2), AppendsAll-packed appends xs others plain more, e)
+
+-- so it gets the text of a message, framed and packed
+pub frame_text_added : (appends : Appending) → IsPlainSink appends → (message : List (List ℕ)) (text : List ℕ) → AppendsAll appends (pieces message) text → IsFrameText message text
+frame_text_added appends plain message text all = (pieces_joined (pieces message) text).0 (AppendsAll-plain appends (pieces message) text plain all) ∙ concat-pieces message
+
+pub packed_text_added : (appends : Appending) → IsPlainSink appends → (message : List (List ℕ)) (text : List ℕ) → AppendsAll (AppendsPacked appends) (pieces message) text → IsPackedTextOf message text
+packed_text_added appends plain message text all = (packed_pieces message text).0 (AppendsAll-packed appends (pieces message) text plain all)
+
+-- what is added is what is weaker
+pub Adds-weaker : {X : Type 0} {P Q : List ℕ → Type 0} (r : Result X Error) (old new : Option (List ℕ)) → ((text : List ℕ) → P text → Q text) → OnOk r (IfKnown old new (Adds P)) → OnOk r (IfKnown old new (Adds Q))
+Adds-weaker (Err e) old new weaker added = tt
+Adds-weaker (Ok x) old new weaker added = IfKnown-weaker old new (λ before after (text, p, e). (text, weaker text p, e)) added
+
+-- a message that was read can be written
+pub IsWritable-within : (message : List (List ℕ)) (limit : Option ℕ) → IsWithin message limit → AllByRecursion IsWholeWords message → IsWritable message
+IsWritable-within message limit within whole =
+    let some = within.some in
+    let few = within.few in
+    record {
+      some = omega (arith, length-map message word_count);
+      few = omega (arith, length-map message word_count);
+      whole = whole;
+      each = within.each;
+    }
+
+pub IsWithin-any : (message : List (List ℕ)) (limit : Option ℕ) → IsWithin message limit → IsWithin message None
+IsWithin-any message limit within = record { some = within.some; few = within.few; each = within.each; size = tt }
+
+-- a writer's refusal is a fault of the run
+pub writer_fault : {X : Type 0} (refuses : Declining) (message : List (List ℕ)) (Declines : ErrorKind → Type 0) (r : Result X Error)
+    → ((kind : ErrorKind) → DeclinesSome refuses (pieces message) kind → Declines kind)
+    → IfErr r (λ e. RefusesWriter refuses message e.kind)
+    → IfErr r (λ e. (e.kind ≡ DeviceFailed) ⊎ (e.kind ≡ OutOfMemory) ⊎ Declines e.kind)
+writer_fault refuses message Declines (Ok x) declined refused = tt
+writer_fault refuses message Declines (Err e) declined (inl device) = inl device
+writer_fault refuses message Declines (Err e) declined (inr (inl some)) = inr (inr (declined e.kind some))
+writer_fault refuses message Declines (Err e) declined (inr (inr memory)) = inr (inl memory.1)

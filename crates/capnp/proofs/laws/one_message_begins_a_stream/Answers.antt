@@ -1,0 +1,6 @@
+-- Both formats part streams in one way.
+use Rattle.capnp.proofs.RunLemmas.{format_parts}
+use Rattle.capnp.proofs.laws.one_message_begins_a_stream.Goals as goal
+
+pub returns : goal.returns
+returns c = λ format limit message other raw rest left. (format_parts format limit).begins_once message other raw rest left

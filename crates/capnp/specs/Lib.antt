@@ -1,0 +1,7 @@
+-- The definitions that contracts cite, by subject.
+pub mod Streams
+pub mod Headline
+pub mod Written
+pub mod Runs
+pub mod Transcoding
+pub mod Passed

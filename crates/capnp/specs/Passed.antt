@@ -1,0 +1,12 @@
+-- Words of the crates below, for callers that stand on this crate alone.
+pub use Rattle.capnp_frame.specs.declared.error.Error.{Error}
+pub use Rattle.capnp_frame.specs.declared.error.ErrorKind.{ErrorKind}
+pub use Rattle.capnp_frame.specs.Limits.{IsWithin}
+pub use Rattle.capnp_frame.specs.Message.{IsWholeWords, word_count, lengths, size_in_words}
+pub use Rattle.capnp_frame.specs.Numbers.{number_of}
+pub use Rattle.capnp_frame.specs.Refusals.{IsReaderKind}
+pub use Rattle.capnp_frame.specs.SegmentTable.{FitsField}
+pub use Rattle.capnp_frame.specs.Source.{Giving, Refusing, Splits, RunsShort, IsSource, IsPreorder, IfKnown, IsFront, IsRefused, Advances, Fails, Fills}
+pub use Rattle.capnp_frame.specs.SplittingLaws.{splitting, always}
+pub use Rattle.capnp_frame.specs.Sink.{Appending, AppendsSame, Declining, DeclinesSome, Adds, AppendsAll, Grows}
+pub use Rattle.capnp_frame.specs.Writing.{IsWritable, pieces}

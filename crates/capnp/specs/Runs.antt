@@ -1,0 +1,109 @@
+-- What a run over the messages of a stream reads, writes and answers (src/streams.rt).
+use Rattle.std.specs.Prelude.{◌≡◌, ◌⊎◌, ◌+◌, ◌-◌, ◌^◌, ℕ, List, [], ◌∷◌, ◌++◌, length, Option, Some, None, Result, Ok, Err}
+use Rattle.capnp_frame.specs.declared.error.ErrorKind.{ErrorKind}
+use Rattle.capnp_frame.specs.declared.error.ErrorKind.TheVariants.{DeviceFailed, OutOfMemory}
+use Rattle.capnp_frame.specs.Source.{IfKnown, IsFront}
+use Rattle.capnp_frame.specs.Sink.{Adds}
+use Rattle.capnp_frame.specs.Texts.{AreTexts}
+use Rattle.capnp_frame.specs.Writing.{IsWritable}
+use Rattle.capnp.specs.declared.streams.Format.{Format}
+use Rattle.capnp.specs.declared.streams.StoppedAt.{StoppedAt}
+use Rattle.capnp.specs.Streams.{grammar_of, StandsNext, RefusesNext}
+
+-- What is written of a message, by its index: Writes index message text.
+abbrev pub Writing : Type 1
+Writing = ℕ → List (List ℕ) → List ℕ → Type 0
+
+-- By which kinds that may be refused, beside the device's and want of memory: Declines index message kind.
+abbrev pub DecliningWriting : Type 1
+DecliningWriting = ℕ → List (List ℕ) → ErrorKind → Type 0
+
+-- of messages, the first of this index
+abbrev pub WritesFrom : Writing → ℕ → List (List (List ℕ)) → List ℕ → Type 0
+WritesFrom Writes index [] text = text ≡ []
+WritesFrom Writes index (m ∷ ms) text = (first others : List ℕ) × Writes index m first × WritesFrom Writes (index + 1) ms others × (text ≡ first ++ others)
+
+abbrev pub WritesAll : Writing → List (List (List ℕ)) → List ℕ → Type 0
+WritesAll Writes messages text = WritesFrom Writes 0 messages text
+
+-- the next message of a stream was written under this index
+pub record HasWrittenNext (format : Format) (limit : Option ℕ) (Writes : Writing) (index : ℕ) (before after : Option (List ℕ)) (raw rest : List ℕ) : Type 0 where
+  pub message : List (List ℕ)
+  pub stands : StandsNext format limit message raw rest
+  pub written : IfKnown before after (Adds (Writes index message))
+
+-- So many messages from the front of raw were written, and then rest is unread.
+pub record HasWritten (format : Format) (limit : Option ℕ) (Writes : Writing) (count : ℕ) (before after : Option (List ℕ)) (raw rest : List ℕ) : Type 0 where
+  pub messages : List (List (List ℕ))
+  pub counted : length messages ≡ count
+  pub texts : AreTexts (grammar_of format) limit messages raw rest
+  pub written : IfKnown before after (Adds (WritesAll Writes messages))
+
+-- why the next message was not read: the device's fault, want of memory, or what stands there
+abbrev pub IsReadingFault : Format → Option ℕ → ErrorKind → Option (List ℕ) → Option (List ℕ) → Type 0
+IsReadingFault format limit kind old new = (kind ≡ DeviceFailed) ⊎ (kind ≡ OutOfMemory) ⊎ IfKnown old new (RefusesNext format limit kind)
+
+-- why a message was not written: the device's fault, want of memory, or that the sink refuses some of it
+abbrev pub IsWritingFault : DecliningWriting → ℕ → List (List ℕ) → ErrorKind → Type 0
+IsWritingFault Declines index message kind = (kind ≡ DeviceFailed) ⊎ (kind ≡ OutOfMemory) ⊎ Declines index message kind
+
+-- a refusal that the unread bytes give no cause for: the same, of some message that can be written
+abbrev pub IsRunFault : DecliningWriting → ℕ → ErrorKind → Type 0
+IsRunFault Declines index kind = (kind ≡ DeviceFailed) ⊎ (kind ≡ OutOfMemory)
+    ⊎ ((message : List (List ℕ)) × IsWritable message × Declines index message kind)
+
+-- the next message was read, and not written as a whole
+pub record LacksWriting (format : Format) (limit : Option ℕ) (Declines : DecliningWriting) (index : ℕ) (kind : ErrorKind) (raw rest : List ℕ) : Type 0 where
+  pub message : List (List ℕ)
+  pub stands : StandsNext format limit message raw rest
+  pub writable : IsWritable message
+  pub fault : IsWritingFault Declines index message kind
+
+-- the most messages of one run
+abbrev pub most_messages : ℕ
+most_messages = 2 ^ 64 - 1
+
+-- Below, of a run over raw that leaves `left` unread, and whose sink has `before`, and then `after`.
+
+-- All messages are written, or as many as one run takes.
+pub record RanOut (format : Format) (limit : Option ℕ) (Writes : Writing) (left before after : Option (List ℕ)) (raw : List ℕ) : Type 0 where
+  pub count : ℕ
+  pub rest : List ℕ
+  pub unread : left ≡ Some rest
+  pub written : HasWritten format limit Writes count before after raw rest
+  pub done : (rest ≡ []) ⊎ (count ≡ most_messages)
+
+-- So many messages are written and nothing more, since the next one was not read.
+pub record StoppedReading (format : Format) (limit : Option ℕ) (Writes : Writing) (count : ℕ) (kind : ErrorKind) (left before after : Option (List ℕ)) (raw : List ℕ) : Type 0 where
+  pub rest : List ℕ
+  pub written : HasWritten format limit Writes count before after raw rest
+  pub fault : IsReadingFault format limit kind (Some rest) left
+
+-- So many messages are written, and the next one was read and not written as a whole. What was written of it is open.
+pub record StoppedWriting (format : Format) (limit : Option ℕ) (Writes : Writing) (Declines : DecliningWriting) (count : ℕ) (kind : ErrorKind) (left before after : Option (List ℕ)) (raw : List ℕ) : Type 0 where
+  pub rest : List ℕ
+  pub between : Option (List ℕ)
+  pub written : HasWritten format limit Writes count before between raw rest
+  pub lacks : IfKnown (Some rest) left (LacksWriting format limit Declines count kind)
+  pub front : IfKnown between after IsFront
+
+-- it stopped by this kind after so many messages
+abbrev pub HasStopped : Format → Option ℕ → Writing → DecliningWriting → ℕ → ErrorKind → Option (List ℕ) → Option (List ℕ) → Option (List ℕ) → List ℕ → Type 0
+HasStopped format limit Writes Declines count kind left before after raw =
+    StoppedReading format limit Writes count kind left before after raw
+    ⊎ StoppedWriting format limit Writes Declines count kind left before after raw
+
+-- what the answer of a run says that it did
+abbrev pub HasRun : Format → Option ℕ → Writing → DecliningWriting → Result (Unit {0}) StoppedAt → Option (List ℕ) → Option (List ℕ) → Option (List ℕ) → List ℕ → Type 0
+HasRun format limit Writes Declines (Ok done) left before after raw = RanOut format limit Writes left before after raw
+HasRun format limit Writes Declines (Err stop) left before after raw = HasStopped format limit Writes Declines stop.message stop.error.kind left before after raw
+
+-- the answer says that the stream is these messages, and ends so
+abbrev pub IsAnswerTo : Result (Unit {0}) StoppedAt → List (List (List ℕ)) → Option ErrorKind → Type 0
+IsAnswerTo (Ok done) messages ending = ending ≡ None
+IsAnswerTo (Err stop) messages ending = (ending ≡ Some stop.error.kind) × (stop.message ≡ length messages)
+
+-- the answer is a refusal by a fault
+abbrev pub IsFaulted : DecliningWriting → Result (Unit {0}) StoppedAt → Type 0
+IsFaulted Declines (Ok done) = ⊥
+IsFaulted Declines (Err stop) = IsRunFault Declines stop.message stop.error.kind

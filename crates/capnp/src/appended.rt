@@ -1,0 +1,164 @@
+//! Messages that are written one after the other, and read back.
+ghost use Rattle.std.specs.Prelude.{◌≡◌, ◌⊎◌, ℕ, List, [], map, length, Some, None, IfSome, IfNone, IfOk, OnOk, IfErr};
+ghost use Rattle.std.specs.List.{AllByRecursion};
+ghost use Rattle.capnp_frame.specs.declared.error.ErrorKind.{ErrorKind};
+ghost use Rattle.capnp_frame.specs.Limits.{IsWithin};
+ghost use Rattle.capnp_frame.specs.Source.{IfKnown, Advances, Fails};
+ghost use Rattle.capnp_frame.specs.Sink.{Adds, Grows};
+ghost use Rattle.capnp_frame.specs.Texts.{AreTexts};
+ghost use Rattle.capnp_frame.specs.Writing.{IsWritable};
+ghost use Rattle.capnp.specs.Headline.{IsFault};
+ghost use Rattle.capnp.specs.Streams.{grammar_of, StandsNext};
+ghost use Rattle.capnp.specs.Written.{IsPlainSink, IsTextOf, AppendsEach, RefusesAppending};
+
+use crate::streams::Format;
+use crate::{serialize, serialize_packed};
+use capnp_frame::Result;
+use capnp_frame::io::{BufRead, Write};
+use capnp_frame::message::{ReaderOptions, ReaderSegments};
+use capnp_frame::serialize::OwnedSegments;
+use capnp_message::Reader;
+use std::alloc::Global;
+
+/// Writes messages to a vector, one after the other, and reads them back: as many as were written,
+/// and what is read behind them.
+pub fn write_and_read_back<S: ReaderSegments>(
+    alloc: Global,
+    format: Format,
+    messages: &[S],
+    options: ReaderOptions,
+) -> Result<(Vec<Reader<OwnedSegments>>, Option<Reader<OwnedSegments>>)>
+    requires writable { AllByRecursion IsWritable (map S.segments messages.now) }
+    requires within { AllByRecursion (λ m. IsWithin m options.traversal_limit_in_words)
+        (map S.segments messages.now) }
+    // They are what was written, and behind them is none.
+    ensures back { IfOk result (λ read.
+        map (λ reader. reader.segments) read.0.items ≡ map S.segments messages.now) }
+    ensures end { IfOk result (λ read. read.1 ≡ None) }
+    ensures memory { IfErr result (λ error. error.kind ≡ ErrorKind.OutOfMemory) }
+{
+    let mut text: Vec<u8> = Vec::new(alloc);
+    write_messages(alloc, format, &mut text, messages)?;
+    let mut source: &[u8] = &text;
+    let readers = read_messages(alloc, format, &mut source, messages.len(), options)?;
+    let end = try_read_message(alloc, format, &mut source, options)?;
+    Ok((readers, end))
+}
+
+/// Writes messages one after the other. What is written before a refusal stays.
+pub fn write_messages<W: Write, S: ReaderSegments>(
+    alloc: Global,
+    format: Format,
+    sink: &mut W,
+    messages: &[S],
+) -> Result<()>
+    requires { AllByRecursion IsWritable (map S.segments messages.now) }
+    ensures text { IsPlainSink W.appends → OnOk result
+        (IfKnown (W.written sink.old) (W.written sink.new)
+        (Adds (AppendsEach (IsTextOf format) (map S.segments messages.now)))) }
+    ensures refused { IfErr result (λ error. RefusesAppending W.refuses error.kind) }
+    ensures failed { IfErr result (λ error. error.kind ≡ ErrorKind.DeviceFailed →
+        Fails (W.failures sink.old) (W.failures sink.new)) }
+    ensures grows { Grows W.written W.failures W.same sink.old sink.new }
+{
+    for message in messages {
+        write_message(alloc, format, sink, message)?;
+    }
+    Ok(())
+}
+
+/// Reads so many messages, one after the other.
+pub fn read_messages<R: BufRead>(
+    alloc: Global,
+    format: Format,
+    source: &mut R,
+    count: usize,
+    options: ReaderOptions,
+) -> Result<Vec<Reader<OwnedSegments>>>
+    ensures count { IfOk result (λ readers. length readers.items ≡ count) }
+    ensures found { IfOk result (λ readers.
+        IfKnown (R.unread source.old) (R.unread source.new)
+        (AreTexts (grammar_of format) options.traversal_limit_in_words
+        (map (λ reader. reader.segments) readers.items))) }
+    // Where so many stand, a refusal is a fault.
+    ensures accepted { IfErr result (λ error. IfSome (R.unread source.old) (λ raw.
+        (messages : List (List (List ℕ))) (rest : List ℕ) →
+        AreTexts (grammar_of format) options.traversal_limit_in_words messages raw rest →
+        length messages ≡ count → IsFault error.kind)) }
+    ensures failed { IfErr result (λ error. error.kind ≡ ErrorKind.DeviceFailed →
+        Fails (R.failures source.old) (R.failures source.new)) }
+    ensures advances { Advances R.unread R.failures R.same source.old source.new }
+{
+    let mut readers = Vec::new(alloc);
+    for index in 0..count {
+        let reader = read_message(alloc, format, source, options)?;
+        readers.push(reader)?;
+    }
+    Ok(readers)
+}
+
+// Writes a message in this format.
+fn write_message<W: Write, S: ReaderSegments>(
+    alloc: Global,
+    format: Format,
+    sink: &mut W,
+    message: &S,
+) -> Result<()>
+    requires { IsWritable (S.segments message.now) }
+    ensures text { IsPlainSink W.appends → OnOk result
+        (IfKnown (W.written sink.old) (W.written sink.new)
+        (Adds (IsTextOf format (S.segments message.now)))) }
+    ensures refused { IfErr result (λ error. RefusesAppending W.refuses error.kind) }
+    ensures failed { IfErr result (λ error. error.kind ≡ ErrorKind.DeviceFailed →
+        Fails (W.failures sink.old) (W.failures sink.new)) }
+    ensures grows { Grows W.written W.failures W.same sink.old sink.new }
+{
+    match format {
+        Format::Framed => serialize::write_message_segments(alloc, sink, message),
+        Format::Packed => serialize_packed::write_message_segments(alloc, sink, message),
+    }
+}
+
+// Reads the next message in this format.
+fn read_message<R: BufRead>(
+    alloc: Global,
+    format: Format,
+    source: &mut R,
+    options: ReaderOptions,
+) -> Result<Reader<OwnedSegments>>
+    ensures found { IfOk result (λ reader. IfKnown (R.unread source.old) (R.unread source.new)
+        (StandsNext format options.traversal_limit_in_words reader.segments)) }
+    ensures accepted { IfSome (R.unread source.old) (λ raw.
+        (message : List (List ℕ)) (rest : List ℕ) →
+        StandsNext format options.traversal_limit_in_words message raw rest →
+        IfErr result (λ error. IsFault error.kind)) }
+    ensures failed { IfErr result (λ error. error.kind ≡ ErrorKind.DeviceFailed →
+        Fails (R.failures source.old) (R.failures source.new)) }
+    ensures advances { Advances R.unread R.failures R.same source.old source.new }
+{
+    match format {
+        Format::Framed => serialize::read_message(alloc, source, options),
+        Format::Packed => serialize_packed::read_message(alloc, source, options),
+    }
+}
+
+// The same, or none where nothing is unread.
+fn try_read_message<R: BufRead>(
+    alloc: Global,
+    format: Format,
+    source: &mut R,
+    options: ReaderOptions,
+) -> Result<Option<Reader<OwnedSegments>>>
+    ensures found { IfOk result (λ found. IfSome found (λ reader.
+        IfKnown (R.unread source.old) (R.unread source.new)
+        (StandsNext format options.traversal_limit_in_words reader.segments))) }
+    ensures end { IfErr result (λ error. R.unread source.old ≡ Some [] →
+        error.kind ≡ ErrorKind.DeviceFailed) }
+    ensures failed { IfErr result (λ error. error.kind ≡ ErrorKind.DeviceFailed →
+        Fails (R.failures source.old) (R.failures source.new)) }
+{
+    match format {
+        Format::Framed => serialize::try_read_message(alloc, source, options),
+        Format::Packed => serialize_packed::try_read_message(alloc, source, options),
+    }
+}

@@ -1,0 +1,59 @@
+//! Writing messages to a sink.
+ghost use Rattle.std.specs.Prelude.{◌≡◌, ◌*◌, ◌≤◌, ◌^◌, ◌↔◌, ◌⊎◌, IfOk, OnOk, IfErr};
+ghost use Rattle.capnp_frame.specs.declared.error.ErrorKind.{ErrorKind};
+ghost use Rattle.capnp_frame.specs.Errors.{IsRefusedBy};
+ghost use Rattle.capnp_frame.specs.Source.{IfKnown, Fails};
+ghost use Rattle.capnp_frame.specs.Sink.{Adds, AppendsAll, DeclinesSome, Grows};
+ghost use Rattle.capnp_frame.specs.Writing.{IsWritable, pieces, serialized_words};
+ghost use Rattle.capnp.specs.Written.{IsPlainSink, IsFrameText, RefusesWriter};
+
+use capnp_frame::Result;
+use capnp_frame::io::Write;
+use capnp_frame::message::ReaderSegments;
+use capnp_frame::serialize::{segments_to_words, write_segments};
+use std::alloc::Global;
+
+/// Writes a message of 1 to 2^32 - 1 segments, each of whole words and fewer than 2^32 of them.
+///
+/// Memory is taken for a table of four segments or more, before anything is written.
+pub fn write_message_segments<W: Write, S: ReaderSegments>(
+    alloc: Global,
+    sink: &mut W,
+    segments: &S,
+) -> Result<()>
+    requires { IsWritable (S.segments segments.now) }
+    ensures text { IsPlainSink W.appends → OnOk result
+        (IfKnown (W.written sink.old) (W.written sink.new)
+        (Adds (IsFrameText (S.segments segments.now)))) }
+
+    // Of every sink.
+    ensures written { OnOk result (IfKnown (W.written sink.old) (W.written sink.new)
+        (Adds (AppendsAll W.appends (pieces (S.segments segments.now))))) }
+    ensures refused { IfErr result (λ error.
+        RefusesWriter W.refuses (S.segments segments.now) error.kind) }
+    // A refusal that isn't the sink's leaves the sink as it was.
+    ensures untouched { IfErr result (λ error. (error.kind ≡ ErrorKind.DeviceFailed)
+        ⊎ DeclinesSome W.refuses (pieces (S.segments segments.now)) error.kind
+        ⊎ (sink.new ≡ sink.old)) }
+    ensures failed { IfErr result (λ error. error.kind ≡ ErrorKind.DeviceFailed →
+        Fails (W.failures sink.old) (W.failures sink.new)) }
+    ensures grows { Grows W.written W.failures W.same sink.old sink.new }
+{
+    write_segments(alloc, sink, segments)
+}
+
+/// The framed text of a message. It is refused by `MessageSizeOverflow` only where the number of
+/// its bytes does not fit `usize`.
+pub fn write_message_segments_to_words<S: ReaderSegments>(
+    alloc: Global,
+    segments: &S,
+) -> Result<Vec<u8>>
+    requires { IsWritable (S.segments segments.now) }
+    ensures text { IfOk result (λ text. IsFrameText (S.segments segments.now) text.items) }
+    ensures overflow { IsRefusedBy result ErrorKind.MessageSizeOverflow
+        ↔ (2 ^ 64 ≤ 8 * serialized_words (S.segments segments.now)) }
+    ensures kinds { IfErr result (λ error. (error.kind ≡ ErrorKind.OutOfMemory)
+        ⊎ (error.kind ≡ ErrorKind.MessageSizeOverflow)) }
+{
+    segments_to_words(alloc, segments)
+}

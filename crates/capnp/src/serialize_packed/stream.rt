@@ -1,0 +1,193 @@
+//! Reading packed messages from a source.
+ghost use Rattle.std.specs.Prelude.{◌≡◌, ◌⊎◌, ◌<◌, ◌≤◌, ℕ, List, [], length, Some, IfSome, IfNone, IfOk, IfErr};
+ghost use Rattle.std.specs.List.{AllByRecursion};
+ghost use Rattle.std.specs.Result.{IsErrAnd};
+ghost use Rattle.capnp_frame.specs.declared.error.ErrorKind.{ErrorKind};
+ghost use Rattle.capnp_frame.specs.Errors.{IsRefusedBy};
+ghost use Rattle.capnp_frame.specs.Limits.{IsWithin};
+ghost use Rattle.capnp_frame.specs.Message.{IsWholeWords};
+ghost use Rattle.capnp_frame.specs.Source.{IfKnown, Advances, Fails};
+ghost use Rattle.capnp_frame.specs.Refusals.{IsReaderKind, IsLentReaderKind};
+ghost use Rattle.capnp_pack.specs.PackedSource.{Unpacks, RefusesPiece};
+ghost use Rattle.capnp.specs.Streams.{BeginsPacked};
+ghost use Rattle.capnp.specs.Headline.{IsFault, HasRoom, RefusesGrowing, RefusesLent, RefusesGrowingOrEnds, RefusesLentOrEnds};
+
+use crate::serialize_packed::lent_stream::try_read_packed_segments_into;
+use capnp_frame::io::BufRead;
+use capnp_frame::message::ReaderOptions;
+use capnp_frame::serialize::{NoAllocBufferSegments, OwnedSegments};
+use capnp_frame::{Error, ErrorKind, Result};
+use capnp_message::Reader;
+use capnp_pack::stream::try_read_packed_segments;
+use std::alloc::Global;
+
+/// Reads the next packed message of a source, or answers `None` where nothing is unread.
+///
+/// The message is answered exactly where the unread bytes begin with a packed text of it, and just
+/// that text is consumed. Memory is taken for the lengths of the segments once their number is
+/// accepted, and for the segments once the limit of words is tested.
+pub fn try_read_message<R: BufRead>(
+    alloc: Global,
+    source: &mut R,
+    options: ReaderOptions,
+) -> Result<Option<Reader<OwnedSegments>>>
+    ensures found { IfOk result (λ found. IfSome found (λ reader.
+        IfKnown (R.unread source.old) (R.unread source.new)
+        (BeginsPacked options.traversal_limit_in_words reader.segments))) }
+    ensures accepted { IfSome (R.unread source.old) (λ raw.
+        (message : List (List ℕ)) (rest : List ℕ) →
+        BeginsPacked options.traversal_limit_in_words message raw rest →
+        IfErr result (λ error. IsFault error.kind)) }
+    ensures none { IfOk result (λ found. IfNone found
+        (IfSome (R.unread source.old) (λ raw. raw ≡ []))) }
+    ensures end { IfErr result (λ error. R.unread source.old ≡ Some [] →
+        error.kind ≡ ErrorKind.DeviceFailed) }
+    ensures options { IfOk result (λ found. IfSome found (λ reader.
+        reader.options ≡ options)) }
+
+    // Of every source, also where its bytes aren't known.
+    ensures within { IfOk result (λ found. IfSome found (λ reader.
+        IsWithin reader.segments options.traversal_limit_in_words)) }
+    ensures whole { IfOk result (λ found. IfSome found (λ reader.
+        AllByRecursion IsWholeWords reader.segments)) }
+    ensures refused { RefusesGrowing Unpacks RefusesPiece
+        options.traversal_limit_in_words result (R.unread source.old) (R.unread source.new) }
+    ensures kinds { IfErr result (λ error. IsReaderKind RefusesPiece error.kind) }
+    ensures failed { IfErr result (λ error. error.kind ≡ ErrorKind.DeviceFailed →
+        Fails (R.failures source.old) (R.failures source.new)) }
+    ensures advances { Advances R.unread R.failures R.same source.old source.new }
+{
+    match try_read_packed_segments(alloc, source, options)? {
+        Some(segments) => Ok(Some(Reader::new(segments, options))),
+        None => Ok(None),
+    }
+}
+
+/// Reads the next packed message of a source. Where nothing is unread it is refused
+/// by `PrematureEndOfFile`.
+pub fn read_message<R: BufRead>(
+    alloc: Global,
+    source: &mut R,
+    options: ReaderOptions,
+) -> Result<Reader<OwnedSegments>>
+    ensures found { IfOk result (λ reader.
+        IfKnown (R.unread source.old) (R.unread source.new)
+        (BeginsPacked options.traversal_limit_in_words reader.segments)) }
+    ensures accepted { IfSome (R.unread source.old) (λ raw.
+        (message : List (List ℕ)) (rest : List ℕ) →
+        BeginsPacked options.traversal_limit_in_words message raw rest →
+        IfErr result (λ error. IsFault error.kind)) }
+    ensures end { R.unread source.old ≡ Some [] → IsErrAnd result (λ error.
+        (error.kind ≡ ErrorKind.PrematureEndOfFile) ⊎ (error.kind ≡ ErrorKind.DeviceFailed)) }
+    ensures options { IfOk result (λ reader.
+        reader.options ≡ options) }
+
+    // Of every source, also where its bytes aren't known.
+    ensures within { IfOk result (λ reader.
+        IsWithin reader.segments options.traversal_limit_in_words) }
+    ensures whole { IfOk result (λ reader.
+        AllByRecursion IsWholeWords reader.segments) }
+    ensures refused { RefusesGrowingOrEnds Unpacks RefusesPiece
+        options.traversal_limit_in_words result (R.unread source.old) (R.unread source.new) }
+    ensures kinds { IfErr result (λ error. (error.kind ≡ ErrorKind.PrematureEndOfFile)
+        ⊎ IsReaderKind RefusesPiece error.kind) }
+    ensures failed { IfErr result (λ error. error.kind ≡ ErrorKind.DeviceFailed →
+        Fails (R.failures source.old) (R.failures source.new)) }
+    ensures advances { Advances R.unread R.failures R.same source.old source.new }
+{
+    match try_read_message(alloc, source, options)? {
+        Some(reader) => Ok(reader),
+        None => Err(Error::from_kind(ErrorKind::PrematureEndOfFile)),
+    }
+}
+
+/// Reads the next packed message of a source into a lent buffer, or answers `None` where
+/// nothing is unread.
+///
+/// The buffer holds the table and the segments: one that is shorter than 8 bytes, than the table or
+/// than both is refused by `BufferNotLargeEnough`. No memory is taken.
+pub fn try_read_message_no_alloc<'b, R: BufRead>(
+    source: &mut R,
+    buffer: &'b mut [u8],
+    options: ReaderOptions,
+) -> Result<Option<Reader<NoAllocBufferSegments<&'b [u8]>>>>
+    ensures found { IfOk result (λ found. IfSome found (λ reader.
+        IfKnown (R.unread source.old) (R.unread source.new)
+        (BeginsPacked options.traversal_limit_in_words reader.segments.segments))) }
+    ensures accepted { IfSome (R.unread source.old) (λ raw.
+        (message : List (List ℕ)) (rest : List ℕ) →
+        BeginsPacked options.traversal_limit_in_words message raw rest →
+        HasRoom (length buffer.old) message →
+        IfErr result (λ error. error.kind ≡ ErrorKind.DeviceFailed)) }
+    ensures none { IfOk result (λ found. IfNone found
+        (IfSome (R.unread source.old) (λ raw. raw ≡ []))) }
+    ensures end { IfErr result (λ error. R.unread source.old ≡ Some [] →
+        8 ≤ length buffer.old → error.kind ≡ ErrorKind.DeviceFailed) }
+    ensures options { IfOk result (λ found. IfSome found (λ reader.
+        reader.options ≡ options)) }
+
+    // Of every source, also where its bytes aren't known.
+    ensures within { IfOk result (λ found. IfSome found (λ reader.
+        IsWithin reader.segments.segments options.traversal_limit_in_words)) }
+    ensures whole { IfOk result (λ found. IfSome found (λ reader.
+        AllByRecursion IsWholeWords reader.segments.segments)) }
+    ensures refused { RefusesLent Unpacks RefusesPiece
+        options.traversal_limit_in_words (length buffer.old) result
+        (R.unread source.old) (R.unread source.new) }
+    // Under 8 bytes of room nothing is asked for.
+    ensures short { length buffer.old < 8 →
+        (source.new ≡ source.old) × IsRefusedBy result ErrorKind.BufferNotLargeEnough }
+    ensures kinds { IfErr result (λ error. IsLentReaderKind RefusesPiece error.kind) }
+    ensures failed { IfErr result (λ error. error.kind ≡ ErrorKind.DeviceFailed →
+        Fails (R.failures source.old) (R.failures source.new)) }
+    ensures advances { Advances R.unread R.failures R.same source.old source.new }
+{
+    match try_read_packed_segments_into(source, buffer, options)? {
+        Some(segments) => Ok(Some(Reader::new(segments, options))),
+        None => Ok(None),
+    }
+}
+
+/// Reads the next packed message of a source into a lent buffer. Where nothing is unread it
+/// is refused by `PrematureEndOfFile`.
+pub fn read_message_no_alloc<'b, R: BufRead>(
+    source: &mut R,
+    buffer: &'b mut [u8],
+    options: ReaderOptions,
+) -> Result<Reader<NoAllocBufferSegments<&'b [u8]>>>
+    ensures found { IfOk result (λ reader.
+        IfKnown (R.unread source.old) (R.unread source.new)
+        (BeginsPacked options.traversal_limit_in_words reader.segments.segments)) }
+    ensures accepted { IfSome (R.unread source.old) (λ raw.
+        (message : List (List ℕ)) (rest : List ℕ) →
+        BeginsPacked options.traversal_limit_in_words message raw rest →
+        HasRoom (length buffer.old) message →
+        IfErr result (λ error. error.kind ≡ ErrorKind.DeviceFailed)) }
+    ensures end { R.unread source.old ≡ Some [] → 8 ≤ length buffer.old →
+        IsErrAnd result (λ error. (error.kind ≡ ErrorKind.PrematureEndOfFile)
+        ⊎ (error.kind ≡ ErrorKind.DeviceFailed)) }
+    ensures options { IfOk result (λ reader.
+        reader.options ≡ options) }
+
+    // Of every source, also where its bytes aren't known.
+    ensures within { IfOk result (λ reader.
+        IsWithin reader.segments.segments options.traversal_limit_in_words) }
+    ensures whole { IfOk result (λ reader.
+        AllByRecursion IsWholeWords reader.segments.segments) }
+    ensures refused { RefusesLentOrEnds Unpacks RefusesPiece
+        options.traversal_limit_in_words (length buffer.old) result
+        (R.unread source.old) (R.unread source.new) }
+    // Under 8 bytes of room nothing is asked for.
+    ensures short { length buffer.old < 8 →
+        (source.new ≡ source.old) × IsRefusedBy result ErrorKind.BufferNotLargeEnough }
+    ensures kinds { IfErr result (λ error. (error.kind ≡ ErrorKind.PrematureEndOfFile)
+        ⊎ IsLentReaderKind RefusesPiece error.kind) }
+    ensures failed { IfErr result (λ error. error.kind ≡ ErrorKind.DeviceFailed →
+        Fails (R.failures source.old) (R.failures source.new)) }
+    ensures advances { Advances R.unread R.failures R.same source.old source.new }
+{
+    match try_read_message_no_alloc(source, buffer, options)? {
+        Some(reader) => Ok(reader),
+        None => Err(Error::from_kind(ErrorKind::PrematureEndOfFile)),
+    }
+}

@@ -1,0 +1,40 @@
+//! Writing packed messages to a sink.
+ghost use Rattle.std.specs.Prelude.{◌≡◌, ◌⊎◌, OnOk, IfErr};
+ghost use Rattle.capnp_frame.specs.declared.error.ErrorKind.{ErrorKind};
+ghost use Rattle.capnp_frame.specs.Source.{IfKnown, Fails};
+ghost use Rattle.capnp_frame.specs.Sink.{Adds, AppendsAll, DeclinesSome, Grows};
+ghost use Rattle.capnp_frame.specs.Writing.{IsWritable, pieces};
+ghost use Rattle.capnp_pack.specs.PackedSink.{AppendsPacked, DeclinesPacked};
+ghost use Rattle.capnp.specs.Written.{IsPlainSink, IsPackedTextOf, RefusesWriter};
+
+use capnp_frame::Result;
+use capnp_frame::io::Write;
+use capnp_frame::message::ReaderSegments;
+use capnp_frame::serialize::write_segments;
+use capnp_pack::PackedWrite;
+use std::alloc::Global;
+
+/// Writes a message, packed: the first word of its table, the table's other words, and each segment
+/// are packed one by one. The segments are as for the framed writer.
+pub fn write_message_segments<W: Write, S: ReaderSegments>(
+    alloc: Global,
+    sink: &mut W,
+    segments: &S,
+) -> Result<()>
+    requires { IsWritable (S.segments segments.now) }
+    ensures text { IsPlainSink W.appends → OnOk result
+        (IfKnown (W.written sink.old) (W.written sink.new)
+        (Adds (IsPackedTextOf (S.segments segments.now)))) }
+
+    // Of every sink.
+    ensures written { OnOk result (IfKnown (W.written sink.old) (W.written sink.new)
+        (Adds (AppendsAll (AppendsPacked W.appends) (pieces (S.segments segments.now))))) }
+    ensures refused { IfErr result (λ error.
+        RefusesWriter (DeclinesPacked W.refuses) (S.segments segments.now) error.kind) }
+    ensures failed { IfErr result (λ error. error.kind ≡ ErrorKind.DeviceFailed →
+        Fails (W.failures sink.old) (W.failures sink.new)) }
+    ensures grows { Grows W.written W.failures W.same sink.old sink.new }
+{
+    let mut packed = PackedWrite::new(sink);
+    write_segments(alloc, &mut packed, segments)
+}

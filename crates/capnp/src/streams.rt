@@ -1,0 +1,165 @@
+//! Streams of messages: what is done with each, until none is left.
+ghost use Rattle.std.specs.Prelude.{◌≡◌, ◌<◌, ◌⊎◌, ℕ, List, [], length, Option, None, IfSome, IfNone, IfOk, OnOk, IfErr};
+ghost use Rattle.std.specs.List.{AllByRecursion};
+ghost use Rattle.capnp_frame.specs.declared.error.ErrorKind.{ErrorKind};
+ghost use Rattle.capnp_frame.specs.Limits.{IsWithin};
+ghost use Rattle.capnp_frame.specs.Message.{IsWholeWords};
+ghost use Rattle.capnp_frame.specs.Refusals.{IsReaderKind};
+ghost use Rattle.capnp_frame.specs.Source.{IfKnown, Advances, Fails};
+ghost use Rattle.capnp_frame.specs.Sink.{Appending, Declining, Adds, Grows};
+ghost use Rattle.capnp.specs.Streams.{refuses_of, StandsNext, IsStream};
+ghost use Rattle.capnp.specs.Runs.{Writing, DecliningWriting, IsReadingFault, IsWritingFault, IsRunFault, most_messages, HasRun, IsAnswerTo, IsFaulted};
+
+use capnp_frame::io::{BufRead, Write};
+use capnp_frame::message::ReaderOptions;
+use capnp_frame::serialize::{OwnedSegments, try_read_segments_reusing};
+use capnp_frame::{Error, Result};
+use capnp_pack::stream::try_read_packed_segments_reusing;
+use std::alloc::Global;
+
+/// How messages stand in a stream.
+#[derive(Clone, Copy, Debug, PartialEq, Eq)]
+pub enum Format {
+    Framed,
+    Packed,
+}
+
+/// Where a run over the messages of a stream stopped.
+#[derive(Debug, Drop)]
+pub struct StoppedAt {
+    /// How many messages were written before.
+    pub message: u64,
+    /// Why the next one was not read, or not written as a whole.
+    pub error: Error,
+}
+
+/// What is written of each message of a stream.
+pub trait MessageWriter {
+    /// What a sink that appends so adds for a message, by its index.
+    ghost writes: { Self → Appending → Writing };
+
+    /// By which kinds a sink that declines so may refuse that.
+    ghost declines: { Self → Declining → DecliningWriting };
+
+    /// Writes what there is to write of a message of this index.
+    ///
+    /// The message has 1 to 511 segments, each of whole words and fewer than 2^32 of them. `memory`
+    /// is lent: what it holds is open, before and after.
+    fn write_message<W: Write>(
+        &self,
+        alloc: Global,
+        index: u64,
+        message: &OwnedSegments,
+        memory: &mut Vec<u8>,
+        sink: &mut W,
+    ) -> Result<()>
+        requires accepted { IsWithin message.now None }
+        requires whole { AllByRecursion IsWholeWords message.now }
+        ensures written { OnOk result (IfKnown (W.written sink.old) (W.written sink.new)
+            (Adds (writes self.now W.appends index message.now))) }
+        ensures refused { IfErr result (λ error.
+            IsWritingFault (declines self.now W.refuses) index message.now error.kind) }
+        ensures failed { IfErr result (λ error. error.kind ≡ ErrorKind.DeviceFailed →
+            Fails (W.failures sink.old) (W.failures sink.new)) }
+        ensures grows { Grows W.written W.failures W.same sink.old sink.new };
+}
+
+/// Writes what `writer` has to write of each message of `source`, in turn, until none is left.
+///
+/// It takes at most 2^64 - 1 messages, and leaves the rest unread. The memory of a message serves
+/// the next one too.
+pub fn write_each_message<R: BufRead, W: Write, M: MessageWriter>(
+    alloc: Global,
+    format: Format,
+    options: ReaderOptions,
+    writer: &M,
+    source: &mut R,
+    sink: &mut W,
+) -> std::result::Result<(), StoppedAt>
+    ensures written { IfSome (R.unread source.old) (HasRun format options.traversal_limit_in_words
+        (M.writes writer.now W.appends) (M.declines writer.now W.refuses) result
+        (R.unread source.new) (W.written sink.old) (W.written sink.new)) }
+    // A stream of messages gets the answer to how it ends, but for a fault.
+    ensures exact { IfSome (R.unread source.old) (λ raw. (messages : List (List (List ℕ)))
+        (ending : Option ErrorKind) →
+        IsStream format options.traversal_limit_in_words messages ending raw →
+        length messages < most_messages →
+        IsAnswerTo result messages ending
+        ⊎ IsFaulted (M.declines writer.now W.refuses) result) }
+
+    // A refusal is one of the reader's kinds, or a fault at a message of that index.
+    ensures kinds { IfErr result (λ stop. IsReaderKind (refuses_of format) stop.error.kind
+        ⊎ IsRunFault (M.declines writer.now W.refuses) stop.message stop.error.kind) }
+    ensures failed { IfErr result (λ stop. stop.error.kind ≡ ErrorKind.DeviceFailed →
+        Fails (R.failures source.old) (R.failures source.new)
+        ⊎ Fails (W.failures sink.old) (W.failures sink.new)) }
+    ensures advances { Advances R.unread R.failures R.same source.old source.new }
+    ensures grows { Grows W.written W.failures W.same sink.old sink.new }
+{
+    write_all(alloc, format, options, writer, source, sink)
+}
+
+// Message by message.
+fn write_all<R: BufRead, W: Write, M: MessageWriter>(
+    alloc: Global,
+    format: Format,
+    options: ReaderOptions,
+    writer: &M,
+    source: &mut R,
+    sink: &mut W,
+) -> std::result::Result<(), StoppedAt>
+    ensures written { IfSome (R.unread source.old) (HasRun format options.traversal_limit_in_words
+        (M.writes writer.now W.appends) (M.declines writer.now W.refuses) result
+        (R.unread source.new) (W.written sink.old) (W.written sink.new)) }
+    ensures kinds { IfErr result (λ stop. IsReaderKind (refuses_of format) stop.error.kind
+        ⊎ IsRunFault (M.declines writer.now W.refuses) stop.message stop.error.kind) }
+    ensures failed { IfErr result (λ stop. stop.error.kind ≡ ErrorKind.DeviceFailed →
+        Fails (R.failures source.old) (R.failures source.new)
+        ⊎ Fails (W.failures sink.old) (W.failures sink.new)) }
+    ensures advances { Advances R.unread R.failures R.same source.old source.new }
+    ensures grows { Grows W.written W.failures W.same sink.old sink.new }
+{
+    let mut spare = OwnedSegments::empty(alloc);
+    let mut memory = Vec::new(alloc);
+    for message in 0..u64::MAX {
+        let segments = match read_next(format, options, source, spare) {
+            Ok(Some(segments)) => segments,
+            Ok(None) => return Ok(()),
+            Err(error) => return Err(StoppedAt { message, error }),
+        };
+        match writer.write_message(alloc, message, &segments, &mut memory, sink) {
+            Ok(()) => spare = segments,
+            Err(error) => return Err(StoppedAt { message, error }),
+        }
+    }
+    Ok(())
+}
+
+// Reads the next message of a stream of this format, into the memory of the one before.
+fn read_next<R: BufRead>(
+    format: Format,
+    options: ReaderOptions,
+    source: &mut R,
+    spare: OwnedSegments,
+) -> Result<Option<OwnedSegments>>
+    ensures found { IfOk result (λ found. IfSome found (λ segments.
+        IfKnown (R.unread source.old) (R.unread source.new)
+        (StandsNext format options.traversal_limit_in_words segments))) }
+    ensures within { IfOk result (λ found. IfSome found (λ segments.
+        IsWithin segments options.traversal_limit_in_words)) }
+    ensures whole { IfOk result (λ found. IfSome found (AllByRecursion IsWholeWords)) }
+    ensures none { IfOk result (λ found. IfNone found
+        (IfSome (R.unread source.old) (λ raw. raw ≡ []))) }
+    ensures refused { IfErr result (λ error. IsReadingFault format
+        options.traversal_limit_in_words error.kind
+        (R.unread source.old) (R.unread source.new)) }
+    ensures kinds { IfErr result (λ error. IsReaderKind (refuses_of format) error.kind) }
+    ensures failed { IfErr result (λ error. error.kind ≡ ErrorKind.DeviceFailed →
+        Fails (R.failures source.old) (R.failures source.new)) }
+    ensures advances { Advances R.unread R.failures R.same source.old source.new }
+{
+    match format {
+        Format::Framed => try_read_segments_reusing(source, options, spare),
+        Format::Packed => try_read_packed_segments_reusing(source, options, spare),
+    }
+}
