@@ -6,8 +6,8 @@ use Rattle.std.proofs.lemmas.List.Sums.{sum_by-take-le, sum-map}
 use Rattle.std.proofs.lemmas.Option.{slice_get_within, slice_get_cases, none-some}
 use Rattle.std.specs.Prelude.{slice_get, decimal}
 use Rattle.std.specs.List.{flat_map}
-use Rattle.capnp_frame.specs.Message.{word_count, lengths, size_in_words}
-use Rattle.capnp_frame.proofs.WritingLemmas.{lengths-next, size-next}
+use Rattle.capnp.specs.Passed.{word_count, lengths, size_in_words}
+use Rattle.capnp.proofs.Passed.{lengths-next, size-next}
 use Rattle.capnp_ls.specs.Output.{spaced, line}
 
 -- the first segments are listed: their words, each after a space, and the words of all

@@ -1,7 +1,7 @@
 -- The lists of words that the program takes.
 use Rattle.std.specs.Prelude.{ℕ, List, [], ◌∷◌, codes}
-use Rattle.capnp_ls.specs.declared.command.Format.{Format}
-use Rattle.capnp_ls.specs.declared.command.Format.TheVariants.{Framed, Packed}
+use Rattle.capnp.specs.declared.streams.Format.{Format}
+use Rattle.capnp.specs.declared.streams.Format.TheVariants.{Framed, Packed}
 use Rattle.capnp_ls.specs.declared.command.Command.{Command}
 use Rattle.capnp_ls.specs.declared.command.Command.TheVariants.{Listing, Pack, Unpack}
 

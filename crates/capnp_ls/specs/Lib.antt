@@ -1,6 +1,5 @@
 pub mod Commands
 pub mod Devices
-pub mod Formats
 pub mod Output
 pub mod Runs
 pub mod Stop

@@ -1,8 +1,8 @@
 -- The line that a stop is reported by.
 use Rattle.std.specs.Prelude.{◌≡◌, ℕ, List, [], ◌∷◌, ◌++◌, codes, decimal}
-use Rattle.capnp_frame.specs.Numbers.{number_of}
-use Rattle.capnp_frame.specs.declared.error.ErrorKind.{ErrorKind}
-use Rattle.capnp_frame.specs.declared.error.Error.{Error}
+use Rattle.capnp.specs.Passed.{number_of}
+use Rattle.capnp.specs.Passed.{ErrorKind}
+use Rattle.capnp.specs.Passed.{Error}
 use Rattle.capnp_ls.specs.declared.stop.Stop.{Stop}
 use Rattle.capnp_ls.specs.declared.stop.Stop.TheVariants.{Usage, Refused}
 

@@ -3,12 +3,12 @@ ghost use Rattle.std.specs.Prelude.{◌≡◌, map, string_bytes, IfSome, IfNone
 ghost use Rattle.capnp_ls.specs.declared.command.Command.{Command};
 ghost use Rattle.capnp_ls.specs.Commands.{command_words, input_of};
 
-/// How messages stand in a stream.
-#[derive(Clone, Copy, Debug, PartialEq, Eq)]
-pub enum Format {
-    Framed,
-    Packed,
-}
+use crate::listing::write_line;
+use capnp::io::Write;
+use capnp::serialize::OwnedSegments;
+use capnp::streams::{Format, MessageWriter};
+use capnp::{Result, serialize, serialize_packed};
+use std::alloc::Global;
 
 /// What the program is told to do.
 #[derive(Clone, Copy, Debug, PartialEq, Eq)]
@@ -50,6 +50,33 @@ impl Command {
             Command::Listing(format) => format,
             Command::Pack => Format::Framed,
             Command::Unpack => Format::Packed,
+        }
+    }
+}
+
+impl MessageWriter for Command {
+    ghost use Rattle.capnp_ls.specs.Output.{Prints, DeclinesPrinted};
+
+    ghost writes = { Prints };
+
+    ghost declines = { DeclinesPrinted };
+
+    // Writes what the command prints of a message.
+    fn write_message<W: Write>(
+        &self,
+        alloc: Global,
+        index: u64,
+        message: &OwnedSegments,
+        memory: &mut Vec<u8>,
+        sink: &mut W,
+    ) -> Result<()> {
+        match self {
+            Command::Listing(_) => {
+                write_line(memory, index, message)?;
+                sink.write_all(memory)
+            }
+            Command::Pack => serialize_packed::write_message_segments(alloc, sink, message),
+            Command::Unpack => serialize::write_message_segments(alloc, sink, message),
         }
     }
 }

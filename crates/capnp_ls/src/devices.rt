@@ -3,7 +3,7 @@
 //! Both are buffered, both try an interrupted call again, and both answer any other fault by
 //! `DeviceFailed`.
 ghost use Rattle.std.specs.Prelude.{◌≡◌, ◌+◌, ◌-◌, ◌^◌, ◌≤◌, min};
-ghost use Rattle.capnp_frame.specs.declared.error.ErrorKind.{ErrorKind};
+ghost use Rattle.capnp.specs.Passed.{ErrorKind};
 
 #[cfg(test)]
 pub mod choppy;
@@ -11,7 +11,7 @@ mod input;
 mod output;
 mod retried;
 
-use capnp_frame::{Error, ErrorKind};
+use capnp::{Error, ErrorKind};
 pub use input::Input;
 pub use output::Output;
 

@@ -1,12 +1,11 @@
 //! The line that stands for a message.
 ghost use Rattle.std.specs.Prelude.{◌≡◌, ◌++◌, ◌<◌, ◌^◌, decimal, length, IfErr, OnOk};
-ghost use Rattle.capnp_frame.specs.declared.error.ErrorKind.{ErrorKind};
-ghost use Rattle.capnp_frame.specs.Message.{size_in_words};
+ghost use Rattle.capnp.specs.Passed.{ErrorKind, size_in_words};
 ghost use Rattle.capnp_ls.specs.Output.{line, spaced};
 
-use capnp_frame::Result;
-use capnp_frame::io::Write;
-use capnp_frame::message::ReaderSegments;
+use capnp::Result;
+use capnp::io::Write;
+use capnp::message::ReaderSegments;
 
 /// Makes `text` the line of a message: its index, the number of its segments, their words in all,
 /// and the words of each.

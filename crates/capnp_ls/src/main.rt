@@ -4,8 +4,7 @@
 ghost use Rattle.std.specs.Prelude.{◌≡◌, [], OnOk, OnErr, IfErr, IsErrOf};
 ghost use Rattle.std.specs.Process.{exit_status};
 ghost use Rattle.std.specs.Io.KnownBytes.{Keeps};
-ghost use Rattle.capnp_frame.specs.Source.{Fails};
-ghost use Rattle.capnp_frame.specs.declared.error.ErrorKind.{ErrorKind};
+ghost use Rattle.capnp.specs.Passed.{Fails, ErrorKind};
 ghost use Rattle.capnp_ls.specs.Devices.{pending, taken_so_far, IsOutOfMemory};
 ghost use Rattle.capnp_ls.specs.declared.stop.Stop.TheVariants.{Usage, Refused};
 ghost use Rattle.capnp_ls.specs.Stop.{IsAtStart, status_of};
@@ -18,7 +17,7 @@ mod stop;
 
 use crate::devices::{Input, OUTPUT_BYTES, Output};
 use crate::stop::{Stop, report};
-use capnp_frame::{Error, ErrorKind};
+use capnp::{Error, ErrorKind};
 use std::io::Write;
 use std::process::ExitCode;
 use std::{env, io};

@@ -1,13 +1,11 @@
 //! Why the program stops before the end of its input.
 ghost use Rattle.std.specs.Prelude.{◌≡◌, ◌⊎◌, List, ℕ, IfOk, IfErr, OnOk, string_bytes};
-ghost use Rattle.capnp_frame.specs.declared.error.ErrorKind.{ErrorKind};
-ghost use Rattle.capnp_frame.specs.Source.{Fails, IfKnown};
-ghost use Rattle.capnp_frame.specs.Sink.{Adds, Grows};
+ghost use Rattle.capnp.specs.Passed.{ErrorKind, Fails, IfKnown, Adds, Grows};
 ghost use Rattle.capnp_ls.specs.declared.stop.Stop.TheVariants.{Refused};
 ghost use Rattle.capnp_ls.specs.Stop.{IsLineOf, status_of};
 
-use capnp_frame::io::Write;
-use capnp_frame::{Error, ErrorKind, Result};
+use capnp::io::Write;
+use capnp::{Error, ErrorKind, Result};
 use std::alloc::{AllocError, Global};
 
 const USAGE: &str = "usage: capnp_ls list [--packed] | pack | unpack | canon [--packed]\n";

@@ -3,16 +3,14 @@ ghost use Rattle.std.specs.Prelude.{◌≡◌, ◌<◌, ◌≤◌, None, [], len
 ghost use Rattle.std.specs.Borrow.{sem};
 ghost use Rattle.std.specs.Io.BufRead.{Rests};
 ghost use Rattle.std.specs.Io.KnownBytes.{Keeps, Consumes, IsAtEnd};
-ghost use Rattle.capnp_frame.specs.declared.error.ErrorKind.{ErrorKind};
-ghost use Rattle.capnp_frame.specs.Source.{Splits, RunsShort, Fails, Fills, IfKnown, IsFront, IsRefused};
-ghost use Rattle.capnp_frame.specs.SplittingLaws.{splitting, always};
+ghost use Rattle.capnp.specs.Passed.{ErrorKind, Splits, RunsShort, Fails, Fills, IfKnown, IsFront, IsRefused, splitting, always};
 ghost use Rattle.capnp_ls.specs.Devices.{read_ahead, coming};
 ghost use Rattle.capnp_ls.specs.contracts.devices.input.Input.{the_row};
 
 use crate::devices::retried::Retried;
 use crate::devices::{BUFFER_BYTES, Failures};
-use capnp_frame::io::{BufRead, Read};
-use capnp_frame::{Error, ErrorKind, Result};
+use capnp::io::{BufRead, Read};
+use capnp::{Error, ErrorKind, Result};
 use std::alloc::Global;
 use std::io;
 use std::io::BufReader;

@@ -2,16 +2,13 @@
 ghost use Rattle.std.specs.Prelude.{◌≡◌, ◌≤◌, [], IfOk, IfErr, OnOk, OnErr, IsOk, ⊤};
 ghost use Rattle.std.specs.Io.Buffered.{writer_capacity};
 ghost use Rattle.std.specs.Io.KnownBytes.{Keeps};
-ghost use Rattle.capnp_frame.specs.declared.error.ErrorKind.{ErrorKind};
-ghost use Rattle.capnp_frame.specs.Source.{Fails};
-ghost use Rattle.capnp_frame.specs.Sink.{AppendsSame};
-ghost use Rattle.capnp_frame.specs.SplittingLaws.{always};
+ghost use Rattle.capnp.specs.Passed.{ErrorKind, Fails, AppendsSame, always};
 ghost use Rattle.capnp_ls.specs.Devices.{pending, taken_so_far};
 
 use crate::devices::Failures;
 use crate::devices::retried::Retried;
-use capnp_frame::io::Write;
-use capnp_frame::{Error, ErrorKind, Result};
+use capnp::io::Write;
+use capnp::{Error, ErrorKind, Result};
 use std::alloc::Global;
 use std::io;
 use std::io::BufWriter;

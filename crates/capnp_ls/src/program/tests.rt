@@ -2,7 +2,7 @@ use crate::devices::choppy::{giving, taking};
 use crate::devices::{Input, Output};
 use crate::program::run;
 use crate::stop::Stop;
-use capnp_frame::ErrorKind;
+use capnp::ErrorKind;
 use std::alloc::{AllocError, Global};
 use std::process::Abort;
 use std::test::*;

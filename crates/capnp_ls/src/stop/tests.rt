@@ -1,5 +1,5 @@
 use crate::stop::{Stop, report};
-use capnp_frame::{Error, ErrorKind};
+use capnp::{Error, ErrorKind};
 use std::test::*;
 
 fn refused(message: u64, kind: ErrorKind) -> Stop {

@@ -2,7 +2,7 @@
 use Rattle.std.proofs.Common.{arith, rules, refl, [], ◌++◌, ◌+◌, ◌≡◌, ◌∙◌, ap, append_assoc, sym, List, ℕ}
 use Rattle.std.specs.Prelude.{decimal}
 use Rattle.std.proofs.lemmas.List.{append-nil}
-use Rattle.capnp_frame.specs.Message.{word_count}
+use Rattle.capnp.specs.Passed.{word_count}
 use Rattle.capnp_ls.specs.Output.{spaced}
 use Rattle.capnp_ls.proofs.LineLemmas.{IsListed-next, IsListed-bound, IsListed-whole, line_parts}
 use Rattle.capnp_ls.proofs.listing.write_line.Goals as goal

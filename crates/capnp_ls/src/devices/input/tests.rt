@@ -1,7 +1,7 @@
 use crate::devices::Input;
 use crate::devices::choppy::giving;
-use capnp_frame::ErrorKind;
-use capnp_frame::io::{BufRead, Read};
+use capnp::ErrorKind;
+use capnp::io::{BufRead, Read};
 use std::test::*;
 
 #[test]

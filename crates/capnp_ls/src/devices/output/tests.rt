@@ -1,10 +1,10 @@
 use crate::devices::Output;
 use crate::devices::choppy::taking;
-use capnp_frame::ErrorKind;
-use capnp_frame::io::Write;
+use capnp::ErrorKind;
+use capnp::io::Write;
 use std::test::*;
 
-fn is_device_failed(answer: capnp_frame::Result<()>) -> bool {
+fn is_device_failed(answer: capnp::Result<()>) -> bool {
     answer.is_err_and(|error| error.kind == ErrorKind::DeviceFailed)
 }
 
