@@ -3,6 +3,8 @@ use crate::flat_rows::{FLAT_ROWS, FlatAnswer, FlatRow};
 use crate::messages::has_segments;
 use crate::packed_rows::NO_WORDS;
 use crate::streams::{DEFAULT_LIMIT, NO_LIMIT};
+use capnp::message::Reader;
+use capnp::serialize::{read_message_from_flat_slice, read_message_from_flat_slice_no_alloc};
 use capnp_frame::message::{ReaderOptions, ReaderSegments};
 use capnp_frame::serialize::{
     BufferSegments, NoAllocBufferSegments, NoAllocSliceSegments, take_segments,
@@ -19,32 +21,38 @@ pub enum Form {
     FromSlice,
     FromBuffer,
     FromVector,
+    Message,
+    MessageNoAlloc,
 }
 
-pub const FORMS: [Form; 6] = [
+pub const FORMS: [Form; 8] = [
     Form::Take,
     Form::New,
     Form::NewOfVector,
     Form::FromSlice,
     Form::FromBuffer,
     Form::FromVector,
+    Form::Message,
+    Form::MessageNoAlloc,
 ];
 
 impl Form {
     // Whether the form takes the table word by word.
     fn is_by_words(self) -> bool {
         match self {
-            Form::Take | Form::New | Form::NewOfVector => true,
-            Form::FromSlice | Form::FromBuffer | Form::FromVector => false,
+            Form::Take | Form::New | Form::NewOfVector | Form::Message => true,
+            Form::FromSlice | Form::FromBuffer | Form::FromVector | Form::MessageNoAlloc => false,
         }
     }
 
     /// The kind where only so many bytes of a table are there.
     pub fn refusal_of_a_cut_table(self, length: usize) -> ErrorKind {
         match self {
-            Form::Take if length == 0 => ErrorKind::EmptySlice,
+            Form::Take | Form::Message if length == 0 => ErrorKind::EmptySlice,
             Form::New | Form::NewOfVector if length == 0 => ErrorKind::EmptyBuffer,
-            Form::Take | Form::New | Form::NewOfVector => ErrorKind::FailedToFillTheWholeBuffer,
+            Form::Take | Form::New | Form::NewOfVector | Form::Message => {
+                ErrorKind::FailedToFillTheWholeBuffer
+            }
             _ => ErrorKind::MessageEndsPrematurely(4, length % 4),
         }
     }
@@ -66,6 +74,11 @@ fn is_wanted<S: ReaderSegments + Drop>(answer: Result<S>, wanted: Wanted<'_>) ->
         Err(error) if error.kind == ErrorKind::OutOfMemory => Err(error),
         Err(error) => Ok(wanted.is_err_and(|kind| kind == error.kind)),
     }
+}
+
+// The segments of a message that was read.
+fn segments_of<S: ReaderSegments + Drop>(answer: Result<Reader<S>>) -> Result<S> {
+    Ok(answer?.into_segments())
 }
 
 /// Whether the form answers what is wanted of these bytes, and how many of them it leaves.
@@ -96,6 +109,14 @@ pub fn find(
             let vector = bytes.to_vec(alloc)?;
             is_wanted(NoAllocBufferSegments::from_buffer(vector, options), wanted)?
         }
+        Form::Message => {
+            let read = read_message_from_flat_slice(alloc, &mut slice, options);
+            is_wanted(segments_of(read), wanted)?
+        }
+        Form::MessageNoAlloc => {
+            let read = read_message_from_flat_slice_no_alloc(&mut slice, options);
+            is_wanted(segments_of(read), wanted)?
+        }
     };
     assert!(rt; bytes.ends_with(slice));
     Ok((answered, slice.len()))
@@ -104,7 +125,7 @@ pub fn find(
 /// How many bytes a form leaves: those that take a slice move it behind a message.
 pub fn left_by(form: Form, whole: usize, behind: usize) -> usize {
     match form {
-        Form::Take | Form::FromSlice => behind,
+        Form::Take | Form::FromSlice | Form::Message | Form::MessageNoAlloc => behind,
         _ => whole,
     }
 }

@@ -24,7 +24,7 @@ const LENGTHS_TABLE: &[u8] = &[
 const LONG_TABLE: &[u8] = &[1, 0, 0, 0, 255, 255, 255, 255, 2, 0, 0, 0, 0, 0, 0, 0];
 
 // The text "hello world!" in a second segment, and its far pointer in the first.
-const HELLO_FAR: &[u8] = &[
+pub const HELLO_FAR: &[u8] = &[
     1, 0, 0, 0, 1, 0, 0, 0, 3, 0, 0, 0, 0, 0, 0, 0, 2, 0, 0, 0, 1, 0, 0, 0, 1, 0, 0, 0, 0x6a, 0, 0,
     0, 0x68, 0x65, 0x6c, 0x6c, 0x6f, 0x20, 0x77, 0x6f, 0x72, 0x6c, 0x64, 0x21, 0, 0, 0, 0,
 ];

@@ -69,15 +69,17 @@ fn buffers_of_each_length(rt: HostRuntime) -> Result<()> {
 fn read_into_each(rt: &(impl Abort + AllocGlobal), format: Format, rows: &[Row]) -> Result<()> {
     for most in 1..=24 {
         for (room, bytes, limit, wanted, unread) in rows {
-            let mut source = Trickle::new(*bytes, most);
-            let call = (format, Reader::Lending(*room));
-            let answered = is_answered(rt.alloc(), call, &mut source, *limit, *wanted)?;
-            assert!(rt; answered, "{bytes:?}, {call:?}, {most} bytes");
-            assert_eq!(rt;
-                source.bytes.len(),
-                *unread,
-                "{bytes:?}, {call:?}, {most} bytes"
-            );
+            for reader in [Reader::Lending(*room), Reader::LentMessage(*room)] {
+                let mut source = Trickle::new(*bytes, most);
+                let call = (format, reader);
+                let answered = is_answered(rt.alloc(), call, &mut source, *limit, *wanted)?;
+                assert!(rt; answered, "{bytes:?}, {call:?}, {most} bytes");
+                assert_eq!(rt;
+                    source.bytes.len(),
+                    *unread,
+                    "{bytes:?}, {call:?}, {most} bytes"
+                );
+            }
         }
     }
     Ok(())
@@ -151,6 +153,7 @@ fn the_longest_tables(rt: HostRuntime) -> Result<()> {
         }
         for (room, table) in LENT_TABLES {
             read_table(&rt, Reader::Lending(room), &table, most)?;
+            read_table(&rt, Reader::LentMessage(room), &table, most)?;
         }
     }
     Ok(())

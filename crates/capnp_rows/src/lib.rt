@@ -33,6 +33,8 @@ mod lengths;
 #[cfg(test)]
 mod lent;
 #[cfg(test)]
+mod lent_roots;
+#[cfg(test)]
 mod memory;
 #[cfg(test)]
 mod messages;

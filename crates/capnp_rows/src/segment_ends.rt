@@ -77,7 +77,13 @@ fn segments_in_a_stream(rt: HostRuntime) -> Result<()> {
     let text = text();
     let segments = segments_of(&rt, &text);
     for most in [1, 7, 16, 6128] {
-        for reader in [Reader::Copying, Reader::Reusing, Reader::Lending(6128)] {
+        for reader in [
+            Reader::Copying,
+            Reader::Reusing,
+            Reader::Lending(6128),
+            Reader::Message,
+            Reader::LentMessage(6128),
+        ] {
             retried!(read_all(&rt, reader, &text, &segments, most))?;
         }
     }

@@ -3,6 +3,7 @@ use crate::framed_rows::FRAMED;
 use crate::messages::has_segments;
 use crate::packed_rows::PACKED;
 use crate::sources::{Counting, Trickle};
+use capnp::{message, serialize, serialize_packed};
 use capnp_frame::io::{BufRead, Read};
 use capnp_frame::message::{ReaderOptions, ReaderSegments};
 use capnp_frame::serialize::{
@@ -57,10 +58,20 @@ pub enum Reader {
     Reusing,
     /// Into a lent buffer of so many bytes, at most 8,192.
     Lending(usize),
+    /// As a message, into memory that grows.
+    Message,
+    /// As a message, into a lent buffer of so many bytes, at most 8,192.
+    LentMessage(usize),
 }
 
 /// Each call, the lent buffer being larger than each message of a row.
-pub const READERS: [Reader; 3] = [Reader::Copying, Reader::Reusing, Reader::Lending(4096)];
+pub const READERS: [Reader; 5] = [
+    Reader::Copying,
+    Reader::Reusing,
+    Reader::Lending(4096),
+    Reader::Message,
+    Reader::LentMessage(4096),
+];
 
 fn with_limit(limit: Option<usize>) -> ReaderOptions {
     let mut options = ReaderOptions::new();
@@ -101,6 +112,16 @@ fn is_read<R: Read>(
             let buffer = &mut space[..room.min(8192)];
             is_wanted(try_read_segments_into(source, buffer, options), wanted)
         }
+        Reader::Message => {
+            let read = serialize::try_read_message(alloc, source, options);
+            is_wanted(segments_of(read), wanted)
+        }
+        Reader::LentMessage(room) => {
+            let mut space = [0xaa; 8192];
+            let buffer = &mut space[..room.min(8192)];
+            let read = serialize::try_read_message_no_alloc(source, buffer, options);
+            is_wanted(segments_of(read), wanted)
+        }
     }
 }
 
@@ -122,6 +143,26 @@ fn is_unpacked<R: BufRead>(
             )
         }
         Reader::Lending(_) => is_read(alloc, reader, &mut PackedRead::new(source), limit, wanted),
+        Reader::Message => {
+            let read = serialize_packed::try_read_message(alloc, source, options);
+            is_wanted(segments_of(read), wanted)
+        }
+        Reader::LentMessage(room) => {
+            let mut space = [0xaa; 8192];
+            let buffer = &mut space[..room.min(8192)];
+            let read = serialize_packed::try_read_message_no_alloc(source, buffer, options);
+            is_wanted(segments_of(read), wanted)
+        }
+    }
+}
+
+// The segments of a message that was read.
+fn segments_of<S: ReaderSegments + Drop>(
+    answer: Result<Option<message::Reader<S>>>,
+) -> Result<Option<S>> {
+    match answer? {
+        Some(reader) => Ok(Some(reader.into_segments())),
+        None => Ok(None),
     }
 }
 

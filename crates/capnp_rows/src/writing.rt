@@ -1,5 +1,6 @@
 //! What is written of messages, by the calls over a sink and by those into memory.
 use crate::messages::{MESSAGES, Message, has_segments, is_framed, is_writable};
+use capnp::{serialize, serialize_packed};
 use capnp_frame::io::Write;
 use capnp_frame::message::{DEFAULT_READER_OPTIONS, ReaderSegments, SegmentArray};
 use capnp_frame::serialize::{
@@ -30,6 +31,26 @@ fn write_message<S: ReaderSegments>(
     assert_eq!(rt; framed.as_slice(), text.as_slice(), "{name}");
     let mut packed: Vec<u8> = Vec::new(rt.alloc());
     write_segments(rt.alloc(), &mut PackedWrite::new(&mut packed), segments)?;
+    assert_eq!(rt; packed.as_slice(), message.packed, "{name}");
+    write_as_message(rt, message, segments, &text)
+}
+
+// The same by the calls of the crate `capnp`.
+fn write_as_message<S: ReaderSegments>(
+    rt: &(impl Abort + AllocGlobal),
+    message: &Message,
+    segments: &S,
+    text: &[u8],
+) -> Result<()> {
+    let name = message.name;
+    assert!(rt; is_writable(segments), "{name}");
+    let words = serialize::write_message_segments_to_words(rt.alloc(), segments)?;
+    assert_eq!(rt; words.as_slice(), text, "{name}");
+    let mut framed: Vec<u8> = Vec::new(rt.alloc());
+    serialize::write_message_segments(rt.alloc(), &mut framed, segments)?;
+    assert_eq!(rt; framed.as_slice(), text, "{name}");
+    let mut packed: Vec<u8> = Vec::new(rt.alloc());
+    serialize_packed::write_message_segments(rt.alloc(), &mut packed, segments)?;
     assert_eq!(rt; packed.as_slice(), message.packed, "{name}");
     Ok(())
 }
