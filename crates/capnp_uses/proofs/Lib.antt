@@ -1,0 +1,3 @@
+-- The lemmas.
+pub mod RootLemmas
+pub mod SetLemmas

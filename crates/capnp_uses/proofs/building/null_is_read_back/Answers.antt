@@ -1,0 +1,12 @@
+-- The root that is asked is the null one.
+use Rattle.std.proofs.Common.{rules, sym, subst}
+use Rattle.capnp_wire.specs.Object.{nothing}
+use Rattle.capnp_wire.specs.Views.{Denotes}
+use Rattle.capnp_uses.proofs.RootLemmas.{null_is_read}
+use Rattle.capnp_uses.proofs.building.null_is_read_back.Goals as goal
+
+pub returns : goal.returns
+returns g c =
+    let null = null_is_read _ c.in_ok-write_null.ensures.stands in
+    let is = c.is_null.ensures.1 (subst (λ p. Denotes p nothing) (sym c.in_ok-root.ensures.answer) null) in
+    record { back = search rules }

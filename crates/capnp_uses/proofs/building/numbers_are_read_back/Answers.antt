@@ -1,0 +1,16 @@
+-- The numbers that are read stand at the root.
+use Rattle.std.proofs.Common.{◌≡◌, ◌∙◌, ◌∷◌, [], take, arith}
+use Rattle.std.proofs.lemmas.List.{take_all}
+use Rattle.capnp_wire.specs.Tree.{numbers}
+use Rattle.capnp_wire.specs.Pointer.{words_of}
+use Rattle.capnp_wire.specs.Views.{IsWords}
+use Rattle.capnp_uses.proofs.RootLemmas.{root_is_read}
+use Rattle.capnp_uses.proofs.building.numbers_are_read_back.Goals as goal
+
+pub returns : goal.returns
+returns g c =
+    let words = words_of c.in_ok-list.list.bytes.now in
+    let there = root_is_read _ (numbers 5 (c.args.first ∷ c.args.second ∷ [])) (λ form. IsWords form words)
+    c.in_ok-write_numbers.ensures.stands c.in_ok-list.ensures.answer in
+    let all : take c.loop-index.index words ≡ words = take_all c.loop-index.index words (omega arith) in
+    record { back = c.loop-index.invariant ∙ all ∙ there.1 }

@@ -1,0 +1,14 @@
+-- The text that is read is the one that stands at the root.
+use Rattle.std.proofs.Common.{rules, ◌++◌, ◌∷◌, []}
+use Rattle.capnp_wire.specs.Tree.{numbers}
+use Rattle.capnp_wire.specs.Views.{IsText}
+use Rattle.capnp_uses.proofs.RootLemmas.{root_is_read}
+use Rattle.std.proofs.lemmas.List.{append_cancel_right}
+use Rattle.capnp_uses.proofs.building.text_is_read_back.Goals as goal
+
+pub returns : goal.returns
+returns g c =
+    let there = root_is_read _ (numbers 2 (c.args.bytes.now ++ 0 ∷ [])) (λ form. IsText form c.in_ok-text.text.bytes.now)
+    c.in_ok-write_text.ensures.stands c.in_ok-text.ensures.answer in
+    let same = append_cancel_right c.args.bytes.now c.in_ok-text.text.bytes.now (0 ∷ []) there.1 in
+    search rules

@@ -1,0 +1,12 @@
+-- The value's tree is the one that the pointer leads to.
+use Rattle.capnp_wire.specs.Readers.{pointer_of}
+use Rattle.capnp_uses.proofs.SetLemmas.{on_ok, canonical_as}
+use Rattle.capnp_uses.proofs.setting.set_canonical.Goals as goal
+
+pub returns : goal.returns
+returns g c =
+    let pointer = pointer_of g.S.ReaderSegments.segments c.args.source in
+    record {
+      set = λ trees is. on_ok c.set_root_canonical.result _ _ (canonical_as pointer c.set_root_canonical.new.self.spaces trees is)
+          (c.set_root_canonical.ensures.whole c.requires);
+    }

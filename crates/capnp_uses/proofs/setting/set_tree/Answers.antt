@@ -1,0 +1,9 @@
+-- The value's tree is the one that the pointer leads to.
+use Rattle.capnp_wire.specs.Readers.{pointer_of}
+use Rattle.capnp_uses.proofs.SetLemmas.{on_ok, set_as}
+use Rattle.capnp_uses.proofs.setting.set_tree.Goals as goal
+
+pub returns : goal.returns
+returns g c =
+    let pointer = pointer_of g.S.ReaderSegments.segments c.args.source in
+    record { set = λ form held is. on_ok c.set_root.result _ _ (set_as pointer c.set_root.new.self.spaces form held is) c.set_root.ensures.set }

@@ -1,0 +1,2 @@
+-- What callers say.
+pub mod Roots

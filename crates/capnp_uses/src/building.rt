@@ -1,0 +1,134 @@
+//! Messages that are built, and read once the view that wrote them is gone.
+ghost use Rattle.std.specs.Prelude.{◌≡◌, ◌<◌, ◌^◌, ◌++◌, ◌∷◌, [], length, true, IfOk, OnOk};
+ghost use Rattle.capnp_wire.specs.Tree.{null, struct, numbers};
+ghost use Rattle.capnp_uses.specs.Roots.{HasRootForm};
+
+use capnp_build::allocator::Allocator;
+use capnp_build::any_struct::{self, StructBuilder};
+use capnp_build::arena::builder_arena::BuilderArena;
+use capnp_build::{any_pointer, data, primitive_list, text};
+use capnp_frame::Result;
+use capnp_message::Builder;
+use capnp_wire::any_struct::StructReader;
+use std::alloc::Global;
+
+/// Makes a text the root.
+pub fn write_text<A: Allocator>(message: &mut Builder<A>, bytes: &[u8]) -> Result<()>
+    requires { length bytes.now < 2 ^ 29 }
+    ensures stands { OnOk result (HasRootForm message.new.spaces (numbers 2 (bytes.now ++ 0 ∷ []))) }
+{
+    let mut view: text::Builder<'_, Builder<A>> = message.initn_root::<text::Owned>(
+        bytes.len() as u32,
+    )?;
+    view.write(0, bytes);
+    Ok(())
+}
+
+/// Makes a text the root of a message, and reads it from there.
+pub fn text_is_read_back<A: Allocator>(alloc: Global, allocator: A, bytes: &[u8]) -> Result<Vec<u8>>
+    requires { length bytes.now < 2 ^ 29 }
+    ensures back { IfOk result (λ read. read.items ≡ bytes.now) }
+{
+    let mut message = Builder::new(alloc, allocator);
+    write_text(&mut message, bytes)?;
+    let text: capnp_wire::text::Reader<'_> = message.get_root_as_reader()?;
+    Ok(text.as_bytes().to_vec(alloc)?)
+}
+
+/// Makes data the root.
+pub fn write_data<A: Allocator>(message: &mut Builder<A>, bytes: &[u8]) -> Result<()>
+    requires { length bytes.now < 2 ^ 29 }
+    ensures stands { OnOk result (HasRootForm message.new.spaces (numbers 2 bytes.now)) }
+{
+    let mut view: data::Builder<'_, Builder<A>> = message.initn_root::<data::Owned>(
+        bytes.len() as u32,
+    )?;
+    view.write(0, bytes);
+    Ok(())
+}
+
+/// Makes data the root of a message, and reads it from there.
+pub fn data_is_read_back<A: Allocator>(alloc: Global, allocator: A, bytes: &[u8]) -> Result<Vec<u8>>
+    requires { length bytes.now < 2 ^ 29 }
+    ensures back { IfOk result (λ read. read.items ≡ bytes.now) }
+{
+    let mut message = Builder::new(alloc, allocator);
+    write_data(&mut message, bytes)?;
+    let data: capnp_wire::data::Reader<'_> = message.get_root_as_reader()?;
+    Ok(data.to_vec(alloc)?)
+}
+
+/// Makes a list of two words the root.
+pub fn write_numbers<A: Allocator>(message: &mut Builder<A>, first: u64, second: u64) -> Result<()>
+    ensures stands { OnOk result (HasRootForm message.new.spaces
+        (numbers 5 (first ∷ second ∷ []))) }
+{
+    let mut view: primitive_list::Builder<'_, Builder<A>, u64> = message.initn_root::<
+        primitive_list::Owned<u64>,
+    >(2)?;
+    view.set(0, first);
+    view.set(1, second);
+    Ok(())
+}
+
+/// Makes a list of two words the root of a message, and reads them from there.
+pub fn numbers_are_read_back<A: Allocator>(
+    alloc: Global,
+    allocator: A,
+    first: u64,
+    second: u64,
+) -> Result<Vec<u64>>
+    ensures back { IfOk result (λ read. read.items ≡ first ∷ second ∷ []) }
+{
+    let mut message = Builder::new(alloc, allocator);
+    write_numbers(&mut message, first, second)?;
+    let list: capnp_wire::primitive_list::Reader<'_, u64> = message.get_root_as_reader()?;
+    let mut numbers = Vec::new(alloc);
+    for index in 0..list.len() {
+        numbers.push(list.get(index))?;
+    }
+    Ok(numbers)
+}
+
+/// Makes a struct of two words the root.
+pub fn write_struct<A: Allocator>(message: &mut Builder<A>, first: u64, second: u64) -> Result<()>
+    ensures stands { OnOk result (HasRootForm message.new.spaces (struct (first ∷ second ∷ []))) }
+{
+    let mut view: StructBuilder<'_, Builder<A>> = message.initn_root::<any_struct::Owned>(2)?;
+    view.set_word(0, first);
+    view.set_word(1, second);
+    Ok(())
+}
+
+/// Makes a struct of two words the root of a message, and reads its words from there.
+pub fn a_struct_is_read_back<A: Allocator>(
+    alloc: Global,
+    allocator: A,
+    first: u64,
+    second: u64,
+) -> Result<(u64, u64)>
+    ensures back { IfOk result (λ read. read ≡ (first, second)) }
+{
+    let mut message = Builder::new(alloc, allocator);
+    write_struct(&mut message, first, second)?;
+    let fields: StructReader<'_, BuilderArena<A>> = message.get_root_as_reader()?;
+    Ok((fields.get_word(0), fields.get_word(1)))
+}
+
+/// Makes the root null.
+pub fn write_null<A: Allocator>(message: &mut Builder<A>) -> Result<()>
+    ensures stands { OnOk result (HasRootForm message.new.spaces null) }
+{
+    message.init_root::<any_pointer::Owned>()?;
+    Ok(())
+}
+
+/// Makes the root of a message null, and asks it whether it is.
+pub fn null_is_read_back<A: Allocator>(alloc: Global, allocator: A) -> Result<bool>
+    ensures back { IfOk result (λ is_null. is_null ≡ true) }
+{
+    let mut message = Builder::new(alloc, allocator);
+    write_null(&mut message)?;
+    let root: capnp_wire::any_pointer::Reader<'_, BuilderArena<A>> = message.get_root_as_reader()?;
+    Ok(root.is_null())
+}

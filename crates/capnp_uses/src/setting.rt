@@ -1,0 +1,59 @@
+//! Roots that are set to what another message holds.
+ghost use Rattle.std.specs.Prelude.{◌≡◌, ◌<◌, ◌∷◌, [], ℕ, List, length, map, slice_set, OnOk, IfOk};
+ghost use Rattle.capnp_wire.specs.Tree.{Form, Trees, none, tree, struct};
+ghost use Rattle.capnp_wire.specs.Object.{message_of};
+ghost use Rattle.capnp_wire.specs.Reached.{Root};
+ghost use Rattle.capnp_wire.specs.Layout.{canon};
+ghost use Rattle.capnp_wire.specs.Readers.{pointer_of};
+ghost use Rattle.capnp_wire.specs.Values.{LeadsToTree};
+ghost use Rattle.capnp_build.specs.Built.{message};
+
+use capnp_build::allocator::Allocator;
+use capnp_build::any_struct::{self, StructBuilder};
+use capnp_frame::Result;
+use capnp_frame::message::ReaderSegments;
+use capnp_message::Builder;
+use capnp_wire::any_pointer;
+
+/// Makes the root what a pointer of another message leads to, a struct with pointers, say.
+pub fn set_tree<A: Allocator, S: ReaderSegments>(
+    built: &mut Builder<A>,
+    source: any_pointer::Reader<'_, S>,
+) -> Result<()>
+    ensures set { (form : Form) (held : Trees) →
+        LeadsToTree (pointer_of S.segments source.entry) (tree form held none) →
+        OnOk result ((charge : ℕ) × Root (message built.new.spaces) form held charge) }
+{
+    built.set_root::<any_pointer::Owned, any_pointer::Reader<'_, S>>(source)
+}
+
+/// The same, and then another first data word: what the struct's pointers lead to stays.
+pub fn set_tree_and_word<A: Allocator, S: ReaderSegments>(
+    built: &mut Builder<A>,
+    source: any_pointer::Reader<'_, S>,
+    word: u64,
+) -> Result<()>
+    ensures set { (words : List ℕ) (held : Trees) → 0 < length words →
+        LeadsToTree (pointer_of S.segments source.entry) (tree (struct words) held none) →
+        OnOk result ((charge : ℕ)
+        × Root (message built.new.spaces) (struct (slice_set words 0 word)) held charge) }
+{
+    set_tree(built, source)?;
+    let mut fields: StructBuilder<'_, Builder<A>> = built.get_root::<any_struct::Owned>()?;
+    if fields.data_words() > 0 {
+        fields.set_word(0, word);
+    }
+    Ok(())
+}
+
+/// Makes a message of no segments the canonical form of what a pointer of another one leads to.
+pub fn set_canonical<A: Allocator, S: ReaderSegments>(
+    built: &mut Builder<A>,
+    source: any_pointer::Reader<'_, S>,
+) -> Result<()>
+    requires { built.old.spaces ≡ [] }
+    ensures set { (trees : Trees) → LeadsToTree (pointer_of S.segments source.entry) trees →
+        OnOk result (message built.new.spaces ≡ canon trees ∷ []) }
+{
+    built.set_root_canonical::<any_pointer::Owned, any_pointer::Reader<'_, S>>(source)
+}
