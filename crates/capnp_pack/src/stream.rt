@@ -10,11 +10,14 @@ ghost use Rattle.capnp_frame.specs.Refusals.{RefusesStream, TakesMemory, IsReade
 ghost use Rattle.capnp_pack.specs.PackedFrame.{PackedStands};
 ghost use Rattle.capnp_pack.specs.PackedSource.{Unpacks, RefusesPiece};
 
+mod lent;
+
 use crate::packed_read::PackedRead;
 use capnp_frame::Result;
 use capnp_frame::io::BufRead;
 use capnp_frame::message::ReaderOptions;
 use capnp_frame::serialize::{OwnedSegments, try_read_segments, try_read_segments_reusing};
+pub use lent::try_read_packed_segments_into;
 use std::alloc::Global;
 
 /// Reads the next packed message of a source, or answers `None` where nothing is unread.
