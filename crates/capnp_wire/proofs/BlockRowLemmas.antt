@@ -1,32 +1,15 @@
 -- Rows of an object in a block: their slots, and their data put between these.
-use Rattle.std.proofs.lemmas.List.{append-nil, take-append-drop, drop-drop as drop_drop_std}
+use Rattle.std.proofs.lemmas.List.{take-append-drop, drop-drop as drop_drop_std}
 use Rattle.std.proofs.Math.Seq.{take-append_seam as take_seam, drop-append_seam as drop_seam}
 use Rattle.std.proofs.lemmas.List.Elements.{All-head, All-tail}
 use Rattle.capnp_wire.proofs.SlotLemmas.{AllOf}
-use Rattle.capnp_wire.proofs.SizeLemmas.{length-woven, rows_even}
-use Rattle.capnp_wire.proofs.ObjectLemmas.{one_object}
-use Rattle.capnp_wire.proofs.TrimLemmas.{room_trim}
-use Rattle.capnp_wire.proofs.CopyLemmas.{none_formed, fill_nothing}
-use Rattle.capnp_wire.proofs.RoomLemmas.{length-rows_from}
-use Rattle.std.proofs.Common.{◌≡◌, ℕ, zero, suc, ◌+◌, ◌-◌, ◌*◌, ◌<◌, ◌≤◌, ◌^◌, ◌==◌, if◌then◌else◌, Bool, true, false, List, [], ◌∷◌, ◌++◌, length, take, drop, refl, sym, ◌∙◌, ap, subst}
+use Rattle.capnp_wire.proofs.SizeLemmas.{length-woven}
+use Rattle.std.proofs.Common.{◌≡◌, ℕ, zero, suc, ◌+◌, ◌*◌, ◌≤◌, List, [], ◌∷◌, ◌++◌, length, take, drop, refl, sym, ◌∙◌, ap}
 use Rattle.std.proofs.Common.{arith, append_assoc, length-append, length-take, length-drop}
-use Rattle.capnp_wire.specs.Pointer.{number_of, words_from}
-use Rattle.capnp_wire.specs.Element.{code_of, width, words_for}
-use Rattle.capnp_wire.specs.Tree.{Form, struct, numbers, pointers, structs, Trees, none, tree, count, depth, own_words, total_words}
-use Rattle.capnp_wire.specs.Object.{Shape, PointsTo, places, rows_from, elements as numerals}
-use Rattle.capnp_wire.specs.Landing.{words_in}
-use Rattle.capnp_wire.specs.Reached.{At, nowhere, at}
-use Rattle.capnp_wire.specs.Layout.{pointer, body, own, slots, run, row_run, woven, pointer_to, formed, struct_pointer, list_pointer, minus_one, AllHaveRoom}
-use Rattle.capnp_wire.specs.Block.{put, put_rows, fill, moved}
-use Rattle.capnp_wire.specs.Copy.{CanCopy, put_own, list_length, element_count, pointer_of_body}
-use Rattle.capnp_wire.specs.Rows.{row_size, kept_in, slots_of, kept_places, row_slots}
-use Rattle.capnp_wire.specs.declared.layout.place.Place.{Place}
-use Rattle.capnp_wire.specs.declared.layout.element.ElementSize.{ElementSize}
-use Rattle.capnp_wire.specs.declared.layout.object.Body.{Body}
-use Rattle.capnp_wire.specs.declared.layout.object.Body.TheVariants.{Struct, Numbers, Pointers, Structs}
+use Rattle.capnp_wire.specs.Layout.{run, row_run, woven}
+use Rattle.capnp_wire.specs.Block.{put, put_rows, moved}
+use Rattle.capnp_wire.specs.Rows.{row_slots}
 use Rattle.capnp_wire.proofs.BlockLemmas.{put_both, length-put, put_none}
-use Rattle.capnp_wire.proofs.FillLemmas.{fill_is}
-use Rattle.capnp_wire.proofs.DigitLemmas.{length-digits}
 
 -- runs of slots
 pub moved_run : (base start n : ℕ) → moved base (run start n) ≡ run (base + start) n

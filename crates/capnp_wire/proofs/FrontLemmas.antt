@@ -1,20 +1,10 @@
 -- What trimming keeps of some trees or words is a front of them.
 use Rattle.std.proofs.lemmas.List.{take-take}
-use Rattle.std.proofs.Common.{◌≡◌, ℕ, zero, suc, ◌+◌, ◌-◌, ◌<◌, ◌≤◌, Bool, true, false, if◌then◌else◌, max, List, [], ◌∷◌, ◌++◌, length, map, take, drop, Option, Some, slice_get, refl, sym}
-use Rattle.std.proofs.Common.{◌∙◌, ap, subst, arith}
-use Rattle.std.specs.Prelude.{option_and_then}
+use Rattle.std.proofs.Common.{◌≡◌, ℕ, zero, suc, ◌+◌, ◌≤◌, Bool, true, false, List, [], ◌∷◌, length, take, drop, refl, sym}
+use Rattle.std.proofs.Common.{◌∙◌, ap, arith}
 use Rattle.capnp_wire.specs.Pointer.{words_from}
-use Rattle.capnp_wire.specs.Tree.{Form, null, struct, numbers, pointers, structs, Trees, none, tree, count, depth, is_null}
-use Rattle.capnp_wire.specs.Trim.{first, behind, before, keep_word, cut_zeros, keep_tree, cut_nulls, least_data, least_pointers, narrowed, trim_form, trim_held, trim}
-use Rattle.capnp_wire.specs.Object.{is_null as null_there, is_object, Lands, near, far, double_far, Target, word_at, places, row_places, rows_from}
-use Rattle.capnp_wire.specs.Reached.{At, nowhere, at}
-use Rattle.capnp_wire.specs.Block.{most_used}
-use Rattle.capnp_wire.specs.Rows.{kept_places}
-use Rattle.capnp_wire.specs.Layout.{AllHaveRoom}
-use Rattle.capnp_wire.specs.declared.layout.place.Place.{Place}
-use Rattle.capnp_wire.proofs.PieceLemmas.{Each, each_first, each_behind, each_narrowed}
-use Rattle.capnp_wire.proofs.TrimLemmas.{RoomOne, each_room, room_each}
-use Rattle.capnp_wire.proofs.FaultLemmas.{not_null}
+use Rattle.capnp_wire.specs.Tree.{Form, null, struct, numbers, pointers, structs, Trees, none, tree, count, is_null}
+use Rattle.capnp_wire.specs.Trim.{first, behind, before, keep_word, cut_zeros, keep_tree, cut_nulls, narrowed, trim_form, trim_held, trim}
 
 -- trimming, piece by piece
 pub trim_first : (n : ℕ) (t : Trees) → trim (first n t) ≡ first n (trim t)

@@ -1,15 +1,13 @@
 -- An object that is copied: its own words, then what its pointers lead to.
-use Rattle.std.proofs.lemmas.List.{append-nil, take-append-drop, drop-drop as drop_drop_std}
-use Rattle.std.proofs.Math.Seq.{take-append_seam as take_seam, drop-append_seam as drop_seam}
-use Rattle.std.proofs.lemmas.List.Elements.{All-head, All-tail}
+use Rattle.std.proofs.lemmas.List.{append-nil}
 use Rattle.capnp_wire.proofs.SlotLemmas.{AllOf}
 use Rattle.capnp_wire.proofs.SizeLemmas.{length-woven, rows_even}
 use Rattle.capnp_wire.proofs.ObjectLemmas.{one_object}
 use Rattle.capnp_wire.proofs.TrimLemmas.{room_trim}
 use Rattle.capnp_wire.proofs.CopyLemmas.{none_formed, fill_nothing}
 use Rattle.capnp_wire.proofs.RoomLemmas.{length-rows_from}
-use Rattle.std.proofs.Common.{◌≡◌, ℕ, zero, suc, ◌+◌, ◌-◌, ◌*◌, ◌<◌, ◌≤◌, ◌^◌, ◌==◌, if◌then◌else◌, Bool, true, false, List, [], ◌∷◌, ◌++◌, length, take, drop, refl, sym, ◌∙◌, ap, subst}
-use Rattle.std.proofs.Common.{arith, append_assoc, length-append, length-take, length-drop}
+use Rattle.std.proofs.Common.{◌≡◌, ℕ, ◌+◌, ◌-◌, ◌*◌, ◌<◌, ◌≤◌, ◌^◌, ◌==◌, if◌then◌else◌, Bool, true, false, List, [], ◌∷◌, ◌++◌, length, take, drop, refl, sym, ◌∙◌, ap, subst}
+use Rattle.std.proofs.Common.{arith, length-take, length-drop}
 use Rattle.capnp_wire.specs.Pointer.{number_of, words_from}
 use Rattle.capnp_wire.specs.Element.{code_of, width, words_for}
 use Rattle.capnp_wire.specs.Tree.{Form, struct, numbers, pointers, structs, Trees, none, tree, count, depth, own_words, total_words}

@@ -1,5 +1,5 @@
 -- The pointers of an object, one taken after the other.
-use Rattle.std.proofs.Common.{◌≡◌, ◌⊎◌, inl, inr, ℕ, zero, suc, ◌+◌, ◌-◌, ◌*◌, ◌<◌, ◌≤◌, List, [], ◌∷◌, ◌++◌, refl, sym, ◌∙◌, ap, arith}
+use Rattle.std.proofs.Common.{◌≡◌, ◌⊎◌, inl, inr, ℕ, zero, suc, ◌+◌, ◌-◌, ◌<◌, ◌≤◌, List, [], ◌++◌, refl, sym, ◌∙◌, ap, arith}
 use Rattle.capnp_wire.specs.Object.{places, row_places}
 use Rattle.std.proofs.lemmas.List.{append-nil}
 use Rattle.capnp_wire.specs.Landing.{shape_of}

@@ -1,12 +1,14 @@
 -- Bytes that are put into a block, as words.
-use Rattle.std.proofs.lemmas.List.{take-append-drop}
-use Rattle.std.proofs.Common.{◌≡◌, ℕ, zero, suc, ◌+◌, ◌*◌, ◌/◌, ◌%◌, ◌≤◌, List, [], ◌∷◌, ◌++◌, length, map, take, drop, sym, ◌∙◌, ap, arith, length-append, length-take, length-drop}
+use Rattle.std.proofs.lemmas.List.{take-append-drop, map-set, set_split, take_more, length-map, map-append}
+use Rattle.std.proofs.Common.{◌≡◌, ℕ, zero, suc, ◌+◌, ◌*◌, ◌/◌, ◌%◌, ◌<◌, ◌≤◌, List, [], ◌∷◌, ◌++◌, length, map, take, drop, get_or, set, sym, ◌∙◌, ap, arith, length-append, length-take, length-drop}
 use Rattle.std.specs.Simd.{first_chunks}
 use Rattle.std.proofs.Math.Seq.{take-append_seam, drop-append_seam}
+use Rattle.capnp_frame.specs.Words.{bytes_of}
+use Rattle.capnp_frame.specs.declared.words.Word.{Word}
 use Rattle.capnp_wire.specs.Pointer.{number_of, words_of, words_from}
-use Rattle.capnp_wire.specs.Block.{put}
+use Rattle.capnp_wire.specs.Block.{put, numbers_of}
 use Rattle.capnp_wire.proofs.WordLemmas.{length-words_of}
-use Rattle.capnp_wire.proofs.BlockLemmas.{put_parts}
+use Rattle.capnp_wire.proofs.BlockLemmas.{put_parts, put_both}
 
 abbrev chunked : ℕ → List ℕ → List ℕ
 chunked k bytes = map (number_of 256) (first_chunks 8 k bytes)
@@ -70,3 +72,28 @@ words_part start n bytes room =
     let taken : take n (words_of middle ++ words_of rest) ≡ words_of middle =
     ap (λ (k : ℕ). take k (words_of middle ++ words_of rest)) (sym n_is) ∙ take-append_seam (words_of middle) (words_of rest) in
     sym (ap (λ (l : List ℕ). take n (drop start l)) whole ∙ ap (λ (l : List ℕ). take n l) dropped ∙ taken)
+
+pub length-numbers_of : (words : List Word) → length (numbers_of words) ≡ length words
+length-numbers_of words = length-map words (λ (word : Word). number_of 256 (bytes_of word))
+
+-- one item of a list, in the place of another
+pub put_one : {X : Type 0} (f : X → ℕ) (at : ℕ) (x : X) (xs : List X) → at < length xs → map f (set xs at x) ≡ put at (f x ∷ []) (map f xs)
+put_one f at x xs room =
+    let fits : at < length (map f xs) = omega (arith, length-map xs f) in
+    let next : suc at ≡ at + 1 = omega arith in
+    map-set f xs at x ∙ set_split (map f xs) at (f x) fits
+    ∙ ap (λ (n : ℕ). take at (map f xs) ++ f x ∷ drop n (map f xs)) next
+
+-- one more chunk, after those before it
+pub put_next : (at i : ℕ) (chunks : List (List ℕ)) (block : List ℕ) → i < length chunks → at + length chunks ≤ length block
+    → put (at + i) (number_of 256 (get_or chunks i []) ∷ []) (put at (map (number_of 256) (take i chunks)) block) ≡ put at (map (number_of 256) (take (i + 1) chunks)) block
+put_next at i chunks block more room =
+    let so_far : List ℕ = map (number_of 256) (take i chunks) in
+    let one : List ℕ = number_of 256 (get_or chunks i []) ∷ [] in
+    let many : length so_far ≡ i = omega (arith, length-map (take i chunks) (number_of 256), length-take i chunks) in
+    let here : at + length so_far ≡ at + i = omega arith in
+    let all : so_far ++ one ≡ map (number_of 256) (take (i + 1) chunks) =
+    sym (map-append (number_of 256) (take i chunks) (get_or chunks i [] ∷ [])) ∙ ap (map (number_of 256)) (sym (take_more chunks i [] more)) in
+    ap (λ (n : ℕ). put n one (put at so_far block)) (sym here)
+    ∙ put_both at so_far one block (omega arith)
+    ∙ ap (λ (l : List ℕ). put at l block) all

@@ -1,8 +1,8 @@
 -- Trees that pointers lead to, as values.
-use Rattle.std.proofs.Common.{◌≡◌, ℕ, ◌+◌, ◌-◌, ◌*◌, ◌/◌, ◌<◌, ◌≤◌, ◌^◌, ◌↔◌, Bool, true, false, List, [], ◌∷◌, ◌++◌, length, take, drop, length-take, length-drop}
+use Rattle.std.proofs.Common.{◌≡◌, ℕ, ◌+◌, ◌-◌, ◌*◌, ◌/◌, ◌<◌, ◌≤◌, ◌^◌, ◌↔◌, Bool, true, false, List, [], ◌∷◌, ◌++◌, length, take, drop, set, length-take, length-drop}
 use Rattle.std.proofs.Common.{length-append, Option, Some, None, MatchOption, Result, Ok, Err, MatchResult, inl, inr, refl, sym, ◌∙◌, ap, subst, arith}
 use Rattle.std.proofs.Math.Seq.{drop-append_seam}
-use Rattle.std.proofs.lemmas.List.{append-nil, take_all}
+use Rattle.std.proofs.lemmas.List.{append-nil, take_all, drop_all}
 use Rattle.std.specs.Prelude.{map}
 use Rattle.std.specs.Simd.{first_chunks}
 use Rattle.capnp_frame.specs.Words.{bytes_of}
@@ -15,6 +15,7 @@ use Rattle.capnp_wire.specs.Reached.{At, nowhere, at, root}
 use Rattle.capnp_wire.specs.Layout.{layout, canon, formed, AllHaveRoom, AllReach}
 use Rattle.capnp_wire.specs.Canonical.{IsCanonical}
 use Rattle.capnp_wire.specs.Views.{Pointer}
+use Rattle.capnp_wire.specs.Block.{numbers_of}
 use Rattle.capnp_wire.specs.Values.{TreeAt, Measured, Unmeasured, HasWords, LacksWords, LeadsToTree, StopsWalkFrom, pointed, IsCanonicalForm}
 use Rattle.capnp_wire.specs.declared.layout.place.Place.{Place}
 use Rattle.capnp_wire.proofs.CanonLemmas.{root_of_canon, canon_tells}
@@ -92,6 +93,23 @@ whole_form p word front old block front_is room w long written =
       rooms = h.rooms;
       few = omega (arith, h.words_are, h.few);
       words_are = ap (λ (l : List ℕ). words_of (front ++ l)) rest ∙ parts ∙ ap (λ (l : List ℕ). l ++ words_of block) head ∙ written h.trees h.tree_is;
+    }
+
+-- the same in words
+pub words_form : (p : Pointer) (word : Word) (old block : List Word) → (behind : ℕ) × HasWords (LeadsToTree p) true behind × (length old ≡ behind + 1)
+    → ((trees : Trees) → LeadsToTree p trees → number_of 256 (bytes_of word) ∷ numbers_of block ≡ layout (formed true trees))
+    → IsCanonicalForm p (numbers_of (set (take 1 old ++ (block ++ drop (length old - 1) (drop 1 old))) 0 word))
+words_form p word [] block w written = absurd (omega (arith, w.2))
+words_form p word (x ∷ xs) block w written =
+    let h = w.1 in
+    let none : drop (length (x ∷ xs) - 1) xs ≡ [] = drop_all (length (x ∷ xs) - 1) xs (omega arith) in
+    let whole : block ++ drop (length (x ∷ xs) - 1) xs ≡ block = ap (λ (l : List Word). block ++ l) none ∙ append-nil block in
+    record {
+      trees = h.trees;
+      tree_is = h.tree_is;
+      rooms = h.rooms;
+      few = omega (arith, h.words_are, h.few);
+      words_are = ap (λ (l : List Word). numbers_of (word ∷ l)) whole ∙ written h.trees h.tree_is;
     }
 
 one_root : (m : List (List ℕ)) (place : Place) (trees : Trees) (charge : ℕ) → At m (place ∷ []) trees charge → (f : Form) × (h : Trees) × (trees ≡ tree f h none)

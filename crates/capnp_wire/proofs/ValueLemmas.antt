@@ -1,9 +1,8 @@
 -- Values that are measured and written.
 use Rattle.std.proofs.lemmas.List.{append-nil}
-use Rattle.std.proofs.Common.{◌≡◌, ℕ, zero, suc, ◌+◌, ◌-◌, ◌/◌, ◌<◌, ◌≤◌, ◌^◌, Result, Ok, Err, MatchResult, Bool, List, [], ◌∷◌, ◌++◌, length, drop, Option, Some, inr, refl, ◌∙◌, ap, subst, arith}
+use Rattle.std.proofs.Common.{◌≡◌, ℕ, zero, suc, ◌+◌, ◌-◌, ◌<◌, ◌≤◌, ◌^◌, Result, Ok, Err, MatchResult, Bool, List, [], ◌∷◌, ◌++◌, length, drop, Option, Some, inr, refl, ◌∙◌, ap, subst, arith}
 use Rattle.capnp_frame.specs.declared.error.ErrorKind.{ErrorKind}
 use Rattle.capnp_frame.specs.declared.error.Error.{Error}
-use Rattle.capnp_wire.specs.Pointer.{words_of}
 use Rattle.capnp_wire.specs.Tree.{Trees, total_words}
 use Rattle.capnp_wire.specs.Reached.{At}
 use Rattle.capnp_wire.specs.Layout.{layout, body, pointer_to, formed, AllHaveRoom}
@@ -12,7 +11,6 @@ use Rattle.capnp_wire.specs.Copy.{CanCopy}
 use Rattle.capnp_wire.specs.Charge.{Walked}
 use Rattle.capnp_wire.specs.Values.{TreeAt, Measured, Unmeasured, CanWrite, too_large}
 use Rattle.capnp_wire.specs.declared.layout.place.Place.{Place}
-use Rattle.capnp_wire.proofs.WordLemmas.{length-words_of}
 use Rattle.capnp_wire.proofs.ObjectLemmas.{one_tree}
 use Rattle.capnp_wire.proofs.SizeLemmas.{length-body}
 use Rattle.capnp_wire.proofs.OpenLemmas.{room_formed}
@@ -27,21 +25,21 @@ pub put_whole : (words block : List ℕ) → length words ≡ length block → p
 put_whole words block long =
     ap (λ (l : List ℕ). words ++ l) (drop_past (0 + length words) block (omega arith)) ∙ append-nil words
 
-pub can_copy : (m : List (List ℕ)) (place : Place) (level : ℕ) (c : Bool) (bytes : ℕ) → CanWrite m place level c bytes → CanCopy m (place ∷ []) level c 0 (bytes / 8)
-can_copy m place level c bytes w = record { trees = w.trees; charge = w.charge; stand = w.stand; shallow = w.shallow; rooms = w.rooms; fits = omega (arith, w.size) }
+pub can_copy : (m : List (List ℕ)) (place : Place) (level : ℕ) (c : Bool) (words : ℕ) → CanWrite m place level c words → CanCopy m (place ∷ []) level c 0 words
+can_copy m place level c words w = record { trees = w.trees; charge = w.charge; stand = w.stand; shallow = w.shallow; rooms = w.rooms; fits = omega (arith, w.size) }
 
 pub written : (m : List (List ℕ)) (place : Place) (level : ℕ) (c : Bool) (old new : List ℕ) (pointer_is : ℕ) → CanWrite m place level c (length old)
-    → ((trees : Trees) (charge : ℕ) → At m (place ∷ []) trees charge → words_of new ≡ put 0 (body (formed c trees)) (words_of old))
+    → ((trees : Trees) (charge : ℕ) → At m (place ∷ []) trees charge → new ≡ put 0 (body (formed c trees)) old)
     → ((trees : Trees) (charge : ℕ) → At m (place ∷ []) trees charge → pointer_is ≡ pointer_to (formed c trees) (0 - 0))
-    → (trees : Trees) (charge : ℕ) → At m (place ∷ []) trees charge → pointer_is ∷ words_of new ≡ layout (formed c trees)
+    → (trees : Trees) (charge : ℕ) → At m (place ∷ []) trees charge → pointer_is ∷ new ≡ layout (formed c trees)
 written m place level c old new pointer_is w words pointers trees charge stand =
     let same = one_tree m (place ∷ []) w.trees trees w.charge charge w.stand stand in
     let rooms : AllHaveRoom (formed c trees) = room_formed c trees (subst AllHaveRoom same.0 w.rooms) in
     let total : total_words (formed c w.trees) ≡ total_words (formed c trees) = ap (λ (t : Trees). total_words (formed c t)) same.0 in
-    let long : length (body (formed c trees)) ≡ length (words_of old) = omega (arith, length-body (formed c trees) rooms, length-words_of old, w.size, total) in
+    let long : length (body (formed c trees)) ≡ length old = omega (arith, length-body (formed c trees) rooms, w.size, total) in
     let none : 0 - 0 ≡ 0 = omega arith in
-    ap (λ (p : ℕ). p ∷ words_of new) (pointers trees charge stand)
-    ∙ ap (λ (l : List ℕ). pointer_to (formed c trees) (0 - 0) ∷ l) (words trees charge stand ∙ put_whole (body (formed c trees)) (words_of old) long)
+    ap (λ (p : ℕ). p ∷ new) (pointers trees charge stand)
+    ∙ ap (λ (l : List ℕ). pointer_to (formed c trees) (0 - 0) ∷ l) (words trees charge stand ∙ put_whole (body (formed c trees)) old long)
 
 tree_at : (m : List (List ℕ)) (place : Place) (level : ℕ) (limit left : Option ℕ) (c : Bool) (before_it now : Option ℕ) (w : Walked m c place level limit left before_it now)
     → TreeAt m place level limit w.stand.trees

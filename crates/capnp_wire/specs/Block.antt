@@ -1,9 +1,15 @@
 -- Blocks of words while objects are written into them (src/layout/block.rt, src/layout/copy.rt).
-use Rattle.std.specs.Prelude.{ℕ, zero, suc, ◌+◌, ◌-◌, max, List, [], ◌∷◌, ◌++◌, length, take, drop}
+use Rattle.std.specs.Prelude.{ℕ, zero, suc, ◌+◌, ◌-◌, max, List, [], ◌∷◌, ◌++◌, length, map, take, drop}
 use Rattle.capnp_wire.specs.Tree.{Trees, none, tree, count, own_words, total_words}
 use Rattle.capnp_wire.specs.Layout.{pointer, body}
 use Rattle.capnp_wire.specs.Trim.{cut_zeros}
-use Rattle.capnp_wire.specs.Pointer.{words_from}
+use Rattle.capnp_frame.specs.Words.{bytes_of}
+use Rattle.capnp_frame.specs.declared.words.Word.{Word}
+use Rattle.capnp_wire.specs.Pointer.{number_of, words_from}
+
+-- words as numbers, little endian
+abbrev pub numbers_of : List Word → List ℕ
+numbers_of words = map (λ word. number_of 256 (bytes_of word)) words
 
 -- some words in the place of others, from a word of the block on
 abbrev pub put : ℕ → List ℕ → List ℕ → List ℕ

@@ -1,5 +1,5 @@
 -- Values that are measured and written (src/layout/value.rt).
-use Rattle.std.specs.Prelude.{◌≡◌, ◌⊎◌, ℕ, ◌+◌, ◌-◌, ◌*◌, ◌^◌, ◌<◌, ◌≤◌, min, Bool, true, false, List, [], ◌∷◌, ◌++◌, Option, Some, None, MatchOption, length, slice_get}
+use Rattle.std.specs.Prelude.{◌≡◌, ◌⊎◌, ℕ, ◌+◌, ◌-◌, ◌^◌, ◌<◌, ◌≤◌, min, Bool, true, false, List, [], ◌∷◌, ◌++◌, Option, Some, None, MatchOption, length, slice_get}
 use Rattle.std.proofs.Common.{refl, ap}
 use Rattle.capnp_frame.specs.declared.error.ErrorKind.{ErrorKind}
 use Rattle.capnp_frame.specs.declared.error.ErrorKind.TheVariants.{AllocationTooLarge, CanonicalTooLarge}
@@ -46,13 +46,13 @@ Unmeasured m place level limit canonical kind =
     × (kind ≡ too_large canonical (total_words (formed canonical trees))))
 
 -- a tree can be written into a block of just the words of its body
-pub record CanWrite (m : List (List ℕ)) (place : Place) (level : ℕ) (canonical : Bool) (bytes : ℕ) : Type 0 where
+pub record CanWrite (m : List (List ℕ)) (place : Place) (level : ℕ) (canonical : Bool) (words : ℕ) : Type 0 where
   pub trees : Trees
   pub charge : ℕ
   pub stand : At m (place ∷ []) trees charge
   pub shallow : depth trees ≤ level
   pub rooms : AllHaveRoom trees
-  pub size : bytes ≡ 8 * total_words (formed canonical trees)
+  pub size : words ≡ total_words (formed canonical trees)
   pub few : total_words (formed canonical trees) < 2 ^ 29
 
 -- What is measured of a value, by the trees that it may be; it is one tree, or none.

@@ -1,6 +1,15 @@
 //! Pointers that may lead to anything.
+ghost use Rattle.std.specs.Prelude.{◌≡◌, ◌∷◌, length};
+ghost use Rattle.capnp_frame.specs.Words.{bytes_of};
+ghost use Rattle.capnp_wire.specs.Pointer.{number_of};
+ghost use Rattle.capnp_wire.specs.Tree.{Trees};
+ghost use Rattle.capnp_wire.specs.Layout.{layout, formed};
+ghost use Rattle.capnp_wire.specs.Readers.{pointer_of};
+ghost use Rattle.capnp_wire.specs.Values.{HasWords, LeadsToTree};
+
 mod reader;
 
+use crate::layout::block::BlockItem;
 use crate::layout::value;
 use crate::read_limiter::limit_in_words;
 use crate::traits::{self, SetterInput};
@@ -40,10 +49,26 @@ impl<'a, S: ReaderSegments> SetterInput<Owned> for Reader<'a, S> {
     }
 
     fn write(&self, canonical: bool, block: &mut [u8]) -> Word {
-        let pointer = match self.place {
-            None => 0,
-            Some(place) => value::write(self.segments, place, self.level, canonical, block),
-        };
-        value::word_of(pointer)
+        write_into(self, canonical, block)
     }
+}
+
+/// Writes the tree that a pointer leads to into a block of just its words, of bytes or of words, and
+/// answers the pointer to it for a block that follows this pointer at once.
+pub(crate) fn write_into<S: ReaderSegments, T: BlockItem>(
+    reader: &Reader<'_, S>,
+    canonical: bool,
+    block: &mut [T],
+) -> Word
+    requires { HasWords (LeadsToTree (pointer_of S.segments reader.now)) canonical
+        (length (T.as_words block.old)) }
+    ensures written { (trees : Trees) → LeadsToTree (pointer_of S.segments reader.now) trees →
+        number_of 256 (bytes_of result) ∷ T.as_words block.new ≡ layout (formed canonical trees) }
+    ensures len { length (T.as_words block.new) ≡ length (T.as_words block.old) }
+{
+    let pointer = match reader.place {
+        None => 0,
+        Some(place) => value::write(reader.segments, place, reader.level, canonical, block),
+    };
+    value::word_of(pointer)
 }

@@ -5,13 +5,14 @@ ghost use Rattle.capnp_frame.specs.Message.{IsWholeWords};
 ghost use Rattle.capnp_frame.specs.declared.error.ErrorKind.{ErrorKind};
 ghost use Rattle.capnp_frame.specs.declared.error.ErrorKind.TheVariants.{OutOfMemory};
 ghost use Rattle.capnp_wire.specs.Pointer.{words_of};
+ghost use Rattle.capnp_wire.specs.Block.{numbers_of};
 ghost use Rattle.capnp_wire.specs.Readers.{pointer_of};
 ghost use Rattle.capnp_wire.specs.Values.{HasWords, LacksWords, LeadsToTree, StopsWalkFrom, IsCanonicalForm};
 
 use crate::any_pointer;
 use crate::traits::SetterInput;
-use capnp_frame::Result;
 use capnp_frame::message::ReaderSegments;
+use capnp_frame::{Result, Word, word};
 use std::alloc::Global;
 
 /// The words of the canonical form of what a pointer leads to, with the root pointer.
@@ -66,4 +67,35 @@ fn write_whole<S: ReaderSegments>(reader: &any_pointer::Reader<'_, S>, bytes: &m
 {
     let pointer = reader.write(true, &mut bytes[8..]);
     bytes[..8].copy_from_slice(&pointer.bytes());
+}
+
+/// The canonical form of what a pointer leads to, as words.
+pub fn canonical_words<S: ReaderSegments>(
+    alloc: Global,
+    reader: &any_pointer::Reader<'_, S>,
+) -> Result<Vec<Word>>
+    ensures answer { let pointer = pointer_of S.segments reader.now in MatchResult result
+        (λ words. IsCanonicalForm pointer (numbers_of words.items))
+        (λ error. LacksWords (LeadsToTree pointer) (StopsWalkFrom pointer) true error.kind
+        ⊎ (error.kind ≡ OutOfMemory)) }
+    ensures found { (behind : ℕ) →
+        HasWords (LeadsToTree (pointer_of S.segments reader.now)) true behind →
+        IfErr result (λ error. error.kind ≡ OutOfMemory) }
+    ensures exact { let pointer = pointer_of S.segments reader.now in
+        (kind : ErrorKind) → LacksWords (LeadsToTree pointer) (StopsWalkFrom pointer) true kind →
+        IsErrAnd result (λ error. error.kind ≡ kind) }
+{
+    let size = canonical_size(reader)? as usize;
+    let mut words = vec![in alloc; word(0, 0, 0, 0, 0, 0, 0, 0); size]?;
+    write_words(reader, &mut words);
+    Ok(words)
+}
+
+// Writes the canonical form of what a pointer leads to into just its words.
+fn write_words<S: ReaderSegments>(reader: &any_pointer::Reader<'_, S>, words: &mut [Word])
+    requires { (behind : ℕ) × HasWords (LeadsToTree (pointer_of S.segments reader.now)) true behind
+        × (length words.old ≡ behind + 1) }
+    ensures { IsCanonicalForm (pointer_of S.segments reader.now) (numbers_of words.new) }
+{
+    words[0] = any_pointer::write_into(reader, true, &mut words[1..]);
 }

@@ -1,15 +1,17 @@
 //! Words of a block, and of what is written into it.
-ghost use Rattle.std.specs.Prelude.{◌≡◌, ◌+◌, ◌-◌, ◌*◌, ◌^◌, ◌/◌, ◌%◌, ◌<◌, ◌≤◌, ◌∷◌, [], length, max, slice_get, Some};
+ghost use Rattle.std.specs.Prelude.{◌≡◌, ℕ, List, ◌+◌, ◌-◌, ◌*◌, ◌^◌, ◌/◌, ◌%◌, ◌<◌, ◌≤◌, ◌∷◌, [], length, max, slice_get, Some};
+ghost use Rattle.capnp_frame.specs.Words.{bytes_of};
 ghost use Rattle.capnp_wire.specs.Pointer.{words_of, words_from};
 ghost use Rattle.capnp_wire.specs.Element.{code_of, width, words_for};
 ghost use Rattle.capnp_wire.specs.Tree.{numbers};
 ghost use Rattle.capnp_wire.specs.Object.{elements};
 ghost use Rattle.capnp_wire.specs.Layout.{own};
 ghost use Rattle.capnp_wire.specs.Trim.{cut_zeros};
-ghost use Rattle.capnp_wire.specs.Block.{put, most_used};
+ghost use Rattle.capnp_wire.specs.Block.{put, numbers_of, most_used};
 
 use crate::layout::element::ElementSize;
 use crate::layout::place::word;
+use capnp_frame::Word;
 
 /// A word of a segment that is there.
 pub(crate) fn word_at(segment: &[u8], index: usize) -> u64
@@ -22,41 +24,78 @@ pub(crate) fn word_at(segment: &[u8], index: usize) -> u64
     }
 }
 
-/// Puts the bytes of whole words into a block, from a word of it on.
-pub(crate) fn put_bytes(block: &mut [u8], at: usize, bytes: &[u8])
-    requires whole { length bytes.now % 8 ≡ 0 }
-    requires room { at + length bytes.now / 8 ≤ length block.old / 8 }
-    ensures words { words_of block.new ≡ put at (words_of bytes.now) (words_of block.old) }
-    ensures len { length block.new ≡ length block.old }
+/// What a block of words is made of: bytes, eight of them a word, or words.
+pub(crate) trait BlockItem: Sized {
+    /// The words of a block.
+    ghost as_words: { List Self → List ℕ };
+
+    /// Puts the bytes of whole words into a block, from a word of it on.
+    fn put_bytes(block: &mut [Self], at: usize, bytes: &[u8])
+        requires whole { length bytes.now % 8 ≡ 0 }
+        requires room { at + length bytes.now / 8 ≤ length (as_words block.old) }
+        ensures words { as_words block.new ≡ put at (words_of bytes.now) (as_words block.old) }
+        ensures len { length (as_words block.new) ≡ length (as_words block.old) };
+}
+
+impl BlockItem for u8 {
+    ghost as_words = { words_of };
+
+    fn put_bytes(block: &mut [u8], at: usize, bytes: &[u8]) {
+        let begin = 8 * at;
+        block[begin..begin + bytes.len()].copy_from_slice(bytes);
+    }
+}
+
+impl BlockItem for Word {
+    ghost as_words = { numbers_of };
+
+    fn put_bytes(block: &mut [Word], at: usize, bytes: &[u8]) {
+        let (chunks, _) = bytes.as_chunks::<8>();
+        for index in 0..chunks.len() {
+            block[at + index] = word_of_bytes(&chunks[index]);
+        }
+    }
+}
+
+// The word of eight bytes.
+fn word_of_bytes(bytes: &[u8; 8]) -> Word
+    ensures { bytes_of result ≡ bytes.now }
 {
-    let begin = 8 * at;
-    block[begin..begin + bytes.len()].copy_from_slice(bytes);
+    capnp_frame::word(
+        bytes[0], bytes[1], bytes[2], bytes[3], bytes[4], bytes[5], bytes[6], bytes[7],
+    )
 }
 
 /// Puts a word into a block.
-pub(crate) fn put_word(block: &mut [u8], at: usize, word: u64)
-    requires { at < length block.old / 8 }
-    ensures words { words_of block.new ≡ put at (word ∷ []) (words_of block.old) }
-    ensures len { length block.new ≡ length block.old }
+pub(crate) fn put_word<T: BlockItem>(block: &mut [T], at: usize, word: u64)
+    requires { at < length (T.as_words block.old) }
+    ensures words { T.as_words block.new ≡ put at (word ∷ []) (T.as_words block.old) }
+    ensures len { length (T.as_words block.new) ≡ length (T.as_words block.old) }
 {
-    put_bytes(block, at, &word.to_le_bytes());
+    T::put_bytes(block, at, &word.to_le_bytes());
 }
 
 /// Puts so many words of a segment into a block.
-pub(crate) fn put_words(block: &mut [u8], at: usize, segment: &[u8], start: usize, count: usize)
+pub(crate) fn put_words<T: BlockItem>(
+    block: &mut [T],
+    at: usize,
+    segment: &[u8],
+    start: usize,
+    count: usize,
+)
     requires there { start + count ≤ length segment.now / 8 }
-    requires room { at + count ≤ length block.old / 8 }
-    ensures words { words_of block.new
-        ≡ put at (words_from (words_of segment.now) start count) (words_of block.old) }
-    ensures len { length block.new ≡ length block.old }
+    requires room { at + count ≤ length (T.as_words block.old) }
+    ensures words { T.as_words block.new
+        ≡ put at (words_from (words_of segment.now) start count) (T.as_words block.old) }
+    ensures len { length (T.as_words block.new) ≡ length (T.as_words block.old) }
 {
     let begin = 8 * start;
-    put_bytes(block, at, &segment[begin..begin + 8 * count]);
+    T::put_bytes(block, at, &segment[begin..begin + 8 * count]);
 }
 
 /// Puts the elements of a list into a block, with zero bits behind the last one.
-pub(crate) fn put_elements(
-    block: &mut [u8],
+pub(crate) fn put_elements<T: BlockItem>(
+    block: &mut [T],
     at: usize,
     segment: &[u8],
     start: usize,
@@ -64,11 +103,12 @@ pub(crate) fn put_elements(
     count: u32,
 )
     requires there { start + words_for count (width (code_of size)) ≤ length segment.now / 8 }
-    requires room { at + words_for count (width (code_of size)) ≤ length block.old / 8 }
+    requires room { at + words_for count (width (code_of size)) ≤ length (T.as_words block.old) }
+    requires bound { length (T.as_words block.old) < 2 ^ 29 }
     ensures words { let list = numbers (code_of size)
         (elements (words_of segment.now) start (code_of size) count) in
-        words_of block.new ≡ put at (own list []) (words_of block.old) }
-    ensures len { length block.new ≡ length block.old }
+        T.as_words block.new ≡ put at (own list []) (T.as_words block.old) }
+    ensures len { length (T.as_words block.new) ≡ length (T.as_words block.old) }
 {
     let words = size.words_of_list(count) as usize;
     put_words(block, at, segment, start, words);

@@ -10,7 +10,7 @@ ghost use Rattle.capnp_wire.specs.Block.{put_rows, fill};
 ghost use Rattle.capnp_wire.specs.Rows.{row_size, kept_in, slots_of};
 ghost use Rattle.capnp_wire.specs.Copy.{CanCopy, IsCopied, put_own, element_count, IsNarrower};
 
-use crate::layout::block::{put_elements, put_word, put_words};
+use crate::layout::block::{BlockItem, put_elements, put_word, put_words};
 use crate::layout::formed::formed_as;
 use crate::layout::object::{Body, Object, object_at};
 use crate::layout::place::Place;
@@ -29,24 +29,24 @@ pub(crate) struct Copied {
 /// Copies the object that the pointer at a place leads to, with all below it, into a block from the
 /// word `next` on. The pointer to the copy stands just before the word `behind`.
 #[cycle(copy)]
-pub(crate) fn copy<S: ReaderSegments>(
+pub(crate) fn copy<S: ReaderSegments, T: BlockItem>(
     segments: &S,
     place: Place,
     level: u32,
     canonical: bool,
-    block: &mut [u8],
+    block: &mut [T],
     behind: usize,
     next: usize,
 ) -> Copied
     requires there { CanCopy (message_of (S.segments segments.now)) (place ∷ []) level canonical
-        next (length block.old / 8) }
+        next (length (T.as_words block.old)) }
     requires behind { behind ≤ next }
-    requires small { length block.old / 8 < 2 ^ 29 }
+    requires small { length (T.as_words block.old) < 2 ^ 29 }
     ensures copied { let m = message_of (S.segments segments.now) in
         (trees : Trees) (charge : ℕ) → At m (place ∷ []) trees charge →
         IsCopied (formed canonical trees) (next - behind) next
-        (words_of block.old) (words_of block.new) result }
-    ensures len { length block.new ≡ length block.old }
+        (T.as_words block.old) (T.as_words block.new) result }
+    ensures len { length (T.as_words block.new) ≡ length (T.as_words block.old) }
 {
     let Some(object) = object_there(segments, place, level) else {
         return Copied { pointer: 0, next };
@@ -64,31 +64,31 @@ pub(crate) fn copy<S: ReaderSegments>(
 /// begins at the word `next`, and puts the pointers to these copies into that. Answers the first
 /// free word.
 #[cycle(copy)]
-pub(crate) fn copy_pointers<S: ReaderSegments>(
+pub(crate) fn copy_pointers<S: ReaderSegments, T: BlockItem>(
     segments: &S,
     object: &Object<'_>,
     copied: Body,
     level: u32,
     canonical: bool,
-    block: &mut [u8],
+    block: &mut [T],
     next: usize,
 ) -> usize
     requires there { CanCopy (message_of (S.segments segments.now))
         (kept_in object.now.start object.now.body (row_size copied).pointers)
-        level canonical (next + words_in copied) (length block.old / 8) }
+        level canonical (next + words_in copied) (length (T.as_words block.old)) }
     requires narrower { IsNarrower object.now.body copied }
     requires room { object.now.start.word + room_of object.now.body
         ≤ length object.now.segment.now / 8 }
     requires elements { words_in object.now.body ≤ room_of object.now.body }
-    requires small { length block.old / 8 < 2 ^ 29 }
+    requires small { length (T.as_words block.old) < 2 ^ 29 }
     ensures words { let m = message_of (S.segments segments.now) in (trees : Trees) (charge : ℕ) →
         At m (kept_in object.now.start object.now.body (row_size copied).pointers) trees charge →
-        words_of block.new ≡ fill (slots_of next copied) (next + words_in copied)
-        (formed canonical trees) (words_of block.old) }
+        T.as_words block.new ≡ fill (slots_of next copied) (next + words_in copied)
+        (formed canonical trees) (T.as_words block.old) }
     ensures next { let m = message_of (S.segments segments.now) in (trees : Trees) (charge : ℕ) →
         At m (kept_in object.now.start object.now.body (row_size copied).pointers) trees charge →
         result ≡ next + words_in copied + total_words (formed canonical trees) }
-    ensures len { length block.new ≡ length block.old }
+    ensures len { length (T.as_words block.new) ≡ length (T.as_words block.old) }
 {
     let kept = copied.row_size().pointers;
     let mut from = PointerRows::of(object.start, object.body, kept);
@@ -126,17 +126,23 @@ fn object_there<S: ReaderSegments>(segments: &S, place: Place, level: u32) -> Op
 
 /// Puts the words of a copy into a block, but for its pointers.
 #[inline(always)]
-pub(crate) fn put_own_words(object: &Object<'_>, copied: Body, block: &mut [u8], next: usize)
+pub(crate) fn put_own_words<T: BlockItem>(
+    object: &Object<'_>,
+    copied: Body,
+    block: &mut [T],
+    next: usize,
+)
     requires room { object.now.start.word + room_of object.now.body
         ≤ length object.now.segment.now / 8 }
     requires elements { words_in object.now.body ≤ room_of object.now.body }
     requires narrower { IsNarrower object.now.body copied }
     requires many { element_count copied < 2 ^ 30 }
-    requires fits { next + words_in copied ≤ length block.old / 8 }
-    ensures words { words_of block.new
+    requires fits { next + words_in copied ≤ length (T.as_words block.old) }
+    requires bound { length (T.as_words block.old) < 2 ^ 29 }
+    ensures words { T.as_words block.new
         ≡ put_own (words_of object.now.segment.now) object.now.start.word object.now.body copied
-        next (words_of block.old) }
-    ensures len { length block.new ≡ length block.old }
+        next (T.as_words block.old) }
+    ensures len { length (T.as_words block.new) ≡ length (T.as_words block.old) }
 {
     let start = object.start.word;
     match copied {
@@ -170,8 +176,8 @@ pub(crate) fn put_own_words(object: &Object<'_>, copied: Body, block: &mut [u8],
 }
 
 // Puts the data of structs into a block, each before the room for its pointers.
-fn put_rows(
-    block: &mut [u8],
+fn put_rows<T: BlockItem>(
+    block: &mut [T],
     next: usize,
     elements: Elements,
     segment: &[u8],
@@ -182,11 +188,12 @@ fn put_rows(
     requires small { step < 2 ^ 32 }
     requires there { start + elements.count * step ≤ length segment.now / 8 }
     requires room { next + elements.count * (elements.size.data_words + elements.size.pointers)
-        ≤ length block.old / 8 }
-    ensures words { words_of block.new ≡ put_rows next elements.size.pointers
+        ≤ length (T.as_words block.old) }
+    requires bound { length (T.as_words block.old) < 2 ^ 29 }
+    ensures words { T.as_words block.new ≡ put_rows next elements.size.pointers
         (rows_from (words_of segment.now) start elements.size.data_words
-        (step - elements.size.data_words) elements.count) (words_of block.old) }
-    ensures len { length block.new ≡ length block.old }
+        (step - elements.size.data_words) elements.count) (T.as_words block.old) }
+    ensures len { length (T.as_words block.new) ≡ length (T.as_words block.old) }
 {
     let data_words = elements.size.data_words as usize;
     if data_words == 0 {

@@ -10,6 +10,7 @@ ghost use Rattle.capnp_wire.specs.Charge.{Counts};
 ghost use Rattle.capnp_wire.specs.Layout.{layout, formed};
 ghost use Rattle.capnp_wire.specs.Values.{Measured, Unmeasured, CanWrite, too_large, ManyBytes, ManyWords, pointed};
 
+use crate::layout::block::BlockItem;
 use crate::layout::copy::copy;
 use crate::layout::place::Place;
 use crate::layout::pointer_word::list_word;
@@ -57,19 +58,19 @@ pub(crate) fn fitting(words: Option<u64>, canonical: bool) -> Result<u32>
 
 /// Writes the body of the tree at a place into a block of just its words, and answers the pointer
 /// to it for a block that follows this pointer at once.
-pub(crate) fn write<S: ReaderSegments>(
+pub(crate) fn write<S: ReaderSegments, T: BlockItem>(
     segments: &S,
     place: Place,
     level: u32,
     canonical: bool,
-    block: &mut [u8],
+    block: &mut [T],
 ) -> u64
     requires { CanWrite (message_of (S.segments segments.now)) place level canonical
-        (length block.old) }
+        (length (T.as_words block.old)) }
     ensures written { (trees : Trees) (charge : ℕ) →
         At (message_of (S.segments segments.now)) (place ∷ []) trees charge →
-        result ∷ words_of block.new ≡ layout (formed canonical trees) }
-    ensures len { length block.new ≡ length block.old }
+        result ∷ T.as_words block.new ≡ layout (formed canonical trees) }
+    ensures len { length (T.as_words block.new) ≡ length (T.as_words block.old) }
 {
     copy(segments, place, level, canonical, block, 0, 0).pointer
 }

@@ -1,8 +1,6 @@
 -- An object is copied, and then what its pointers lead to, one after the other.
-use Rattle.std.proofs.Common.{◌≡◌, ◌∙◌, ◌/◌, ap, sym, refl, arith, length}
-use Rattle.capnp_wire.specs.Pointer.{words_of}
+use Rattle.std.proofs.Common.{◌≡◌, ◌∙◌, ap, sym, refl, arith, length}
 use Rattle.capnp_wire.specs.declared.layout.rows.RowSize.{RowSize}
-use Rattle.capnp_wire.proofs.WordLemmas.{length-words_of}
 use Rattle.capnp_wire.proofs.CopyLemmas.{copying_begins, copying_first, copying_next, copying_ends}
 use Rattle.capnp_wire.proofs.CopiedLemmas.{opened_here, fewer_pointers, as_many, null_is_copied, object_is_copied}
 use Rattle.capnp_wire.proofs.layout.copy.+copy.Goals as goal
@@ -22,7 +20,7 @@ copy-copy_pointers-free-requires g t c κs within =
     let object = c.in-Some.ensures.0 in
     let o = opened_here c.requires.there object c.formed_as-copied.ensures.body in (
       omega (arith, c.in-Some.ensures.1),
-      (within, (rw c.put_own_words.ensures.len o.kept, (c.formed_as-copied.ensures.narrower, (object.room, (object.elements, omega (arith, c.put_own_words.ensures.len, c.requires.small)))))),
+      (within.0, (within.1, (rw c.put_own_words.ensures.len o.kept, (c.formed_as-copied.ensures.narrower, (object.room, (object.elements, omega (arith, c.put_own_words.ensures.len, c.requires.small))))))),
     )
 
 pub copy-pointer_word-requires-clause-length : goal.copy-pointer_word-requires-clause-length
@@ -30,7 +28,7 @@ copy-pointer_word-requires-clause-length g t c = (opened_here c.requires.there c
 
 pub copy-returns-clause-copied : goal.copy-returns-clause-copied
 copy-returns-clause-copied g t c =
-    object_is_copied c.requires.there (opened_here c.requires.there c.in-Some.ensures.0 c.formed_as-copied.ensures.body) (length-words_of c.args.block.now)
+    object_is_copied c.requires.there (opened_here c.requires.there c.in-Some.ensures.0 c.formed_as-copied.ensures.body) refl
     c.put_own_words.ensures.words c.copy_pointers-free.ensures.words c.copy_pointers-free.ensures.next c.pointer_word.ensures
 
 pub copy_pointers-of-from-requires-clause-kept : goal.copy_pointers-of-from-requires-clause-kept
@@ -57,8 +55,8 @@ pub copy_pointers-copy-inner-requires : goal.copy_pointers-copy-inner-requires
 copy_pointers-copy-inner-requires g t c κs within =
     let so_far = c.pointers.invariant in
     let can = copying_first c.take-source.ensures.taken.places_are so_far.0 in
-    let room : length c.args.block.now / 8 ≡ length c.pointers.block / 8 = omega (arith, so_far.1) in
-    (omega arith, (within, (rw (← room) can, (omega (arith, so_far.2, c.take-slot.ensures.within), omega (arith, so_far.1, c.requires.small)))))
+    let room : length (g.T.BlockItem.as_words c.args.block.now) ≡ length (g.T.BlockItem.as_words c.pointers.block) = omega (arith, so_far.1) in
+    (omega arith, (within.0, (within.1, (rw (← room) can, (omega (arith, so_far.2, c.take-slot.ensures.within), omega (arith, so_far.1, c.requires.small))))))
 
 pub copy_pointers-put_word-requires : goal.copy_pointers-put_word-requires
 copy_pointers-put_word-requires g t c =

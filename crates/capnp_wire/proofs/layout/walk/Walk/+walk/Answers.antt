@@ -1,5 +1,4 @@
 -- A walk meets an object, and then goes over its pointers.
-use Rattle.std.proofs.Common.{ap, arith, length}
 use Rattle.capnp_wire.specs.Object.{message_of, is_null as null_there}
 use Rattle.capnp_wire.specs.Rows.{places_in}
 use Rattle.capnp_wire.specs.Faults.{at_pointer}
