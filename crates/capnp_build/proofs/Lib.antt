@@ -1,3 +1,4 @@
+mod AcceptLemmas
 -- The lemmas, by subject.
 pub mod UsedLemmas
 pub mod WordLemmas
@@ -6,6 +7,7 @@ pub mod HeldLemmas
 pub mod SpaceLemmas
 pub mod NullLemmas
 pub mod LaidLemmas
+pub mod PointLemmas
 pub mod ReadyLemmas
 pub mod FieldLemmas
 pub mod RewriteLemmas
@@ -13,3 +15,4 @@ pub mod ReadLemmas
 pub mod PlaceLemmas
 pub mod WriteLemmas
 pub mod FreshLemmas
+pub mod OutputLemmas

@@ -1,11 +1,12 @@
 -- Where a block is placed.
-use Rattle.std.proofs.Common.{◌≡◌, inl, inr, ℕ, ◌+◌, ◌*◌, ◌<◌, ◌≤◌, List, [], ◌∷◌, length, max, None, MatchOption, Result, Ok, Err, OnOk, OnErr, ap, sym, subst, ◌∙◌, arith, length-append}
+use Rattle.std.proofs.Common.{◌≡◌, ◌⊎◌, inl, inr, ℕ, ◌+◌, ◌*◌, ◌<◌, ◌≤◌, List, [], ◌∷◌, length, max, None, MatchOption, Result, Ok, Err, IfErr, OnOk, OnErr, ap, sym, subst, ◌∙◌, arith, length-append}
 use Rattle.std.specs.Prelude.{⊤}
 use Rattle.std.proofs.lemmas.Bool.{cases_lt}
 use Rattle.capnp_frame.specs.declared.error.Error.{Error}
+use Rattle.capnp_frame.specs.declared.error.ErrorKind.{ErrorKind}
 use Rattle.capnp_build.specs.Bytes.{Space}
 use Rattle.capnp_build.specs.Held.{space_at, room_of}
-use Rattle.capnp_build.specs.Built.{Built, size_in_words, HasNullRoot, IsAdded, IsAtEnd, IsPlaced, IsZeroAt, IsCleared, KeepsRooms}
+use Rattle.capnp_build.specs.Built.{Built, size_in_words, HasNullRoot, IsAdded, IsAtEnd, IsPlaced, IsZeroAt, IsCleared, IsCrowded, WasCrowded, KeepsRooms}
 use Rattle.capnp_build.specs.Out.{IsPreorder}
 use Rattle.capnp_build.proofs.SpaceLemmas.{size_added, past_all, added_there}
 
@@ -73,3 +74,15 @@ still_cleared same old cleared last (Err error) keeps c null kept alike = record
 pub placed_near : {A : Type 0} (old : List Space) (new : Built A) (words : ℕ) → words ≤ room_of (space_at old 0) → IsAtEnd old new.spot 0 0 words → length new.spaces ≡ length old
     → size_in_words new.spaces ≡ size_in_words old + words → IsPlaced old new words
 placed_near old new words room at_end count size = record { near = λ _. (at_end, count, size); far = λ full. absurd (omega (arith, room, full)) }
+
+-- what finds no room found none once the root was cleared
+pub was_crowded : {A : Type 0} (same : A → A → Type 0) (measured : ℕ → Type 0) (R E : ErrorKind → Type 0) (old new : Built A) (r : Result (Unit {0}) Error) → OnErr r (IsCleared same old new)
+    → IfErr r (λ error. R error.kind ⊎ E error.kind ⊎ IsCrowded measured new.spaces error.kind) → IfErr r (λ error. R error.kind ⊎ E error.kind ⊎ WasCrowded same measured old error.kind)
+was_crowded same measured R E old new (Ok done) nulled kind = tt
+was_crowded same measured R E old new (Err error) nulled kind = elim kind [
+  | inl refuses ↦ inl refuses
+  | inr rest ↦ elim rest [
+    | inl first ↦ inr (inl first)
+    | inr crowded ↦ inr (inr (record { cleared = new; is_cleared = nulled; crowded = crowded }))
+  ]
+]

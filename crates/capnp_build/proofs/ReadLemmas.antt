@@ -153,4 +153,4 @@ shown_there spaces spot (Words n) form held r shows =
     let t = laid_root spaces spot (numbers 5 shows.0) none laid in (shows.0, t.0, t.1, shows.2)
 shown_there spaces spot (Struct n) form held r shows =
     let t = laid_root spaces spot (struct shows.0) held (subst (λ (f : Form). IsLaid spaces spot f held) shows.1 r) in (shows.0, held, t.0, t.1, shows.2)
-shown_there spaces spot Other form held r shows = tt
+shown_there spaces spot Other form held r shows = let t = laid_root spaces spot form held r in (form, held, t.0, t.1)

@@ -1,25 +1,24 @@
 -- Values that are written behind a pointer.
-use Rattle.std.proofs.Common.{◌≡◌, ℕ, ◌+◌, ◌-◌, ◌*◌, ◌^◌, ◌<◌, Bool, true, false, List, [], ◌∷◌, ◌++◌, length, drop, w64, refl, ap, sym, subst, ◌∙◌, arith}
-use Rattle.std.specs.Int.{to_le_bytes}
+use Rattle.std.proofs.Common.{◌≡◌, ℕ, ◌+◌, ◌*◌, ◌^◌, ◌<◌, Bool, true, false, List, [], ◌∷◌, length, take, Some, slice_get, refl, ap, sym, subst, ◌∙◌, arith}
+use Rattle.std.proofs.lemmas.List.{take_all}
 use Rattle.capnp_frame.specs.Words.{bytes_of}
 use Rattle.capnp_frame.specs.declared.words.Word.{Word}
-use Rattle.capnp_wire.proofs.PutLemmas.{words_split}
-use Rattle.capnp_wire.proofs.SetterLemmas.{one_word}
-use Rattle.capnp_wire.specs.Pointer.{number_of, words_of}
+use Rattle.capnp_wire.specs.Pointer.{number_of, words_of, words_from}
+use Rattle.capnp_wire.specs.Object.{word_at}
 use Rattle.capnp_wire.specs.Tree.{Form, Trees, none, tree, count, total_words}
 use Rattle.capnp_wire.specs.Reached.{At, root}
 use Rattle.capnp_wire.specs.Layout.{pointer, body, layout, formed, AllHaveRoom}
 use Rattle.capnp_wire.specs.Values.{HasWords, pointed}
 use Rattle.capnp_wire.proofs.TrimLemmas.{count-trim}
 use Rattle.capnp_wire.proofs.OpenLemmas.{room_formed}
-use Rattle.capnp_build.specs.Bytes.{Space, written}
+use Rattle.capnp_wire.proofs.WordLemmas.{length-words_of}
+use Rattle.capnp_build.specs.Bytes.{Space}
 use Rattle.capnp_build.specs.Filled.{IsBlockOf}
 use Rattle.capnp_build.specs.Held.{space_at}
-use Rattle.capnp_build.specs.Built.{message, IsLaid, IsSet, IsWhole}
+use Rattle.capnp_build.specs.Built.{message, root_word, HasValue, IsLaid, IsSet, IsWhole}
 use Rattle.capnp_build.specs.declared.arena.spot.Spot.{Spot}
-use Rattle.capnp_build.proofs.SpaceLemmas.{drop_all, one_space}
-use Rattle.capnp_build.proofs.ByteLemmas.{word_back}
-use Rattle.capnp_build.proofs.LaidLemmas.{pointer_small, laid_root}
+use Rattle.capnp_build.proofs.SpaceLemmas.{one_space}
+use Rattle.capnp_build.proofs.LaidLemmas.{laid_root}
 
 -- a value that is written
 pub record Ready (has_tree : Trees → Type 0) (c : Bool) (word : Word) (n : ℕ) (block : List ℕ) : Type 0 where
@@ -68,26 +67,36 @@ ready has_tree c word n block one w holds =
       body_is = tails _ _ _ _ whole;
     }
 
-pub set_is : (has_tree : Trees → Type 0) (c : Bool) (word : Word) (n : ℕ) (block : List ℕ) (r : Ready has_tree c word n block) (spaces : List Space) (spot : Spot)
-    → IsLaid spaces spot r.form r.held → IsSet has_tree c spaces
-set_is has_tree c word n block r spaces spot laid =
-    let t = laid_root spaces spot r.form r.held laid in
-    record { trees = r.trees; tree_is = r.tree_is; charge = t.0; stands = subst (λ (x : Trees). At (message spaces) (root ∷ []) x t.0) (sym r.same) t.1 }
+-- the root is the value whose body it leads to
+pub value_set : (has_tree : Trees → Type 0) (c : Bool) (spaces last : List Space) (spot : Spot) (v : HasValue has_tree c spaces spot) → IsLaid last spot v.form v.held → IsSet has_tree c last
+value_set has_tree c spaces last spot v laid =
+    let t = laid_root last spot v.form v.held laid in
+    record { trees = v.trees; tree_is = v.tree_is; charge = t.0; stands = subst (λ (x : Trees). At (message last) (root ∷ []) x t.0) (sym v.same) t.1 }
 
-pub whole_is : (has_tree : Trees → Type 0) (c : Bool) (word : Word) (n : ℕ) (block : List ℕ) (r : Ready has_tree c word n block) (last : List Space) (u w : List ℕ) (start : ℕ) → length last ≡ 1
-    → (space_at last 0).used ≡ written (u ++ block) 0 w → length u ≡ 8 → 8 * start ≡ length u → w ≡ to_le_bytes w64 (pointer r.form (count r.held) (start - 1)) → length w ≡ 8 → IsWhole has_tree c last
-whole_is has_tree c word n block r last u w start one used_is long at is eight =
-    let near : start - 1 ≡ 0 = omega (arith, at, long) in
-    let rest : drop (0 + length w) (u ++ block) ≡ block = drop_all u block (0 + length w) (omega (arith, long, eight)) in
-    let bytes : (space_at last 0).used ≡ w ++ block = used_is ∙ ap (λ (l : List ℕ). w ++ l) rest in
-    let small : pointer r.form (count r.held) (start - 1) < 2 ^ 64 = pointer_small r.form (count r.held) (start - 1) r.rooms.0 (omega (arith, near)) in
-    let head : number_of 256 w ≡ pointer r.form (count r.held) 0 = word_back (pointer r.form (count r.held) (start - 1)) w small is eight ∙ ap (pointer r.form (count r.held)) near in
-    let words : words_of (w ++ block) ≡ layout (tree r.form r.held none) =
-    words_split 1 w block (omega (arith, eight)) ∙ ap (λ (l : List ℕ). l ++ words_of block) (one_word w eight) ∙ ap (λ (x : ℕ). x ∷ words_of block) head
-    ∙ ap (λ (l : List ℕ). pointer r.form (count r.held) 0 ∷ l) r.body_is in
+first_and_rest : (words b : List ℕ) (x n : ℕ) → slice_get words 0 ≡ Some x → length words ≡ 1 + n → words_from words 1 n ≡ b → words ≡ x ∷ b
+first_and_rest [] b x n there long rest = absurd (omega (arith, long))
+first_and_rest (y ∷ words) b x n there long rest =
+    let same : y ≡ x = cc in
+    let all : take n words ≡ words = take_all n words (omega (arith, long)) in
+    let tail : words ≡ b = sym all ∙ rest in
+    cc
+
+-- the one segment is the layout of the value whose body stands just after the root
+pub value_whole : (has_tree : Trees → Type 0) (c : Bool) (spaces last : List Space) (spot : Spot) (v : HasValue has_tree c spaces spot) → IsLaid last spot v.form v.held → length last ≡ 1
+    → spot.segment ≡ 0 → spot.start ≡ 1 → length (space_at last 0).used ≡ 8 * (1 + spot.words) → IsWhole has_tree c last
+value_whole has_tree c spaces last spot v laid one first start_is long =
+    let words : List ℕ = words_of (space_at last 0).used in
+    let message_is : message last ≡ words ∷ [] = one_space last one in
+    let head : slice_get words 0 ≡ Some (root_word spot.segment spot.start v.form v.held) = ap (λ (m : List (List ℕ)). word_at m root) (sym message_is) ∙ laid.root_is in
+    let near : root_word spot.segment spot.start v.form v.held ≡ pointer v.form (count v.held) 0 =
+    ap (λ (k : ℕ). root_word k spot.start v.form v.held) first ∙ ap (λ (n : ℕ). root_word 0 n v.form v.held) start_is in
+    let many : length words ≡ 1 + total_words (tree v.form v.held none) = omega (arith, long, laid.size, length-words_of (space_at last 0).used) in
+    let rest : words_from words 1 (total_words (tree v.form v.held none)) ≡ body (tree v.form v.held none) =
+    ap (λ (n : ℕ). words_from words n (total_words (tree v.form v.held none))) (sym start_is)
+    ∙ ap (λ (k : ℕ). words_from (words_of (space_at last k).used) spot.start (total_words (tree v.form v.held none))) (sym first) ∙ laid.laid.words_are in
     record {
-      trees = r.trees;
-      tree_is = r.tree_is;
-      words_are = one_space last one ∙ ap (λ (l : List ℕ). words_of l ∷ []) bytes ∙ ap (λ (l : List ℕ). l ∷ []) words
-          ∙ ap (λ (t : Trees). layout t ∷ []) (sym r.same);
+      trees = v.trees;
+      tree_is = v.tree_is;
+      words_are = message_is ∙ ap (λ (l : List ℕ). l ∷ []) (first_and_rest words (body (tree v.form v.held none)) (pointer v.form (count v.held) 0)
+          (total_words (tree v.form v.held none)) (head ∙ ap Some near) many rest) ∙ ap (λ (t : Trees). layout t ∷ []) (sym v.same);
     }

@@ -1,7 +1,7 @@
 -- Segments that are written, one of them changed.
 use Rattle.std.proofs.lemmas.List.{length-replicate}
 use Rattle.std.proofs.Common.{◌≡◌, ℕ, zero, suc, ◌+◌, ◌-◌, ◌*◌, ◌/◌, ◌^◌, ◌<◌, ◌≤◌, List, [], ◌∷◌, length, map, take, drop, Option, Some, None, slice_get, refl, sym, ap, ◌∙◌, arith, ◌++◌}
-use Rattle.std.proofs.Common.{replicate, slice_set, length-set, length-append, min}
+use Rattle.std.proofs.Common.{replicate, slice_index_or, slice_set, subst, length-set, length-append, min}
 use Rattle.capnp_wire.specs.Pointer.{words_of}
 use Rattle.capnp_wire.specs.Object.{word_at, pad}
 use Rattle.capnp_wire.specs.Reached.{root}
@@ -15,6 +15,11 @@ use Rattle.capnp_build.proofs.ByteLemmas.{used_at, set_here, part_here}
 -- what is got of a segment are its used bytes
 pub got_used : (spaces : List Space) (i : ℕ) (got : Option (List ℕ)) (bytes : List ℕ) → i < length spaces → got ≡ slice_get (map used_of spaces) i → got ≡ Some bytes → bytes ≡ (space_at spaces i).used
 got_used spaces i got bytes within e f = let u : slice_get (map used_of spaces) i ≡ Some (space_at spaces i).used = used_at spaces i within in cc
+
+-- bytes that are got are bytes
+pub got_low : (spaces : List Space) (i : ℕ) (got : Option (List ℕ)) (bytes : List ℕ) → i < length spaces → got ≡ slice_get (map used_of spaces) i → got ≡ Some bytes
+    → ((j : ℕ) → slice_index_or bytes j 0 < 256) → (j : ℕ) → slice_index_or (space_at spaces i).used j 0 < 256
+got_low spaces i got bytes within e f low = subst (λ (l : List ℕ). (j : ℕ) → slice_index_or l j 0 < 256) (got_used spaces i got bytes within e f) low
 
 pub got_none : (spaces : List Space) (i : ℕ) (got : Option (List ℕ)) → i < length spaces → got ≡ slice_get (map used_of spaces) i → got ≡ None → ⊥
 got_none spaces i got within e f = let u : slice_get (map used_of spaces) i ≡ Some (space_at spaces i).used = used_at spaces i within in cc
@@ -45,51 +50,12 @@ root_appended (x ∷ spaces) s there = refl
 pub set_used : (spaces last : List Space) (i : ℕ) (s : Space) → i < length spaces → last ≡ slice_set spaces i s → (length last ≡ length spaces) × (space_at last i ≡ s)
 set_used spaces last i s within e = (ap length e ∙ length-set spaces i s, ap (λ (l : List Space). space_at l i) e ∙ set_here spaces i s within)
 
-set_apart : (spaces : List Space) (i j : ℕ) (s : Space) → (i ≡ j → ⊥) → space_at (slice_set spaces i s) j ≡ space_at spaces j
+pub set_apart : (spaces : List Space) (i j : ℕ) (s : Space) → (i ≡ j → ⊥) → space_at (slice_set spaces i s) j ≡ space_at spaces j
 set_apart [] i j s other = refl
 set_apart (x ∷ spaces) zero zero s other = absurd (other refl)
 set_apart (x ∷ spaces) zero (suc j) s other = refl
 set_apart (x ∷ spaces) (suc i) zero s other = refl
 set_apart (x ∷ spaces) (suc i) (suc j) s other = set_apart spaces i j s (λ e. other (ap (λ (n : ℕ). suc n) e))
-
-pub near_used : (spaces more last : List Space) (block w : List ℕ) → 0 < length spaces → more ≡ slice_set spaces 0 (with_more (space_at spaces 0) block)
-    → last ≡ slice_set more 0 (with_bytes (space_at more 0) 0 w)
-    → (length last ≡ length spaces) × ((space_at last 0).used ≡ written ((space_at spaces 0).used ++ block) 0 w)
-near_used spaces more last block w there e f =
-    let a = set_used spaces more 0 (with_more (space_at spaces 0) block) there e in
-    let b = set_used more last 0 (with_bytes (space_at more 0) 0 w) (omega (arith, there, a.0)) f in
-    (b.0 ∙ a.0, ap (λ (s : Space). s.used) b.1 ∙ ap (λ (s : Space). written s.used 0 w) a.1)
-
--- the segments behind a body behind its pad
-pub record Padded (spaces last : List Space) (i pad : ℕ) (block w v : List ℕ) : Type 0 where
-  pub count : length last ≡ length spaces
-  pub used_is : (space_at last i).used ≡ written (((space_at spaces i).used ++ replicate (8 * 1) 0) ++ block) (8 * pad) w
-  pub first_is : (space_at last 0).used ≡ written (space_at spaces 0).used 0 v
-
-pub far_first : (spaces grown more padded : List Space) (i pad : ℕ) (block w : List ℕ) → 0 < i → grown ≡ slice_set spaces i (with_block (space_at spaces i) (8 * 1))
-    → more ≡ slice_set grown i (with_more (space_at grown i) block)
-    → padded ≡ slice_set more i (with_bytes (space_at more i) (8 * pad) w) → space_at padded 0 ≡ space_at spaces 0
-far_first spaces grown more padded i pad block w other d e f =
-    let apart : i ≡ 0 → ⊥ = λ z. absurd (omega (arith, z, other)) in
-    ap (λ (l : List Space). space_at l 0) f ∙ set_apart more i 0 (with_bytes (space_at more i) (8 * pad) w) apart
-    ∙ ap (λ (l : List Space). space_at l 0) e ∙ set_apart grown i 0 (with_more (space_at grown i) block) apart
-    ∙ ap (λ (l : List Space). space_at l 0) d ∙ set_apart spaces i 0 (with_block (space_at spaces i) (8 * 1)) apart
-
-pub far_used : (spaces grown more padded last : List Space) (i pad : ℕ) (block w v : List ℕ) → 0 < i → i < length spaces
-    → grown ≡ slice_set spaces i (with_block (space_at spaces i) (8 * 1)) → more ≡ slice_set grown i (with_more (space_at grown i) block)
-    → padded ≡ slice_set more i (with_bytes (space_at more i) (8 * pad) w) → last ≡ slice_set padded 0 (with_bytes (space_at padded 0) 0 v) → Padded spaces last i pad block w v
-far_used spaces grown more padded last i pad block w v other within d e f h =
-    let a = set_used spaces grown i (with_block (space_at spaces i) (8 * 1)) within d in
-    let b = set_used grown more i (with_more (space_at grown i) block) (omega (arith, within, a.0)) e in
-    let c = set_used more padded i (with_bytes (space_at more i) (8 * pad) w) (omega (arith, within, a.0, b.0)) f in
-    let z = set_used padded last 0 (with_bytes (space_at padded 0) 0 v) (omega (arith, within, a.0, b.0, c.0)) h in
-    let apart : 0 ≡ i → ⊥ = λ q. absurd (omega (arith, q, other)) in
-    let kept : space_at last i ≡ space_at padded i = ap (λ (l : List Space). space_at l i) h ∙ set_apart padded 0 i (with_bytes (space_at padded 0) 0 v) apart in
-    record {
-      count = z.0 ∙ c.0 ∙ b.0 ∙ a.0;
-      used_is = ap (λ (s : Space). s.used) kept ∙ ap (λ (s : Space). s.used) c.1 ∙ ap (λ (s : Space). written s.used (8 * pad) w) b.1 ∙ ap (λ (s : Space). written (s.used ++ block) (8 * pad) w) a.1;
-      first_is = ap (λ (s : Space). s.used) z.1 ∙ ap (λ (s : Space). written s.used 0 v) (far_first spaces grown more padded i pad block w other d e f);
-    }
 
 -- the one segment is a value's layout
 pub one_space : (spaces : List Space) → length spaces ≡ 1 → message spaces ≡ words_of (space_at spaces 0).used ∷ []
@@ -149,37 +115,6 @@ past_all (x ∷ spaces) = past_all spaces
 pub added_there : (spaces : List Space) (s : Space) → space_at (spaces ++ s ∷ []) (length spaces) ≡ s
 added_there [] s = refl
 added_there (x ∷ spaces) s = added_there spaces s
-
--- the words after a block that is written near, and far
-pub near_size : (spaces more last : List Space) (block w : List ℕ) (n : ℕ) → 0 < length spaces → length block ≡ 8 * n → length w ≡ 8 → 8 ≤ length (space_at spaces 0).used
-    → more ≡ slice_set spaces 0 (with_more (space_at spaces 0) block) → last ≡ slice_set more 0 (with_bytes (space_at more 0) 0 w) → size_in_words last ≡ size_in_words spaces + n
-near_size spaces more last block w n there size eight room e f =
-    let a = set_used spaces more 0 (with_more (space_at spaces 0) block) there e in
-    let long : length (space_at more 0).used ≡ length (space_at spaces 0).used + 8 * n = ap (λ (s : Space). length s.used) a.1 ∙ omega (arith, length-append (space_at spaces 0).used block, size) in
-    ap size_in_words f ∙ size_set more 0 (with_bytes (space_at more 0) 0 w) (written_length 0 (space_at more 0).used w (omega (arith, long, room, eight)))
-    ∙ ap size_in_words e ∙ size_longer spaces 0 n (with_more (space_at spaces 0) block) there (omega (arith, length-append (space_at spaces 0).used block, size))
-
-pub far_size : (spaces grown more padded last : List Space) (i pad n : ℕ) (block w v : List ℕ) → 0 < i → i < length spaces → length block ≡ 8 * n → length w ≡ 8 → length v ≡ 8
-    → 8 * pad ≡ length (space_at spaces i).used → 8 ≤ length (space_at spaces 0).used
-    → grown ≡ slice_set spaces i (with_block (space_at spaces i) (8 * 1)) → more ≡ slice_set grown i (with_more (space_at grown i) block)
-    → padded ≡ slice_set more i (with_bytes (space_at more i) (8 * pad) w) → last ≡ slice_set padded 0 (with_bytes (space_at padded 0) 0 v)
-    → (length last ≡ length spaces) × (size_in_words last ≡ size_in_words spaces + n + 1)
-far_size spaces grown more padded last i pad n block w v other within size eight too at_end room d e f h =
-    let u = far_used spaces grown more padded last i pad block w v other within d e f h in
-    let a = set_used spaces grown i (with_block (space_at spaces i) (8 * 1)) within d in
-    let b = set_used grown more i (with_more (space_at grown i) block) (omega (arith, within, a.0)) e in
-    let first : space_at padded 0 ≡ space_at spaces 0 = far_first spaces grown more padded i pad block w other d e f in
-    let old : List ℕ = (space_at spaces i).used in
-    let wide : length (space_at grown i).used ≡ length old + 8 * 1 =
-    ap (λ (s : Space). length s.used) a.1 ∙ omega (arith, length-append old (replicate (8 * 1) 0), length-replicate {A = ℕ} (8 * 1) 0) in
-    let long : length (space_at more i).used ≡ length (space_at grown i).used + 8 * n =
-    ap (λ (s : Space). length s.used) b.1 ∙ omega (arith, length-append (space_at grown i).used block, size) in
-    let top : length (space_at padded 0).used ≡ length (space_at spaces 0).used = ap (λ (s : Space). length s.used) first in
-    let one = size_longer spaces i 1 (with_block (space_at spaces i) (8 * 1)) within (omega (arith, length-append old (replicate (8 * 1) 0), length-replicate {A = ℕ} (8 * 1) 0)) in
-    let two = size_longer grown i n (with_more (space_at grown i) block) (omega (arith, within, a.0)) (omega (arith, length-append (space_at grown i).used block, size)) in
-    let three = size_set more i (with_bytes (space_at more i) (8 * pad) w) (written_length (8 * pad) (space_at more i).used w (omega (arith, long, wide, at_end, eight))) in
-    let four = size_set padded 0 (with_bytes (space_at padded 0) 0 v) (written_length 0 (space_at padded 0).used v (omega (arith, top, room, too))) in
-    (u.count, ap size_in_words h ∙ four ∙ ap size_in_words f ∙ three ∙ ap size_in_words e ∙ two ∙ ap (λ (k : ℕ). k + n) (ap size_in_words d ∙ one) ∙ omega arith)
 
 past_root : (mid last : List Space) (i from n : ℕ) → 8 ≤ from → from + n ≤ length (space_at mid i).used → i < length mid → last ≡ slice_set mid 0 (with_bytes (space_at mid 0) 0 (replicate 8 0))
     → take n (drop from (space_at last i).used) ≡ take n (drop from (space_at mid i).used)

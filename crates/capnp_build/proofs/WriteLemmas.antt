@@ -8,12 +8,13 @@ use Rattle.capnp_build.proofs.LaidLemmas.{laid_as, laid_root}
 use Rattle.capnp_build.proofs.ReadLemmas.{number_laid, same_numbers}
 use Rattle.capnp_build.proofs.RewriteLemmas.{bytes_laid}
 use Rattle.capnp_build.proofs.SpaceLemmas.{size_set}
+use Rattle.capnp_build.proofs.UsedLemmas.{written_length}
 use Rattle.capnp_build.specs.Built.{Built, IsWritten, IsLaid, IsBuilt, HasField, IsFieldSet, HasNumber, IsNumberSet, HasBytes, IsBytesSet, size_in_words}
 use Rattle.capnp_build.specs.Bytes.{Space, written, with_bytes}
 use Rattle.capnp_build.specs.Held.{Held, space_at, with_space, pair, pairs}
 use Rattle.capnp_build.specs.declared.arena.spot.Spot.{Spot}
 
-pub written_by : {A : Type 0} (held last : Held A) (spot : Option Spot) (i : ℕ) (s : Space) → last ≡ with_space held i s → pair s ≡ pair (space_at held.spaces i)
+written_by : {A : Type 0} (held last : Held A) (spot : Option Spot) (i : ℕ) (s : Space) → last ≡ with_space held i s → pair s ≡ pair (space_at held.spaces i)
     → length s.used ≡ length (space_at held.spaces i).used
     → (let old : Built A = record { spaces = held.spaces; spot = spot; allocator = held.allocator } in let new : Built A = record {
       spaces = last.spaces;
@@ -27,6 +28,17 @@ written_by {A = A} held last spot i s e same long = record {
   allocator = ap (λ (h : Held A). h.allocator) e;
   pairs = λ others. ap (λ (h : Held A). pairs h.spaces others) e ∙ pairs_set held.spaces i s others same;
 }
+
+pub written_at : {A : Type 0} (held last : Held A) (spot : Option Spot) (i from : ℕ) (w : List ℕ) → last ≡ with_space held i (with_bytes (space_at held.spaces i) from w)
+    → from + length w ≤ length (space_at held.spaces i).used
+    → (let old : Built A = record { spaces = held.spaces; spot = spot; allocator = held.allocator } in let new : Built A = record {
+      spaces = last.spaces;
+      spot = spot;
+      allocator =
+          last.allocator;
+    } in IsWritten old new)
+written_at held last spot i from w e room =
+    written_by held last spot i (with_bytes (space_at held.spaces i) from w) e refl (written_length from (space_at held.spaces i).used w room)
 
 pub unwritten : {A : Type 0} (old : Built A) → IsWritten old old
 unwritten old = record { spot = refl; size = refl; allocator = refl; pairs = λ others. refl }
@@ -78,6 +90,12 @@ bytes_room spaces spot index n f p = let r = bytes_known spaces spot index n f p
 
 pub no_bytes : (values : List ℕ) → numbers 2 values ≡ null → ⊥
 no_bytes values e = cc
+
+pub bytes_rewritten : (spaces last : List Space) (spot : Spot) (index : ℕ) (w : List ℕ) (f : HasBytes spaces index (length w)) → IsBuilt spaces (Some spot)
+    → ((j : ℕ) → slice_index_or (space_at spaces spot.segment).used j 0 < 256) → ((j : ℕ) → slice_index_or w j 0 < 256)
+    → last ≡ slice_set spaces spot.segment (with_bytes (space_at spaces spot.segment) (8 * spot.start + index) w) → IsBuilt last (Some spot)
+bytes_rewritten spaces last spot index w f p low small e =
+    (numbers 2 (written f.values index w), none, bytes_laid spaces last spot f.values index w (bytes_known spaces spot index (length w) f p) low small f.within e)
 
 pub bytes_set : (spaces last : List Space) (spot : Spot) (index : ℕ) (w : List ℕ) (f : HasBytes spaces index (length w)) → IsBuilt spaces (Some spot)
     → ((j : ℕ) → slice_index_or (space_at spaces spot.segment).used j 0 < 256) → ((j : ℕ) → slice_index_or w j 0 < 256)

@@ -49,7 +49,7 @@ IsShown Null spaces = ⊤
 IsShown (Bytes n) spaces = (values : List ℕ) × (charge : ℕ) × Root (message spaces) (numbers 2 values) none charge × (length values ≡ n)
 IsShown (Words n) spaces = (values : List ℕ) × (charge : ℕ) × Root (message spaces) (numbers 5 values) none charge × (length values ≡ n)
 IsShown (Struct n) spaces = (words : List ℕ) × (held : Trees) × (charge : ℕ) × Root (message spaces) (struct words) held charge × (length words ≡ n)
-IsShown Other spaces = ⊤
+IsShown Other spaces = (form : Form) × (held : Trees) × (charge : ℕ) × Root (message spaces) form held charge
 
 -- the root's own word, to a body in the first segment, or behind its pad in another one
 abbrev pub root_word : ℕ → ℕ → Form → Trees → ℕ
@@ -58,6 +58,31 @@ root_word (suc k) start form held = far_pointer (suc k) (start - 1)
 
 abbrev pub pad_of : Spot → Place
 pad_of spot = record { segment = spot.segment; word = spot.start - 1 }
+
+-- a tree's body stands there
+pub record HasBody (spaces : List Space) (spot : Spot) (form : Form) (held : Trees) : Type 0 where
+  pub within : spot.segment < length spaces
+  pub room : 8 * (spot.start + spot.words) ≤ length (space_at spaces spot.segment).used
+  pub behind : 0 < spot.start
+  pub near : spot.start ≤ 2 ^ 29
+  pub rooms : AllHaveRoom (tree form held none)
+  pub size : spot.words ≡ total_words (tree form held none)
+  pub few : spot.words < 2 ^ 29
+  pub tag : spot.tag ≡ pointer form (count held) 0
+  pub laid : Laid (words_of (space_at spaces spot.segment).used) spot.start (tree form held none)
+
+-- some tree's body stands there
+abbrev pub HasSomeBody : List Space → Spot → Type 0
+HasSomeBody spaces spot = (form : Form) × (held : Trees) × HasBody spaces spot form held
+
+-- the body of a value's tree stands there
+pub record HasValue (has_tree : Trees → Type 0) (canonical : Bool) (spaces : List Space) (spot : Spot) : Type 0 where
+  pub trees : Trees
+  pub tree_is : has_tree trees
+  pub form : Form
+  pub held : Trees
+  pub same : formed canonical trees ≡ tree form held none
+  pub body_is : HasBody spaces spot form held
 
 -- a tree's body stands there, and the root leads to it
 pub record IsLaid (spaces : List Space) (spot : Spot) (form : Form) (held : Trees) : Type 0 where
@@ -72,6 +97,23 @@ pub record IsLaid (spaces : List Space) (spot : Spot) (form : Form) (held : Tree
   pub laid : Laid (words_of (space_at spaces spot.segment).used) spot.start (tree form held none)
   pub root_is : word_at (message spaces) root ≡ Some (root_word spot.segment spot.start form held)
   pub pad_is : 0 < spot.segment → (0 < spot.words) × (word_at (message spaces) (pad_of spot) ≡ Some spot.tag)
+
+-- the same segments, of which some used bytes may be others
+pub record IsRewritten {A : Type 0} (old new : Held A) : Type 0 where
+  pub count : length new.spaces ≡ length old.spaces
+  pub size : size_in_words new.spaces ≡ size_in_words old.spaces
+  pub used : (i : ℕ) → length (space_at new.spaces i).used ≡ length (space_at old.spaces i).used
+  pub allocator : new.allocator ≡ old.allocator
+  pub pairs : (others : List Out) → pairs_of new.spaces others ≡ pairs_of old.spaces others
+
+-- the same segments, of which one has so many used words more
+pub record IsLonger {A : Type 0} (old new : Held A) (segment words : ℕ) : Type 0 where
+  pub count : length new.spaces ≡ length old.spaces
+  pub size : size_in_words new.spaces ≡ size_in_words old.spaces + words
+  pub used : length (space_at new.spaces segment).used ≡ length (space_at old.spaces segment).used + 8 * words
+  pub first : 0 < segment → space_at new.spaces 0 ≡ space_at old.spaces 0
+  pub allocator : new.allocator ≡ old.allocator
+  pub pairs : (others : List Out) → pairs_of new.spaces others ≡ pairs_of old.spaces others
 
 -- the root is null, also where there is no segment yet, or a tree stands there
 abbrev pub IsBuilt : List Space → Option Spot → Type 0
@@ -195,6 +237,26 @@ pub record IsCleared {A : Type 0} (same : A → A → Type 0) (old last : Built 
   pub size : size_in_words last.spaces ≤ max 1 (size_in_words old.spaces)
   pub rooms : KeepsRooms old.spaces last.spaces
   pub same_allocator : same old.allocator last.allocator
+
+-- a block of such words is placed once the old root is cleared
+pub record IsPut {A : Type 0} (same : A → A → Type 0) (measured : ℕ → Type 0) (old new : Built A) : Type 0 where
+  pub cleared : Built A
+  pub words : ℕ
+  pub is_cleared : IsCleared same old cleared
+  pub words_are : measured words
+  pub placed : IsPlaced cleared.spaces new words
+
+-- a new object of such words is placed once the old root is cleared, or the root is the null that this leaves
+pub record IsInit {A : Type 0} (same : A → A → Type 0) (measured : ℕ → Type 0) (old new : Built A) : Type 0 where
+  pub cleared : Built A
+  pub is_cleared : IsCleared same old cleared
+  pub block : (new ≡ cleared) ⊎ ((words : ℕ) × measured words × IsPlaced cleared.spaces new words)
+
+-- want of room: once the old root is cleared, no segment has room for a block of such words
+pub record WasCrowded {A : Type 0} (same : A → A → Type 0) (measured : ℕ → Type 0) (old : Built A) (kind : ErrorKind) : Type 0 where
+  pub cleared : Built A
+  pub is_cleared : IsCleared same old cleared
+  pub crowded : IsCrowded measured cleared.spaces kind
 
 -- after a look at the root: all is as it was, but that there is a null root where there was no segment
 pub record IsLookedAt {A : Type 0} (same : A → A → Type 0) (old last : Built A) : Type 0 where

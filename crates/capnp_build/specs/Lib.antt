@@ -5,3 +5,4 @@ pub mod Held
 pub mod Body
 pub mod Shown
 pub mod Built
+pub mod Output

@@ -1,14 +1,25 @@
 //! The root of a message that is built.
-ghost use Rattle.std.specs.Prelude.{◌≡◌, ◌↔◌, ℕ, ⊤, List, IsTrue};
-ghost use Rattle.capnp_wire.specs.Tree.{null};
-ghost use Rattle.capnp_build.specs.Built.{ForRoot};
+ghost use Rattle.std.specs.Prelude.{◌≡◌, ◌↔◌, ◌⊎◌, ℕ, ⊤, ◌^◌, ◌<◌, false, length, map, IsOk, IsTrue, IfOk, IfErr, OnOk, OnErr, MatchResult};
+ghost use Rattle.std.specs.Result.{IsErrAnd};
+ghost use Rattle.capnp_frame.specs.declared.error.ErrorKind.{ErrorKind};
+ghost use Rattle.capnp_wire.specs.Tree.{Form, null, none};
+ghost use Rattle.capnp_wire.specs.Reached.{Root};
+ghost use Rattle.capnp_wire.specs.Readers.{unlimited_root};
+ghost use Rattle.capnp_wire.specs.Views.{Measures, Unmeasured};
+ghost use Rattle.capnp_wire.specs.Values.{HasWords, LacksWords};
+ghost use Rattle.capnp_build.specs.Out.{MayRefuse};
+ghost use Rattle.capnp_build.specs.Held.{used_of, KeepsOthers};
+ghost use Rattle.capnp_build.specs.Built.{held_of, message, ForRoot, DeclinesRoot};
+ghost use Rattle.capnp_build.specs.Built.{InitWords, IsSet, IsPut, IsInit, IsCleared, IsCrowded, WasCrowded};
 
 use crate::object::Body;
 use crate::owned_builder::OwnedBuilder;
 use crate::shown::Shown;
-use crate::view::{Building, View};
+use crate::view::{Building, View, accept, init};
 use capnp_frame::Result;
+use capnp_wire::MessageSize;
 pub use capnp_wire::any_pointer::Owned;
+use capnp_wire::traits::SetterInput;
 
 /// The root of a message that is built.
 pub type Builder<'a, M> = View<'a, M, Owned>;
@@ -40,5 +51,104 @@ impl<'a, M: Building> View<'a, M, Owned> {
             Shown::Null => true,
             _ => false,
         }
+    }
+
+    /// The size of the root's object with all below it, without pads. The walk has no traversal limit,
+    /// and is refused where a reading pointer to the root refuses it.
+    pub fn target_size(&self) -> Result<MessageSize>
+        ensures answer { let pointer = unlimited_root (map used_of (M.built self.now.message.now).spaces) in MatchResult result
+            (λ size. Measures pointer size.word_count × (size.cap_count ≡ 0))
+            (λ error. Unmeasured pointer error.kind) }
+        ensures measured { let pointer = unlimited_root (map used_of (M.built self.now.message.now).spaces) in
+            (words : ℕ) → Measures pointer words → words < 2 ^ 64 → IsOk result }
+        ensures exact { let pointer = unlimited_root (map used_of (M.built self.now.message.now).spaces) in
+            (kind : ErrorKind) → Unmeasured pointer kind → IsErrAnd result (λ error. error.kind ≡ kind) }
+    {
+        self.message.target_size()
+    }
+
+    /// The root's object as a type shows it, without a look at what it is.
+    pub fn into_view<K>(self) -> View<'a, M, K>
+        ensures same { result.message.ghost_name ≡ self.entry.message.ghost_name }
+        ensures value { result.message.now ≡ self.entry.message.now }
+    {
+        let View { message, kind: _ } = self;
+        View::new(message)
+    }
+
+    /// Makes the root a new object of some length, all zero. Where it is refused, the root is null.
+    pub fn set_new<K: OwnedBuilder>(&mut self, n: u32) -> Result<()>
+        ensures same { self.new.message.ghost_name ≡ self.old.message.ghost_name }
+        ensures inits { OnOk result ((form : Form) × (charge : ℕ) × K.inits n form × Root (message (M.built self.new.message.now).spaces) form none charge) }
+        ensures placed { OnOk result (IsInit M.Allocator.same (InitWords K.inits n) (M.built self.old.message.now) (M.built self.new.message.now)) }
+        ensures nulled { OnErr result (IsCleared M.Allocator.same (M.built self.old.message.now) (M.built self.new.message.now)) }
+        ensures kind { IfErr result (λ error. K.refuses n error.kind
+            ⊎ ((length (M.built self.old.message.now).spaces ≡ 0) × MayRefuse 1 error.kind)
+            ⊎ IsCrowded (InitWords K.inits n) (M.built self.new.message.now).spaces error.kind) }
+        ensures allocator { M.Allocator.same (M.built self.old.message.now).allocator (M.built self.new.message.now).allocator }
+        ensures others { KeepsOthers M.Allocator.out (held_of (M.built self.old.message.now)) (held_of (M.built self.new.message.now)) }
+    {
+        self.message.init_object::<K>(n)
+    }
+
+    /// The root as a view of a type, where it takes what stands there. Nothing changes, also where it is
+    /// refused.
+    pub fn get_as<K: OwnedBuilder>(self) -> Result<View<'a, M, K>>
+        ensures same { IfOk result (λ view. view.message.ghost_name ≡ self.entry.message.ghost_name) }
+        ensures looked { IfOk result (λ view. view.message.now ≡ self.entry.message.now) }
+        ensures taken { IfOk result (λ view. ForRoot (M.built view.message.now).spaces K.takes) }
+        ensures kind { IfErr result (λ error. DeclinesRoot K.declines (M.built self.entry.message.now).spaces error.kind) }
+    {
+        let View { message, kind: _ } = self;
+        accept::<M, K>(message)?;
+        Ok(View::new(message))
+    }
+
+    /// Makes the root a new object of some length, all zero, and answers a view that writes it. Where it
+    /// is refused, the root is null.
+    pub fn initn_as<K: OwnedBuilder>(self, n: u32) -> Result<View<'a, M, K>>
+        ensures same { IfOk result (λ view. view.message.ghost_name ≡ self.entry.message.ghost_name) }
+        ensures inits { IfOk result (λ view. (form : Form) × (charge : ℕ) × K.inits n form
+            × Root (message (M.built view.message.now).spaces) form none charge) }
+        ensures placed { IfOk result (λ view. IsInit M.Allocator.same (InitWords K.inits n) (M.built self.entry.message.now) (M.built view.message.now)) }
+        ensures kind { IfErr result (λ error. K.refuses n error.kind
+            ⊎ ((length (M.built self.entry.message.now).spaces ≡ 0) × MayRefuse 1 error.kind)
+            ⊎ WasCrowded M.Allocator.same (InitWords K.inits n) (M.built self.entry.message.now) error.kind) }
+        ensures allocator { IfOk result (λ view. M.Allocator.same (M.built self.entry.message.now).allocator (M.built view.message.now).allocator) }
+        ensures others { IfOk result (λ view. KeepsOthers M.Allocator.out (held_of (M.built self.entry.message.now)) (held_of (M.built view.message.now))) }
+    {
+        let View { message, kind: _ } = self;
+        init::<M, K>(message, n)?;
+        Ok(View::new(message))
+    }
+
+    /// The same, of length 0.
+    pub fn init_as<K: OwnedBuilder>(self) -> Result<View<'a, M, K>>
+        ensures same { IfOk result (λ view. view.message.ghost_name ≡ self.entry.message.ghost_name) }
+        ensures inits { IfOk result (λ view. (form : Form) × (charge : ℕ) × K.inits 0 form
+            × Root (message (M.built view.message.now).spaces) form none charge) }
+        ensures placed { IfOk result (λ view. IsInit M.Allocator.same (InitWords K.inits 0) (M.built self.entry.message.now) (M.built view.message.now)) }
+        ensures kind { IfErr result (λ error. K.refuses 0 error.kind
+            ⊎ ((length (M.built self.entry.message.now).spaces ≡ 0) × MayRefuse 1 error.kind)
+            ⊎ WasCrowded M.Allocator.same (InitWords K.inits 0) (M.built self.entry.message.now) error.kind) }
+        ensures allocator { IfOk result (λ view. M.Allocator.same (M.built self.entry.message.now).allocator (M.built view.message.now).allocator) }
+        ensures others { IfOk result (λ view. KeepsOthers M.Allocator.out (held_of (M.built self.entry.message.now)) (held_of (M.built view.message.now))) }
+    {
+        self.initn_as::<K>(0)
+    }
+
+    /// Sets the root to a value. Where it is refused, the root is null.
+    pub fn set_as<T, V: SetterInput<T> + Drop>(&mut self, value: V) -> Result<()>
+        ensures same { self.new.message.ghost_name ≡ self.old.message.ghost_name }
+        ensures set { OnOk result (IsSet (V.has_tree value) false (M.built self.new.message.now).spaces) }
+        ensures placed { OnOk result (IsPut M.Allocator.same (HasWords (V.has_tree value) false) (M.built self.old.message.now) (M.built self.new.message.now)) }
+        ensures nulled { OnErr result (IsCleared M.Allocator.same (M.built self.old.message.now) (M.built self.new.message.now)) }
+        ensures kind { IfErr result (λ error. LacksWords (V.has_tree value) (V.refuses value) false error.kind
+            ⊎ ((length (M.built self.old.message.now).spaces ≡ 0) × MayRefuse 1 error.kind)
+            ⊎ IsCrowded (HasWords (V.has_tree value) false) (M.built self.new.message.now).spaces error.kind) }
+        ensures allocator { M.Allocator.same (M.built self.old.message.now).allocator (M.built self.new.message.now).allocator }
+        ensures others { KeepsOthers M.Allocator.out (held_of (M.built self.old.message.now)) (held_of (M.built self.new.message.now)) }
+    {
+        self.message.set_root::<T, V>(&value)
     }
 }

@@ -10,6 +10,7 @@ pub mod fresh;
 pub mod object;
 pub mod owned_builder;
 pub mod part;
+pub mod pointing;
 pub mod primitive_list;
 pub mod segment_space;
 pub mod segments;

@@ -6,6 +6,7 @@ ghost use Rattle.capnp_build.specs.Bytes.{Space, with_block, with_bytes};
 ghost use Rattle.capnp_build.specs.Out.{MayRefuse};
 ghost use Rattle.capnp_build.specs.Built.{size_in_words};
 ghost use Rattle.capnp_build.specs.Held.{IsAppendedAt, Held, spaces_of, used_of, space_at, room_of, with_space, KeepsOthers, BringsHome};
+ghost use Rattle.capnp_build.specs.Output.{CanBeWritten};
 ghost use Rattle.capnp_wire.specs.Values.{HasWords};
 
 use crate::allocator::Allocator;
@@ -24,13 +25,15 @@ pub struct Segments<A: Allocator> {
 
 impl<A: Allocator> Model for Segments<A> {
     ghost use Rattle.std.specs.Prelude.{◌≡◌, ℕ, ◌+◌, ◌<◌, ◌^◌, List, [], ⊤, MatchOption, length};
+    ghost use Rattle.std.specs.List.{AllByRecursion};
     ghost use Rattle.capnp_build.specs.Held.{Held, spaces_of, AreOut};
+    ghost use Rattle.capnp_build.specs.Output.{UsesWords};
 
     ghost Value = { Held A };
 
     ghost view = { λ s. record { spaces = spaces_of s.first s.others.items; allocator = s.allocator } };
 
-    ghost invariant = { λ s. (MatchOption s.first (s.others.items ≡ []) (λ _. ⊤)) × AreOut (A.out s.allocator) (spaces_of s.first s.others.items) × (length s.others.items + 1 < 2 ^ 32) };
+    ghost invariant = { λ s. (MatchOption s.first (s.others.items ≡ []) (λ _. ⊤)) × AreOut (A.out s.allocator) (spaces_of s.first s.others.items) × (length s.others.items + 1 < 2 ^ 32) × AllByRecursion UsesWords (spaces_of s.first s.others.items) };
 }
 
 impl<A: Allocator> Segments<A> {
@@ -105,6 +108,13 @@ impl<A: Allocator> Segments<A> {
                 self.others[index as usize - 1].words()
             }
         }
+    }
+
+    /// What is used can be written, once there is a segment.
+    pub fn are_writable(&self)
+        ensures { CanBeWritten self.now.spaces }
+    {
+        let first = &self.first;
     }
 
     /// The words that are used of all segments.

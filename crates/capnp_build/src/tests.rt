@@ -230,6 +230,41 @@ fn bytes_in_place(rt: HostRuntime) -> std::result::Result<(), Fail> {
     Ok(())
 }
 
+// The calls that stand for the root, one after the other.
+#[test]
+fn root_as_any_pointer(rt: HostRuntime) -> std::result::Result<(), Fail> {
+    let mut arena = arena_of(rt.alloc(), 1024);
+    let root = arena.init_root::<any_pointer::Owned>()?;
+    assert_eq!(rt; root.target_size()?.word_count, 0);
+    let mut list = root.initn_as::<primitive_list::Owned<u64>>(5)?;
+    list.set(4, 9);
+    assert_eq!(rt; arena.size_in_words(), 6);
+    let segment = arena.get_segment(0).ok_or("no segment")?;
+    assert!(rt; segment.starts_with(b"\x01\0\0\0\x2d\0\0\0"));
+    let root = arena.get_root::<any_pointer::Owned>()?;
+    assert_eq!(rt; root.is_null(), false);
+    assert_eq!(rt; root.target_size()?.word_count, 5);
+    let list = root.get_as::<primitive_list::Owned<u64>>()?;
+    assert_eq!(rt; list.get(4), 9);
+    let root = arena.get_root::<any_pointer::Owned>()?;
+    assert_eq!(rt; refusal(root.get_as::<text::Owned>()), (22, 0));
+    let mut root = arena.get_root::<any_pointer::Owned>()?;
+    root.set_as::<text::Owned, &str>("hello")?;
+    assert_eq!(rt;
+        root.get_as::<text::Owned>()?.as_bytes(),
+        b"hello".as_slice()
+    );
+    let root = arena.get_root::<any_pointer::Owned>()?;
+    assert_eq!(rt; root.init_as::<any_struct::Owned>()?.data_words(), 0);
+    let root = arena.get_root::<any_pointer::Owned>()?;
+    assert_eq!(rt;
+        refusal(root.initn_as::<any_struct::Owned>(65536)),
+        (15, 65536)
+    );
+    assert_eq!(rt; arena.get_root::<any_pointer::Owned>()?.is_null(), true);
+    Ok(())
+}
+
 // A struct of two data words, of which the last is zero, and a text, behind a far pointer.
 const SOURCE: &[&[u8]] = &[
     b"\x02\0\0\0\x01\0\0\0",

@@ -1,13 +1,25 @@
 //! Views of the object at the root of a message that is built.
-ghost use Rattle.std.specs.Prelude.{◌≡◌, ℕ, ◌^◌, ◌<◌, List, length};
+ghost use Rattle.std.specs.Prelude.{◌≡◌, ◌⊎◌, ℕ, ◌^◌, ◌<◌, List, false, length, map, IsOk, IfErr, OnOk, OnErr, MatchResult};
+ghost use Rattle.std.specs.Result.{IsErrAnd};
+ghost use Rattle.capnp_frame.specs.declared.error.ErrorKind.{ErrorKind};
 ghost use Rattle.capnp_wire.specs.Tree.{Form, Trees, none};
 ghost use Rattle.capnp_wire.specs.Reached.{Root};
-ghost use Rattle.capnp_build.specs.Built.{Built, ForRoot, IsShown, IsWritten, HasField, IsFieldSet, HasBytes, IsBytesSet, HasNumber, IsNumberSet};
+ghost use Rattle.capnp_wire.specs.Readers.{unlimited_root};
+ghost use Rattle.capnp_wire.specs.Views.{Measures, Unmeasured};
+ghost use Rattle.capnp_wire.specs.Values.{HasWords, LacksWords};
+ghost use Rattle.capnp_build.specs.Out.{MayRefuse};
+ghost use Rattle.capnp_build.specs.Held.{used_of, KeepsOthers};
+ghost use Rattle.capnp_build.specs.Built.{Built, held_of, message as words_of_message, ForRoot, IsShown, IsWritten, HasField, IsFieldSet, HasBytes, IsBytesSet, HasNumber, IsNumberSet};
+ghost use Rattle.capnp_build.specs.Built.{DeclinesRoot, InitWords, IsSet, IsPut, IsInit, IsCleared, IsCrowded, WasCrowded};
 ghost use Rattle.capnp_build.specs.Shown.{Shows, HoldsForm};
 
 use crate::allocator::Allocator;
 use crate::arena::builder_arena::BuilderArena;
+use crate::owned_builder::OwnedBuilder;
 use crate::shown::Shown;
+use capnp_frame::Result;
+use capnp_wire::MessageSize;
+use capnp_wire::traits::SetterInput;
 use std::marker::PhantomData;
 
 /// What holds a message that is built: an arena, or what has one inside.
@@ -43,6 +55,38 @@ pub trait Building: Drop {
         requires { HasBytes (built self.old).spaces index (length bytes.now) }
         ensures set { IsBytesSet (built self.old).spaces (built self.new).spaces index bytes.now }
         ensures written { IsWritten (built self.old) (built self.new) };
+
+    /// The size of the tree at the root, as a reading pointer to it answers.
+    fn target_size(&self) -> Result<MessageSize>
+        ensures answer { let pointer = unlimited_root (map used_of (built self.now).spaces) in MatchResult result
+            (λ size. Measures pointer size.word_count × (size.cap_count ≡ 0))
+            (λ error. Unmeasured pointer error.kind) }
+        ensures measured { let pointer = unlimited_root (map used_of (built self.now).spaces) in
+            (words : ℕ) → Measures pointer words → words < 2 ^ 64 → IsOk result }
+        ensures exact { let pointer = unlimited_root (map used_of (built self.now).spaces) in
+            (kind : ErrorKind) → Unmeasured pointer kind → IsErrAnd result (λ error. error.kind ≡ kind) };
+
+    /// A new object of some length at the root; null for none.
+    fn init_object<K: OwnedBuilder>(&mut self, n: u32) -> Result<()>
+        ensures inits { OnOk result ((form : Form) × (charge : ℕ) × K.inits n form × Root (words_of_message (built self.new).spaces) form none charge) }
+        ensures placed { OnOk result (IsInit Self.Allocator.same (InitWords K.inits n) (built self.old) (built self.new)) }
+        ensures nulled { OnErr result (IsCleared Self.Allocator.same (built self.old) (built self.new)) }
+        ensures kind { IfErr result (λ error. K.refuses n error.kind
+            ⊎ ((length (built self.old).spaces ≡ 0) × MayRefuse 1 error.kind)
+            ⊎ IsCrowded (InitWords K.inits n) (built self.new).spaces error.kind) }
+        ensures same { Self.Allocator.same (built self.old).allocator (built self.new).allocator }
+        ensures others { KeepsOthers Self.Allocator.out (held_of (built self.old)) (held_of (built self.new)) };
+
+    /// Sets the root to a value.
+    fn set_root<T, V: SetterInput<T>>(&mut self, value: &V) -> Result<()>
+        ensures set { OnOk result (IsSet (V.has_tree value.now) false (built self.new).spaces) }
+        ensures placed { OnOk result (IsPut Self.Allocator.same (HasWords (V.has_tree value.now) false) (built self.old) (built self.new)) }
+        ensures nulled { OnErr result (IsCleared Self.Allocator.same (built self.old) (built self.new)) }
+        ensures kind { IfErr result (λ error. LacksWords (V.has_tree value.now) (V.refuses value.now) false error.kind
+            ⊎ ((length (built self.old).spaces ≡ 0) × MayRefuse 1 error.kind)
+            ⊎ IsCrowded (HasWords (V.has_tree value.now) false) (built self.new).spaces error.kind) }
+        ensures same { Self.Allocator.same (built self.old).allocator (built self.new).allocator }
+        ensures others { KeepsOthers Self.Allocator.out (held_of (built self.old)) (held_of (built self.new)) };
 }
 
 impl<A: Allocator> Building for BuilderArena<A> {
@@ -69,13 +113,25 @@ impl<A: Allocator> Building for BuilderArena<A> {
     fn write_bytes(&mut self, index: u32, bytes: &[u8]) {
         BuilderArena::write_bytes(self, index, bytes);
     }
+
+    fn target_size(&self) -> Result<MessageSize> {
+        self.get_root_as_reader().target_size()
+    }
+
+    fn init_object<K: OwnedBuilder>(&mut self, n: u32) -> Result<()> {
+        BuilderArena::init_object::<K>(self, n)
+    }
+
+    fn set_root<T, V: SetterInput<T>>(&mut self, value: &V) -> Result<()> {
+        BuilderArena::set_root::<T, V>(self, value)
+    }
 }
 
 /// A view of the object at the root of a message that is built.
 #[derive(Drop)]
 pub struct View<'a, M: Building, K> {
     pub(crate) message: &'a mut M,
-    kind: PhantomData<K>,
+    pub(crate) kind: PhantomData<K>,
 }
 
 impl<'a, M: Building, K> View<'a, M, K> {
@@ -89,4 +145,26 @@ impl<'a, M: Building, K> View<'a, M, K> {
             kind: PhantomData,
         }
     }
+}
+
+/// A new object of some length at the root. Where it is refused, the root is null.
+pub fn init<M: Building, K: OwnedBuilder>(message: &mut M, n: u32) -> Result<()>
+    ensures inits { OnOk result ((form : Form) × (charge : ℕ) × K.inits n form × Root (words_of_message (M.built message.new).spaces) form none charge) }
+    ensures placed { OnOk result (IsInit M.Allocator.same (InitWords K.inits n) (M.built message.old) (M.built message.new)) }
+    ensures nulled { OnErr result (IsCleared M.Allocator.same (M.built message.old) (M.built message.new)) }
+    ensures kind { IfErr result (λ error. K.refuses n error.kind
+        ⊎ ((length (M.built message.old).spaces ≡ 0) × MayRefuse 1 error.kind)
+        ⊎ WasCrowded M.Allocator.same (InitWords K.inits n) (M.built message.old) error.kind) }
+    ensures same { M.Allocator.same (M.built message.old).allocator (M.built message.new).allocator }
+    ensures others { KeepsOthers M.Allocator.out (held_of (M.built message.old)) (held_of (M.built message.new)) }
+{
+    message.init_object::<K>(n)
+}
+
+// Whether there is a view of the object at the root.
+pub(crate) fn accept<M: Building, K: OwnedBuilder>(message: &M) -> Result<()>
+    ensures taken { OnOk result (ForRoot (M.built message.now).spaces K.takes) }
+    ensures kind { IfErr result (λ error. DeclinesRoot K.declines (M.built message.now).spaces error.kind) }
+{
+    K::accept(message.root_shown(), message.root_bytes())
 }

@@ -4,6 +4,7 @@ ghost use Rattle.capnp_build.specs.Out.{MayRefuse};
 ghost use Rattle.capnp_build.specs.Held.{used_of, space_at, KeepsOthers, BringsHome};
 ghost use Rattle.capnp_build.specs.Built.{held_of, ForRoot, IsShown, IsLookedAt, size_in_words, message, HasNullRoot, Built, IsZeroAt, KeepsRooms};
 ghost use Rattle.capnp_build.specs.Shown.{Shows, HoldsForm};
+ghost use Rattle.capnp_build.specs.Output.{CanBeWritten};
 ghost use Rattle.capnp_wire.specs.Tree.{Form, Trees, none, tree, count};
 ghost use Rattle.capnp_wire.specs.Reached.{At, root};
 ghost use Rattle.capnp_wire.specs.Layout.{pointer};
@@ -142,6 +143,13 @@ impl<A: Allocator> BuilderArena<A> {
         ensures { result ≡ size_in_words self.now.spaces }
     {
         self.segments.size_in_words()
+    }
+
+    /// What is used can be written, once there is a segment.
+    pub fn are_writable(&self)
+        ensures { CanBeWritten self.now.spaces }
+    {
+        self.segments.are_writable();
     }
 
     /// The tree at the root.

@@ -10,7 +10,6 @@ ghost use Rattle.capnp_wire.specs.Values.{HasWords};
 
 use crate::allocator::Allocator;
 use crate::arena::builder_arena::BuilderArena;
-use crate::arena::spot::{Spot, far, moved};
 use capnp_frame::Result;
 use capnp_wire::traits::SetterInput;
 
@@ -54,17 +53,9 @@ impl<A: Allocator> BuilderArena<A> {
         ensures same { self.new.allocator ≡ self.old.allocator }
         ensures others { KeepsOthers A.out (held_of self.old) (held_of self.new) }
     {
-        let start = self.segments.words(0);
-        let word = self.segments.append(0, canonical, value, words);
-        let tag = u64::from_le_bytes(word.bytes());
-        let pointer = moved(tag, start - 1);
-        self.segments.write_at(0, 0, &pointer.to_le_bytes());
-        self.spot = Some(Spot {
-            segment: 0,
-            start,
-            words,
-            tag,
-        });
+        let spot = self.segments.fill(0, canonical, value, words);
+        self.segments.point_near(spot);
+        self.spot = Some(spot);
     }
 
     pub(crate) fn put_far<T, V: SetterInput<T>>(
@@ -87,20 +78,10 @@ impl<A: Allocator> BuilderArena<A> {
         ensures same { self.new.allocator ≡ self.old.allocator }
         ensures others { KeepsOthers A.out (held_of self.old) (held_of self.new) }
     {
-        let pad = self.segments.words(segment);
         self.segments.grow(segment, 1);
-        let word = self.segments.append(segment, canonical, value, words);
-        let tag = u64::from_le_bytes(word.bytes());
-        self.segments
-            .write_at(segment, 8 * pad as usize, &tag.to_le_bytes());
-        let pointer = far(segment, pad);
-        self.segments.write_at(0, 0, &pointer.to_le_bytes());
-        self.spot = Some(Spot {
-            segment,
-            start: pad + 1,
-            words,
-            tag,
-        });
+        let spot = self.segments.fill(segment, canonical, value, words);
+        self.segments.point_far(spot);
+        self.spot = Some(spot);
     }
 
     // Places a value at the null root.

@@ -5,12 +5,12 @@ ghost use Rattle.capnp_wire.specs.Tree.{Form, none};
 ghost use Rattle.capnp_wire.specs.Reached.{Root};
 ghost use Rattle.capnp_build.specs.Out.{MayRefuse};
 ghost use Rattle.capnp_build.specs.Held.{KeepsOthers};
-ghost use Rattle.capnp_build.specs.Built.{held_of, message, ForRoot, DeclinesRoot, InitWords, IsCleared, IsLookedAt};
+ghost use Rattle.capnp_build.specs.Built.{held_of, message, ForRoot, DeclinesRoot, InitWords, IsInit, IsCleared, WasCrowded, IsLookedAt};
 
 use crate::allocator::Allocator;
 use crate::arena::builder_arena::BuilderArena;
 use crate::owned_builder::OwnedBuilder;
-use crate::view::View;
+use crate::view::{View, init};
 use capnp_frame::Result;
 
 impl<A: Allocator> BuilderArena<A> {
@@ -25,13 +25,14 @@ impl<A: Allocator> BuilderArena<A> {
             (λ last. IsCleared A.same self.old last)) }
         ensures same { IfOk result (λ view. view.message.ghost_name ≡ self.entry.ghost_name) }
         ensures inits { IfOk result (λ view. (form : Form) × (charge : ℕ) × K.inits n form × Root (message view.message.now.spaces) form none charge) }
+        ensures placed { IfOk result (λ view. IsInit A.same (InitWords K.inits n) self.old view.message.now) }
         ensures kind { IfErr result (λ error. K.refuses n error.kind
             ⊎ ((length self.old.spaces ≡ 0) × MayRefuse 1 error.kind)
-            ⊎ ((words : ℕ) × InitWords K.inits n words × MayRefuse (words + 1) error.kind)) }
+            ⊎ WasCrowded A.same (InitWords K.inits n) self.old error.kind) }
         ensures allocator { IfOk result (λ view. A.same self.old.allocator view.message.now.allocator) }
         ensures others { IfOk result (λ view. KeepsOthers A.out (held_of self.old) (held_of view.message.now)) }
     {
-        self.init_object::<K>(n)?;
+        init::<BuilderArena<A>, K>(self, n)?;
         Ok(View::new(self))
     }
 
@@ -41,6 +42,10 @@ impl<A: Allocator> BuilderArena<A> {
             (λ last. IsCleared A.same self.old last)) }
         ensures same { IfOk result (λ view. view.message.ghost_name ≡ self.entry.ghost_name) }
         ensures inits { IfOk result (λ view. (form : Form) × (charge : ℕ) × K.inits 0 form × Root (message view.message.now.spaces) form none charge) }
+        ensures placed { IfOk result (λ view. IsInit A.same (InitWords K.inits 0) self.old view.message.now) }
+        ensures kind { IfErr result (λ error. K.refuses 0 error.kind
+            ⊎ ((length self.old.spaces ≡ 0) × MayRefuse 1 error.kind)
+            ⊎ WasCrowded A.same (InitWords K.inits 0) self.old error.kind) }
         ensures allocator { IfOk result (λ view. A.same self.old.allocator view.message.now.allocator) }
         ensures others { IfOk result (λ view. KeepsOthers A.out (held_of self.old) (held_of view.message.now)) }
     {

@@ -2,7 +2,7 @@
 ghost use Rattle.std.specs.Prelude.{◌≡◌, ◌⊎◌, ℕ, ◌-◌, ◌/◌, ◌<◌, [], length, false, true, Some, None, IfErr, OnOk, OnErr};
 ghost use Rattle.capnp_build.specs.Out.{MayRefuse};
 ghost use Rattle.capnp_build.specs.Held.{KeepsOthers};
-ghost use Rattle.capnp_build.specs.Built.{held_of, message, Built, IsSet, IsWhole, NotInOne, IsCrowded, NewWords, InitWords, IsPlaced, IsCleared};
+ghost use Rattle.capnp_build.specs.Built.{held_of, message, Built, IsSet, IsWhole, NotInOne, IsCrowded, NewWords, InitWords, IsPlaced, IsPut, IsInit, IsCleared};
 ghost use Rattle.capnp_build.specs.Body.{Fits, zero_form};
 ghost use Rattle.capnp_wire.specs.Tree.{Form, none};
 ghost use Rattle.capnp_wire.specs.Reached.{root, Root};
@@ -20,8 +20,7 @@ impl<A: Allocator> BuilderArena<A> {
     /// Sets the root to a value.
     pub fn set_root<T, V: SetterInput<T>>(&mut self, value: &V) -> Result<()>
         ensures set { OnOk result (IsSet (V.has_tree value.now) false self.new.spaces) }
-        ensures placed { OnOk result ((cleared : Built A) × (words : ℕ) × IsCleared A.same self.old cleared × HasWords (V.has_tree value.now) false words
-            × IsPlaced cleared.spaces self.new words) }
+        ensures placed { OnOk result (IsPut A.same (HasWords (V.has_tree value.now) false) self.old self.new) }
         ensures nulled { OnErr result (IsCleared A.same self.old self.new) }
         ensures kind { IfErr result (λ error. LacksWords (V.has_tree value.now) (V.refuses value.now) false error.kind
             ⊎ ((length self.old.spaces ≡ 0) × MayRefuse 1 error.kind)
@@ -37,8 +36,7 @@ impl<A: Allocator> BuilderArena<A> {
     /// A new object of some length at the root; null for none.
     pub fn init_object<K: OwnedBuilder>(&mut self, n: u32) -> Result<()>
         ensures inits { OnOk result ((form : Form) × (charge : ℕ) × K.inits n form × Root (message self.new.spaces) form none charge) }
-        ensures placed { OnOk result ((cleared : Built A) × IsCleared A.same self.old cleared
-            × ((self.new ≡ cleared) ⊎ ((words : ℕ) × InitWords K.inits n words × IsPlaced cleared.spaces self.new words))) }
+        ensures placed { OnOk result (IsInit A.same (InitWords K.inits n) self.old self.new) }
         ensures nulled { OnErr result (IsCleared A.same self.old self.new) }
         ensures kind { IfErr result (λ error. K.refuses n error.kind
             ⊎ ((length self.old.spaces ≡ 0) × MayRefuse 1 error.kind)
@@ -74,8 +72,7 @@ impl<A: Allocator> BuilderArena<A> {
     /// Sets the root to a value in canonical form, in the first segment.
     pub fn set_root_canonical<T, V: SetterInput<T>>(&mut self, value: &V) -> Result<()>
         ensures set { OnOk result (IsSet (V.has_tree value.now) true self.new.spaces) }
-        ensures placed { OnOk result ((cleared : Built A) × (words : ℕ) × IsCleared A.same self.old cleared × HasWords (V.has_tree value.now) true words
-            × IsPlaced cleared.spaces self.new words) }
+        ensures placed { OnOk result (IsPut A.same (HasWords (V.has_tree value.now) true) self.old self.new) }
         ensures one { OnOk result (length self.new.spaces ≡ 1) }
         ensures whole { self.old.spaces ≡ [] → OnOk result (IsWhole (V.has_tree value.now) true self.new.spaces) }
         ensures nulled { OnErr result (IsCleared A.same self.old self.new) }

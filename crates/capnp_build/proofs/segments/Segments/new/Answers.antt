@@ -3,4 +3,4 @@ use Rattle.std.proofs.Common.{rules}
 use Rattle.capnp_build.proofs.segments.Segments.new.Goals as goal
 
 pub invariant_of-result : goal.invariant_of-result
-invariant_of-result g c = (search rules, g.met.A.Allocator.accounts c.args.allocator, search rules)
+invariant_of-result g c = (search rules, g.met.A.Allocator.accounts c.args.allocator, search rules, search rules)

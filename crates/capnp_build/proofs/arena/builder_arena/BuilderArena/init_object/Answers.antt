@@ -18,7 +18,7 @@ returns-in-None-clause-placed g c =
     let e = c.clear_root.ensures in
     let cleared : IsCleared g.A.Allocator.same c.args.self.now c.clear_root.new.self =
     record { null = e.null; null_word = e.null_word; zero = e.zero; size = omega (arith, c.in_ok-clear_root.ensures.size); rooms = e.rooms; same_allocator = e.same } in
-    (c.clear_root.new.self, cleared, inl refl)
+    record { cleared = c.clear_root.new.self; is_cleared = cleared; block = inl refl }
 
 pub returns-in-Some-clause-placed : goal.returns-in-Some-clause-placed
 returns-in-Some-clause-placed g c =
@@ -26,4 +26,5 @@ returns-in-Some-clause-placed g c =
     let cleared : IsCleared g.A.Allocator.same c.args.self.now c.clear_root.new.self =
     record { null = e.null; null_word = e.null_word; zero = e.zero; size = omega (arith, c.in_ok-clear_root.ensures.size); rooms = e.rooms; same_allocator = e.same } in
     let inits : g.K.OwnedBuilder.inits c.args.n (zero_form c.in-Some.body) = subst (λ (o : Option Body). g.K.OwnedBuilder.inits c.args.n (new_form o)) c.in-Some.is c.in_ok-body.ensures.inits in
-    on_ok c.put_new.result _ _ (λ placed. (c.clear_root.new.self, cleared, inr (placed.0, (zero_form c.in-Some.body, inits, placed.1), placed.2))) c.put_new.ensures.placed
+    on_ok c.put_new.result _ _ (λ placed.
+    record { cleared = c.clear_root.new.self; is_cleared = cleared; block = inr (placed.0, (zero_form c.in-Some.body, inits, placed.1), placed.2) }) c.put_new.ensures.placed

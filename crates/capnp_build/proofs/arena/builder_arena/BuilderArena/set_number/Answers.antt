@@ -6,8 +6,7 @@ use Rattle.capnp_build.specs.Bytes.{Space, with_bytes}
 use Rattle.capnp_build.specs.Held.{Held, space_at}
 use Rattle.capnp_build.specs.Built.{Built, IsWritten, HasNullRoot, IsLaid, IsBuilt, HasNumber, IsNumberSet}
 use Rattle.capnp_build.specs.declared.arena.spot.Spot.{Spot}
-use Rattle.capnp_build.proofs.UsedLemmas.{written_length}
-use Rattle.capnp_build.proofs.WriteLemmas.{written_by, number_known, number_room, number_set, no_list}
+use Rattle.capnp_build.proofs.WriteLemmas.{written_at, number_known, number_room, number_set, no_list}
 use Rattle.capnp_build.proofs.NullLemmas.{null_only}
 use Rattle.capnp_build.proofs.LaidLemmas.{laid_as, laid_root}
 use Rattle.capnp_build.proofs.ReadLemmas.{number_laid, same_numbers}
@@ -46,12 +45,10 @@ returns-in-Some-clause-written g c =
     let spot : Spot = c.in-Some.spot in
     let f : HasNumber spaces c.args.index = subst (λ (v : Built g.row.A.Denot). HasNumber v.spaces c.args.index) (sym c.self.view_is) c.requires in
     let p : IsBuilt spaces (Some spot) = subst (λ (o : Option Spot). IsBuilt spaces o) c.in-Some.is c.self.invariant in
-    let s : Space = space_at spaces spot.segment in
-    let from : ℕ = 8 * spot.start + 8 * c.args.index in
     let new : Built g.row.A.Denot = record { spaces = c.write_at.new.self.spaces; spot = c.self.inside.spot; allocator = c.write_at.new.self.allocator } in
     subst (λ (v : Built g.row.A.Denot). IsWritten v new) c.self.view_is
-    (written_by c.self.inside.segments c.write_at.new.self c.self.inside.spot spot.segment (with_bytes s from c.to_le_bytes.result) c.write_at.ensures refl
-    (written_length from s.used c.to_le_bytes.result (number_room spaces spot c.args.index (length c.to_le_bytes.result) f p (ap length c.to_le_bytes.ensures))))
+    (written_at c.self.inside.segments c.write_at.new.self c.self.inside.spot spot.segment (8 * spot.start + 8 * c.args.index) c.to_le_bytes.result c.write_at.ensures
+    (number_room spaces spot c.args.index (length c.to_le_bytes.result) f p (ap length c.to_le_bytes.ensures)))
 
 pub returns-in_default-clause-set : goal.returns-in_default-clause-set
 returns-in_default-clause-set g c =

@@ -32,4 +32,5 @@ returns-clause-placed g c =
     let e = c.clear_root.ensures in
     let cleared : IsCleared g.A.Allocator.same c.args.self.now c.clear_root.new.self =
     record { null = e.null; null_word = e.null_word; zero = e.zero; size = omega (arith, c.in_ok-clear_root.ensures.size); rooms = e.rooms; same_allocator = e.same } in
-    on_ok c.put.result _ _ (λ placed. (c.clear_root.new.self, c.in_ok-words.words, cleared, c.in_ok-words.ensures.answer, placed)) c.put.ensures.placed
+    on_ok c.put.result _ _ (λ placed.
+    record { cleared = c.clear_root.new.self; words = c.in_ok-words.words; is_cleared = cleared; words_are = c.in_ok-words.ensures.answer; placed = placed }) c.put.ensures.placed

@@ -1,19 +1,14 @@
 -- Some bytes of the list at the root are others, and all else stays.
-use Rattle.std.proofs.Common.{◌≡◌, ℕ, ◌+◌, ◌*◌, ◌<◌, ◌≤◌, List, length, Option, Some, slice_set, slice_index_or, ap, sym, subst, arith}
+use Rattle.std.proofs.Common.{ℕ, ◌+◌, ◌*◌, List, length, Option, Some, ap, sym, subst}
 use Rattle.std.specs.Option.{option_copied}
 use Rattle.capnp_wire.specs.Tree.{null, numbers, none}
-use Rattle.capnp_build.specs.Bytes.{Space, written, with_bytes}
+use Rattle.capnp_build.specs.Bytes.{Space}
 use Rattle.capnp_build.specs.Held.{Held, space_at}
-use Rattle.capnp_build.specs.Built.{Built, IsWritten, HasNullRoot, IsLaid, IsBuilt, HasBytes, IsBytesSet}
+use Rattle.capnp_build.specs.Built.{Built, IsWritten, HasNullRoot, IsBuilt, HasBytes, IsBytesSet}
 use Rattle.capnp_build.specs.declared.arena.spot.Spot.{Spot}
-use Rattle.capnp_build.proofs.UsedLemmas.{written_length}
-use Rattle.capnp_build.proofs.SpaceLemmas.{got_used, got_none}
+use Rattle.capnp_build.proofs.SpaceLemmas.{got_low, got_none}
 use Rattle.capnp_build.proofs.NullLemmas.{null_only}
-use Rattle.capnp_build.proofs.LaidLemmas.{laid_as, laid_root}
-use Rattle.capnp_build.proofs.RewriteLemmas.{bytes_laid}
-use Rattle.capnp_build.proofs.ReadLemmas.{same_numbers}
-use Rattle.std.proofs.Common.{refl}
-use Rattle.capnp_build.proofs.WriteLemmas.{written_by, bytes_known, bytes_room, bytes_set, no_bytes}
+use Rattle.capnp_build.proofs.WriteLemmas.{written_at, bytes_room, bytes_rewritten, bytes_set, no_bytes}
 use Rattle.capnp_build.proofs.arena.builder_arena.BuilderArena.write_bytes.Goals as goal
 
 pub returns-in_default-clause-set : goal.returns-in_default-clause-set
@@ -45,13 +40,9 @@ invariant_of-self g c =
     let w : List ℕ = c.args.bytes.now in
     let f : HasBytes spaces c.args.index (length w) = subst (λ (v : Built g.row.A.Denot). HasBytes v.spaces c.args.index (length w)) (sym c.self.view_is) c.requires in
     let p : IsBuilt spaces (Some spot) = subst (λ (o : Option Spot). IsBuilt spaces o) c.in-Some.is c.self.invariant in
-    let same : c.in-Some-get.used.now ≡ (space_at spaces spot.segment).used =
-    got_used spaces spot.segment (option_copied c.get.result) c.in-Some-get.used.now p.2.within c.get.ensures (ap option_copied c.in-Some-get.is) in
-    let low : (j : ℕ) → slice_index_or (space_at spaces spot.segment).used j 0 < 256 = subst (λ (l : List ℕ). (j : ℕ) → slice_index_or l j 0 < 256) same c.each_is_a_byte.ensures in
-    let r = bytes_known spaces spot c.args.index (length w) f p in
-    let laid = bytes_laid spaces c.write_at.new.self.spaces spot f.values c.args.index w r low c.each_is_a_byte-2.ensures f.within (ap (λ (h : Held g.row.A.Denot). h.spaces) c.write_at.ensures) in
-    let after : IsBuilt c.write_at.new.self.spaces (Some spot) = (numbers 2 (written f.values c.args.index w), none, laid) in
-    subst (λ (o : Option Spot). IsBuilt c.write_at.new.self.spaces o) (sym c.in-Some.is) after
+    let low = got_low spaces spot.segment (option_copied c.get.result) c.in-Some-get.used.now p.2.within c.get.ensures (ap option_copied c.in-Some-get.is) c.each_is_a_byte.ensures in
+    subst (λ (o : Option Spot). IsBuilt c.write_at.new.self.spaces o) (sym c.in-Some.is)
+    (bytes_rewritten spaces c.write_at.new.self.spaces spot c.args.index w f p low c.each_is_a_byte-2.ensures (ap (λ (h : Held g.row.A.Denot). h.spaces) c.write_at.ensures))
 
 pub returns-clause-set : goal.returns-clause-set
 returns-clause-set g c =
@@ -60,9 +51,7 @@ returns-clause-set g c =
     let w : List ℕ = c.args.bytes.now in
     let f : HasBytes spaces c.args.index (length w) = subst (λ (v : Built g.row.A.Denot). HasBytes v.spaces c.args.index (length w)) (sym c.self.view_is) c.requires in
     let p : IsBuilt spaces (Some spot) = subst (λ (o : Option Spot). IsBuilt spaces o) c.in-Some.is c.self.invariant in
-    let same : c.in-Some-get.used.now ≡ (space_at spaces spot.segment).used =
-    got_used spaces spot.segment (option_copied c.get.result) c.in-Some-get.used.now p.2.within c.get.ensures (ap option_copied c.in-Some-get.is) in
-    let low : (j : ℕ) → slice_index_or (space_at spaces spot.segment).used j 0 < 256 = subst (λ (l : List ℕ). (j : ℕ) → slice_index_or l j 0 < 256) same c.each_is_a_byte.ensures in
+    let low = got_low spaces spot.segment (option_copied c.get.result) c.in-Some-get.used.now p.2.within c.get.ensures (ap option_copied c.in-Some-get.is) c.each_is_a_byte.ensures in
     subst (λ (v : Built g.row.A.Denot). IsBytesSet v.spaces c.write_at.new.self.spaces c.args.index w) c.self.view_is
     (bytes_set spaces c.write_at.new.self.spaces spot c.args.index w f p low c.each_is_a_byte-2.ensures (ap (λ (h : Held g.row.A.Denot). h.spaces) c.write_at.ensures))
 
@@ -73,9 +62,7 @@ returns-clause-written g c =
     let n : ℕ = length c.args.bytes.now in
     let f : HasBytes spaces c.args.index n = subst (λ (v : Built g.row.A.Denot). HasBytes v.spaces c.args.index n) (sym c.self.view_is) c.requires in
     let p : IsBuilt spaces (Some spot) = subst (λ (o : Option Spot). IsBuilt spaces o) c.in-Some.is c.self.invariant in
-    let s : Space = space_at spaces spot.segment in
-    let from : ℕ = 8 * spot.start + c.args.index in
     let new : Built g.row.A.Denot = record { spaces = c.write_at.new.self.spaces; spot = c.self.inside.spot; allocator = c.write_at.new.self.allocator } in
     subst (λ (v : Built g.row.A.Denot). IsWritten v new) c.self.view_is
-    (written_by c.self.inside.segments c.write_at.new.self c.self.inside.spot spot.segment (with_bytes s from c.args.bytes.now) c.write_at.ensures refl
-    (written_length from s.used c.args.bytes.now (bytes_room spaces spot c.args.index n f p)))
+    (written_at c.self.inside.segments c.write_at.new.self c.self.inside.spot spot.segment (8 * spot.start + c.args.index) c.args.bytes.now c.write_at.ensures
+    (bytes_room spaces spot c.args.index n f p))

@@ -1,0 +1,8 @@
+-- What is refused declines the root.
+use Rattle.capnp_build.proofs.AcceptLemmas.{declined_there}
+use Rattle.capnp_build.proofs.view.accept.Goals as goal
+
+pub returns-clause-kind : goal.returns-clause-kind
+returns-clause-kind g c =
+    declined_there _ _ c.root_shown.result c.root_bytes.result.now c.accept.result
+    c.root_shown.ensures.form c.root_shown.ensures.stands c.root_bytes.ensures c.accept.ensures.declined

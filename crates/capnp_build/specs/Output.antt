@@ -1,0 +1,13 @@
+-- What of a message that is built is written (src/segments.rt).
+use Rattle.std.specs.Prelude.{◌≡◌, ◌*◌, ◌%◌, ◌^◌, ◌<◌, ◌≤◌, List, length, map}
+use Rattle.capnp_frame.specs.Writing.{IsWritable}
+use Rattle.capnp_build.specs.Bytes.{Space}
+use Rattle.capnp_build.specs.Held.{used_of}
+
+-- whole words are used of a segment, at most 2 ^ 29 of them
+abbrev pub UsesWords : Space → Type 0
+UsesWords space = (length space.used % 8 ≡ 0) × (length space.used ≤ 8 * 2 ^ 29)
+
+-- where there is a segment, what is used can be written
+abbrev pub CanBeWritten : List Space → Type 0
+CanBeWritten spaces = 0 < length spaces → IsWritable (map used_of spaces)
