@@ -1,14 +1,15 @@
 //! Builders of messages.
-ghost use Rattle.std.specs.Prelude.{◌≡◌, ◌≢◌, ◌⊎◌, ◌<◌, ◌≤◌, ◌^◌, ◌-◌, ℕ, [], false, true, length, map, None, IfErr, OnOk, OnErr, IsOk, MatchResult, pos};
+ghost use Rattle.std.specs.Prelude.{◌≡◌, ◌≢◌, ◌⊎◌, ◌<◌, ◌≤◌, ◌^◌, ◌-◌, ◌↔◌, ℕ, [], false, true, IsTrue, length, map, None, IfErr, OnOk, OnErr, IsOk, MatchResult, pos};
 ghost use Rattle.std.specs.Result.{IsErrAnd};
 ghost use Rattle.capnp_frame.specs.declared.error.ErrorKind.{ErrorKind};
 ghost use Rattle.capnp_frame.specs.declared.error.ErrorKind.TheVariants.{ReadLimitExceeded, NotOneSegment};
+ghost use Rattle.capnp_frame.specs.Writing.{IsWritable};
 ghost use Rattle.capnp_wire.specs.Readers.{unlimited_root};
 ghost use Rattle.capnp_wire.specs.Values.{HasWords, LacksWords};
 ghost use Rattle.capnp_wire.specs.Views.{LeadsAstray};
 ghost use Rattle.capnp_build.specs.Out.{MayRefuse};
 ghost use Rattle.capnp_build.specs.Held.{used_of, KeepsOthers, BringsHome};
-ghost use Rattle.capnp_build.specs.Built.{Built, held_of, size_in_words, IsSet, IsWhole, IsPlaced, IsCrowded, NotInOne, IsCleared};
+ghost use Rattle.capnp_build.specs.Built.{Built, held_of, size_in_words, IsSet, IsWhole, IsPut, IsCrowded, NotInOne, IsCleared};
 
 use crate::heap_allocator::HeapAllocator;
 use crate::output_segments::OutputSegments;
@@ -59,9 +60,7 @@ impl<A: Allocator> Builder<A> {
     pub fn set_root<T, V: SetterInput<T> + Drop>(&mut self, value: V) -> Result<()>
         ensures set { OnOk result (IsSet (V.has_tree value) false self.new.spaces) }
         // Which words it takes, once the old root is cleared.
-        ensures placed { OnOk result ((cleared : Built A) × (words : ℕ)
-            × IsCleared A.same self.old cleared × HasWords (V.has_tree value) false words
-            × IsPlaced cleared.spaces self.new words) }
+        ensures placed { OnOk result (IsPut A.same (HasWords (V.has_tree value) false) self.old self.new) }
         ensures nulled { OnErr result (IsCleared A.same self.old self.new) }
         ensures kind { IfErr result (λ error.
             LacksWords (V.has_tree value) (V.refuses value) false error.kind
@@ -80,9 +79,7 @@ impl<A: Allocator> Builder<A> {
     /// `NotOneSegment` where there are more segments or the first has no room; then the root is null.
     pub fn set_root_canonical<T, V: SetterInput<T> + Drop>(&mut self, value: V) -> Result<()>
         ensures set { OnOk result (IsSet (V.has_tree value) true self.new.spaces) }
-        ensures placed { OnOk result ((cleared : Built A) × (words : ℕ)
-            × IsCleared A.same self.old cleared × HasWords (V.has_tree value) true words
-            × IsPlaced cleared.spaces self.new words) }
+        ensures placed { OnOk result (IsPut A.same (HasWords (V.has_tree value) true) self.old self.new) }
         ensures one { OnOk result (length self.new.spaces ≡ 1) }
         ensures whole { self.old.spaces ≡ [] →
             OnOk result (IsWhole (V.has_tree value) true self.new.spaces) }
@@ -113,9 +110,10 @@ impl<A: Allocator> Builder<A> {
         self.arena.get_root_as_reader().get_as()
     }
 
-    /// The used words of each segment, to be written.
+    /// The used words of each segment, to be written. Once there is a segment, they can be.
     pub fn get_segments_for_output(&self) -> OutputSegments<'_, A>
-        ensures { result ≡ map used_of self.now.spaces }
+        ensures segments { result ≡ map used_of self.now.spaces }
+        ensures writable { 0 < length self.now.spaces → IsWritable result }
     {
         OutputSegments::new(&self.arena)
     }
@@ -177,5 +175,13 @@ impl<A: Allocator> ReaderSegments for Builder<A> {
 
     fn get_segment(&self, id: u32) -> Option<&[u8]> {
         self.arena.get_segment(id)
+    }
+
+    fn is_empty(&self) -> bool
+        ensures empty { IsTrue result ↔ (map used_of self.now.spaces ≡ []) }
+        // So a test of it tells whether the message can be written.
+        ensures some { result ≡ false → 0 < length self.now.spaces }
+    {
+        self.arena.is_empty()
     }
 }

@@ -125,7 +125,7 @@ fn canonical_twice(rt: HostRuntime) -> std::result::Result<(), Fail> {
     Ok(())
 }
 
-// The root's text is behind pads, and may be read once within its limit.
+// The root's text is behind pads of one and of two words; another may be read once within its limit.
 #[test]
 fn roots(rt: HostRuntime) -> std::result::Result<(), Fail> {
     let far: [&[u8]; 1] = [b"\x0a\0\0\0\0\0\0\0\x01\0\0\0\x12\0\0\0\x41\0\0\0\0\0\0\0"];
@@ -133,6 +133,15 @@ fn roots(rt: HostRuntime) -> std::result::Result<(), Fail> {
     let text: text::Reader<'_> = reader.get_root()?;
     assert_eq!(rt; text.as_bytes(), b"A".as_slice());
     assert_eq!(rt; reader.size_in_words(), 3);
+
+    let wide: [&[u8]; 3] = [
+        b"\x06\0\0\0\x01\0\0\0",
+        b"\x02\0\0\0\x02\0\0\0\x01\0\0\0\x12\0\0\0",
+        b"\x41\0\0\0\0\0\0\0",
+    ];
+    let reader = Reader::new(SegmentArray::new(&wide), ReaderOptions::new());
+    let text: text::Reader<'_> = reader.get_root()?;
+    assert_eq!(rt; text.as_bytes(), b"A".as_slice());
 
     let hello: [&[u8]; 1] = [b"\x01\0\0\0\x72\0\0\0Hello, World!\0\0\0"];
     let mut options = ReaderOptions::new();

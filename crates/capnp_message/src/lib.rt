@@ -24,7 +24,6 @@ pub mod scratch_space;
 pub mod single_segment;
 pub mod typed_builder;
 pub mod typed_reader;
-mod words;
 
 pub use builder::Builder;
 pub use heap_allocator::{

@@ -1,5 +1,6 @@
 //! What of a message that is built is written.
-ghost use Rattle.std.specs.Prelude.{◌≡◌, ℕ, List, map};
+ghost use Rattle.std.specs.Prelude.{◌≡◌, ℕ, ◌<◌, List, length, map};
+ghost use Rattle.capnp_frame.specs.Writing.{IsWritable};
 ghost use Rattle.capnp_build.specs.Held.{used_of};
 
 use capnp_build::allocator::Allocator;
@@ -23,8 +24,10 @@ impl<'a, A: Allocator> Model for OutputSegments<'a, A> {
 impl<'a, A: Allocator> OutputSegments<'a, A> {
     /// Those of an arena.
     pub(crate) fn new(arena: &'a BuilderArena<A>) -> OutputSegments<'a, A>
-        ensures { result ≡ map used_of arena.now.spaces }
+        ensures segments { result ≡ map used_of arena.now.spaces }
+        ensures writable { 0 < length arena.now.spaces → IsWritable result }
     {
+        arena.are_writable();
         OutputSegments { arena }
     }
 }

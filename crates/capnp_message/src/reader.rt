@@ -16,11 +16,10 @@ ghost use Rattle.capnp_message.specs.Seen.{root_of, HasRoot};
 ghost use Rattle.capnp_message.specs.Canonical.{numbers, HasForm, LacksForm};
 
 use crate::typed_reader::TypedReader;
-use crate::words::whole_words;
 use capnp_frame::message::{ReaderOptions, ReaderSegments};
 use capnp_frame::{Result, Word};
 use capnp_wire::arena::ReaderArena;
-use capnp_wire::canonical::canonical_bytes;
+use capnp_wire::canonical::{canonical_bytes, canonical_words};
 use capnp_wire::traits::FromPointerReader;
 use std::alloc::Global;
 use std::marker::Model;
@@ -138,8 +137,8 @@ impl<S: ReaderSegments> Reader<S> {
         ensures exact { (kind : ErrorKind) → LacksForm (root_of S.segments self.now) kind →
             IsErrAnd result (λ error. error.kind ≡ kind) }
     {
-        let bytes = self.canonical_segment(alloc)?;
-        whole_words(alloc, &bytes)
+        let root = self.arena.get_root()?;
+        canonical_words(alloc, &root)
     }
 
     /// The segments.

@@ -1,18 +1,20 @@
 //! The object at the root of a message that is built, as a view that writes it.
-ghost use Rattle.std.specs.Prelude.{◌≡◌, ◌⊎◌, ◌+◌, ℕ, length, IfOk, IfErr};
+ghost use Rattle.std.specs.Prelude.{◌≡◌, ◌⊎◌, ℕ, length, IfOk, IfErr};
 ghost use Rattle.std.specs.Borrow.{RestsIfErr, sem};
 ghost use Rattle.capnp_wire.specs.Tree.{Form, none};
 ghost use Rattle.capnp_wire.specs.Reached.{Root};
 ghost use Rattle.capnp_build.specs.Out.{MayRefuse};
 ghost use Rattle.capnp_build.specs.Held.{KeepsOthers};
-ghost use Rattle.capnp_build.specs.Built.{held_of, message, ForRoot, DeclinesRoot, InitWords, IsCleared, IsLookedAt};
+ghost use Rattle.capnp_build.specs.Built.{held_of, message, ForRoot, DeclinesRoot, InitWords, IsInit, IsCleared, WasCrowded, IsLookedAt};
 
 use crate::builder::Builder;
 use capnp_build::allocator::Allocator;
 use capnp_build::owned_builder::OwnedBuilder;
 use capnp_build::shown::Shown;
-use capnp_build::view::{Building, View};
+use capnp_build::view::{Building, View, init};
 use capnp_frame::Result;
+use capnp_wire::MessageSize;
+use capnp_wire::traits::SetterInput;
 
 impl<A: Allocator> Building for Builder<A> {
     type Allocator = A;
@@ -38,6 +40,18 @@ impl<A: Allocator> Building for Builder<A> {
     fn write_bytes(&mut self, index: u32, bytes: &[u8]) {
         self.arena.write_bytes(index, bytes);
     }
+
+    fn target_size(&self) -> Result<MessageSize> {
+        self.arena.target_size()
+    }
+
+    fn init_object<K: OwnedBuilder>(&mut self, n: u32) -> Result<()> {
+        self.arena.init_object::<K>(n)
+    }
+
+    fn set_root<T, V: SetterInput<T>>(&mut self, value: &V) -> Result<()> {
+        self.arena.set_root::<T, V>(value)
+    }
 }
 
 impl<A: Allocator> Builder<A> {
@@ -53,15 +67,18 @@ impl<A: Allocator> Builder<A> {
         ensures same { IfOk result (λ view. view.message.ghost_name ≡ self.entry.ghost_name) }
         ensures inits { IfOk result (λ view. (form : Form) × (charge : ℕ) × K.inits n form
             × Root (message view.message.now.spaces) form none charge) }
+        // Which words it takes, once the old root is cleared.
+        ensures placed { IfOk result (λ view.
+            IsInit A.same (InitWords K.inits n) self.old view.message.now) }
         ensures kind { IfErr result (λ error. K.refuses n error.kind
             ⊎ ((length self.old.spaces ≡ 0) × MayRefuse 1 error.kind)
-            ⊎ ((words : ℕ) × InitWords K.inits n words × MayRefuse (words + 1) error.kind)) }
+            ⊎ WasCrowded A.same (InitWords K.inits n) self.old error.kind) }
         ensures allocator { IfOk result (λ view.
             A.same self.old.allocator view.message.now.allocator) }
         ensures others { IfOk result (λ view.
             KeepsOthers A.out (held_of self.old) (held_of view.message.now)) }
     {
-        self.arena.init_object::<K>(n)?;
+        init::<Builder<A>, K>(self, n)?;
         Ok(View::new(self))
     }
 
@@ -74,9 +91,12 @@ impl<A: Allocator> Builder<A> {
         ensures same { IfOk result (λ view. view.message.ghost_name ≡ self.entry.ghost_name) }
         ensures inits { IfOk result (λ view. (form : Form) × (charge : ℕ) × K.inits 0 form
             × Root (message view.message.now.spaces) form none charge) }
+        // Which words it takes, once the old root is cleared.
+        ensures placed { IfOk result (λ view.
+            IsInit A.same (InitWords K.inits 0) self.old view.message.now) }
         ensures kind { IfErr result (λ error. K.refuses 0 error.kind
             ⊎ ((length self.old.spaces ≡ 0) × MayRefuse 1 error.kind)
-            ⊎ ((words : ℕ) × InitWords K.inits 0 words × MayRefuse (words + 1) error.kind)) }
+            ⊎ WasCrowded A.same (InitWords K.inits 0) self.old error.kind) }
         ensures allocator { IfOk result (λ view.
             A.same self.old.allocator view.message.now.allocator) }
         ensures others { IfOk result (λ view.

@@ -11,7 +11,7 @@ ghost use Rattle.capnp_wire.specs.Values.{HasWords, LacksWords};
 ghost use Rattle.capnp_wire.specs.Views.{LeadsAstray};
 ghost use Rattle.capnp_build.specs.Out.{MayRefuse};
 ghost use Rattle.capnp_build.specs.Held.{used_of, KeepsOthers};
-ghost use Rattle.capnp_build.specs.Built.{Built, held_of, message, ForRoot, DeclinesRoot, InitWords, IsSet, IsPlaced, IsCrowded, IsCleared, IsLookedAt};
+ghost use Rattle.capnp_build.specs.Built.{Built, held_of, message, ForRoot, DeclinesRoot, InitWords, IsSet, IsPut, IsCrowded, IsInit, IsCleared, WasCrowded, IsLookedAt};
 
 use crate::builder::Builder;
 use crate::heap_allocator::HeapAllocator;
@@ -20,8 +20,9 @@ use capnp_build::allocator::Allocator;
 use capnp_build::arena::builder_arena::BuilderArena;
 use capnp_build::owned_builder::OwnedBuilder;
 use capnp_build::shown::Shown;
-use capnp_build::view::{Building, View};
+use capnp_build::view::{Building, View, init};
 use capnp_frame::Result;
+use capnp_wire::MessageSize;
 use capnp_wire::traits::{Owned, SetterInput};
 use std::alloc::Global;
 use std::marker::{Model, PhantomData};
@@ -96,9 +97,7 @@ impl<T, A: Allocator> TypedBuilder<T, A> {
     /// Sets the root to a value, as `set_root` of the message.
     pub fn set_root<V: SetterInput<T> + Drop>(&mut self, value: V) -> Result<()>
         ensures set { OnOk result (IsSet (V.has_tree value) false self.new.spaces) }
-        ensures placed { OnOk result ((cleared : Built A) × (words : ℕ)
-            × IsCleared A.same self.old cleared × HasWords (V.has_tree value) false words
-            × IsPlaced cleared.spaces self.new words) }
+        ensures placed { OnOk result (IsPut A.same (HasWords (V.has_tree value) false) self.old self.new) }
         ensures nulled { OnErr result (IsCleared A.same self.old self.new) }
         ensures kind { IfErr result (λ error.
             LacksWords (V.has_tree value) (V.refuses value) false error.kind
@@ -171,6 +170,18 @@ impl<T, A: Allocator> Building for TypedBuilder<T, A> {
     fn write_bytes(&mut self, index: u32, bytes: &[u8]) {
         self.message.write_bytes(index, bytes);
     }
+
+    fn target_size(&self) -> Result<MessageSize> {
+        self.message.target_size()
+    }
+
+    fn init_object<K: OwnedBuilder>(&mut self, n: u32) -> Result<()> {
+        self.message.init_object::<K>(n)
+    }
+
+    fn set_root<U, V: SetterInput<U>>(&mut self, value: &V) -> Result<()> {
+        self.message.arena.set_root::<U, V>(value)
+    }
 }
 
 impl<T: OwnedBuilder, A: Allocator> TypedBuilder<T, A> {
@@ -185,15 +196,17 @@ impl<T: OwnedBuilder, A: Allocator> TypedBuilder<T, A> {
         ensures same { IfOk result (λ view. view.message.ghost_name ≡ self.entry.ghost_name) }
         ensures inits { IfOk result (λ view. (form : Form) × (charge : ℕ) × T.inits n form
             × Root (message view.message.now.spaces) form none charge) }
+        ensures placed { IfOk result (λ view.
+            IsInit A.same (InitWords T.inits n) self.old view.message.now) }
         ensures kind { IfErr result (λ error. T.refuses n error.kind
             ⊎ ((length self.old.spaces ≡ 0) × MayRefuse 1 error.kind)
-            ⊎ ((words : ℕ) × InitWords T.inits n words × MayRefuse (words + 1) error.kind)) }
+            ⊎ WasCrowded A.same (InitWords T.inits n) self.old error.kind) }
         ensures allocator { IfOk result (λ view.
             A.same self.old.allocator view.message.now.allocator) }
         ensures others { IfOk result (λ view.
             KeepsOthers A.out (held_of self.old) (held_of view.message.now)) }
     {
-        self.message.arena.init_object::<T>(n)?;
+        init::<TypedBuilder<T, A>, T>(self, n)?;
         Ok(View::new(self))
     }
 
@@ -206,9 +219,11 @@ impl<T: OwnedBuilder, A: Allocator> TypedBuilder<T, A> {
         ensures same { IfOk result (λ view. view.message.ghost_name ≡ self.entry.ghost_name) }
         ensures inits { IfOk result (λ view. (form : Form) × (charge : ℕ) × T.inits 0 form
             × Root (message view.message.now.spaces) form none charge) }
+        ensures placed { IfOk result (λ view.
+            IsInit A.same (InitWords T.inits 0) self.old view.message.now) }
         ensures kind { IfErr result (λ error. T.refuses 0 error.kind
             ⊎ ((length self.old.spaces ≡ 0) × MayRefuse 1 error.kind)
-            ⊎ ((words : ℕ) × InitWords T.inits 0 words × MayRefuse (words + 1) error.kind)) }
+            ⊎ WasCrowded A.same (InitWords T.inits 0) self.old error.kind) }
         ensures allocator { IfOk result (λ view.
             A.same self.old.allocator view.message.now.allocator) }
         ensures others { IfOk result (λ view.
