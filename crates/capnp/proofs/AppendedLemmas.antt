@@ -72,7 +72,7 @@ texts_same {IsText} {limit = limit} parts (n ∷ ns) (m ∷ ms) raw left rest ha
     (ap (λ x. x ∷ ns) same.0 ∙ ap (λ l. m ∷ l) inner.0, inner.1)
 
 -- what is written of a message is a text of it
-text_is : (format : Format) (m : List (List ℕ)) (text : List ℕ) → IsWritable m → IsTextOf format m text → grammar_of format text m
+pub text_is : (format : Format) (m : List (List ℕ)) (text : List ℕ) → IsWritable m → IsTextOf format m text → grammar_of format text m
 text_is Framed m text writable e = subst (λ t. IsFrame t m) (sym e) (frame_text_is m (HasTable-writable m writable) writable.whole)
 text_is Packed m text writable p = packed_text_is text m (HasTable-writable m writable) p
 

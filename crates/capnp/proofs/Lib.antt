@@ -8,3 +8,6 @@ pub mod TranscodingLemmas
 pub mod PieceLemmas
 pub mod AppendedLemmas
 pub mod Passed
+pub mod BlameLemmas
+pub mod FormLemmas
+pub mod RootLemmas

@@ -87,19 +87,3 @@ lent_or_ends limit room e old new refused = record {
   told = elim (refused.told) [ inl device ↦ inl device | inr line ↦ inr (inr line) ];
   exact = refused.exact;
 }
-
--- the engine over a packed source, in packed texts
-
-pub found_packed_in : {X : Type 0} (segments : X → List (List ℕ)) (r : Result (Option X) Error)
-    (old new : Option (List ℕ))
-    → IfOk r (λ found. IfSome found (λ x. IfKnown old new (MessageStands Unpacks (segments x))))
-    → IfOk r (λ found. IfSome found (λ x. IfKnown old new (PackedStands (segments x))))
-found_packed_in segments (Ok None) old new found = tt
-found_packed_in segments (Ok (Some x)) old new found = IfKnown-weaker old new (λ raw rest. (packed_requests (segments x) raw rest).0) found
-found_packed_in segments (Err e) old new found = tt
-
-pub accepted_packed_in : (limit : Option ℕ) (F : List (List ℕ) → Type 0) (old : Option (List ℕ))
-    → IfSome old (λ raw. (m : List (List ℕ)) (rest : List ℕ) → MessageStands Unpacks m raw rest → IsWithin m limit → F m)
-    → IfSome old (λ raw. (m : List (List ℕ)) (rest : List ℕ) → PackedStands m raw rest → IsWithin m limit → F m)
-accepted_packed_in limit F None accepted = tt
-accepted_packed_in limit F (Some raw) accepted = λ m rest stands within. accepted m rest ((packed_requests m raw rest).1 stands) within

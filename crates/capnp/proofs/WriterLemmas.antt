@@ -1,5 +1,5 @@
 -- What writers add to a plain sink, and what a reader's message is to a writer.
-use Rattle.std.proofs.Common.{◌≡◌, ◌⊎◌, inl, inr, ℕ, Option, None, Result, Ok, Err, OnOk, IfErr, List, [], ◌∷◌, ◌∙◌, arith}
+use Rattle.std.proofs.Common.{◌≡◌, ◌⊎◌, inl, inr, ℕ, Option, None, Result, Ok, Err, OnOk, IfOk, IfErr, List, [], ◌∷◌, length, ◌*◌, ap, sym, ◌∙◌, arith}
 use Rattle.std.proofs.lemmas.List.{length-map}
 use Rattle.std.specs.List.{AllByRecursion}
 use Rattle.capnp_frame.specs.declared.error.Error.{Error}
@@ -9,9 +9,9 @@ use Rattle.capnp_frame.specs.Limits.{IsWithin}
 use Rattle.capnp_frame.specs.Message.{IsWholeWords, word_count}
 use Rattle.capnp_frame.specs.Source.{IfKnown}
 use Rattle.capnp_frame.specs.Sink.{Appending, Declining, DeclinesSome, Adds, AppendsAll, AppendsSame}
-use Rattle.capnp_frame.specs.Writing.{IsWritable, pieces}
+use Rattle.capnp_frame.specs.Writing.{IsWritable, pieces, serialized_words}
 use Rattle.capnp_frame.proofs.SourceLemmas.{IfKnown-weaker}
-use Rattle.capnp_frame.proofs.SizeLemmas.{concat-pieces}
+use Rattle.capnp_frame.proofs.SizeLemmas.{concat-pieces, length-frame_text}
 use Rattle.capnp_frame.proofs.TextLemmas.{pieces_joined}
 use Rattle.capnp_pack.specs.PackedSink.{AppendsPacked}
 use Rattle.capnp_pack.proofs.PackedTextLemmas.{packed_pieces}
@@ -63,3 +63,9 @@ writer_fault refuses message Declines (Ok x) declined refused = tt
 writer_fault refuses message Declines (Err e) declined (inl device) = inl device
 writer_fault refuses message Declines (Err e) declined (inr (inl some)) = inr (inr (declined e.kind some))
 writer_fault refuses message Declines (Err e) declined (inr (inr memory)) = inr (inl memory.1)
+
+-- the size of a text that was written
+pub text_size : (r : Result ℕ Error) (message : List (List ℕ)) → IsWritable message → IfOk r (λ words. words ≡ serialized_words message)
+    → IfOk r (λ words. (text : List ℕ) → IsFrameText message text → length text ≡ 8 * words)
+text_size (Err e) message writable size = tt
+text_size (Ok words) message writable size = λ text is. ap length is ∙ length-frame_text message writable ∙ ap (λ (n : ℕ). 8 * n) (sym size)

@@ -5,3 +5,5 @@ pub mod Written
 pub mod Runs
 pub mod Transcoding
 pub mod Passed
+pub mod Canonical
+pub mod Roots

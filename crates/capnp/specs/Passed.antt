@@ -10,3 +10,6 @@ pub use Rattle.capnp_frame.specs.Source.{Giving, Refusing, Splits, RunsShort, Is
 pub use Rattle.capnp_frame.specs.SplittingLaws.{splitting, always}
 pub use Rattle.capnp_frame.specs.Sink.{Appending, AppendsSame, Declining, DeclinesSome, Adds, AppendsAll, Grows}
 pub use Rattle.capnp_frame.specs.Writing.{IsWritable, pieces}
+pub use Rattle.capnp_wire.specs.Object.{message_of}
+pub use Rattle.capnp_wire.specs.Reached.{root}
+pub use Rattle.capnp_wire.specs.Views.{Pointer}

@@ -1,10 +1,12 @@
 -- What writers add to sinks.
-use Rattle.std.specs.Prelude.{◌≡◌, ◌⊎◌, ◌≤◌, ℕ, List, [], ◌∷◌, ◌++◌, length}
+use Rattle.std.specs.Prelude.{◌≡◌, ◌⊎◌, ◌≤◌, ℕ, List, [], ◌∷◌, ◌++◌, length, map}
 use Rattle.capnp_frame.specs.declared.error.ErrorKind.{ErrorKind}
 use Rattle.capnp_frame.specs.declared.error.ErrorKind.TheVariants.{DeviceFailed, OutOfMemory}
 use Rattle.capnp_frame.specs.Frame.{frame_text}
 use Rattle.capnp_frame.specs.Sink.{Appending, Declining, DeclinesAny, DeclinesSome}
 use Rattle.capnp_frame.specs.Writing.{pieces}
+use Rattle.capnp_build.specs.Built.{Built}
+use Rattle.capnp_build.specs.Held.{used_of}
 use Rattle.capnp_pack.specs.PackedFrame.{IsPackedText}
 use Rattle.capnp.specs.declared.streams.Format.{Format}
 use Rattle.capnp.specs.declared.streams.Format.TheVariants.{Framed, Packed}
@@ -23,6 +25,10 @@ IsPackedTextOf message text = IsPackedText text message
 abbrev pub IsTextOf : Format → List (List ℕ) → List ℕ → Type 0
 IsTextOf Framed = IsFrameText
 IsTextOf Packed = IsPackedTextOf
+
+-- what is written of a message that is built: the used words of each segment
+abbrev pub output_of : {A : Type 0} → Built A → List (List ℕ)
+output_of built = map used_of built.spaces
 
 -- why a writer is refused: by the device, as its sink refuses one of the pieces, or from four segments on for want of memory
 abbrev pub RefusesWriter : Declining → List (List ℕ) → ErrorKind → Type 0

@@ -97,8 +97,8 @@ pub fn read_messages<R: BufRead>(
     Ok(readers)
 }
 
-// Writes a message in this format.
-fn write_message<W: Write, S: ReaderSegments>(
+/// Writes a message in this format.
+pub(crate) fn write_message<W: Write, S: ReaderSegments>(
     alloc: Global,
     format: Format,
     sink: &mut W,
@@ -119,8 +119,8 @@ fn write_message<W: Write, S: ReaderSegments>(
     }
 }
 
-// Reads the next message in this format.
-fn read_message<R: BufRead>(
+/// Reads the next message in this format.
+pub(crate) fn read_message<R: BufRead>(
     alloc: Global,
     format: Format,
     source: &mut R,

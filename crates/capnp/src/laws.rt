@@ -1,11 +1,15 @@
 //! Facts about streams of messages, each the contract of a function that does nothing.
-ghost use Rattle.std.specs.Prelude.{◌≡◌, ℕ, List, [], Option, None};
+ghost use Rattle.std.specs.Prelude.{◌≡◌, ◌++◌, ℕ, List, [], Option, None, map};
 ghost use Rattle.std.specs.List.{AllByRecursion};
 ghost use Rattle.capnp_frame.specs.declared.error.ErrorKind.{ErrorKind};
 ghost use Rattle.capnp_frame.specs.Limits.{IsWithin};
 ghost use Rattle.capnp_frame.specs.Texts.{AreTexts};
 ghost use Rattle.capnp_frame.specs.Writing.{IsWritable};
+ghost use Rattle.capnp_wire.specs.Tree.{Trees};
+ghost use Rattle.capnp_build.specs.Bytes.{Space};
+ghost use Rattle.capnp_build.specs.Held.{used_of};
 ghost use Rattle.capnp.specs.declared.streams.Format.{Format};
+ghost use Rattle.capnp.specs.Roots.{HasRootTree};
 ghost use Rattle.capnp.specs.Streams.{grammar_of, StandsNext, EndsBy, IsStream};
 ghost use Rattle.capnp.specs.Written.{IsTextOf, AppendsEach};
 
@@ -39,4 +43,16 @@ pub fn what_is_written_is_a_stream()
         (text : List ℕ) → AllByRecursion IsWritable messages →
         AllByRecursion (λ message. IsWithin message limit) messages →
         AppendsEach (IsTextOf format) messages text → IsStream format limit messages None text }
+{}
+
+/// A tree that stands at the root of a message that is built is the root tree of what is read of its
+/// text, in both formats, for at most 511 segments within the limit of words. What follows the text
+/// is left.
+pub fn a_root_is_read_back()
+    ensures { (format : Format) (limit : Option ℕ) (spaces : List Space) (trees : Trees)
+        (text rest left : List ℕ) (read : List (List ℕ)) → HasRootTree (map used_of spaces) trees →
+        IsWritable (map used_of spaces) → IsWithin (map used_of spaces) limit →
+        IsTextOf format (map used_of spaces) text →
+        StandsNext format limit read (text ++ rest) left →
+        HasRootTree read trees × (left ≡ rest) }
 {}

@@ -5,16 +5,26 @@
 //! `specs/Streams.antt` say so, over the grammars of the crates below.
 #![tactic(auto)]
 
+pub mod any_pointer;
+pub mod any_struct;
 pub mod appended;
+pub mod data;
 pub mod laws;
 pub mod message;
+pub mod primitive_list;
+pub mod roots;
 pub mod serialize;
 pub mod serialize_packed;
 pub mod streams;
 #[cfg(test)]
 mod tests;
+pub mod text;
+pub mod traits;
 mod transcoding;
+#[cfg(test)]
+mod writer_tests;
 
 pub use crate::transcoding::{Way, transcode};
 pub use capnp_frame::{Error, ErrorKind, Result, Word, io, word};
-pub use capnp_wire::{MessageSize, any_pointer, any_struct, data, primitive_list, text, traits};
+pub use capnp_message::OutputSegments;
+pub use capnp_wire::MessageSize;

@@ -1,5 +1,11 @@
-//! Messages, what is accepted of them, and what holds their segments.
+//! Messages that are read and built, what is accepted of them, and what holds their segments.
+pub use capnp_build::allocator::Allocator;
+pub use capnp_build::segment_space::SegmentSpace;
 pub use capnp_frame::message::{
     AsBytes, DEFAULT_READER_OPTIONS, ReaderOptions, ReaderSegments, SegmentArray,
 };
-pub use capnp_message::{Reader, TypedReader};
+pub use capnp_message::{
+    AllocationStrategy, Builder, HeapAllocator, Reader, SUGGESTED_ALLOCATION_STRATEGY,
+    SUGGESTED_FIRST_SEGMENT_WORDS, ScratchSegment, ScratchSpaceHeapAllocator,
+    SingleSegmentAllocator, TypedBuilder, TypedReader,
+};

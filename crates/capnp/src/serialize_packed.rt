@@ -1,11 +1,10 @@
 //! Reading and writing of [packed] messages.
 //!
 //! [packed]: https://capnproto.org/encoding.html#packing
-mod lent_stream;
 mod stream;
 mod writing;
 
 pub use stream::{
     read_message, read_message_no_alloc, try_read_message, try_read_message_no_alloc,
 };
-pub use writing::write_message_segments;
+pub use writing::{write_message, write_message_segments};

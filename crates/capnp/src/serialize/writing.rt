@@ -1,17 +1,49 @@
 //! Writing messages to a sink.
-ghost use Rattle.std.specs.Prelude.{◌≡◌, ◌*◌, ◌≤◌, ◌^◌, ◌↔◌, ◌⊎◌, IfOk, OnOk, IfErr};
+ghost use Rattle.std.specs.Prelude.{◌≡◌, ◌*◌, ◌<◌, ◌≤◌, ◌^◌, ◌↔◌, ◌⊎◌, ℕ, List, length, IfOk, OnOk, IfErr};
 ghost use Rattle.capnp_frame.specs.declared.error.ErrorKind.{ErrorKind};
 ghost use Rattle.capnp_frame.specs.Errors.{IsRefusedBy};
 ghost use Rattle.capnp_frame.specs.Source.{IfKnown, Fails};
 ghost use Rattle.capnp_frame.specs.Sink.{Adds, AppendsAll, DeclinesSome, Grows};
 ghost use Rattle.capnp_frame.specs.Writing.{IsWritable, pieces, serialized_words};
-ghost use Rattle.capnp.specs.Written.{IsPlainSink, IsFrameText, RefusesWriter};
+ghost use Rattle.capnp.specs.Written.{IsPlainSink, IsFrameText, RefusesWriter, output_of};
 
+use capnp_build::allocator::Allocator;
 use capnp_frame::Result;
 use capnp_frame::io::Write;
 use capnp_frame::message::ReaderSegments;
-use capnp_frame::serialize::{segments_to_words, write_segments};
+use capnp_frame::serialize::{segments_to_words, serialized_size_in_words, write_segments};
+use capnp_message::Builder;
 use std::alloc::Global;
+
+/// Writes a message that is built, each segment as far as it is used. It must have a segment, which
+/// `is_empty` tells.
+///
+/// Memory is taken for a table of four segments or more, before anything is written.
+pub fn write_message<W: Write, A: Allocator>(
+    alloc: Global,
+    sink: &mut W,
+    message: &Builder<A>,
+) -> Result<()>
+    requires { 0 < length message.now.spaces }
+    ensures text { IsPlainSink W.appends → OnOk result
+        (IfKnown (W.written sink.old) (W.written sink.new)
+        (Adds (IsFrameText (output_of message.now)))) }
+
+    // Of every sink.
+    ensures written { OnOk result (IfKnown (W.written sink.old) (W.written sink.new)
+        (Adds (AppendsAll W.appends (pieces (output_of message.now))))) }
+    ensures refused { IfErr result (λ error.
+        RefusesWriter W.refuses (output_of message.now) error.kind) }
+    // A refusal that isn't the sink's leaves the sink as it was.
+    ensures untouched { IfErr result (λ error. (error.kind ≡ ErrorKind.DeviceFailed)
+        ⊎ DeclinesSome W.refuses (pieces (output_of message.now)) error.kind
+        ⊎ (sink.new ≡ sink.old)) }
+    ensures failed { IfErr result (λ error. error.kind ≡ ErrorKind.DeviceFailed →
+        Fails (W.failures sink.old) (W.failures sink.new)) }
+    ensures grows { Grows W.written W.failures W.same sink.old sink.new }
+{
+    write_message_segments(alloc, sink, &message.get_segments_for_output())
+}
 
 /// Writes a message of 1 to 2^32 - 1 segments, each of whole words and fewer than 2^32 of them.
 ///
@@ -56,4 +88,32 @@ pub fn write_message_segments_to_words<S: ReaderSegments>(
         ⊎ (error.kind ≡ ErrorKind.MessageSizeOverflow)) }
 {
     segments_to_words(alloc, segments)
+}
+
+/// The framed text of a message that is built, of one segment at least. It is refused by
+/// `MessageSizeOverflow` only where the number of its bytes does not fit `usize`.
+pub fn write_message_to_words<A: Allocator>(alloc: Global, message: &Builder<A>) -> Result<Vec<u8>>
+    requires { 0 < length message.now.spaces }
+    ensures text { IfOk result (λ text. IsFrameText (output_of message.now) text.items) }
+    ensures overflow { IsRefusedBy result ErrorKind.MessageSizeOverflow
+        ↔ (2 ^ 64 ≤ 8 * serialized_words (output_of message.now)) }
+    ensures kinds { IfErr result (λ error. (error.kind ≡ ErrorKind.OutOfMemory)
+        ⊎ (error.kind ≡ ErrorKind.MessageSizeOverflow)) }
+{
+    write_message_segments_to_words(alloc, &message.get_segments_for_output())
+}
+
+/// How many words the framed text of a message that is built takes, with its table: an eighth of the
+/// bytes that `write_message` adds to a plain sink. It is refused only where their number does not fit
+/// `usize`.
+pub fn compute_serialized_size_in_words<A: Allocator>(message: &Builder<A>) -> Result<usize>
+    requires { 0 < length message.now.spaces }
+    ensures size { IfOk result (λ words. words ≡ serialized_words (output_of message.now)) }
+    ensures bytes { IfOk result (λ words. (text : List ℕ) →
+        IsFrameText (output_of message.now) text → length text ≡ 8 * words) }
+    ensures overflow { IsRefusedBy result ErrorKind.MessageSizeOverflow
+        ↔ (2 ^ 64 ≤ serialized_words (output_of message.now)) }
+    ensures kinds { IfErr result (λ error. error.kind ≡ ErrorKind.MessageSizeOverflow) }
+{
+    serialized_size_in_words(&message.get_segments_for_output())
 }

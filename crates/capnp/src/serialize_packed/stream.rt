@@ -12,13 +12,12 @@ ghost use Rattle.capnp_pack.specs.PackedSource.{Unpacks, RefusesPiece};
 ghost use Rattle.capnp.specs.Streams.{BeginsPacked};
 ghost use Rattle.capnp.specs.Headline.{IsFault, HasRoom, RefusesGrowing, RefusesLent, RefusesGrowingOrEnds, RefusesLentOrEnds};
 
-use crate::serialize_packed::lent_stream::try_read_packed_segments_into;
 use capnp_frame::io::BufRead;
 use capnp_frame::message::ReaderOptions;
 use capnp_frame::serialize::{NoAllocBufferSegments, OwnedSegments};
 use capnp_frame::{Error, ErrorKind, Result};
 use capnp_message::Reader;
-use capnp_pack::stream::try_read_packed_segments;
+use capnp_pack::stream::{try_read_packed_segments, try_read_packed_segments_into};
 use std::alloc::Global;
 
 /// Reads the next packed message of a source, or answers `None` where nothing is unread.

@@ -16,4 +16,4 @@ returns-in_err-segments-clause-accepted g c =
 pub returns-in_err-segments-clause-refused : goal.returns-in_err-segments-clause-refused
 returns-in_err-segments-clause-refused g c =
     let p = err_from_is_err_and c.from_residual.result c.from_residual.ensures.1 in
-    rw (p.1, p.2) (record { told = c.in_err-segments.ensures.refused.told; exact = c.in_err-segments.ensures.refused.exact })
+    rw (p.1, p.2) (record { told = c.in_err-segments.ensures.refused; exact = c.in_err-segments.ensures.exact })

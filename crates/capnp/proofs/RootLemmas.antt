@@ -1,0 +1,72 @@
+-- A message that was written and is read back.
+use Rattle.std.proofs.Common.{◌≡◌, ◌⊎◌, ℕ, ◌+◌, ◌-◌, ◌^◌, ◌<◌, ◌≤◌, min, Option, Some, None, Result, Ok, Err, IfOk, IfErr, List, [], ◌∷◌, ◌++◌, length, map, refl, sym, ap, ◌∙◌, subst, arith}
+use Rattle.std.proofs.lemmas.List.{append-nil}
+use Rattle.capnp_frame.specs.declared.error.Error.{Error}
+use Rattle.capnp_frame.specs.declared.error.ErrorKind.TheVariants.{DeviceFailed, OutOfMemory}
+use Rattle.capnp_frame.specs.Limits.{IsWithin}
+use Rattle.capnp_frame.specs.Sink.{Adds}
+use Rattle.capnp_frame.specs.Source.{IfKnown}
+use Rattle.capnp_frame.specs.Writing.{IsWritable}
+use Rattle.capnp_wire.specs.Tree.{Trees}
+use Rattle.capnp_wire.specs.Object.{message_of}
+use Rattle.capnp_wire.specs.Reached.{At, at, root}
+use Rattle.capnp_wire.proofs.LaidOutLemmas.{word_stands}
+use Rattle.capnp_build.specs.Bytes.{Space}
+use Rattle.capnp_build.specs.Built.{message}
+use Rattle.capnp_build.specs.Held.{used_of}
+use Rattle.capnp_build.proofs.NullLemmas.{root_stands}
+use Rattle.capnp.specs.declared.streams.Format.{Format}
+use Rattle.capnp.specs.Headline.{IsFault}
+use Rattle.capnp.specs.Roots.{HasRootTree, HasRootOf}
+use Rattle.capnp.specs.Streams.{StandsNext}
+use Rattle.capnp.specs.Written.{IsTextOf}
+use Rattle.capnp.proofs.AppendedLemmas.{text_is, memory_only}
+use Rattle.capnp.proofs.RunLemmas.{format_parts}
+
+-- where a tree stands at the root, there is a segment
+pub has_segment : (spaces : List Space) (trees : Trees) (charge : ℕ) → At (message spaces) (root ∷ []) trees charge → 0 < length spaces
+has_segment spaces trees charge (at points inside behind) =
+    let word = word_stands (message spaces) root _ points in (root_stands spaces word.0 word.1).0
+
+-- the text of a message stands for it before any rest
+text_stands : (format : Format) (limit : Option ℕ) (m : List (List ℕ)) (text rest : List ℕ) → IsWritable m → IsWithin m limit → IsTextOf format m text
+    → StandsNext format limit m (text ++ rest) rest
+text_stands format limit m text rest writable within here = record { text = text; is_text = text_is format m text writable here; within = within; spelled = refl }
+
+-- so what is read of it is the message
+pub written_is_read : (format : Format) (limit : Option ℕ) (m read : List (List ℕ)) (text rest left : List ℕ) → IsWritable m → IsWithin m limit → IsTextOf format m text
+    → StandsNext format limit read (text ++ rest) left → (read ≡ m) × (left ≡ rest)
+written_is_read format limit m read text rest left writable within here stands =
+    (format_parts format limit).begins_once read m (text ++ rest) left rest stands (text_stands format limit m text rest writable within here)
+
+pub root_is_read : (format : Format) (limit : Option ℕ) (spaces : List Space) (trees : Trees) (text rest left : List ℕ) (read : List (List ℕ))
+    → HasRootTree (map used_of spaces) trees → IsWritable (map used_of spaces) → IsWithin (map used_of spaces) limit → IsTextOf format (map used_of spaces) text
+    → StandsNext format limit read (text ++ rest) left → HasRootTree read trees × (left ≡ rest)
+root_is_read format limit spaces trees text rest left read root writable within here stands =
+    let same = written_is_read format limit (map used_of spaces) read text rest left writable within here stands in
+    (subst (λ (segments : List (List ℕ)). HasRootTree segments trees) (sym same.0) root, same.1)
+
+-- what was added to nothing is its text, alone
+pub added_stands : (format : Format) (limit : Option ℕ) (m : List (List ℕ)) (start new shown : List ℕ) → start ≡ [] → shown ≡ new → IsWritable m
+    → Adds (IsTextOf format m) start new → IsWithin m limit → StandsNext format limit m shown []
+added_stands format limit m start new shown none same writable (text, here, e) within =
+    let alone : shown ≡ text ++ [] = same ∙ e ∙ ap (λ (l : List ℕ). l ++ text) none ∙ sym (append-nil text) in
+    subst (λ (l : List ℕ). StandsNext format limit m l []) (sym alone) (text_stands format limit m text [] writable within here)
+
+pub read_again : {X : Type 0} (format : Format) (limit : Option ℕ) (segments : X → List (List ℕ)) (r : Result X Error) (m : List (List ℕ)) (shown : List ℕ)
+    (left : Option (List ℕ)) → StandsNext format limit m shown [] → IfOk r (λ x. IfKnown (Some shown) left (StandsNext format limit (segments x)))
+    → IfOk r (λ x. segments x ≡ m)
+read_again format limit segments (Err e) m shown left stands found = tt
+read_again format limit segments (Ok x) m shown None stands found = absurd found
+read_again format limit segments (Ok x) m shown (Some rest) stands found = ((format_parts format limit).begins_once (segments x) m shown rest [] found stands).0
+
+pub memory_alone : {X : Type 0} (r : Result X Error) → IfErr r (λ e. IsFault e.kind) → IfErr r (λ e. e.kind ≡ DeviceFailed → min (0 + 1) (2 ^ 64 - 1) ≤ 0)
+    → IfErr r (λ e. e.kind ≡ OutOfMemory)
+memory_alone (Ok x) fault failed = tt
+memory_alone (Err e) fault failed = memory_only e.kind fault failed
+
+-- the root of what is read is that of what was built
+pub tree_again : {X : Type 0} (has_tree : Trees → Type 0) (segments : X → List (List ℕ)) (r : Result X Error) (m : List (List ℕ)) → HasRootOf has_tree m
+    → IfOk r (λ x. segments x ≡ m) → IfOk r (λ x. HasRootOf has_tree (segments x))
+tree_again has_tree segments (Err e) m root back = tt
+tree_again has_tree segments (Ok x) m root back = subst (HasRootOf has_tree) (sym back) root

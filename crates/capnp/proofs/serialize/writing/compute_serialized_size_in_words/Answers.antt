@@ -1,0 +1,10 @@
+-- The bytes are eight times the words.
+use Rattle.std.proofs.Common.{subst}
+use Rattle.capnp_frame.specs.Writing.{IsWritable}
+use Rattle.capnp.proofs.WriterLemmas.{text_size}
+use Rattle.capnp.proofs.serialize.writing.compute_serialized_size_in_words.Goals as goal
+
+pub returns-clause-bytes : goal.returns-clause-bytes
+returns-clause-bytes g c =
+    let output = c.get_segments_for_output.ensures in
+    rw (← output.segments) (text_size c.serialized_size_in_words.result _ (output.writable c.requires) c.serialized_size_in_words.ensures.size)
