@@ -1,5 +1,5 @@
 -- The line of a message, segment by segment.
-use Rattle.std.proofs.Common.{◌≡◌, ℕ, ◌+◌, ◌≤◌, ◌<◌, Some, None, List, [], ◌∷◌, ◌++◌, length, take, get_or, inl, inr, refl, sym, ap, ◌∙◌, arith, append_assoc}
+use Rattle.std.proofs.Common.{◌≡◌, ℕ, ◌+◌, ◌≤◌, ◌<◌, Some, None, List, [], ◌∷◌, ◌++◌, length, take, get_or, map, inl, inr, refl, sym, ap, ◌∙◌, arith, append_assoc}
 use Rattle.std.proofs.lemmas.List.{take_all, append-nil}
 use Rattle.std.proofs.lemmas.List.Concat.{flat_map-append}
 use Rattle.std.proofs.lemmas.List.Sums.{sum_by-take-le, sum-map}
@@ -75,3 +75,9 @@ two_items [] x y some few first second = absurd (omega arith)
 two_items (a ∷ []) x y some few first second = absurd (omega arith)
 two_items (a ∷ b ∷ []) x y some few first second = ap (λ z. z ∷ b ∷ []) (sym first) ∙ ap (λ z. x ∷ z ∷ []) (sym second)
 two_items (a ∷ b ∷ c ∷ cs) x y some few first second = absurd (omega arith)
+
+-- and what is known of both
+pub two_words : {X : Type 0} (f : X → List ℕ) (xs : List X) (x y : X) (a b : List ℕ) → 2 ≤ length xs → length xs < 3 → x ≡ get_or xs 0 x → y ≡ get_or xs 1 y
+    → f x ≡ a → f y ≡ b → map f xs ≡ a ∷ b ∷ []
+two_words f xs x y a b some few first second p q =
+    ap (map f) (two_items xs x y some few first second) ∙ ap (λ word. word ∷ f y ∷ []) p ∙ ap (λ word. a ∷ word ∷ []) q

@@ -9,7 +9,8 @@ use Rattle.capnp_ls.specs.declared.stop.Stop.{Stop}
 use Rattle.capnp_ls.specs.declared.stop.Stop.TheVariants.{Usage, Refused}
 use Rattle.capnp_ls.specs.Commands.{input_of}
 use Rattle.capnp_ls.specs.Output.{Prints, DeclinesPrinted}
-use Rattle.capnp_ls.specs.Runs.{limit, HasRun, IsAnswerTo, IsFaulted}
+use Rattle.capnp_ls.specs.Output.{limit}
+use Rattle.capnp_ls.specs.Runs.{HasRun, IsAnswerTo, IsFaulted}
 
 -- it answers how its stream ends, but for a fault
 answered : (command : Command) (appends : Appending) (refuses : Declining) (result : Result (Unit {0}) Stop)

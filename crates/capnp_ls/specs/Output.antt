@@ -1,12 +1,13 @@
 -- What the program prints of messages.
-use Rattle.std.specs.Prelude.{◌≡◌, ℕ, List, [], ◌∷◌, ◌++◌, length, decimal}
+use Rattle.std.specs.Prelude.{◌≡◌, ℕ, List, [], ◌∷◌, ◌++◌, length, Option, Some, decimal}
 use Rattle.std.specs.List.{flat_map}
-use Rattle.capnp.specs.Passed.{Appending, Declining, lengths, size_in_words}
+use Rattle.capnp.specs.Passed.{Appending, Declining, lengths, size_in_words, message_of, root, Pointer}
+use Rattle.capnp.specs.Canonical.{AppendsForm, DeclinesForm}
 use Rattle.capnp.specs.Runs.{Writing, DecliningWriting}
 use Rattle.capnp.specs.Transcoding.{Transcodes, DeclinesTranscoded}
 use Rattle.capnp.specs.declared.transcoding.Way.TheVariants.{Pack as ToPacked, Unpack as ToFramed}
 use Rattle.capnp_ls.specs.declared.command.Command.{Command}
-use Rattle.capnp_ls.specs.declared.command.Command.TheVariants.{Listing, Pack, Unpack}
+use Rattle.capnp_ls.specs.declared.command.Command.TheVariants.{Listing, Pack, Unpack, Canonical}
 
 -- a space and a number
 abbrev pub spaced : ℕ → List ℕ
@@ -16,14 +17,24 @@ spaced n = 32 ∷ decimal n
 abbrev pub line : ℕ → List (List ℕ) → List ℕ
 line index segments = decimal index ++ spaced (length segments) ++ spaced (size_in_words segments) ++ flat_map spaced (lengths segments) ++ 10 ∷ []
 
--- What a sink adds for the message of this index: its line, or its pieces, packed or as they are.
+-- the default options' limit, in words
+abbrev pub limit : Option ℕ
+limit = Some 8388608
+
+-- the root of a message, read by the default options
+abbrev pub root_of : List (List ℕ) → Pointer
+root_of segments = record { message = message_of segments; place = Some root; level = 64; limit = limit }
+
+-- What a sink adds for the message of this index: its line; its pieces, packed or as they are; or the pieces of its canonical form.
 abbrev pub Prints : Command → Appending → Writing
 Prints (Listing format) appends index segments text = appends (line index segments) text
 Prints Pack appends index segments text = Transcodes ToPacked appends index segments text
 Prints Unpack appends index segments text = Transcodes ToFramed appends index segments text
+Prints (Canonical format) appends index segments text = AppendsForm (root_of segments) appends text
 
 -- and by which kinds it refuses this message
 abbrev pub DeclinesPrinted : Command → Declining → DecliningWriting
 DeclinesPrinted (Listing format) refuses index segments kind = refuses (line index segments) kind
 DeclinesPrinted Pack refuses index segments kind = DeclinesTranscoded ToPacked refuses index segments kind
 DeclinesPrinted Unpack refuses index segments kind = DeclinesTranscoded ToFramed refuses index segments kind
+DeclinesPrinted (Canonical format) refuses index segments kind = DeclinesForm (root_of segments) refuses kind

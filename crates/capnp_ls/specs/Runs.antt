@@ -6,11 +6,7 @@ use Rattle.capnp_ls.specs.declared.command.Command.{Command}
 use Rattle.capnp_ls.specs.declared.stop.Stop.{Stop}
 use Rattle.capnp_ls.specs.declared.stop.Stop.TheVariants.{Usage, Refused}
 use Rattle.capnp_ls.specs.Commands.{input_of}
-use Rattle.capnp_ls.specs.Output.{Prints, DeclinesPrinted}
-
--- the default options' limit, in words
-abbrev pub limit : Option ℕ
-limit = Some 8388608
+use Rattle.capnp_ls.specs.Output.{limit, Prints, DeclinesPrinted}
 
 -- what the answer of a run over raw says that it did, where `left` stays unread and the sink has `before`, and then `after`
 abbrev pub HasRun : Command → Appending → Declining → Result (Unit {0}) Stop → Option (List ℕ) → Option (List ℕ) → Option (List ℕ) → List ℕ → Type 0

@@ -5,6 +5,7 @@ ghost use Rattle.capnp_ls.specs.Commands.{command_words, input_of};
 
 use crate::listing::write_line;
 use capnp::io::Write;
+use capnp::message::{DEFAULT_READER_OPTIONS, Reader};
 use capnp::serialize::OwnedSegments;
 use capnp::streams::{Format, MessageWriter};
 use capnp::{Result, serialize, serialize_packed};
@@ -19,6 +20,8 @@ pub enum Command {
     Pack,
     /// `unpack`: write each packed message framed.
     Unpack,
+    /// `canon`, and `canon --packed`: write the canonical form of each message, framed.
+    Canonical(Format),
 }
 
 impl Command {
@@ -33,10 +36,14 @@ impl Command {
                 "list" => Some(Command::Listing(Format::Framed)),
                 "pack" => Some(Command::Pack),
                 "unpack" => Some(Command::Unpack),
+                "canon" => Some(Command::Canonical(Format::Framed)),
                 _ => None,
             },
             [word, option] if word.as_str() == "list" && option.as_str() == "--packed" => {
                 Some(Command::Listing(Format::Packed))
+            }
+            [word, option] if word.as_str() == "canon" && option.as_str() == "--packed" => {
+                Some(Command::Canonical(Format::Packed))
             }
             _ => None,
         }
@@ -50,6 +57,7 @@ impl Command {
             Command::Listing(format) => format,
             Command::Pack => Format::Framed,
             Command::Unpack => Format::Packed,
+            Command::Canonical(format) => format,
         }
     }
 }
@@ -77,6 +85,10 @@ impl MessageWriter for Command {
             }
             Command::Pack => serialize_packed::write_message_segments(alloc, sink, message),
             Command::Unpack => serialize::write_message_segments(alloc, sink, message),
+            Command::Canonical(_) => {
+                let reader = Reader::new(message, DEFAULT_READER_OPTIONS);
+                serialize::write_canonical_message(alloc, sink, &reader)
+            }
         }
     }
 }

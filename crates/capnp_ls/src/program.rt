@@ -5,7 +5,8 @@ ghost use Rattle.capnp.specs.Streams.{refuses_of, IsStream};
 ghost use Rattle.capnp.specs.Runs.{most_messages};
 ghost use Rattle.capnp_ls.specs.declared.command.Command.{Command};
 ghost use Rattle.capnp_ls.specs.Commands.{command_words, input_of};
-ghost use Rattle.capnp_ls.specs.Runs.{limit, HasRun, IsFault, IsAnswerTo, IsFaulted, IfRefused};
+ghost use Rattle.capnp_ls.specs.Output.{limit};
+ghost use Rattle.capnp_ls.specs.Runs.{HasRun, IsFault, IsAnswerTo, IsFaulted, IfRefused};
 
 use crate::command::Command;
 use crate::stop::Stop;
@@ -17,8 +18,8 @@ use std::alloc::Global;
 /// Runs the command of these words: reads the messages of `source`, and writes what the command
 /// prints of each to `sink`.
 ///
-/// `list` writes a line for each message, `pack` and `unpack` its text in the other format. A run
-/// takes at most 2^64 - 1 messages, and leaves the rest unread.
+/// `list` writes a line for each message, `pack` and `unpack` its text in the other format, `canon` its
+/// canonical form, framed. A run takes at most 2^64 - 1 messages, and leaves the rest unread.
 pub fn run<R: BufRead, W: Write>(
     alloc: Global,
     words: &[String],
@@ -92,5 +93,7 @@ fn print_all<R: BufRead, W: Write>(
     }
 }
 
+#[cfg(test)]
+mod canon_tests;
 #[cfg(test)]
 mod tests;

@@ -21,7 +21,7 @@ const LINES: [&str; 4] = [
     "0 2 1 0 1\n1 1 0 0\n2 1 2 2\n",
 ];
 
-fn words(alloc: Global, texts: &[&str]) -> Result<Vec<String>, AllocError> {
+pub(crate) fn words(alloc: Global, texts: &[&str]) -> Result<Vec<String>, AllocError> {
     let mut words = Vec::new(alloc);
     for text in texts {
         words.push(String::from_str(alloc, text)?)?;
@@ -30,7 +30,7 @@ fn words(alloc: Global, texts: &[&str]) -> Result<Vec<String>, AllocError> {
 }
 
 // The message and the number of a refusal's kind.
-fn refusal(answer: Result<(), Stop>) -> Option<(u64, u8)> {
+pub(crate) fn refusal(answer: Result<(), Stop>) -> Option<(u64, u8)> {
     match answer {
         Err(Stop::Refused { message, error }) => Some((message, error.kind.number())),
         _ => None,
@@ -80,7 +80,7 @@ fn lines_before_a_refusal_stay(rt: HostRuntime) -> Result<(), Fail> {
 
 #[test]
 fn other_words_read_nothing(rt: HostRuntime) -> Result<(), Fail> {
-    let others: [&[&str]; 8] = [
+    let others: [&[&str]; 11] = [
         &[],
         &["lists"],
         &["list", "list"],
@@ -88,6 +88,9 @@ fn other_words_read_nothing(rt: HostRuntime) -> Result<(), Fail> {
         &["list", "--packed", "--packed"],
         &["--packed", "list"],
         &["pack", "--packed"],
+        &["canon", "canon"],
+        &["canon", "--packed", "--packed"],
+        &["canonical"],
         &["LIST"],
     ];
     for texts in others {

@@ -23,6 +23,11 @@ fn stops_are_reported_by_one_line(rt: HostRuntime) -> Result<(), Fail> {
             "capnp_ls: message 0: error 12 OutOfMemory\n",
         ),
         (
+            refused(2, ErrorKind::InvalidSegmentId(7)),
+            1,
+            "capnp_ls: message 2: error 18 InvalidSegmentId(7)\n",
+        ),
+        (
             refused(
                 18446744073709551615,
                 ErrorKind::MessageEndsPrematurely(3, 2),
