@@ -132,8 +132,8 @@ fn append(bytes: &mut Vec<u8>, word: u64) -> Result<()> {
     Ok(())
 }
 
-// So many structs, each behind its one pointer.
-fn chain(alloc: Global, length: usize) -> Result<Vec<u8>> {
+/// So many structs, each behind its one pointer.
+pub fn chain(alloc: Global, length: usize) -> Result<Vec<u8>> {
     let mut bytes: Vec<u8> = Vec::new(alloc);
     for _ in 0..length {
         append(&mut bytes, ONE)?;
@@ -142,8 +142,8 @@ fn chain(alloc: Global, length: usize) -> Result<Vec<u8>> {
     Ok(bytes)
 }
 
-// Structs of two pointers, each of which leads to the next struct: a tree of 2^40 - 1 structs.
-fn doublings(alloc: Global) -> Result<Vec<u8>> {
+/// Structs of two pointers, each of which leads to the next struct: a tree of 2^40 - 1 structs.
+pub fn doublings(alloc: Global) -> Result<Vec<u8>> {
     let mut bytes: Vec<u8> = Vec::new(alloc);
     append(&mut bytes, TWO)?;
     for _ in 0..39 {
@@ -155,8 +155,8 @@ fn doublings(alloc: Global) -> Result<Vec<u8>> {
     Ok(bytes)
 }
 
-// A list of 65,536 pointers, each of which leads to the same list of 8,192 zero words.
-fn shared_lists(alloc: Global) -> Result<Vec<u8>> {
+/// A list of 65,536 pointers, each of which leads to the same list of 8,192 zero words.
+pub fn shared_lists(alloc: Global) -> Result<Vec<u8>> {
     let mut bytes: Vec<u8> = Vec::new(alloc);
     append(&mut bytes, 0x0008_0006_0000_0001)?;
     for left in (0..65536).rev() {

@@ -19,6 +19,8 @@ macro_rules! retried {
 }
 
 #[cfg(test)]
+mod builder_memory;
+#[cfg(test)]
 mod faults;
 #[cfg(test)]
 mod flat;
@@ -28,6 +30,8 @@ mod flat_rows;
 mod framed_rows;
 #[cfg(test)]
 mod hostile;
+#[cfg(test)]
+mod hostile_messages;
 #[cfg(test)]
 mod lengths;
 #[cfg(test)]
@@ -49,6 +53,10 @@ mod pieces;
 #[cfg(test)]
 mod prefixes;
 #[cfg(test)]
+mod regions;
+#[cfg(test)]
+mod requests;
+#[cfg(test)]
 mod roots;
 #[cfg(test)]
 mod samples;
@@ -66,6 +74,8 @@ mod streams;
 mod tables;
 #[cfg(test)]
 mod texts;
+#[cfg(test)]
+mod transcodings;
 #[cfg(test)]
 mod values;
 #[cfg(test)]

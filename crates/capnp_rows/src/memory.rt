@@ -9,7 +9,7 @@ use capnp_frame::serialize::{SegmentLengthsBuilder, try_read_segments};
 use capnp_frame::{ErrorKind, Result};
 use std::process::Abort;
 
-fn lacks_memory<T>(answer: &Result<T>) -> bool {
+pub fn lacks_memory<T>(answer: &Result<T>) -> bool {
     answer
         .as_ref()
         .is_err_and(|error| error.kind == ErrorKind::OutOfMemory)

@@ -57,7 +57,7 @@ const LEFT_OVER: &[&[u8]] = &[
 ];
 
 #[rattlefmt::skip]
-pub const ROOTS: [Root; 35] = [
+pub const ROOTS: [Root; 36] = [
     // Row hello, and what the two words of its list are charged.
     (HELLO, DEFAULT_LIMIT, IS_TEXT, b"Hello, World!", b"Hello, World!\0", Ok(2), Ok(true)),
     (HELLO, Some(2), IS_TEXT, b"Hello, World!", b"Hello, World!\0", Ok(2), Ok(true)),
@@ -114,6 +114,9 @@ pub const ROOTS: [Root; 35] = [
     // All words of a list of structs are charged, those behind its elements too.
     (LEFT_OVER, Some(3), [KIND; 4], b"", b"", Ok(2), Ok(false)),
     (LEFT_OVER, Some(2), [Some(LIMITED); 4], b"", b"", Err(LIMITED), Err(LIMITED)),
+    // A list of no bytes, behind a pad of two words, at the end of a segment of no words.
+    (&[b"\x06\0\0\0\x01\0\0\0", b"\x02\0\0\0\x02\0\0\0\x01\0\0\0\x02\0\0\0", b""], DEFAULT_LIMIT,
+     [NO_TEXT, None, KIND, KIND], b"", b"", Ok(0), Ok(false)),
 ];
 
 const OUT: ErrorKind = ErrorKind::PointerOutOfBounds;
@@ -131,7 +134,7 @@ const NO_SEVENTH: ErrorKind = ErrorKind::InvalidSegmentId(7);
 const NO_NINTH: ErrorKind = ErrorKind::InvalidSegmentId(9);
 
 #[rattlefmt::skip]
-pub const REFUSED: [Refused; 29] = [
+pub const REFUSED: [Refused; 30] = [
     // No segment, and no word of one.
     (&[], 64, NO_SEGMENT, Err(NO_SEGMENT)),
     (&[b""], 64, OUT, Err(OUT)),
@@ -148,6 +151,8 @@ pub const REFUSED: [Refused; 29] = [
     (&[b"\x01\0\0\0\x07\0\0\0\x01\0\0\0\0\0\0\0"], 64, WRONG, Err(WRONG)),
     (&[b"\x01\0\0\0\x07\0\0\0\x05\0\0\0\x01\0\0\0"], 64, WRONG, Err(WRONG)),
     (&[b"\x01\0\0\0\x07\0\0\0\x04\0\0\0\x01\0\0\0"], 64, OUT, Err(OUT)),
+    // A tag of 2^29 + 1 elements: the number has 30 bits.
+    (&[b"\x01\0\0\0\x17\0\0\0\x04\0\0\x80\x01\0\x01\0\0\0\0\0\0\0\0\0\0\0\0\0\0\0\0\0"], 64, OUT, Err(OUT)),
     // Pads: in no segment, past the end, half past the end, and those that lead to pads.
     (&[b"\x02\0\0\0\x07\0\0\0"], 64, NO_SEVENTH, Ok(false)),
     (&[b"\x0a\0\0\0\0\0\0\0"], 64, OUT, Ok(false)),

@@ -2,7 +2,7 @@
 use crate::framed_rows::FRAMED;
 use crate::messages::has_segments;
 use crate::packed_rows::PACKED;
-use crate::sources::{Counting, Trickle};
+use crate::sources::Trickle;
 use capnp::{message, serialize, serialize_packed};
 use capnp_frame::io::{BufRead, Read};
 use capnp_frame::message::{ReaderOptions, ReaderSegments};
@@ -62,15 +62,21 @@ pub enum Reader {
     Message,
     /// As a message, into a lent buffer of so many bytes, at most 8,192.
     LentMessage(usize),
+    /// As a message that has to be there, into memory that grows.
+    Needed,
+    /// As a message that has to be there, into a lent buffer of so many bytes, at most 8,192.
+    LentNeeded(usize),
 }
 
 /// Each call, the lent buffer being larger than each message of a row.
-pub const READERS: [Reader; 5] = [
+pub const READERS: [Reader; 7] = [
     Reader::Copying,
     Reader::Reusing,
     Reader::Lending(4096),
     Reader::Message,
     Reader::LentMessage(4096),
+    Reader::Needed,
+    Reader::LentNeeded(4096),
 ];
 
 fn with_limit(limit: Option<usize>) -> ReaderOptions {
@@ -93,7 +99,8 @@ pub fn is_answered<R: BufRead>(
     }
 }
 
-fn is_read<R: Read>(
+/// The same of a source that need not show bytes, by the framed calls.
+pub fn is_read<R: Read>(
     alloc: Global,
     reader: Reader,
     source: &mut R,
@@ -121,6 +128,16 @@ fn is_read<R: Read>(
             let buffer = &mut space[..room.min(8192)];
             let read = serialize::try_read_message_no_alloc(source, buffer, options);
             is_wanted(segments_of(read), wanted)
+        }
+        Reader::Needed => {
+            let read = serialize::read_message(alloc, source, options);
+            is_wanted(needed_segments_of(read), needed(wanted))
+        }
+        Reader::LentNeeded(room) => {
+            let mut space = [0xaa; 8192];
+            let buffer = &mut space[..room.min(8192)];
+            let read = serialize::read_message_no_alloc(source, buffer, options);
+            is_wanted(needed_segments_of(read), needed(wanted))
         }
     }
 }
@@ -153,6 +170,16 @@ fn is_unpacked<R: BufRead>(
             let read = serialize_packed::try_read_message_no_alloc(source, buffer, options);
             is_wanted(segments_of(read), wanted)
         }
+        Reader::Needed => {
+            let read = serialize_packed::read_message(alloc, source, options);
+            is_wanted(needed_segments_of(read), needed(wanted))
+        }
+        Reader::LentNeeded(room) => {
+            let mut space = [0xaa; 8192];
+            let buffer = &mut space[..room.min(8192)];
+            let read = serialize_packed::read_message_no_alloc(source, buffer, options);
+            is_wanted(needed_segments_of(read), needed(wanted))
+        }
     }
 }
 
@@ -163,6 +190,20 @@ fn segments_of<S: ReaderSegments + Drop>(
     match answer? {
         Some(reader) => Ok(Some(reader.into_segments())),
         None => Ok(None),
+    }
+}
+
+fn needed_segments_of<S: ReaderSegments + Drop>(
+    answer: Result<message::Reader<S>>,
+) -> Result<Option<S>> {
+    Ok(Some(answer?.into_segments()))
+}
+
+// What is answered where a message has to be there: at the end it is missed.
+fn needed(wanted: Wanted<'_>) -> Wanted<'_> {
+    match wanted {
+        Wanted::End => Wanted::Refused(ErrorKind::PrematureEndOfFile),
+        _ => wanted,
     }
 }
 
@@ -231,37 +272,6 @@ pub fn read_stream(
             unread.unwrap_or(left),
             "{name}, {call:?}, {most} bytes"
         );
-    }
-    Ok(())
-}
-
-// Framed texts, their segments, and how many pieces of them have bytes: the first word, the table's
-// rest, the segments.
-#[rattlefmt::skip]
-const PIECES: [(&[u8], Wanted<'static>, u64); 4] = [
-    (&[0, 0, 0, 0, 0, 0, 0, 0], Wanted::Segments(&[&[]]), 1),
-    (&[0, 0, 0, 0, 1, 0, 0, 0, 1, 2, 3, 4, 5, 6, 7, 8],
-     Wanted::Segments(&[&[1, 2, 3, 4, 5, 6, 7, 8]]), 2),
-    (&[1, 0, 0, 0, 0, 0, 0, 0, 0, 0, 0, 0, 9, 9, 9, 9], Wanted::Segments(&[&[], &[]]), 2),
-    (&[1, 0, 0, 0, 0, 0, 0, 0, 1, 0, 0, 0, 9, 9, 9, 9, 1, 2, 3, 4, 5, 6, 7, 8],
-     Wanted::Segments(&[&[], &[1, 2, 3, 4, 5, 6, 7, 8]]), 3),
-];
-
-// A piece of no bytes asks for nothing.
-#[test]
-fn each_piece_is_asked_for_once(rt: HostRuntime) -> Result<()> {
-    retried!(count_pieces(&rt))
-}
-
-fn count_pieces(rt: &(impl Abort + AllocGlobal)) -> Result<()> {
-    for reader in READERS {
-        for (text, wanted, pieces) in PIECES {
-            let mut source = Counting::new(text);
-            let answered = is_read(rt.alloc(), reader, &mut source, NO_LIMIT, wanted)?;
-            assert!(rt; answered, "{text:?}, {reader:?}");
-            assert_eq!(rt; source.empty, 0, "{text:?}, {reader:?}");
-            assert_eq!(rt; source.requests, pieces, "{text:?}, {reader:?}");
-        }
     }
     Ok(())
 }
