@@ -1,11 +1,14 @@
 -- What a view of the root of a message that is built shows.
-use Rattle.std.proofs.Common.{◌≡◌, ℕ, List, [], ◌∷◌, map, None, Some, refl, subst, arith}
-use Rattle.capnp_wire.specs.Tree.{Form, null, none}
+use Rattle.std.proofs.Common.{◌≡◌, ℕ, List, [], ◌∷◌, ◌++◌, map, None, Some, Result, Ok, Err, IfOk, MatchResult, refl, sym, subst, arith}
+use Rattle.std.proofs.lemmas.List.{append_cancel_right}
+use Rattle.capnp_frame.specs.declared.error.Error.{Error}
+use Rattle.capnp_wire.specs.Tree.{Form, null, numbers, none}
 use Rattle.capnp_wire.specs.Object.{Shape, PointsTo, nothing, word_at}
 use Rattle.capnp_wire.specs.Reached.{at, root, Root}
-use Rattle.capnp_wire.specs.Views.{Denotes, at_place, Shows, Reads}
+use Rattle.capnp_wire.specs.Views.{Pointer, Denotes, nowhere, at_place, Shows, Reads, IsText}
 use Rattle.capnp_wire.specs.Charge.{Within}
 use Rattle.capnp_wire.specs.Readers.{unlimited_root}
+use Rattle.capnp_wire.proofs.ObjectLemmas.{one_object}
 use Rattle.capnp_wire.proofs.ViewLemmas.{one_denoted}
 use Rattle.capnp_wire.proofs.FaultLemmas.{word_of_object}
 use Rattle.capnp_wire.proofs.FullLemmas.{null_is_zero}
@@ -30,6 +33,27 @@ pub root_is_read : (spaces : List Space) (form : Form) (fact : Form → Type 0) 
 root_is_read spaces form fact stands read =
     let shown = root_is_shown spaces form (λ shape. fact shape.form × Within None shape.charge) stands read in
     subst fact shown.1 shown.2.0
+
+-- what a pointer to a root stands for is what stands there
+denotes_root : (pointer : Pointer) (shape other : Shape) → pointer.place ≡ Some root → Denotes pointer other → PointsTo pointer.message root shape → other ≡ shape
+denotes_root pointer shape other is (nowhere absent) points = cc
+denotes_root pointer shape other is (at_place {place = place} there stands deep) points =
+    let same : place ≡ root = cc in
+    one_object pointer.message root other shape (subst (λ at. PointsTo pointer.message at other) same stands) points
+
+pub read_at_root : (pointer : Pointer) (form : Form) (fact : Shape → Type 0) → pointer.place ≡ Some root → (charge : ℕ) × Root pointer.message form none charge
+    → Shows pointer fact → (shape : Shape) × (shape.form ≡ form) × fact shape
+read_at_root pointer form fact is (charge, at {shape = shape} points inside others) (other, denotes, holds) =
+    (shape, refl, subst fact (denotes_root pointer shape other is denotes points) holds)
+
+pub root_text_is : {X : Type 0} (refuses : Error → Type 0) (bytes_of : X → List ℕ) (pointer : Pointer) (bytes : List ℕ) (r : Result X Error) → pointer.place ≡ Some root
+    → (charge : ℕ) × Root pointer.message (numbers 2 (bytes ++ 0 ∷ [])) none charge
+    → MatchResult r (λ view. Reads pointer (λ form. IsText form (bytes_of view))) refuses → IfOk r (λ view. bytes_of view ≡ bytes)
+root_text_is refuses bytes_of pointer bytes (Err e) is stands answer = tt
+root_text_is refuses bytes_of pointer bytes (Ok view) is stands answer =
+    let shown = read_at_root pointer (numbers 2 (bytes ++ 0 ∷ [])) _ is stands answer in
+    let text : IsText (numbers 2 (bytes ++ 0 ∷ [])) (bytes_of view) = subst (λ form. IsText form (bytes_of view)) shown.1 shown.2.0 in
+    sym (append_cancel_right bytes (bytes_of view) (0 ∷ []) text.1)
 
 -- a null root is read as null
 null_at : (m : List (List ℕ)) (form : Form) (charge : ℕ) → form ≡ null → Root m form none charge → word_at m root ≡ Some 0

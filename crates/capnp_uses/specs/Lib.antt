@@ -1,2 +1,4 @@
 -- What callers say.
+pub mod Reading
 pub mod Roots
+pub mod Streaming

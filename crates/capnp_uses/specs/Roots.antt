@@ -1,10 +1,15 @@
--- What stands at the root of a message that is built.
-use Rattle.std.specs.Prelude.{ℕ, List}
+-- What stands at the root of a message.
+use Rattle.std.specs.Prelude.{ℕ, List, map}
 use Rattle.capnp_wire.specs.Tree.{Form, none}
+use Rattle.capnp_wire.specs.Object.{message_of}
 use Rattle.capnp_wire.specs.Reached.{Root}
 use Rattle.capnp_build.specs.Bytes.{Space}
-use Rattle.capnp_build.specs.Built.{message}
+use Rattle.capnp_build.specs.Held.{used_of}
 
--- an object without pointers stands at the root
+-- an object without pointers stands at the root of these segments
+abbrev pub HasRoot : List (List ℕ) → Form → Type 0
+HasRoot segments form = (charge : ℕ) × Root (message_of segments) form none charge
+
+-- and at the root of a message that is built
 abbrev pub HasRootForm : List Space → Form → Type 0
-HasRootForm spaces form = (charge : ℕ) × Root (message spaces) form none charge
+HasRootForm spaces form = HasRoot (map used_of spaces) form

@@ -5,4 +5,12 @@
 #![tactic(auto)]
 
 pub mod building;
+pub mod canonical;
+pub mod packed_struct;
+pub mod packing;
+pub mod reading;
+pub mod record_log;
 pub mod setting;
+pub mod streaming;
+#[cfg(test)]
+mod tests;

@@ -1,0 +1,124 @@
+-- What is appended to a log is read back.
+use Rattle.std.proofs.Common.{◌≡◌, ◌⊎◌, inl, inr, ℕ, ◌<◌, ◌≤◌, Option, Some, None, List, [], ◌∷◌, ◌++◌, length, take, drop, refl, sym, ap, ◌∙◌, subst, arith, append_assoc, length-append, length-drop}
+use Rattle.std.proofs.Math.Seq.{take-append_seam}
+use Rattle.std.proofs.lemmas.List.{append-nil}
+use Rattle.capnp_frame.specs.declared.error.Error.{Error}
+use Rattle.capnp_frame.specs.declared.error.ErrorKind.{ErrorKind}
+use Rattle.capnp_frame.specs.declared.error.ErrorKind.TheVariants.{DeviceFailed, OutOfMemory}
+use Rattle.capnp_frame.specs.Limits.{IsWithin}
+use Rattle.capnp_frame.specs.Source.{IfKnown, IsFront, Fails}
+use Rattle.capnp_frame.specs.Sink.{Adds, ByKind}
+use Rattle.capnp_frame.specs.Texts.{Grammar, BeginsWith, AreTexts}
+use Rattle.capnp_frame.specs.Writing.{IsWritable}
+use Rattle.capnp_frame.proofs.AskLemmas.{never_fails}
+use Rattle.capnp_frame.proofs.SizeLemmas.{HasTable-writable}
+use Rattle.capnp_frame.proofs.TextLemmas.{texts_part}
+use Rattle.capnp_pack.specs.PackedFrame.{IsPackedFrame}
+use Rattle.capnp_pack.specs.RefusingLaws.{unpacking}
+use Rattle.capnp_pack.proofs.AllLemmas.{AllByRecursion-append}
+use Rattle.capnp_pack.proofs.PackedFrameLemmas.{packed_requests, packed_text_is}
+use Rattle.capnp.specs.declared.streams.Format.TheVariants.{Packed}
+use Rattle.capnp.specs.Streams.{EndsBy, IsStream}
+use Rattle.capnp.specs.Written.{IsTextOf, IsPackedTextOf, AppendsEach, RefusesAppending}
+use Rattle.capnp.proofs.AppendedLemmas.{appended_stream}
+use Rattle.capnp.proofs.RunLemmas.{format_parts}
+use Rattle.capnp_uses.specs.Streaming.{kind_of, LacksMemory, IsLog}
+
+-- Appending
+
+appends_more : (records : List (List (List ℕ))) (m : List (List ℕ)) (log text : List ℕ) → AppendsEach (IsTextOf Packed) records log → IsPackedTextOf m text
+    → AppendsEach (IsTextOf Packed) (records ++ m ∷ []) (log ++ text)
+appends_more [] m log text none here = (text, [], here, refl, ap (λ l. l ++ text) none ∙ sym (append-nil text))
+appends_more (r ∷ rs) m log text (first, others, this, all, spelled) here =
+    (first, others ++ text, this, appends_more rs m others text all here, ap (λ l. l ++ text) spelled ∙ append_assoc first others text)
+
+pub appended_log : (m : List (List ℕ)) (old new : List ℕ) → IsWritable m → IfKnown (Some old) (Some new) (Adds (IsPackedTextOf m))
+    → (limit : Option ℕ) (records : List (List (List ℕ))) → IsLog limit records old → IsWithin m limit → IsLog limit (records ++ m ∷ []) new
+appended_log m old new writable (text, packed, spelled) limit records log within = record {
+  writable = AllByRecursion-append _ records (m ∷ []) log.writable (writable, tt);
+  within = AllByRecursion-append _ records (m ∷ []) log.within (within, tt);
+  appended = subst (λ l. AppendsEach (IsTextOf Packed) (records ++ m ∷ []) l) (sym spelled) (appends_more records m old text log.appended packed);
+}
+
+-- what stands at the front is kept by a cut to its length
+pub cut_back : (old new kept : List ℕ) (end : ℕ) → IfKnown (Some old) (Some new) IsFront → end ≡ length old → kept ≡ take end new → kept ≡ old
+cut_back old new kept end (tail, spelled) at is = is ∙ ap (λ k. take k new) at ∙ ap (λ l. take (length old) l) spelled ∙ take-append_seam old tail
+
+pub log_memory : (kind : ErrorKind) → RefusesAppending (ByKind OutOfMemory) kind → (kind ≡ DeviceFailed → Fails 0 0) → kind ≡ OutOfMemory
+log_memory kind (inl device) failed = absurd (never_fails kind failed device)
+log_memory kind (inr (inl memory)) failed = memory
+log_memory kind (inr (inr (piece, memory))) failed = memory
+
+-- Reading
+
+none_of : (refusal : Option Error) → kind_of refusal ≡ None → refusal ≡ None
+none_of None none = refl
+none_of (Some error) none = cc
+
+whole_end : (limit : Option ℕ) (refusal : Option Error) (log : List ℕ) (end : ℕ) → end ≤ length log → kind_of refusal ≡ None → EndsBy Packed limit (kind_of refusal) (drop end log) → end ≡ length log
+whole_end limit refusal log end within none ends =
+    let nothing : drop end log ≡ [] = subst (λ ending. EndsBy Packed limit ending (drop end log)) none ends in
+    omega (arith, ap length nothing, length-drop end log)
+
+pub log_is_read : (limit : Option ℕ) (ms : List (List (List ℕ))) (refusal : Option Error) (log : List ℕ) (end : ℕ) → end ≤ length log
+    → LacksMemory refusal ⊎ EndsBy Packed limit (kind_of refusal) (drop end log)
+    → ((messages : List (List (List ℕ))) (ending : Option ErrorKind) → IsStream Packed limit messages ending log → LacksMemory refusal ⊎ (ms ≡ messages) × (kind_of refusal ≡ ending))
+    → (records : List (List (List ℕ))) → IsLog limit records log → LacksMemory refusal ⊎ (ms ≡ records) × (refusal ≡ None) × (end ≡ length log)
+log_is_read limit ms refusal log end within (inl memory) exact records is = inl memory
+log_is_read limit ms refusal log end within (inr ends) exact records is =
+    elim (exact records None (appended_stream Packed limit records log is.writable is.within is.appended)) [
+      | inl memory ↦ inl memory
+      | inr same ↦ inr (same.0, none_of refusal same.1, whole_end limit refusal log end within same.1 ends)
+    ]
+
+-- A log that is cut
+
+-- texts stay where more bytes follow
+texts_behind : (IsText : Grammar) (limit : Option ℕ) (ms : List (List (List ℕ))) (raw rest part : List ℕ) → AreTexts IsText limit ms raw rest → AreTexts IsText limit ms (raw ++ part) (rest ++ part)
+texts_behind IsText limit [] raw rest part texts = ap (λ l. l ++ part) texts
+texts_behind IsText limit (m ∷ ms) raw rest part (between, begins, texts) = (
+  between ++ part,
+  record { text = begins.text; is_text = begins.is_text; within = begins.within; spelled = ap (λ l. l ++ part) begins.spelled ∙ append_assoc begins.text between part },
+  texts_behind IsText limit ms between rest part texts,
+)
+
+-- no record is read of a part of another one
+part_is_none : (limit : Option ℕ) (next other : List (List ℕ)) (part missing left : List ℕ) → IsWritable next → IsPackedTextOf next (part ++ missing) → 0 < length missing
+    → BeginsWith IsPackedFrame limit other part left → ⊥
+part_is_none limit next other part missing left writable packed some begins =
+    let whole = packed_text_is (part ++ missing) next (HasTable-writable next writable) packed in
+    let joined : begins.text ++ (left ++ missing) ≡ (part ++ missing) ++ [] =
+    sym (append_assoc begins.text left missing) ∙ ap (λ l. l ++ missing) (sym begins.spelled) ∙ sym (append-nil (part ++ missing)) in
+    let same = texts_part unpacking packed_requests begins.text (part ++ missing) (left ++ missing) [] other next begins.is_text whole joined in
+    omega (arith, ap length same.2, length-append left missing)
+
+-- up to such a part there is one list of records
+cut_once : (limit : Option ℕ) (ending : Option ErrorKind) (ms ns : List (List (List ℕ))) (raw rest part : List ℕ)
+    → AreTexts IsPackedFrame limit ms raw rest → EndsBy Packed limit ending rest → AreTexts IsPackedFrame limit ns raw part
+    → ((other : List (List ℕ)) (left : List ℕ) → BeginsWith IsPackedFrame limit other part left → ⊥) → (ms ≡ ns) × (rest ≡ part)
+cut_once limit ending [] [] raw rest part texts ends others none = (refl, texts ∙ sym others)
+cut_once limit ending [] (n ∷ ns) raw rest part texts ends others none =
+    absurd ((format_parts Packed limit).ends_apart ending n raw others.0 (subst (λ l. EndsBy Packed limit ending l) texts ends) others.1)
+cut_once limit ending (m ∷ ms) [] raw rest part texts ends others none =
+    absurd (none m texts.0 (subst (λ l. BeginsWith IsPackedFrame limit m l texts.0) (sym others) texts.1))
+cut_once limit ending (m ∷ ms) (n ∷ ns) raw rest part texts ends others none =
+    let same = (format_parts Packed limit).begins_once m n raw texts.0 others.0 texts.1 others.1 in
+    let inner = cut_once limit ending ms ns others.0 rest part (subst (λ l. AreTexts IsPackedFrame limit ms l rest) same.1 texts.2) ends others.2 none in
+    (ap (λ x. x ∷ ms) same.0 ∙ ap (λ l. n ∷ l) inner.0, inner.1)
+
+cut_end : (log whole part : List ℕ) (end : ℕ) → end ≤ length log → log ≡ whole ++ part → drop end log ≡ part → end ≡ length whole
+cut_end log whole part end within is left = omega (arith, ap length is, length-append whole part, ap length left, length-drop end log)
+
+pub cut_is_told : (limit : Option ℕ) (ms : List (List (List ℕ))) (refusal : Option Error) (log : List ℕ) (end : ℕ) → end ≤ length log
+    → AreTexts IsPackedFrame limit ms log (drop end log) → LacksMemory refusal ⊎ EndsBy Packed limit (kind_of refusal) (drop end log)
+    → (records : List (List (List ℕ))) (whole part missing : List ℕ) (next : List (List ℕ)) → IsLog limit records whole → IsWritable next → IsPackedTextOf next (part ++ missing)
+    → 0 < length missing → log ≡ whole ++ part → LacksMemory refusal ⊎ (ms ≡ records) × (end ≡ length whole)
+cut_is_told limit ms refusal log end within texts (inl memory) records whole part missing next is writable packed some spelled = inl memory
+cut_is_told limit ms refusal log end within texts (inr ends) records whole part missing next is writable packed some spelled =
+    let stream = appended_stream Packed limit records whole is.writable is.within is.appended in
+    let nothing : stream.rest ≡ [] = stream.ends in
+    let behind = texts_behind IsPackedFrame limit records whole stream.rest part stream.texts in
+    let there : AreTexts IsPackedFrame limit records log part =
+    subst (λ l. AreTexts IsPackedFrame limit records l part) (sym spelled) (subst (λ l. AreTexts IsPackedFrame limit records (whole ++ part) (l ++ part)) nothing behind) in
+    let same = cut_once limit (kind_of refusal) ms records log (drop end log) part texts ends there (λ other left. part_is_none limit next other part missing left writable packed some) in
+    inr (same.0, cut_end log whole part end within spelled same.1)

@@ -1,0 +1,27 @@
+-- A message that is written packed is read back.
+use Rattle.std.proofs.Common.{◌≡◌, ℕ, Some, Option, Result, Ok, Err, IfOk, OnOk, List, [], ◌∷◌, ◌++◌, sym, ap, ◌∙◌, subst}
+use Rattle.std.proofs.lemmas.List.{append-nil}
+use Rattle.capnp_frame.specs.declared.error.Error.{Error}
+use Rattle.capnp_frame.specs.Source.{IfKnown}
+use Rattle.capnp_frame.specs.Sink.{Adds}
+use Rattle.capnp_frame.specs.Texts.{BeginsWith}
+use Rattle.capnp_frame.specs.Writing.{IsWritable}
+use Rattle.capnp_frame.proofs.SizeLemmas.{HasTable-writable}
+use Rattle.capnp_frame.proofs.TextLemmas.{texts_part}
+use Rattle.capnp_pack.specs.PackedFrame.{IsPackedFrame}
+use Rattle.capnp_pack.specs.RefusingLaws.{unpacking}
+use Rattle.capnp_pack.proofs.PackedFrameLemmas.{packed_requests, packed_text_is}
+use Rattle.capnp.specs.Streams.{BeginsPacked}
+use Rattle.capnp.specs.Written.{IsPackedTextOf}
+
+pub packed_read : (limit : Option ℕ) (read message : List (List ℕ)) (text left : List ℕ) → BeginsPacked limit read text left → IsWritable message → IsPackedTextOf message text → read ≡ message
+packed_read limit read message text left begins writable packed =
+    let whole = packed_text_is text message (HasTable-writable message writable) packed in
+    (texts_part unpacking packed_requests begins.text text left [] read message begins.is_text whole (sym begins.spelled ∙ sym (append-nil text))).1
+
+-- what is added to nothing
+pub added_text : (message : List (List ℕ)) (old new : List ℕ) → old ≡ [] → Adds (IsPackedTextOf message) old new → IsPackedTextOf message new
+added_text message old new none (text, packed, spelled) = subst (λ l. IsPackedTextOf message l) (sym (spelled ∙ ap (λ l. l ++ text) none)) packed
+
+pub shown_text : (message : List (List ℕ)) (text shown : List ℕ) → shown ≡ text → IsPackedTextOf message text → IsPackedTextOf message shown
+shown_text message text shown same packed = subst (λ l. IsPackedTextOf message l) (sym same) packed

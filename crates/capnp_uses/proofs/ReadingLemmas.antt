@@ -1,0 +1,59 @@
+-- Readers of bytes at hand answer the one message that stands there.
+use Rattle.std.proofs.Common.{◌≡◌, ℕ, List, [], Option, Some, None, IfSome, Result, Ok, Err, IsOk, IfOk, IfErr, MatchResult, sym, ap, subst}
+use Rattle.std.specs.Prelude.{IfNone, IsSomeAnd, IsOkAnd}
+use Rattle.capnp_frame.specs.declared.error.Error.{Error}
+use Rattle.capnp_frame.specs.declared.error.ErrorKind.TheVariants.{DeviceFailed, OutOfMemory}
+use Rattle.capnp_frame.specs.declared.message.options.ReaderOptions.{ReaderOptions}
+use Rattle.capnp_frame.specs.declared.message.options.TheConstants.{DEFAULT_READER_OPTIONS}
+use Rattle.capnp_wire.specs.Views.{Pointer}
+use Rattle.capnp_wire.specs.Values.{IsCanonicalForm}
+use Rattle.capnp_message.specs.Seen.{root_of}
+use Rattle.capnp_frame.specs.Source.{Fails, Splits, RunsShort}
+use Rattle.capnp.specs.declared.streams.Format.{Format}
+use Rattle.capnp.specs.Streams.{StandsNext, IsPlainSource}
+use Rattle.capnp.specs.Headline.{IsFault}
+use Rattle.capnp_uses.specs.Reading.{default_root}
+use Rattle.capnp.proofs.RunLemmas.{format_lawful, format_requested, format_parts}
+use Rattle.capnp.proofs.ReaderLemmas.{nothing_begins}
+use Rattle.capnp.proofs.AppendedLemmas.{memory_only}
+
+-- a slice is a plain source
+pub slices_are_plain : IsPlainSource Splits RunsShort
+slices_are_plain = record { given = λ raw n bytes rest. (λ p. p, λ p. p); refused = λ raw n kind. (λ p. p, λ p. p) }
+
+-- a reader that asks for memory, or answers that there is nothing
+pub exactly : {X : Type 0} (segments : X → List (List ℕ)) (format : Format) (limit : Option ℕ) (bytes left : List ℕ) (r : Result (Option X) Error)
+    → IfOk r (λ found. IfSome found (λ x. StandsNext format limit (segments x) bytes left))
+    → IfOk r (λ found. IfNone found (bytes ≡ []))
+    → ((message : List (List ℕ)) (rest : List ℕ) → StandsNext format limit message bytes rest → IfErr r (λ e. IsFault e.kind))
+    → IfErr r (λ e. e.kind ≡ DeviceFailed → Fails 0 0)
+    → (message : List (List ℕ)) (rest : List ℕ) → StandsNext format limit message bytes rest
+    → MatchResult r (λ found. IsSomeAnd found (λ x. segments x ≡ message)) (λ e. e.kind ≡ OutOfMemory)
+exactly segments format limit bytes left (Ok None) found none accepted failed message rest begins =
+    absurd (nothing_begins (format_lawful format) (format_requested format) limit (λ m. ⊥) (Some bytes) none message rest begins)
+exactly segments format limit bytes left (Ok (Some x)) found none accepted failed message rest begins =
+    ((format_parts format limit).begins_once (segments x) message bytes left rest found begins).0
+exactly segments format limit bytes left (Err e) found none accepted failed message rest begins =
+    memory_only e.kind (accepted message rest begins) failed
+
+-- and one that asks for none
+pub exactly_lent : {X : Type 0} (segments : X → List (List ℕ)) (format : Format) (limit : Option ℕ) (bytes left : List ℕ) (r : Result X Error)
+    → IfOk r (λ x. StandsNext format limit (segments x) bytes left)
+    → ((message : List (List ℕ)) (rest : List ℕ) → StandsNext format limit message bytes rest → IsOk r)
+    → (message : List (List ℕ)) (rest : List ℕ) → StandsNext format limit message bytes rest
+    → IsOkAnd r (λ x. segments x ≡ message)
+exactly_lent segments format limit bytes left (Ok x) found accepted message rest begins =
+    ((format_parts format limit).begins_once (segments x) message bytes left rest found begins).0
+exactly_lent {X} segments format limit bytes left (Err e) found accepted message rest begins = let is_ok : IsOk {T = X} {E = Error} (Err e) = accepted message rest begins in cc
+
+-- The root that a reader of the default options follows
+pub root_is_default : (m message : List (List ℕ)) (options : ReaderOptions) → m ≡ message → options ≡ DEFAULT_READER_OPTIONS
+    → root_of (λ segments. segments) (record { segments = m; options = options }) ≡ default_root message
+root_is_default m message options same is =
+    subst (λ o. root_of (λ segments. segments) (record { segments = m; options = o }) ≡ default_root message) (sym is) (ap default_root same)
+
+-- and its canonical form
+pub form_of_root : {X : Type 0} (numbers_of : X → List ℕ) (Q : Error → Type 0) (r : Result X Error) (pointer other : Pointer) → pointer ≡ other
+    → MatchResult r (λ x. IsCanonicalForm pointer (numbers_of x)) Q → IfOk r (λ x. IsCanonicalForm other (numbers_of x))
+form_of_root numbers_of Q (Ok x) pointer other same answer = subst (λ p. IsCanonicalForm p (numbers_of x)) same answer
+form_of_root numbers_of Q (Err e) pointer other same answer = tt

@@ -1,0 +1,13 @@
+-- What is read was written.
+use Rattle.capnp_uses.proofs.SetLemmas.{root_has_segment}
+use Rattle.capnp_uses.proofs.PackedStructLemmas.{shown_text}
+use Rattle.capnp_uses.proofs.packed_struct.a_struct_is_read_packed.Goals as goal
+
+pub packed_text-requires : goal.packed_text-requires
+packed_text-requires g c = root_has_segment _ _ _ _ c.in_ok-write_struct.ensures.stands.1
+
+pub returns : goal.returns
+returns g c = record {
+  back = c.read_packed_words.ensures _ c.args.first c.args.second c.in_ok-text.ensures.0
+      (shown_text _ _ _ c.deref.ensures.value c.in_ok-text.ensures.1) c.in_ok-write_struct.ensures.stands;
+}

@@ -1,0 +1,12 @@
+-- What is unpacked was packed.
+use Rattle.std.proofs.Common.{◌≡◌, length, arith}
+use Rattle.capnp_uses.proofs.PackingLemmas.{filled_same}
+use Rattle.capnp_uses.proofs.packing.words_are_unpacked.Goals as goal
+
+pub returns : goal.returns
+returns c =
+    let room : length c.unpack_words.new.words ≡ length c.args.words.now = omega (arith, c.in_ok-unpacked.ensures.len) in
+    record {
+      back = filled_same c.args.words.now c.in_ok-text.text.items _ c.unpack_words.new.words _ _ c.packed_text_unpacks.ensures.alone
+          c.in_ok-text.ensures.packed c.deref.ensures.value room (omega (arith, room, c.in_ok-unpacked.ensures.len)) c.in_ok-unpack_words.ensures;
+    }

@@ -1,0 +1,10 @@
+-- The message that is found is the one that stands there.
+use Rattle.capnp.specs.declared.streams.Format.TheVariants.{Framed}
+use Rattle.capnp_uses.specs.Reading.{default_limit}
+use Rattle.capnp_uses.proofs.ReadingLemmas.{slices_are_plain, exactly}
+use Rattle.capnp_uses.proofs.reading.first_message.Goals as goal
+
+pub returns-clause-exact : goal.returns-clause-exact
+returns-clause-exact c = exactly (λ reader. reader.segments) Framed default_limit c.args.bytes.now _ c.try_read_message.result
+    (c.try_read_message.ensures.found slices_are_plain) c.try_read_message.ensures.none
+    (c.try_read_message.ensures.accepted slices_are_plain) c.try_read_message.ensures.failed

@@ -1,0 +1,25 @@
+//! The canonical words of a message.
+ghost use Rattle.std.specs.Prelude.{◌≡◌, ℕ, List, IfOk, IfErr};
+ghost use Rattle.capnp_frame.specs.declared.error.ErrorKind.{ErrorKind};
+ghost use Rattle.capnp_wire.specs.Values.{IsCanonicalForm};
+ghost use Rattle.capnp_message.specs.Canonical.{numbers, HasForm};
+ghost use Rattle.capnp.specs.Streams.{BeginsFramed};
+ghost use Rattle.capnp_uses.specs.Reading.{default_limit, default_root};
+
+use crate::reading::borrowed_message;
+use capnp::{Result, Word};
+use std::alloc::Global;
+
+/// The canonical words of the message that these bytes begin with. Only the words take memory.
+pub fn canonical_words(alloc: Global, bytes: &[u8]) -> Result<Vec<Word>>
+    ensures form { (message : List (List ℕ)) (rest : List ℕ) →
+        BeginsFramed default_limit message bytes.now rest →
+        IfOk result (λ words. IsCanonicalForm (default_root message) (numbers words.items)) }
+    // They are answered wherever there are such words, memory aside.
+    ensures found { (message : List (List ℕ)) (rest : List ℕ) →
+        BeginsFramed default_limit message bytes.now rest → HasForm (default_root message) →
+        IfErr result (λ error. error.kind ≡ ErrorKind.OutOfMemory) }
+{
+    let message = borrowed_message(bytes)?;
+    message.canonicalize(alloc)
+}

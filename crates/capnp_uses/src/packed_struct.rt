@@ -1,0 +1,55 @@
+//! A struct that is built, written packed, and read back.
+ghost use Rattle.std.specs.Prelude.{◌≡◌, ◌<◌, ◌∷◌, [], ℕ, List, length, IfOk};
+ghost use Rattle.capnp_frame.specs.Writing.{IsWritable};
+ghost use Rattle.capnp_wire.specs.Tree.{struct};
+ghost use Rattle.capnp.specs.Written.{IsPackedTextOf, output_of};
+ghost use Rattle.capnp_uses.specs.Roots.{HasRoot};
+
+use crate::building::write_struct;
+use capnp::message::DEFAULT_READER_OPTIONS;
+use capnp::serialize::OwnedSegments;
+use capnp::{Result, serialize_packed};
+use capnp_build::allocator::Allocator;
+use capnp_message::Builder;
+use capnp_wire::any_struct::StructReader;
+use std::alloc::Global;
+
+/// Makes a struct of two words the root of a message, writes that packed, and reads the words from
+/// there.
+pub fn a_struct_is_read_packed<A: Allocator>(
+    alloc: Global,
+    allocator: A,
+    first: u64,
+    second: u64,
+) -> Result<(u64, u64)>
+    ensures back { IfOk result (λ read. read ≡ (first, second)) }
+{
+    let mut message = Builder::new(alloc, allocator);
+    write_struct(&mut message, first, second)?;
+    let text = packed_text(alloc, &message)?;
+    read_packed_words(alloc, &text)
+}
+
+/// The packed text of a message that is built, which has a segment.
+pub fn packed_text<A: Allocator>(alloc: Global, message: &Builder<A>) -> Result<Vec<u8>>
+    requires { 0 < length message.now.spaces }
+    ensures { IfOk result (λ text. IsWritable (output_of message.now)
+        × IsPackedTextOf (output_of message.now) text.items) }
+{
+    let output = message.get_segments_for_output();
+    let mut text = Vec::new(alloc);
+    serialize_packed::write_message_segments(alloc, &mut text, &output)?;
+    Ok(text)
+}
+
+/// The first two data words of the struct at the root of a packed message.
+pub fn read_packed_words(alloc: Global, text: &[u8]) -> Result<(u64, u64)>
+    ensures { (message : List (List ℕ)) (first second : ℕ) → IsWritable message →
+        IsPackedTextOf message text.now → HasRoot message (struct (first ∷ second ∷ [])) →
+        IfOk result (λ read. read ≡ (first, second)) }
+{
+    let mut source = text;
+    let message = serialize_packed::read_message(alloc, &mut source, DEFAULT_READER_OPTIONS)?;
+    let fields: StructReader<'_, OwnedSegments> = message.get_root()?;
+    Ok((fields.get_word(0), fields.get_word(1)))
+}

@@ -1,0 +1,61 @@
+//! Words that are packed, and unpacked.
+ghost use Rattle.std.specs.Prelude.{◌≡◌, ◌⊎◌, ℕ, List, length, IfOk, IfErr, OnOk};
+ghost use Rattle.capnp_frame.specs.declared.error.ErrorKind.{ErrorKind};
+ghost use Rattle.capnp_frame.specs.Message.{IsWholeWords};
+ghost use Rattle.capnp_frame.specs.Source.{IfKnown, Fails};
+ghost use Rattle.capnp_frame.specs.Sink.{Adds};
+ghost use Rattle.capnp_pack.specs.Packed.{Packs};
+ghost use Rattle.capnp_pack.specs.PackedSink.{AppendsPacked, DeclinesPacked};
+ghost use Rattle.capnp_pack.specs.PackedSource.{Unpacks};
+
+use capnp::Result;
+use capnp::io::{Read, Write};
+use capnp_pack::{PackedRead, PackedWrite, laws};
+use std::alloc::Global;
+
+/// These words, packed.
+pub fn pack_words(alloc: Global, words: &[u8]) -> Result<Vec<u8>>
+    requires { IsWholeWords words.now }
+    ensures packed { IfOk result (λ text. Packs words.now text.items) }
+    ensures memory { IfErr result (λ error. error.kind ≡ ErrorKind.OutOfMemory) }
+{
+    laws::plain_sink_gets_the_packed_text();
+    let mut text = Vec::new(alloc);
+    pack_into(&mut text, words)?;
+    Ok(text)
+}
+
+// Packs words into a sink.
+fn pack_into<W: Write>(sink: &mut W, words: &[u8]) -> Result<()>
+    requires { IsWholeWords words.now }
+    ensures packed { OnOk result (IfKnown (W.written sink.old) (W.written sink.new)
+        (Adds (AppendsPacked W.appends words.now))) }
+    ensures refused { IfErr result (λ error. (error.kind ≡ ErrorKind.DeviceFailed)
+        ⊎ DeclinesPacked W.refuses words.now error.kind) }
+    ensures failed { IfErr result (λ error. error.kind ≡ ErrorKind.DeviceFailed →
+        Fails (W.failures sink.old) (W.failures sink.new)) }
+{
+    let mut packed = PackedWrite::new(sink);
+    packed.write_all(words)
+}
+
+/// Fills `words` with what is packed at the front of a text.
+pub fn unpack_words(text: &[u8], words: &mut [u8]) -> Result<()>
+    ensures { OnOk result ((rest : List ℕ) × Unpacks text.now (length words.new) words.new rest) }
+{
+    let mut source = text;
+    let mut packed = PackedRead::new(&mut source);
+    packed.read_exact(words)
+}
+
+/// Packs words, and unpacks them.
+pub fn words_are_unpacked(alloc: Global, words: &[u8]) -> Result<Vec<u8>>
+    requires { IsWholeWords words.now }
+    ensures back { IfOk result (λ unpacked. unpacked.items ≡ words.now) }
+{
+    laws::packed_text_unpacks();
+    let text = pack_words(alloc, words)?;
+    let mut unpacked = vec![in alloc; 0u8; words.len()]?;
+    unpack_words(&text, &mut unpacked)?;
+    Ok(unpacked)
+}

@@ -1,0 +1,50 @@
+//! Messages that are read from bytes at hand.
+ghost use Rattle.std.specs.Prelude.{◌≡◌, ◌++◌, ◌∷◌, [], ℕ, List, IfOk, IfSome, IfNone, MatchResult, IsSomeAnd, IsOkAnd};
+ghost use Rattle.capnp_frame.specs.declared.error.ErrorKind.{ErrorKind};
+ghost use Rattle.capnp_frame.specs.declared.message.options.TheConstants.{DEFAULT_READER_OPTIONS};
+ghost use Rattle.capnp_wire.specs.Tree.{numbers};
+ghost use Rattle.capnp.specs.Streams.{BeginsFramed};
+ghost use Rattle.capnp_uses.specs.Reading.{default_limit};
+ghost use Rattle.capnp_uses.specs.Roots.{HasRoot};
+
+use capnp::message::{DEFAULT_READER_OPTIONS, Reader, ReaderSegments};
+use capnp::serialize::{self, NoAllocSliceSegments, OwnedSegments};
+use capnp::{Result, text};
+use std::alloc::Global;
+
+/// The first message of these bytes, or `None` where there are none.
+pub fn first_message(alloc: Global, bytes: &[u8]) -> Result<Option<Reader<OwnedSegments>>>
+    ensures found { IfOk result (λ found. IfSome found (λ reader.
+        (rest : List ℕ) × BeginsFramed default_limit reader.segments bytes.now rest)) }
+    ensures none { IfOk result (λ found. IfNone found (bytes.now ≡ [])) }
+    // A message that stands there is answered, memory aside.
+    ensures exact { (message : List (List ℕ)) (rest : List ℕ) →
+        BeginsFramed default_limit message bytes.now rest → MatchResult result
+        (λ found. IsSomeAnd found (λ reader. reader.segments ≡ message))
+        (λ error. error.kind ≡ ErrorKind.OutOfMemory) }
+{
+    let mut source = bytes;
+    serialize::try_read_message(alloc, &mut source, DEFAULT_READER_OPTIONS)
+}
+
+/// The message that a lent buffer begins with, in place. No memory is taken.
+pub fn borrowed_message<'a>(bytes: &'a [u8]) -> Result<Reader<NoAllocSliceSegments<'a>>>
+    ensures found { IfOk result (λ reader. (rest : List ℕ)
+        × BeginsFramed default_limit reader.segments.segments bytes.now rest) }
+    ensures exact { (message : List (List ℕ)) (rest : List ℕ) →
+        BeginsFramed default_limit message bytes.now rest →
+        IsOkAnd result (λ reader. reader.segments.segments ≡ message) }
+    ensures options { IfOk result (λ reader. reader.options ≡ DEFAULT_READER_OPTIONS) }
+{
+    let mut source = bytes;
+    serialize::read_message_from_flat_slice_no_alloc(&mut source, DEFAULT_READER_OPTIONS)
+}
+
+/// The text at the root of a message.
+pub fn root_text<'a, S: ReaderSegments>(message: &'a Reader<S>) -> Result<text::Reader<'a>>
+    ensures shown { (bytes : List ℕ) →
+        HasRoot (S.segments message.now.segments) (numbers 2 (bytes ++ 0 ∷ [])) →
+        IfOk result (λ text. text.bytes.now ≡ bytes) }
+{
+    message.get_root()
+}

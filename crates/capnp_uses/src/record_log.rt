@@ -1,0 +1,75 @@
+//! A log of packed records: one is appended, and all are read back.
+ghost use Rattle.std.specs.Prelude.{◌≡◌, ◌≤◌, ◌<◌, ◌++◌, ◌∷◌, [], ◌⊎◌, ℕ, List, Option, None, length, map, OnOk, OnErr, IfOk, IfErr};
+ghost use Rattle.capnp_frame.specs.declared.error.ErrorKind.{ErrorKind};
+ghost use Rattle.capnp_frame.specs.Limits.{IsWithin};
+ghost use Rattle.capnp_frame.specs.Writing.{IsWritable};
+ghost use Rattle.capnp.specs.Written.{IsPackedTextOf};
+ghost use Rattle.capnp_uses.specs.Streaming.{IsLog, LacksMemory};
+
+use crate::streaming::{StreamRead, every_message};
+use capnp::message::{ReaderOptions, ReaderSegments};
+use capnp::streams::Format;
+use capnp::{Result, serialize_packed};
+use std::alloc::Global;
+
+/// Appends a record to a log. A log that is refused memory stays as it was.
+pub fn append<S: ReaderSegments>(alloc: Global, log: &mut Vec<u8>, message: &S) -> Result<()>
+    requires { IsWritable (S.segments message.now) }
+    ensures appended { (limit : Option ℕ) (records : List (List (List ℕ))) →
+        IsLog limit records log.old.items → IsWithin (S.segments message.now) limit →
+        OnOk result (IsLog limit (records ++ S.segments message.now ∷ []) log.new.items) }
+    ensures unchanged { OnErr result (log.new.items ≡ log.old.items) }
+    ensures memory { IfErr result (λ error. error.kind ≡ ErrorKind.OutOfMemory) }
+{
+    let end = log.len();
+    match serialize_packed::write_message_segments(alloc, log, message) {
+        Ok(()) => Ok(()),
+        Err(error) => {
+            log.truncate(end);
+            Err(error)
+        }
+    }
+}
+
+/// Reads all records of a log, and tells where they end.
+pub fn read_log(alloc: Global, log: &[u8], options: ReaderOptions) -> StreamRead
+    // What was appended is read back, in order, memory aside.
+    ensures back { (records : List (List (List ℕ))) →
+        IsLog options.traversal_limit_in_words records log.now →
+        LacksMemory result.refusal
+        ⊎ (map (λ reader. reader.segments) result.messages.items ≡ records)
+        × (result.refusal ≡ None) × (result.end ≡ length log.now) }
+    // Where the log is cut within a record those before it are read, and where they end is told.
+    ensures cut { (records : List (List (List ℕ))) (whole part missing : List ℕ)
+        (next : List (List ℕ)) → IsLog options.traversal_limit_in_words records whole →
+        IsWritable next → IsPackedTextOf next (part ++ missing) → 0 < length missing →
+        log.now ≡ whole ++ part →
+        LacksMemory result.refusal
+        ⊎ (map (λ reader. reader.segments) result.messages.items ≡ records)
+        × (result.end ≡ length whole) }
+    ensures within { result.end ≤ length log.now }
+{
+    every_message(alloc, Format::Packed, log, options)
+}
+
+/// Appends two records to an empty log, and reads them back.
+pub fn two_records_are_read_back<S: ReaderSegments, T: ReaderSegments>(
+    alloc: Global,
+    first: &S,
+    second: &T,
+    options: ReaderOptions,
+) -> Result<StreamRead>
+    requires first { IsWritable (S.segments first.now) }
+    requires second { IsWritable (T.segments second.now) }
+    requires first_within { IsWithin (S.segments first.now) options.traversal_limit_in_words }
+    requires second_within { IsWithin (T.segments second.now) options.traversal_limit_in_words }
+    ensures back { IfOk result (λ read. LacksMemory read.refusal
+        ⊎ (map (λ reader. reader.segments) read.messages.items
+        ≡ S.segments first.now ∷ T.segments second.now ∷ []) × (read.refusal ≡ None)) }
+    ensures memory { IfErr result (λ error. error.kind ≡ ErrorKind.OutOfMemory) }
+{
+    let mut log = Vec::new(alloc);
+    append(alloc, &mut log, first)?;
+    append(alloc, &mut log, second)?;
+    Ok(read_log(alloc, &log, options))
+}

@@ -1,0 +1,132 @@
+//! Streams whose messages are all read.
+ghost use Rattle.std.specs.Prelude.{◌≡◌, ◌≤◌, ◌++◌, ◌∷◌, [], ◌⊎◌, ℕ, List, Option, drop, length, map, IsTrue, IsFalse, IfOk, IfErr, OnErr, IfSome, IfNone};
+ghost use Rattle.capnp_frame.specs.declared.error.ErrorKind.{ErrorKind};
+ghost use Rattle.capnp_frame.specs.Source.{IfKnown, Fails};
+ghost use Rattle.capnp_frame.specs.Texts.{AreTexts};
+ghost use Rattle.capnp.specs.Streams.{grammar_of, StandsNext, EndsBy, IsStream};
+ghost use Rattle.capnp.specs.Runs.{IsReadingFault};
+ghost use Rattle.capnp_uses.specs.Streaming.{kind_of, LacksMemory};
+
+use capnp::io::BufRead;
+use capnp::message::{Reader, ReaderOptions};
+use capnp::serialize::{self, OwnedSegments};
+use capnp::streams::Format;
+use capnp::{Error, ErrorKind, Result, serialize_packed};
+use std::alloc::Global;
+
+/// The next message of a stream in either format, or `None` at its end.
+///
+/// What is said of the bytes holds where the source's are known, as a slice's are. A device's are
+/// not; there `failed` alone says something.
+pub fn next_message<R: BufRead>(
+    alloc: Global,
+    format: Format,
+    source: &mut R,
+    options: ReaderOptions,
+) -> Result<Option<Reader<OwnedSegments>>>
+    ensures found { IfOk result (λ found. IfSome found (λ reader.
+        IfKnown (R.unread source.old) (R.unread source.new)
+        (StandsNext format options.traversal_limit_in_words reader.segments))) }
+    ensures none { IfOk result (λ found. IfNone found
+        (IfSome (R.unread source.old) (λ raw. raw ≡ []))) }
+    ensures refused { IfErr result (λ error. IsReadingFault format
+        options.traversal_limit_in_words error.kind
+        (R.unread source.old) (R.unread source.new)) }
+    ensures failed { IfErr result (λ error. error.kind ≡ ErrorKind.DeviceFailed →
+        Fails (R.failures source.old) (R.failures source.new)) }
+{
+    match format {
+        Format::Framed => serialize::try_read_message(alloc, source, options),
+        Format::Packed => serialize_packed::try_read_message(alloc, source, options),
+    }
+}
+
+/// What was read of a stream that lies in memory.
+#[derive(Drop)]
+pub struct StreamRead {
+    /// The messages, in order.
+    pub messages: Vec<Reader<OwnedSegments>>,
+    /// Where the last of them ends, in bytes.
+    pub end: usize,
+    /// Why no further one was read, or `None` at the end of the stream.
+    pub refusal: Option<Error>,
+}
+
+/// Reads every message of a stream, one after another, up to its end or the first refusal.
+pub fn every_message(
+    alloc: Global,
+    format: Format,
+    stream: &[u8],
+    options: ReaderOptions,
+) -> StreamRead
+    // The messages are the first `end` bytes.
+    ensures within { result.end ≤ length stream.now }
+    ensures texts { AreTexts (grammar_of format) options.traversal_limit_in_words
+        (map (λ reader. reader.segments) result.messages.items)
+        stream.now (drop result.end stream.now) }
+    // And there the stream ends, or is refused so.
+    ensures ends { LacksMemory result.refusal
+        ⊎ EndsBy format options.traversal_limit_in_words (kind_of result.refusal)
+        (drop result.end stream.now) }
+    // So it is the one list of messages that the stream is, memory aside.
+    ensures exact { (messages : List (List (List ℕ))) (ending : Option ErrorKind) →
+        IsStream format options.traversal_limit_in_words messages ending stream.now →
+        LacksMemory result.refusal
+        ⊎ (map (λ reader. reader.segments) result.messages.items ≡ messages)
+        × (kind_of result.refusal ≡ ending) }
+{
+    let mut messages = Vec::new(alloc);
+    let mut rest = stream;
+    let mut end = 0;
+    for count in 0..u64::MAX {
+        match add_next(alloc, format, &mut rest, options, &mut messages) {
+            Ok(true) => end = stream.len() - rest.len(),
+            Ok(false) => {
+                return StreamRead {
+                    messages,
+                    end,
+                    refusal: None,
+                };
+            }
+            Err(error) => {
+                return StreamRead {
+                    messages,
+                    end,
+                    refusal: Some(error),
+                };
+            }
+        }
+    }
+    StreamRead {
+        messages,
+        end,
+        refusal: Some(Error::from_kind(ErrorKind::OutOfMemory)),
+    }
+}
+
+// Adds the next message to those before it, or tells that none is left.
+fn add_next(
+    alloc: Global,
+    format: Format,
+    rest: &mut &[u8],
+    options: ReaderOptions,
+    messages: &mut Vec<Reader<OwnedSegments>>,
+) -> Result<bool>
+    ensures added { IfOk result (λ more. IsTrue more → (message : List (List ℕ))
+        × StandsNext format options.traversal_limit_in_words message rest.old.now rest.new.now
+        × (map (λ reader. reader.segments) messages.new.items
+        ≡ map (λ reader. reader.segments) messages.old.items ++ message ∷ [])) }
+    ensures ended { IfOk result (λ more. IsFalse more →
+        (rest.old.now ≡ []) × (messages.new.items ≡ messages.old.items)) }
+    ensures refused { IfErr result (λ error. (error.kind ≡ ErrorKind.OutOfMemory)
+        ⊎ EndsBy format options.traversal_limit_in_words (Some error.kind) rest.old.now) }
+    ensures kept { OnErr result (messages.new.items ≡ messages.old.items) }
+{
+    match next_message(alloc, format, rest, options)? {
+        Some(message) => {
+            messages.push(message)?;
+            Ok(true)
+        }
+        None => Ok(false),
+    }
+}
