@@ -1,0 +1,48 @@
+/* Framed and packed messages of Cap'n Proto over lent buffers. No call takes memory.
+ *
+ * Each call answers 0, or the number of a refusal (docs/REFUSALS.md). A pointer and the length
+ * behind it are one block; what is written overlaps nothing else that is passed. */
+#ifndef CAPNP_C_H
+#define CAPNP_C_H
+
+#include <stddef.h>
+#include <stdint.h>
+
+#ifdef __cplusplus
+extern "C" {
+#endif
+
+/* Packs whole words into a text, and tells how many bytes that took. A part of a word is refused by
+ * 14, and a text without room by 2. Of n words a text has at most 8 n + (n + 3) / 2 bytes. */
+uint8_t linsjoar_pack(const uint8_t *words, size_t words_len, uint8_t *text, size_t text_len,
+                      size_t *written);
+
+/* Fills words with what is packed at the front of a text, and tells how many bytes of it that took. */
+uint8_t linsjoar_unpack(const uint8_t *text, size_t text_len, uint8_t *words, size_t words_len,
+                        size_t *read);
+
+/* Where a framed message lies in a buffer, in bytes. */
+struct linsjoar_message {
+    size_t segments; /* how many segments it has */
+    size_t start;    /* where the first of them begins, after their table */
+    size_t end;      /* where the last of them ends */
+};
+
+/* Finds the framed message at the front of a buffer, of 1 to 511 segments and at most 8,388,608 words. */
+uint8_t linsjoar_message(const uint8_t *bytes, size_t len, struct linsjoar_message *message);
+
+/* How many words a segment of that message has; 18 without it. The segments stand one after another. */
+uint8_t linsjoar_segment(const uint8_t *bytes, size_t len, uint32_t id, size_t *words);
+
+/* How many words the canonical form of that message has, with its root pointer. */
+uint8_t linsjoar_canonical_size(const uint8_t *bytes, size_t len, size_t *words);
+
+/* Writes that form to the front of a block, and tells how many words it has; 2 without room. */
+uint8_t linsjoar_canonical(const uint8_t *bytes, size_t len, uint8_t *block, size_t block_len,
+                           size_t *words);
+
+#ifdef __cplusplus
+}
+#endif
+
+#endif

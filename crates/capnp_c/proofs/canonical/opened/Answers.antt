@@ -1,0 +1,9 @@
+-- The arena is over the message that stands there.
+use Rattle.std.proofs.Common.{ap, ◌∙◌}
+use Rattle.capnp_c.proofs.FrontLemmas.{one_front}
+use Rattle.capnp_c.proofs.canonical.opened.Goals as goal
+
+pub returns-clause-front : goal.returns-clause-front
+returns-clause-front c segments rest front =
+    let found = c.in_ok-segments.ensures.found in
+    ap (λ held. held.segments) c.new.ensures.segments ∙ one_front c.args.bytes.now found.0 rest c.in_ok-segments.segments.segments segments found.1 front.frame

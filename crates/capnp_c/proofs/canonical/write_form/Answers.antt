@@ -1,0 +1,11 @@
+-- The pointer and the body behind it are the canonical form.
+use Rattle.std.proofs.Common.{◌∙◌, arith}
+use Rattle.capnp_wire.specs.Readers.{pointer_of}
+use Rattle.capnp_wire.proofs.SetterLemmas.{whole_form}
+use Rattle.capnp_c.proofs.canonical.write_form.Goals as goal
+
+pub returns-clause-form : goal.returns-clause-form
+returns-clause-form g c =
+    whole_form (pointer_of g.S.ReaderSegments.segments c.args.reader.now) c.write-pointer.result c.copy_from_slice.new.self c.fill.new.self c.write-pointer.new.block
+    (c.copy_from_slice.ensures.after ∙ c.bytes.ensures) c.copy_from_slice.ensures.len (c.requires.0, c.requires.1, c.fill.ensures.len ∙ c.requires.2)
+    (omega (arith, c.write-pointer.ensures.len)) c.write-pointer.ensures.written

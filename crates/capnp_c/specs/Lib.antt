@@ -1,0 +1,2 @@
+-- What the exports say.
+pub mod Fronts

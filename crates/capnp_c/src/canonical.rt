@@ -1,0 +1,99 @@
+//! Canonical words that are written into a lent block.
+ghost use Rattle.std.specs.Prelude.{◌≡◌, ◌+◌, ◌*◌, ◌≤◌, ℕ, List, true, length, take, IfOk, pos, Some};
+ghost use Rattle.capnp_wire.specs.Pointer.{words_of};
+ghost use Rattle.capnp_wire.specs.Readers.{pointer_of};
+ghost use Rattle.capnp_wire.specs.Values.{HasWords, LeadsToTree, IsCanonicalForm};
+ghost use Rattle.capnp_c.specs.Fronts.{IsAtFront, root_pointer};
+
+use capnp_frame::message::{DEFAULT_READER_OPTIONS, ReaderSegments};
+use capnp_frame::serialize::{NoAllocBufferSegments, NoAllocSliceSegments};
+use capnp_frame::{Error, ErrorKind, Result};
+use capnp_wire::any_pointer;
+use capnp_wire::arena::ReaderArena;
+use capnp_wire::canonical::canonical_size;
+use capnp_wire::traits::SetterInput;
+
+/// How many words the canonical form of the message at the front of these bytes has, with its root.
+#[unsafe(no_mangle)]
+pub extern "C" fn linsjoar_canonical_size(bytes: &[u8], words: &mut usize) -> u8
+    ensures { (segments : List (List ℕ)) (rest : List ℕ) → IsAtFront bytes.now segments rest →
+        result ≡ 0 → (behind : ℕ) × HasWords (LeadsToTree (root_pointer segments)) true behind
+        × (words.new ≡ behind + 1) }
+{
+    *words = 0;
+    match measured(bytes) {
+        Ok(size) => {
+            *words = size;
+            0
+        }
+        Err(error) => error.kind.number(),
+    }
+}
+
+/// Writes that form to the front of a block, and tells how many words it has. A block without room
+/// for it is refused by 2.
+#[unsafe(no_mangle)]
+pub extern "C" fn linsjoar_canonical(bytes: &[u8], block: &mut [u8], words: &mut usize) -> u8
+    ensures { (segments : List (List ℕ)) (rest : List ℕ) → IsAtFront bytes.now segments rest →
+        result ≡ 0 → (8 * words.new ≤ length block.new)
+        × IsCanonicalForm (root_pointer segments) (words_of (take (8 * words.new) block.new)) }
+{
+    *words = 0;
+    match written(bytes, block) {
+        Ok(size) => {
+            *words = size;
+            0
+        }
+        Err(error) => error.kind.number(),
+    }
+}
+
+// The message at the front.
+fn opened<'a>(bytes: &'a [u8]) -> Result<ReaderArena<NoAllocSliceSegments<'a>>>
+    ensures front { (segments : List (List ℕ)) (rest : List ℕ) →
+        IsAtFront bytes.now segments rest →
+        IfOk result (λ arena. arena.segments.segments ≡ segments) }
+    ensures nesting { IfOk result (λ arena. arena.nesting_limit ≡ pos 64) }
+    ensures limit { IfOk result (λ arena. arena.limiter.limit ≡ Some 8388608) }
+{
+    let segments = NoAllocBufferSegments::from_buffer(bytes, DEFAULT_READER_OPTIONS)?;
+    Ok(ReaderArena::new(segments, DEFAULT_READER_OPTIONS))
+}
+
+fn measured(bytes: &[u8]) -> Result<usize>
+    ensures { (segments : List (List ℕ)) (rest : List ℕ) → IsAtFront bytes.now segments rest →
+        IfOk result (λ words. (behind : ℕ)
+        × HasWords (LeadsToTree (root_pointer segments)) true behind × (words ≡ behind + 1)) }
+{
+    let arena = opened(bytes)?;
+    let root = arena.get_root()?;
+    Ok(canonical_size(&root)? as usize)
+}
+
+fn written(bytes: &[u8], block: &mut [u8]) -> Result<usize>
+    ensures { (segments : List (List ℕ)) (rest : List ℕ) → IsAtFront bytes.now segments rest →
+        IfOk result (λ words. (8 * words ≤ length block.new)
+        × IsCanonicalForm (root_pointer segments) (words_of (take (8 * words) block.new))) }
+{
+    let arena = opened(bytes)?;
+    let root = arena.get_root()?;
+    let words = canonical_size(&root)? as usize;
+    if block.len() < 8 * words {
+        return Err(Error::from_kind(ErrorKind::BufferNotLargeEnough));
+    }
+    write_form(&root, &mut block[..8 * words]);
+    Ok(words)
+}
+
+// Writes the canonical form of what a pointer leads to into a block of just its words.
+fn write_form<S: ReaderSegments>(reader: &any_pointer::Reader<'_, S>, block: &mut [u8])
+    requires { (behind : ℕ)
+        × HasWords (LeadsToTree (pointer_of S.segments reader.now)) true behind
+        × (length block.old ≡ 8 * (behind + 1)) }
+    ensures form { IsCanonicalForm (pointer_of S.segments reader.now) (words_of block.new) }
+    ensures len { length block.new ≡ length block.old }
+{
+    block.fill(0);
+    let pointer = reader.write(true, &mut block[8..]);
+    block[..8].copy_from_slice(&pointer.bytes());
+}

@@ -1,0 +1,72 @@
+//! Framed messages that are checked and listed.
+ghost use Rattle.std.specs.Prelude.{◌≡◌, ◌+◌, ◌*◌, ℕ, List, length, slice_get, Some};
+ghost use Rattle.capnp_frame.specs.Message.{lengths};
+ghost use Rattle.capnp_frame.specs.SegmentTable.{table_size};
+ghost use Rattle.capnp_c.specs.Fronts.{IsAtFront};
+
+use capnp_frame::ErrorKind;
+use capnp_frame::message::{DEFAULT_READER_OPTIONS, ReaderSegments};
+use capnp_frame::serialize::NoAllocBufferSegments;
+
+/// Where a framed message at the front of a buffer lies, in bytes.
+#[repr(C)]
+#[derive(Clone, Copy)]
+pub struct LinsjoarMessage {
+    /// How many segments it has.
+    pub segments: usize,
+    /// Where the first of them begins, after their table.
+    pub start: usize,
+    /// Where the last of them ends.
+    pub end: usize,
+}
+
+/// Finds the framed message at the front of these bytes.
+#[unsafe(no_mangle)]
+pub extern "C" fn linsjoar_message(bytes: &[u8], message: &mut LinsjoarMessage) -> u8
+    ensures found { result ≡ 0 → (segments : List (List ℕ)) × (rest : List ℕ)
+        × IsAtFront bytes.now segments rest × (message.new.segments ≡ length segments)
+        × (message.new.start ≡ table_size (length segments))
+        × (message.new.end + length rest ≡ length bytes.now) }
+    ensures accepted { (segments : List (List ℕ)) (rest : List ℕ) →
+        IsAtFront bytes.now segments rest → result ≡ 0 }
+{
+    *message = LinsjoarMessage {
+        segments: 0,
+        start: 0,
+        end: 0,
+    };
+    let mut rest = bytes;
+    match NoAllocBufferSegments::from_slice(&mut rest, DEFAULT_READER_OPTIONS) {
+        Ok(segments) => {
+            let count = segments.len();
+            *message = LinsjoarMessage {
+                segments: count,
+                start: 8 * (count / 2 + 1),
+                end: bytes.len() - rest.len(),
+            };
+            0
+        }
+        Err(error) => error.kind.number(),
+    }
+}
+
+/// How many words a segment of that message has. The segments stand one after another.
+///
+/// A message without a segment of this number is refused by 18.
+#[unsafe(no_mangle)]
+pub extern "C" fn linsjoar_segment(bytes: &[u8], id: u32, words: &mut usize) -> u8
+    ensures { (segments : List (List ℕ)) (rest : List ℕ) → IsAtFront bytes.now segments rest →
+        result ≡ 0 → slice_get (lengths segments) id ≡ Some words.new }
+{
+    *words = 0;
+    match NoAllocBufferSegments::from_buffer(bytes, DEFAULT_READER_OPTIONS) {
+        Ok(segments) => match segments.get_segment(id) {
+            Some(segment) => {
+                *words = segment.len() / 8;
+                0
+            }
+            None => ErrorKind::InvalidSegmentId(id).number(),
+        },
+        Err(error) => error.kind.number(),
+    }
+}

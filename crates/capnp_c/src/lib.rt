@@ -1,0 +1,9 @@
+//! The library for C: words packed and unpacked, framed messages checked and listed, canonical words.
+//!
+//! Each export works over buffers that its caller lends, and takes no memory. It answers 0, or the
+//! number of a refusal (docs/REFUSALS.md). `capnp_c.h` declares them.
+#![tactic(auto)]
+
+mod canonical;
+mod framed;
+mod packed;
