@@ -1,0 +1,55 @@
+// Preloaded into a program, it refuses one of the program's growths: the call of malloc or realloc
+// whose number, counted from 1, REFUSED names. Calls of libraries are not counted. At the end it
+// writes the number of growths to the file that COUNTED names.
+#define _GNU_SOURCE
+#include <link.h>
+#include <stdint.h>
+#include <stdio.h>
+#include <stdlib.h>
+
+void *__libc_malloc(size_t);
+void *__libc_realloc(void *, size_t);
+
+static uintptr_t first, behind;
+static unsigned long calls, refused;
+
+// The program itself comes first.
+static int note(struct dl_phdr_info *info, size_t size, void *data) {
+    (void)size, (void)data;
+    for (int i = 0; i < info->dlpi_phnum; i++) {
+        const ElfW(Phdr) *part = &info->dlpi_phdr[i];
+        if (part->p_type == PT_LOAD && part->p_flags & PF_X) {
+            first = info->dlpi_addr + part->p_vaddr;
+            behind = first + part->p_memsz;
+        }
+    }
+    return 1;
+}
+
+__attribute__((constructor)) static void begin(void) {
+    const char *number = getenv("REFUSED");
+    refused = number ? strtoul(number, NULL, 10) : 0;
+    dl_iterate_phdr(note, NULL);
+}
+
+__attribute__((destructor)) static void end(void) {
+    const char *name = getenv("COUNTED");
+    FILE *file = name ? fopen(name, "w") : NULL;
+    if (file) {
+        fprintf(file, "%lu\n", calls);
+        fclose(file);
+    }
+}
+
+static int refuses(void *caller) {
+    uintptr_t at = (uintptr_t)caller;
+    return at >= first && at < behind && ++calls == refused;
+}
+
+void *malloc(size_t size) {
+    return refuses(__builtin_return_address(0)) ? NULL : __libc_malloc(size);
+}
+
+void *realloc(void *block, size_t size) {
+    return refuses(__builtin_return_address(0)) ? NULL : __libc_realloc(block, size);
+}
