@@ -19,8 +19,6 @@ macro_rules! retried {
 }
 
 #[cfg(test)]
-mod builder_memory;
-#[cfg(test)]
 mod faults;
 #[cfg(test)]
 mod flat;
