@@ -18,6 +18,14 @@ use capnp_frame::{Error, ErrorKind, Result};
 /// consumes just these. A request that isn't whole words is refused by `NotWholeWords`, and nothing
 /// is read. Where a piece is cut or a run goes past its end, the first such place decides the
 /// refusal, however the source cuts its bytes.
+///
+/// ```
+/// let mut source = [0x51, 8, 3, 2].as_slice();
+/// let mut words = [0; 8];
+/// let mut packed = PackedRead::new(&mut source);
+/// packed.read_exact(&mut words)?;
+/// assert_eq!(rt; words, [8, 0, 0, 0, 3, 0, 2, 0]);
+/// ```
 #[derive(Drop)]
 pub struct PackedRead<'a, R: BufRead> {
     source: &'a mut R,

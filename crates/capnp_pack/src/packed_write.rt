@@ -21,6 +21,13 @@ use capnp_frame::{Error, ErrorKind, Result};
 /// Each piece is packed by itself, and no run goes past its end. Its packed bytes are collected and
 /// handed on in parts, the words of a literal run from the piece itself. A piece that isn't whole
 /// words is refused by `NotWholeWords`, and nothing is written.
+///
+/// ```
+/// let mut text = Vec::new(alloc);
+/// let mut packed = PackedWrite::new(&mut text);
+/// packed.write_all(&[8, 0, 0, 0, 3, 0, 2, 0])?;
+/// assert_eq!(rt; text.as_slice(), [0x51, 8, 3, 2].as_slice());
+/// ```
 #[derive(Drop)]
 pub struct PackedWrite<'a, W: Write> {
     sink: &'a mut W,
