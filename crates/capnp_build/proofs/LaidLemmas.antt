@@ -6,10 +6,10 @@ use Rattle.std.proofs.lemmas.List.{take_all}
 use Rattle.std.specs.Int.{to_le_bytes}
 use Rattle.capnp_wire.proofs.ObjectLemmas.{one_tree}
 use Rattle.capnp_wire.specs.Pointer.{number_of, words_of, words_from}
-use Rattle.capnp_wire.specs.Tree.{Form, null, struct, numbers, pointers, structs, Trees, none, tree, count, total_words}
+use Rattle.capnp_wire.specs.Tree.{Form, null, struct, numbers, pointers, structs, Trees, none, tree, total_words}
 use Rattle.capnp_wire.specs.Object.{word_at}
 use Rattle.capnp_wire.specs.Reached.{At, root}
-use Rattle.capnp_wire.specs.Layout.{pointer, minus_one, far_pointer, body, Laid, HasRoom, AllHaveRoom}
+use Rattle.capnp_wire.specs.Layout.{pointer, minus_one, far_pointer, body, Laid, HasRoom}
 use Rattle.capnp_wire.specs.declared.layout.place.Place.{Place}
 use Rattle.capnp_wire.proofs.WordLemmas.{length-words_of}
 use Rattle.capnp_wire.proofs.MessageLemmas.{segment_stands}

@@ -1,14 +1,13 @@
 -- Segments that are written, one of them changed.
 use Rattle.std.proofs.lemmas.List.{length-replicate}
 use Rattle.std.proofs.Common.{◌≡◌, ℕ, zero, suc, ◌+◌, ◌-◌, ◌*◌, ◌/◌, ◌^◌, ◌<◌, ◌≤◌, List, [], ◌∷◌, length, map, take, drop, Option, Some, None, slice_get, refl, sym, ap, ◌∙◌, arith, ◌++◌}
-use Rattle.std.proofs.Common.{replicate, slice_index_or, slice_set, subst, length-set, length-append, min}
+use Rattle.std.proofs.Common.{replicate, slice_index_or, slice_set, subst, length-set, min}
 use Rattle.capnp_wire.specs.Pointer.{words_of}
-use Rattle.capnp_wire.specs.Object.{word_at, pad}
+use Rattle.capnp_wire.specs.Object.{word_at}
 use Rattle.capnp_wire.specs.Reached.{root}
-use Rattle.capnp_build.specs.Bytes.{Space, written, with_block, with_bytes}
+use Rattle.capnp_build.specs.Bytes.{Space, written, with_bytes}
 use Rattle.capnp_build.specs.Held.{used_of, space_at, room_of}
 use Rattle.capnp_build.specs.Built.{message, size_in_words, KeepsRooms}
-use Rattle.capnp_build.specs.Filled.{with_more}
 use Rattle.capnp_build.proofs.UsedLemmas.{written_length, written_zero}
 use Rattle.capnp_build.proofs.ByteLemmas.{used_at, set_here, part_here}
 

@@ -9,7 +9,8 @@ use Rattle.capnp_build.proofs.ReadLemmas.{number_laid, same_numbers}
 use Rattle.capnp_build.proofs.RewriteLemmas.{bytes_laid}
 use Rattle.capnp_build.proofs.SpaceLemmas.{size_set}
 use Rattle.capnp_build.proofs.UsedLemmas.{written_length}
-use Rattle.capnp_build.specs.Built.{Built, IsWritten, IsLaid, IsBuilt, HasField, IsFieldSet, HasNumber, IsNumberSet, HasBytes, IsBytesSet, size_in_words}
+use Rattle.capnp_build.specs.Built.{Built, IsLaid, IsBuilt, size_in_words}
+use Rattle.capnp_build.specs.Written.{IsWritten, HasField, IsFieldSet, HasNumber, IsNumberSet, HasBytes, IsBytesSet}
 use Rattle.capnp_build.specs.Bytes.{Space, written, with_bytes}
 use Rattle.capnp_build.specs.Held.{Held, space_at, with_space, pair, pairs}
 use Rattle.capnp_build.specs.declared.arena.spot.Spot.{Spot}

@@ -1,5 +1,5 @@
 -- A message that is built, whose root is a tree.
-use Rattle.std.specs.Prelude.{⊤, ◌≡◌, ◌⊎◌, ℕ, ◌+◌, ◌-◌, ◌*◌, ◌/◌, ◌^◌, ◌<◌, ◌≤◌, max, Bool, false, List, zero, suc, [], ◌∷◌, ◌++◌, length, map, slice_set, Option, Some, None, MatchOption}
+use Rattle.std.specs.Prelude.{⊤, ◌≡◌, ◌⊎◌, ℕ, ◌+◌, ◌-◌, ◌*◌, ◌/◌, ◌^◌, ◌<◌, ◌≤◌, max, Bool, false, List, zero, suc, [], ◌∷◌, ◌++◌, length, map, Option, Some, None, MatchOption}
 use Rattle.std.specs.Prelude.{take, drop, replicate}
 use Rattle.capnp_frame.specs.declared.error.ErrorKind.{ErrorKind}
 use Rattle.capnp_wire.specs.Pointer.{words_of}
@@ -9,7 +9,7 @@ use Rattle.capnp_wire.specs.Reached.{At, root, Root}
 use Rattle.capnp_wire.specs.Layout.{pointer, far_pointer, layout, Laid, formed, AllHaveRoom}
 use Rattle.capnp_wire.specs.Values.{HasWords}
 use Rattle.capnp_wire.specs.declared.layout.place.Place.{Place}
-use Rattle.capnp_build.specs.Bytes.{Space, written}
+use Rattle.capnp_build.specs.Bytes.{Space}
 use Rattle.capnp_build.specs.Out.{Out, MayRefuse}
 use Rattle.capnp_build.specs.Held.{Held, pairs as pairs_of, used_of, space_at, room_of}
 use Rattle.capnp_build.specs.declared.arena.spot.Spot.{Spot}
@@ -173,53 +173,6 @@ pub record IsPlaced {A : Type 0} (old : List Space) (new : Built A) (words : ℕ
   pub far : room_of (space_at old 0) < words → (segment : ℕ) × (0 < segment) × IsAtEnd old new.spot segment 1 words
       × ((i : ℕ) → 0 < i → i < segment → room_of (space_at old i) < words + 1) × (segment ≤ length old)
       × (length new.spaces ≡ max (length old) (segment + 1)) × (size_in_words new.spaces ≡ size_in_words old + words + 1)
-
--- the root is a struct with such a data word
-pub record HasField (spaces : List Space) (index : ℕ) : Type 0 where
-  pub words : List ℕ
-  pub held : Trees
-  pub charge : ℕ
-  pub stands : At (message spaces) (root ∷ []) (tree (struct words) held none) charge
-  pub within : index < length words
-
--- one of the root's data words is another one, and all else is as it was
-abbrev pub IsFieldSet : List Space → List Space → ℕ → ℕ → Type 0
-IsFieldSet spaces last index word =
-    (words : List ℕ) (held : Trees) (charge : ℕ) → At (message spaces) (root ∷ []) (tree (struct words) held none) charge
-    → (after : ℕ) × At (message last) (root ∷ []) (tree (struct (slice_set words index word)) held none) after
-
--- the root is a list of bytes with so many of them from an index on
-pub record HasBytes (spaces : List Space) (index n : ℕ) : Type 0 where
-  pub values : List ℕ
-  pub charge : ℕ
-  pub stands : At (message spaces) (root ∷ []) (tree (numbers 2 values) none none) charge
-  pub within : index + n ≤ length values
-
--- some of the root's bytes are others, and all else is as it was
-abbrev pub IsBytesSet : List Space → List Space → ℕ → List ℕ → Type 0
-IsBytesSet spaces last index bytes =
-    (values : List ℕ) (charge : ℕ) → At (message spaces) (root ∷ []) (tree (numbers 2 values) none none) charge
-    → (after : ℕ) × At (message last) (root ∷ []) (tree (numbers 2 (written values index bytes)) none none) after
-
--- the root is a list of words with such a number
-pub record HasNumber (spaces : List Space) (index : ℕ) : Type 0 where
-  pub values : List ℕ
-  pub charge : ℕ
-  pub stands : At (message spaces) (root ∷ []) (tree (numbers 5 values) none none) charge
-  pub within : index < length values
-
--- one of the root's numbers is another one, and all else is as it was
-abbrev pub IsNumberSet : List Space → List Space → ℕ → ℕ → Type 0
-IsNumberSet spaces last index number =
-    (values : List ℕ) (charge : ℕ) → At (message spaces) (root ∷ []) (tree (numbers 5 values) none none) charge
-    → (after : ℕ) × At (message last) (root ∷ []) (tree (numbers 5 (slice_set values index number)) none none) after
-
--- what a write through a view keeps
-pub record IsWritten {A : Type 0} (old new : Built A) : Type 0 where
-  pub spot : new.spot ≡ old.spot
-  pub size : size_in_words new.spaces ≡ size_in_words old.spaces
-  pub allocator : new.allocator ≡ old.allocator
-  pub pairs : (others : List Out) → pairs_of new.spaces others ≡ pairs_of old.spaces others
 
 -- the same segments with as many free words, where there were some
 abbrev pub KeepsRooms : List Space → List Space → Type 0

@@ -5,4 +5,5 @@ pub mod Held
 pub mod Body
 pub mod Shown
 pub mod Built
+pub mod Written
 pub mod Output

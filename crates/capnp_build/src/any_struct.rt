@@ -3,7 +3,8 @@ ghost use Rattle.std.specs.Prelude.{◌≡◌, ℕ, ◌+◌, ◌-◌, ◌*◌, �
 ghost use Rattle.capnp_frame.specs.declared.error.ErrorKind.TheVariants.{AllocationTooLarge};
 ghost use Rattle.capnp_wire.specs.Tree.{struct};
 ghost use Rattle.capnp_wire.specs.Views.{HasData, TakesStruct, DeclinesStruct};
-ghost use Rattle.capnp_build.specs.Built.{ForRoot, HasField, IsFieldSet, IsWritten};
+ghost use Rattle.capnp_build.specs.Built.{ForRoot};
+ghost use Rattle.capnp_build.specs.Written.{HasField, IsFieldSet, IsWritten};
 
 use crate::object::Body;
 use crate::owned_builder::OwnedBuilder;

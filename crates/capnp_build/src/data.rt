@@ -4,7 +4,8 @@ ghost use Rattle.capnp_frame.specs.declared.error.ErrorKind.TheVariants.{Allocat
 ghost use Rattle.capnp_wire.specs.Tree.{numbers};
 ghost use Rattle.capnp_wire.specs.Element.{words_for};
 ghost use Rattle.capnp_wire.specs.Views.{IsData, TakesNumbers, DeclinesNumbers};
-ghost use Rattle.capnp_build.specs.Built.{ForRoot, HasBytes, IsBytesSet, IsWritten};
+ghost use Rattle.capnp_build.specs.Built.{ForRoot};
+ghost use Rattle.capnp_build.specs.Written.{HasBytes, IsBytesSet, IsWritten};
 
 use crate::object::Body;
 use crate::owned_builder::OwnedBuilder;

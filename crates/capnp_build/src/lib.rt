@@ -19,3 +19,5 @@ pub mod shown;
 mod tests;
 pub mod text;
 pub mod view;
+#[cfg(test)]
+mod view_tests;

@@ -3,7 +3,8 @@ ghost use Rattle.std.specs.Prelude.{◌≡◌, ℕ, ◌+◌, ◌-◌, ◌*◌, �
 ghost use Rattle.capnp_frame.specs.declared.error.ErrorKind.TheVariants.{AllocationTooLarge};
 ghost use Rattle.capnp_wire.specs.Tree.{numbers};
 ghost use Rattle.capnp_wire.specs.Views.{IsWords, TakesNumbers, DeclinesNumbers};
-ghost use Rattle.capnp_build.specs.Built.{ForRoot, HasNumber, IsNumberSet, IsWritten};
+ghost use Rattle.capnp_build.specs.Built.{ForRoot};
+ghost use Rattle.capnp_build.specs.Written.{HasNumber, IsNumberSet, IsWritten};
 
 use crate::object::Body;
 use crate::owned_builder::OwnedBuilder;

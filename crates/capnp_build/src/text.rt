@@ -3,7 +3,8 @@ ghost use Rattle.std.specs.Prelude.{◌≡◌, ℕ, ◌+◌, ◌-◌, ◌^◌, �
 ghost use Rattle.capnp_frame.specs.declared.error.ErrorKind.TheVariants.{AllocationTooLarge};
 ghost use Rattle.capnp_wire.specs.Tree.{numbers};
 ghost use Rattle.capnp_wire.specs.Views.{IsText, TakesText, DeclinesText};
-ghost use Rattle.capnp_build.specs.Built.{ForRoot, HasBytes, IsBytesSet, IsWritten};
+ghost use Rattle.capnp_build.specs.Built.{ForRoot};
+ghost use Rattle.capnp_build.specs.Written.{HasBytes, IsBytesSet, IsWritten};
 
 use crate::object::Body;
 use crate::owned_builder::OwnedBuilder;

@@ -9,7 +9,8 @@ ghost use Rattle.capnp_wire.specs.Views.{Measures, Unmeasured};
 ghost use Rattle.capnp_wire.specs.Values.{HasWords, LacksWords};
 ghost use Rattle.capnp_build.specs.Out.{MayRefuse};
 ghost use Rattle.capnp_build.specs.Held.{used_of, KeepsOthers};
-ghost use Rattle.capnp_build.specs.Built.{Built, held_of, message as words_of_message, ForRoot, IsShown, IsWritten, HasField, IsFieldSet, HasBytes, IsBytesSet, HasNumber, IsNumberSet};
+ghost use Rattle.capnp_build.specs.Built.{Built, held_of, message as words_of_message, ForRoot, IsShown};
+ghost use Rattle.capnp_build.specs.Written.{IsWritten, HasField, IsFieldSet, HasBytes, IsBytesSet, HasNumber, IsNumberSet};
 ghost use Rattle.capnp_build.specs.Built.{DeclinesRoot, InitWords, IsSet, IsPut, IsInit, IsCleared, IsCrowded, WasCrowded};
 ghost use Rattle.capnp_build.specs.Shown.{Shows, HoldsForm};
 

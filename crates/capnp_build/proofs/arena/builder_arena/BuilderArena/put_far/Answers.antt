@@ -1,11 +1,8 @@
 -- A tree stands behind its pad, and the root leads to it.
-use Rattle.std.proofs.Common.{refl, ◌≡◌, ℕ, ◌+◌, ◌*◌, ◌/◌, ◌<◌, ◌≤◌, List, length, replicate, Option, None, ap, sym, subst, ◌∙◌, arith}
+use Rattle.std.proofs.Common.{ℕ, ◌*◌, ◌<◌, length, replicate, ap, sym, subst, ◌∙◌, arith}
 use Rattle.std.proofs.lemmas.List.{length-replicate}
-use Rattle.capnp_build.specs.Bytes.{Space}
-use Rattle.capnp_build.specs.Held.{space_at, room_of, KeepsOthers}
-use Rattle.capnp_build.specs.Built.{size_in_words, Built, held_of, IsBuilt}
-use Rattle.capnp_build.specs.declared.arena.spot.Spot.{Spot}
-use Rattle.capnp_build.proofs.NullLemmas.{root_room}
+use Rattle.capnp_build.specs.Held.{KeepsOthers}
+use Rattle.capnp_build.specs.Built.{size_in_words, Built, held_of}
 use Rattle.capnp_build.proofs.PointLemmas.{longer_by, keeps_of}
 use Rattle.capnp_build.proofs.ReadyLemmas.{value_set}
 use Rattle.capnp_build.proofs.arena.builder_arena.BuilderArena.put_far.Goals as goal

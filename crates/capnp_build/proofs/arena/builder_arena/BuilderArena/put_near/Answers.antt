@@ -1,6 +1,5 @@
 -- A tree stands behind the used words of the first segment, and the root leads to it.
-use Rattle.std.proofs.Common.{◌≡◌, ℕ, ◌+◌, ◌<◌, ◌≤◌, List, length, Option, None, ap, sym, subst, ◌∙◌, arith}
-use Rattle.capnp_build.specs.Bytes.{Space}
+use Rattle.std.proofs.Common.{◌≡◌, ◌+◌, ◌<◌, length, Option, None, ap, sym, subst, ◌∙◌, arith}
 use Rattle.capnp_build.specs.Held.{space_at, KeepsOthers}
 use Rattle.capnp_build.specs.Built.{size_in_words, Built, held_of, IsBuilt}
 use Rattle.capnp_build.specs.declared.arena.spot.Spot.{Spot}

@@ -1,15 +1,15 @@
 -- A number of the list at the root is another one, and all else stays.
-use Rattle.std.proofs.Common.{◌≡◌, ℕ, ◌+◌, ◌*◌, ◌^◌, ◌<◌, ◌≤◌, List, length, Option, Some, slice_set, w64, refl, ap, sym, subst, arith}
+use Rattle.std.proofs.Common.{◌+◌, ◌*◌, List, length, Option, Some, slice_set, ap, sym, subst}
 use Rattle.std.specs.Int.{to_le_bytes}
-use Rattle.capnp_wire.specs.Tree.{null, numbers, none}
-use Rattle.capnp_build.specs.Bytes.{Space, with_bytes}
-use Rattle.capnp_build.specs.Held.{Held, space_at}
-use Rattle.capnp_build.specs.Built.{Built, IsWritten, HasNullRoot, IsLaid, IsBuilt, HasNumber, IsNumberSet}
+use Rattle.capnp_wire.specs.Tree.{numbers, none}
+use Rattle.capnp_build.specs.Bytes.{Space}
+use Rattle.capnp_build.specs.Held.{Held}
+use Rattle.capnp_build.specs.Built.{Built, HasNullRoot, IsBuilt}
+use Rattle.capnp_build.specs.Written.{IsWritten, HasNumber, IsNumberSet}
 use Rattle.capnp_build.specs.declared.arena.spot.Spot.{Spot}
 use Rattle.capnp_build.proofs.WriteLemmas.{written_at, number_known, number_room, number_set, no_list}
 use Rattle.capnp_build.proofs.NullLemmas.{null_only}
-use Rattle.capnp_build.proofs.LaidLemmas.{laid_as, laid_root}
-use Rattle.capnp_build.proofs.ReadLemmas.{number_laid, same_numbers}
+use Rattle.capnp_build.proofs.ReadLemmas.{number_laid}
 use Rattle.capnp_build.proofs.arena.builder_arena.BuilderArena.set_number.Goals as goal
 
 pub write_at-requires-clause-room : goal.write_at-requires-clause-room

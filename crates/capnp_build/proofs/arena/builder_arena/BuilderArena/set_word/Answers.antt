@@ -1,13 +1,13 @@
 -- A data word of the struct at the root is another one, and all else stays.
-use Rattle.std.proofs.Common.{◌≡◌, ℕ, ◌+◌, ◌*◌, ◌^◌, ◌<◌, ◌≤◌, List, length, Option, Some, slice_set, w64, ap, sym, subst, arith}
+use Rattle.std.proofs.Common.{◌≡◌, ◌+◌, ◌*◌, List, length, Option, Some, slice_set, ap, sym, subst}
 use Rattle.std.specs.Int.{to_le_bytes}
-use Rattle.capnp_build.specs.Bytes.{Space, with_bytes}
-use Rattle.capnp_build.specs.Held.{Held, space_at}
-use Rattle.capnp_build.specs.Built.{Built, IsWritten, HasNullRoot, IsLaid, IsBuilt, HasField, IsFieldSet}
+use Rattle.capnp_build.specs.Bytes.{Space}
+use Rattle.capnp_build.specs.Held.{Held}
+use Rattle.capnp_build.specs.Built.{Built, HasNullRoot, IsBuilt}
+use Rattle.capnp_build.specs.Written.{IsWritten, HasField, IsFieldSet}
 use Rattle.capnp_wire.specs.Tree.{null, struct}
 use Rattle.capnp_build.specs.declared.arena.spot.Spot.{Spot}
-use Rattle.capnp_build.proofs.LaidLemmas.{laid_as, laid_root}
-use Rattle.capnp_build.proofs.FieldLemmas.{field_laid, same_fields}
+use Rattle.capnp_build.proofs.FieldLemmas.{field_laid}
 use Rattle.capnp_build.proofs.NullLemmas.{null_only}
 use Rattle.capnp_build.proofs.WriteLemmas.{written_at, field_known, field_room, field_set, no_struct}
 use Rattle.capnp_build.proofs.arena.builder_arena.BuilderArena.set_word.Goals as goal

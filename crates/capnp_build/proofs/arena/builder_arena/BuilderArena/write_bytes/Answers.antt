@@ -1,10 +1,11 @@
 -- Some bytes of the list at the root are others, and all else stays.
 use Rattle.std.proofs.Common.{ℕ, ◌+◌, ◌*◌, List, length, Option, Some, ap, sym, subst}
 use Rattle.std.specs.Option.{option_copied}
-use Rattle.capnp_wire.specs.Tree.{null, numbers, none}
+use Rattle.capnp_wire.specs.Tree.{numbers, none}
 use Rattle.capnp_build.specs.Bytes.{Space}
-use Rattle.capnp_build.specs.Held.{Held, space_at}
-use Rattle.capnp_build.specs.Built.{Built, IsWritten, HasNullRoot, IsBuilt, HasBytes, IsBytesSet}
+use Rattle.capnp_build.specs.Held.{Held}
+use Rattle.capnp_build.specs.Built.{Built, HasNullRoot, IsBuilt}
+use Rattle.capnp_build.specs.Written.{IsWritten, HasBytes, IsBytesSet}
 use Rattle.capnp_build.specs.declared.arena.spot.Spot.{Spot}
 use Rattle.capnp_build.proofs.SpaceLemmas.{got_low, got_none}
 use Rattle.capnp_build.proofs.NullLemmas.{null_only}

@@ -1,0 +1,55 @@
+-- What views write into the root's object, by its tree.
+use Rattle.std.specs.Prelude.{◌≡◌, ℕ, ◌+◌, ◌<◌, ◌≤◌, List, [], ◌∷◌, length, slice_set}
+use Rattle.capnp_wire.specs.Tree.{struct, numbers, Trees, none, tree}
+use Rattle.capnp_wire.specs.Reached.{At, root}
+use Rattle.capnp_build.specs.Bytes.{Space, written}
+use Rattle.capnp_build.specs.Out.{Out}
+use Rattle.capnp_build.specs.Held.{pairs as pairs_of}
+use Rattle.capnp_build.specs.Built.{Built, message, size_in_words}
+
+-- the root is a struct with such a data word
+pub record HasField (spaces : List Space) (index : ℕ) : Type 0 where
+  pub words : List ℕ
+  pub held : Trees
+  pub charge : ℕ
+  pub stands : At (message spaces) (root ∷ []) (tree (struct words) held none) charge
+  pub within : index < length words
+
+-- one of the root's data words is another one, and all else is as it was
+abbrev pub IsFieldSet : List Space → List Space → ℕ → ℕ → Type 0
+IsFieldSet spaces last index word =
+    (words : List ℕ) (held : Trees) (charge : ℕ) → At (message spaces) (root ∷ []) (tree (struct words) held none) charge
+    → (after : ℕ) × At (message last) (root ∷ []) (tree (struct (slice_set words index word)) held none) after
+
+-- the root is a list of bytes with so many of them from an index on
+pub record HasBytes (spaces : List Space) (index n : ℕ) : Type 0 where
+  pub values : List ℕ
+  pub charge : ℕ
+  pub stands : At (message spaces) (root ∷ []) (tree (numbers 2 values) none none) charge
+  pub within : index + n ≤ length values
+
+-- some of the root's bytes are others, and all else is as it was
+abbrev pub IsBytesSet : List Space → List Space → ℕ → List ℕ → Type 0
+IsBytesSet spaces last index bytes =
+    (values : List ℕ) (charge : ℕ) → At (message spaces) (root ∷ []) (tree (numbers 2 values) none none) charge
+    → (after : ℕ) × At (message last) (root ∷ []) (tree (numbers 2 (written values index bytes)) none none) after
+
+-- the root is a list of words with such a number
+pub record HasNumber (spaces : List Space) (index : ℕ) : Type 0 where
+  pub values : List ℕ
+  pub charge : ℕ
+  pub stands : At (message spaces) (root ∷ []) (tree (numbers 5 values) none none) charge
+  pub within : index < length values
+
+-- one of the root's numbers is another one, and all else is as it was
+abbrev pub IsNumberSet : List Space → List Space → ℕ → ℕ → Type 0
+IsNumberSet spaces last index number =
+    (values : List ℕ) (charge : ℕ) → At (message spaces) (root ∷ []) (tree (numbers 5 values) none none) charge
+    → (after : ℕ) × At (message last) (root ∷ []) (tree (numbers 5 (slice_set values index number)) none none) after
+
+-- what a write through a view keeps
+pub record IsWritten {A : Type 0} (old new : Built A) : Type 0 where
+  pub spot : new.spot ≡ old.spot
+  pub size : size_in_words new.spaces ≡ size_in_words old.spaces
+  pub allocator : new.allocator ≡ old.allocator
+  pub pairs : (others : List Out) → pairs_of new.spaces others ≡ pairs_of old.spaces others
