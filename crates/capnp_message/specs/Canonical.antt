@@ -1,17 +1,10 @@
 -- The canonical form of a message that is read (src/reader.rt).
-use Rattle.std.specs.Prelude.{◌≤◌, ◌+◌, ◌^◌, ℕ, true, List, map}
-use Rattle.capnp_frame.specs.Words.{bytes_of}
-use Rattle.capnp_frame.specs.declared.words.Word.{Word}
+use Rattle.std.specs.Prelude.{◌≤◌, ◌+◌, ◌^◌, true}
 use Rattle.capnp_frame.specs.declared.error.ErrorKind.{ErrorKind}
-use Rattle.capnp_wire.specs.Pointer.{number_of}
 use Rattle.capnp_wire.specs.Tree.{Trees, total_words}
 use Rattle.capnp_wire.specs.Trim.{trim}
 use Rattle.capnp_wire.specs.Views.{Pointer}
 use Rattle.capnp_wire.specs.Values.{LacksWords, LeadsToTree, StopsWalkFrom}
-
--- words as numbers, little endian
-abbrev pub numbers : List Word → List ℕ
-numbers words = map (λ word. number_of 256 (bytes_of word)) words
 
 -- A message has a canonical form: a tree stands at its root, within the level and the limit, and the form has at
 -- most 2 ^ 29 words with its root pointer.

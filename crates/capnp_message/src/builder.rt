@@ -25,6 +25,13 @@ use std::marker::Model;
 
 /// A message that is built, in segments that an allocator hands out. Once it is dropped, each segment
 /// goes back.
+///
+/// ```
+/// let mut message = Builder::new_default(alloc);
+/// message.set_root::<text::Owned, &str>("Hello, World!")?;
+/// let greeting: text::Reader<'_> = message.get_root_as_reader()?;
+/// assert_eq!(rt; greeting.as_bytes(), b"Hello, World!".as_slice());
+/// ```
 #[derive(Drop)]
 pub struct Builder<A: Allocator> {
     pub(crate) arena: BuilderArena<A>,

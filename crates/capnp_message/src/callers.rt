@@ -1,6 +1,6 @@
 //! What is set is read back.
 ghost use Rattle.std.specs.Prelude.{◌≡◌, ◌⊎◌, false, true, IfOk, OnOk, OnErr};
-ghost use Rattle.capnp_wire.specs.Values.{LeadsToTree};
+ghost use Rattle.capnp_wire.specs.Values.{LeadsToTree, IsTextOf};
 ghost use Rattle.capnp_build.specs.Built.{IsSet, IsCleared};
 ghost use Rattle.capnp_message.specs.Seen.{root_of};
 
@@ -26,6 +26,7 @@ pub fn copy_root<S: ReaderSegments, A: Allocator>(
 /// Sets the root to a text, and whether it is what is read there afterwards.
 pub fn text_is_read_back<A: Allocator>(message: &mut Builder<A>, text: &str) -> Result<bool>
     ensures back { IfOk result (λ same. same ≡ true) }
+    ensures set { OnOk result (IsSet (λ trees. IsTextOf text.now trees) false message.new.spaces) }
     ensures cleared { OnErr result (IsCleared A.same message.old message.new) }
 {
     message.set_root::<text::Owned, &str>(text)?;

@@ -7,7 +7,8 @@ ghost use Rattle.capnp_wire.specs.Readers.{level_of};
 ghost use Rattle.capnp_wire.specs.Views.{Pointer};
 ghost use Rattle.capnp_wire.specs.Values.{IsCanonicalForm};
 ghost use Rattle.capnp_message.specs.Seen.{root_of};
-ghost use Rattle.capnp_message.specs.Canonical.{numbers, LacksForm};
+ghost use Rattle.capnp_wire.specs.Block.{numbers_of};
+ghost use Rattle.capnp_message.specs.Canonical.{LacksForm};
 
 use crate::reader::Reader;
 use capnp_frame::message::{ReaderOptions, ReaderSegments, SegmentArray};
@@ -38,8 +39,10 @@ pub fn canonicalize_twice<S: ReaderSegments + Drop>(
     segments: S,
     options: ReaderOptions,
 ) -> Result<Canonicalized>
+    ensures form { let pointer = root_of S.segments (record { segments = segments; options = options }) in
+        IfOk result (λ answer. IsCanonicalForm pointer (numbers_of answer.words.items)) }
     ensures canonical { IfOk result (λ answer. answer.is_canonical ≡ true) }
-    ensures same { IfOk result (λ answer. numbers answer.again.items ≡ numbers answer.words.items) }
+    ensures same { IfOk result (λ answer. numbers_of answer.again.items ≡ numbers_of answer.words.items) }
     ensures kinds { let pointer = root_of S.segments (record { segments = segments; options = options }) in
         IfErr result (λ error. LacksForm pointer error.kind ⊎ (error.kind ≡ OutOfMemory)) }
 {
@@ -66,7 +69,7 @@ fn canonicalize_form(
         × (pointer.level ≤ level_of options.nesting_limit) }
     requires unlimited { options.traversal_limit_in_words ≡ None }
     ensures canonical { IfOk result (λ answer. answer.0 ≡ true) }
-    ensures same { IfOk result (λ answer. numbers answer.1.items ≡ words_of form.now) }
+    ensures same { IfOk result (λ answer. numbers_of answer.1.items ≡ words_of form.now) }
     ensures kind { IfErr result (λ error. error.kind ≡ OutOfMemory) }
 {
     let segments = [form];

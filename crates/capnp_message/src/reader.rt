@@ -13,7 +13,8 @@ ghost use Rattle.capnp_wire.specs.Canonical.{IsCanonical};
 ghost use Rattle.capnp_wire.specs.Tested.{Unsaid};
 ghost use Rattle.capnp_wire.specs.Values.{LeadsToTree, StopsWalkFrom, IsCanonicalForm};
 ghost use Rattle.capnp_message.specs.Seen.{root_of, HasRoot};
-ghost use Rattle.capnp_message.specs.Canonical.{numbers, HasForm, LacksForm};
+ghost use Rattle.capnp_wire.specs.Block.{numbers_of};
+ghost use Rattle.capnp_message.specs.Canonical.{HasForm, LacksForm};
 
 use crate::typed_reader::TypedReader;
 use capnp_frame::message::{ReaderOptions, ReaderSegments};
@@ -128,9 +129,15 @@ impl<S: ReaderSegments> Reader<S> {
     /// trees are equal, trimmed.
     ///
     /// It is refused as `canonical_segment`.
+    ///
+    /// ```
+    /// let options = DEFAULT_READER_OPTIONS;
+    /// let message = serialize::read_message_from_flat_slice_no_alloc(&mut rest, options)?;
+    /// let words = message.canonicalize(alloc)?;
+    /// ```
     pub fn canonicalize(&self, alloc: Global) -> Result<Vec<Word>>
         ensures answer { let pointer = root_of S.segments self.now in MatchResult result
-            (λ words. IsCanonicalForm pointer (numbers words.items))
+            (λ words. IsCanonicalForm pointer (numbers_of words.items))
             (λ error. LacksForm pointer error.kind ⊎ (error.kind ≡ OutOfMemory)) }
         ensures found { HasForm (root_of S.segments self.now) →
             IfErr result (λ error. error.kind ≡ OutOfMemory) }

@@ -59,6 +59,12 @@ impl<A: Allocator> Builder<A> {
 
     /// Makes the root a new object of some length, all zero, and answers a view that writes it. Where it
     /// is refused, the root is null.
+    ///
+    /// ```
+    /// let mut numbers = message.initn_root::<primitive_list::Owned<u64>>(3)?;
+    /// numbers.set(1, 500);
+    /// assert_eq!(rt; numbers.get(1), 500);
+    /// ```
     pub fn initn_root<'a, K: OwnedBuilder>(&'a mut self, n: u32) -> Result<View<'a, Builder<A>, K>>
         ensures* rests { sem 𝓛 (RestsIfErr
             (the_row A.row A.Segment.row A.Allocator A.Segment.SegmentSpace)

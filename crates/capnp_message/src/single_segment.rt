@@ -11,6 +11,12 @@ use capnp_build::allocator::Allocator;
 use capnp_frame::{Error, ErrorKind, Result};
 
 /// One region that its caller lends, as the only segment. It takes no memory. At home it is all zero.
+///
+/// ```
+/// let mut region = [0; 24];
+/// let mut message = Builder::new(alloc, SingleSegmentAllocator::new(&mut region));
+/// message.set_root::<text::Owned, &str>("Hello, World!")?;
+/// ```
 #[derive(Drop)]
 pub struct SingleSegmentAllocator<'a> {
     region: Option<&'a mut [u8]>,
