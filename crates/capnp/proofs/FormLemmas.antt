@@ -1,16 +1,15 @@
 -- The one segment of a canonical form can be written.
-use Rattle.std.proofs.Common.{◌≡◌, ◌⊎◌, ℕ, suc, ◌≤◌, ◌/◌, ◌^◌, ◌<◌, List, [], ◌∷◌, length, Result, Ok, Err, true, inl, inr, sym, ap, subst, ◌∙◌, arith}
+use Rattle.std.proofs.Common.{◌≡◌, ◌⊎◌, ℕ, suc, ◌≤◌, ◌/◌, ◌^◌, ◌<◌, List, [], ◌∷◌, length, Result, Ok, Err, true, inl, inr, sym, ap, subst, arith}
 use Rattle.std.specs.Result.{IsErrAnd}
 use Rattle.capnp_frame.specs.declared.error.Error.{Error}
 use Rattle.capnp_frame.specs.declared.error.ErrorKind.{ErrorKind}
 use Rattle.capnp_frame.specs.declared.error.ErrorKind.TheVariants.{DeviceFailed, OutOfMemory}
-use Rattle.capnp_frame.specs.Message.{IsWholeWords}
 use Rattle.capnp_frame.specs.Sink.{Declining, DeclinesSome}
 use Rattle.capnp_frame.specs.Writing.{IsWritable, pieces}
 use Rattle.capnp_wire.specs.Pointer.{words_of}
 use Rattle.capnp_wire.specs.Tree.{total_words}
 use Rattle.capnp_wire.specs.Trim.{trim}
-use Rattle.capnp_wire.specs.Layout.{body, canon}
+use Rattle.capnp_wire.specs.Layout.{body}
 use Rattle.capnp_wire.specs.Views.{Pointer}
 use Rattle.capnp_wire.specs.Values.{IsCanonicalForm}
 use Rattle.capnp_wire.proofs.SizeLemmas.{length-body}

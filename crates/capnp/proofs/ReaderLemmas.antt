@@ -1,5 +1,5 @@
 -- From the requests of a source to the texts of its stream.
-use Rattle.std.proofs.Common.{◌≡◌, inl, inr, ℕ, List, [], Option, Some, None, IfSome, Result, Ok, Err, IfOk, lit<}
+use Rattle.std.proofs.Common.{◌≡◌, inl, inr, ℕ, List, [], Option, Some, None, IfSome, Err, lit<}
 use Rattle.capnp_frame.specs.declared.error.Error.{Error}
 use Rattle.capnp_frame.specs.Limits.{IsWithin}
 use Rattle.capnp_frame.specs.Frame.{IsFrame}
@@ -12,8 +12,6 @@ use Rattle.capnp_frame.proofs.RequestLemmas.{MessageStands-map}
 use Rattle.capnp_frame.proofs.FrameLemmas.{plain_requests}
 use Rattle.capnp_frame.proofs.TextLemmas.{AreRequested, begins_from_requests}
 use Rattle.capnp_pack.specs.PackedFrame.{IsPackedFrame, PackedStands}
-use Rattle.capnp_pack.specs.PackedSource.{Unpacks}
-use Rattle.capnp_pack.proofs.PackedFrameLemmas.{packed_requests}
 use Rattle.capnp.specs.Streams.{IsPlainSource}
 use Rattle.capnp.specs.Headline.{RefusesGrowing, RefusesLent, RefusesGrowingOrEnds, RefusesLentOrEnds}
 

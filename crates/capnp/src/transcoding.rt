@@ -64,6 +64,12 @@ impl MessageWriter for Way {
 ///
 /// It takes at most 2^64 - 1 messages, and leaves the rest unread. After a reader's refusal the
 /// texts of the messages before it are written.
+///
+/// ```
+/// let mut packed = Vec::new(alloc);
+/// let options = DEFAULT_READER_OPTIONS;
+/// transcode(alloc, Way::Pack, &mut source, &mut packed, options)?;
+/// ```
 pub fn transcode<R: BufRead, W: Write>(
     alloc: Global,
     way: Way,

@@ -47,6 +47,14 @@ pub fn read_message_from_flat_slice<'a>(
 
 /// Reads the message at the front of a slice, and moves the slice behind it. A slice that is refused
 /// stays as it was. No memory is taken.
+///
+/// ```
+/// let mut rest = bytes;
+/// let options = DEFAULT_READER_OPTIONS;
+/// let message = serialize::read_message_from_flat_slice_no_alloc(&mut rest, options)?;
+/// let greeting: text::Reader<'_> = message.get_root()?;
+/// assert_eq!(rt; greeting.as_bytes(), b"Hello, World!".as_slice());
+/// ```
 pub fn read_message_from_flat_slice_no_alloc<'a>(
     slice: &mut &'a [u8],
     options: ReaderOptions,

@@ -48,6 +48,14 @@ pub fn write_message<W: Write, A: Allocator>(
 /// Writes a message of 1 to 2^32 - 1 segments, each of whole words and fewer than 2^32 of them.
 ///
 /// Memory is taken for a table of four segments or more, before anything is written.
+///
+/// ```
+/// let segments = [[0; 8].as_slice()];
+/// let message = SegmentArray::new(&segments);
+/// let mut stream = Vec::new(alloc);
+/// serialize::write_message_segments(alloc, &mut stream, &message)?;
+/// assert_eq!(rt; stream.len(), 16);
+/// ```
 pub fn write_message_segments<W: Write, S: ReaderSegments>(
     alloc: Global,
     sink: &mut W,

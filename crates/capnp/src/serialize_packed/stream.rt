@@ -25,6 +25,14 @@ use std::alloc::Global;
 /// The message is answered exactly where the unread bytes begin with a packed text of it, and just
 /// that text is consumed. Memory is taken for the lengths of the segments once their number is
 /// accepted, and for the segments once the limit of words is tested.
+///
+/// ```
+/// let options = DEFAULT_READER_OPTIONS;
+/// if let Some(message) = serialize_packed::try_read_message(alloc, &mut source, options)? {
+///     let greeting: text::Reader<'_> = message.get_root()?;
+///     assert_eq!(rt; greeting.as_bytes(), b"Hello, World!".as_slice());
+/// }
+/// ```
 pub fn try_read_message<R: BufRead>(
     alloc: Global,
     source: &mut R,

@@ -42,6 +42,14 @@ pub fn write_message<W: Write, A: Allocator>(
 
 /// Writes a message, packed: the first word of its table, the table's other words, and each segment
 /// are packed one by one. The segments are as for the framed writer.
+///
+/// ```
+/// let segments = [[0; 8].as_slice()];
+/// let message = SegmentArray::new(&segments);
+/// let mut stream = Vec::new(alloc);
+/// serialize_packed::write_message_segments(alloc, &mut stream, &message)?;
+/// assert_eq!(rt; stream.as_slice(), [0x10, 1, 0, 0].as_slice());
+/// ```
 pub fn write_message_segments<W: Write, S: ReaderSegments>(
     alloc: Global,
     sink: &mut W,

@@ -1,6 +1,4 @@
 -- The bytes are eight times the words.
-use Rattle.std.proofs.Common.{subst}
-use Rattle.capnp_frame.specs.Writing.{IsWritable}
 use Rattle.capnp.proofs.WriterLemmas.{text_size}
 use Rattle.capnp.proofs.serialize.writing.compute_serialized_size_in_words.Goals as goal
 
