@@ -1,5 +1,5 @@
 -- A run of the program is one over the messages of a stream.
-use Rattle.std.proofs.Common.{◌≡◌, ◌⊎◌, inl, inr, ℕ, ◌<◌, Option, Some, None, IfSome, Result, Ok, Err, List, length}
+use Rattle.std.proofs.Common.{◌⊎◌, inl, ℕ, ◌<◌, Option, Some, None, IfSome, Result, Ok, Err, List, length}
 use Rattle.capnp.specs.Passed.{ErrorKind, Appending, Declining}
 use Rattle.capnp.specs.Streams.{IsStream}
 use Rattle.capnp.specs.Runs.{most_messages}

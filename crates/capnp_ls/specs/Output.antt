@@ -1,5 +1,5 @@
 -- What the program prints of messages.
-use Rattle.std.specs.Prelude.{◌≡◌, ℕ, List, [], ◌∷◌, ◌++◌, length, Option, Some, decimal}
+use Rattle.std.specs.Prelude.{ℕ, List, [], ◌∷◌, ◌++◌, length, Option, Some, decimal}
 use Rattle.std.specs.List.{flat_map}
 use Rattle.capnp.specs.Passed.{Appending, Declining, lengths, size_in_words, message_of, root, Pointer}
 use Rattle.capnp.specs.Canonical.{AppendsForm, DeclinesForm}
