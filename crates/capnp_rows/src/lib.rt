@@ -19,6 +19,8 @@ macro_rules! retried {
 }
 
 #[cfg(test)]
+mod builder_memory;
+#[cfg(test)]
 mod faults;
 #[cfg(test)]
 mod flat;
