@@ -17,7 +17,8 @@ extern "C" {
 uint8_t linsjoar_pack(const uint8_t *words, size_t words_len, uint8_t *text, size_t text_len,
                       size_t *written);
 
-/* Fills words with what is packed at the front of a text, and tells how many bytes of it that took. */
+/* Fills words with what is packed at the front of a text, and tells how many bytes of it that took. It
+ * answers 0 wherever a packing of that many bytes stands there. */
 uint8_t linsjoar_unpack(const uint8_t *text, size_t text_len, uint8_t *words, size_t words_len,
                         size_t *read);
 
@@ -28,13 +29,15 @@ struct linsjoar_message {
     size_t end;      /* where the last of them ends */
 };
 
-/* Finds the framed message at the front of a buffer, of 1 to 511 segments and at most 8,388,608 words. */
+/* Finds the framed message at the front of a buffer, of 1 to 511 segments and at most 8,388,608 words. It
+ * answers 0 wherever one stands there. */
 uint8_t linsjoar_message(const uint8_t *bytes, size_t len, struct linsjoar_message *message);
 
 /* How many words a segment of that message has; 18 without it. The segments stand one after another. */
 uint8_t linsjoar_segment(const uint8_t *bytes, size_t len, uint32_t id, size_t *words);
 
-/* How many words the canonical form of that message has, with its root pointer. */
+/* How many words the canonical form of that message has, with its root pointer. It answers 0 wherever
+ * there is such a form. */
 uint8_t linsjoar_canonical_size(const uint8_t *bytes, size_t len, size_t *words);
 
 /* Writes that form to the front of a block, and tells how many words it has; 2 without room. */

@@ -1,19 +1,23 @@
 -- One message stands at the front of a buffer, and its root has one form.
-use Rattle.std.proofs.Common.{◌≡◌, ℕ, ◌≤◌, ℤ, pos, Option, Some, List, ◌++◌, length, take, sym, ap, ◌∙◌, subst, arith, length-append}
+use Rattle.std.proofs.Common.{◌≡◌, ◌⊎◌, ℕ, ◌+◌, ◌*◌, ◌<◌, ◌≤◌, true, Some, None, List, ◌++◌, length, take, Ok, Err, inl, inr, refl, sym, ap, ◌∙◌, subst, arith, length-append}
 use Rattle.std.specs.Prelude.{slice_get}
 use Rattle.std.specs.Option.{option_map}
 use Rattle.std.proofs.Math.Seq.{take-append_seam}
-use Rattle.std.proofs.lemmas.Option.{slice_get-map}
+use Rattle.std.proofs.lemmas.Option.{slice_get-map, slice_get_within}
 use Rattle.capnp_frame.specs.Front.{HasFrame}
 use Rattle.capnp_frame.specs.Message.{word_count, lengths}
+use Rattle.capnp_frame.specs.declared.error.ErrorKind.{ErrorKind}
+use Rattle.capnp_frame.specs.declared.error.ErrorKind.TheVariants.{BufferNotLargeEnough}
+use Rattle.capnp_frame.proofs.AgreementLemmas.{index_below}
 use Rattle.capnp_frame.proofs.TextLemmas.{frames_part}
 use Rattle.capnp_wire.specs.Pointer.{words_of}
 use Rattle.capnp_wire.specs.Object.{message_of}
 use Rattle.capnp_wire.specs.Reached.{root}
-use Rattle.capnp_wire.specs.Readers.{level_of}
 use Rattle.capnp_wire.specs.Views.{Pointer}
-use Rattle.capnp_wire.specs.Values.{IsCanonicalForm}
-use Rattle.capnp_c.specs.Fronts.{root_pointer}
+use Rattle.capnp_wire.specs.Faults.{NoWord, no_word, at_pointer}
+use Rattle.capnp_wire.specs.Values.{IsCanonicalForm, LeadsToTree, StopsWalkFrom}
+use Rattle.capnp_wire.proofs.OneValueLemmas.{one_of_pointer, measured_exactly, measured_found}
+use Rattle.capnp_c.specs.Fronts.{HasForm, LacksForm, IsShort, root_pointer}
 
 pub one_front : (bytes rest left : List ℕ) (segments others : List (List ℕ)) → HasFrame bytes segments rest → HasFrame bytes others left → segments ≡ others
 one_front bytes rest left segments others p q = (frames_part p.0 q.0 rest left segments others p.1 q.1 (sym p.2 ∙ q.2)).1
@@ -22,12 +26,53 @@ pub segment_words : (segments others : List (List ℕ)) (id : ℕ) (segment : Li
 segment_words segments others id segment same is =
     slice_get-map word_count segments id ∙ ap (λ l. option_map word_count (slice_get l id)) (sym same) ∙ ap (option_map word_count) is
 
-pub root_is : (m segments : List (List ℕ)) (level : ℤ) (limit : Option ℕ) → m ≡ segments → level ≡ pos 64 → limit ≡ Some 8388608
-    → record { message = message_of m; place = Some root; level = level_of level; limit = limit } ≡ root_pointer segments
-root_is m segments level limit same level_is limit_is = cc
+-- where a segment is answered its number is below their count
+pub segment_there : (segments others : List (List ℕ)) (id : ℕ) (segment : List ℕ) → others ≡ segments → slice_get others id ≡ Some segment → length segments ≤ id → ⊥
+segment_there segments others id segment same is outside = absurd (omega (arith, outside, slice_get_within others id segment is, ap length same))
+
+pub no_segment_there : (segments others : List (List ℕ)) (id : ℕ) → others ≡ segments → slice_get others id ≡ None → id < length segments → ⊥
+no_segment_there segments others id same is inside =
+    let there = (index_below others id).1 (omega (arith, inside, ap length same)) in
+    absurd (cc)
 
 -- a form that fills the front of a block
 pub front_form : (p : Pointer) (n : ℕ) (new behind : List ℕ) → length new ≡ n → IsCanonicalForm p (words_of new) → (n ≤ length (new ++ behind)) × IsCanonicalForm p (words_of (take n (new ++ behind)))
 front_form p n new behind long form =
     let front : take n (new ++ behind) ≡ new = ap (λ k. take k (new ++ behind)) (sym long) ∙ take-append_seam new behind in
     (omega (arith, long, length-append new behind), subst (λ l. IsCanonicalForm p (words_of l)) (sym front) form)
+
+-- Which messages have a form
+
+-- one whose root has no word has none
+pub root_lacks : (segments : List (List ℕ)) (kind : ErrorKind) → NoWord (message_of segments) root kind → LacksForm segments kind
+root_lacks segments kind none = inl (root, refl, at_pointer (no_word none))
+
+-- and one that has a form does not lack it
+pub has_or_lacks : (segments : List (List ℕ)) (words : ℕ) (kind : ErrorKind) → HasForm segments words → LacksForm segments kind → ⊥
+has_or_lacks segments words kind has lacks =
+    measured_exactly (LeadsToTree (root_pointer segments)) (StopsWalkFrom (root_pointer segments)) (one_of_pointer (root_pointer segments)) true (Ok has.0) has.1 kind lacks
+
+-- the reason is one, and so is the size
+pub one_reason : (segments : List (List ℕ)) (a b : ErrorKind) → LacksForm segments a → LacksForm segments b → a ≡ b
+one_reason segments a b x y =
+    measured_exactly (LeadsToTree (root_pointer segments)) (StopsWalkFrom (root_pointer segments)) (one_of_pointer (root_pointer segments)) true (Err (record { kind = a })) x b y
+
+pub one_size : (segments : List (List ℕ)) (a b : ℕ) → HasForm segments a → HasForm segments b → a ≡ b
+one_size segments a b x y =
+    let same = measured_found (LeadsToTree (root_pointer segments)) (StopsWalkFrom (root_pointer segments)) (one_of_pointer (root_pointer segments)) true (Ok x.0) x.1 y.0 y.1 in
+    let behind : x.0 ≡ y.0 = cc in
+    x.2 ∙ ap (λ n. n + 1) behind ∙ sym y.2
+
+-- A refusal of a form that is to be written into so many bytes
+
+pub form_fits : (segments : List (List ℕ)) (room size : ℕ) (kind : ErrorKind) → LacksForm segments kind ⊎ IsShort segments room kind → HasForm segments size → 8 * size ≤ room → ⊥
+form_fits segments room size kind (inl lacks) has fits = has_or_lacks segments size kind has lacks
+form_fits segments room size kind (inr (other, form, short, is)) has fits = absurd (omega (arith, fits, short, one_size segments other size form has))
+
+pub form_is_short : (segments : List (List ℕ)) (room size : ℕ) (kind : ErrorKind) → LacksForm segments kind ⊎ IsShort segments room kind → HasForm segments size → kind ≡ BufferNotLargeEnough
+form_is_short segments room size kind (inl lacks) has = absurd (has_or_lacks segments size kind has lacks)
+form_is_short segments room size kind (inr (other, form, short, is)) has = is
+
+pub form_is_lacked : (segments : List (List ℕ)) (room : ℕ) (own kind : ErrorKind) → LacksForm segments own ⊎ IsShort segments room own → LacksForm segments kind → own ≡ kind
+form_is_lacked segments room own kind (inl lacks) other = one_reason segments own kind lacks other
+form_is_lacked segments room own kind (inr (size, form, short, is)) other = absurd (has_or_lacks segments size kind form other)

@@ -1,2 +1,3 @@
 -- The lemmas.
 pub mod FrontLemmas
+pub mod PackedLemmas

@@ -1,16 +1,35 @@
 -- Messages at the front of a buffer, as readers of the default options find them.
-use Rattle.std.specs.Prelude.{ℕ, List, Some}
+use Rattle.std.specs.Prelude.{◌≡◌, ◌+◌, ◌*◌, ◌<◌, ℕ, true, List, Option, Some}
+use Rattle.capnp_frame.specs.declared.error.ErrorKind.{ErrorKind}
+use Rattle.capnp_frame.specs.declared.error.ErrorKind.TheVariants.{BufferNotLargeEnough}
 use Rattle.capnp_frame.specs.Front.{HasFrame}
 use Rattle.capnp_frame.specs.Limits.{IsWithin}
 use Rattle.capnp_wire.specs.Object.{message_of}
 use Rattle.capnp_wire.specs.Reached.{root}
 use Rattle.capnp_wire.specs.Views.{Pointer}
+use Rattle.capnp_wire.specs.Values.{HasWords, LacksWords, LeadsToTree, StopsWalkFrom}
 
--- a frame of the message stands there, and the message is within the default limit of words
+-- how many words a reader accepts by default
+abbrev pub default_limit : Option ℕ
+default_limit = Some 8388608
+
+-- a frame of the message stands there, and the message is within that limit
 pub record IsAtFront (bytes : List ℕ) (segments : List (List ℕ)) (rest : List ℕ) : Type 0 where
   pub frame : HasFrame bytes segments rest
-  pub within : IsWithin segments (Some 8388608)
+  pub within : IsWithin segments default_limit
 
 -- its root pointer, within the default limits
 abbrev pub root_pointer : List (List ℕ) → Pointer
-root_pointer segments = record { message = message_of segments; place = Some root; level = 64; limit = Some 8388608 }
+root_pointer segments = record { message = message_of segments; place = Some root; level = 64; limit = default_limit }
+
+-- a canonical form of so many words, with its root pointer
+abbrev pub HasForm : List (List ℕ) → ℕ → Type 0
+HasForm segments words = (behind : ℕ) × HasWords (LeadsToTree (root_pointer segments)) true behind × (words ≡ behind + 1)
+
+-- It has none: a walk over the root's tree stops, for this reason, or the form has too many words.
+abbrev pub LacksForm : List (List ℕ) → ErrorKind → Type 0
+LacksForm segments kind = LacksWords (LeadsToTree (root_pointer segments)) (StopsWalkFrom (root_pointer segments)) true kind
+
+-- it has one, and a block of so many bytes has no room for it
+abbrev pub IsShort : List (List ℕ) → ℕ → ErrorKind → Type 0
+IsShort segments room kind = (size : ℕ) × HasForm segments size × (room < 8 * size) × (kind ≡ BufferNotLargeEnough)

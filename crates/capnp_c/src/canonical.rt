@@ -1,9 +1,11 @@
 //! Canonical words that are written into a lent block.
-ghost use Rattle.std.specs.Prelude.{◌≡◌, ◌+◌, ◌*◌, ◌≤◌, ℕ, List, true, length, take, IfOk, pos, Some};
+ghost use Rattle.std.specs.Prelude.{◌≡◌, ◌⊎◌, ◌+◌, ◌*◌, ◌<◌, ◌≤◌, ℕ, List, true, length, take, IfOk, IfErr, IsOk, pos};
+ghost use Rattle.capnp_frame.specs.Numbers.{number_of};
+ghost use Rattle.capnp_frame.specs.declared.error.ErrorKind.{ErrorKind};
 ghost use Rattle.capnp_wire.specs.Pointer.{words_of};
 ghost use Rattle.capnp_wire.specs.Readers.{pointer_of};
 ghost use Rattle.capnp_wire.specs.Values.{HasWords, LeadsToTree, IsCanonicalForm};
-ghost use Rattle.capnp_c.specs.Fronts.{IsAtFront, root_pointer};
+ghost use Rattle.capnp_c.specs.Fronts.{IsAtFront, HasForm, LacksForm, IsShort, default_limit, root_pointer};
 
 use capnp_frame::message::{DEFAULT_READER_OPTIONS, ReaderSegments};
 use capnp_frame::serialize::{NoAllocBufferSegments, NoAllocSliceSegments};
@@ -16,9 +18,12 @@ use capnp_wire::traits::SetterInput;
 /// How many words the canonical form of the message at the front of these bytes has, with its root.
 #[unsafe(no_mangle)]
 pub extern "C" fn linsjoar_canonical_size(bytes: &[u8], words: &mut usize) -> u8
-    ensures { (segments : List (List ℕ)) (rest : List ℕ) → IsAtFront bytes.now segments rest →
-        result ≡ 0 → (behind : ℕ) × HasWords (LeadsToTree (root_pointer segments)) true behind
-        × (words.new ≡ behind + 1) }
+    ensures size { (segments : List (List ℕ)) (rest : List ℕ) →
+        IsAtFront bytes.now segments rest → result ≡ 0 → HasForm segments words.new }
+    ensures accepted { (segments : List (List ℕ)) (rest : List ℕ) (size : ℕ) →
+        IsAtFront bytes.now segments rest → HasForm segments size → result ≡ 0 }
+    ensures refused { (segments : List (List ℕ)) (rest : List ℕ) (kind : ErrorKind) →
+        IsAtFront bytes.now segments rest → LacksForm segments kind → result ≡ number_of kind }
 {
     *words = 0;
     match measured(bytes) {
@@ -34,9 +39,17 @@ pub extern "C" fn linsjoar_canonical_size(bytes: &[u8], words: &mut usize) -> u8
 /// for it is refused by 2.
 #[unsafe(no_mangle)]
 pub extern "C" fn linsjoar_canonical(bytes: &[u8], block: &mut [u8], words: &mut usize) -> u8
-    ensures { (segments : List (List ℕ)) (rest : List ℕ) → IsAtFront bytes.now segments rest →
-        result ≡ 0 → (8 * words.new ≤ length block.new)
+    ensures form { (segments : List (List ℕ)) (rest : List ℕ) →
+        IsAtFront bytes.now segments rest → result ≡ 0 → (8 * words.new ≤ length block.new)
         × IsCanonicalForm (root_pointer segments) (words_of (take (8 * words.new) block.new)) }
+    ensures accepted { (segments : List (List ℕ)) (rest : List ℕ) (size : ℕ) →
+        IsAtFront bytes.now segments rest → HasForm segments size →
+        8 * size ≤ length block.new → result ≡ 0 }
+    ensures short { (segments : List (List ℕ)) (rest : List ℕ) (size : ℕ) →
+        IsAtFront bytes.now segments rest → HasForm segments size →
+        length block.new < 8 * size → result ≡ 2 }
+    ensures refused { (segments : List (List ℕ)) (rest : List ℕ) (kind : ErrorKind) →
+        IsAtFront bytes.now segments rest → LacksForm segments kind → result ≡ number_of kind }
 {
     *words = 0;
     match written(bytes, block) {
@@ -53,31 +66,54 @@ fn opened<'a>(bytes: &'a [u8]) -> Result<ReaderArena<NoAllocSliceSegments<'a>>>
     ensures front { (segments : List (List ℕ)) (rest : List ℕ) →
         IsAtFront bytes.now segments rest →
         IfOk result (λ arena. arena.segments.segments ≡ segments) }
+    ensures accepted { (segments : List (List ℕ)) (rest : List ℕ) →
+        IsAtFront bytes.now segments rest → IsOk result }
     ensures nesting { IfOk result (λ arena. arena.nesting_limit ≡ pos 64) }
-    ensures limit { IfOk result (λ arena. arena.limiter.limit ≡ Some 8388608) }
+    ensures limit { IfOk result (λ arena. arena.limiter.limit ≡ default_limit) }
 {
     let segments = NoAllocBufferSegments::from_buffer(bytes, DEFAULT_READER_OPTIONS)?;
     Ok(ReaderArena::new(segments, DEFAULT_READER_OPTIONS))
 }
 
+// The root, and how many words its form has.
+fn measured_root<'a, S: ReaderSegments>(
+    arena: &'a ReaderArena<S>,
+) -> Result<(any_pointer::Reader<'a, S>, usize)>
+    requires nesting { arena.now.nesting_limit ≡ pos 64 }
+    requires limit { arena.now.limiter.limit ≡ default_limit }
+    ensures root { IfOk result (λ (root, size).
+        pointer_of S.segments root ≡ root_pointer (S.segments arena.now.segments)) }
+    ensures size { IfOk result (λ (root, size). HasForm (S.segments arena.now.segments) size) }
+    ensures lacks { IfErr result (λ error. LacksForm (S.segments arena.now.segments) error.kind) }
+{
+    let root = arena.get_root()?;
+    let size = canonical_size(&root)? as usize;
+    Ok((root, size))
+}
+
 fn measured(bytes: &[u8]) -> Result<usize>
-    ensures { (segments : List (List ℕ)) (rest : List ℕ) → IsAtFront bytes.now segments rest →
-        IfOk result (λ words. (behind : ℕ)
-        × HasWords (LeadsToTree (root_pointer segments)) true behind × (words ≡ behind + 1)) }
+    ensures size { (segments : List (List ℕ)) (rest : List ℕ) →
+        IsAtFront bytes.now segments rest → IfOk result (λ words. HasForm segments words) }
+    ensures lacks { (segments : List (List ℕ)) (rest : List ℕ) →
+        IsAtFront bytes.now segments rest → IfErr result (λ error. LacksForm segments error.kind) }
 {
     let arena = opened(bytes)?;
-    let root = arena.get_root()?;
-    Ok(canonical_size(&root)? as usize)
+    let (_, size) = measured_root(&arena)?;
+    Ok(size)
 }
 
 fn written(bytes: &[u8], block: &mut [u8]) -> Result<usize>
-    ensures { (segments : List (List ℕ)) (rest : List ℕ) → IsAtFront bytes.now segments rest →
-        IfOk result (λ words. (8 * words ≤ length block.new)
+    ensures form { (segments : List (List ℕ)) (rest : List ℕ) →
+        IsAtFront bytes.now segments rest → IfOk result (λ words. (8 * words ≤ length block.new)
         × IsCanonicalForm (root_pointer segments) (words_of (take (8 * words) block.new))) }
+    ensures size { (segments : List (List ℕ)) (rest : List ℕ) →
+        IsAtFront bytes.now segments rest → IfOk result (λ words. HasForm segments words) }
+    ensures lacks { (segments : List (List ℕ)) (rest : List ℕ) →
+        IsAtFront bytes.now segments rest → IfErr result (λ error. LacksForm segments error.kind
+        ⊎ IsShort segments (length block.new) error.kind) }
 {
     let arena = opened(bytes)?;
-    let root = arena.get_root()?;
-    let words = canonical_size(&root)? as usize;
+    let (root, words) = measured_root(&arena)?;
     if block.len() < 8 * words {
         return Err(Error::from_kind(ErrorKind::BufferNotLargeEnough));
     }

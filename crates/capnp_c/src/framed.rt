@@ -1,8 +1,11 @@
 //! Framed messages that are checked and listed.
-ghost use Rattle.std.specs.Prelude.{◌≡◌, ◌+◌, ◌*◌, ℕ, List, length, slice_get, Some};
+ghost use Rattle.std.specs.Prelude.{◌≡◌, ◌+◌, ◌*◌, ◌<◌, ◌≤◌, ℕ, List, length, slice_get, Some};
+ghost use Rattle.capnp_frame.specs.FlatRefusals.{by_fields, RefusesFlat};
 ghost use Rattle.capnp_frame.specs.Message.{lengths};
+ghost use Rattle.capnp_frame.specs.Numbers.{number_of};
 ghost use Rattle.capnp_frame.specs.SegmentTable.{table_size};
-ghost use Rattle.capnp_c.specs.Fronts.{IsAtFront};
+ghost use Rattle.capnp_frame.specs.declared.error.ErrorKind.{ErrorKind};
+ghost use Rattle.capnp_c.specs.Fronts.{IsAtFront, default_limit};
 
 use capnp_frame::ErrorKind;
 use capnp_frame::message::{DEFAULT_READER_OPTIONS, ReaderSegments};
@@ -29,6 +32,8 @@ pub extern "C" fn linsjoar_message(bytes: &[u8], message: &mut LinsjoarMessage) 
         × (message.new.end + length rest ≡ length bytes.now) }
     ensures accepted { (segments : List (List ℕ)) (rest : List ℕ) →
         IsAtFront bytes.now segments rest → result ≡ 0 }
+    ensures refused { (kind : ErrorKind) → RefusesFlat by_fields default_limit kind bytes.now →
+        result ≡ number_of kind }
 {
     *message = LinsjoarMessage {
         segments: 0,
@@ -55,8 +60,15 @@ pub extern "C" fn linsjoar_message(bytes: &[u8], message: &mut LinsjoarMessage) 
 /// A message without a segment of this number is refused by 18.
 #[unsafe(no_mangle)]
 pub extern "C" fn linsjoar_segment(bytes: &[u8], id: u32, words: &mut usize) -> u8
-    ensures { (segments : List (List ℕ)) (rest : List ℕ) → IsAtFront bytes.now segments rest →
-        result ≡ 0 → slice_get (lengths segments) id ≡ Some words.new }
+    ensures words { (segments : List (List ℕ)) (rest : List ℕ) →
+        IsAtFront bytes.now segments rest → result ≡ 0 →
+        slice_get (lengths segments) id ≡ Some words.new }
+    ensures accepted { (segments : List (List ℕ)) (rest : List ℕ) →
+        IsAtFront bytes.now segments rest → id < length segments → result ≡ 0 }
+    ensures none { (segments : List (List ℕ)) (rest : List ℕ) →
+        IsAtFront bytes.now segments rest → length segments ≤ id → result ≡ 18 }
+    ensures refused { (kind : ErrorKind) → RefusesFlat by_fields default_limit kind bytes.now →
+        result ≡ number_of kind }
 {
     *words = 0;
     match NoAllocBufferSegments::from_buffer(bytes, DEFAULT_READER_OPTIONS) {

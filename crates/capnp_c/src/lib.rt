@@ -6,4 +6,5 @@
 
 mod canonical;
 mod framed;
+mod lent_text;
 mod packed;

@@ -1,39 +1,71 @@
 //! Words that are packed, and unpacked.
-ghost use Rattle.std.specs.Prelude.{◌≡◌, ◌≤◌, ◌%◌, ◌+◌, ℕ, List, length, OnOk};
-ghost use Rattle.capnp_frame.specs.Source.{IfKnown};
-ghost use Rattle.capnp_pack.specs.PackedSource.{Unpacks};
+ghost use Rattle.std.specs.Prelude.{◌≡◌, ◌⊎◌, ◌<◌, ◌≤◌, ◌+◌, ℕ, List, length, take, IfErr, OnOk};
+ghost use Rattle.std.specs.Result.{IsErrAnd};
+ghost use Rattle.capnp_frame.specs.Message.{IsWholeWords};
+ghost use Rattle.capnp_frame.specs.Numbers.{number_of};
+ghost use Rattle.capnp_frame.specs.Sink.{Adds};
+ghost use Rattle.capnp_frame.specs.Source.{IfKnown, IsRefused, Fails};
+ghost use Rattle.capnp_frame.specs.declared.error.ErrorKind.{ErrorKind};
+ghost use Rattle.capnp_pack.specs.Packed.{Packs};
+ghost use Rattle.capnp_pack.specs.PackedSink.{AppendsPacked, DeclinesPacked};
+ghost use Rattle.capnp_pack.specs.PackedSource.{Unpacks, RefusesPiece};
 
+use crate::lent_text::LentText;
 use capnp_frame::Result;
 use capnp_frame::io::{BufRead, Read, Write};
-use capnp_pack::{PackedRead, PackedWrite};
+use capnp_pack::{PackedRead, PackedWrite, laws};
 
 /// Packs whole words into `text`, and tells how many bytes that took.
 ///
 /// Words that are part ones are refused by 14, and a text without room by 2.
 #[unsafe(no_mangle)]
 pub extern "C" fn linsjoar_pack(words: &[u8], text: &mut [u8], written: &mut usize) -> u8
+    ensures packed { result ≡ 0 → Packs words.now (take written.new text.new) }
     ensures within { written.new ≤ length text.new }
-    ensures whole { result ≡ 0 → length words.now % 8 ≡ 0 }
+    ensures part { (IsWholeWords words.now → ⊥) → result ≡ 14 }
+    ensures refused { IsWholeWords words.now → (result ≡ 0) ⊎ (result ≡ 2) }
+    ensures short { (packed : List ℕ) → Packs words.now packed → length text.new < length packed →
+        result ≡ 2 }
 {
-    let room = text.len();
-    let mut sink: &mut [u8] = text;
-    let mut packed = PackedWrite::new(&mut sink);
+    laws::plain_sink_gets_the_packed_text();
     *written = 0;
-    match packed.write_all(words) {
+    let mut sink = LentText::new(text);
+    match pack_into(&mut sink, words) {
         Ok(()) => {
-            *written = room.saturating_sub(sink.len());
+            *written = sink.len();
             0
         }
         Err(error) => error.kind.number(),
     }
 }
 
+// Packs words into a sink.
+fn pack_into<W: Write>(sink: &mut W, words: &[u8]) -> Result<()>
+    ensures packed { OnOk result (IfKnown (W.written sink.old) (W.written sink.new)
+        (Adds (AppendsPacked W.appends words.now))) }
+    ensures failed { IfErr result (λ error. error.kind ≡ ErrorKind.DeviceFailed →
+        Fails (W.failures sink.old) (W.failures sink.new)) }
+    ensures refused { IfErr result (λ error. (error.kind ≡ ErrorKind.DeviceFailed)
+        ⊎ DeclinesPacked W.refuses words.now error.kind) }
+    ensures part { (IsWholeWords words.now → ⊥) →
+        IsErrAnd result (λ error. error.kind ≡ ErrorKind.NotWholeWords) }
+    ensures same { W.same sink.old sink.new }
+{
+    let mut packed = PackedWrite::new(sink);
+    packed.write_all(words)
+}
+
 /// Fills `words` with what is packed at the front of a text, and tells how many bytes of it that
 /// took.
 #[unsafe(no_mangle)]
 pub extern "C" fn linsjoar_unpack(text: &[u8], words: &mut [u8], read: &mut usize) -> u8
-    ensures { result ≡ 0 → (rest : List ℕ) × Unpacks text.now (length words.new) words.new rest
+    ensures filled { result ≡ 0 → (rest : List ℕ)
+        × Unpacks text.now (length words.new) words.new rest
         × (read.new + length rest ≡ length text.now) }
+    ensures accepted { (bytes rest : List ℕ) → Unpacks text.now (length words.new) bytes rest →
+        result ≡ 0 }
+    ensures refused { (kind : ErrorKind) → RefusesPiece text.now (length words.new) kind →
+        result ≡ number_of kind }
 {
     *read = 0;
     let mut source = text;
@@ -48,8 +80,12 @@ pub extern "C" fn linsjoar_unpack(text: &[u8], words: &mut [u8], read: &mut usiz
 
 // Fills `words` with what a source holds packed.
 fn unpack_from<R: BufRead>(source: &mut R, words: &mut [u8]) -> Result<()>
-    ensures { OnOk result (IfKnown (R.unread source.old) (R.unread source.new)
+    ensures given { OnOk result (IfKnown (R.unread source.old) (R.unread source.new)
         (λ raw rest. Unpacks raw (length words.new) words.new rest)) }
+    ensures failed { IfErr result (λ error. error.kind ≡ ErrorKind.DeviceFailed →
+        Fails (R.failures source.old) (R.failures source.new)) }
+    ensures refused { IfErr result (λ error. (error.kind ≡ ErrorKind.DeviceFailed)
+        ⊎ IsRefused RefusesPiece (length words.new) (R.unread source.old) error.kind) }
 {
     let mut packed = PackedRead::new(source);
     packed.read_exact(words)

@@ -1,5 +1,26 @@
--- What was written.
+-- What was written, or why it was not.
+use Rattle.std.proofs.Common.{ap, ◌∙◌, arith}
+use Rattle.capnp_frame.specs.Numbers.{number_of}
+use Rattle.capnp_c.proofs.FrontLemmas.{has_or_lacks, one_size, form_fits, form_is_short, form_is_lacked}
 use Rattle.capnp_c.proofs.canonical.linsjoar_canonical.Goals as goal
 
-pub returns-in-Ok : goal.returns-in-Ok
-returns-in-Ok c segments rest front done = c.in-Ok.ensures segments rest front
+pub returns-in-Ok-clause-form : goal.returns-in-Ok-clause-form
+returns-in-Ok-clause-form c segments rest front done = c.in-Ok.ensures.form segments rest front
+
+pub returns-in-Ok-clause-short : goal.returns-in-Ok-clause-short
+returns-in-Ok-clause-short c segments rest size front has short =
+    absurd (omega (arith, short, (c.in-Ok.ensures.form segments rest front).0, one_size segments c.in-Ok.size size (c.in-Ok.ensures.size segments rest front) has))
+
+pub returns-in-Ok-clause-refused : goal.returns-in-Ok-clause-refused
+returns-in-Ok-clause-refused c segments rest kind front lacks = absurd (has_or_lacks segments c.in-Ok.size kind (c.in-Ok.ensures.size segments rest front) lacks)
+
+pub returns-in-Err-clause-accepted : goal.returns-in-Err-clause-accepted
+returns-in-Err-clause-accepted c segments rest size front has fits = absurd (form_fits segments _ size _ (c.in-Err.ensures.lacks segments rest front) has fits)
+
+pub returns-in-Err-clause-short : goal.returns-in-Err-clause-short
+returns-in-Err-clause-short c segments rest size front has short =
+    c.number.ensures ∙ ap number_of (form_is_short segments _ size _ (c.in-Err.ensures.lacks segments rest front) has)
+
+pub returns-in-Err-clause-refused : goal.returns-in-Err-clause-refused
+returns-in-Err-clause-refused c segments rest kind front lacks =
+    c.number.ensures ∙ ap number_of (form_is_lacked segments _ _ kind (c.in-Err.ensures.lacks segments rest front) lacks)

@@ -1,12 +1,16 @@
 -- What is measured is the form of the message's root.
-use Rattle.std.proofs.Common.{true, subst, ◌∙◌}
-use Rattle.capnp_wire.specs.Values.{HasWords, LeadsToTree}
-use Rattle.capnp_c.proofs.FrontLemmas.{root_is}
+use Rattle.std.proofs.Common.{subst}
+use Rattle.std.proofs.lemmas.Result.{err_from_is_err_and}
+use Rattle.capnp_c.specs.Fronts.{HasForm, LacksForm}
 use Rattle.capnp_c.proofs.canonical.measured.Goals as goal
 
-pub returns : goal.returns
-returns c segments rest front =
-    let same = root_is c.in_ok-arena.arena.segments.segments segments c.in_ok-arena.arena.nesting_limit c.in_ok-arena.arena.limiter.limit
-    (c.in_ok-arena.ensures.front segments rest front) c.in_ok-arena.ensures.nesting c.in_ok-arena.ensures.limit in
-    let has = c.in_ok-canonical_size.ensures.answer in
-    (has.0, subst (λ p. HasWords (LeadsToTree p) true has.0) (c.in_ok-root.ensures.answer ∙ same) has.1, has.2)
+pub returns-in_err-arena-clause-lacks : goal.returns-in_err-arena-clause-lacks
+returns-in_err-arena-clause-lacks c segments rest front = let never = c.in_err-arena.ensures.accepted segments rest front in absurd (cc)
+
+pub returns-in_err-size-clause-lacks : goal.returns-in_err-size-clause-lacks
+returns-in_err-size-clause-lacks c segments rest front =
+    let p = err_from_is_err_and c.from_residual-in_err-size.result c.from_residual-in_err-size.ensures.1 in
+    rw (p.1, p.2) (subst (λ s. LacksForm s c.in_err-size.field-0.0.kind) (c.in_ok-arena.ensures.front segments rest front) c.in_err-size.ensures.lacks)
+
+pub returns-clause-size : goal.returns-clause-size
+returns-clause-size c segments rest front = subst (λ s. HasForm s c.in_ok-size.size) (c.in_ok-arena.ensures.front segments rest front) c.in_ok-size.ensures.size

@@ -7,3 +7,7 @@ pub returns-clause-front : goal.returns-clause-front
 returns-clause-front c segments rest front =
     let found = c.in_ok-segments.ensures.found in
     ap (λ held. held.segments) c.new.ensures.segments ∙ one_front c.args.bytes.now found.0 rest c.in_ok-segments.segments.segments segments found.1 front.frame
+
+pub returns-in_err-segments-clause-accepted : goal.returns-in_err-segments-clause-accepted
+returns-in_err-segments-clause-accepted c segments rest front =
+    let never = c.in_err-segments.ensures.accepted segments rest front.frame front.within in absurd (cc)

@@ -1,16 +1,35 @@
 -- What is written is the form of the message's root, at the front of the block.
-use Rattle.std.proofs.Common.{◌≡◌, ◌*◌, length, subst, ◌∙◌, arith, length-take}
+use Rattle.std.proofs.Common.{◌≡◌, ◌*◌, inl, inr, length, subst, arith, length-take}
+use Rattle.std.proofs.lemmas.Result.{err_from_is_err_and}
 use Rattle.capnp_wire.specs.Pointer.{words_of}
 use Rattle.capnp_wire.specs.Values.{IsCanonicalForm}
-use Rattle.capnp_c.specs.Fronts.{root_pointer}
-use Rattle.capnp_c.proofs.FrontLemmas.{root_is, front_form}
+use Rattle.capnp_c.specs.Fronts.{HasForm, LacksForm, root_pointer}
+use Rattle.capnp_c.proofs.FrontLemmas.{front_form}
 use Rattle.capnp_c.proofs.canonical.written.Goals as goal
 
-pub returns : goal.returns
-returns c segments rest front =
-    let same = root_is c.in_ok-arena.arena.segments.segments segments c.in_ok-arena.arena.nesting_limit c.in_ok-arena.arena.limiter.limit
-    (c.in_ok-arena.ensures.front segments rest front) c.in_ok-arena.ensures.nesting c.in_ok-arena.ensures.limit in
-    let long : length c.write_form.new.block ≡ 8 * c.in_ok-words.field-0 =
-    omega (arith, c.write_form.ensures.len, length-take (8 * c.in_ok-words.field-0) c.args.block.now) in
-    front_form (root_pointer segments) (8 * c.in_ok-words.field-0) c.write_form.new.block _ long
-    (subst (λ p. IsCanonicalForm p (words_of c.write_form.new.block)) (c.in_ok-root.ensures.answer ∙ same) c.write_form.ensures.form)
+pub returns-in_err-arena-clause-lacks : goal.returns-in_err-arena-clause-lacks
+returns-in_err-arena-clause-lacks c segments rest front = let never = c.in_err-arena.ensures.accepted segments rest front in absurd (cc)
+
+pub returns-in_err-root-clause-lacks : goal.returns-in_err-root-clause-lacks
+returns-in_err-root-clause-lacks c segments rest front =
+    let p = err_from_is_err_and c.from_residual-in_err-root.result c.from_residual-in_err-root.ensures.1 in
+    rw (p.1, p.2) (inl (subst (λ s. LacksForm s c.in_err-root.field-0.0.kind) (c.in_ok-arena.ensures.front segments rest front) c.in_err-root.ensures.lacks))
+
+pub returns-then-block-words-clause-lacks : goal.returns-then-block-words-clause-lacks
+returns-then-block-words-clause-lacks c segments rest front = inr (
+  c.in_ok-root.words,
+  subst (λ s. HasForm s c.in_ok-root.words) (c.in_ok-arena.ensures.front segments rest front) c.in_ok-root.ensures.size,
+  omega (arith, c.if-block-words.true),
+  c.from_kind.ensures,
+)
+
+pub returns-clause-form : goal.returns-clause-form
+returns-clause-form c segments rest front =
+    let long : length c.write_form.new.block ≡ 8 * c.in_ok-root.words =
+    omega (arith, c.write_form.ensures.len, length-take (8 * c.in_ok-root.words) c.args.block.now) in
+    front_form (root_pointer segments) (8 * c.in_ok-root.words) c.write_form.new.block _ long
+    (subst (λ s. IsCanonicalForm (root_pointer s) (words_of c.write_form.new.block)) (c.in_ok-arena.ensures.front segments rest front)
+    (subst (λ p. IsCanonicalForm p (words_of c.write_form.new.block)) c.in_ok-root.ensures.root c.write_form.ensures.form))
+
+pub returns-clause-size : goal.returns-clause-size
+returns-clause-size c segments rest front = subst (λ s. HasForm s c.in_ok-root.words) (c.in_ok-arena.ensures.front segments rest front) c.in_ok-root.ensures.size

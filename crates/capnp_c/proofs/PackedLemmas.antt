@@ -1,0 +1,28 @@
+-- Words that are packed and unpacked over lent buffers, which no device stands behind.
+use Rattle.std.proofs.Common.{◌≡◌, ◌⊎◌, ◌<◌, ℕ, List, length, take, inl, inr, ap, arith, length-take}
+use Rattle.capnp_frame.specs.declared.error.ErrorKind.{ErrorKind}
+use Rattle.capnp_frame.specs.declared.error.ErrorKind.TheVariants.{DeviceFailed, BufferNotLargeEnough}
+use Rattle.capnp_frame.specs.Sink.{ByKind}
+use Rattle.capnp_frame.specs.Source.{Fails}
+use Rattle.capnp_frame.proofs.AskLemmas.{never_fails}
+use Rattle.capnp_pack.specs.Packed.{Packs}
+use Rattle.capnp_pack.specs.PackedSink.{DeclinesPacked}
+use Rattle.capnp_pack.specs.PackedSource.{RefusesPiece}
+use Rattle.capnp_pack.proofs.PackerLemmas.{Packs-once, Packs-whole}
+
+-- a refusal of a slice is a line of the table
+pub piece_refused : (raw : List ℕ) (n : ℕ) (kind : ErrorKind) → (kind ≡ DeviceFailed) ⊎ RefusesPiece raw n kind → (kind ≡ DeviceFailed → Fails 0 0) → RefusesPiece raw n kind
+piece_refused raw n kind (inl device) failed = absurd (never_fails kind failed device)
+piece_refused raw n kind (inr line) failed = line
+
+-- whole words are refused by the block alone
+pub block_refused : (words packed : List ℕ) (kind : ErrorKind) → Packs words packed → (kind ≡ DeviceFailed) ⊎ DeclinesPacked (ByKind BufferNotLargeEnough) words kind
+    → (kind ≡ DeviceFailed → Fails 0 0) → kind ≡ BufferNotLargeEnough
+block_refused words packed kind packs (inl device) failed = absurd (never_fails kind failed device)
+block_refused words packed kind packs (inr (inl (part, is))) failed = absurd (part (Packs-whole words packed packs))
+block_refused words packed kind packs (inr (inr (whole, (piece, is)))) failed = is
+
+-- and what was written is their one text
+pub packed_fits : (words packed block : List ℕ) (n : ℕ) → Packs words packed → length block < length packed → Packs words (take n block) → ⊥
+packed_fits words packed block n packs short written =
+    absurd (omega (arith, short, ap length (Packs-once words packed (take n block) packs written), length-take n block))
