@@ -1,14 +1,11 @@
 -- A message that is written packed is read back.
-use Rattle.std.proofs.Common.{◌≡◌, ℕ, Some, Option, Result, Ok, Err, IfOk, OnOk, List, [], ◌∷◌, ◌++◌, sym, ap, ◌∙◌, subst}
+use Rattle.std.proofs.Common.{◌≡◌, ℕ, Option, List, [], ◌++◌, sym, ap, ◌∙◌, subst}
 use Rattle.std.proofs.lemmas.List.{append-nil}
-use Rattle.capnp_frame.specs.declared.error.Error.{Error}
-use Rattle.capnp_frame.specs.Source.{IfKnown}
 use Rattle.capnp_frame.specs.Sink.{Adds}
-use Rattle.capnp_frame.specs.Texts.{BeginsWith}
+use Rattle.capnp_frame.specs.Limits.{IsWithin}
 use Rattle.capnp_frame.specs.Writing.{IsWritable}
 use Rattle.capnp_frame.proofs.SizeLemmas.{HasTable-writable}
 use Rattle.capnp_frame.proofs.TextLemmas.{texts_part}
-use Rattle.capnp_pack.specs.PackedFrame.{IsPackedFrame}
 use Rattle.capnp_pack.specs.RefusingLaws.{unpacking}
 use Rattle.capnp_pack.proofs.PackedFrameLemmas.{packed_requests, packed_text_is}
 use Rattle.capnp.specs.Streams.{BeginsPacked}
@@ -25,3 +22,8 @@ added_text message old new none (text, packed, spelled) = subst (λ l. IsPackedT
 
 pub shown_text : (message : List (List ℕ)) (text shown : List ℕ) → shown ≡ text → IsPackedTextOf message text → IsPackedTextOf message shown
 shown_text message text shown same packed = subst (λ l. IsPackedTextOf message l) (sym same) packed
+
+-- and stands at the front of its text
+pub begins_packed : (limit : Option ℕ) (message : List (List ℕ)) (text : List ℕ) → IsWritable message → IsWithin message limit → IsPackedTextOf message text → BeginsPacked limit message text []
+begins_packed limit message text writable within packed =
+    record { text = text; is_text = packed_text_is text message (HasTable-writable message writable) packed; within = within; spelled = sym (append-nil text) }

@@ -1,10 +1,11 @@
 -- Readers of bytes at hand answer the one message that stands there.
-use Rattle.std.proofs.Common.{◌≡◌, ℕ, List, [], Option, Some, None, IfSome, Result, Ok, Err, IsOk, IfOk, IfErr, MatchResult, sym, ap, subst}
+use Rattle.std.proofs.Common.{◌≡◌, ◌<◌, ℕ, List, [], Option, Some, None, IfSome, Result, Ok, Err, IsOk, IfOk, IfErr, MatchResult, sym, ap, subst, arith}
 use Rattle.std.specs.Prelude.{IfNone, IsSomeAnd, IsOkAnd}
 use Rattle.capnp_frame.specs.declared.error.Error.{Error}
 use Rattle.capnp_frame.specs.declared.error.ErrorKind.TheVariants.{DeviceFailed, OutOfMemory}
 use Rattle.capnp_frame.specs.declared.message.options.ReaderOptions.{ReaderOptions}
 use Rattle.capnp_frame.specs.declared.message.options.TheConstants.{DEFAULT_READER_OPTIONS}
+use Rattle.capnp_wire.specs.Readers.{level_of}
 use Rattle.capnp_wire.specs.Views.{Pointer}
 use Rattle.capnp_wire.specs.Values.{IsCanonicalForm}
 use Rattle.capnp_message.specs.Seen.{root_of}
@@ -57,3 +58,7 @@ pub form_of_root : {X : Type 0} (numbers_of : X → List ℕ) (Q : Error → Typ
     → MatchResult r (λ x. IsCanonicalForm pointer (numbers_of x)) Q → IfOk r (λ x. IsCanonicalForm other (numbers_of x))
 form_of_root numbers_of Q (Ok x) pointer other same answer = subst (λ p. IsCanonicalForm p (numbers_of x)) same answer
 form_of_root numbers_of Q (Err e) pointer other same answer = tt
+
+-- an object may stand at that root
+pub default_depth : (options : ReaderOptions) → options ≡ DEFAULT_READER_OPTIONS → 0 < level_of options.nesting_limit
+default_depth options is = subst (λ (o : ReaderOptions). 0 < level_of o.nesting_limit) (sym is) (omega arith)

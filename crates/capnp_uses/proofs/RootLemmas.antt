@@ -1,16 +1,18 @@
 -- What a view of the root of a message that is built shows.
-use Rattle.std.proofs.Common.{◌≡◌, ℕ, List, [], ◌∷◌, ◌++◌, map, None, Some, Result, Ok, Err, IfOk, MatchResult, refl, sym, subst, arith}
+use Rattle.std.proofs.Common.{◌≡◌, ◌⊎◌, inl, inr, ℕ, ◌<◌, List, [], ◌∷◌, ◌++◌, map, None, Some, Result, Ok, Err, IfOk, IfErr, MatchResult, refl, sym, subst, arith}
 use Rattle.std.proofs.lemmas.List.{append_cancel_right}
 use Rattle.capnp_frame.specs.declared.error.Error.{Error}
-use Rattle.capnp_wire.specs.Tree.{Form, null, numbers, none}
+use Rattle.capnp_frame.specs.declared.error.ErrorKind.{ErrorKind}
+use Rattle.capnp_wire.specs.Tree.{Form, null, struct, numbers, none}
 use Rattle.capnp_wire.specs.Object.{Shape, PointsTo, nothing, word_at}
 use Rattle.capnp_wire.specs.Reached.{at, root, Root}
-use Rattle.capnp_wire.specs.Views.{Pointer, Denotes, nowhere, at_place, Shows, Reads, IsText}
+use Rattle.capnp_wire.specs.Faults.{NoWord, Fault}
+use Rattle.capnp_wire.specs.Views.{Pointer, Denotes, nowhere, at_place, Shows, Reads, Refuses, MeetsLimit, IsText, DeclinesText, DeclinesStruct}
 use Rattle.capnp_wire.specs.Charge.{Within}
 use Rattle.capnp_wire.specs.Readers.{unlimited_root}
 use Rattle.capnp_wire.proofs.ObjectLemmas.{one_object}
 use Rattle.capnp_wire.proofs.ViewLemmas.{one_denoted}
-use Rattle.capnp_wire.proofs.FaultLemmas.{word_of_object}
+use Rattle.capnp_wire.proofs.FaultLemmas.{word_of_object, no_word_there, refused_has_no_object}
 use Rattle.capnp_wire.proofs.FullLemmas.{null_is_zero}
 use Rattle.capnp_wire.proofs.NullLemmas.{null_by_word}
 use Rattle.capnp_build.specs.Bytes.{Space}
@@ -65,3 +67,30 @@ null_is_read [] (charge, stands) =
     cc
 null_is_read (space ∷ spaces) (charge, stands) =
     null_by_word (unlimited_root (map used_of (space ∷ spaces))) root 0 refl (null_at (message (space ∷ spaces)) null charge refl stands) refl
+
+-- A view that takes what stands at the root is refused by the traversal limit alone.
+pub root_meets_limit : (pointer : Pointer) (form : Form) (declines : Form → ErrorKind → Type 0) (kind : ErrorKind) → pointer.place ≡ Some root
+    → (charge : ℕ) × Root pointer.message form none charge → 0 < pointer.level → (declines form kind → ⊥) → NoWord pointer.message root kind ⊎ Refuses pointer declines kind
+    → MeetsLimit pointer kind
+root_meets_limit pointer form declines kind is (charge, at {shape = shape} points inside others) deep takes (inl absent) =
+    absurd (word_of_object pointer.message root shape (no_word_there pointer.message root kind absent) points)
+root_meets_limit pointer form declines kind is (charge, at {shape = shape} points inside others) deep takes (inr (inl (inl (place, there, fault)))) =
+    let same : place ≡ root = cc in
+    absurd (refused_has_no_object pointer.message root pointer.level kind shape (subst (λ at. Fault pointer.message at pointer.level kind) same fault) points (λ some. deep))
+root_meets_limit pointer form declines kind is stands deep takes (inr (inl (inr limit))) = limit
+root_meets_limit pointer form declines kind is (charge, at {shape = shape} points inside others) deep takes (inr (inr (other, denotes, declined))) =
+    absurd (takes (subst (λ s. declines s.form kind) (denotes_root pointer shape other is denotes points) declined))
+
+text_is_taken : (bytes : List ℕ) (kind : ErrorKind) → DeclinesText (numbers 2 (bytes ++ 0 ∷ [])) kind → ⊥
+text_is_taken bytes kind (inl (other, is)) = other refl
+text_is_taken bytes kind (inr (takes, cut, is)) = cut (refl, (bytes, refl))
+
+pub text_meets_limit : {X : Type 0} (shows : X → Type 0) (pointer : Pointer) (bytes : List ℕ) (r : Result X Error) → pointer.place ≡ Some root
+    → (charge : ℕ) × Root pointer.message (numbers 2 (bytes ++ 0 ∷ [])) none charge → 0 < pointer.level
+    → MatchResult r shows (λ e. NoWord pointer.message root e.kind ⊎ Refuses pointer DeclinesText e.kind) → IfErr r (λ e. MeetsLimit pointer e.kind)
+text_meets_limit shows pointer bytes (Ok view) is stands deep answer = tt
+text_meets_limit shows pointer bytes (Err e) is stands deep answer =
+    root_meets_limit pointer (numbers 2 (bytes ++ 0 ∷ [])) DeclinesText e.kind is stands deep (text_is_taken bytes e.kind) answer
+
+pub struct_is_taken : (words : List ℕ) (kind : ErrorKind) → DeclinesStruct (struct words) kind → ⊥
+struct_is_taken words kind (other, is) = other tt

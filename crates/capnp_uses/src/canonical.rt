@@ -2,7 +2,8 @@
 ghost use Rattle.std.specs.Prelude.{◌≡◌, ℕ, List, IfOk, IfErr};
 ghost use Rattle.capnp_frame.specs.declared.error.ErrorKind.{ErrorKind};
 ghost use Rattle.capnp_wire.specs.Values.{IsCanonicalForm};
-ghost use Rattle.capnp_message.specs.Canonical.{numbers, HasForm};
+ghost use Rattle.capnp_wire.specs.Block.{numbers_of};
+ghost use Rattle.capnp_message.specs.Canonical.{HasForm};
 ghost use Rattle.capnp.specs.Streams.{BeginsFramed};
 ghost use Rattle.capnp_uses.specs.Reading.{default_limit, default_root};
 
@@ -14,7 +15,7 @@ use std::alloc::Global;
 pub fn canonical_words(alloc: Global, bytes: &[u8]) -> Result<Vec<Word>>
     ensures form { (message : List (List ℕ)) (rest : List ℕ) →
         BeginsFramed default_limit message bytes.now rest →
-        IfOk result (λ words. IsCanonicalForm (default_root message) (numbers words.items)) }
+        IfOk result (λ words. IsCanonicalForm (default_root message) (numbers_of words.items)) }
     // They are answered wherever there are such words, memory aside.
     ensures found { (message : List (List ℕ)) (rest : List ℕ) →
         BeginsFramed default_limit message bytes.now rest → HasForm (default_root message) →

@@ -6,6 +6,8 @@
 
 pub mod building;
 pub mod canonical;
+#[cfg(test)]
+mod examples;
 pub mod packed_struct;
 pub mod packing;
 pub mod reading;

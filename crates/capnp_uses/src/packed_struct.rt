@@ -1,8 +1,11 @@
 //! A struct that is built, written packed, and read back.
-ghost use Rattle.std.specs.Prelude.{◌≡◌, ◌<◌, ◌∷◌, [], ℕ, List, length, IfOk};
+ghost use Rattle.std.specs.Prelude.{◌≡◌, ◌⊎◌, ◌<◌, ◌∷◌, [], ℕ, List, length, IfOk, IfErr};
+ghost use Rattle.capnp_frame.specs.declared.error.ErrorKind.{ErrorKind};
+ghost use Rattle.capnp_frame.specs.Limits.{IsWithin};
 ghost use Rattle.capnp_frame.specs.Writing.{IsWritable};
 ghost use Rattle.capnp_wire.specs.Tree.{struct};
 ghost use Rattle.capnp.specs.Written.{IsPackedTextOf, output_of};
+ghost use Rattle.capnp_uses.specs.Reading.{default_limit};
 ghost use Rattle.capnp_uses.specs.Roots.{HasRoot};
 
 use crate::building::write_struct;
@@ -44,9 +47,15 @@ pub fn packed_text<A: Allocator>(alloc: Global, message: &Builder<A>) -> Result<
 
 /// The first two data words of the struct at the root of a packed message.
 pub fn read_packed_words(alloc: Global, text: &[u8]) -> Result<(u64, u64)>
-    ensures { (message : List (List ℕ)) (first second : ℕ) → IsWritable message →
+    ensures words { (message : List (List ℕ)) (first second : ℕ) → IsWritable message →
         IsPackedTextOf message text.now → HasRoot message (struct (first ∷ second ∷ [])) →
         IfOk result (λ read. read ≡ (first, second)) }
+    // Memory and the traversal limit aside, it succeeds.
+    ensures found { (message : List (List ℕ)) (first second : ℕ) → IsWritable message →
+        IsWithin message default_limit → IsPackedTextOf message text.now →
+        HasRoot message (struct (first ∷ second ∷ [])) →
+        IfErr result (λ error. (error.kind ≡ ErrorKind.OutOfMemory)
+        ⊎ (error.kind ≡ ErrorKind.ReadLimitExceeded)) }
 {
     let mut source = text;
     let message = serialize_packed::read_message(alloc, &mut source, DEFAULT_READER_OPTIONS)?;

@@ -1,5 +1,5 @@
 //! Words that are packed, and unpacked.
-ghost use Rattle.std.specs.Prelude.{◌≡◌, ◌⊎◌, ℕ, List, length, IfOk, IfErr, OnOk};
+ghost use Rattle.std.specs.Prelude.{◌≡◌, ◌⊎◌, ℕ, List, length, IfOk, IfErr, IsOk, OnOk};
 ghost use Rattle.capnp_frame.specs.declared.error.ErrorKind.{ErrorKind};
 ghost use Rattle.capnp_frame.specs.Message.{IsWholeWords};
 ghost use Rattle.capnp_frame.specs.Source.{IfKnown, Fails};
@@ -41,7 +41,10 @@ fn pack_into<W: Write>(sink: &mut W, words: &[u8]) -> Result<()>
 
 /// Fills `words` with what is packed at the front of a text.
 pub fn unpack_words(text: &[u8], words: &mut [u8]) -> Result<()>
-    ensures { OnOk result ((rest : List ℕ) × Unpacks text.now (length words.new) words.new rest) }
+    ensures filled { OnOk result ((rest : List ℕ)
+        × Unpacks text.now (length words.new) words.new rest) }
+    ensures found { (bytes rest : List ℕ) → Unpacks text.now (length words.new) bytes rest →
+        IsOk result }
 {
     let mut source = text;
     let mut packed = PackedRead::new(&mut source);
@@ -52,6 +55,7 @@ pub fn unpack_words(text: &[u8], words: &mut [u8]) -> Result<()>
 pub fn words_are_unpacked(alloc: Global, words: &[u8]) -> Result<Vec<u8>>
     requires { IsWholeWords words.now }
     ensures back { IfOk result (λ unpacked. unpacked.items ≡ words.now) }
+    ensures memory { IfErr result (λ error. error.kind ≡ ErrorKind.OutOfMemory) }
 {
     laws::packed_text_unpacks();
     let text = pack_words(alloc, words)?;

@@ -1,8 +1,10 @@
 //! Messages that are read from bytes at hand.
-ghost use Rattle.std.specs.Prelude.{◌≡◌, ◌++◌, ◌∷◌, [], ℕ, List, IfOk, IfSome, IfNone, MatchResult, IsSomeAnd, IsOkAnd};
+ghost use Rattle.std.specs.Prelude.{◌≡◌, ◌<◌, ◌++◌, ◌∷◌, [], ℕ, List, IfOk, IfErr, IfSome, IfNone, MatchResult, IsSomeAnd, IsOkAnd};
 ghost use Rattle.capnp_frame.specs.declared.error.ErrorKind.{ErrorKind};
 ghost use Rattle.capnp_frame.specs.declared.message.options.TheConstants.{DEFAULT_READER_OPTIONS};
 ghost use Rattle.capnp_wire.specs.Tree.{numbers};
+ghost use Rattle.capnp_wire.specs.Views.{MeetsLimit};
+ghost use Rattle.capnp_message.specs.Seen.{root_of};
 ghost use Rattle.capnp.specs.Streams.{BeginsFramed};
 ghost use Rattle.capnp_uses.specs.Reading.{default_limit};
 ghost use Rattle.capnp_uses.specs.Roots.{HasRoot};
@@ -45,6 +47,10 @@ pub fn root_text<'a, S: ReaderSegments>(message: &'a Reader<S>) -> Result<text::
     ensures shown { (bytes : List ℕ) →
         HasRoot (S.segments message.now.segments) (numbers 2 (bytes ++ 0 ∷ [])) →
         IfOk result (λ text. text.bytes.now ≡ bytes) }
+    // It is refused by the traversal limit alone, where there is one and objects may be nested.
+    ensures found { let pointer = root_of S.segments message.now in (bytes : List ℕ) →
+        HasRoot (S.segments message.now.segments) (numbers 2 (bytes ++ 0 ∷ [])) →
+        0 < pointer.level → IfErr result (λ error. MeetsLimit pointer error.kind) }
 {
     message.get_root()
 }
