@@ -7,6 +7,7 @@ pub mod CycleLemmas
 pub mod MessageLemmas
 pub mod LandingLemmas
 pub mod PadLemmas
+pub mod NumberListLemmas
 pub mod ElementLemmas
 pub mod ViewLemmas
 pub mod FormLemmas
@@ -44,12 +45,14 @@ pub mod PaddingLemmas
 pub mod PutLemmas
 pub mod RowCopyLemmas
 pub mod CopiedLemmas
+pub mod NumberCopyLemmas
 pub mod UsedLemmas
 pub mod OwnWordLemmas
 pub mod StoodLemmas
 pub mod ValueLemmas
 pub mod SetterLemmas
 pub mod BytesLemmas
+pub mod WholeLemmas
 pub mod WordListLemmas
 pub mod PlacedLemmas
 pub mod ExactLemmas

@@ -34,7 +34,7 @@ under_depth level form held trees whole some shallow =
 under_rooms : (form : Form) (held trees : Trees) → trees ≡ tree form held none → AllHaveRoom trees → AllHaveRoom held
 under_rooms form held trees whole rooms = (subst AllHaveRoom whole rooms).1
 
-most_within_rows : (words : List ℕ) (start k step n : ℕ) → most_used words start k step n ≤ k
+pub most_within_rows : (words : List ℕ) (start k step n : ℕ) → most_used words start k step n ≤ k
 most_within_rows words start k step zero = omega arith
 most_within_rows words start k step (suc n) = omega (arith, most_within words start k, most_within_rows words (start + step) k step n)
 

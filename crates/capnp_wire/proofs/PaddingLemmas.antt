@@ -7,7 +7,7 @@ use Rattle.std.proofs.lemmas.Nat.{pow_pos, pow-add}
 use Rattle.std.proofs.lemmas.List.{get_or-take, get_or-drop, get_or_past}
 use Rattle.std.proofs.lemmas.Option.{slice_get_cases}
 use Rattle.std.proofs.Common.{◌≡◌, ℕ, zero, suc, ◌+◌, ◌-◌, ◌*◌, ◌/◌, ◌%◌, ◌^◌, ◌<◌, ◌≤◌, List, [], ◌∷◌, ◌++◌, length, take, drop, Some, slice_get, slice_index_or, inl, inr, refl, sym, ◌∙◌}
-use Rattle.std.proofs.Common.{ap, arith, length-append, length-take, length-drop, lit<}
+use Rattle.std.proofs.Common.{All, ap, arith, length-append, length-take, length-drop, lit<}
 use Rattle.capnp_wire.specs.Pointer.{digits, number_of, words_from}
 use Rattle.capnp_wire.specs.Element.{width, words_for}
 use Rattle.capnp_wire.specs.Tree.{numbers}
@@ -167,3 +167,9 @@ part_word words start code n last small room some there slot block fits =
 -- 1 shifted by fewer bits than a word has
 pub shifted : (r : ℕ) → r < 64 → (1 * 2 ^ r) % 2 ^ 64 ≡ 2 ^ r
 shifted r few = shl_exact 1 r 64 (lit< tt) (omega arith) ∙ omega arith
+
+-- words that are there are below 2 ^ 64, and so is what is read in place of others
+pub any_below : (words : List ℕ) → All (λ w. w < 2 ^ 64) words → (i : ℕ) → slice_index_or words i 0 < 2 ^ 64
+any_below [] all i = omega arith
+any_below (word ∷ words) all zero = all 0 0 (omega arith)
+any_below (word ∷ words) all (suc i) = any_below words (λ k d within. all (suc k) d (omega arith)) i

@@ -123,6 +123,12 @@ walked_over m c place shape level limit left after counted_then counted_now coun
   counted = counts_both counted_then counted_now counted_after e.own w.words e.counted w.counted;
 }
 
+-- below an object that holds nothing
+pub walked_alone : {m : List (List ℕ)} {c : Bool} {place : Place} {shape : Shape} {level : ℕ} {limit left counted_then counted_now : Option ℕ}
+    → Entered m c place shape level limit left counted_then counted_now → shape.held ≡ [] → Walked m c place level limit left counted_then counted_now
+walked_alone {m} {c} {place} {shape} {level} {limit} {left} {counted_then = a} {counted_now = b} e none =
+    walked_over m c place shape level limit left left a b b e (progress_done none (progress_begins m c shape.held (level - 1) left b))
+
 pub walk_goes_on : {Y : Type 0} {m : List (List ℕ)} {c : Bool} {place : Place} {shape : Shape} {level : ℕ} {limit left counted_then counted_now : Option ℕ} (after counted_after : Option ℕ)
     (pointers : List Place) (result : Result Y Error)
     → Entered m c place shape level limit left counted_then counted_now → pointers ≡ shape.held

@@ -9,7 +9,7 @@ use Rattle.std.specs.Simd.{first_chunks}
 use Rattle.capnp_wire.specs.Pointer.{digits, number_of, words_of}
 
 -- eight bytes are a word
-number_of_eight : (bytes : List ℕ) → length bytes ≡ 8 → number_of 256 bytes ≡ from_le_bytes w64 bytes
+pub number_of_eight : (bytes : List ℕ) → length bytes ≡ 8 → number_of 256 bytes ≡ from_le_bytes w64 bytes
 number_of_eight (a ∷ b ∷ c ∷ d ∷ e ∷ f ∷ g ∷ h ∷ []) eight = omega arith
 number_of_eight [] eight = absurd (omega arith)
 number_of_eight (a ∷ []) eight = absurd (omega arith)

@@ -52,12 +52,13 @@ pub fn canonical_bytes<S: ReaderSegments>(
 {
     let words = canonical_size(reader)? as usize;
     let mut bytes = vec![in alloc; 0u8; 8 * words]?;
-    write_whole(reader, &mut bytes);
+    write_form(reader, &mut bytes);
     Ok(bytes)
 }
 
-// Writes the canonical form of what a pointer leads to into zeros of just its words.
-fn write_whole<S: ReaderSegments>(reader: &any_pointer::Reader<'_, S>, bytes: &mut [u8])
+/// Writes the canonical form of what a pointer leads to into zeros of just its words, those that
+/// `canonical_size` answers.
+pub fn write_form<S: ReaderSegments>(reader: &any_pointer::Reader<'_, S>, bytes: &mut [u8])
     requires words { (behind : ℕ)
         × HasWords (LeadsToTree (pointer_of S.segments reader.now)) true behind
         × (length bytes.old ≡ 8 * (behind + 1)) }

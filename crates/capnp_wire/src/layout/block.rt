@@ -9,19 +9,18 @@ ghost use Rattle.capnp_wire.specs.Layout.{own};
 ghost use Rattle.capnp_wire.specs.Trim.{cut_zeros};
 ghost use Rattle.capnp_wire.specs.Block.{put, numbers_of, most_used};
 
-use crate::layout::element::ElementSize;
-use crate::layout::place::word;
+use crate::layout::number_list::NumberList;
+use crate::layout::object::words_fit;
 use capnp_frame::Word;
 
 /// A word of a segment that is there.
+#[inline(always)]
 pub(crate) fn word_at(segment: &[u8], index: usize) -> u64
     requires { index < length segment.now / 8 }
     ensures { slice_get (words_of segment.now) index ≡ Some result }
 {
-    match word(segment, index) {
-        Some(word) => word,
-        None => 0,
-    }
+    let (words, _) = segment.as_chunks::<8>();
+    u64::from_le_bytes(words[index])
 }
 
 /// What a block of words is made of: bytes, eight of them a word, or words.
@@ -40,15 +39,31 @@ pub(crate) trait BlockItem: Sized {
 impl BlockItem for u8 {
     ghost as_words = { words_of };
 
+    #[inline(always)]
     fn put_bytes(block: &mut [u8], at: usize, bytes: &[u8]) {
         let begin = 8 * at;
-        block[begin..begin + bytes.len()].copy_from_slice(bytes);
+        copy_bytes(&mut block[begin..begin + bytes.len()], bytes);
+    }
+}
+
+// Copies bytes. A copy of a few words, whose number is known here, needs no call.
+#[inline(always)]
+fn copy_bytes(to: &mut [u8], bytes: &[u8])
+    requires { length to.old ≡ length bytes.now }
+    ensures { to.new ≡ bytes.now }
+{
+    match bytes.len() {
+        8 => to[..8].copy_from_slice(&bytes[..8]),
+        16 => to[..16].copy_from_slice(&bytes[..16]),
+        24 => to[..24].copy_from_slice(&bytes[..24]),
+        _ => to.copy_from_slice(bytes),
     }
 }
 
 impl BlockItem for Word {
     ghost as_words = { numbers_of };
 
+    #[inline(always)]
     fn put_bytes(block: &mut [Word], at: usize, bytes: &[u8]) {
         let (chunks, _) = bytes.as_chunks::<8>();
         for index in 0..chunks.len() {
@@ -67,6 +82,7 @@ fn word_of_bytes(bytes: &[u8; 8]) -> Word
 }
 
 /// Puts a word into a block.
+#[inline(always)]
 pub(crate) fn put_word<T: BlockItem>(block: &mut [T], at: usize, word: u64)
     requires { at < length (T.as_words block.old) }
     ensures words { T.as_words block.new ≡ put at (word ∷ []) (T.as_words block.old) }
@@ -76,6 +92,7 @@ pub(crate) fn put_word<T: BlockItem>(block: &mut [T], at: usize, word: u64)
 }
 
 /// Puts so many words of a segment into a block.
+#[inline(always)]
 pub(crate) fn put_words<T: BlockItem>(
     block: &mut [T],
     at: usize,
@@ -94,25 +111,25 @@ pub(crate) fn put_words<T: BlockItem>(
 }
 
 /// Puts the elements of a list into a block, with zero bits behind the last one.
-pub(crate) fn put_elements<T: BlockItem>(
-    block: &mut [T],
-    at: usize,
-    segment: &[u8],
-    start: usize,
-    size: ElementSize,
-    count: u32,
-)
-    requires there { start + words_for count (width (code_of size)) ≤ length segment.now / 8 }
-    requires room { at + words_for count (width (code_of size)) ≤ length (T.as_words block.old) }
+#[inline(always)]
+pub(crate) fn put_elements<T: BlockItem>(block: &mut [T], at: usize, list: &NumberList<'_>)
+    requires there { let words = words_for list.now.count (width (code_of list.now.size)) in
+        list.now.start.word + words ≤ length list.now.segment.now / 8 }
+    requires room { let words = words_for list.now.count (width (code_of list.now.size)) in
+        at + words ≤ length (T.as_words block.old) }
     requires bound { length (T.as_words block.old) < 2 ^ 29 }
-    ensures words { let list = numbers (code_of size)
-        (elements (words_of segment.now) start (code_of size) count) in
-        T.as_words block.new ≡ put at (own list []) (T.as_words block.old) }
+    ensures words { let code = code_of list.now.size in
+        let words = words_of list.now.segment.now in
+        let numerals = elements words list.now.start.word code list.now.count in
+        T.as_words block.new ≡ put at (own (numbers code numerals) []) (T.as_words block.old) }
     ensures len { length (T.as_words block.new) ≡ length (T.as_words block.old) }
 {
-    let words = size.words_of_list(count) as usize;
+    let segment = list.segment;
+    words_fit(segment);
+    let start = list.start.word;
+    let words = list.words() as usize;
     put_words(block, at, segment, start, words);
-    let behind = count as u64 * size.bits() % 64;
+    let behind = list.bits % 64;
     if behind != 0 {
         let last = word_at(segment, start + words - 1);
         put_word(block, at + words - 1, last % (1 << behind));
@@ -148,6 +165,10 @@ pub(crate) fn most_used(segment: &[u8], start: usize, count: usize, step: usize,
     let mut most = 0;
     let mut row = start;
     'rows: for _row in 0..rows {
+        // None can need more, so the others need no look.
+        if most == count {
+            return count;
+        }
         most = larger(most, used(segment, row, count));
         row += step;
     }

@@ -12,10 +12,12 @@ ghost use Rattle.capnp_wire.specs.Copy.{CanCopy, IsCopied, put_own, element_coun
 
 use crate::layout::block::{BlockItem, put_elements, put_word, put_words};
 use crate::layout::formed::formed_as;
+use crate::layout::near_list::near_list_at;
+use crate::layout::number_list::NumberList;
 use crate::layout::object::{Body, Object, object_at};
 use crate::layout::place::Place;
 use crate::layout::pointer::Elements;
-use crate::layout::pointer_word::{pointer_word, struct_word};
+use crate::layout::pointer_word::{list_word, pointer_word, struct_word};
 use crate::layout::rows::PointerRows;
 use capnp_frame::message::ReaderSegments;
 
@@ -101,11 +103,43 @@ pub(crate) fn copy_pointers<S: ReaderSegments, T: BlockItem>(
     'pointers: while !from.is_empty() {
         let source = from.take();
         let slot = to.take().word;
-        let inner = copy(segments, source, level, canonical, block, slot + 1, free);
+        let inner = copy_target(segments, source, level, canonical, block, slot + 1, free);
         put_word(block, slot, inner.pointer);
         free = inner.next;
     }
     free
+}
+
+// As `copy`, of one of the pointers of an object. What most of them lead to needs no call.
+#[inline(always)]
+#[cycle(copy)]
+fn copy_target<S: ReaderSegments, T: BlockItem>(
+    segments: &S,
+    place: Place,
+    level: u32,
+    canonical: bool,
+    block: &mut [T],
+    behind: usize,
+    next: usize,
+) -> Copied
+    requires there { CanCopy (message_of (S.segments segments.now)) (place ∷ []) level canonical
+        next (length (T.as_words block.old)) }
+    requires behind { behind ≤ next }
+    requires small { length (T.as_words block.old) < 2 ^ 29 }
+    ensures copied { let m = message_of (S.segments segments.now) in
+        (trees : Trees) (charge : ℕ) → At m (place ∷ []) trees charge →
+        IsCopied (formed canonical trees) (next - behind) next
+        (T.as_words block.old) (T.as_words block.new) result }
+    ensures len { length (T.as_words block.new) ≡ length (T.as_words block.old) }
+{
+    let Some(list) = near_list_at(segments, place, level) else {
+        return copy(segments, place, level, canonical, block, behind, next);
+    };
+    put_elements(block, next, &list);
+    Copied {
+        pointer: list_word((next - behind) as u64, list.size.code(), list.count as u64),
+        next: next + list.words() as usize,
+    }
 }
 
 // The object that the pointer at a place leads to, where a tree stands there; `None` for null.
@@ -153,7 +187,16 @@ pub(crate) fn put_own_words<T: BlockItem>(
             start,
             size.data_words as usize,
         ),
-        Body::Numbers(size, count) => put_elements(block, next, object.segment, start, size, count),
+        Body::Numbers(size, count) => {
+            let list = NumberList {
+                segment: object.segment,
+                start: object.start,
+                size,
+                count,
+                bits: size.bits_of_list(count),
+            };
+            put_elements(block, next, &list);
+        }
         Body::Pointers(_) => {}
         Body::Structs(elements, _) => {
             put_word(

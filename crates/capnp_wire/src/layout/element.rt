@@ -1,5 +1,5 @@
 //! The elements of lists of numbers.
-ghost use Rattle.std.specs.Prelude.{◌≡◌, ◌<◌};
+ghost use Rattle.std.specs.Prelude.{◌≡◌, ◌*◌, ◌^◌, ◌<◌};
 ghost use Rattle.capnp_wire.specs.Element.{code_of, width, words_for};
 
 /// How many bits an element of a list of numbers has.
@@ -30,7 +30,8 @@ impl ElementSize {
 
     /// The code of such elements in list pointers.
     pub(crate) fn code(self) -> u64
-        ensures { result ≡ code_of self }
+        ensures code { result ≡ code_of self }
+        ensures few { result < 6 }
     {
         match self {
             ElementSize::Void => 0,
@@ -42,10 +43,18 @@ impl ElementSize {
         }
     }
 
+    /// The bits of so many elements.
+    pub(crate) fn bits_of_list(self, count: u32) -> u64
+        ensures bits { result ≡ count * width (code_of self) }
+        ensures bound { result < 2 ^ 39 }
+    {
+        count as u64 * self.bits()
+    }
+
     /// The words of a list of so many elements.
     pub(crate) fn words_of_list(self, count: u32) -> u64
         ensures { result ≡ words_for count (width (code_of self)) }
     {
-        (count as u64 * self.bits()).div_ceil(64)
+        self.bits_of_list(count).div_ceil(64)
     }
 }

@@ -45,9 +45,9 @@ pub(crate) fn land<S: ReaderSegments>(segments: &S, place: Place) -> Result<Opti
     }
 }
 
-// Where a struct or list pointer leads that stands at a place of this segment.
+/// Where a struct or list pointer leads that stands at a place of this segment.
 #[inline(always)]
-fn land_near(segment: &[u8], place: Place, near: NearPointer, pads: u64) -> Landing<'_>
+pub(crate) fn land_near(segment: &[u8], place: Place, near: NearPointer, pads: u64) -> Landing<'_>
     requires offset { near.offset.0 < 2 ^ 30 }
     requires place { place.word < 2 ^ 61 }
     ensures segment { result.segment.now ≡ segment.now }

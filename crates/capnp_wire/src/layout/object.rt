@@ -1,5 +1,5 @@
 //! From a place to the object that its pointer leads to: the level, bounds, and a list's tag.
-ghost use Rattle.std.specs.Prelude.{◌≡◌, ◌+◌, ◌/◌, ◌^◌, ◌<◌, ◌≤◌, ℕ, All, length, Some, None, IfOk, IfErr, MatchOption, MatchResult};
+ghost use Rattle.std.specs.Prelude.{◌≡◌, ◌↔◌, ◌+◌, ◌/◌, ◌^◌, ◌<◌, ◌≤◌, ℕ, All, length, Some, None, IfOk, IfErr, MatchOption, MatchResult, IsTrue};
 ghost use Rattle.capnp_frame.specs.declared.error.ErrorKind.{ErrorKind};
 ghost use Rattle.capnp_wire.specs.Pointer.{words_of};
 ghost use Rattle.capnp_wire.specs.PointerWord.{IsNearShape};
@@ -131,18 +131,26 @@ fn structs(segment: &[u8], start: usize, words: u32) -> Result<Body>
     Ok(Body::Structs(elements, words))
 }
 
-// Whether some words from a start on lie within a segment.
+// Refuses words from a start on that do not lie within a segment.
 #[inline(always)]
 fn expect_room(segment: &[u8], start: usize, words: u64) -> Result<()>
     ensures { let there = length segment.now / 8 in
         MatchResult result (λ _. start + words ≤ there)
         (λ error. (there < start + words) × (error.kind ≡ ErrorKind.PointerOutOfBounds)) }
 {
-    let there = segment.len() / 8;
-    if start > there || words > (there - start) as u64 {
+    if !fits(segment, start, words) {
         return Err(Error::from_kind(ErrorKind::PointerOutOfBounds));
     }
     Ok(())
+}
+
+/// Whether some words from a start on lie within a segment.
+#[inline(always)]
+pub(crate) fn fits(segment: &[u8], start: usize, words: u64) -> bool
+    ensures { IsTrue result ↔ (start + words ≤ length segment.now / 8) }
+{
+    let there = segment.len() / 8;
+    start <= there && words <= (there - start) as u64
 }
 
 impl<'a> Object<'a> {

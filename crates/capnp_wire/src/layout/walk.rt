@@ -10,6 +10,7 @@ ghost use Rattle.capnp_wire.specs.Copy.{formed_body};
 ghost use Rattle.capnp_wire.specs.Rows.{places_in};
 
 use crate::layout::formed::formed_as;
+use crate::layout::near_list::near_list_at;
 use crate::layout::object::{Object, object_at};
 use crate::layout::place::Place;
 use crate::layout::rows::PointerRows;
@@ -57,14 +58,27 @@ impl Walk {
         ensures refused { IfErr result (λ error. Exceeds self.old.left object.now.charge
             × (error.kind ≡ ErrorKind.ReadLimitExceeded)) }
     {
+        self.pay(object.charge)?;
+        let more = formed_as(object, canonical).words();
+        self.count(more);
+        Ok(())
+    }
+
+    // Charges some words.
+    #[inline(always)]
+    fn pay(&mut self, words: u64) -> Result<()>
+        ensures within { OnOk result (Within self.old.left words) }
+        ensures left { OnOk result (self.new.left ≡ less self.old.left words) }
+        ensures words { self.new.words ≡ self.old.words }
+        ensures refused { IfErr result (λ error. Exceeds self.old.left words
+            × (error.kind ≡ ErrorKind.ReadLimitExceeded)) }
+    {
         if let Some(left) = self.left {
-            match left.checked_sub(object.charge as usize) {
+            match left.checked_sub(words as usize) {
                 Some(rest) => self.left = Some(rest),
                 None => return Err(Error::from_kind(ErrorKind::ReadLimitExceeded)),
             }
         }
-        let more = formed_as(object, canonical).words();
-        self.count(more);
         Ok(())
     }
 
@@ -121,8 +135,32 @@ impl Walk {
     {
         'pointers: while !pointers.is_empty() {
             let place = pointers.take();
-            self.walk(segments, place, level, canonical)?;
+            self.walk_target(segments, place, level, canonical)?;
         }
+        Ok(())
+    }
+
+    // As `walk`, of one of the pointers of an object. What most of them lead to needs no call.
+    #[inline(always)]
+    #[cycle(walk)]
+    fn walk_target<S: ReaderSegments>(
+        &mut self,
+        segments: &S,
+        place: Place,
+        level: u32,
+        canonical: bool,
+    ) -> Result<()>
+        ensures found { let m = message_of (S.segments segments.now) in
+            OnOk result (Walked m canonical place level
+            self.old.left self.new.left self.old.words self.new.words) }
+        ensures refused { let m = message_of (S.segments segments.now) in
+            IfErr result (λ error. StopsWalk m (place ∷ []) level self.old.left error.kind) }
+    {
+        let Some(list) = near_list_at(segments, place, level) else {
+            return self.walk(segments, place, level, canonical);
+        };
+        self.pay(list.charge())?;
+        self.count(list.words());
         Ok(())
     }
 }

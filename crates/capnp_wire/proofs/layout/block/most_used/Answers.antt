@@ -2,10 +2,16 @@
 use Rattle.std.proofs.Common.{◌≡◌, ◌+◌, ◌-◌, ◌/◌, ◌<◌, max, length, ◌∙◌, sym, arith, ℕ}
 use Rattle.capnp_wire.specs.Pointer.{words_of}
 use Rattle.capnp_wire.proofs.UsedLemmas.{most_next, most_none, most_within, stretch_next}
+use Rattle.capnp_wire.proofs.OpenedLemmas.{most_within_rows}
 use Rattle.capnp_wire.proofs.layout.block.most_used.Goals as goal
 
 pub returns-then-count-eq0-clause-value : goal.returns-then-count-eq0-clause-value
 returns-then-count-eq0-clause-value c = rw c.if-count-eq0.true (sym (most_none _ c.args.start c.args.step c.args.rows))
+
+pub returns-then-most-count-clause-value : goal.returns-then-most-count-clause-value
+returns-then-most-count-clause-value c =
+    let rest = most_within_rows (words_of c.args.segment.now) c.rows.row c.args.count c.args.step (c.args.rows - c.rows._row) in
+    omega (arith, c.rows.invariant.0, c.if-most-count.true, rest)
 
 pub rows-preserved : goal.rows-preserved
 rows-preserved c =

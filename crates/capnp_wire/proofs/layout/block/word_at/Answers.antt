@@ -1,10 +1,11 @@
--- A word within a segment is there.
-use Rattle.std.proofs.Common.{arith}
-use Rattle.capnp_wire.specs.Pointer.{words_of}
-use Rattle.capnp_wire.proofs.WordLemmas.{length-words_of}
-use Rattle.capnp_wire.proofs.UsedLemmas.{word_is_there}
+-- A word of a segment is the number of its eight bytes.
+use Rattle.std.proofs.Common.{ℕ, ◌/◌, length, Some, slice_index_or, List, [], w64, sym, ◌∙◌, ap, arith}
+use Rattle.std.specs.Int.{from_le_bytes}
+use Rattle.capnp_wire.proofs.WordLemmas.{word_of_chunk}
 use Rattle.capnp_wire.proofs.layout.block.word_at.Goals as goal
 
-pub returns-in-None : goal.returns-in-None
-returns-in-None c =
-    absurd (word_is_there (words_of c.args.segment.now) c.args.index (omega (arith, length-words_of c.args.segment.now, c.requires)) (rw c.in-None.is at c.word.ensures.value))
+pub returns : goal.returns
+returns c =
+    let bytes = c.args.segment.now in
+    word_of_chunk (length bytes / 8) bytes c.args.index [] (omega arith) c.requires
+    ∙ ap Some (ap (λ (x : List (List ℕ)). from_le_bytes w64 (slice_index_or x c.args.index [])) (sym c.as_chunks.ensures.front) ∙ sym c.from_le_bytes.ensures)

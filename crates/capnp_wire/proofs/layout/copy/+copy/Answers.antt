@@ -3,6 +3,7 @@ use Rattle.std.proofs.Common.{◌≡◌, ◌∙◌, ap, sym, refl, arith, length
 use Rattle.capnp_wire.specs.declared.layout.rows.RowSize.{RowSize}
 use Rattle.capnp_wire.proofs.CopyLemmas.{copying_begins, copying_first, copying_next, copying_ends}
 use Rattle.capnp_wire.proofs.CopiedLemmas.{opened_here, fewer_pointers, as_many, null_is_copied, object_is_copied}
+use Rattle.capnp_wire.proofs.NumberCopyLemmas.{number_list_opened, number_list_copied}
 use Rattle.capnp_wire.proofs.layout.copy.+copy.Goals as goal
 
 pub copy-returns-in_default-clause-copied : goal.copy-returns-in_default-clause-copied
@@ -51,8 +52,8 @@ copy_pointers-pointers-init g t c =
 pub copy_pointers-take-slot-requires : goal.copy_pointers-take-slot-requires
 copy_pointers-take-slot-requires g t c none = absurd (omega (arith, c.pointers.invariant.3, ap length c.take-source.ensures.taken.places_are, ap length none))
 
-pub copy_pointers-copy-inner-requires : goal.copy_pointers-copy-inner-requires
-copy_pointers-copy-inner-requires g t c κs within =
+pub copy_pointers-copy_target-inner-requires : goal.copy_pointers-copy_target-inner-requires
+copy_pointers-copy_target-inner-requires g t c κs within =
     let so_far = c.pointers.invariant in
     let can = copying_first c.take-source.ensures.taken.places_are so_far.0 in
     let room : length (g.T.BlockItem.as_words c.args.block.now) ≡ length (g.T.BlockItem.as_words c.pointers.block) = omega (arith, so_far.1) in
@@ -62,7 +63,7 @@ pub copy_pointers-put_word-requires : goal.copy_pointers-put_word-requires
 copy_pointers-put_word-requires g t c =
     let so_far = c.pointers.invariant in
     let can = copying_first c.take-source.ensures.taken.places_are so_far.0 in
-    omega (arith, so_far.1, so_far.2, can.fits, c.take-slot.ensures.within, c.copy-inner.ensures.len)
+    omega (arith, so_far.1, so_far.2, can.fits, c.take-slot.ensures.within, c.copy_target-inner.ensures.len)
 
 pub copy_pointers-pointers-preserved : goal.copy_pointers-pointers-preserved
 copy_pointers-pointers-preserved g t c =
@@ -70,9 +71,9 @@ copy_pointers-pointers-preserved g t c =
     let from = c.take-source.ensures.taken in
     let to = c.take-slot.ensures.taken in
     let can = copying_first from.places_are so_far.0 in
-    let done = c.copy-inner.ensures.copied can.trees can.charge can.stand in (
-      copying_next from.places_are to.slots_are so_far.0 c.copy-inner.ensures.copied c.put_word.ensures.words,
-      c.put_word.ensures.len ∙ c.copy-inner.ensures.len ∙ so_far.1,
+    let done = c.copy_target-inner.ensures.copied can.trees can.charge can.stand in (
+      copying_next from.places_are to.slots_are so_far.0 c.copy_target-inner.ensures.copied c.put_word.ensures.words,
+      c.put_word.ensures.len ∙ c.copy_target-inner.ensures.len ∙ so_far.1,
       omega (arith, so_far.2, to.same_end, done.next_is),
       omega (arith, so_far.3, ap length from.places_are, ap length to.places_are),
     )
@@ -82,3 +83,19 @@ copy_pointers-returns-clause-words g t c = λ trees charge stand. (copying_ends 
 
 pub copy_pointers-returns-clause-next : goal.copy_pointers-returns-clause-next
 copy_pointers-returns-clause-next g t c = λ trees charge stand. (copying_ends (c.is_empty.ensures.0 c.pointers-test.false) c.pointers.invariant.0 trees charge stand).1
+
+pub copy_target-put_elements-requires : goal.copy_target-put_elements-requires
+copy_target-put_elements-requires g t c =
+    let is = c.in-Some.ensures.0 in
+    let o = number_list_opened c.in-Some.list c.requires.there is in
+    record { there = is.room; room = omega (arith, o.kept.fits); bound = c.requires.small }
+
+pub copy_target-list_word-requires : goal.copy_target-list_word-requires
+copy_target-list_word-requires g t c =
+    let o = number_list_opened c.in-Some.list c.requires.there c.in-Some.ensures.0 in
+    record { offset = omega (arith, c.requires.small, o.kept.fits); code = omega (arith, c.code.ensures.few); count = o.few }
+
+pub copy_target-returns-clause-copied : goal.copy_target-returns-clause-copied
+copy_target-returns-clause-copied g t c =
+    number_list_copied c.in-Some.list c.requires.there c.in-Some.ensures.0 refl c.put_elements.ensures.words (rw c.code.ensures.code at c.list_word.ensures)
+    (omega (arith, c.words.ensures))

@@ -7,10 +7,13 @@ use Rattle.capnp_wire.proofs.CopyLemmas.{Copying}
 use Rattle.capnp_wire.proofs.layout.copy.+copy.Given as goal
 
 abbrev pub decreases-copy : goal.decreases-copy
-decreases-copy g l = 2 * l.level
+decreases-copy g l = 3 * l.level
 
 abbrev pub decreases-copy_pointers : goal.decreases-copy_pointers
-decreases-copy_pointers g l = 2 * l.level + 1
+decreases-copy_pointers g l = 3 * l.level + 2
+
+abbrev pub decreases-copy_target : goal.decreases-copy_target
+decreases-copy_target g l = 3 * l.level + 1
 
 abbrev pub invariant-copy_pointers-pointers : goal.invariant-copy_pointers-pointers
 invariant-copy_pointers-pointers g l =

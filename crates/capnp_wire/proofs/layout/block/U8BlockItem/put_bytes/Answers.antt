@@ -12,14 +12,14 @@ overflow_mul-begin c = omega (arith, c.requires.room, length-words_of c.args.blo
 pub overflow_add-begin : goal.overflow_add-begin
 overflow_add-begin c = omega (arith, c.requires.room, length-words_of c.args.block.now)
 
-pub slice_bounds-copy_from_slice-end : goal.slice_bounds-copy_from_slice-end
-slice_bounds-copy_from_slice-end c = omega (arith, c.requires.room, c.requires.whole, length-words_of c.args.block.now)
+pub slice_bounds-copy_bytes-end : goal.slice_bounds-copy_bytes-end
+slice_bounds-copy_bytes-end c = omega (arith, c.requires.room, c.requires.whole, length-words_of c.args.block.now)
 
 pub returns-clause-words : goal.returns-clause-words
 returns-clause-words c =
     let size : 8 * c.args.at + length c.args.bytes.now - 8 * c.args.at ≡ length c.args.bytes.now = omega arith in
     let room : c.args.at + length c.args.bytes.now / 8 ≤ length c.args.block.now / 8 = omega (arith, c.requires.room, length-words_of c.args.block.now) in
-    rw (size, c.copy_from_slice.ensures.after) (put_mid_words c.args.at c.args.block.now c.args.bytes.now c.requires.whole room)
+    rw (size, c.copy_bytes.ensures) (put_mid_words c.args.at c.args.block.now c.args.bytes.now c.requires.whole room)
 
 pub returns-clause-len : goal.returns-clause-len
 returns-clause-len c =
@@ -27,4 +27,4 @@ returns-clause-len c =
     let room : c.args.at + length c.args.bytes.now / 8 ≤ length c.args.block.now / 8 = omega (arith, c.requires.room, length-words_of c.args.block.now) in
     let put_there = put_mid_words c.args.at c.args.block.now c.args.bytes.now c.requires.whole room in
     let fits : c.args.at + length (words_of c.args.bytes.now) ≤ length (words_of c.args.block.now) = omega (arith, c.requires.room, length-words_of c.args.bytes.now) in
-    rw (size, c.copy_from_slice.ensures.after) (ap length put_there ∙ length-put c.args.at (words_of c.args.bytes.now) (words_of c.args.block.now) fits)
+    rw (size, c.copy_bytes.ensures) (ap length put_there ∙ length-put c.args.at (words_of c.args.bytes.now) (words_of c.args.block.now) fits)

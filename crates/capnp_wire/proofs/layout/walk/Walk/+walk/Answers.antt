@@ -1,5 +1,7 @@
 -- A walk meets an object, and then goes over its pointers.
+use Rattle.std.proofs.Common.{◌∙◌}
 use Rattle.capnp_wire.specs.Object.{message_of, is_null as null_there}
+use Rattle.capnp_wire.proofs.NumberListLemmas.{number_list_walked}
 use Rattle.capnp_wire.specs.Rows.{places_in}
 use Rattle.capnp_wire.specs.Faults.{at_pointer}
 use Rattle.capnp_wire.proofs.PadLemmas.{passed_on}
@@ -39,11 +41,25 @@ walk_pointers-pointers-init g t c =
     progress_begins (message_of (g.S.ReaderSegments.segments c.args.segments.now)) c.args.canonical (places_in c.args.pointers) c.args.level c.args.self.now.left c.args.self.now.words
 
 pub walk_pointers-pointers-preserved : goal.walk_pointers-pointers-preserved
-walk_pointers-pointers-preserved g t c = progress_next c.take-place.ensures.taken.places_are c.pointers.invariant c.in_ok-walk.ensures.found
+walk_pointers-pointers-preserved g t c = progress_next c.take-place.ensures.taken.places_are c.pointers.invariant c.in_ok-walk_target.ensures.found
 
-pub walk_pointers-returns-in_err-walk-clause-refused : goal.walk_pointers-returns-in_err-walk-clause-refused
-walk_pointers-returns-in_err-walk-clause-refused g t c =
-    passed_on _ _ c.from_residual.ensures.1 (progress_stops c.take-place.ensures.taken.places_are c.pointers.invariant c.in_err-walk.ensures.refused)
+pub walk_pointers-returns-in_err-walk_target-clause-refused : goal.walk_pointers-returns-in_err-walk_target-clause-refused
+walk_pointers-returns-in_err-walk_target-clause-refused g t c =
+    passed_on _ _ c.from_residual.ensures.1 (progress_stops c.take-place.ensures.taken.places_are c.pointers.invariant c.in_err-walk_target.ensures.refused)
 
 pub walk_pointers-returns-clause-found : goal.walk_pointers-returns-clause-found
 walk_pointers-returns-clause-found g t c = progress_done (c.is_empty.ensures.0 c.pointers-test.false) c.pointers.invariant
+
+pub walk_target-returns-in_err-pay-clause-refused : goal.walk_target-returns-in_err-pay-clause-refused
+walk_target-returns-in_err-pay-clause-refused g t c =
+    let found = c.in-Some.ensures in
+    let refused = rw c.charge.ensures at c.in_err-pay.ensures.refused in
+    passed_on _ _ c.from_residual.ensures.1
+    (exceeds_stops _ c.args.place _ c.args.level _ _ found.0.object found.1 refused.0 refused.1)
+
+pub walk_target-returns-clause-found : goal.walk_target-returns-clause-found
+walk_target-returns-clause-found g t c =
+    let found = c.in-Some.ensures in
+    number_list_walked _ c.args.canonical c.args.place c.in-Some.list c.args.level c.args.self.now.left c.count.new.self.left c.args.self.now.words c.count.new.self.words _ _
+    found.0 found.1 c.charge.ensures c.words.ensures c.in_ok-pay.ensures.within (c.count.ensures.left ∙ c.in_ok-pay.ensures.left)
+    (rw c.in_ok-pay.ensures.words at c.count.ensures.words)

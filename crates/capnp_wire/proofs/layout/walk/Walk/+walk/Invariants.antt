@@ -6,10 +6,13 @@ use Rattle.capnp_wire.proofs.ProgressLemmas.{Progress}
 use Rattle.capnp_wire.proofs.layout.walk.Walk.+walk.Given as goal
 
 abbrev pub decreases-walk : goal.decreases-walk
-decreases-walk g l = 2 * l.level
+decreases-walk g l = 3 * l.level
 
 abbrev pub decreases-walk_pointers : goal.decreases-walk_pointers
-decreases-walk_pointers g l = 2 * l.level + 1
+decreases-walk_pointers g l = 3 * l.level + 2
+
+abbrev pub decreases-walk_target : goal.decreases-walk_target
+decreases-walk_target g l = 3 * l.level + 1
 
 abbrev pub invariant-walk_pointers-pointers : goal.invariant-walk_pointers-pointers
 invariant-walk_pointers-pointers g l =

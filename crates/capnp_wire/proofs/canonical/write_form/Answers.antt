@@ -2,7 +2,7 @@
 use Rattle.std.proofs.Common.{◌∙◌, arith}
 use Rattle.capnp_wire.specs.Readers.{pointer_of}
 use Rattle.capnp_wire.proofs.SetterLemmas.{whole_form}
-use Rattle.capnp_wire.proofs.canonical.write_whole.Goals as goal
+use Rattle.capnp_wire.proofs.canonical.write_form.Goals as goal
 
 pub returns-clause-form : goal.returns-clause-form
 returns-clause-form g c =

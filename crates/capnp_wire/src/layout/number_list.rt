@@ -1,0 +1,42 @@
+//! Lists of numbers.
+ghost use Rattle.std.specs.Prelude.{◌≡◌, ◌*◌};
+ghost use Rattle.capnp_wire.specs.Element.{code_of, width, words_for};
+ghost use Rattle.capnp_wire.specs.Landing.{charge_of};
+ghost use Rattle.capnp_wire.specs.declared.layout.object.Body.{Body};
+
+use crate::layout::element::ElementSize;
+use crate::layout::place::Place;
+
+/// A list of numbers.
+#[derive(Drop)]
+pub(crate) struct NumberList<'a> {
+    pub segment: &'a [u8],
+    pub start: Place,
+    pub size: ElementSize,
+    pub count: u32,
+    /// The bits of all elements. What follows from them need not tell the sizes apart again.
+    pub bits: u64,
+    ghost bits_are: { bits ≡ count * width (code_of size) },
+}
+
+impl NumberList<'_> {
+    /// The words of it.
+    #[inline(always)]
+    pub(crate) fn words(&self) -> u64
+        ensures { result ≡ words_for self.now.count (width (code_of self.now.size)) }
+    {
+        self.bits.div_ceil(64)
+    }
+
+    /// The words that a reader is charged for it.
+    #[inline(always)]
+    pub(crate) fn charge(&self) -> u64
+        ensures { result ≡ charge_of (Body.Numbers self.now.size self.now.count) }
+    {
+        if self.size == ElementSize::Void {
+            self.count as u64
+        } else {
+            self.words()
+        }
+    }
+}
