@@ -93,7 +93,7 @@ pub appended_stream : (format : Format) (limit : Option ℕ) (ms : List (List (L
 appended_stream format limit ms text writable within all = record { rest = []; texts = appended_texts format limit ms text writable within all; ends = refl }
 
 -- one more message is written
-AppendsEach-push : (Writes : List (List ℕ) → List ℕ → Type 0) (ms : List (List (List ℕ))) (m : List (List ℕ))
+pub AppendsEach-push : (Writes : List (List ℕ) → List ℕ → Type 0) (ms : List (List (List ℕ))) (m : List (List ℕ))
     (text more : List ℕ) → AppendsEach Writes ms text → Writes m more → AppendsEach Writes (ms ++ m ∷ []) (text ++ more)
 AppendsEach-push Writes [] m text more all here = (more, [], here, refl, ap (λ l. l ++ more) all ∙ sym (append-nil more))
 AppendsEach-push Writes (n ∷ ns) m text more (first, others, this, all, e) here =

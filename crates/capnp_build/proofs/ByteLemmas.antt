@@ -10,6 +10,7 @@ use Rattle.capnp_wire.specs.Object.{word_at}
 use Rattle.capnp_wire.specs.Reached.{root}
 use Rattle.capnp_wire.specs.declared.layout.place.Place.{Place}
 use Rattle.capnp_wire.proofs.MessageLemmas.{word_stands}
+use Rattle.capnp_wire.proofs.WordLemmas.{number_of_eight}
 use Rattle.capnp_build.specs.Bytes.{Space, written, with_bytes}
 use Rattle.capnp_build.specs.Held.{used_of, space_at}
 use Rattle.capnp_build.specs.Built.{message}
@@ -67,18 +68,6 @@ front_same (suc n) (suc at) (x ∷ xs) ys le fits = ap (λ (l : List ℕ). x ∷
 pub eight_before : (p at : ℕ) (xs w : List ℕ) → p + 8 ≤ at → at ≤ length xs → take 8 (drop p (written xs at w)) ≡ take 8 (drop p xs)
 eight_before p at xs w le fits =
     sym (drop-take p 8 (written xs at w)) ∙ ap (drop p) (front_same (p + 8) at xs (w ++ drop (at + length w) xs) le fits) ∙ drop-take p 8 xs
-
-pub number_of_eight : (bytes : List ℕ) → length bytes ≡ 8 → number_of 256 bytes ≡ from_le_bytes w64 bytes
-number_of_eight (a ∷ b ∷ c ∷ d ∷ e ∷ f ∷ g ∷ h ∷ []) eight = omega arith
-number_of_eight [] eight = absurd (omega arith)
-number_of_eight (a ∷ []) eight = absurd (omega arith)
-number_of_eight (a ∷ b ∷ []) eight = absurd (omega arith)
-number_of_eight (a ∷ b ∷ c ∷ []) eight = absurd (omega arith)
-number_of_eight (a ∷ b ∷ c ∷ d ∷ []) eight = absurd (omega arith)
-number_of_eight (a ∷ b ∷ c ∷ d ∷ e ∷ []) eight = absurd (omega arith)
-number_of_eight (a ∷ b ∷ c ∷ d ∷ e ∷ f ∷ []) eight = absurd (omega arith)
-number_of_eight (a ∷ b ∷ c ∷ d ∷ e ∷ f ∷ g ∷ []) eight = absurd (omega arith)
-number_of_eight (a ∷ b ∷ c ∷ d ∷ e ∷ f ∷ g ∷ h ∷ i ∷ rest) eight = absurd (omega arith)
 
 pub word_back : (word : ℕ) (bytes : List ℕ) → word < 2 ^ 64 → bytes ≡ to_le_bytes w64 word → length bytes ≡ 8 → number_of 256 bytes ≡ word
 word_back word bytes small is eight = number_of_eight bytes eight ∙ ap (from_le_bytes w64) is ∙ from_le_bytes-to_le_bytes_8 word small

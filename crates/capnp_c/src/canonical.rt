@@ -1,10 +1,10 @@
 //! Canonical words that are written into a lent block.
-ghost use Rattle.std.specs.Prelude.{◌≡◌, ◌⊎◌, ◌+◌, ◌*◌, ◌<◌, ◌≤◌, ℕ, List, true, length, take, IfOk, IfErr, IsOk, pos};
+ghost use Rattle.std.specs.Prelude.{◌≡◌, ◌⊎◌, ◌*◌, ◌<◌, ◌≤◌, ℕ, List, length, take, IfOk, IfErr, IsOk, pos};
 ghost use Rattle.capnp_frame.specs.Numbers.{number_of};
 ghost use Rattle.capnp_frame.specs.declared.error.ErrorKind.{ErrorKind};
 ghost use Rattle.capnp_wire.specs.Pointer.{words_of};
 ghost use Rattle.capnp_wire.specs.Readers.{pointer_of};
-ghost use Rattle.capnp_wire.specs.Values.{HasWords, LeadsToTree, IsCanonicalForm};
+ghost use Rattle.capnp_wire.specs.Values.{IsCanonicalForm};
 ghost use Rattle.capnp_c.specs.Fronts.{IsAtFront, HasForm, LacksForm, IsShort, default_limit, root_pointer};
 
 use capnp_frame::message::{DEFAULT_READER_OPTIONS, ReaderSegments};
@@ -12,8 +12,7 @@ use capnp_frame::serialize::{NoAllocBufferSegments, NoAllocSliceSegments};
 use capnp_frame::{Error, ErrorKind, Result};
 use capnp_wire::any_pointer;
 use capnp_wire::arena::ReaderArena;
-use capnp_wire::canonical::canonical_size;
-use capnp_wire::traits::SetterInput;
+use capnp_wire::canonical::{canonical_size, write_form};
 
 /// How many words the canonical form of the message at the front of these bytes has, with its root.
 #[unsafe(no_mangle)]
@@ -117,19 +116,8 @@ fn written(bytes: &[u8], block: &mut [u8]) -> Result<usize>
     if block.len() < 8 * words {
         return Err(Error::from_kind(ErrorKind::BufferNotLargeEnough));
     }
-    write_form(&root, &mut block[..8 * words]);
+    let form = &mut block[..8 * words];
+    form.fill(0);
+    write_form(&root, form);
     Ok(words)
-}
-
-// Writes the canonical form of what a pointer leads to into a block of just its words.
-fn write_form<S: ReaderSegments>(reader: &any_pointer::Reader<'_, S>, block: &mut [u8])
-    requires { (behind : ℕ)
-        × HasWords (LeadsToTree (pointer_of S.segments reader.now)) true behind
-        × (length block.old ≡ 8 * (behind + 1)) }
-    ensures form { IsCanonicalForm (pointer_of S.segments reader.now) (words_of block.new) }
-    ensures len { length block.new ≡ length block.old }
-{
-    block.fill(0);
-    let pointer = reader.write(true, &mut block[8..]);
-    block[..8].copy_from_slice(&pointer.bytes());
 }

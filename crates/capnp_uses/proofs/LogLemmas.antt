@@ -20,24 +20,18 @@ use Rattle.capnp_pack.proofs.PackedFrameLemmas.{packed_requests, packed_text_is}
 use Rattle.capnp.specs.declared.streams.Format.TheVariants.{Packed}
 use Rattle.capnp.specs.Streams.{EndsBy, IsStream}
 use Rattle.capnp.specs.Written.{IsTextOf, IsPackedTextOf, AppendsEach, RefusesAppending}
-use Rattle.capnp.proofs.AppendedLemmas.{appended_stream}
+use Rattle.capnp.proofs.AppendedLemmas.{AppendsEach-push, appended_stream}
 use Rattle.capnp.proofs.RunLemmas.{format_parts}
 use Rattle.capnp_uses.specs.Streaming.{kind_of, LacksMemory, IsLog}
 
 -- Appending
-
-appends_more : (records : List (List (List ℕ))) (m : List (List ℕ)) (log text : List ℕ) → AppendsEach (IsTextOf Packed) records log → IsPackedTextOf m text
-    → AppendsEach (IsTextOf Packed) (records ++ m ∷ []) (log ++ text)
-appends_more [] m log text none here = (text, [], here, refl, ap (λ l. l ++ text) none ∙ sym (append-nil text))
-appends_more (r ∷ rs) m log text (first, others, this, all, spelled) here =
-    (first, others ++ text, this, appends_more rs m others text all here, ap (λ l. l ++ text) spelled ∙ append_assoc first others text)
 
 pub appended_log : (m : List (List ℕ)) (old new : List ℕ) → IsWritable m → IfKnown (Some old) (Some new) (Adds (IsPackedTextOf m))
     → (limit : Option ℕ) (records : List (List (List ℕ))) → IsLog limit records old → IsWithin m limit → IsLog limit (records ++ m ∷ []) new
 appended_log m old new writable (text, packed, spelled) limit records log within = record {
   writable = AllByRecursion-append _ records (m ∷ []) log.writable (writable, tt);
   within = AllByRecursion-append _ records (m ∷ []) log.within (within, tt);
-  appended = subst (λ l. AppendsEach (IsTextOf Packed) (records ++ m ∷ []) l) (sym spelled) (appends_more records m old text log.appended packed);
+  appended = subst (λ l. AppendsEach (IsTextOf Packed) (records ++ m ∷ []) l) (sym spelled) (AppendsEach-push (IsTextOf Packed) records m old text log.appended packed);
 }
 
 -- what stands at the front is kept by a cut to its length

@@ -25,11 +25,11 @@ returns-then-block-words-clause-lacks c segments rest front = inr (
 
 pub returns-clause-form : goal.returns-clause-form
 returns-clause-form c segments rest front =
-    let long : length c.write_form.new.block ≡ 8 * c.in_ok-root.words =
+    let long : length c.write_form.new.bytes ≡ 8 * c.in_ok-root.words =
     omega (arith, c.write_form.ensures.len, length-take (8 * c.in_ok-root.words) c.args.block.now) in
-    front_form (root_pointer segments) (8 * c.in_ok-root.words) c.write_form.new.block _ long
-    (subst (λ s. IsCanonicalForm (root_pointer s) (words_of c.write_form.new.block)) (c.in_ok-arena.ensures.front segments rest front)
-    (subst (λ p. IsCanonicalForm p (words_of c.write_form.new.block)) c.in_ok-root.ensures.root c.write_form.ensures.form))
+    front_form (root_pointer segments) (8 * c.in_ok-root.words) c.write_form.new.bytes _ long
+    (subst (λ s. IsCanonicalForm (root_pointer s) (words_of c.write_form.new.bytes)) (c.in_ok-arena.ensures.front segments rest front)
+    (subst (λ p. IsCanonicalForm p (words_of c.write_form.new.bytes)) c.in_ok-root.ensures.root c.write_form.ensures.form))
 
 pub returns-clause-size : goal.returns-clause-size
 returns-clause-size c segments rest front = subst (λ s. HasForm s c.in_ok-root.words) (c.in_ok-arena.ensures.front segments rest front) c.in_ok-root.ensures.size
