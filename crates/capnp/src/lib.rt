@@ -16,13 +16,9 @@ pub mod roots;
 pub mod serialize;
 pub mod serialize_packed;
 pub mod streams;
-#[cfg(test)]
-mod tests;
 pub mod text;
 pub mod traits;
 mod transcoding;
-#[cfg(test)]
-mod writer_tests;
 
 pub use crate::transcoding::{Way, transcode};
 pub use capnp_frame::{Error, ErrorKind, Result, Word, io, word};

@@ -15,9 +15,5 @@ pub mod primitive_list;
 pub mod segment_space;
 pub mod segments;
 pub mod shown;
-#[cfg(test)]
-mod tests;
 pub mod text;
 pub mod view;
-#[cfg(test)]
-mod view_tests;

@@ -11,8 +11,6 @@ pub mod io;
 pub mod laws;
 pub mod message;
 pub mod serialize;
-#[cfg(test)]
-mod tests;
 mod words;
 
 pub use crate::error::{Error, ErrorKind, Result};

@@ -7,14 +7,8 @@
 //! [encoding document]: https://capnproto.org/encoding.html
 #![tactic(auto)]
 
-#[cfg(test)]
-mod allocator_tests;
 pub mod builder;
-#[cfg(test)]
-mod builder_tests;
 pub mod callers;
-#[cfg(test)]
-mod canonical_tests;
 pub mod heap_allocator;
 pub mod laws;
 pub mod output_segments;

@@ -16,8 +16,6 @@ mod packed_write;
 mod places;
 mod runs;
 pub mod stream;
-#[cfg(test)]
-mod tests;
 mod unpack;
 
 pub use crate::packed_read::PackedRead;

@@ -1,4 +1,5 @@
 //! Lengths of segments, added up.
+use crate::retried;
 use capnp_frame::message::ReaderSegments;
 use capnp_frame::serialize::SegmentLengthsBuilder;
 use capnp_frame::{ErrorKind, Result};

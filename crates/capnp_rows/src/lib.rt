@@ -1,4 +1,5 @@
-//! Worked rows over the public calls of the other crates. It holds tests alone.
+//! Worked rows over the calls of framing and packing, and what all rows share: messages, sources and
+//! sinks, limits, and what a test does where a growth is refused.
 //!
 //! Expected values come from the [encoding document] and from rows worked by hand, never from what
 //! the calls answer. `rt try --test --fail-alloc N` refuses one growth of each test: a body that
@@ -7,78 +8,28 @@
 //! [encoding document]: https://capnproto.org/encoding.html
 #![tactic(auto)]
 
-// What a body answers, or answers when it is run once more.
-#[cfg(test)]
-macro_rules! retried {
-    ($run:expr) => {
-        match $run {
-            Ok(found) => Ok(found),
-            Err(_) => $run,
-        }
-    };
-}
-
-#[cfg(test)]
-mod builder_memory;
-#[cfg(test)]
-mod faults;
-#[cfg(test)]
-mod flat;
-#[cfg(test)]
-mod flat_rows;
-#[cfg(test)]
-mod framed_rows;
-#[cfg(test)]
-mod hostile;
-#[cfg(test)]
-mod hostile_messages;
+pub mod growths;
 #[cfg(test)]
 mod lengths;
-#[cfg(test)]
-mod lent;
-#[cfg(test)]
-mod lent_roots;
+pub mod limits;
 #[cfg(test)]
 mod memory;
-#[cfg(test)]
-mod messages;
+pub mod messages;
 #[cfg(test)]
 mod no_memory;
 #[cfg(test)]
 mod packed_calls;
 #[cfg(test)]
-mod packed_rows;
-#[cfg(test)]
 mod pieces;
 #[cfg(test)]
-mod prefixes;
-#[cfg(test)]
-mod regions;
-#[cfg(test)]
-mod requests;
-#[cfg(test)]
-mod roots;
-#[cfg(test)]
-mod samples;
-#[cfg(test)]
-mod segment_ends;
-#[cfg(test)]
 mod sink_faults;
-#[cfg(test)]
-mod sinks;
-#[cfg(test)]
-mod sources;
-#[cfg(test)]
-mod streams;
+pub mod sinks;
+pub mod sources;
 #[cfg(test)]
 mod tables;
 #[cfg(test)]
 mod texts;
 #[cfg(test)]
-mod transcodings;
-#[cfg(test)]
 mod values;
 #[cfg(test)]
 mod words;
-#[cfg(test)]
-mod writing;

@@ -3,17 +3,13 @@
 //! `rt try --test --fail-alloc N` refuses the Nth growth of each test, and no other. So each test
 //! asks of an answer that it is the right one, or `OutOfMemory` with nothing else changed, and that
 //! the call answers rightly when it is made again.
+use crate::growths::lacks_memory;
+use crate::retried;
 use capnp_frame::io::Write;
 use capnp_frame::message::{DEFAULT_READER_OPTIONS, ReaderOptions};
 use capnp_frame::serialize::{SegmentLengthsBuilder, try_read_segments};
 use capnp_frame::{ErrorKind, Result};
 use std::process::Abort;
-
-pub fn lacks_memory<T>(answer: &Result<T>) -> bool {
-    answer
-        .as_ref()
-        .is_err_and(|error| error.kind == ErrorKind::OutOfMemory)
-}
 
 // Of these no allocator is asked.
 #[test]

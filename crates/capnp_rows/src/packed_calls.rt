@@ -1,4 +1,5 @@
 //! How often the packing calls ask their source, and hand a piece to their sink.
+use crate::retried;
 use crate::sinks::FaultySink;
 use crate::sources::Trickle;
 use capnp_frame::io::{Read, Write};

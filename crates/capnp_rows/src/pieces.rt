@@ -1,4 +1,5 @@
 //! Pieces that are packed by themselves.
+use crate::retried;
 use crate::sinks::FaultySink;
 use crate::sources::{Faulty, Trickle};
 use capnp_frame::io::{BufRead, Read, Write};

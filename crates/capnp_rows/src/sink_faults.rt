@@ -1,5 +1,6 @@
 //! A sink that fails at its nth piece, and a lent slice that is too short.
 use crate::messages::{MESSAGES, Message, is_writable};
+use crate::retried;
 use crate::sinks::FaultySink;
 use capnp_frame::message::SegmentArray;
 use capnp_frame::serialize::{segments_to_words, write_segments};

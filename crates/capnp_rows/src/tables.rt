@@ -1,5 +1,6 @@
 //! Tables that are known already.
 use crate::messages::has_segments;
+use crate::retried;
 use capnp_frame::Result;
 use capnp_frame::message::{DEFAULT_READER_OPTIONS, ReaderSegments};
 use capnp_frame::serialize::{

@@ -1,4 +1,5 @@
 //! What refusals are printed as, and their numbers.
+use crate::retried;
 use capnp_frame::{Error, ErrorKind, Result};
 use std::process::Abort;
 

@@ -1,4 +1,5 @@
 //! Calls that no row needs, each on its happy path.
+use crate::retried;
 use crate::sources::Trickle;
 use capnp_frame::io::{BufRead, Read, Write};
 use capnp_frame::message::{DEFAULT_READER_OPTIONS, ReaderOptions, ReaderSegments};

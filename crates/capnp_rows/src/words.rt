@@ -1,4 +1,5 @@
 //! Words, and bytes that are written into a lent slice.
+use crate::retried;
 use capnp_frame::io::Write;
 use capnp_frame::message::AsBytes;
 use capnp_frame::{ErrorKind, Result, Word, word};

@@ -6,13 +6,9 @@
 
 pub mod building;
 pub mod canonical;
-#[cfg(test)]
-mod examples;
 pub mod packed_struct;
 pub mod packing;
 pub mod reading;
 pub mod record_log;
 pub mod setting;
 pub mod streaming;
-#[cfg(test)]
-mod tests;

@@ -12,10 +12,6 @@ pub mod any_pointer;
 pub mod any_struct;
 pub mod arena;
 pub mod canonical;
-#[cfg(test)]
-mod canonical_tests;
-#[cfg(test)]
-mod charge_tests;
 pub mod data;
 mod entered;
 pub mod laws;
@@ -23,13 +19,7 @@ mod layout;
 mod message_size;
 pub mod primitive_list;
 mod read_limiter;
-#[cfg(test)]
-mod row_tests;
-#[cfg(test)]
-mod tests;
 pub mod text;
 pub mod traits;
-#[cfg(test)]
-mod value_tests;
 
 pub use message_size::MessageSize;

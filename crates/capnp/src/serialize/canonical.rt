@@ -45,6 +45,3 @@ pub fn write_canonical_message<W: Write, S: ReaderSegments>(
     let segments = [form.as_slice()];
     write_segments(alloc, sink, &SegmentArray::new(&segments))
 }
-
-#[cfg(test)]
-mod tests;

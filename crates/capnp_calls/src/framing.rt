@@ -1,0 +1,127 @@
+//! Each public call once where it succeeds, since memory may be refused by every contract.
+use capnp_frame::io::Write;
+use capnp_frame::message::{ReaderOptions, ReaderSegments, SegmentArray};
+use capnp_frame::serialize::{
+    BufferSegments, NoAllocBufferSegments, NoAllocSegmentTableInfo, NoAllocSliceSegments,
+    describes, segments_to_words, serialized_size_in_words, take_segments, try_read_segments_into,
+    write_segments,
+};
+use capnp_frame::{Word, word};
+use std::test::Fail;
+
+// Two segments, of one and of two words, and behind their frame two words more.
+#[rattlefmt::skip]
+const FRAME_AND_MORE: [u8; 56] = [
+    1, 0, 0, 0, 1, 0, 0, 0, 2, 0, 0, 0, 0, 0, 0, 0,
+    123, 0, 0, 0, 0, 0, 0, 0,
+    4, 0, 0, 0, 0, 0, 0, 0, 5, 0, 0, 0, 0, 0, 0, 0,
+    9, 9, 9, 9, 9, 9, 9, 9, 8, 7, 6, 5, 4, 3, 2, 1,
+];
+
+const SECOND: [u8; 16] = [4, 0, 0, 0, 0, 0, 0, 0, 5, 0, 0, 0, 0, 0, 0, 0];
+
+// Whether segment `id` has these bytes.
+fn shows<S: ReaderSegments>(segments: &S, id: u32, bytes: &[u8]) -> bool {
+    match segments.get_segment(id) {
+        Some(segment) => segment == bytes,
+        None => false,
+    }
+}
+
+#[test]
+fn takes_and_writes(rt: HostRuntime) -> Result<(), Fail> {
+    let all = FRAME_AND_MORE;
+    let mut rest: &[u8] = &all;
+    let segments = take_segments(rt.alloc(), &mut rest, ReaderOptions::new())?;
+    assert_eq!(rt; rest.len(), 16);
+    assert_eq!(rt; segments.len(), 2);
+    assert!(rt; shows(&segments, 1, &SECOND));
+    assert!(rt; segments.get_segment(2).is_none());
+    assert_eq!(rt; serialized_size_in_words(&segments)?, 5);
+    let text = segments_to_words(rt.alloc(), &segments)?;
+    assert_eq!(rt; text.as_slice(), &all[..40]);
+    let mut sink = Vec::new(rt.alloc());
+    write_segments(rt.alloc(), &mut sink, &segments)?;
+    assert_eq!(rt; sink.as_slice(), &all[..40]);
+    let mut room = [1; 40];
+    let mut lent: &mut [u8] = &mut room;
+    write_segments(rt.alloc(), &mut lent, &&segments)?;
+    assert_eq!(rt; lent.len(), 0);
+    assert_eq!(rt; room.as_slice(), &all[..40]);
+    Ok(())
+}
+
+#[test]
+fn finds_without_memory(rt: HostRuntime) -> Result<(), Fail> {
+    let all = FRAME_AND_MORE;
+    let mut rest: &[u8] = &all;
+    let segments = NoAllocSliceSegments::from_slice(&mut rest, ReaderOptions::new())?;
+    assert_eq!(rt; rest.len(), 16);
+    assert_eq!(rt; segments.len(), 2);
+    assert!(rt; shows(&segments, 1, &SECOND));
+    let mut source: &[u8] = &all;
+    let mut room = [0; 40];
+    let read = try_read_segments_into(&mut source, &mut room, ReaderOptions::new())?;
+    assert_eq!(rt; source.len(), 16);
+    let read = read.ok_or("a message")?;
+    assert!(rt; shows(&read, 1, &SECOND));
+    Ok(())
+}
+
+#[test]
+fn describes_a_table(rt: HostRuntime) {
+    let all = FRAME_AND_MORE;
+    let bytes: &[u8] = &all;
+    let info = NoAllocSegmentTableInfo {
+        segments_count: 2,
+        segment_table_length_bytes: 16,
+        total_segments_length_bytes: 24,
+    };
+    assert!(rt; describes(&bytes, &info));
+    let found = NoAllocBufferSegments::from_segment_table_info(bytes, info);
+    assert!(rt; shows(&found, 1, &SECOND));
+}
+
+#[test]
+fn keeps_buffers(rt: HostRuntime) -> Result<(), Fail> {
+    let kept = FRAME_AND_MORE.to_vec(rt.alloc())?;
+    let segments = BufferSegments::new(rt.alloc(), kept, ReaderOptions::new())?;
+    assert!(rt; shows(&segments, 1, &SECOND));
+    let kept = segments.into_buffer();
+    assert_eq!(rt; kept.len(), 56);
+    let found = NoAllocBufferSegments::from_buffer(kept, ReaderOptions::new())?;
+    assert_eq!(rt; found.len(), 2);
+    assert!(rt; shows(&found, 1, &SECOND));
+    Ok(())
+}
+
+#[test]
+fn shows_items(rt: HostRuntime) -> Result<(), Fail> {
+    let items: [&[u8]; 2] = [&[], &SECOND];
+    let array = SegmentArray::new(&items);
+    assert!(rt; shows(&array, 1, &SECOND));
+    assert_eq!(rt; array.len(), 2);
+    let mut owned = Vec::new(rt.alloc());
+    owned.push(SECOND.to_vec(rt.alloc())?)?;
+    assert!(rt; shows(&owned, 0, &SECOND));
+    assert!(rt; owned.get_segment(1).is_none());
+    Ok(())
+}
+
+#[test]
+fn words_are_their_bytes(rt: HostRuntime) -> Result<(), Fail> {
+    let zeros = Word::allocate_zeroed_vec(rt.alloc(), 2)?;
+    assert_eq!(rt;
+        zeros.as_slice(),
+        [word(0, 0, 0, 0, 0, 0, 0, 0); 2].as_slice()
+    );
+    assert_eq!(rt;
+        word(1, 2, 3, 4, 5, 6, 7, 8).bytes(),
+        [1, 2, 3, 4, 5, 6, 7, 8]
+    );
+    let mut two = [0; 2];
+    let mut lent: &mut [u8] = &mut two;
+    assert!(rt; lent.write_all(&[1, 2, 3]).is_err());
+    assert_eq!(rt; lent.len(), 2);
+    Ok(())
+}

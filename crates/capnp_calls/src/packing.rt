@@ -1,0 +1,57 @@
+//! Packed messages of a slice, and a piece that isn't packed. Rows of bytes are tests of `capnp_rows`.
+use capnp_frame::io::Write;
+use capnp_frame::message::{DEFAULT_READER_OPTIONS, ReaderSegments};
+use capnp_frame::{ErrorKind, Result};
+use capnp_pack::PackedWrite;
+use capnp_pack::stream::{try_read_packed_segments, try_read_packed_segments_into};
+
+#[test]
+fn a_part_of_a_word_is_not_written(rt: HostRuntime) {
+    let mut out: Vec<u8> = Vec::new(rt.alloc());
+    let answer = PackedWrite::new(&mut out).write_all(&[1; 12]);
+    assert_eq!(rt;
+        answer.map_err(|error| error.kind),
+        Err(ErrorKind::NotWholeWords)
+    );
+    assert!(rt; out.is_empty());
+}
+
+#[test]
+fn messages_end_with_the_source(rt: HostRuntime) -> Result<()> {
+    let mut source: &[u8] = &[0, 0, 0, 0];
+    for _ in 0..2 {
+        let found = try_read_packed_segments(rt.alloc(), &mut source, DEFAULT_READER_OPTIONS)?;
+        assert!(rt; found.is_some());
+    }
+    let found = try_read_packed_segments(rt.alloc(), &mut source, DEFAULT_READER_OPTIONS)?;
+    assert!(rt; found.is_none());
+    let mut long: &[u8] = &[0, 1];
+    let refused = try_read_packed_segments(rt.alloc(), &mut long, DEFAULT_READER_OPTIONS);
+    assert_eq!(rt;
+        refused.err().map(|error| error.kind),
+        Some(ErrorKind::PackedInputDidNotEndCleanlyOnASegmentBoundary)
+    );
+    Ok(())
+}
+
+// A message of one word of nines, in a buffer with room for it and in one without.
+#[test]
+fn a_message_into_a_lent_buffer(rt: HostRuntime) -> Result<()> {
+    let packed = [0x10, 1, 0xff, 9, 9, 9, 9, 9, 9, 9, 9, 0, 7];
+    let mut buffer = [0; 16];
+    let mut source: &[u8] = &packed;
+    let found = try_read_packed_segments_into(&mut source, &mut buffer, DEFAULT_READER_OPTIONS)?;
+    assert!(rt; found.is_some_and(|held| held.get_segment(0) == Some([9; 8].as_slice())));
+    assert_eq!(rt; source, [7].as_slice());
+    let mut little = [0; 15];
+    let mut source: &[u8] = &packed;
+    let refused = try_read_packed_segments_into(&mut source, &mut little, DEFAULT_READER_OPTIONS);
+    assert_eq!(rt;
+        refused.err().map(|error| error.kind),
+        Some(ErrorKind::BufferNotLargeEnough)
+    );
+    let mut source: &[u8] = &[];
+    let none = try_read_packed_segments_into(&mut source, &mut buffer, DEFAULT_READER_OPTIONS)?;
+    assert!(rt; none.is_none());
+    Ok(())
+}

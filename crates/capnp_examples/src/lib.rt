@@ -1,0 +1,8 @@
+//! The examples that stand at public items, and the callers of `capnp_uses` by worked bytes. It holds
+//! tests alone.
+#![tactic(auto)]
+
+#[cfg(test)]
+mod callers;
+#[cfg(test)]
+mod examples;

@@ -1,0 +1,14 @@
+//! Worked rows over objects: hostile pointers, and messages that are built. It holds tests alone, by
+//! the rules of `capnp_rows`.
+#![tactic(auto)]
+
+#[cfg(test)]
+mod builder_memory;
+#[cfg(test)]
+mod hostile;
+#[cfg(test)]
+mod hostile_messages;
+#[cfg(test)]
+mod regions;
+#[cfg(test)]
+mod roots;

@@ -1,0 +1,20 @@
+//! What a test does where `rt try --test --fail-alloc N` refuses one growth of it.
+use capnp_frame::{ErrorKind, Result};
+
+/// What a body answers, or answers when it is run once more.
+#[macro_export]
+macro_rules! retried {
+    ($run:expr) => {
+        match $run {
+            Ok(found) => Ok(found),
+            Err(_) => $run,
+        }
+    };
+}
+
+/// Whether a call was refused for want of memory.
+pub fn lacks_memory<T>(answer: &Result<T>) -> bool {
+    answer
+        .as_ref()
+        .is_err_and(|error| error.kind == ErrorKind::OutOfMemory)
+}

@@ -1,0 +1,207 @@
+//! Messages in a slice, by each call that finds them there.
+use crate::flat_rows::{FLAT_ROWS, FlatAnswer, FlatRow};
+use crate::packed_rows::NO_WORDS;
+use capnp::message::Reader;
+use capnp::serialize::{read_message_from_flat_slice, read_message_from_flat_slice_no_alloc};
+use capnp_frame::message::{ReaderOptions, ReaderSegments};
+use capnp_frame::serialize::{
+    BufferSegments, NoAllocBufferSegments, NoAllocSliceSegments, take_segments,
+};
+use capnp_frame::{ErrorKind, Result};
+use capnp_rows::limits::{DEFAULT_LIMIT, NO_LIMIT};
+use capnp_rows::messages::has_segments;
+use capnp_rows::retried;
+use std::process::Abort;
+
+// The calls that find a message, over what holds it.
+#[derive(Clone, Copy, Debug, PartialEq, Eq)]
+pub enum Form {
+    Take,
+    New,
+    NewOfVector,
+    FromSlice,
+    FromBuffer,
+    FromVector,
+    Message,
+    MessageNoAlloc,
+}
+
+pub const FORMS: [Form; 8] = [
+    Form::Take,
+    Form::New,
+    Form::NewOfVector,
+    Form::FromSlice,
+    Form::FromBuffer,
+    Form::FromVector,
+    Form::Message,
+    Form::MessageNoAlloc,
+];
+
+impl Form {
+    // Whether the form takes the table word by word.
+    fn is_by_words(self) -> bool {
+        match self {
+            Form::Take | Form::New | Form::NewOfVector | Form::Message => true,
+            Form::FromSlice | Form::FromBuffer | Form::FromVector | Form::MessageNoAlloc => false,
+        }
+    }
+
+    /// The kind where only so many bytes of a table are there.
+    pub fn refusal_of_a_cut_table(self, length: usize) -> ErrorKind {
+        match self {
+            Form::Take | Form::Message if length == 0 => ErrorKind::EmptySlice,
+            Form::New | Form::NewOfVector if length == 0 => ErrorKind::EmptyBuffer,
+            Form::Take | Form::New | Form::NewOfVector | Form::Message => {
+                ErrorKind::FailedToFillTheWholeBuffer
+            }
+            _ => ErrorKind::MessageEndsPrematurely(4, length % 4),
+        }
+    }
+}
+
+fn with_limit(limit: Option<usize>) -> ReaderOptions {
+    let mut options = ReaderOptions::new();
+    let _ = options.traversal_limit_in_words(limit);
+    options
+}
+
+/// The segments that are wanted, or the kind.
+pub type Wanted<'a> = std::result::Result<&'a [&'a [u8]], ErrorKind>;
+
+// Whether this is the answer. One for want of memory is handed back.
+fn is_wanted<S: ReaderSegments + Drop>(answer: Result<S>, wanted: Wanted<'_>) -> Result<bool> {
+    match answer {
+        Ok(found) => Ok(wanted.is_ok_and(|segments| has_segments(&found, segments))),
+        Err(error) if error.kind == ErrorKind::OutOfMemory => Err(error),
+        Err(error) => Ok(wanted.is_err_and(|kind| kind == error.kind)),
+    }
+}
+
+// The segments of a message that was read.
+fn segments_of<S: ReaderSegments + Drop>(answer: Result<Reader<S>>) -> Result<S> {
+    Ok(answer?.into_segments())
+}
+
+/// Whether the form answers what is wanted of these bytes, and how many of them it leaves.
+pub fn find(
+    rt: &(impl Abort + AllocGlobal),
+    form: Form,
+    bytes: &[u8],
+    options: ReaderOptions,
+    wanted: Wanted<'_>,
+) -> Result<(bool, usize)> {
+    let alloc = rt.alloc();
+    let mut slice = bytes;
+    let answered = match form {
+        Form::Take => is_wanted(take_segments(alloc, &mut slice, options), wanted)?,
+        Form::New => is_wanted(BufferSegments::new(alloc, bytes, options), wanted)?,
+        Form::NewOfVector => {
+            let vector = bytes.to_vec(alloc)?;
+            is_wanted(BufferSegments::new(alloc, vector, options), wanted)?
+        }
+        Form::FromSlice => {
+            is_wanted(
+                NoAllocSliceSegments::from_slice(&mut slice, options),
+                wanted,
+            )?
+        }
+        Form::FromBuffer => is_wanted(NoAllocBufferSegments::from_buffer(bytes, options), wanted)?,
+        Form::FromVector => {
+            let vector = bytes.to_vec(alloc)?;
+            is_wanted(NoAllocBufferSegments::from_buffer(vector, options), wanted)?
+        }
+        Form::Message => {
+            let read = read_message_from_flat_slice(alloc, &mut slice, options);
+            is_wanted(segments_of(read), wanted)?
+        }
+        Form::MessageNoAlloc => {
+            let read = read_message_from_flat_slice_no_alloc(&mut slice, options);
+            is_wanted(segments_of(read), wanted)?
+        }
+    };
+    assert!(rt; bytes.ends_with(slice));
+    Ok((answered, slice.len()))
+}
+
+/// How many bytes a form leaves: those that take a slice move it behind a message.
+pub fn left_by(form: Form, whole: usize, behind: usize) -> usize {
+    match form {
+        Form::Take | Form::FromSlice | Form::Message | Form::MessageNoAlloc => behind,
+        _ => whole,
+    }
+}
+
+#[test]
+fn rows_in_each_form(rt: HostRuntime) -> Result<()> {
+    for form in FORMS {
+        for row in FLAT_ROWS {
+            retried!(find_row(&rt, form, &row))?;
+        }
+    }
+    Ok(())
+}
+
+fn find_row(rt: &(impl Abort + AllocGlobal), form: Form, row: &FlatRow) -> Result<()> {
+    let name = row.name;
+    let (wanted, behind) = match row.answer {
+        FlatAnswer::Segments(segments, behind) => (Ok(segments), behind),
+        FlatAnswer::Refused(kind, _) if form.is_by_words() => (Err(kind), row.bytes.len()),
+        FlatAnswer::Refused(_, kind) => (Err(kind), row.bytes.len()),
+    };
+    let (answered, left) = find(rt, form, row.bytes, with_limit(row.limit), wanted)?;
+    assert!(rt; answered, "{name}, {form:?}");
+    assert_eq!(rt;
+        left,
+        left_by(form, row.bytes.len(), behind),
+        "{name}, {form:?}"
+    );
+    Ok(())
+}
+
+// A table of 2,048 bytes: the low byte of its count, each byte of its lengths, a limit, and the kind.
+#[rattlefmt::skip]
+const TABLES: [(u8, u8, Option<usize>, ErrorKind); 3] = [
+    (255, 0, DEFAULT_LIMIT, ErrorKind::InvalidNumberOfSegments(512)),
+    (254, 255, DEFAULT_LIMIT, ErrorKind::MessageTooLarge(2194728287745)),
+    (254, 255, NO_LIMIT, ErrorKind::MessageEndsPrematurely(2194728287745, 0)),
+];
+
+// As many segments as a reader accepts, all empty, with 3 bytes behind them; then one segment more, and
+// lengths that come to more words than the limit, or than are there.
+#[test]
+fn the_longest_tables(rt: HostRuntime) -> Result<()> {
+    for form in FORMS {
+        retried!(find_table(&rt, form, 254, 0, DEFAULT_LIMIT, Ok(&NO_WORDS)))?;
+        for (count, lengths, limit, kind) in TABLES {
+            retried!(find_table(&rt, form, count, lengths, limit, Err(kind)))?;
+        }
+    }
+    Ok(())
+}
+
+fn find_table(
+    rt: &(impl Abort + AllocGlobal),
+    form: Form,
+    count: u8,
+    lengths: u8,
+    limit: Option<usize>,
+    wanted: Wanted<'_>,
+) -> Result<()> {
+    let mut bytes = [lengths; 2051];
+    bytes[0] = count;
+    bytes[1] = 1;
+    bytes[2] = 0;
+    bytes[3] = 0;
+    let wanted_left = match wanted {
+        Ok(_) => left_by(form, 2051, 3),
+        Err(_) => 2051,
+    };
+    let (answered, left) = find(rt, form, &bytes, with_limit(limit), wanted)?;
+    assert!(rt; answered, "{form:?}, count {count}, lengths {lengths}");
+    assert_eq!(rt;
+        left,
+        wanted_left,
+        "{form:?}, count {count}, lengths {lengths}"
+    );
+    Ok(())
+}

@@ -1,0 +1,179 @@
+//! The worked rows of messages in a slice, as bytes and answers.
+use capnp_frame::ErrorKind;
+use capnp_rows::limits::{DEFAULT_LIMIT, NO_LIMIT};
+
+/// What a reader of a slice answers.
+#[derive(Clone, Copy)]
+pub enum FlatAnswer {
+    /// A message of these segments, and how many bytes stay behind it.
+    Segments(&'static [&'static [u8]], usize),
+    /// The refusal of a reader that takes the table word by word, and of one that takes it field by
+    /// field.
+    Refused(ErrorKind, ErrorKind),
+}
+
+/// What is answered where a slice or buffer holds these bytes.
+#[derive(Clone, Copy)]
+pub struct FlatRow {
+    pub name: &'static str,
+    pub bytes: &'static [u8],
+    pub limit: Option<usize>,
+    pub answer: FlatAnswer,
+}
+
+const CUT: ErrorKind = ErrorKind::FailedToFillTheWholeBuffer;
+
+const HELLO: &[u8] = &[
+    0, 0, 0, 0, 3, 0, 0, 0, 1, 0, 0, 0, 0x72, 0, 0, 0, 0x48, 0x65, 0x6c, 0x6c, 0x6f, 0x2c, 0x20,
+    0x57, 0x6f, 0x72, 0x6c, 0x64, 0x21, 0, 0, 0,
+];
+
+const HELLO_SEGMENT: &[u8] = &[
+    1, 0, 0, 0, 0x72, 0, 0, 0, 0x48, 0x65, 0x6c, 0x6c, 0x6f, 0x2c, 0x20, 0x57, 0x6f, 0x72, 0x6c,
+    0x64, 0x21, 0, 0, 0,
+];
+
+const FLATTEN: &[&[u8]] = &[
+    &[123, 0, 0, 0, 0, 0, 0, 0],
+    &[4, 0, 0, 0, 0, 0, 0, 0, 5, 0, 0, 0, 0, 0, 0, 0],
+];
+
+const LENGTHS_TABLE: &[u8] = &[
+    3, 0, 0, 0, 77, 0, 0, 0, 23, 0, 0, 0, 1, 0, 0, 0, 99, 0, 0, 0, 0, 0, 0, 0,
+];
+
+// Lengths 2 and 3, and no padding behind them.
+const NO_PADDING: &[u8] = &[1, 0, 0, 0, 2, 0, 0, 0, 3, 0, 0, 0];
+
+#[rattlefmt::skip]
+pub const FLAT_ROWS: [FlatRow; 18] = [
+    FlatRow {
+        name: "short-front",
+        bytes: &[0, 0, 0, 0],
+        limit: DEFAULT_LIMIT,
+        answer: FlatAnswer::Refused(CUT, ErrorKind::MessageEndsPrematurely(4, 0)),
+    },
+    FlatRow {
+        name: "short-front, 7 bytes",
+        bytes: &[0, 0, 0, 0, 0, 0, 0],
+        limit: DEFAULT_LIMIT,
+        answer: FlatAnswer::Refused(CUT, ErrorKind::MessageEndsPrematurely(4, 3)),
+    },
+    FlatRow {
+        name: "an empty segment, and 3 bytes behind it",
+        bytes: &[0, 0, 0, 0, 0, 0, 0, 0, 1, 2, 3],
+        limit: DEFAULT_LIMIT,
+        answer: FlatAnswer::Segments(&[&[]], 3),
+    },
+    FlatRow {
+        name: "count-wraps",
+        bytes: &[255, 255, 255, 255, 0, 0, 0, 0],
+        limit: DEFAULT_LIMIT,
+        answer: FlatAnswer::Refused(
+            ErrorKind::InvalidNumberOfSegments(0),
+            ErrorKind::InvalidNumberOfSegments(4294967296),
+        ),
+    },
+    FlatRow {
+        name: "count-bounds, 512",
+        bytes: &[255, 1, 0, 0, 0, 0, 0, 0],
+        limit: DEFAULT_LIMIT,
+        answer: FlatAnswer::Refused(
+            ErrorKind::InvalidNumberOfSegments(512),
+            ErrorKind::InvalidNumberOfSegments(512),
+        ),
+    },
+    FlatRow {
+        name: "count-bounds, 512 and no length",
+        bytes: &[255, 1, 0, 0],
+        limit: DEFAULT_LIMIT,
+        answer: FlatAnswer::Refused(CUT, ErrorKind::InvalidNumberOfSegments(512)),
+    },
+    FlatRow {
+        name: "two-segments",
+        bytes: &[1, 0, 0, 0, 0, 0, 0, 0, 1, 0, 0, 0, 9, 9, 9, 9, 1, 2, 3, 4, 5, 6, 7, 8],
+        limit: DEFAULT_LIMIT,
+        answer: FlatAnswer::Segments(&[&[], &[1, 2, 3, 4, 5, 6, 7, 8]], 0),
+    },
+    FlatRow {
+        name: "flatten",
+        bytes: &[
+            1, 0, 0, 0, 1, 0, 0, 0, 2, 0, 0, 0, 0, 0, 0, 0, 123, 0, 0, 0, 0, 0, 0, 0, 4, 0, 0, 0, 0,
+            0, 0, 0, 5, 0, 0, 0, 0, 0, 0, 0, 9, 9, 9, 9, 9, 9, 9, 9, 8, 7, 6, 5, 4, 3, 2, 1,
+        ],
+        limit: DEFAULT_LIMIT,
+        answer: FlatAnswer::Segments(FLATTEN, 16),
+    },
+    FlatRow {
+        name: "hello, no limit",
+        bytes: HELLO,
+        limit: NO_LIMIT,
+        answer: FlatAnswer::Segments(&[HELLO_SEGMENT], 0),
+    },
+    FlatRow {
+        name: "word-limit, 3 words of 3",
+        bytes: HELLO,
+        limit: Some(3),
+        answer: FlatAnswer::Segments(&[HELLO_SEGMENT], 0),
+    },
+    FlatRow {
+        name: "word-limit, 3 words of 2",
+        bytes: HELLO,
+        limit: Some(2),
+        answer: FlatAnswer::Refused(ErrorKind::MessageTooLarge(3), ErrorKind::MessageTooLarge(3)),
+    },
+    FlatRow {
+        name: "word-limit, past 2^32",
+        bytes: &[1, 0, 0, 0, 255, 255, 255, 255, 2, 0, 0, 0, 0, 0, 0, 0],
+        limit: DEFAULT_LIMIT,
+        answer: FlatAnswer::Refused(
+            ErrorKind::MessageTooLarge(4294967297),
+            ErrorKind::MessageTooLarge(4294967297),
+        ),
+    },
+    FlatRow {
+        name: "lengths, 200 words of 199",
+        bytes: LENGTHS_TABLE,
+        limit: Some(199),
+        answer: FlatAnswer::Refused(
+            ErrorKind::MessageTooLarge(200),
+            ErrorKind::MessageTooLarge(200),
+        ),
+    },
+    FlatRow {
+        name: "lengths, 200 words of 200, none there",
+        bytes: LENGTHS_TABLE,
+        limit: Some(200),
+        answer: FlatAnswer::Refused(
+            ErrorKind::MessageEndsPrematurely(200, 0),
+            ErrorKind::MessageEndsPrematurely(200, 0),
+        ),
+    },
+    FlatRow {
+        name: "limit-before-padding",
+        bytes: NO_PADDING,
+        limit: Some(4),
+        answer: FlatAnswer::Refused(CUT, ErrorKind::MessageTooLarge(5)),
+    },
+    FlatRow {
+        name: "limit-before-padding, no limit",
+        bytes: NO_PADDING,
+        limit: NO_LIMIT,
+        answer: FlatAnswer::Refused(CUT, ErrorKind::MessageEndsPrematurely(4, 0)),
+    },
+    FlatRow {
+        name: "cut-segments",
+        bytes: &[0, 0, 0, 0, 2, 0, 0, 0, 1, 2, 3, 4, 5, 6, 7, 8, 9, 10, 11],
+        limit: DEFAULT_LIMIT,
+        answer: FlatAnswer::Refused(
+            ErrorKind::MessageEndsPrematurely(2, 1),
+            ErrorKind::MessageEndsPrematurely(2, 1),
+        ),
+    },
+    FlatRow {
+        name: "words, segments of 0 and 1 words",
+        bytes: &[1, 0, 0, 0, 0, 0, 0, 0, 1, 0, 0, 0, 0, 0, 0, 0, 0, 0, 0, 0, 0, 0, 0, 0],
+        limit: Some(1),
+        answer: FlatAnswer::Segments(&[&[], &[0; 8]], 0),
+    },
+];

@@ -1,0 +1,32 @@
+//! Worked rows over the readers and writers of both formats. It holds tests alone, by the rules of
+//! `capnp_rows`.
+#![tactic(auto)]
+
+#[cfg(test)]
+mod faults;
+#[cfg(test)]
+mod flat;
+#[cfg(test)]
+mod flat_rows;
+#[cfg(test)]
+mod framed_rows;
+#[cfg(test)]
+mod lent;
+#[cfg(test)]
+mod lent_roots;
+#[cfg(test)]
+mod packed_rows;
+#[cfg(test)]
+mod prefixes;
+#[cfg(test)]
+mod requests;
+#[cfg(test)]
+mod samples;
+#[cfg(test)]
+mod segment_ends;
+#[cfg(test)]
+mod streams;
+#[cfg(test)]
+mod transcodings;
+#[cfg(test)]
+mod writing;

@@ -1,0 +1,92 @@
+//! Messages that are cut: no prefix of a text is a message, and each is refused by one kind.
+use crate::flat::{FORMS, Form, find};
+use crate::samples::{SAMPLES, Sample};
+use crate::streams::{Format, READERS, Reader, Wanted, is_answered};
+use capnp_frame::message::ReaderOptions;
+use capnp_frame::{ErrorKind, Result};
+use capnp_rows::limits::DEFAULT_LIMIT;
+use capnp_rows::retried;
+use capnp_rows::sources::Trickle;
+use std::process::Abort;
+
+#[test]
+fn prefixes_of_streams(rt: HostRuntime) -> Result<()> {
+    for most in 1..=16 {
+        for reader in READERS {
+            for sample in SAMPLES {
+                retried!(read_prefixes(&rt, reader, &sample, most))?;
+            }
+        }
+    }
+    Ok(())
+}
+
+// A framed text is refused wherever it is cut. In a packed one just a whole piece can be missing, or
+// a part of a group.
+fn read_prefixes(
+    rt: &(impl Abort + AllocGlobal),
+    reader: Reader,
+    sample: &Sample,
+    most: usize,
+) -> Result<()> {
+    let name = sample.name;
+    for length in 0..sample.framed.len() {
+        let wanted = match length {
+            0 => Wanted::End,
+            _ => Wanted::Refused(ErrorKind::FailedToFillTheWholeBuffer),
+        };
+        let mut source = Trickle::new(&sample.framed[..length], most);
+        let call = (Format::Framed, reader);
+        let answered = is_answered(rt.alloc(), call, &mut source, DEFAULT_LIMIT, wanted)?;
+        assert!(rt;
+            answered,
+            "{name}, {length} bytes, {call:?}, {most} at once"
+        );
+        assert!(rt; source.bytes.is_empty());
+    }
+    for length in 0..sample.packed.len() {
+        let wanted = match length {
+            0 => Wanted::End,
+            _ if sample.pieces.contains(&length) => {
+                Wanted::Refused(ErrorKind::FailedToFillTheWholeBuffer)
+            }
+            _ => Wanted::Refused(ErrorKind::PrematureEndOfPackedInput),
+        };
+        let mut source = Trickle::new(&sample.packed[..length], most);
+        let call = (Format::Packed, reader);
+        let answered = is_answered(rt.alloc(), call, &mut source, DEFAULT_LIMIT, wanted)?;
+        assert!(rt;
+            answered,
+            "{name}, {length} bytes, {call:?}, {most} at once"
+        );
+    }
+    Ok(())
+}
+
+#[test]
+fn prefixes_of_slices(rt: HostRuntime) -> Result<()> {
+    for form in FORMS {
+        for sample in SAMPLES {
+            retried!(find_prefixes(&rt, form, &sample))?;
+        }
+    }
+    Ok(())
+}
+
+// A slice is left as it was. Behind the table the kind tells how many words are there.
+fn find_prefixes(rt: &(impl Abort + AllocGlobal), form: Form, sample: &Sample) -> Result<()> {
+    let name = sample.name;
+    for length in 0..sample.framed.len() {
+        let kind = if length >= sample.table {
+            let there = (length - sample.table) / 8;
+            ErrorKind::MessageEndsPrematurely(sample.words, there)
+        } else {
+            form.refusal_of_a_cut_table(length)
+        };
+        let front = &sample.framed[..length];
+        let (answered, left) = find(rt, form, front, ReaderOptions::new(), Err(kind))?;
+        assert!(rt; answered, "{name}, {length} bytes, {form:?}");
+        assert_eq!(rt; left, length, "{name}, {form:?}");
+    }
+    Ok(())
+}

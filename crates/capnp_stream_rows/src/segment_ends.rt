@@ -1,0 +1,141 @@
+//! As many segments as a reader accepts, of 0, 1 and 2 words in turn: each is where it begins.
+use crate::flat::{FORMS, Form, find, left_by};
+use crate::streams::{Format, Reader, Wanted, is_answered};
+use capnp_frame::Result;
+use capnp_frame::message::ReaderOptions;
+use capnp_frame::serialize::{NoAllocBufferSegments, NoAllocSegmentTableInfo, describes};
+use capnp_rows::limits::DEFAULT_LIMIT;
+use capnp_rows::messages::has_segments;
+use capnp_rows::retried;
+use capnp_rows::sources::Trickle;
+use std::alloc::Global;
+use std::process::Abort;
+
+// The table takes 2,048 bytes, and the segments 510 words. No two of these words are alike.
+fn text() -> [u8; 6128] {
+    let mut text = [0; 6128];
+    text[0] = 254;
+    text[1] = 1;
+    for id in 0..511 {
+        text[4 + 4 * id] = (id % 3) as u8;
+    }
+    for word in 0..510 {
+        text[2048 + 8 * word] = (word % 256) as u8;
+        text[2049 + 8 * word] = (word / 256) as u8;
+        text[2055 + 8 * word] = 7;
+    }
+    text
+}
+
+// The segments, each taken off the front of the bytes behind the table.
+fn segments_of<'a>(rt: &impl Abort, text: &'a [u8; 6128]) -> [&'a [u8]; 511] {
+    let mut segments: [&[u8]; 511] = [&[]; 511];
+    let mut left = &text[2048..];
+    for id in 0..511 {
+        let (segment, others) = left.split_at_checked(8 * (id % 3)).unwrap_or((&[], &[]));
+        segments[id] = segment;
+        left = others;
+    }
+    assert!(rt; left.is_empty());
+    assert!(rt; segments[7] == &text[2096..2104]);
+    assert!(rt; segments[8] == &text[2104..2120]);
+    assert!(rt; segments[510].is_empty());
+    segments
+}
+
+#[test]
+fn segments_in_a_slice(rt: HostRuntime) -> Result<()> {
+    let text = text();
+    let segments = segments_of(&rt, &text);
+    for form in FORMS {
+        retried!(find_all(&rt, form, &text, &segments))?;
+    }
+    let info = NoAllocSegmentTableInfo {
+        segments_count: 511,
+        segment_table_length_bytes: 2048,
+        total_segments_length_bytes: 4080,
+    };
+    let buffer = text.as_slice();
+    assert!(rt; describes(&buffer, &info));
+    let found = NoAllocBufferSegments::from_segment_table_info(buffer, info);
+    assert!(rt; has_segments(&found, &segments));
+    Ok(())
+}
+
+fn find_all(
+    rt: &(impl Abort + AllocGlobal),
+    form: Form,
+    text: &[u8],
+    segments: &[&[u8]],
+) -> Result<()> {
+    let (answered, left) = find(rt, form, text, ReaderOptions::new(), Ok(segments))?;
+    assert!(rt; answered, "{form:?}");
+    assert_eq!(rt; left, left_by(form, text.len(), 0), "{form:?}");
+    Ok(())
+}
+
+#[test]
+fn segments_in_a_stream(rt: HostRuntime) -> Result<()> {
+    let text = text();
+    let segments = segments_of(&rt, &text);
+    for most in [1, 7, 16, 6128] {
+        for reader in [
+            Reader::Copying,
+            Reader::Reusing,
+            Reader::Lending(6128),
+            Reader::Message,
+            Reader::LentMessage(6128),
+        ] {
+            retried!(read_all(&rt, reader, &text, &segments, most))?;
+        }
+    }
+    Ok(())
+}
+
+fn read_all(
+    rt: &(impl Abort + AllocGlobal),
+    reader: Reader,
+    text: &[u8; 6128],
+    segments: &[&[u8]],
+    most: usize,
+) -> Result<()> {
+    let packed = packed_text(rt.alloc(), text)?;
+    read_text(rt, (Format::Framed, reader), text, segments, most)?;
+    read_text(rt, (Format::Packed, reader), &packed, segments, most)
+}
+
+fn read_text(
+    rt: &(impl Abort + AllocGlobal),
+    call: (Format, Reader),
+    text: &[u8],
+    segments: &[&[u8]],
+    most: usize,
+) -> Result<()> {
+    let mut source = Trickle::new(text, most);
+    let wanted = Wanted::Segments(segments);
+    let answered = is_answered(rt.alloc(), call, &mut source, DEFAULT_LIMIT, wanted)?;
+    assert!(rt; answered, "{call:?}, {most} bytes");
+    assert!(rt; source.bytes.is_empty(), "{call:?}, {most} bytes");
+    Ok(())
+}
+
+// The three pieces, packed by a packer that takes each word as it stands.
+fn packed_text(alloc: Global, text: &[u8; 6128]) -> Result<Vec<u8>> {
+    let mut packed: Vec<u8> = Vec::new(alloc);
+    append_words(&mut packed, &text[..8])?;
+    append_words(&mut packed, &text[8..2048])?;
+    append_words(&mut packed, &text[2048..])?;
+    Ok(packed)
+}
+
+// A literal run goes over at most 255 words behind its first.
+fn append_words(packed: &mut Vec<u8>, piece: &[u8]) -> Result<()> {
+    for run in piece.chunks(2048) {
+        let (first, others) = run.split_at_checked(8).unwrap_or((run, &[]));
+        packed.push(0xff)?;
+        packed.extend_from_slice(first)?;
+        packed.push((others.len() / 8).min(255) as u8)?;
+        packed.extend_from_slice(others)?;
+    }
+    Ok(())
+}
