@@ -58,7 +58,7 @@ impl CanonicalWalk {
     /// Whether the object that the pointer at a word leads to, and all below it, stand as the
     /// canonical form has them, from the next free word on. It goes in preorder, and stops at the
     /// first that doesn't, or at the first refusal.
-    #[cycle(test)]
+    #[cycle(testing)]
     pub(crate) fn test<S: ReaderSegments>(
         &mut self,
         segments: &S,
@@ -88,7 +88,7 @@ impl CanonicalWalk {
     }
 
     // The same of all objects that these pointers lead to.
-    #[cycle(test)]
+    #[cycle(testing)]
     fn test_pointers<S: ReaderSegments>(
         &mut self,
         segments: &S,

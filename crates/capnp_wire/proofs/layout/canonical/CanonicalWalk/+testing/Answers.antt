@@ -5,7 +5,7 @@ use Rattle.capnp_wire.proofs.WordLemmas.{length-words_of}
 use Rattle.capnp_wire.proofs.ElementLemmas.{all_words_below}
 use Rattle.capnp_wire.proofs.PadLemmas.{passed_on}
 use Rattle.capnp_wire.proofs.GoingLemmas.{null_passes, going_begins, going_next, going_ends, pointers_pass, pointers_end, pointers_refused}
-use Rattle.capnp_wire.proofs.layout.canonical.CanonicalWalk.+test.Goals as goal
+use Rattle.capnp_wire.proofs.layout.canonical.CanonicalWalk.+testing.Goals as goal
 
 pub test-returns-in_err-meet-clause-refused : goal.test-returns-in_err-meet-clause-refused
 test-returns-in_err-meet-clause-refused g t c = passed_on _ _ c.from_residual.ensures.1 c.in_err-meet.ensures.refused
