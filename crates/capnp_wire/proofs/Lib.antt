@@ -7,7 +7,7 @@ pub mod CycleLemmas
 pub mod MessageLemmas
 pub mod LandingLemmas
 pub mod PadLemmas
-pub mod NumberListLemmas
+pub mod NearLemmas
 pub mod ElementLemmas
 pub mod ViewLemmas
 pub mod FormLemmas

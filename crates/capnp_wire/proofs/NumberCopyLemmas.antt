@@ -4,7 +4,7 @@ use Rattle.capnp_wire.specs.Pointer.{words_of}
 use Rattle.capnp_wire.specs.Element.{code_of, width, words_for}
 use Rattle.capnp_wire.specs.Tree.{Trees, total_words}
 use Rattle.capnp_wire.specs.Landing.{IsObject}
-use Rattle.capnp_wire.specs.NumberList.{object_of}
+use Rattle.capnp_wire.specs.Near.{object_of}
 use Rattle.capnp_wire.specs.Reached.{At}
 use Rattle.capnp_wire.specs.Layout.{formed}
 use Rattle.capnp_wire.specs.Copy.{CanCopy, IsCopied, pointer_of_body, put_own}
@@ -13,7 +13,7 @@ use Rattle.capnp_wire.specs.declared.layout.number_list.NumberList.{NumberList}
 use Rattle.capnp_wire.specs.declared.layout.object.Body.TheVariants.{Numbers}
 use Rattle.capnp_wire.proofs.CopyLemmas.{none_at, none_formed, fill_nothing}
 use Rattle.capnp_wire.proofs.CopiedLemmas.{opened_here, object_is_copied}
-use Rattle.capnp_wire.proofs.NumberListLemmas.{numbers_formed}
+use Rattle.capnp_wire.proofs.NearLemmas.{numbers_formed}
 use Rattle.capnp_wire.proofs.OpenLemmas.{Opened}
 
 pub number_list_opened : {m : List (List ℕ)} {place : Place} {level : ℕ} {c : Bool} {next room : ℕ} (list : NumberList) (can : CanCopy m (place ∷ []) level c next room)

@@ -1,6 +1,6 @@
 -- Structs that are read, as values.
-use Rattle.std.proofs.Common.{◌≡◌, ℕ, ◌+◌, ◌<◌, ◌≤◌, ◌^◌, Bool, true, false, List, ◌∷◌, length, drop, Option, Result, Ok, Err, MatchResult, inr, refl, sym, ◌∙◌, ap}
-use Rattle.std.proofs.Common.{subst, arith, length-take}
+use Rattle.std.proofs.Common.{◌≡◌, ◌≢◌, ℕ, zero, suc, [], ◌+◌, ◌<◌, ◌≤◌, ◌^◌, Bool, true, false, List, ◌∷◌, length, drop, Option, Result, Ok, Err, MatchResult, inl, inr, refl, sym, ◌∙◌, ap}
+use Rattle.std.proofs.Common.{subst, arith, Some, slice_get, length-take}
 use Rattle.std.specs.Prelude.{All}
 use Rattle.capnp_frame.specs.declared.error.Error.{Error}
 use Rattle.capnp_wire.specs.Pointer.{words_from}
@@ -18,6 +18,7 @@ use Rattle.capnp_wire.specs.declared.layout.place.Place.{Place}
 use Rattle.capnp_wire.specs.declared.layout.pointer.StructSize.{StructSize}
 use Rattle.capnp_wire.specs.declared.layout.object.Body.{Body}
 use Rattle.capnp_wire.specs.declared.layout.object.Body.TheVariants.{Struct}
+use Rattle.capnp_wire.proofs.PointerRowLemmas.{kept_nothing}
 use Rattle.capnp_wire.proofs.FieldLemmas.{length-places}
 use Rattle.capnp_wire.proofs.ObjectLemmas.{one_tree}
 use Rattle.capnp_wire.proofs.StandLemmas.{count_at}
@@ -123,3 +124,9 @@ same_struct m words start size level limit other a b x y =
     ∙ ap (λ (t : Trees). tree (struct (words_from words start.word size.data_words)) t none)
     (one_tree m (places start.segment (start.word + size.data_words) size.pointers) x.held y.held x.charge y.charge x.stand y.stand).0
     ∙ sym y.whole
+
+-- a struct that has pointers to keep stands in a segment of the message
+pub struct_held : (m : List (List ℕ)) (words : List ℕ) (start : Place) (size : StructSize) (q : ℕ) → HoldsPointers m words start size → q ≤ size.pointers
+    → kept_in start (Struct size) q ≢ [] → slice_get m start.segment ≡ Some words
+struct_held m words start size zero holds le some = absurd (some (kept_nothing {B = ℕ} start.segment start.word size.data_words size.pointers 0 1 (inl refl)))
+struct_held m words start size (suc q) holds le some = holds (omega arith)

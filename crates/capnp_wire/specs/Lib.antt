@@ -5,7 +5,7 @@ pub mod Trim
 pub mod Object
 pub mod PointerWord
 pub mod Landing
-pub mod NumberList
+pub mod Near
 pub mod Reached
 pub mod Charge
 pub mod Faults

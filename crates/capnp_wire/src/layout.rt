@@ -5,7 +5,7 @@ pub(crate) mod copy;
 pub(crate) mod element;
 pub(crate) mod formed;
 pub(crate) mod landing;
-pub(crate) mod near_list;
+pub(crate) mod near;
 pub(crate) mod number_list;
 pub(crate) mod object;
 pub(crate) mod place;

@@ -1,5 +1,5 @@
 //! Copies of objects, laid out one behind the other in one block of words.
-ghost use Rattle.std.specs.Prelude.{◌≡◌, ◌+◌, ◌-◌, ◌*◌, ◌/◌, ◌^◌, ◌<◌, ◌≤◌, ℕ, [], ◌∷◌, length, Some, MatchOption};
+ghost use Rattle.std.specs.Prelude.{◌≡◌, ◌≢◌, ◌+◌, ◌-◌, ◌*◌, ◌/◌, ◌^◌, ◌<◌, ◌≤◌, ℕ, [], ◌∷◌, length, slice_get, Some, MatchOption};
 ghost use Rattle.capnp_wire.specs.Pointer.{words_of};
 ghost use Rattle.capnp_wire.specs.Tree.{Trees, depth, total_words};
 ghost use Rattle.capnp_wire.specs.Object.{message_of, word_at, rows_from};
@@ -7,17 +7,18 @@ ghost use Rattle.capnp_wire.specs.Landing.{IsObject, room_of, words_in};
 ghost use Rattle.capnp_wire.specs.Reached.{At};
 ghost use Rattle.capnp_wire.specs.Layout.{formed};
 ghost use Rattle.capnp_wire.specs.Block.{put_rows, fill};
-ghost use Rattle.capnp_wire.specs.Rows.{row_size, kept_in, slots_of};
-ghost use Rattle.capnp_wire.specs.Copy.{CanCopy, IsCopied, put_own, element_count, IsNarrower};
+ghost use Rattle.capnp_wire.specs.Near.{struct_of};
+ghost use Rattle.capnp_wire.specs.Rows.{row_size, kept_in, slots_of, places_in, slots_in, end_of};
+ghost use Rattle.capnp_wire.specs.Copy.{CanCopy, IsCopied, formed_body, put_own, element_count, IsNarrower};
 
 use crate::layout::block::{BlockItem, put_elements, put_word, put_words};
 use crate::layout::formed::formed_as;
-use crate::layout::near_list::near_list_at;
+use crate::layout::near::{NearStruct, is_null, near_list, near_struct};
 use crate::layout::number_list::NumberList;
 use crate::layout::object::{Body, Object, object_at};
 use crate::layout::place::Place;
 use crate::layout::pointer::Elements;
-use crate::layout::pointer_word::{list_word, pointer_word, struct_word};
+use crate::layout::pointer_word::{list_word, pointer_word, struct_pointer_word, struct_word};
 use crate::layout::rows::PointerRows;
 use capnp_frame::message::ReaderSegments;
 
@@ -65,6 +66,7 @@ pub(crate) fn copy<S: ReaderSegments, T: BlockItem>(
 /// Copies what the pointers of an object lead to, one behind the other behind its own copy, which
 /// begins at the word `next`, and puts the pointers to these copies into that. Answers the first
 /// free word.
+#[inline(always)]
 #[cycle(copy)]
 pub(crate) fn copy_pointers<S: ReaderSegments, T: BlockItem>(
     segments: &S,
@@ -78,6 +80,9 @@ pub(crate) fn copy_pointers<S: ReaderSegments, T: BlockItem>(
     requires there { CanCopy (message_of (S.segments segments.now))
         (kept_in object.now.start object.now.body (row_size copied).pointers)
         level canonical (next + words_in copied) (length (T.as_words block.old)) }
+    requires content { let m = message_of (S.segments segments.now) in
+        kept_in object.now.start object.now.body (row_size copied).pointers ≢ [] →
+        slice_get m object.now.start.segment ≡ Some (words_of object.now.segment.now) }
     requires narrower { IsNarrower object.now.body copied }
     requires room { object.now.start.word + room_of object.now.body
         ≤ length object.now.segment.now / 8 }
@@ -93,28 +98,81 @@ pub(crate) fn copy_pointers<S: ReaderSegments, T: BlockItem>(
     ensures len { length (T.as_words block.new) ≡ length (T.as_words block.old) }
 {
     let kept = copied.row_size().pointers;
-    let mut from = PointerRows::of(object.start, object.body, kept);
+    let from = PointerRows::of(object.start, object.body, kept);
     let begin = Place {
         segment: 0,
         word: next,
     };
-    let mut to = PointerRows::of(begin, copied, kept);
-    let mut free = next + copied.words() as usize;
+    let to = PointerRows::of(begin, copied, kept);
+    let free = next + copied.words() as usize;
+    copy_rows(
+        segments,
+        object.segment,
+        from,
+        to,
+        level,
+        canonical,
+        block,
+        free,
+    )
+}
+
+// Copies what these pointers of a segment lead to, one behind the other from the word `next` on, and
+// puts the pointers to these copies where `to` says. Answers the first free word.
+#[cycle(copy)]
+fn copy_rows<S: ReaderSegments, T: BlockItem>(
+    segments: &S,
+    segment: &[u8],
+    mut from: PointerRows,
+    mut to: PointerRows,
+    level: u32,
+    canonical: bool,
+    block: &mut [T],
+    next: usize,
+) -> usize
+    requires there { CanCopy (message_of (S.segments segments.now)) (places_in from)
+        level canonical next (length (T.as_words block.old)) }
+    requires content { places_in from ≢ [] →
+        slice_get (message_of (S.segments segments.now)) from.next.segment
+        ≡ Some (words_of segment.now) }
+    requires as_many { length (places_in from) ≡ length (places_in to) }
+    requires before { end_of to ≤ next }
+    requires small { length (T.as_words block.old) < 2 ^ 29 }
+    ensures words { let m = message_of (S.segments segments.now) in (trees : Trees) (charge : ℕ) →
+        At m (places_in from) trees charge →
+        T.as_words block.new ≡ fill (slots_in to) next (formed canonical trees)
+        (T.as_words block.old) }
+    ensures next { let m = message_of (S.segments segments.now) in (trees : Trees) (charge : ℕ) →
+        At m (places_in from) trees charge →
+        result ≡ next + total_words (formed canonical trees) }
+    ensures len { length (T.as_words block.new) ≡ length (T.as_words block.old) }
+{
+    let mut free = next;
     'pointers: while !from.is_empty() {
         let source = from.take();
         let slot = to.take().word;
-        let inner = copy_target(segments, source, level, canonical, block, slot + 1, free);
+        let inner = copy_target(
+            segments,
+            segment,
+            source,
+            level,
+            canonical,
+            block,
+            slot + 1,
+            free,
+        );
         put_word(block, slot, inner.pointer);
         free = inner.next;
     }
     free
 }
 
-// As `copy`, of one of the pointers of an object. What most of them lead to needs no call.
+// As `copy`, of one of the pointers in a segment. What most of them lead to needs no call.
 #[inline(always)]
 #[cycle(copy)]
 fn copy_target<S: ReaderSegments, T: BlockItem>(
     segments: &S,
+    segment: &[u8],
     place: Place,
     level: u32,
     canonical: bool,
@@ -124,6 +182,8 @@ fn copy_target<S: ReaderSegments, T: BlockItem>(
 ) -> Copied
     requires there { CanCopy (message_of (S.segments segments.now)) (place ∷ []) level canonical
         next (length (T.as_words block.old)) }
+    requires content { slice_get (message_of (S.segments segments.now)) place.segment
+        ≡ Some (words_of segment.now) }
     requires behind { behind ≤ next }
     requires small { length (T.as_words block.old) < 2 ^ 29 }
     ensures copied { let m = message_of (S.segments segments.now) in
@@ -132,13 +192,75 @@ fn copy_target<S: ReaderSegments, T: BlockItem>(
         (T.as_words block.old) (T.as_words block.new) result }
     ensures len { length (T.as_words block.new) ≡ length (T.as_words block.old) }
 {
-    let Some(list) = near_list_at(segments, place, level) else {
+    if is_null(segment, place.word) {
+        return Copied { pointer: 0, next };
+    }
+    if let Some(found) = near_struct(segment, place, level) {
+        return copy_struct(segments, &found, level, canonical, block, behind, next);
+    }
+    let Some(list) = near_list(segment, place, level) else {
         return copy(segments, place, level, canonical, block, behind, next);
     };
     put_elements(block, next, &list);
     Copied {
         pointer: list_word((next - behind) as u64, list.size.code(), list.count as u64),
         next: next + list.words() as usize,
+    }
+}
+
+// The same of a struct, as of any pointer that leads to it.
+#[inline(always)]
+#[cycle(copy)]
+fn copy_struct<S: ReaderSegments, T: BlockItem>(
+    segments: &S,
+    found: &NearStruct<'_>,
+    level: u32,
+    canonical: bool,
+    block: &mut [T],
+    behind: usize,
+    next: usize,
+) -> Copied
+    requires deep { 0 < level }
+    requires there { let m = message_of (S.segments segments.now) in (place : Place)
+        × CanCopy m (place ∷ []) level canonical next (length (T.as_words block.old))
+        × IsObject m place (struct_of found.now) }
+    requires behind { behind ≤ next }
+    requires small { length (T.as_words block.old) < 2 ^ 29 }
+    ensures copied { let m = message_of (S.segments segments.now) in (place : Place) →
+        CanCopy m (place ∷ []) level canonical next (length (T.as_words block.old)) →
+        IsObject m place (struct_of found.now) → (trees : Trees) (charge : ℕ) →
+        At m (place ∷ []) trees charge →
+        IsCopied (formed canonical trees) (next - behind) next
+        (T.as_words block.old) (T.as_words block.new) result }
+    ensures len { length (T.as_words block.new) ≡ length (T.as_words block.old) }
+{
+    let size = found.formed(canonical);
+    let data_words = size.data_words as usize;
+    put_words(block, next, found.segment, found.start.word, data_words);
+    let kept = size.pointers as u32;
+    let from = PointerRows::new(found.start, found.size.row_size(), kept, 1);
+    let begin = Place {
+        segment: 0,
+        word: next,
+    };
+    let to = PointerRows::new(begin, size.row_size(), kept, 1);
+    let free = next + size.words() as usize;
+    Copied {
+        pointer: struct_pointer_word(size, (next - behind) as u64),
+        next: if from.is_empty() {
+            free
+        } else {
+            copy_rows(
+                segments,
+                found.segment,
+                from,
+                to,
+                level - 1,
+                canonical,
+                block,
+                free,
+            )
+        },
     }
 }
 

@@ -1,5 +1,5 @@
 //! Objects as they stand, or without what stands at their ends for nothing.
-ghost use Rattle.std.specs.Prelude.{◌≡◌, ◌+◌, ◌*◌, ◌/◌, ◌≤◌, length};
+ghost use Rattle.std.specs.Prelude.{◌≡◌, if◌then◌else◌, ◌+◌, ◌*◌, ◌/◌, ◌≤◌, length};
 ghost use Rattle.capnp_wire.specs.Pointer.{words_of};
 ghost use Rattle.capnp_wire.specs.Landing.{room_of, words_in};
 ghost use Rattle.capnp_wire.specs.Copy.{formed_body, least_size, IsNarrower};
@@ -19,15 +19,18 @@ pub(crate) fn formed_as(object: &Object<'_>, canonical: bool) -> Body
     ensures body { result ≡ formed_body canonical
         (words_of object.now.segment.now) object.now.start.word object.now.body }
 {
-    if !canonical {
-        return object.body;
-    }
     let start = object.start.word;
     match object.body {
-        Body::Struct(size) => Body::Struct(least(object.segment, start, size, 1)),
+        Body::Struct(size) => Body::Struct(formed_size(object.segment, start, size, 1, canonical)),
         Body::Structs(elements, words) => Body::Structs(
             Elements {
-                size: least(object.segment, start + 1, elements.size, elements.count),
+                size: formed_size(
+                    object.segment,
+                    start + 1,
+                    elements.size,
+                    elements.count,
+                    canonical,
+                ),
                 count: elements.count,
             },
             words,
@@ -36,13 +39,24 @@ pub(crate) fn formed_as(object: &Object<'_>, canonical: bool) -> Body
     }
 }
 
-// The words that some structs need which stand from a word on.
-fn least(segment: &[u8], start: usize, size: StructSize, count: u32) -> StructSize
+/// The words that some structs need which stand from a word on: in canonical form, or all.
+#[inline(always)]
+pub(crate) fn formed_size(
+    segment: &[u8],
+    start: usize,
+    size: StructSize,
+    count: u32,
+    canonical: bool,
+) -> StructSize
     requires { start + count * (size.data_words + size.pointers) ≤ length segment.now / 8 }
-    ensures size { result ≡ least_size (words_of segment.now) start size count }
+    ensures size { result ≡ (if canonical then least_size (words_of segment.now) start size count
+        else size) }
     ensures data { result.data_words ≤ size.data_words }
     ensures pointers { result.pointers ≤ size.pointers }
 {
+    if !canonical {
+        return size;
+    }
     let data_words = size.data_words as usize;
     let pointers = size.pointers as usize;
     let step = data_words + pointers;

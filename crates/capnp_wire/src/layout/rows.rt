@@ -3,6 +3,7 @@ ghost use Rattle.std.specs.Prelude.{◌≡◌, ◌≢◌, ◌↔◌, ◌+◌, �
 
 use crate::layout::object::Body;
 use crate::layout::place::Place;
+use crate::layout::pointer::StructSize;
 
 /// The words of data and of pointers in each row of an object.
 #[derive(Clone, Copy)]
@@ -29,6 +30,22 @@ pub(crate) struct PointerRows {
     ghost bound: { next.word + here + more * (gap + pointers) < 2 ^ 62 },
 }
 
+impl StructSize {
+    ghost use Rattle.capnp_wire.specs.Rows.{row_size};
+    ghost use Rattle.capnp_wire.specs.declared.layout.object.Body.{Body};
+
+    /// The size of a struct's only row.
+    #[inline(always)]
+    pub(crate) fn row_size(self) -> RowSize
+        ensures { result ≡ row_size (Body.Struct self) }
+    {
+        RowSize {
+            data_words: self.data_words,
+            pointers: self.pointers as u32,
+        }
+    }
+}
+
 impl Body {
     ghost use Rattle.capnp_wire.specs.Rows.{row_size, row_count, first_row};
 
@@ -38,10 +55,7 @@ impl Body {
         ensures { result ≡ row_size self }
     {
         match self {
-            Body::Struct(size) => RowSize {
-                data_words: size.data_words,
-                pointers: size.pointers as u32,
-            },
+            Body::Struct(size) => size.row_size(),
             Body::Numbers(_, _) => RowSize {
                 data_words: 0,
                 pointers: 0,
@@ -50,10 +64,7 @@ impl Body {
                 data_words: 0,
                 pointers: count,
             },
-            Body::Structs(elements, _) => RowSize {
-                data_words: elements.size.data_words,
-                pointers: elements.size.pointers as u32,
-            },
+            Body::Structs(elements, _) => elements.size.row_size(),
         }
     }
 
@@ -107,9 +118,9 @@ impl PointerRows {
         PointerRows::new(first, body.row_size(), kept, body.row_count())
     }
 
-    // The first `kept` pointers in each of some rows, which begin at a place.
+    /// The first `kept` pointers in each of some rows, which begin at a place.
     #[inline(always)]
-    fn new(first: Place, size: RowSize, kept: u32, rows: u32) -> PointerRows
+    pub(crate) fn new(first: Place, size: RowSize, kept: u32, rows: u32) -> PointerRows
         requires kept { kept ≤ size.pointers }
         requires bound { first.word + rows * (size.data_words + size.pointers) < 2 ^ 61 }
         ensures places { places_in result

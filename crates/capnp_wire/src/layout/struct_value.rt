@@ -44,7 +44,7 @@ pub(crate) fn measure<S: ReaderSegments>(
     };
     let mut walk = Walk::new(limit);
     walk.count(formed_as(&object, canonical).words());
-    walk.walk_pointers(segments, object.pointers(), level, canonical)?;
+    walk.walk_pointers(segments, segment, object.pointers(), level, canonical)?;
     fitting(walk.words(), canonical)
 }
 

@@ -1,17 +1,18 @@
 //! Walks over all objects that a pointer leads to.
-ghost use Rattle.std.specs.Prelude.{◌≡◌, ◌+◌, ◌-◌, ◌/◌, ◌<◌, ◌≤◌, [], ◌∷◌, length, Some, IfErr, OnOk};
+ghost use Rattle.std.specs.Prelude.{◌≡◌, ◌≢◌, ◌+◌, ◌-◌, ◌/◌, ◌<◌, ◌≤◌, [], ◌∷◌, length, slice_get, Some, IfErr, OnOk};
 ghost use Rattle.capnp_frame.specs.declared.error.ErrorKind.{ErrorKind};
 ghost use Rattle.capnp_wire.specs.Pointer.{words_of};
 ghost use Rattle.capnp_wire.specs.Object.{message_of};
-ghost use Rattle.capnp_wire.specs.Landing.{room_of, words_in};
+ghost use Rattle.capnp_wire.specs.Landing.{IsObject, room_of, words_in};
 ghost use Rattle.capnp_wire.specs.Charge.{Within, Exceeds, CountsMore, Walked, WalkedAll, less};
 ghost use Rattle.capnp_wire.specs.Faults.{StopsWalk};
 ghost use Rattle.capnp_wire.specs.Copy.{formed_body};
 ghost use Rattle.capnp_wire.specs.Rows.{places_in};
+ghost use Rattle.capnp_wire.specs.Near.{struct_of};
 
 use crate::layout::formed::formed_as;
-use crate::layout::near_list::near_list_at;
-use crate::layout::object::{Object, object_at};
+use crate::layout::near::{NearStruct, is_null, near_list, near_struct};
+use crate::layout::object::{Object, object_at, words_fit};
 use crate::layout::place::Place;
 use crate::layout::rows::PointerRows;
 use capnp_frame::message::ReaderSegments;
@@ -114,18 +115,28 @@ impl Walk {
             return Ok(());
         };
         self.enter(&object, canonical)?;
-        self.walk_pointers(segments, object.pointers(), level - 1, canonical)
+        self.walk_pointers(
+            segments,
+            object.segment,
+            object.pointers(),
+            level - 1,
+            canonical,
+        )
     }
 
-    /// The same of all objects that these pointers lead to.
+    /// The same of all objects that these pointers lead to, which stand in this segment.
     #[cycle(walk)]
     pub(crate) fn walk_pointers<S: ReaderSegments>(
         &mut self,
         segments: &S,
+        segment: &[u8],
         mut pointers: PointerRows,
         level: u32,
         canonical: bool,
     ) -> Result<()>
+        requires content { places_in pointers ≢ [] →
+            slice_get (message_of (S.segments segments.now)) pointers.next.segment
+            ≡ Some (words_of segment.now) }
         ensures found { let m = message_of (S.segments segments.now) in
             OnOk result (WalkedAll m canonical (places_in pointers) level
             self.old.left self.new.left self.old.words self.new.words) }
@@ -135,32 +146,76 @@ impl Walk {
     {
         'pointers: while !pointers.is_empty() {
             let place = pointers.take();
-            self.walk_target(segments, place, level, canonical)?;
+            self.walk_target(segments, segment, place, level, canonical)?;
         }
         Ok(())
     }
 
-    // As `walk`, of one of the pointers of an object. What most of them lead to needs no call.
+    // As `walk`, of one of the pointers in a segment. What most of them lead to needs no call.
     #[inline(always)]
     #[cycle(walk)]
     fn walk_target<S: ReaderSegments>(
         &mut self,
         segments: &S,
+        segment: &[u8],
         place: Place,
         level: u32,
         canonical: bool,
     ) -> Result<()>
+        requires content { slice_get (message_of (S.segments segments.now)) place.segment
+            ≡ Some (words_of segment.now) }
         ensures found { let m = message_of (S.segments segments.now) in
             OnOk result (Walked m canonical place level
             self.old.left self.new.left self.old.words self.new.words) }
         ensures refused { let m = message_of (S.segments segments.now) in
             IfErr result (λ error. StopsWalk m (place ∷ []) level self.old.left error.kind) }
     {
-        let Some(list) = near_list_at(segments, place, level) else {
+        if is_null(segment, place.word) {
+            return Ok(());
+        }
+        if let Some(found) = near_struct(segment, place, level) {
+            return self.walk_struct(segments, &found, level, canonical);
+        }
+        let Some(list) = near_list(segment, place, level) else {
             return self.walk(segments, place, level, canonical);
         };
         self.pay(list.charge())?;
         self.count(list.words());
         Ok(())
+    }
+
+    // The same of a struct, as of any pointer that leads to it.
+    #[inline(always)]
+    #[cycle(walk)]
+    fn walk_struct<S: ReaderSegments>(
+        &mut self,
+        segments: &S,
+        found: &NearStruct<'_>,
+        level: u32,
+        canonical: bool,
+    ) -> Result<()>
+        requires deep { 0 < level }
+        requires content { slice_get (message_of (S.segments segments.now)) found.now.start.segment
+            ≡ Some (words_of found.now.segment.now) }
+        requires room { found.now.start.word + (found.now.size.data_words + found.now.size.pointers)
+            ≤ length found.now.segment.now / 8 }
+        ensures found { let m = message_of (S.segments segments.now) in
+            (place : Place) → IsObject m place (struct_of found.now) →
+            OnOk result (Walked m canonical place level
+            self.old.left self.new.left self.old.words self.new.words) }
+        ensures refused { let m = message_of (S.segments segments.now) in
+            (place : Place) → IsObject m place (struct_of found.now) →
+            IfErr result (λ error. StopsWalk m (place ∷ []) level self.old.left error.kind) }
+    {
+        words_fit(found.segment);
+        let size = found.size;
+        self.pay(size.words())?;
+        self.count(found.formed(canonical).words());
+        let kept = size.pointers as u32;
+        let pointers = PointerRows::new(found.start, size.row_size(), kept, 1);
+        if pointers.is_empty() {
+            return Ok(());
+        }
+        self.walk_pointers(segments, found.segment, pointers, level - 1, canonical)
     }
 }

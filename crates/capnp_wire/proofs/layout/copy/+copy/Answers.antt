@@ -1,8 +1,13 @@
 -- An object is copied, and then what its pointers lead to, one after the other.
-use Rattle.std.proofs.Common.{◌≡◌, ◌∙◌, ap, sym, refl, arith, length}
+use Rattle.std.proofs.Common.{◌≡◌, ◌<◌, ◌∙◌, [], ap, sym, refl, arith, length}
+use Rattle.capnp_wire.specs.Pointer.{words_of}
+use Rattle.capnp_wire.specs.Object.{message_of}
+use Rattle.capnp_wire.specs.Rows.{kept_in, slots_of, places_in, slots_in}
+use Rattle.capnp_wire.specs.declared.layout.object.Body.TheVariants.{Struct}
 use Rattle.capnp_wire.specs.declared.layout.rows.RowSize.{RowSize}
 use Rattle.capnp_wire.proofs.CopyLemmas.{copying_begins, copying_first, copying_next, copying_ends}
 use Rattle.capnp_wire.proofs.CopiedLemmas.{opened_here, fewer_pointers, as_many, null_is_copied, object_is_copied}
+use Rattle.capnp_wire.proofs.NearLemmas.{word_there}
 use Rattle.capnp_wire.proofs.NumberCopyLemmas.{number_list_opened, number_list_copied}
 use Rattle.capnp_wire.proofs.layout.copy.+copy.Goals as goal
 
@@ -21,7 +26,28 @@ copy-copy_pointers-free-requires g t c κs within =
     let object = c.in-Some.ensures.0 in
     let o = opened_here c.requires.there object c.formed_as-copied.ensures.body in (
       omega (arith, c.in-Some.ensures.1),
-      (within.0, (within.1, (rw c.put_own_words.ensures.len o.kept, (c.formed_as-copied.ensures.narrower, (object.room, (object.elements, omega (arith, c.put_own_words.ensures.len, c.requires.small))))))),
+      (
+        within.0,
+        (
+          within.1,
+          (
+            rw c.put_own_words.ensures.len o.kept,
+            (
+              λ some. object.content,
+              (
+                c.formed_as-copied.ensures.narrower,
+                (
+                  object.room,
+                  (
+                    object.elements,
+                    omega (arith, c.put_own_words.ensures.len, c.requires.small),
+                  ),
+                ),
+              ),
+            ),
+          ),
+        ),
+      ),
     )
 
 pub copy-pointer_word-requires-clause-length : goal.copy-pointer_word-requires-clause-length
@@ -38,35 +64,62 @@ copy_pointers-of-from-requires-clause-kept g t c = rw c.row_size-kept.ensures (f
 pub copy_pointers-of-to-requires-clause-kept : goal.copy_pointers-of-to-requires-clause-kept
 copy_pointers-of-to-requires-clause-kept g t c = rw c.row_size-kept.ensures (omega arith)
 
-pub copy_pointers-pointers-init : goal.copy_pointers-pointers-init
-copy_pointers-pointers-init g t c =
+pub copy_pointers-copy_rows-requires : goal.copy_pointers-copy_rows-requires
+copy_pointers-copy_rows-requires g t c κs within =
     let from_are = rw c.row_size-kept.ensures at c.of-from.ensures.places in
-    let to_are = rw c.row_size-kept.ensures at c.of-to.ensures.places in
-    let slots_are = c.of-to.ensures.slots (ap (λ (r : RowSize). r.pointers) c.row_size-kept.ensures) in (
-      rw c.words.ensures (copying_begins from_are slots_are c.requires.there),
-      refl,
-      omega (arith, c.of-to.ensures.end, c.words.ensures),
-      ap length from_are ∙ as_many c.args.object.now.start _ c.args.object.now.body c.args.copied _ c.requires.narrower ∙ sym (ap length to_are),
+    let to_are = rw c.row_size-kept.ensures at c.of-to.ensures.places in (
+      omega arith,
+      (
+        within.0,
+        (
+          within.1,
+          (
+            rw (from_are, c.words.ensures) c.requires.there,
+            (
+              (λ some. rw c.of-from.ensures.segment (c.requires.content (rw (← from_are) some))),
+              (
+                ap length from_are ∙ as_many c.args.object.now.start _ c.args.object.now.body c.args.copied _ c.requires.narrower ∙ sym (ap length to_are),
+                (omega (arith, c.of-to.ensures.end, c.words.ensures), c.requires.small),
+              ),
+            ),
+          ),
+        ),
+      ),
     )
 
-pub copy_pointers-take-slot-requires : goal.copy_pointers-take-slot-requires
-copy_pointers-take-slot-requires g t c none = absurd (omega (arith, c.pointers.invariant.3, ap length c.take-source.ensures.taken.places_are, ap length none))
+pub copy_pointers-returns-clause-words : goal.copy_pointers-returns-clause-words
+copy_pointers-returns-clause-words g t c = λ trees charge stand.
+    let from_are = rw c.row_size-kept.ensures at c.of-from.ensures.places in
+    let slots_are = c.of-to.ensures.slots (ap (λ (r : RowSize). r.pointers) c.row_size-kept.ensures) in
+    rw (← slots_are, ← c.words.ensures) (c.copy_rows.ensures.words trees charge (rw from_are stand))
 
-pub copy_pointers-copy_target-inner-requires : goal.copy_pointers-copy_target-inner-requires
-copy_pointers-copy_target-inner-requires g t c κs within =
+pub copy_pointers-returns-clause-next : goal.copy_pointers-returns-clause-next
+copy_pointers-returns-clause-next g t c = λ trees charge stand.
+    let from_are = rw c.row_size-kept.ensures at c.of-from.ensures.places in
+    rw (← c.words.ensures) (c.copy_rows.ensures.next trees charge (rw from_are stand))
+
+pub copy_rows-pointers-init : goal.copy_rows-pointers-init
+copy_rows-pointers-init g t c = (copying_begins refl refl c.requires.there, refl, c.requires.before, c.requires.as_many, c.requires.content)
+
+pub copy_rows-take-slot-requires : goal.copy_rows-take-slot-requires
+copy_rows-take-slot-requires g t c none = absurd (omega (arith, c.pointers.invariant.3, ap length c.take-source.ensures.taken.places_are, ap length none))
+
+pub copy_rows-copy_target-inner-requires : goal.copy_rows-copy_target-inner-requires
+copy_rows-copy_target-inner-requires g t c κs within =
     let so_far = c.pointers.invariant in
     let can = copying_first c.take-source.ensures.taken.places_are so_far.0 in
     let room : length (g.T.BlockItem.as_words c.args.block.now) ≡ length (g.T.BlockItem.as_words c.pointers.block) = omega (arith, so_far.1) in
-    (omega arith, (within.0, (within.1, (rw (← room) can, (omega (arith, so_far.2, c.take-slot.ensures.within), omega (arith, so_far.1, c.requires.small))))))
+    let there = so_far.4 (λ none. absurd (omega (arith, ap length c.take-source.ensures.taken.places_are, ap length none))) in
+    (omega arith, (within.0, (within.1, (rw (← room) can, (rw c.take-source.ensures.segment there, (omega (arith, so_far.2, c.take-slot.ensures.within), omega (arith, so_far.1, c.requires.small)))))))
 
-pub copy_pointers-put_word-requires : goal.copy_pointers-put_word-requires
-copy_pointers-put_word-requires g t c =
+pub copy_rows-put_word-requires : goal.copy_rows-put_word-requires
+copy_rows-put_word-requires g t c =
     let so_far = c.pointers.invariant in
     let can = copying_first c.take-source.ensures.taken.places_are so_far.0 in
     omega (arith, so_far.1, so_far.2, can.fits, c.take-slot.ensures.within, c.copy_target-inner.ensures.len)
 
-pub copy_pointers-pointers-preserved : goal.copy_pointers-pointers-preserved
-copy_pointers-pointers-preserved g t c =
+pub copy_rows-pointers-preserved : goal.copy_rows-pointers-preserved
+copy_rows-pointers-preserved g t c =
     let so_far = c.pointers.invariant in
     let from = c.take-source.ensures.taken in
     let to = c.take-slot.ensures.taken in
@@ -76,26 +129,110 @@ copy_pointers-pointers-preserved g t c =
       c.put_word.ensures.len ∙ c.copy_target-inner.ensures.len ∙ so_far.1,
       omega (arith, so_far.2, to.same_end, done.next_is),
       omega (arith, so_far.3, ap length from.places_are, ap length to.places_are),
+      λ some. rw c.take-source.ensures.same_segment (so_far.4 (λ none. absurd (omega (arith, ap length from.places_are, ap length none)))),
     )
 
-pub copy_pointers-returns-clause-words : goal.copy_pointers-returns-clause-words
-copy_pointers-returns-clause-words g t c = λ trees charge stand. (copying_ends (c.is_empty.ensures.0 c.pointers-test.false) c.pointers.invariant.0 trees charge stand).0
+pub copy_rows-returns-clause-words : goal.copy_rows-returns-clause-words
+copy_rows-returns-clause-words g t c = λ trees charge stand. (copying_ends (c.is_empty.ensures.0 c.pointers-test.false) c.pointers.invariant.0 trees charge stand).0
 
-pub copy_pointers-returns-clause-next : goal.copy_pointers-returns-clause-next
-copy_pointers-returns-clause-next g t c = λ trees charge stand. (copying_ends (c.is_empty.ensures.0 c.pointers-test.false) c.pointers.invariant.0 trees charge stand).1
+pub copy_rows-returns-clause-next : goal.copy_rows-returns-clause-next
+copy_rows-returns-clause-next g t c = λ trees charge stand. (copying_ends (c.is_empty.ensures.0 c.pointers-test.false) c.pointers.invariant.0 trees charge stand).1
+
+pub copy_target-returns-then-is_null-clause-copied : goal.copy_target-returns-then-is_null-clause-copied
+copy_target-returns-then-is_null-clause-copied g t c = λ trees charge stand.
+    null_is_copied c.args.canonical (word_there _ c.args.place (words_of c.args.segment.now) 0 c.requires.content (c.is_null.ensures c.if-is_null.true)) stand
+
+pub copy_target-copy_struct-requires : goal.copy_target-copy_struct-requires
+copy_target-copy_struct-requires g t c κs within =
+    let is = c.in-Some.ensures _ c.requires.content in
+    (omega arith, (within.0, (within.1, (is.1, ((c.args.place, c.requires.there, is.0), (c.requires.behind, c.requires.small))))))
 
 pub copy_target-put_elements-requires : goal.copy_target-put_elements-requires
 copy_target-put_elements-requires g t c =
-    let is = c.in-Some.ensures.0 in
-    let o = number_list_opened c.in-Some.list c.requires.there is in
+    let is = (c.in-Some-near_list.ensures _ c.requires.content).0 in
+    let o = number_list_opened c.in-Some-near_list.list c.requires.there is in
     record { there = is.room; room = omega (arith, o.kept.fits); bound = c.requires.small }
 
 pub copy_target-list_word-requires : goal.copy_target-list_word-requires
 copy_target-list_word-requires g t c =
-    let o = number_list_opened c.in-Some.list c.requires.there c.in-Some.ensures.0 in
+    let o = number_list_opened c.in-Some-near_list.list c.requires.there (c.in-Some-near_list.ensures _ c.requires.content).0 in
     record { offset = omega (arith, c.requires.small, o.kept.fits); code = omega (arith, c.code.ensures.few); count = o.few }
 
 pub copy_target-returns-clause-copied : goal.copy_target-returns-clause-copied
 copy_target-returns-clause-copied g t c =
-    number_list_copied c.in-Some.list c.requires.there c.in-Some.ensures.0 refl c.put_elements.ensures.words (rw c.code.ensures.code at c.list_word.ensures)
+    number_list_copied c.in-Some-near_list.list c.requires.there (c.in-Some-near_list.ensures _ c.requires.content).0 refl c.put_elements.ensures.words (rw c.code.ensures.code at c.list_word.ensures)
     (omega (arith, c.words.ensures))
+
+pub copy_struct-put_words-requires : goal.copy_struct-put_words-requires
+copy_struct-put_words-requires g t c =
+    let is = c.requires.there.2 in
+    let o = opened_here c.requires.there.1 is c.formed-size.ensures.body in
+    record { there = omega (arith, is.room, c.formed-size.ensures.narrower.0); room = omega (arith, o.kept.fits) }
+
+pub copy_struct-new-from-requires : goal.copy_struct-new-from-requires
+copy_struct-new-from-requires g t c = rw c.row_size.ensures (record { kept = c.formed-size.ensures.narrower.1; bound = omega (arith, c.requires.there.2.room) })
+
+pub copy_struct-new-to-requires : goal.copy_struct-new-to-requires
+copy_struct-new-to-requires g t c =
+    let is = c.requires.there.2 in
+    let o = opened_here c.requires.there.1 is c.formed-size.ensures.body in
+    rw c.row_size-2.ensures (record { kept = omega arith; bound = omega (arith, o.kept.fits, c.requires.small) })
+
+pub copy_struct-struct_pointer_word-requires : goal.copy_struct-struct_pointer_word-requires
+copy_struct-struct_pointer_word-requires g t c =
+    let is = c.requires.there.2 in
+    let o = opened_here c.requires.there.1 is c.formed-size.ensures.body in
+    omega (arith, o.kept.fits, c.requires.small)
+
+pub copy_struct-copy_rows-requires : goal.copy_struct-copy_rows-requires
+copy_struct-copy_rows-requires g t c κs within =
+    let is = c.requires.there.2 in
+    let o = opened_here c.requires.there.1 is c.formed-size.ensures.body in
+    let from_are : places_in c.new-from.result ≡ kept_in c.args.found.now.start (Struct c.args.found.now.size) c.formed-size.result.pointers =
+    rw c.row_size.ensures at c.new-from.ensures.places in
+    let to_are = rw c.row_size-2.ensures at c.new-to.ensures.places in
+    let end = rw c.row_size-2.ensures at c.new-to.ensures.end in (
+      omega (arith, c.requires.deep),
+      (
+        within.0,
+        (
+          within.1,
+          (
+            rw (from_are, c.words.ensures, c.put_words.ensures.len) o.kept,
+            (
+              (λ some. rw c.new-from.ensures.segment is.content),
+              (
+                ap length from_are ∙ as_many c.args.found.now.start _ (Struct c.args.found.now.size) (Struct c.formed-size.result) _ c.formed-size.ensures.narrower ∙ sym (ap length to_are),
+                (omega (arith, end, c.words.ensures), omega (arith, c.put_words.ensures.len, c.requires.small)),
+              ),
+            ),
+          ),
+        ),
+      ),
+    )
+
+pub copy_struct-returns-then-is_empty-clause-copied : goal.copy_struct-returns-then-is_empty-clause-copied
+copy_struct-returns-then-is_empty-clause-copied g t c place can is =
+    let o = opened_here can is c.formed-size.ensures.body in
+    let from_are : places_in c.new-from.result ≡ kept_in c.args.found.now.start (Struct c.args.found.now.size) c.formed-size.result.pointers =
+    rw c.row_size.ensures at c.new-from.ensures.places in
+    object_is_copied can o refl c.put_words.ensures.words
+    (λ trees charge stand. (copying_ends (c.is_empty.ensures.0 c.if-is_empty.true) (copying_begins from_are refl o.kept) trees charge stand).0)
+    (λ trees charge stand. omega (
+      arith,
+      c.words.ensures,
+      (copying_ends (c.is_empty.ensures.0 c.if-is_empty.true) (copying_begins {slots = []} {block = []} from_are refl o.kept) trees charge stand).1,
+    ))
+    c.struct_pointer_word.ensures
+
+pub copy_struct-returns-else-is_empty-clause-copied : goal.copy_struct-returns-else-is_empty-clause-copied
+copy_struct-returns-else-is_empty-clause-copied g t c place can is =
+    let o = opened_here can is c.formed-size.ensures.body in
+    let from_are : places_in c.new-from.result ≡ kept_in c.args.found.now.start (Struct c.args.found.now.size) c.formed-size.result.pointers =
+    rw c.row_size.ensures at c.new-from.ensures.places in
+    let slots = rw c.row_size-2.ensures at c.new-to.ensures.slots in
+    let slots_are : slots_in c.new-to.result ≡ slots_of c.args.next (Struct c.formed-size.result) = slots refl in
+    object_is_copied can o refl c.put_words.ensures.words
+    (λ trees charge stand. rw (← slots_are, ← c.words.ensures) (c.copy_rows.ensures.words trees charge (rw from_are stand)))
+    (λ trees charge stand. rw (← c.words.ensures) (c.copy_rows.ensures.next trees charge (rw from_are stand)))
+    c.struct_pointer_word.ensures

@@ -6,7 +6,9 @@ use Rattle.capnp_wire.specs.Object.{message_of}
 use Rattle.capnp_wire.specs.Layout.{layout, formed}
 use Rattle.capnp_wire.specs.Values.{HasWords, IsTreeOf, fields_at}
 use Rattle.capnp_wire.proofs.WordLemmas.{length-words_of}
-use Rattle.capnp_wire.proofs.StructLemmas.{struct_opened_as, struct_written, same_struct}
+use Rattle.capnp_wire.specs.declared.layout.object.Body.TheVariants.{Struct}
+use Rattle.capnp_wire.proofs.CopiedLemmas.{fewer_pointers}
+use Rattle.capnp_wire.proofs.StructLemmas.{struct_opened_as, struct_written, same_struct, struct_held}
 use Rattle.capnp_wire.proofs.layout.struct_value.write.Goals as goal
 
 pub put_own_words-requires-clause-fits : goal.put_own_words-requires-clause-fits
@@ -47,3 +49,8 @@ put_own_words-requires-clause-bound g c = omega (arith, c.requires.words.1.few, 
 
 pub copy_pointers-requires-clause-small : goal.copy_pointers-requires-clause-small
 copy_pointers-requires-clause-small g c = omega (arith, c.requires.words.1.few, length-words_of c.args.block.now, c.put_own_words.ensures.len)
+
+pub copy_pointers-requires-clause-content : goal.copy_pointers-requires-clause-content
+copy_pointers-requires-clause-content g c =
+    struct_held (message_of (g.S.ReaderSegments.segments c.args.segments.now)) (words_of c.args.segment.now) c.args.start c.args.size _ c.requires.content
+    (fewer_pointers (Struct c.args.size) c.formed_as-copied.result c.formed_as-copied.ensures.narrower)

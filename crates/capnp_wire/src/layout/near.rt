@@ -1,0 +1,116 @@
+//! The short ways: to null, to a struct and to a list of numbers in the segment of their pointer.
+ghost use Rattle.std.specs.Prelude.{◌≡◌, ℕ, List, ◌+◌, ◌/◌, ◌<◌, ◌≤◌, length, Some, slice_get, IfSome, IsTrue};
+ghost use Rattle.capnp_wire.specs.Pointer.{words_of};
+ghost use Rattle.capnp_wire.specs.Landing.{IsObject};
+ghost use Rattle.capnp_wire.specs.Near.{object_of, struct_of};
+ghost use Rattle.capnp_wire.specs.Copy.{formed_body, IsNarrower};
+ghost use Rattle.capnp_wire.specs.declared.layout.object.Body.{Body};
+
+use crate::layout::formed::formed_size;
+use crate::layout::landing::land_near;
+use crate::layout::number_list::NumberList;
+use crate::layout::object::{fits, words_fit};
+use crate::layout::place::{Place, word};
+use crate::layout::pointer::{NearShape, PointerWord, StructSize};
+
+// Most pointers of most messages are null, or lead to structs, or to lists of numbers, which hold no
+// pointers. So a walk over many of them asks here first, of the segment that it has in hand: it then
+// needs no call for a pointer, and nothing that tells all kinds of objects apart.
+
+/// Whether a null pointer stands at a word of a segment.
+#[inline(always)]
+pub(crate) fn is_null(segment: &[u8], index: usize) -> bool
+    ensures { IsTrue result → slice_get (words_of segment.now) index ≡ Some 0 }
+{
+    match word(segment, index) {
+        Some(pointer) => pointer == 0,
+        None => false,
+    }
+}
+
+/// The list of numbers that the pointer at a place of this segment leads to without a pad, where it
+/// may be entered at this level. `None` says nothing of what stands there: `object_at` does.
+#[inline(always)]
+pub(crate) fn near_list(segment: &[u8], place: Place, level: u32) -> Option<NumberList<'_>>
+    ensures { (m : List (List ℕ)) → slice_get m place.segment ≡ Some (words_of segment.now) →
+        IfSome result (λ list. IsObject m place (object_of list) × (0 < level)) }
+{
+    let pointer = word(segment, place.word)?;
+    let PointerWord::Near(near) = PointerWord::read(pointer) else {
+        return None;
+    };
+    let NearShape::Numbers(size, count) = near.shape else {
+        return None;
+    };
+    let landing = land_near(segment, place, near, 0);
+    let start = landing.start?;
+    let bits = size.bits_of_list(count);
+    if level == 0 || !fits(segment, start, bits.div_ceil(64)) {
+        return None;
+    }
+    words_fit(segment);
+    Some(NumberList {
+        segment,
+        start: Place {
+            segment: place.segment,
+            word: start,
+        },
+        size,
+        count,
+        bits,
+    })
+}
+
+/// The same of a struct.
+#[inline(always)]
+pub(crate) fn near_struct(segment: &[u8], place: Place, level: u32) -> Option<NearStruct<'_>>
+    ensures { (m : List (List ℕ)) → slice_get m place.segment ≡ Some (words_of segment.now) →
+        IfSome result (λ found. IsObject m place (struct_of found) × (0 < level)) }
+{
+    let pointer = word(segment, place.word)?;
+    if pointer == 0 {
+        return None;
+    }
+    let PointerWord::Near(near) = PointerWord::read(pointer) else {
+        return None;
+    };
+    let NearShape::Struct(size) = near.shape else {
+        return None;
+    };
+    let landing = land_near(segment, place, near, 0);
+    let start = landing.start?;
+    if level == 0 || !fits(segment, start, size.words()) {
+        return None;
+    }
+    words_fit(segment);
+    Some(NearStruct {
+        segment,
+        start: Place {
+            segment: place.segment,
+            word: start,
+        },
+        size,
+    })
+}
+
+/// A struct.
+#[derive(Drop)]
+pub(crate) struct NearStruct<'a> {
+    pub segment: &'a [u8],
+    pub start: Place,
+    pub size: StructSize,
+}
+
+impl NearStruct<'_> {
+    /// The words of it once it is copied.
+    #[inline(always)]
+    pub(crate) fn formed(&self, canonical: bool) -> StructSize
+        requires room { self.now.start.word + (self.now.size.data_words + self.now.size.pointers)
+            ≤ length self.now.segment.now / 8 }
+        ensures body { Body.Struct result ≡ formed_body canonical
+            (words_of self.now.segment.now) self.now.start.word (Body.Struct self.now.size) }
+        ensures narrower { IsNarrower (Body.Struct self.now.size) (Body.Struct result) }
+    {
+        formed_size(self.segment, self.start.word, self.size, 1, canonical)
+    }
+}
