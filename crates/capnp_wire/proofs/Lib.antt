@@ -13,6 +13,7 @@ pub mod ViewLemmas
 pub mod FormLemmas
 pub mod FieldLemmas
 pub mod NullLemmas
+pub mod NullRunLemmas
 pub mod StandLemmas
 pub mod StopLemmas
 pub mod ProgressLemmas

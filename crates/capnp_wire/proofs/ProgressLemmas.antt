@@ -111,7 +111,7 @@ entered m c place object level limit left counted_then counted_now is deep withi
 }
 
 -- and then all below it
-walked_over : (m : List (List ℕ)) (c : Bool) (place : Place) (shape : Shape) (level : ℕ) (limit left after counted_then counted_now counted_after : Option ℕ)
+pub walked_over : (m : List (List ℕ)) (c : Bool) (place : Place) (shape : Shape) (level : ℕ) (limit left after counted_then counted_now counted_after : Option ℕ)
     → Entered m c place shape level limit left counted_then counted_now → WalkedAll m c shape.held (level - 1) left after counted_now counted_after
     → Walked m c place level limit after counted_then counted_after
 walked_over m c place shape level limit left after counted_then counted_now counted_after e w = record {

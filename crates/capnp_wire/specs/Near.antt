@@ -1,5 +1,7 @@
 -- Lists of numbers and structs as objects (src/layout/number_list.rt, src/layout/near.rt).
-use Rattle.std.specs.Prelude.{◌+◌}
+use Rattle.std.specs.Prelude.{◌≡◌, ℕ, ◌+◌, List, length}
+use Rattle.capnp_wire.specs.Pointer.{words_from}
+use Rattle.capnp_wire.specs.Trim.{cut_zeros}
 use Rattle.capnp_wire.specs.Landing.{charge_of}
 use Rattle.capnp_wire.specs.declared.layout.number_list.NumberList.{NumberList}
 use Rattle.capnp_wire.specs.declared.layout.near.NearStruct.{NearStruct}
@@ -22,3 +24,7 @@ struct_of found = record {
   body = Struct found.size;
   charge = found.size.data_words + found.size.pointers;
 }
+
+-- so many pointers are null, from a word on
+abbrev pub AreNull : List ℕ → ℕ → ℕ → Type 0
+AreNull words start n = length (cut_zeros (words_from words start n)) ≡ 0

@@ -137,6 +137,7 @@ pub(crate) fn put_elements<T: BlockItem>(block: &mut [T], at: usize, list: &Numb
 }
 
 /// How many of some words there are up to the last one that isn't zero.
+#[inline(always)]
 pub(crate) fn used(segment: &[u8], start: usize, count: usize) -> usize
     requires { start + count ≤ length segment.now / 8 }
     ensures { result ≡ length (cut_zeros (words_from (words_of segment.now) start count)) }

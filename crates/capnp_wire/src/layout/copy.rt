@@ -1,24 +1,23 @@
 //! Copies of objects, laid out one behind the other in one block of words.
-ghost use Rattle.std.specs.Prelude.{◌≡◌, ◌≢◌, ◌+◌, ◌-◌, ◌*◌, ◌/◌, ◌^◌, ◌<◌, ◌≤◌, ℕ, [], ◌∷◌, length, slice_get, Some, MatchOption};
+ghost use Rattle.std.specs.Prelude.{◌≡◌, ◌≢◌, ◌+◌, ◌-◌, ◌/◌, ◌^◌, ◌<◌, ◌≤◌, ℕ, [], ◌∷◌, length, slice_get, Some, MatchOption};
 ghost use Rattle.capnp_wire.specs.Pointer.{words_of};
 ghost use Rattle.capnp_wire.specs.Tree.{Trees, depth, total_words};
-ghost use Rattle.capnp_wire.specs.Object.{message_of, word_at, rows_from};
+ghost use Rattle.capnp_wire.specs.Object.{message_of, word_at, places};
 ghost use Rattle.capnp_wire.specs.Landing.{IsObject, room_of, words_in};
 ghost use Rattle.capnp_wire.specs.Reached.{At};
-ghost use Rattle.capnp_wire.specs.Layout.{formed};
-ghost use Rattle.capnp_wire.specs.Block.{put_rows, fill};
+ghost use Rattle.capnp_wire.specs.Layout.{formed, run};
+ghost use Rattle.capnp_wire.specs.Block.{fill};
 ghost use Rattle.capnp_wire.specs.Near.{struct_of};
 ghost use Rattle.capnp_wire.specs.Rows.{row_size, kept_in, slots_of, places_in, slots_in, end_of};
-ghost use Rattle.capnp_wire.specs.Copy.{CanCopy, IsCopied, formed_body, put_own, element_count, IsNarrower};
+ghost use Rattle.capnp_wire.specs.Copy.{CanCopy, IsCopied, formed_body, IsNarrower};
 
 use crate::layout::block::{BlockItem, put_elements, put_word, put_words};
 use crate::layout::formed::formed_as;
 use crate::layout::near::{NearStruct, is_null, near_list, near_struct};
-use crate::layout::number_list::NumberList;
 use crate::layout::object::{Body, Object, object_at};
+use crate::layout::own_words::put_own_words;
 use crate::layout::place::Place;
-use crate::layout::pointer::Elements;
-use crate::layout::pointer_word::{list_word, pointer_word, struct_pointer_word, struct_word};
+use crate::layout::pointer_word::{list_word, pointer_word, struct_pointer_word};
 use crate::layout::rows::PointerRows;
 use capnp_frame::message::ReaderSegments;
 
@@ -119,6 +118,7 @@ pub(crate) fn copy_pointers<S: ReaderSegments, T: BlockItem>(
 
 // Copies what these pointers of a segment lead to, one behind the other from the word `next` on, and
 // puts the pointers to these copies where `to` says. Answers the first free word.
+#[inline(always)]
 #[cycle(copy)]
 fn copy_rows<S: ReaderSegments, T: BlockItem>(
     segments: &S,
@@ -235,33 +235,72 @@ fn copy_struct<S: ReaderSegments, T: BlockItem>(
     ensures len { length (T.as_words block.new) ≡ length (T.as_words block.old) }
 {
     let size = found.formed(canonical);
+    let words = size.words() as usize;
+    let pointer = struct_pointer_word(size, (next - behind) as u64);
+    if found.holds_nulls(size.pointers) {
+        put_words(block, next, found.segment, found.start.word, words);
+        return Copied {
+            pointer,
+            next: next + words,
+        };
+    }
     let data_words = size.data_words as usize;
     put_words(block, next, found.segment, found.start.word, data_words);
-    let kept = size.pointers as u32;
-    let from = PointerRows::new(found.start, found.size.row_size(), kept, 1);
+    let free = copy_run(
+        segments,
+        found.segment,
+        found.first_pointer(),
+        size.pointers as u32,
+        level - 1,
+        canonical,
+        block,
+        next + data_words,
+        next + words,
+    );
+    Copied {
+        pointer,
+        next: free,
+    }
+}
+
+// As `copy_rows`, of so many pointers that stand one behind the other, as their copies do. All that
+// it is told fits registers.
+#[cycle(copy)]
+fn copy_run<S: ReaderSegments, T: BlockItem>(
+    segments: &S,
+    segment: &[u8],
+    first: Place,
+    count: u32,
+    level: u32,
+    canonical: bool,
+    block: &mut [T],
+    slot: usize,
+    next: usize,
+) -> usize
+    requires bound { first.word + count < 2 ^ 61 }
+    requires there { CanCopy (message_of (S.segments segments.now))
+        (places first.segment first.word count) level canonical
+        next (length (T.as_words block.old)) }
+    requires content { slice_get (message_of (S.segments segments.now)) first.segment
+        ≡ Some (words_of segment.now) }
+    requires before { slot + count ≤ next }
+    requires small { length (T.as_words block.old) < 2 ^ 29 }
+    ensures words { let m = message_of (S.segments segments.now) in (trees : Trees) (charge : ℕ) →
+        At m (places first.segment first.word count) trees charge →
+        T.as_words block.new ≡ fill (run slot count) next (formed canonical trees)
+        (T.as_words block.old) }
+    ensures next { let m = message_of (S.segments segments.now) in (trees : Trees) (charge : ℕ) →
+        At m (places first.segment first.word count) trees charge →
+        result ≡ next + total_words (formed canonical trees) }
+    ensures len { length (T.as_words block.new) ≡ length (T.as_words block.old) }
+{
+    let from = PointerRows::run(first, count);
     let begin = Place {
         segment: 0,
-        word: next,
+        word: slot,
     };
-    let to = PointerRows::new(begin, size.row_size(), kept, 1);
-    let free = next + size.words() as usize;
-    Copied {
-        pointer: struct_pointer_word(size, (next - behind) as u64),
-        next: if from.is_empty() {
-            free
-        } else {
-            copy_rows(
-                segments,
-                found.segment,
-                from,
-                to,
-                level - 1,
-                canonical,
-                block,
-                free,
-            )
-        },
-    }
+    let to = PointerRows::run(begin, count);
+    copy_rows(segments, segment, from, to, level, canonical, block, next)
 }
 
 // The object that the pointer at a place leads to, where a tree stands there; `None` for null.
@@ -277,98 +316,5 @@ fn object_there<S: ReaderSegments>(segments: &S, place: Place, level: u32) -> Op
     match object_at(segments, place, level) {
         Ok(found) => found,
         Err(_) => None,
-    }
-}
-
-/// Puts the words of a copy into a block, but for its pointers.
-#[inline(always)]
-pub(crate) fn put_own_words<T: BlockItem>(
-    object: &Object<'_>,
-    copied: Body,
-    block: &mut [T],
-    next: usize,
-)
-    requires room { object.now.start.word + room_of object.now.body
-        ≤ length object.now.segment.now / 8 }
-    requires elements { words_in object.now.body ≤ room_of object.now.body }
-    requires narrower { IsNarrower object.now.body copied }
-    requires many { element_count copied < 2 ^ 30 }
-    requires fits { next + words_in copied ≤ length (T.as_words block.old) }
-    requires bound { length (T.as_words block.old) < 2 ^ 29 }
-    ensures words { T.as_words block.new
-        ≡ put_own (words_of object.now.segment.now) object.now.start.word object.now.body copied
-        next (T.as_words block.old) }
-    ensures len { length (T.as_words block.new) ≡ length (T.as_words block.old) }
-{
-    let start = object.start.word;
-    match copied {
-        Body::Struct(size) => put_words(
-            block,
-            next,
-            object.segment,
-            start,
-            size.data_words as usize,
-        ),
-        Body::Numbers(size, count) => {
-            let list = NumberList {
-                segment: object.segment,
-                start: object.start,
-                size,
-                count,
-                bits: size.bits_of_list(count),
-            };
-            put_elements(block, next, &list);
-        }
-        Body::Pointers(_) => {}
-        Body::Structs(elements, _) => {
-            put_word(
-                block,
-                next,
-                struct_word(elements.count as u64, elements.size),
-            );
-            if let Body::Structs(from, _) = object.body {
-                put_rows(
-                    block,
-                    next + 1,
-                    elements,
-                    object.segment,
-                    start + 1,
-                    from.size.words() as usize,
-                );
-            }
-        }
-    }
-}
-
-// Puts the data of structs into a block, each before the room for its pointers.
-fn put_rows<T: BlockItem>(
-    block: &mut [T],
-    next: usize,
-    elements: Elements,
-    segment: &[u8],
-    start: usize,
-    step: usize,
-)
-    requires inside { elements.size.data_words ≤ step }
-    requires small { step < 2 ^ 32 }
-    requires there { start + elements.count * step ≤ length segment.now / 8 }
-    requires room { next + elements.count * (elements.size.data_words + elements.size.pointers)
-        ≤ length (T.as_words block.old) }
-    requires bound { length (T.as_words block.old) < 2 ^ 29 }
-    ensures words { T.as_words block.new ≡ put_rows next elements.size.pointers
-        (rows_from (words_of segment.now) start elements.size.data_words
-        (step - elements.size.data_words) elements.count) (T.as_words block.old) }
-    ensures len { length (T.as_words block.new) ≡ length (T.as_words block.old) }
-{
-    let data_words = elements.size.data_words as usize;
-    if data_words == 0 {
-        return;
-    }
-    let mut from = start;
-    let mut to = next;
-    'rows: for _row in 0..elements.count {
-        put_words(block, to, segment, from, data_words);
-        from += step;
-        to += elements.size.words() as usize;
     }
 }

@@ -1,11 +1,12 @@
 //! The short ways: to null, to a struct and to a list of numbers in the segment of their pointer.
-ghost use Rattle.std.specs.Prelude.{◌≡◌, ℕ, List, ◌+◌, ◌/◌, ◌<◌, ◌≤◌, length, Some, slice_get, IfSome, IsTrue};
+ghost use Rattle.std.specs.Prelude.{◌≡◌, ◌↔◌, ℕ, List, ◌+◌, ◌/◌, ◌<◌, ◌≤◌, length, Some, slice_get, IfSome, IsTrue};
 ghost use Rattle.capnp_wire.specs.Pointer.{words_of};
 ghost use Rattle.capnp_wire.specs.Landing.{IsObject};
-ghost use Rattle.capnp_wire.specs.Near.{object_of, struct_of};
+ghost use Rattle.capnp_wire.specs.Near.{AreNull, object_of, struct_of};
 ghost use Rattle.capnp_wire.specs.Copy.{formed_body, IsNarrower};
 ghost use Rattle.capnp_wire.specs.declared.layout.object.Body.{Body};
 
+use crate::layout::block::used;
 use crate::layout::formed::formed_size;
 use crate::layout::landing::land_near;
 use crate::layout::number_list::NumberList;
@@ -112,5 +113,33 @@ impl NearStruct<'_> {
         ensures narrower { IsNarrower (Body.Struct self.now.size) (Body.Struct result) }
     {
         formed_size(self.segment, self.start.word, self.size, 1, canonical)
+    }
+
+    /// Where the first of its pointers stands, if it has one.
+    #[inline(always)]
+    pub(crate) fn first_pointer(&self) -> Place
+        requires room { self.now.start.word + (self.now.size.data_words + self.now.size.pointers)
+            ≤ length self.now.segment.now / 8 }
+        ensures word { result.word ≡ self.now.start.word + self.now.size.data_words }
+        ensures segment { result.segment ≡ self.now.start.segment }
+    {
+        words_fit(self.segment);
+        Place {
+            segment: self.start.segment,
+            word: self.start.word + self.size.data_words as usize,
+        }
+    }
+
+    /// Whether its first pointers are null, so many of them.
+    #[inline(always)]
+    pub(crate) fn holds_nulls(&self, count: u16) -> bool
+        requires room { self.now.start.word + (self.now.size.data_words + self.now.size.pointers)
+            ≤ length self.now.segment.now / 8 }
+        requires held { count ≤ self.now.size.pointers }
+        ensures { IsTrue result ↔ AreNull (words_of self.now.segment.now)
+            (self.now.start.word + self.now.size.data_words) count }
+    {
+        let first = self.first_pointer().word;
+        used(self.segment, first, count as usize) == 0
     }
 }

@@ -98,6 +98,8 @@ impl Body {
 
 impl PointerRows {
     ghost use Rattle.capnp_wire.specs.Landing.{words_in};
+    ghost use Rattle.capnp_wire.specs.Object.{places};
+    ghost use Rattle.capnp_wire.specs.Layout.{run};
     ghost use Rattle.capnp_wire.specs.Rows.{row_size, kept_places, row_slots, kept_in, slots_of, places_in, slots_in, end_of, Takes};
 
     /// The first `kept` pointers in each row of an object that begins at a place.
@@ -149,6 +151,24 @@ impl PointerRows {
             gap: data_words + (size.pointers - kept) as usize,
             pointers: kept,
             more: rows - 1,
+        }
+    }
+
+    /// So many pointers, one behind the other.
+    #[inline(always)]
+    pub(crate) fn run(first: Place, count: u32) -> PointerRows
+        requires bound { first.word + count < 2 ^ 61 }
+        ensures places { places_in result ≡ places first.segment first.word count }
+        ensures slots { slots_in result ≡ run first.word count }
+        ensures end { end_of result ≡ first.word + count }
+        ensures segment { result.next.segment ≡ first.segment }
+    {
+        PointerRows {
+            next: first,
+            here: count,
+            gap: 0,
+            pointers: 0,
+            more: 0,
         }
     }
 

@@ -1,8 +1,8 @@
 //! Walks over all objects that a pointer leads to.
-ghost use Rattle.std.specs.Prelude.{◌≡◌, ◌≢◌, ◌+◌, ◌-◌, ◌/◌, ◌<◌, ◌≤◌, [], ◌∷◌, length, slice_get, Some, IfErr, OnOk};
+ghost use Rattle.std.specs.Prelude.{◌≡◌, ◌≢◌, ◌+◌, ◌-◌, ◌/◌, ◌^◌, ◌<◌, ◌≤◌, [], ◌∷◌, length, slice_get, Some, IfErr, OnOk};
 ghost use Rattle.capnp_frame.specs.declared.error.ErrorKind.{ErrorKind};
 ghost use Rattle.capnp_wire.specs.Pointer.{words_of};
-ghost use Rattle.capnp_wire.specs.Object.{message_of};
+ghost use Rattle.capnp_wire.specs.Object.{message_of, places};
 ghost use Rattle.capnp_wire.specs.Landing.{IsObject, room_of, words_in};
 ghost use Rattle.capnp_wire.specs.Charge.{Within, Exceeds, CountsMore, Walked, WalkedAll, less};
 ghost use Rattle.capnp_wire.specs.Faults.{StopsWalk};
@@ -125,6 +125,7 @@ impl Walk {
     }
 
     /// The same of all objects that these pointers lead to, which stand in this segment.
+    #[inline(always)]
     #[cycle(walk)]
     pub(crate) fn walk_pointers<S: ReaderSegments>(
         &mut self,
@@ -208,14 +209,39 @@ impl Walk {
             IfErr result (λ error. StopsWalk m (place ∷ []) level self.old.left error.kind) }
     {
         words_fit(found.segment);
-        let size = found.size;
-        self.pay(size.words())?;
+        self.pay(found.size.words())?;
         self.count(found.formed(canonical).words());
-        let kept = size.pointers as u32;
-        let pointers = PointerRows::new(found.start, size.row_size(), kept, 1);
-        if pointers.is_empty() {
+        let count = found.size.pointers;
+        if found.holds_nulls(count) {
             return Ok(());
         }
-        self.walk_pointers(segments, found.segment, pointers, level - 1, canonical)
+        let first = found.first_pointer();
+        self.walk_run(segments, found.segment, first, count as u32, level - 1, canonical)
+    }
+
+    // As `walk_pointers`, of so many pointers that stand one behind the other. All that it is told
+    // fits registers.
+    #[cycle(walk)]
+    fn walk_run<S: ReaderSegments>(
+        &mut self,
+        segments: &S,
+        segment: &[u8],
+        first: Place,
+        count: u32,
+        level: u32,
+        canonical: bool,
+    ) -> Result<()>
+        requires bound { first.word + count < 2 ^ 61 }
+        requires content { slice_get (message_of (S.segments segments.now)) first.segment
+            ≡ Some (words_of segment.now) }
+        ensures found { let m = message_of (S.segments segments.now) in
+            OnOk result (WalkedAll m canonical (places first.segment first.word count) level
+            self.old.left self.new.left self.old.words self.new.words) }
+        ensures refused { let m = message_of (S.segments segments.now) in
+            IfErr result (λ error. StopsWalk m (places first.segment first.word count) level
+            self.old.left error.kind) }
+    {
+        let pointers = PointerRows::run(first, count);
+        self.walk_pointers(segments, segment, pointers, level, canonical)
     }
 }

@@ -1,13 +1,17 @@
 -- An object is copied, and then what its pointers lead to, one after the other.
-use Rattle.std.proofs.Common.{◌≡◌, ◌<◌, ◌∙◌, [], ap, sym, refl, arith, length}
+use Rattle.std.proofs.Common.{◌≡◌, ◌+◌, ◌<◌, ◌∙◌, ap, sym, refl, arith, length}
 use Rattle.capnp_wire.specs.Pointer.{words_of}
-use Rattle.capnp_wire.specs.Object.{message_of}
+use Rattle.capnp_wire.specs.Object.{message_of, places}
+use Rattle.capnp_wire.specs.Layout.{run}
 use Rattle.capnp_wire.specs.Rows.{kept_in, slots_of, places_in, slots_in}
 use Rattle.capnp_wire.specs.declared.layout.object.Body.TheVariants.{Struct}
 use Rattle.capnp_wire.specs.declared.layout.rows.RowSize.{RowSize}
 use Rattle.capnp_wire.proofs.CopyLemmas.{copying_begins, copying_first, copying_next, copying_ends}
 use Rattle.capnp_wire.proofs.CopiedLemmas.{opened_here, fewer_pointers, as_many, null_is_copied, object_is_copied}
+use Rattle.capnp_wire.proofs.FieldLemmas.{length-places}
 use Rattle.capnp_wire.proofs.NearLemmas.{word_there}
+use Rattle.capnp_wire.proofs.NullRunLemmas.{struct_of_nulls}
+use Rattle.std.proofs.lemmas.List.{append-nil}
 use Rattle.capnp_wire.proofs.NumberCopyLemmas.{number_list_opened, number_list_copied}
 use Rattle.capnp_wire.proofs.layout.copy.+copy.Goals as goal
 
@@ -163,47 +167,80 @@ copy_target-returns-clause-copied g t c =
     number_list_copied c.in-Some-near_list.list c.requires.there (c.in-Some-near_list.ensures _ c.requires.content).0 refl c.put_elements.ensures.words (rw c.code.ensures.code at c.list_word.ensures)
     (omega (arith, c.words.ensures))
 
-pub copy_struct-put_words-requires : goal.copy_struct-put_words-requires
-copy_struct-put_words-requires g t c =
-    let is = c.requires.there.2 in
-    let o = opened_here c.requires.there.1 is c.formed-size.ensures.body in
-    record { there = omega (arith, is.room, c.formed-size.ensures.narrower.0); room = omega (arith, o.kept.fits) }
-
-pub copy_struct-new-from-requires : goal.copy_struct-new-from-requires
-copy_struct-new-from-requires g t c = rw c.row_size.ensures (record { kept = c.formed-size.ensures.narrower.1; bound = omega (arith, c.requires.there.2.room) })
-
-pub copy_struct-new-to-requires : goal.copy_struct-new-to-requires
-copy_struct-new-to-requires g t c =
-    let is = c.requires.there.2 in
-    let o = opened_here c.requires.there.1 is c.formed-size.ensures.body in
-    rw c.row_size-2.ensures (record { kept = omega arith; bound = omega (arith, o.kept.fits, c.requires.small) })
-
-pub copy_struct-struct_pointer_word-requires : goal.copy_struct-struct_pointer_word-requires
-copy_struct-struct_pointer_word-requires g t c =
+pub copy_struct-struct_pointer_word-pointer-requires : goal.copy_struct-struct_pointer_word-pointer-requires
+copy_struct-struct_pointer_word-pointer-requires g t c =
     let is = c.requires.there.2 in
     let o = opened_here c.requires.there.1 is c.formed-size.ensures.body in
     omega (arith, o.kept.fits, c.requires.small)
 
-pub copy_struct-copy_rows-requires : goal.copy_struct-copy_rows-requires
-copy_struct-copy_rows-requires g t c κs within =
+pub copy_struct-put_words-requires : goal.copy_struct-put_words-requires
+copy_struct-put_words-requires g t c =
     let is = c.requires.there.2 in
     let o = opened_here c.requires.there.1 is c.formed-size.ensures.body in
-    let from_are : places_in c.new-from.result ≡ kept_in c.args.found.now.start (Struct c.args.found.now.size) c.formed-size.result.pointers =
-    rw c.row_size.ensures at c.new-from.ensures.places in
-    let to_are = rw c.row_size-2.ensures at c.new-to.ensures.places in
-    let end = rw c.row_size-2.ensures at c.new-to.ensures.end in (
+    record { there = omega (arith, is.room, c.words-words.ensures, c.formed-size.ensures.narrower.0, c.formed-size.ensures.narrower.1); room = omega (arith, o.kept.fits, c.words-words.ensures) }
+
+pub copy_struct-returns-then-holds_nulls-clause-copied : goal.copy_struct-returns-then-holds_nulls-clause-copied
+copy_struct-returns-then-holds_nulls-clause-copied g t c place can is =
+    struct_of_nulls can is c.formed-size.ensures.body c.formed-size.ensures.narrower.0 c.formed-size.ensures.narrower.1 (c.holds_nulls.ensures.0 c.if-holds_nulls.true) refl
+    (rw c.words-words.ensures at c.put_words.ensures.words) c.struct_pointer_word-pointer.ensures (omega (arith, c.words-words.ensures))
+
+pub copy_struct-put_words-requires-2 : goal.copy_struct-put_words-requires-2
+copy_struct-put_words-requires-2 g t c =
+    let is = c.requires.there.2 in
+    let o = opened_here c.requires.there.1 is c.formed-size.ensures.body in
+    record { there = omega (arith, is.room, c.formed-size.ensures.narrower.0); room = omega (arith, o.kept.fits) }
+
+pub copy_struct-copy_run-free-requires : goal.copy_struct-copy_run-free-requires
+copy_struct-copy_run-free-requires g t c κs within =
+    let is = c.requires.there.2 in
+    let o = opened_here c.requires.there.1 is c.formed-size.ensures.body in
+    let first = c.first_pointer.ensures in (
       omega (arith, c.requires.deep),
       (
         within.0,
         (
           within.1,
           (
-            rw (from_are, c.words.ensures, c.put_words.ensures.len) o.kept,
+            omega (arith, first.word, is.room, c.formed-size.ensures.narrower.1),
             (
-              (λ some. rw c.new-from.ensures.segment is.content),
+              rw (first.segment, first.word, c.words-words.ensures, c.put_words-2.ensures.len, ← append-nil (places c.args.found.now.start.segment (c.args.found.now.start.word + c.args.found.now.size.data_words) c.formed-size.result.pointers)) o.kept,
+              (rw first.segment is.content, (omega (arith, c.words-words.ensures), omega (arith, c.put_words-2.ensures.len, c.requires.small))),
+            ),
+          ),
+        ),
+      ),
+    )
+
+pub copy_struct-returns-clause-copied : goal.copy_struct-returns-clause-copied
+copy_struct-returns-clause-copied g t c place can is =
+    let o = opened_here can is c.formed-size.ensures.body in
+    let first = c.first_pointer.ensures in
+    let from_are : places c.first_pointer.result.segment c.first_pointer.result.word c.formed-size.result.pointers
+        ≡ kept_in c.args.found.now.start (Struct c.args.found.now.size) c.formed-size.result.pointers =
+    rw (first.segment, first.word) (sym (append-nil (places c.args.found.now.start.segment (c.args.found.now.start.word + c.args.found.now.size.data_words) c.formed-size.result.pointers))) in
+    let slots_are : run (c.args.next + c.formed-size.result.data_words) c.formed-size.result.pointers ≡ slots_of c.args.next (Struct c.formed-size.result) =
+    sym (append-nil (run (c.args.next + c.formed-size.result.data_words) c.formed-size.result.pointers)) in
+    object_is_copied can o refl c.put_words-2.ensures.words
+    (λ trees charge stand. rw (← slots_are, ← c.words-words.ensures) (c.copy_run-free.ensures.words trees charge (rw from_are stand)))
+    (λ trees charge stand. rw (← c.words-words.ensures) (c.copy_run-free.ensures.next trees charge (rw from_are stand)))
+    c.struct_pointer_word-pointer.ensures
+
+pub copy_run-copy_rows-requires : goal.copy_run-copy_rows-requires
+copy_run-copy_rows-requires g t c κs within =
+    let from_are = c.run-from.ensures.places in
+    let to_are = c.run-to.ensures.places in (
+      omega arith,
+      (
+        within.0,
+        (
+          within.1,
+          (
+            rw from_are c.requires.there,
+            (
+              (λ some. rw c.run-from.ensures.segment c.requires.content),
               (
-                ap length from_are ∙ as_many c.args.found.now.start _ (Struct c.args.found.now.size) (Struct c.formed-size.result) _ c.formed-size.ensures.narrower ∙ sym (ap length to_are),
-                (omega (arith, end, c.words.ensures), omega (arith, c.put_words.ensures.len, c.requires.small)),
+                ap length from_are ∙ sym (length-places c.args.first.segment c.args.first.word c.args.count) ∙ length-places 0 c.args.slot c.args.count ∙ sym (ap length to_are),
+                (omega (arith, c.run-to.ensures.end, c.requires.before), c.requires.small),
               ),
             ),
           ),
@@ -211,28 +248,8 @@ copy_struct-copy_rows-requires g t c κs within =
       ),
     )
 
-pub copy_struct-returns-then-is_empty-clause-copied : goal.copy_struct-returns-then-is_empty-clause-copied
-copy_struct-returns-then-is_empty-clause-copied g t c place can is =
-    let o = opened_here can is c.formed-size.ensures.body in
-    let from_are : places_in c.new-from.result ≡ kept_in c.args.found.now.start (Struct c.args.found.now.size) c.formed-size.result.pointers =
-    rw c.row_size.ensures at c.new-from.ensures.places in
-    object_is_copied can o refl c.put_words.ensures.words
-    (λ trees charge stand. (copying_ends (c.is_empty.ensures.0 c.if-is_empty.true) (copying_begins from_are refl o.kept) trees charge stand).0)
-    (λ trees charge stand. omega (
-      arith,
-      c.words.ensures,
-      (copying_ends (c.is_empty.ensures.0 c.if-is_empty.true) (copying_begins {slots = []} {block = []} from_are refl o.kept) trees charge stand).1,
-    ))
-    c.struct_pointer_word.ensures
+pub copy_run-returns-clause-words : goal.copy_run-returns-clause-words
+copy_run-returns-clause-words g t c = λ trees charge stand. rw (← c.run-to.ensures.slots) (c.copy_rows.ensures.words trees charge (rw c.run-from.ensures.places stand))
 
-pub copy_struct-returns-else-is_empty-clause-copied : goal.copy_struct-returns-else-is_empty-clause-copied
-copy_struct-returns-else-is_empty-clause-copied g t c place can is =
-    let o = opened_here can is c.formed-size.ensures.body in
-    let from_are : places_in c.new-from.result ≡ kept_in c.args.found.now.start (Struct c.args.found.now.size) c.formed-size.result.pointers =
-    rw c.row_size.ensures at c.new-from.ensures.places in
-    let slots = rw c.row_size-2.ensures at c.new-to.ensures.slots in
-    let slots_are : slots_in c.new-to.result ≡ slots_of c.args.next (Struct c.formed-size.result) = slots refl in
-    object_is_copied can o refl c.put_words.ensures.words
-    (λ trees charge stand. rw (← slots_are, ← c.words.ensures) (c.copy_rows.ensures.words trees charge (rw from_are stand)))
-    (λ trees charge stand. rw (← c.words.ensures) (c.copy_rows.ensures.next trees charge (rw from_are stand)))
-    c.struct_pointer_word.ensures
+pub copy_run-returns-clause-next : goal.copy_run-returns-clause-next
+copy_run-returns-clause-next g t c = λ trees charge stand. c.copy_rows.ensures.next trees charge (rw c.run-from.ensures.places stand)

@@ -18,6 +18,9 @@ decreases-copy_pointers g l = 5 * l.level + 3
 abbrev pub decreases-copy_rows : goal.decreases-copy_rows
 decreases-copy_rows g l = 5 * l.level + 2
 
+abbrev pub decreases-copy_run : goal.decreases-copy_run
+decreases-copy_run g l = 5 * l.level + 3
+
 abbrev pub decreases-copy_target : goal.decreases-copy_target
 decreases-copy_target g l = 5 * l.level + 1
 

@@ -1,15 +1,15 @@
 -- A walk meets an object, and then goes over its pointers.
-use Rattle.std.proofs.Common.{◌∙◌, length, ap, sym, arith}
+use Rattle.std.proofs.Common.{◌≡◌, ◌∙◌, ◌+◌, length, ap, refl, arith}
 use Rattle.capnp_wire.specs.Pointer.{words_of}
-use Rattle.capnp_wire.specs.Object.{message_of, is_null as null_there}
+use Rattle.capnp_wire.specs.Object.{message_of, places, is_null as null_there}
 use Rattle.capnp_wire.proofs.NearLemmas.{word_there, number_list_walked, struct_entered}
 use Rattle.capnp_wire.specs.Rows.{places_in}
 use Rattle.capnp_wire.specs.Faults.{at_pointer}
-use Rattle.capnp_wire.specs.declared.layout.object.Body.TheVariants.{Struct}
-use Rattle.capnp_wire.proofs.PointerRowLemmas.{kept_held}
+use Rattle.capnp_wire.proofs.NullRunLemmas.{nulls_walked}
+use Rattle.capnp_wire.proofs.WordLemmas.{length-words_of}
 use Rattle.capnp_wire.proofs.PadLemmas.{passed_on}
 use Rattle.capnp_wire.proofs.StopLemmas.{exceeds_stops}
-use Rattle.capnp_wire.proofs.ProgressLemmas.{progress_begins, progress_next, progress_stops, progress_done, walked_null, entered, walked_alone, walk_goes_on, walk_stops}
+use Rattle.capnp_wire.proofs.ProgressLemmas.{progress_begins, progress_next, progress_stops, progress_done, walked_null, entered, walk_goes_on, walk_stops}
 use Rattle.capnp_wire.proofs.layout.walk.Walk.+walk.Goals as goal
 
 pub walk-returns-in_err-object-clause-refused : goal.walk-returns-in_err-object-clause-refused
@@ -49,33 +49,45 @@ walk_struct-returns-in_err-pay-clause-refused g t c place is =
     let refused = rw c.words.ensures at c.in_err-pay.ensures.refused in
     passed_on _ _ c.from_residual.ensures.1 (exceeds_stops _ place _ c.args.level _ _ is.object c.requires.deep refused.0 refused.1)
 
-pub walk_struct-new-pointers-requires : goal.walk_struct-new-pointers-requires
-walk_struct-new-pointers-requires g t c = rw c.row_size.ensures (record { kept = omega arith; bound = omega (arith, c.requires.room) })
-
-pub walk_struct-returns-then-is_empty-clause-found : goal.walk_struct-returns-then-is_empty-clause-found
-walk_struct-returns-then-is_empty-clause-found g t c place is =
+pub walk_struct-returns-then-holds_nulls-clause-found : goal.walk_struct-returns-then-holds_nulls-clause-found
+walk_struct-returns-then-holds_nulls-clause-found g t c place is =
     let here = struct_entered is c.requires.deep c.words.ensures c.words-2.ensures c.formed.ensures.body c.in_ok-pay.ensures.within (c.count.ensures.left ∙ c.in_ok-pay.ensures.left)
     (rw c.in_ok-pay.ensures.words at c.count.ensures.words) in
-    let all = rw c.row_size.ensures at c.new-pointers.ensures.places ∙ kept_held (words_of c.args.found.now.segment.now) c.args.found.now.start (Struct c.args.found.now.size) in
-    walked_alone here (sym all ∙ c.is_empty.ensures.0 c.if-is_empty.true)
+    nulls_walked c.args.found.now.start.segment (words_of c.args.found.now.segment.now) (c.args.found.now.start.word + c.args.found.now.size.data_words) c.args.found.now.size.pointers
+    here refl c.requires.content (omega (arith, c.requires.room, length-words_of c.args.found.now.segment.now)) (c.holds_nulls.ensures.0 c.if-holds_nulls.true)
 
-pub walk_struct-walk_pointers-requires : goal.walk_struct-walk_pointers-requires
-walk_struct-walk_pointers-requires g t c κs within =
-    (omega (arith, c.requires.deep), (within, λ some. rw c.new-pointers.ensures.segment c.requires.content))
+pub walk_struct-walk_run-requires : goal.walk_struct-walk_run-requires
+walk_struct-walk_run-requires g t c κs within =
+    (omega (arith, c.requires.deep), (within, (omega (arith, c.requires.room, c.first_pointer-first.ensures.word), rw c.first_pointer-first.ensures.segment c.requires.content)))
 
 pub walk_struct-returns-clause-found : goal.walk_struct-returns-clause-found
 walk_struct-returns-clause-found g t c place is =
     let here = struct_entered is c.requires.deep c.words.ensures c.words-2.ensures c.formed.ensures.body c.in_ok-pay.ensures.within (c.count.ensures.left ∙ c.in_ok-pay.ensures.left)
     (rw c.in_ok-pay.ensures.words at c.count.ensures.words) in
-    let all = rw c.row_size.ensures at c.new-pointers.ensures.places ∙ kept_held (words_of c.args.found.now.segment.now) c.args.found.now.start (Struct c.args.found.now.size) in
-    walk_goes_on c.walk_pointers.new.self.left c.walk_pointers.new.self.words (places_in c.new-pointers.result) c.walk_pointers.result here all c.walk_pointers.ensures.found
+    let all : places c.first_pointer-first.result.segment c.first_pointer-first.result.word c.args.found.now.size.pointers
+        ≡ places c.args.found.now.start.segment (c.args.found.now.start.word + c.args.found.now.size.data_words) c.args.found.now.size.pointers =
+    rw (c.first_pointer-first.ensures.segment, c.first_pointer-first.ensures.word) refl in
+    walk_goes_on c.walk_run.new.self.left c.walk_run.new.self.words (places c.first_pointer-first.result.segment c.first_pointer-first.result.word c.args.found.now.size.pointers) c.walk_run.result here
+    all c.walk_run.ensures.found
 
 pub walk_struct-returns-clause-refused : goal.walk_struct-returns-clause-refused
 walk_struct-returns-clause-refused g t c place is =
     let here = struct_entered is c.requires.deep c.words.ensures c.words-2.ensures c.formed.ensures.body c.in_ok-pay.ensures.within (c.count.ensures.left ∙ c.in_ok-pay.ensures.left)
     (rw c.in_ok-pay.ensures.words at c.count.ensures.words) in
-    let all = rw c.row_size.ensures at c.new-pointers.ensures.places ∙ kept_held (words_of c.args.found.now.segment.now) c.args.found.now.start (Struct c.args.found.now.size) in
-    walk_stops (places_in c.new-pointers.result) c.walk_pointers.result here all c.walk_pointers.ensures.refused
+    let all : places c.first_pointer-first.result.segment c.first_pointer-first.result.word c.args.found.now.size.pointers
+        ≡ places c.args.found.now.start.segment (c.args.found.now.start.word + c.args.found.now.size.data_words) c.args.found.now.size.pointers =
+    rw (c.first_pointer-first.ensures.segment, c.first_pointer-first.ensures.word) refl in
+    walk_stops (places c.first_pointer-first.result.segment c.first_pointer-first.result.word c.args.found.now.size.pointers) c.walk_run.result here all c.walk_run.ensures.refused
+
+pub walk_run-walk_pointers-requires : goal.walk_run-walk_pointers-requires
+walk_run-walk_pointers-requires g t c κs within =
+    (omega arith, (within, λ some. rw c.run-pointers.ensures.segment c.requires.content))
+
+pub walk_run-returns-clause-found : goal.walk_run-returns-clause-found
+walk_run-returns-clause-found g t c = rw (← c.run-pointers.ensures.places) c.walk_pointers.ensures.found
+
+pub walk_run-returns-clause-refused : goal.walk_run-returns-clause-refused
+walk_run-returns-clause-refused g t c = rw (← c.run-pointers.ensures.places) c.walk_pointers.ensures.refused
 
 pub walk_pointers-pointers-init : goal.walk_pointers-pointers-init
 walk_pointers-pointers-init g t c = (

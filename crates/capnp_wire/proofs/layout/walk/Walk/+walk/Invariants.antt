@@ -7,16 +7,19 @@ use Rattle.capnp_wire.proofs.ProgressLemmas.{Progress}
 use Rattle.capnp_wire.proofs.layout.walk.Walk.+walk.Given as goal
 
 abbrev pub decreases-walk : goal.decreases-walk
-decreases-walk g l = 4 * l.level + 1
+decreases-walk g l = 5 * l.level + 1
 
 abbrev pub decreases-walk_struct : goal.decreases-walk_struct
-decreases-walk_struct g l = 4 * l.level
+decreases-walk_struct g l = 5 * l.level
+
+abbrev pub decreases-walk_run : goal.decreases-walk_run
+decreases-walk_run g l = 5 * l.level + 4
 
 abbrev pub decreases-walk_pointers : goal.decreases-walk_pointers
-decreases-walk_pointers g l = 4 * l.level + 3
+decreases-walk_pointers g l = 5 * l.level + 3
 
 abbrev pub decreases-walk_target : goal.decreases-walk_target
-decreases-walk_target g l = 4 * l.level + 2
+decreases-walk_target g l = 5 * l.level + 2
 
 abbrev pub invariant-walk_pointers-pointers : goal.invariant-walk_pointers-pointers
 invariant-walk_pointers-pointers g l =

@@ -3,7 +3,7 @@ use Rattle.std.proofs.Common.{◌≡◌, ◌+◌, ◌-◌, ◌/◌, ◌<◌, len
 use Rattle.capnp_wire.specs.Pointer.{words_of}
 use Rattle.capnp_wire.proofs.WordLemmas.{length-words_of}
 use Rattle.capnp_wire.proofs.RowCopyLemmas.{put_rows_next, put_no_data, fewer_rows}
-use Rattle.capnp_wire.proofs.layout.copy.put_rows.Goals as goal
+use Rattle.capnp_wire.proofs.layout.own_words.put_rows.Goals as goal
 
 pub returns-then-data_words-eq0-clause-words : goal.returns-then-data_words-eq0-clause-words
 returns-then-data_words-eq0-clause-words g c = rw c.if-data_words-eq0.true (sym (put_no_data _ c.args.start _ _ c.args.elements.count c.args.next _))

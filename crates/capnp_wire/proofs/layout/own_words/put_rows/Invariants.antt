@@ -3,7 +3,7 @@ use Rattle.std.proofs.Common.{◌≡◌, ◌+◌, ◌-◌, ◌*◌, ◌/◌, ◌
 use Rattle.capnp_wire.specs.Pointer.{words_of}
 use Rattle.capnp_wire.specs.Object.{rows_from}
 use Rattle.capnp_wire.specs.Block.{put_rows}
-use Rattle.capnp_wire.proofs.layout.copy.put_rows.Given as goal
+use Rattle.capnp_wire.proofs.layout.own_words.put_rows.Given as goal
 
 abbrev pub invariant-rows : goal.invariant-rows
 invariant-rows g l =
