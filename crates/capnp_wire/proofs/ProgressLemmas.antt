@@ -129,12 +129,24 @@ pub walked_alone : {m : List (List ℕ)} {c : Bool} {place : Place} {shape : Sha
 walked_alone {m} {c} {place} {shape} {level} {limit} {left} {counted_then = a} {counted_now = b} e none =
     walked_over m c place shape level limit left left a b b e (progress_done none (progress_begins m c shape.held (level - 1) left b))
 
+-- of an object whose pointers are these
+pub walk_over : {m : List (List ℕ)} {c : Bool} {place : Place} {shape : Shape} {level : ℕ} {limit left after counted_then counted_now counted_after : Option ℕ} {pointers : List Place}
+    → Entered m c place shape level limit left counted_then counted_now → pointers ≡ shape.held → WalkedAll m c pointers (level - 1) left after counted_now counted_after
+    → Walked m c place level limit after counted_then counted_after
+walk_over {m} {c} {place} {shape} {level} {limit} {left} {after} {counted_then = a} {counted_now = b} {counted_after = d} e all w =
+    walked_over m c place shape level limit left after a b d e (subst (λ (l : List Place). WalkedAll m c l (level - 1) left after b d) all w)
+
+pub walk_stops_inside : {m : List (List ℕ)} {c : Bool} {place : Place} {shape : Shape} {level : ℕ} {limit left counted_then counted_now : Option ℕ} {pointers : List Place} {kind : ErrorKind}
+    → Entered m c place shape level limit left counted_then counted_now → pointers ≡ shape.held → StopsWalk m pointers (level - 1) left kind → StopsWalk m (place ∷ []) level limit kind
+walk_stops_inside {m = m} {shape = shape} {level = level} {left = left} {kind = kind} e all stops =
+    inside e.object e.deep e.within (subst (λ (l : Option ℕ). StopsWalk m shape.held (level - 1) l kind) e.left_is (subst (λ (l : List Place). StopsWalk m l
+    (level - 1) left kind) all stops))
+
 pub walk_goes_on : {Y : Type 0} {m : List (List ℕ)} {c : Bool} {place : Place} {shape : Shape} {level : ℕ} {limit left counted_then counted_now : Option ℕ} (after counted_after : Option ℕ)
     (pointers : List Place) (result : Result Y Error)
     → Entered m c place shape level limit left counted_then counted_now → pointers ≡ shape.held
     → OnOk result (WalkedAll m c pointers (level - 1) left after counted_now counted_after) → OnOk result (Walked m c place level limit after counted_then counted_after)
-walk_goes_on {m = m} {c = c} {place = place} {shape = shape} {level = level} {limit = limit} {left = left} {counted_then = a} {counted_now = b} after d pointers (Ok y) e all w =
-    walked_over m c place shape level limit left after a b d e (subst (λ (l : List Place). WalkedAll m c l (level - 1) left after b d) all w)
+walk_goes_on after d pointers (Ok y) e all w = walk_over e all w
 walk_goes_on after d pointers (Err error) e all w = tt
 
 pub walk_stops : {Y : Type 0} {m : List (List ℕ)} {c : Bool} {place : Place} {shape : Shape} {level : ℕ} {limit left counted_then counted_now : Option ℕ} (pointers : List Place)
@@ -142,6 +154,4 @@ pub walk_stops : {Y : Type 0} {m : List (List ℕ)} {c : Bool} {place : Place} {
     → Entered m c place shape level limit left counted_then counted_now → pointers ≡ shape.held
     → IfErr result (λ error. StopsWalk m pointers (level - 1) left error.kind) → IfErr result (λ error. StopsWalk m (place ∷ []) level limit error.kind)
 walk_stops pointers (Ok y) e all stops = tt
-walk_stops {m = m} {shape = shape} {level = level} {left = left} pointers (Err error) e all stops =
-    inside e.object e.deep e.within (subst (λ (l : Option ℕ). StopsWalk m shape.held (level - 1) l error.kind) e.left_is (subst (λ (l : List Place). StopsWalk m l
-    (level - 1) left error.kind) all stops))
+walk_stops pointers (Err error) e all stops = walk_stops_inside e all stops

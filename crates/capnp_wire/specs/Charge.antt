@@ -1,9 +1,10 @@
 -- What a walk over trees may still be charged, and the words that it has counted (src/layout/walk.rt).
-use Rattle.std.specs.Prelude.{◌≡◌, Bool, ℕ, ◌+◌, ◌-◌, ◌^◌, ◌<◌, ◌≤◌, List, [], ◌∷◌, Option, Some, None, IfSome}
+use Rattle.std.specs.Prelude.{◌≡◌, Bool, ℕ, ◌+◌, ◌-◌, ◌^◌, ◌<◌, ◌≤◌, List, [], ◌∷◌, Option, Some, None, IfSome, if◌then◌else◌}
 use Rattle.capnp_wire.specs.Tree.{Trees, depth, total_words}
 use Rattle.capnp_wire.specs.Reached.{At}
 use Rattle.capnp_wire.specs.Layout.{formed, AllHaveRoom}
 use Rattle.capnp_wire.specs.declared.layout.place.Place.{Place}
+use Rattle.capnp_wire.specs.declared.layout.walk.Walk.{Walk}
 
 -- a charge is within the limit, where there is one
 abbrev pub Within : Option ℕ → ℕ → Type 0
@@ -17,6 +18,10 @@ less (Some most) charge = Some (most - charge)
 -- a charge is past the limit
 abbrev pub Exceeds : Option ℕ → ℕ → Type 0
 Exceeds limit charge = (most : ℕ) × (limit ≡ Some most) × (most < charge)
+
+-- the words that a walk has met, where they fit 64 bits
+abbrev pub counted : Walk → Option ℕ
+counted walk = if walk.overflowed then None else Some walk.words
 
 -- a number of words, which is not kept where it does not fit 64 bits
 abbrev pub Counts : Option ℕ → ℕ → Type 0

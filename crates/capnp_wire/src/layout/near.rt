@@ -1,5 +1,5 @@
 //! The short ways: to null, to a struct and to a list of numbers in the segment of their pointer.
-ghost use Rattle.std.specs.Prelude.{◌≡◌, ◌↔◌, ℕ, List, ◌+◌, ◌/◌, ◌<◌, ◌≤◌, length, Some, slice_get, IfSome, IsTrue};
+ghost use Rattle.std.specs.Prelude.{◌≡◌, ◌↔◌, ℕ, List, ◌+◌, ◌/◌, ◌^◌, ◌<◌, ◌≤◌, length, Some, slice_get, IfSome, IsTrue};
 ghost use Rattle.capnp_wire.specs.Pointer.{words_of};
 ghost use Rattle.capnp_wire.specs.Landing.{IsObject};
 ghost use Rattle.capnp_wire.specs.Near.{AreNull, object_of, struct_of};
@@ -122,6 +122,7 @@ impl NearStruct<'_> {
             ≤ length self.now.segment.now / 8 }
         ensures word { result.word ≡ self.now.start.word + self.now.size.data_words }
         ensures segment { result.segment ≡ self.now.start.segment }
+        ensures bound { result.word + self.now.size.pointers < 2 ^ 61 }
     {
         words_fit(self.segment);
         Place {

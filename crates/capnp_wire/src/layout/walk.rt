@@ -4,14 +4,13 @@ ghost use Rattle.capnp_frame.specs.declared.error.ErrorKind.{ErrorKind};
 ghost use Rattle.capnp_wire.specs.Pointer.{words_of};
 ghost use Rattle.capnp_wire.specs.Object.{message_of, places};
 ghost use Rattle.capnp_wire.specs.Landing.{IsObject, room_of, words_in};
-ghost use Rattle.capnp_wire.specs.Charge.{Within, Exceeds, CountsMore, Walked, WalkedAll, less};
+ghost use Rattle.capnp_wire.specs.Charge.{counted, Within, Exceeds, CountsMore, Walked, WalkedAll, less};
 ghost use Rattle.capnp_wire.specs.Faults.{StopsWalk};
 ghost use Rattle.capnp_wire.specs.Copy.{formed_body};
 ghost use Rattle.capnp_wire.specs.Rows.{places_in};
-ghost use Rattle.capnp_wire.specs.Near.{struct_of};
 
 use crate::layout::formed::formed_as;
-use crate::layout::near::{NearStruct, is_null, near_list, near_struct};
+use crate::layout::near::{is_null, near_list, near_struct};
 use crate::layout::object::{Object, object_at, words_fit};
 use crate::layout::place::Place;
 use crate::layout::rows::PointerRows;
@@ -22,27 +21,33 @@ use capnp_frame::{Error, ErrorKind, Result};
 #[derive(Drop)]
 pub(crate) struct Walk {
     pub(crate) left: Option<usize>,
-    words: Option<u64>,
+    words: u64,
+    /// Whether the words that it has met don't fit `words`.
+    overflowed: bool,
 }
 
 impl Walk {
     /// A walk that has met nothing.
     pub(crate) fn new(limit: Option<usize>) -> Walk
         ensures left { result.left ≡ limit }
-        ensures words { result.words ≡ Some 0 }
+        ensures words { counted result ≡ Some 0 }
     {
         Walk {
             left: limit,
-            words: Some(0),
+            words: 0,
+            overflowed: false,
         }
     }
 
     /// The words of all objects that it has met, without pads, as they stand or in canonical form;
     /// `None` where they don't fit.
     pub(crate) fn words(&self) -> Option<u64>
-        ensures { result ≡ self.now.words }
+        ensures { result ≡ counted self.now }
     {
-        self.words
+        if self.overflowed {
+            return None;
+        }
+        Some(self.words)
     }
 
     // Charges an object, and counts its words.
@@ -53,7 +58,7 @@ impl Walk {
         requires elements { words_in object.now.body ≤ room_of object.now.body }
         ensures within { OnOk result (Within self.old.left object.now.charge) }
         ensures left { OnOk result (self.new.left ≡ less self.old.left object.now.charge) }
-        ensures words { OnOk result (CountsMore self.old.words self.new.words
+        ensures words { OnOk result (CountsMore (counted self.old) (counted self.new)
             (words_in (formed_body canonical
             (words_of object.now.segment.now) object.now.start.word object.now.body))) }
         ensures refused { IfErr result (λ error. Exceeds self.old.left object.now.charge
@@ -70,7 +75,7 @@ impl Walk {
     fn pay(&mut self, words: u64) -> Result<()>
         ensures within { OnOk result (Within self.old.left words) }
         ensures left { OnOk result (self.new.left ≡ less self.old.left words) }
-        ensures words { self.new.words ≡ self.old.words }
+        ensures words { counted self.new ≡ counted self.old }
         ensures refused { IfErr result (λ error. Exceeds self.old.left words
             × (error.kind ≡ ErrorKind.ReadLimitExceeded)) }
     {
@@ -86,13 +91,12 @@ impl Walk {
     /// Counts words that no pointer leads to.
     #[inline(always)]
     pub(crate) fn count(&mut self, more: u64)
-        ensures words { CountsMore self.old.words self.new.words more }
+        ensures words { CountsMore (counted self.old) (counted self.new) more }
         ensures left { self.new.left ≡ self.old.left }
     {
-        self.words = match self.words {
-            Some(words) => words.checked_add(more),
-            None => None,
-        };
+        let (words, overflows) = self.words.overflowing_add(more);
+        self.words = words;
+        self.overflowed = self.overflowed || overflows;
     }
 
     /// Enters the object that the pointer at a place leads to, where it may be entered at this
@@ -107,7 +111,7 @@ impl Walk {
     ) -> Result<()>
         ensures found { let m = message_of (S.segments segments.now) in
             OnOk result (Walked m canonical place level
-            self.old.left self.new.left self.old.words self.new.words) }
+            self.old.left self.new.left (counted self.old) (counted self.new)) }
         ensures refused { let m = message_of (S.segments segments.now) in
             IfErr result (λ error. StopsWalk m (place ∷ []) level self.old.left error.kind) }
     {
@@ -140,83 +144,35 @@ impl Walk {
             ≡ Some (words_of segment.now) }
         ensures found { let m = message_of (S.segments segments.now) in
             OnOk result (WalkedAll m canonical (places_in pointers) level
-            self.old.left self.new.left self.old.words self.new.words) }
+            self.old.left self.new.left (counted self.old) (counted self.new)) }
         ensures refused { let m = message_of (S.segments segments.now) in
             IfErr result (λ error.
             StopsWalk m (places_in pointers) level self.old.left error.kind) }
     {
         'pointers: while !pointers.is_empty() {
             let place = pointers.take();
-            self.walk_target(segments, segment, place, level, canonical)?;
+            // What most pointers lead to needs no call.
+            if is_null(segment, place.word) {
+                continue 'pointers;
+            }
+            if let Some(found) = near_struct(segment, place, level) {
+                self.pay(found.size.words())?;
+                self.count(found.formed(canonical).words());
+                let count = found.size.pointers;
+                if found.holds_nulls(count) {
+                    continue 'pointers;
+                }
+                let first = found.first_pointer();
+                let segment = found.segment;
+                self.walk_run(segments, segment, first, count as u32, level - 1, canonical)?;
+            } else if let Some(list) = near_list(segment, place, level) {
+                self.pay(list.charge())?;
+                self.count(list.words());
+            } else {
+                self.walk(segments, place, level, canonical)?;
+            }
         }
         Ok(())
-    }
-
-    // As `walk`, of one of the pointers in a segment. What most of them lead to needs no call.
-    #[inline(always)]
-    #[cycle(walk)]
-    fn walk_target<S: ReaderSegments>(
-        &mut self,
-        segments: &S,
-        segment: &[u8],
-        place: Place,
-        level: u32,
-        canonical: bool,
-    ) -> Result<()>
-        requires content { slice_get (message_of (S.segments segments.now)) place.segment
-            ≡ Some (words_of segment.now) }
-        ensures found { let m = message_of (S.segments segments.now) in
-            OnOk result (Walked m canonical place level
-            self.old.left self.new.left self.old.words self.new.words) }
-        ensures refused { let m = message_of (S.segments segments.now) in
-            IfErr result (λ error. StopsWalk m (place ∷ []) level self.old.left error.kind) }
-    {
-        if is_null(segment, place.word) {
-            return Ok(());
-        }
-        if let Some(found) = near_struct(segment, place, level) {
-            return self.walk_struct(segments, &found, level, canonical);
-        }
-        let Some(list) = near_list(segment, place, level) else {
-            return self.walk(segments, place, level, canonical);
-        };
-        self.pay(list.charge())?;
-        self.count(list.words());
-        Ok(())
-    }
-
-    // The same of a struct, as of any pointer that leads to it.
-    #[inline(always)]
-    #[cycle(walk)]
-    fn walk_struct<S: ReaderSegments>(
-        &mut self,
-        segments: &S,
-        found: &NearStruct<'_>,
-        level: u32,
-        canonical: bool,
-    ) -> Result<()>
-        requires deep { 0 < level }
-        requires content { slice_get (message_of (S.segments segments.now)) found.now.start.segment
-            ≡ Some (words_of found.now.segment.now) }
-        requires room { found.now.start.word + (found.now.size.data_words + found.now.size.pointers)
-            ≤ length found.now.segment.now / 8 }
-        ensures found { let m = message_of (S.segments segments.now) in
-            (place : Place) → IsObject m place (struct_of found.now) →
-            OnOk result (Walked m canonical place level
-            self.old.left self.new.left self.old.words self.new.words) }
-        ensures refused { let m = message_of (S.segments segments.now) in
-            (place : Place) → IsObject m place (struct_of found.now) →
-            IfErr result (λ error. StopsWalk m (place ∷ []) level self.old.left error.kind) }
-    {
-        words_fit(found.segment);
-        self.pay(found.size.words())?;
-        self.count(found.formed(canonical).words());
-        let count = found.size.pointers;
-        if found.holds_nulls(count) {
-            return Ok(());
-        }
-        let first = found.first_pointer();
-        self.walk_run(segments, found.segment, first, count as u32, level - 1, canonical)
     }
 
     // As `walk_pointers`, of so many pointers that stand one behind the other. All that it is told
@@ -236,7 +192,7 @@ impl Walk {
             ≡ Some (words_of segment.now) }
         ensures found { let m = message_of (S.segments segments.now) in
             OnOk result (WalkedAll m canonical (places first.segment first.word count) level
-            self.old.left self.new.left self.old.words self.new.words) }
+            self.old.left self.new.left (counted self.old) (counted self.new)) }
         ensures refused { let m = message_of (S.segments segments.now) in
             IfErr result (λ error. StopsWalk m (places first.segment first.word count) level
             self.old.left error.kind) }

@@ -1,6 +1,7 @@
 -- What a walk counts is measured.
 use Rattle.std.proofs.Common.{◌+◌, refl}
 use Rattle.capnp_wire.specs.Object.{message_of}
+use Rattle.capnp_wire.specs.Charge.{counted as counted_by}
 use Rattle.capnp_wire.proofs.ValueLemmas.{answer_fits}
 use Rattle.capnp_wire.proofs.layout.value.measure.Goals as goal
 
@@ -8,8 +9,8 @@ pub returns : goal.returns
 returns g c =
     let m = message_of (g.S.ReaderSegments.segments c.args.segments.now) in
     let found = rw (c.new-walk.ensures.left, c.new-walk.ensures.words) at c.in_ok-walk.ensures.found in
-    let counted = rw (← c.words.ensures) at found.counted 0 refl in
+    let all_counted = rw (← c.words.ensures) at found.counted 0 refl in
     record {
-      answer = answer_fits m c.args.place c.args.level c.args.limit c.walk.new.self.left c.args.canonical c.walk.new.self.words found c.fitting.result (c.fitting.ensures
-          (0 + found.words) counted);
+      answer = answer_fits m c.args.place c.args.level c.args.limit c.walk.new.self.left c.args.canonical (counted_by c.walk.new.self) found c.fitting.result (c.fitting.ensures
+          (0 + found.words) all_counted);
     }
