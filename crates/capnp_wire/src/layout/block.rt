@@ -52,8 +52,13 @@ fn copy_bytes(to: &mut [u8], bytes: &[u8])
     requires { length to.old ≡ length bytes.now }
     ensures { to.new ≡ bytes.now }
 {
+    if let Some(word) = bytes.as_array::<8>() {
+        if let Some(place) = to.as_mut_array::<8>() {
+            *place = *word;
+        }
+        return;
+    }
     match bytes.len() {
-        8 => to[..8].copy_from_slice(&bytes[..8]),
         16 => to[..16].copy_from_slice(&bytes[..16]),
         24 => to[..24].copy_from_slice(&bytes[..24]),
         _ => to.copy_from_slice(bytes),

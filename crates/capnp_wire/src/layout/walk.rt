@@ -96,7 +96,7 @@ impl Walk {
     {
         let (words, overflows) = self.words.overflowing_add(more);
         self.words = words;
-        self.overflowed = self.overflowed || overflows;
+        self.overflowed |= overflows;
     }
 
     /// Enters the object that the pointer at a place leads to, where it may be entered at this
