@@ -1,5 +1,6 @@
 -- What a pointer leads to that is copied.
 use Rattle.std.proofs.Common.{◌≡◌, ℕ, zero, suc, ◌+◌, ◌-◌, ◌*◌, ◌≤◌, Bool, true, false, if◌then◌else◌, List, [], ◌∷◌, length, Some, refl, sym, ◌∙◌, ap, subst, arith, length-append}
+use Rattle.std.proofs.lemmas.List.{append-nil}
 use Rattle.capnp_frame.specs.declared.error.ErrorKind.{ErrorKind}
 use Rattle.capnp_wire.specs.Pointer.{words_of}
 use Rattle.capnp_wire.specs.Tree.{null, Trees, none, tree, depth, is_null, total_words}
@@ -7,7 +8,7 @@ use Rattle.capnp_wire.specs.Object.{nothing, places, word_at, is_null as null_th
 use Rattle.capnp_wire.specs.Landing.{IsObject, words_in}
 use Rattle.capnp_wire.specs.Reached.{At, nowhere, at}
 use Rattle.capnp_wire.specs.Faults.{Fault}
-use Rattle.capnp_wire.specs.Layout.{body, pointer_to, formed}
+use Rattle.capnp_wire.specs.Layout.{body, run, pointer_to, formed}
 use Rattle.capnp_wire.specs.Block.{put, fill}
 use Rattle.capnp_wire.specs.Rows.{row_size, row_count, first_row, kept_places, kept_in, slots_of}
 use Rattle.capnp_wire.specs.Copy.{CanCopy, IsCopied, IsNarrower, formed_body, pointer_of_body, put_own}
@@ -132,3 +133,42 @@ object_is_copied {m} {place} {words} {start} {from} {copied} {level} {inner} {c}
       pointer_is = pointer_is ∙ o.pointers_are gap;
       next_is = omega (arith, nexts k.trees k.charge k.stand, o.totals);
     })
+
+-- a list of pointers, which has no words of its own but these
+run_places : (start : Place) (n : ℕ) → kept_in start (Pointers n) n ≡ places start.segment start.word n
+run_places start n =
+    let here : start.word + 0 ≡ start.word = omega arith in
+    append-nil (places start.segment (start.word + 0) n) ∙ ap (λ (w : ℕ). places start.segment w n) here
+
+list_formed : (c : Bool) (words : List ℕ) (start n : ℕ) → Pointers n ≡ formed_body c words start (Pointers n)
+list_formed true words start n = refl
+list_formed false words start n = refl
+
+list_opened : {m : List (List ℕ)} {place : Place} {object : ReadObject} {n level : ℕ} {c : Bool} {next room : ℕ} (can : CanCopy m (place ∷ []) level c next room)
+    → IsObject m place object → object.body ≡ Pointers n
+    → Opened m (words_of object.segment.now) object.start (Pointers n) (Pointers n) (level - 1) c next room can.trees
+list_opened {m} {place} {object} {n} {level} {c} {next} {room} can is body_is =
+    subst (λ (b : Body). Opened m (words_of object.segment.now) object.start b (Pointers n) (level - 1) c next room can.trees) body_is
+    (opened_here can is (list_formed c (words_of object.segment.now) object.start.word n ∙ ap (formed_body c (words_of object.segment.now) object.start.word) (sym body_is)))
+
+pub pointers_kept : {m : List (List ℕ)} {place : Place} {object : ReadObject} {n level : ℕ} {c : Bool} {next room : ℕ} (can : CanCopy m (place ∷ []) level c next room)
+    → IsObject m place object → object.body ≡ Pointers n → CanCopy m (places object.start.segment object.start.word n) (level - 1) c (next + n) room
+pointers_kept {m} {place} {object} {n} {level} {c} {next} {room} can is body_is =
+    subst (λ (l : List Place). CanCopy m l (level - 1) c (next + n) room) (run_places object.start n) (list_opened can is body_is).kept
+
+pub pointers_are_copied : {m : List (List ℕ)} {place : Place} {object : ReadObject} {copied : Body} {n level : ℕ} {c : Bool} {gap next room free pointer : ℕ} {old new : List ℕ}
+    (can : CanCopy m (place ∷ []) level c next room) → IsObject m place object → object.body ≡ Pointers n → copied ≡ formed_body c (words_of object.segment.now) object.start.word object.body
+    → length old ≡ room
+    → ((trees : Trees) (charge : ℕ) → At m (places object.start.segment object.start.word n) trees charge → new ≡ fill (run next n) (next + n) (formed c trees) old)
+    → ((trees : Trees) (charge : ℕ) → At m (places object.start.segment object.start.word n) trees charge → free ≡ next + n + total_words (formed c trees))
+    → pointer ≡ pointer_of_body copied gap → (trees : Trees) (charge : ℕ) → At m (place ∷ []) trees charge → IsCopied (formed c trees) gap next old new (record { pointer = pointer; next = free })
+pointers_are_copied {m} {place} {object} {copied} {n} {level} {c} {gap} {next} {room} {free} {pointer} {old} {new} can is body_is copied_is long filled nexts pointer_is =
+    let list_is : copied ≡ Pointers n = copied_is ∙ ap (formed_body c (words_of object.segment.now) object.start.word) body_is ∙ sym (list_formed c (words_of object.segment.now) object.start.word n) in
+    let here : next + 0 ≡ next = omega arith in
+    let slots_are : run next n ≡ slots_of next (Pointers n) = sym (append-nil (run (next + 0) n) ∙ ap (λ (k : ℕ). run k n) here) in
+    object_is_copied can (list_opened can is body_is) long refl
+    (λ trees charge stand.
+        filled trees charge (subst (λ (l : List Place). At m l trees charge) (run_places object.start n) stand)
+        ∙ ap (λ (l : List ℕ). fill l (next + n) (formed c trees) old) slots_are)
+    (λ trees charge stand. nexts trees charge (subst (λ (l : List Place). At m l trees charge) (run_places object.start n) stand))
+    (pointer_is ∙ ap (λ (b : Body). pointer_of_body b gap) list_is)

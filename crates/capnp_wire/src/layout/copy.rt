@@ -14,7 +14,7 @@ ghost use Rattle.capnp_wire.specs.Copy.{CanCopy, IsCopied, formed_body, IsNarrow
 use crate::layout::block::{BlockItem, put_elements, put_word, put_words};
 use crate::layout::formed::formed_as;
 use crate::layout::near::{NearStruct, is_null, near_list, near_struct};
-use crate::layout::object::{Body, Object, object_at};
+use crate::layout::object::{Body, Object, object_at, words_fit};
 use crate::layout::own_words::put_own_words;
 use crate::layout::place::Place;
 use crate::layout::pointer_word::{list_word, pointer_word, struct_pointer_word};
@@ -54,10 +54,30 @@ pub(crate) fn copy<S: ReaderSegments, T: BlockItem>(
         return Copied { pointer: 0, next };
     };
     let copied = formed_as(&object, canonical);
+    let pointer = pointer_word(copied, (next - behind) as u64);
+    if let Body::Pointers(count) = object.body {
+        let (segment, first) = (object.segment, object.start);
+        words_fit(segment);
+        let behind = next + count as usize;
+        return Copied {
+            pointer,
+            next: copy_run(
+                segments,
+                segment,
+                first,
+                count,
+                level - 1,
+                canonical,
+                block,
+                next,
+                behind,
+            ),
+        };
+    }
     put_own_words(&object, copied, block, next);
     let free = copy_pointers(segments, &object, copied, level - 1, canonical, block, next);
     Copied {
-        pointer: pointer_word(copied, (next - behind) as u64),
+        pointer,
         next: free,
     }
 }

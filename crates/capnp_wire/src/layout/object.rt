@@ -75,9 +75,10 @@ pub(crate) fn object_at<S: ReaderSegments>(
     }))
 }
 
-/// The words of a segment are words.
+/// The words of a segment are words, and as few as memory has.
 pub(crate) fn words_fit(segment: &[u8])
-    ensures { All (λ w. w < 2 ^ 64) (words_of segment.now) }
+    ensures words { All (λ w. w < 2 ^ 64) (words_of segment.now) }
+    ensures length { length segment.now < 2 ^ 64 }
 {}
 
 // What stands at a word of a segment, as its pointer says.

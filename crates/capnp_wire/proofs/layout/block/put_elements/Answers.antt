@@ -18,7 +18,7 @@ returns-then-behind-ne0-clause-words g c =
     let put_last = rw (bits, shifted (list.count * width code % 64) (omega arith), c.put_words.ensures.words, many) at c.put_word.ensures.words in
     let there = rw many at c.word_at-last.ensures in
     put_last
-    ∙ part_word words list.start.word code list.count c.word_at-last.result (any_below words c.words_fit.ensures)
+    ∙ part_word words list.start.word code list.count c.word_at-last.result (any_below words c.words_fit.ensures.words)
     (omega (arith, c.requires.there, length-words_of list.segment.now)) some there
     c.args.at (g.T.BlockItem.as_words c.args.block.now) (omega (arith, c.requires.room))
 
@@ -29,5 +29,5 @@ returns-else-behind-ne0-clause-words g c =
     let code : ℕ = code_of list.size in
     let none : list.count * width code % 64 ≡ 0 = rw (← list.bits_are) (omega arith) in
     let put_all = rw c.words-words.ensures at c.put_words.ensures.words in
-    put_all ∙ ap (λ l. put c.args.at l (g.T.BlockItem.as_words c.args.block.now)) (sym (whole_words words list.start.word code list.count (any_below words c.words_fit.ensures)
+    put_all ∙ ap (λ l. put c.args.at l (g.T.BlockItem.as_words c.args.block.now)) (sym (whole_words words list.start.word code list.count (any_below words c.words_fit.ensures.words)
     (omega (arith, c.requires.there, length-words_of list.segment.now)) none))

@@ -2,12 +2,13 @@
 use Rattle.std.proofs.Common.{◌≡◌, ◌+◌, ◌<◌, ◌∙◌, ap, sym, refl, arith, length}
 use Rattle.capnp_wire.specs.Pointer.{words_of}
 use Rattle.capnp_wire.specs.Object.{message_of, places}
+use Rattle.capnp_wire.specs.Landing.{room_of}
 use Rattle.capnp_wire.specs.Layout.{run}
 use Rattle.capnp_wire.specs.Rows.{kept_in, slots_of, places_in, slots_in}
 use Rattle.capnp_wire.specs.declared.layout.object.Body.TheVariants.{Struct}
 use Rattle.capnp_wire.specs.declared.layout.rows.RowSize.{RowSize}
 use Rattle.capnp_wire.proofs.CopyLemmas.{copying_begins, copying_first, copying_next, copying_ends}
-use Rattle.capnp_wire.proofs.CopiedLemmas.{opened_here, fewer_pointers, as_many, null_is_copied, object_is_copied}
+use Rattle.capnp_wire.proofs.CopiedLemmas.{opened_here, fewer_pointers, as_many, null_is_copied, object_is_copied, pointers_kept, pointers_are_copied}
 use Rattle.capnp_wire.proofs.FieldLemmas.{length-places}
 use Rattle.capnp_wire.proofs.NearLemmas.{word_there}
 use Rattle.capnp_wire.proofs.NullRunLemmas.{struct_of_nulls}
@@ -54,13 +55,25 @@ copy-copy_pointers-free-requires g t c κs within =
       ),
     )
 
-pub copy-pointer_word-requires-clause-length : goal.copy-pointer_word-requires-clause-length
-copy-pointer_word-requires-clause-length g t c = (opened_here c.requires.there c.in-Some.ensures.0 c.formed_as-copied.ensures.body).few
+pub copy-pointer_word-pointer-requires-clause-length : goal.copy-pointer_word-pointer-requires-clause-length
+copy-pointer_word-pointer-requires-clause-length g t c = (opened_here c.requires.there c.in-Some.ensures.0 c.formed_as-copied.ensures.body).few
 
 pub copy-returns-clause-copied : goal.copy-returns-clause-copied
 copy-returns-clause-copied g t c =
     object_is_copied c.requires.there (opened_here c.requires.there c.in-Some.ensures.0 c.formed_as-copied.ensures.body) refl
-    c.put_own_words.ensures.words c.copy_pointers-free.ensures.words c.copy_pointers-free.ensures.next c.pointer_word.ensures
+    c.put_own_words.ensures.words c.copy_pointers-free.ensures.words c.copy_pointers-free.ensures.next c.pointer_word-pointer.ensures
+
+pub copy-copy_run-requires : goal.copy-copy_run-requires
+copy-copy_run-requires g t c κs within =
+    let is = c.in-Some.ensures.0 in
+    let k = pointers_kept c.requires.there is c.in-Pointers.is in
+    let room_is = ap room_of c.in-Pointers.is in
+    (omega (arith, c.in-Some.ensures.1), (within.0, (within.1, (omega (arith, is.room, room_is, c.words_fit.ensures.length), (k, (is.content, (omega arith, c.requires.small)))))))
+
+pub copy-returns-in-Pointers-clause-copied : goal.copy-returns-in-Pointers-clause-copied
+copy-returns-in-Pointers-clause-copied g t c =
+    let is = c.in-Some.ensures.0 in
+    pointers_are_copied c.requires.there is c.in-Pointers.is c.formed_as-copied.ensures.body refl c.copy_run.ensures.words c.copy_run.ensures.next c.pointer_word-pointer.ensures
 
 pub copy_pointers-of-from-requires-clause-kept : goal.copy_pointers-of-from-requires-clause-kept
 copy_pointers-of-from-requires-clause-kept g t c = rw c.row_size-kept.ensures (fewer_pointers _ _ c.requires.narrower)

@@ -14,6 +14,6 @@ returns c m there =
     let room : c.in_ok-start.start + words_for c.in-Numbers.count (width (code_of c.in-Numbers.size)) ≤ length c.args.segment.now / 8 =
     rw (← c.bits_of_list-bits.ensures.bits) (omega (arith, c.div_ceil.ensures, c.fits.ensures.0 c.if-not-fits.false)) in (
       number_list_stands m c.args.place c.in_ok-pointer.pointer c.args.segment c.in_ok-start.start c.in-Numbers.size c.in-Numbers.count _
-          word near_is.small there leads list refl c.words_fit.ensures room,
+          word near_is.small there leads list refl c.words_fit.ensures.words room,
       omega arith,
     )

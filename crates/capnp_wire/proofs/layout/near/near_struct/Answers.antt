@@ -13,6 +13,6 @@ returns c m there =
     let room : c.in_ok-start.start + (c.in-Struct.size.data_words + c.in-Struct.size.pointers) ≤ length c.args.segment.now / 8 =
     omega (arith, c.words.ensures, c.fits.ensures.0 c.if-not-fits.false) in (
       struct_stands_near m c.args.place c.in_ok-pointer.pointer c.args.segment c.in_ok-start.start c.in-Struct.size
-          word (omega arith) near_is.small there leads is c.words_fit.ensures room,
+          word (omega arith) near_is.small there leads is c.words_fit.ensures.words room,
       omega arith,
     )

@@ -50,7 +50,7 @@ returns-clause-found g c =
         elements = c.in_ok-body.ensures.elements;
         charge = omega (arith, c.charge.ensures.charge);
         has_room = stands_room (words_of c.in-Some.landing.segment.now) (record { segment = c.in-Some.landing.number; word = c.in-Some-start.start }) landing.landing.tag _ landing.small
-            c.words_fit.ensures
+            c.words_fit.ensures.words
             (c.in_ok-body.ensures.found landing.landing.tag c.in-Some.landing.number landing.shape);
       },
       omega arith,

@@ -3,5 +3,5 @@ use Rattle.std.proofs.Common.{arith}
 use Rattle.capnp_wire.proofs.ElementLemmas.{all_words_below}
 use Rattle.capnp_wire.proofs.layout.object.words_fit.Goals as goal
 
-pub returns : goal.returns
-returns c = all_words_below c.args.segment.now (λ i. omega (arith, c.type_inv.segment i))
+pub returns-clause-words : goal.returns-clause-words
+returns-clause-words c = all_words_below c.args.segment.now (λ i. omega (arith, c.type_inv.segment i))

@@ -21,5 +21,5 @@ returns g c =
     let own : c.words.result ≡ words_in (formed_body c.args.canonical (words_of c.args.segment.now) c.args.start.word (Struct c.args.size)) = c.words.ensures ∙ ap words_in c.formed_as.ensures.body in
     let room : c.args.start.word + (c.args.size.data_words + c.args.size.pointers) ≤ length (words_of c.args.segment.now) = omega (arith, c.requires.room, length-words_of c.args.segment.now) in
     struct_measured m words c.args.start c.args.size c.args.level c.args.limit c.walk_pointers.new.self.left c.args.canonical (counted_by c.count.new.self) (counted_by c.walk_pointers.new.self)
-    c.requires.content room (omega arith) (omega arith) c.words_fit.ensures found (0 + c.words.result + found.words) (omega (arith, own)) c.fitting.result
+    c.requires.content room (omega arith) (omega arith) c.words_fit.ensures.words found (0 + c.words.result + found.words) (omega (arith, own)) c.fitting.result
     (c.fitting.ensures (0 + c.words.result + found.words) counted)
