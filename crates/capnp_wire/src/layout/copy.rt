@@ -1,8 +1,8 @@
 //! Copies of objects, laid out one behind the other in one block of words.
-ghost use Rattle.std.specs.Prelude.{◌≡◌, ◌≢◌, ◌+◌, ◌-◌, ◌/◌, ◌^◌, ◌<◌, ◌≤◌, ℕ, [], ◌∷◌, length, slice_get, Some, MatchOption};
+ghost use Rattle.std.specs.Prelude.{◌≡◌, ◌≢◌, ◌+◌, ◌-◌, ◌/◌, ◌^◌, ◌<◌, ◌≤◌, ℕ, [], ◌∷◌, length, slice_get, Some};
 ghost use Rattle.capnp_wire.specs.Pointer.{words_of};
-ghost use Rattle.capnp_wire.specs.Tree.{Trees, depth, total_words};
-ghost use Rattle.capnp_wire.specs.Object.{message_of, word_at, places};
+ghost use Rattle.capnp_wire.specs.Tree.{Trees, total_words};
+ghost use Rattle.capnp_wire.specs.Object.{message_of, places};
 ghost use Rattle.capnp_wire.specs.Landing.{IsObject, room_of, words_in};
 ghost use Rattle.capnp_wire.specs.Reached.{At};
 ghost use Rattle.capnp_wire.specs.Layout.{formed, run};
@@ -14,7 +14,7 @@ ghost use Rattle.capnp_wire.specs.Copy.{CanCopy, IsCopied, formed_body, IsNarrow
 use crate::layout::block::{BlockItem, put_elements, put_word, put_words};
 use crate::layout::formed::formed_as;
 use crate::layout::near::{NearStruct, is_null, near_list, near_struct};
-use crate::layout::object::{Body, Object, object_at, words_fit};
+use crate::layout::object::{Body, Object, object_there, words_fit};
 use crate::layout::own_words::put_own_words;
 use crate::layout::place::Place;
 use crate::layout::pointer_word::{list_word, pointer_word, struct_pointer_word};
@@ -58,20 +58,20 @@ pub(crate) fn copy<S: ReaderSegments, T: BlockItem>(
     if let Body::Pointers(count) = object.body {
         let (segment, first) = (object.segment, object.start);
         words_fit(segment);
-        let behind = next + count as usize;
+        let free = copy_run(
+            segments,
+            segment,
+            first,
+            count,
+            level - 1,
+            canonical,
+            block,
+            next,
+            next + count as usize,
+        );
         return Copied {
             pointer,
-            next: copy_run(
-                segments,
-                segment,
-                first,
-                count,
-                level - 1,
-                canonical,
-                block,
-                next,
-                behind,
-            ),
+            next: free,
         };
     }
     put_own_words(&object, copied, block, next);
@@ -321,20 +321,4 @@ fn copy_run<S: ReaderSegments, T: BlockItem>(
     };
     let to = PointerRows::run(begin, count);
     copy_rows(segments, segment, from, to, level, canonical, block, next)
-}
-
-// The object that the pointer at a place leads to, where a tree stands there; `None` for null.
-#[inline(always)]
-fn object_there<S: ReaderSegments>(segments: &S, place: Place, level: u32) -> Option<Object<'_>>
-    requires { (trees : Trees) × (charge : ℕ)
-        × At (message_of (S.segments segments.now)) (place ∷ []) trees charge
-        × (depth trees ≤ level) }
-    ensures { let m = message_of (S.segments segments.now) in
-        MatchOption result (word_at m place ≡ Some 0)
-        (λ object. IsObject m place object × (0 < level)) }
-{
-    match object_at(segments, place, level) {
-        Ok(found) => found,
-        Err(_) => None,
-    }
 }

@@ -1,10 +1,11 @@
 //! From a place to the object that its pointer leads to: the level, bounds, and a list's tag.
-ghost use Rattle.std.specs.Prelude.{◌≡◌, ◌↔◌, ◌+◌, ◌/◌, ◌^◌, ◌<◌, ◌≤◌, ℕ, All, length, Some, None, IfOk, IfErr, MatchOption, MatchResult, IsTrue};
+ghost use Rattle.std.specs.Prelude.{◌≡◌, ◌↔◌, ◌+◌, ◌/◌, ◌^◌, ◌<◌, ◌≤◌, ℕ, [], ◌∷◌, All, length, Some, None, IfOk, IfErr, MatchOption, MatchResult, IsTrue};
 ghost use Rattle.capnp_frame.specs.declared.error.ErrorKind.{ErrorKind};
 ghost use Rattle.capnp_wire.specs.Pointer.{words_of};
 ghost use Rattle.capnp_wire.specs.PointerWord.{IsNearShape};
 ghost use Rattle.capnp_wire.specs.Object.{message_of, word_at, elements, ShapeStands};
-ghost use Rattle.capnp_wire.specs.Tree.{numbers};
+ghost use Rattle.capnp_wire.specs.Tree.{numbers, Trees, depth};
+ghost use Rattle.capnp_wire.specs.Reached.{At};
 ghost use Rattle.capnp_wire.specs.Landing.{IsObject, shape_of, room_of, words_in, charge_of};
 ghost use Rattle.capnp_wire.specs.Faults.{Misfits, Fault};
 ghost use Rattle.capnp_wire.specs.Rows.{places_in, end_of};
@@ -73,6 +74,22 @@ pub(crate) fn object_at<S: ReaderSegments>(
         body,
         charge: landing.pads + body.charge(),
     }))
+}
+
+/// The object that the pointer at a place leads to, where a tree stands there; `None` for null.
+#[inline(always)]
+pub(crate) fn object_there<S: ReaderSegments>(segments: &S, place: Place, level: u32) -> Option<Object<'_>>
+    requires { (trees : Trees) × (charge : ℕ)
+        × At (message_of (S.segments segments.now)) (place ∷ []) trees charge
+        × (depth trees ≤ level) }
+    ensures { let m = message_of (S.segments segments.now) in
+        MatchOption result (word_at m place ≡ Some 0)
+        (λ object. IsObject m place object × (0 < level)) }
+{
+    match object_at(segments, place, level) {
+        Ok(found) => found,
+        Err(_) => None,
+    }
 }
 
 /// The words of a segment are words, and as few as memory has.

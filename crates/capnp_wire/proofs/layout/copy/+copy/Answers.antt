@@ -63,8 +63,8 @@ copy-returns-clause-copied g t c =
     object_is_copied c.requires.there (opened_here c.requires.there c.in-Some.ensures.0 c.formed_as-copied.ensures.body) refl
     c.put_own_words.ensures.words c.copy_pointers-free.ensures.words c.copy_pointers-free.ensures.next c.pointer_word-pointer.ensures
 
-pub copy-copy_run-requires : goal.copy-copy_run-requires
-copy-copy_run-requires g t c κs within =
+pub copy-copy_run-free-requires : goal.copy-copy_run-free-requires
+copy-copy_run-free-requires g t c κs within =
     let is = c.in-Some.ensures.0 in
     let k = pointers_kept c.requires.there is c.in-Pointers.is in
     let room_is = ap room_of c.in-Pointers.is in
@@ -73,7 +73,7 @@ copy-copy_run-requires g t c κs within =
 pub copy-returns-in-Pointers-clause-copied : goal.copy-returns-in-Pointers-clause-copied
 copy-returns-in-Pointers-clause-copied g t c =
     let is = c.in-Some.ensures.0 in
-    pointers_are_copied c.requires.there is c.in-Pointers.is c.formed_as-copied.ensures.body refl c.copy_run.ensures.words c.copy_run.ensures.next c.pointer_word-pointer.ensures
+    pointers_are_copied c.requires.there is c.in-Pointers.is c.formed_as-copied.ensures.body refl c.copy_run-free.ensures.words c.copy_run-free.ensures.next c.pointer_word-pointer.ensures
 
 pub copy_pointers-of-from-requires-clause-kept : goal.copy_pointers-of-from-requires-clause-kept
 copy_pointers-of-from-requires-clause-kept g t c = rw c.row_size-kept.ensures (fewer_pointers _ _ c.requires.narrower)

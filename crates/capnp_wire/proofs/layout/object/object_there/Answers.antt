@@ -1,7 +1,7 @@
 -- Where a tree stands, no object is refused.
 use Rattle.capnp_wire.specs.Object.{message_of}
 use Rattle.capnp_wire.proofs.CopiedLemmas.{fault_no_tree}
-use Rattle.capnp_wire.proofs.layout.copy.object_there.Goals as goal
+use Rattle.capnp_wire.proofs.layout.object.object_there.Goals as goal
 
 pub returns-in-Err : goal.returns-in-Err
 returns-in-Err g c =
