@@ -168,7 +168,7 @@ pointers_are_copied {m} {place} {object} {copied} {n} {level} {c} {gap} {next} {
     let slots_are : run next n ≡ slots_of next (Pointers n) = sym (append-nil (run (next + 0) n) ∙ ap (λ (k : ℕ). run k n) here) in
     object_is_copied can (list_opened can is body_is) long refl
     (λ trees charge stand.
-        filled trees charge (subst (λ (l : List Place). At m l trees charge) (run_places object.start n) stand)
-        ∙ ap (λ (l : List ℕ). fill l (next + n) (formed c trees) old) slots_are)
+    filled trees charge (subst (λ (l : List Place). At m l trees charge) (run_places object.start n) stand)
+    ∙ ap (λ (l : List ℕ). fill l (next + n) (formed c trees) old) slots_are)
     (λ trees charge stand. nexts trees charge (subst (λ (l : List Place). At m l trees charge) (run_places object.start n) stand))
     (pointer_is ∙ ap (λ (b : Body). pointer_of_body b gap) list_is)

@@ -157,21 +157,24 @@ struct_of_nulls {m} {place} {found} {size} {level} {c} {gap} {next} {room} {free
     let o = opened_here can is size_is in
     let own : List ℕ = words_from (words_of found.segment.now) found.start.word size.data_words in
     let long_data : length (words_from (words_of found.segment.now) found.start.word size.data_words) ≡ size.data_words = omega (
-      arith, is.room, size_there, less,
+      arith,
+      is.room,
+      size_there,
+      less,
       length-take size.data_words (drop found.start.word (words_of found.segment.now)),
       length-drop found.start.word (words_of found.segment.now),
     ) in
     let room_there : found.start.word + found.size.data_words + size.pointers ≤ length (words_of found.segment.now) = omega (arith, is.room, size_there, fewer) in
     let held_is : (trees : Trees) (charge : ℕ) → At m (places found.start.segment (found.start.word + found.size.data_words) size.pointers ++ []) trees charge → formed c trees ≡ nulls size.pointers =
     λ trees charge stand.
-        let there = nulls_stand m found.start.segment (words_of found.segment.now) (found.start.word + found.size.data_words) size.pointers is.content room_there are in
-        let plain : At m (places found.start.segment (found.start.word + found.size.data_words) size.pointers) trees charge =
-        subst (λ (l : List Place). At m l trees charge) (append-nil (places found.start.segment (found.start.word + found.size.data_words) size.pointers)) stand in
-        ap (formed c) (one_tree m (places found.start.segment (found.start.word + found.size.data_words) size.pointers) trees (nulls size.pointers) charge 0 plain there).0 ∙ nulls_formed c size.pointers in
+    let there = nulls_stand m found.start.segment (words_of found.segment.now) (found.start.word + found.size.data_words) size.pointers is.content room_there are in
+    let plain : At m (places found.start.segment (found.start.word + found.size.data_words) size.pointers) trees charge =
+    subst (λ (l : List Place). At m l trees charge) (append-nil (places found.start.segment (found.start.word + found.size.data_words) size.pointers)) stand in
+    ap (formed c) (one_tree m (places found.start.segment (found.start.word + found.size.data_words) size.pointers) trees (nulls size.pointers) charge 0 plain there).0 ∙ nulls_formed c size.pointers in
     let put_data : length (put next (words_from (words_of found.segment.now) found.start.word size.data_words) old) ≡ length old =
     length-put next (words_from (words_of found.segment.now) found.start.word size.data_words) old (omega (arith, o.kept.fits, long, long_data)) in
     let filled : new ≡ fill (run (next + size.data_words) size.pointers) (next + (size.data_words + size.pointers)) (nulls size.pointers)
-        (put next (words_from (words_of found.segment.now) found.start.word size.data_words) old) =
+    (put next (words_from (words_of found.segment.now) found.start.word size.data_words) old) =
     new_is
     ∙ ap (λ (l : List ℕ). put next l old) (seam words start d e q (none_or_whole c words start found.size size size_is are))
     ∙ sym (put_both next own (words_from words (start + d) q) old (omega (arith, o.kept.fits, long, long_data, length-take size.pointers (drop (found.start.word + found.size.data_words) (words_of found.segment.now)))))
@@ -179,7 +182,7 @@ struct_of_nulls {m} {place} {found} {size} {level} {c} {gap} {next} {room} {free
     ∙ sym (nulls_filled words (start + d) q (next + e) (next + (e + q)) (put next own old) room_there are (omega (arith, put_data, o.kept.fits, long))) in
     object_is_copied can o long refl
     (λ trees charge stand.
-        filled ∙ ap (λ (l : List ℕ). fill l (next + (e + q)) (nulls q) (put next own old)) (sym (append-nil (run (next + e) q)))
-        ∙ ap (λ (t : Trees). fill (run (next + e) q ++ []) (next + (e + q)) t (put next own old)) (sym (held_is trees charge stand)))
+    filled ∙ ap (λ (l : List ℕ). fill l (next + (e + q)) (nulls q) (put next own old)) (sym (append-nil (run (next + e) q)))
+    ∙ ap (λ (t : Trees). fill (run (next + e) q ++ []) (next + (e + q)) t (put next own old)) (sym (held_is trees charge stand)))
     (λ trees charge stand. omega (arith, free_is, ap total_words (held_is trees charge stand), no_words size.pointers))
     pointer_is

@@ -78,7 +78,11 @@ pub(crate) fn object_at<S: ReaderSegments>(
 
 /// The object that the pointer at a place leads to, where a tree stands there; `None` for null.
 #[inline(always)]
-pub(crate) fn object_there<S: ReaderSegments>(segments: &S, place: Place, level: u32) -> Option<Object<'_>>
+pub(crate) fn object_there<S: ReaderSegments>(
+    segments: &S,
+    place: Place,
+    level: u32,
+) -> Option<Object<'_>>
     requires { (trees : Trees) × (charge : ℕ)
         × At (message_of (S.segments segments.now)) (place ∷ []) trees charge
         × (depth trees ≤ level) }

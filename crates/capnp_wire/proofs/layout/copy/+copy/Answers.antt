@@ -229,7 +229,7 @@ copy_struct-returns-clause-copied g t c place can is =
     let o = opened_here can is c.formed-size.ensures.body in
     let first = c.first_pointer.ensures in
     let from_are : places c.first_pointer.result.segment c.first_pointer.result.word c.formed-size.result.pointers
-        ≡ kept_in c.args.found.now.start (Struct c.args.found.now.size) c.formed-size.result.pointers =
+    ≡ kept_in c.args.found.now.start (Struct c.args.found.now.size) c.formed-size.result.pointers =
     rw (first.segment, first.word) (sym (append-nil (places c.args.found.now.start.segment (c.args.found.now.start.word + c.args.found.now.size.data_words) c.formed-size.result.pointers))) in
     let slots_are : run (c.args.next + c.formed-size.result.data_words) c.formed-size.result.pointers ≡ slots_of c.args.next (Struct c.formed-size.result) =
     sym (append-nil (run (c.args.next + c.formed-size.result.data_words) c.formed-size.result.pointers)) in

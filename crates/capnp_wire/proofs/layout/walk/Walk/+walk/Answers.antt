@@ -65,12 +65,11 @@ pub walk_pointers-returns-clause-found : goal.walk_pointers-returns-clause-found
 walk_pointers-returns-clause-found g t c = progress_done (c.is_empty.ensures.0 c.pointers-test.false) c.pointers.invariant.0
 
 pub walk_pointers-pointers-preserved-then-is_null : goal.walk_pointers-pointers-preserved-then-is_null
-walk_pointers-pointers-preserved-then-is_null g t c =
-    (
-      progress_next c.take-place.ensures.taken.places_are c.pointers.invariant.0
-          (walked_null _ c.args.canonical c.take-place.result c.args.level _ _ (null_there (word_there _ c.take-place.result (words_of c.args.segment.now) 0 (rw c.take-place.ensures.segment (c.pointers.invariant.1 (λ none. absurd (omega (arith, ap length c.take-place.ensures.taken.places_are, ap length none))))) (c.is_null.ensures c.if-is_null.true)))),
-      λ some. rw c.take-place.ensures.same_segment (c.pointers.invariant.1 (λ none. absurd (omega (arith, ap length c.take-place.ensures.taken.places_are, ap length none)))),
-    )
+walk_pointers-pointers-preserved-then-is_null g t c = (
+  progress_next c.take-place.ensures.taken.places_are c.pointers.invariant.0
+      (walked_null _ c.args.canonical c.take-place.result c.args.level _ _ (null_there (word_there _ c.take-place.result (words_of c.args.segment.now) 0 (rw c.take-place.ensures.segment (c.pointers.invariant.1 (λ none. absurd (omega (arith, ap length c.take-place.ensures.taken.places_are, ap length none))))) (c.is_null.ensures c.if-is_null.true)))),
+  λ some. rw c.take-place.ensures.same_segment (c.pointers.invariant.1 (λ none. absurd (omega (arith, ap length c.take-place.ensures.taken.places_are, ap length none)))),
+)
 
 pub walk_pointers-returns-in_err-pay-clause-refused : goal.walk_pointers-returns-in_err-pay-clause-refused
 walk_pointers-returns-in_err-pay-clause-refused g t c =
@@ -83,8 +82,7 @@ pub walk_pointers-pointers-preserved-then-holds_nulls : goal.walk_pointers-point
 walk_pointers-pointers-preserved-then-holds_nulls g t c =
     let found = c.in-Some.ensures (message_of (g.S.ReaderSegments.segments c.args.segments.now)) (rw c.take-place.ensures.segment (c.pointers.invariant.1 (λ none. absurd (omega (arith, ap length c.take-place.ensures.taken.places_are, ap length none))))) in
     let here = struct_entered found.0 found.1 c.words.ensures c.words-in-Some.ensures c.formed.ensures.body c.in_ok-pay.ensures.within (c.count.ensures.left ∙ c.in_ok-pay.ensures.left)
-    (rw c.in_ok-pay.ensures.words at c.count.ensures.words) in
-    (
+    (rw c.in_ok-pay.ensures.words at c.count.ensures.words) in (
       progress_next c.take-place.ensures.taken.places_are c.pointers.invariant.0
           (nulls_walked c.in-Some.found.start.segment (words_of c.in-Some.found.segment.now) (c.in-Some.found.start.word + c.in-Some.found.size.data_words) c.in-Some.found.size.pointers
           here refl found.0.content (omega (arith, found.0.room, length-words_of c.in-Some.found.segment.now)) (c.holds_nulls.ensures.0 c.if-holds_nulls.true)),
@@ -102,9 +100,8 @@ walk_pointers-pointers-preserved-in-Continue-branch-2 g t c =
     let here = struct_entered found.0 found.1 c.words.ensures c.words-in-Some.ensures c.formed.ensures.body c.in_ok-pay.ensures.within (c.count.ensures.left ∙ c.in_ok-pay.ensures.left)
     (rw c.in_ok-pay.ensures.words at c.count.ensures.words) in
     let all : places c.first_pointer-first.result.segment c.first_pointer-first.result.word c.in-Some.found.size.pointers
-        ≡ places c.in-Some.found.start.segment (c.in-Some.found.start.word + c.in-Some.found.size.data_words) c.in-Some.found.size.pointers =
-    rw (c.first_pointer-first.ensures.segment, c.first_pointer-first.ensures.word) refl in
-    (
+    ≡ places c.in-Some.found.start.segment (c.in-Some.found.start.word + c.in-Some.found.size.data_words) c.in-Some.found.size.pointers =
+    rw (c.first_pointer-first.ensures.segment, c.first_pointer-first.ensures.word) refl in (
       progress_next c.take-place.ensures.taken.places_are c.pointers.invariant.0
           (walk_over here all c.in_ok-walk_run.ensures.found),
       λ some. rw c.take-place.ensures.same_segment (c.pointers.invariant.1 (λ none. absurd (omega (arith, ap length c.take-place.ensures.taken.places_are, ap length none)))),
@@ -116,7 +113,7 @@ walk_pointers-returns-in_err-walk_run-clause-refused g t c =
     let here = struct_entered found.0 found.1 c.words.ensures c.words-in-Some.ensures c.formed.ensures.body c.in_ok-pay.ensures.within (c.count.ensures.left ∙ c.in_ok-pay.ensures.left)
     (rw c.in_ok-pay.ensures.words at c.count.ensures.words) in
     let all : places c.first_pointer-first.result.segment c.first_pointer-first.result.word c.in-Some.found.size.pointers
-        ≡ places c.in-Some.found.start.segment (c.in-Some.found.start.word + c.in-Some.found.size.data_words) c.in-Some.found.size.pointers =
+    ≡ places c.in-Some.found.start.segment (c.in-Some.found.start.word + c.in-Some.found.size.data_words) c.in-Some.found.size.pointers =
     rw (c.first_pointer-first.ensures.segment, c.first_pointer-first.ensures.word) refl in
     passed_on _ _ c.from_residual-in_err-walk_run.ensures.1 (progress_stops c.take-place.ensures.taken.places_are c.pointers.invariant.0
     (walk_stops_inside here all c.in_err-walk_run.ensures.refused))
@@ -130,8 +127,7 @@ walk_pointers-returns-in_err-pay-2-clause-refused g t c =
 
 pub walk_pointers-pointers-preserved-in-Some-near_list : goal.walk_pointers-pointers-preserved-in-Some-near_list
 walk_pointers-pointers-preserved-in-Some-near_list g t c =
-    let found = c.in-Some-near_list.ensures (message_of (g.S.ReaderSegments.segments c.args.segments.now)) (rw c.take-place.ensures.segment (c.pointers.invariant.1 (λ none. absurd (omega (arith, ap length c.take-place.ensures.taken.places_are, ap length none))))) in
-    (
+    let found = c.in-Some-near_list.ensures (message_of (g.S.ReaderSegments.segments c.args.segments.now)) (rw c.take-place.ensures.segment (c.pointers.invariant.1 (λ none. absurd (omega (arith, ap length c.take-place.ensures.taken.places_are, ap length none))))) in (
       progress_next c.take-place.ensures.taken.places_are c.pointers.invariant.0
           (number_list_walked _ c.args.canonical c.take-place.result c.in-Some-near_list.list c.args.level _ _ _ _ _ _ found.0 found.1 c.charge.ensures c.words-in-Some-near_list.ensures c.in_ok-pay-2.ensures.within
           (c.count-in-Some-near_list.ensures.left ∙ c.in_ok-pay-2.ensures.left) (rw c.in_ok-pay-2.ensures.words at c.count-in-Some-near_list.ensures.words)),
@@ -142,12 +138,11 @@ pub walk_pointers-walk-requires : goal.walk_pointers-walk-requires
 walk_pointers-walk-requires g t c κs within = (omega arith, within)
 
 pub walk_pointers-pointers-preserved : goal.walk_pointers-pointers-preserved
-walk_pointers-pointers-preserved g t c =
-    (
-      progress_next c.take-place.ensures.taken.places_are c.pointers.invariant.0
-          (c.in_ok-walk.ensures.found),
-      λ some. rw c.take-place.ensures.same_segment (c.pointers.invariant.1 (λ none. absurd (omega (arith, ap length c.take-place.ensures.taken.places_are, ap length none)))),
-    )
+walk_pointers-pointers-preserved g t c = (
+  progress_next c.take-place.ensures.taken.places_are c.pointers.invariant.0
+      (c.in_ok-walk.ensures.found),
+  λ some. rw c.take-place.ensures.same_segment (c.pointers.invariant.1 (λ none. absurd (omega (arith, ap length c.take-place.ensures.taken.places_are, ap length none)))),
+)
 
 pub walk_pointers-returns-in_err-walk-clause-refused : goal.walk_pointers-returns-in_err-walk-clause-refused
 walk_pointers-returns-in_err-walk-clause-refused g t c =
