@@ -43,6 +43,7 @@ pub mod OpenLemmas
 pub mod OpenedLemmas
 pub mod OwnLemmas
 pub mod PaddingLemmas
+pub mod ParentLemmas
 pub mod PutLemmas
 pub mod RowCopyLemmas
 pub mod CopiedLemmas

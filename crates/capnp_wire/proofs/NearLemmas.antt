@@ -18,7 +18,7 @@ use Rattle.capnp_wire.specs.declared.layout.pointer.StructSize.{StructSize}
 use Rattle.capnp_wire.specs.declared.layout.object.Body.TheVariants.{Struct, Numbers}
 use Rattle.capnp_wire.proofs.LandingLemmas.{struct_stands, numbers_stand}
 use Rattle.capnp_wire.proofs.RoomLemmas.{stands_room}
-use Rattle.capnp_wire.proofs.ProgressLemmas.{Entered, entered, walked_alone}
+use Rattle.capnp_wire.proofs.ProgressLemmas.{entered, walked_alone}
 
 -- what a near pointer says stands where it has room
 near_stands : (m : List (List ℕ)) (place : Place) (pointer : ℕ) (segment : Bor (List ℕ)) (start : ℕ) (body : Body) (charge : ℕ)
@@ -98,15 +98,3 @@ pub struct_formed : (c : Bool) (words : List ℕ) (start : ℕ) (size from : Str
     → Struct size ≡ formed_body c words start (Struct from)
 struct_formed true words start size from is = ap (λ (s : StructSize). Struct s) is
 struct_formed false words start size from is = ap (λ (s : StructSize). Struct s) is
-
--- a walk that meets a struct
-pub struct_entered : {m : List (List ℕ)} {c : Bool} {place : Place} {found : NearStruct} {size : StructSize} {level : ℕ} {limit left counted_then counted_now : Option ℕ} {charge own : ℕ}
-    → IsObject m place (struct_of found) → 0 < level → charge ≡ found.size.data_words + found.size.pointers → own ≡ size.data_words + size.pointers
-    → Struct size ≡ formed_body c (words_of found.segment.now) found.start.word (Struct found.size)
-    → Within limit charge → left ≡ less limit charge → CountsMore counted_then counted_now own
-    → Entered m c place (record (shape_of (words_of found.segment.now) found.start (Struct found.size)) { charge = found.size.data_words + found.size.pointers }) level limit left counted_then
-    counted_now
-struct_entered {m} {c} {place} {found} {size} {level} {limit} {left} {counted_then = before} {counted_now = now} is deep charge_is own_is formed within left_is counted =
-    let own_words = own_is ∙ ap words_in formed in
-    entered m c place (struct_of found) level limit left before now is deep (subst (Within limit) charge_is within) (subst (λ (x : ℕ). left ≡ less limit x) charge_is left_is)
-    (subst (CountsMore before now) own_words counted)

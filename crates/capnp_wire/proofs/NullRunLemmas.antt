@@ -6,13 +6,13 @@ use Rattle.std.proofs.lemmas.Option.{slice_get-get_or}
 use Rattle.capnp_wire.specs.Pointer.{words_of, words_from}
 use Rattle.capnp_wire.specs.Tree.{null, Trees, none, tree, depth, total_words}
 use Rattle.capnp_wire.specs.Trim.{keep_word, cut_zeros, trim}
-use Rattle.capnp_wire.specs.Object.{Shape, places, is_null as null_there}
+use Rattle.capnp_wire.specs.Object.{places, is_null as null_there}
 use Rattle.capnp_wire.specs.Landing.{IsObject}
 use Rattle.capnp_wire.specs.Reached.{At, nowhere, at}
 use Rattle.capnp_wire.specs.Layout.{formed, run, AllHaveRoom}
 use Rattle.capnp_wire.specs.Block.{put, fill}
 use Rattle.capnp_wire.specs.Near.{AreNull, struct_of}
-use Rattle.capnp_wire.specs.Charge.{Walked}
+use Rattle.capnp_wire.specs.Charge.{WalkedAll}
 use Rattle.capnp_wire.specs.Copy.{CanCopy, IsCopied, least_size, formed_body, pointer_of_body}
 use Rattle.capnp_wire.specs.declared.layout.place.Place.{Place}
 use Rattle.capnp_wire.specs.declared.layout.near.NearStruct.{NearStruct}
@@ -28,7 +28,6 @@ use Rattle.capnp_wire.proofs.ObjectLemmas.{one_tree}
 use Rattle.capnp_wire.proofs.NearLemmas.{word_there}
 use Rattle.capnp_wire.proofs.CopiedLemmas.{opened_here, object_is_copied}
 use Rattle.capnp_wire.proofs.StandLemmas.{within_none, less_none, counts_none}
-use Rattle.capnp_wire.proofs.ProgressLemmas.{Entered, walked_over}
 
 -- so many nulls
 abbrev pub nulls : ℕ → Trees
@@ -86,25 +85,23 @@ nulls_stand m segment words start (suc n) there room are =
     at (null_there (word_there m (record { segment = segment; word = start }) words 0 there f.word)) nowhere
     (nulls_stand m segment words (start + 1) n there (omega arith) f.rest)
 
--- a walk meets nothing below a struct whose pointers are null
-pub nulls_walked : {m : List (List ℕ)} {c : Bool} {place : Place} {shape : Shape} {level : ℕ} {limit left counted_then counted_now : Option ℕ} (segment : ℕ) (words : List ℕ) (start n : ℕ)
-    → Entered m c place shape level limit left counted_then counted_now → shape.held ≡ places segment start n → slice_get m segment ≡ Some words → start + n ≤ length words → AreNull words start n
-    → Walked m c place level limit left counted_then counted_now
-nulls_walked {m} {c} {place} {shape} {level} {limit} {left} {counted_then = a} {counted_now = b} segment words start n e held there room are =
-    walked_over m c place shape level limit left left a b b e (record {
-      charge = 0;
-      words = 0;
-      stand = record {
-        trees = nulls n;
-        stand = subst (λ (l : List Place). At m l (nulls n) 0) (sym held) (nulls_stand m segment words start n there room are);
-        shallow = shallow_nulls (level - 1) n;
-        rooms = roomy_nulls n;
-        words_are = ap total_words (nulls_formed c n) ∙ no_words n;
-      };
-      within = within_none left;
-      left_is = sym (less_none left);
-      counted = counts_none b;
-    })
+-- a walk over them meets nothing
+pub nulls_walked : {m : List (List ℕ)} {c : Bool} {level : ℕ} {left counted_now : Option ℕ} (segment : ℕ) (words : List ℕ) (start n : ℕ)
+    → slice_get m segment ≡ Some words → start + n ≤ length words → AreNull words start n → WalkedAll m c (places segment start n) level left left counted_now counted_now
+nulls_walked {m} {c} {level} {left} {counted_now = b} segment words start n there room are = record {
+  charge = 0;
+  words = 0;
+  stand = record {
+    trees = nulls n;
+    stand = nulls_stand m segment words start n there room are;
+    shallow = shallow_nulls level n;
+    rooms = roomy_nulls n;
+    words_are = ap total_words (nulls_formed c n) ∙ no_words n;
+  };
+  within = within_none left;
+  left_is = sym (less_none left);
+  counted = counts_none b;
+}
 
 -- they are put into their slots as the words that they are
 nulls_filled : (words : List ℕ) (start n slot next : ℕ) (block : List ℕ) → start + n ≤ length words → AreNull words start n → slot + n ≤ length block

@@ -1,5 +1,5 @@
 -- How far a walk over what an object holds has come.
-use Rattle.std.proofs.Common.{◌≡◌, Bool, ℕ, ◌+◌, ◌-◌, ◌<◌, List, [], ◌∷◌, ◌++◌, Option, Result, Ok, Err, OnOk, IfErr, refl, sym, ◌∙◌, ap, subst, append_assoc}
+use Rattle.std.proofs.Common.{◌≡◌, ◌≢◌, arith, length, Bool, ℕ, ◌+◌, ◌-◌, ◌<◌, List, [], ◌∷◌, ◌++◌, Option, Result, Ok, Err, OnOk, IfErr, refl, sym, ◌∙◌, ap, subst, append_assoc}
 use Rattle.std.proofs.lemmas.List.{append-nil}
 use Rattle.capnp_frame.specs.declared.error.Error.{Error}
 use Rattle.capnp_frame.specs.declared.error.ErrorKind.{ErrorKind}
@@ -40,42 +40,55 @@ progress_begins m c held level limit words = record {
   counted = counts_none words;
 }
 
-pub progress_next : {m : List (List ℕ)} {c : Bool} {held rest others : List Place} {place : Place} {level : ℕ} {limit left after counted_then counted_now counted_after : Option ℕ}
-    → rest ≡ place ∷ others → Progress m c held rest level limit left counted_then counted_now → Walked m c place level left after counted_now counted_after
+pub some_left : {place : Place} {rest others : List Place} → rest ≡ place ∷ others → rest ≢ []
+some_left is none = absurd (omega (arith, ap length is, ap length none))
+
+-- then over some more of them, or over one
+pub progress_over : {m : List (List ℕ)} {c : Bool} {held rest front others : List Place} {level : ℕ} {limit left after counted_then counted_now counted_after : Option ℕ}
+    → rest ≡ front ++ others → Progress m c held rest level limit left counted_then counted_now → WalkedAll m c front level left after counted_now counted_after
     → Progress m c held others level limit after counted_then counted_after
-progress_next {m} {c} {held} {rest} {others} {place} {level} {limit} {left} {after} {counted_then} {counted_now} {counted_after} is p w =
+progress_over {m} {c} {held} {rest} {front} {others} {level} {limit} {left} {after} {counted_then} {counted_now} {counted_after} is p w =
     let fits : Within (less limit p.charge) w.charge = subst (λ (l : Option ℕ). Within l w.charge) p.left_is w.within in
     record {
-      front = p.front ++ place ∷ [];
-      held_is = p.held_is ∙ ap (λ (l : List Place). p.front ++ l) is ∙ sym (append_assoc p.front (place ∷ []) others);
+      front = p.front ++ front;
+      held_is = p.held_is ∙ ap (λ (l : List Place). p.front ++ l) is ∙ sym (append_assoc p.front front others);
       charge = p.charge + w.charge;
       words = p.words + w.words;
-      stand = stood_both m c p.front (place ∷ []) level p.charge w.charge p.words w.words p.stand w.stand;
+      stand = stood_both m c p.front front level p.charge w.charge p.words w.words p.stand w.stand;
       within = within_both limit p.charge w.charge p.within fits;
       left_is = w.left_is ∙ ap (λ (l : Option ℕ). less l w.charge) p.left_is ∙ less_both limit p.charge w.charge;
       counted = counts_both counted_then counted_now counted_after p.words w.words p.counted w.counted;
     }
 
+pub progress_next : {m : List (List ℕ)} {c : Bool} {held rest others : List Place} {place : Place} {level : ℕ} {limit left after counted_then counted_now counted_after : Option ℕ}
+    → rest ≡ place ∷ others → Progress m c held rest level limit left counted_then counted_now → Walked m c place level left after counted_now counted_after
+    → Progress m c held others level limit after counted_then counted_after
+progress_next {m} {c} {held} {rest} {others} {place} {level} {limit} {left} {after} {counted_then} {counted_now} {counted_after} is p w =
+    progress_over {front = place ∷ []} is p (record { charge = w.charge; words = w.words; stand = w.stand; within = w.within; left_is = w.left_is; counted = w.counted })
+
+-- it stops among those that are left, or at the first of them
+pub progress_stopped : {m : List (List ℕ)} {c : Bool} {held rest : List Place} {level : ℕ} {limit left counted_then counted_now : Option ℕ} {kind : ErrorKind}
+    → Progress m c held rest level limit left counted_then counted_now → StopsWalk m rest level left kind → StopsWalk m held level limit kind
+progress_stopped {m} {c} {held} {rest} {level} {limit} {left} {kind = kind} p stops =
+    subst (λ (l : List Place). StopsWalk m l level limit kind) (sym p.held_is)
+    (stops_after m p.front rest level p.charge (total_words p.stand.trees) limit kind (plain_stand m p.front level p.charge c p.words p.stand) p.within
+    (subst (λ (l : Option ℕ). StopsWalk m rest level l kind) p.left_is stops))
+
 pub progress_stops : {m : List (List ℕ)} {c : Bool} {held rest others : List Place} {place : Place} {level : ℕ} {limit left counted_then counted_now : Option ℕ} {kind : ErrorKind}
     → rest ≡ place ∷ others → Progress m c held rest level limit left counted_then counted_now → StopsWalk m (place ∷ []) level left kind → StopsWalk m held level limit kind
-progress_stops {m} {c} {held} {rest} {others} {place} {level} {limit} {left} {counted_then} {counted_now} {kind} is p stops =
-    let there : StopsWalk m (place ∷ others) level (less limit p.charge) kind =
-    stops_more m place others level (less limit p.charge) kind (subst (λ (l : Option ℕ). StopsWalk m (place ∷ []) level l kind) p.left_is stops) in
-    subst (λ (l : List Place). StopsWalk m l level limit kind) (sym (p.held_is ∙ ap (λ (l : List Place). p.front ++ l) is))
-    (stops_after m p.front (place ∷ others) level p.charge (total_words p.stand.trees) limit kind (plain_stand m p.front level p.charge c p.words p.stand) p.within there)
+progress_stops {m} {others = others} {place = place} {level = level} {left = left} {kind = kind} is p stops =
+    progress_stopped p (subst (λ (l : List Place). StopsWalk m l level left kind) (sym is) (stops_more m place others level left kind stops))
+
+-- what it is over
+pub progress_front : {m : List (List ℕ)} {c : Bool} {held rest : List Place} {level : ℕ} {limit left counted_then counted_now : Option ℕ}
+    (p : Progress m c held rest level limit left counted_then counted_now) → WalkedAll m c p.front level limit left counted_then counted_now
+progress_front p = record { charge = p.charge; words = p.words; stand = p.stand; within = p.within; left_is = p.left_is; counted = p.counted }
 
 pub progress_done : {m : List (List ℕ)} {c : Bool} {held rest : List Place} {level : ℕ} {limit left counted_then counted_now : Option ℕ}
     → rest ≡ [] → Progress m c held rest level limit left counted_then counted_now → WalkedAll m c held level limit left counted_then counted_now
 progress_done {m} {c} {held} {rest} {level} {limit} {left} {counted_then} {counted_now} done p =
     let all : held ≡ p.front = p.held_is ∙ ap (λ (l : List Place). p.front ++ l) done ∙ append-nil p.front in
-    record {
-      charge = p.charge;
-      words = p.words;
-      stand = subst (λ (l : List Place). TreesWithRoom m l level p.charge c p.words) (sym all) p.stand;
-      within = p.within;
-      left_is = p.left_is;
-      counted = p.counted;
-    }
+    subst (λ (l : List Place). WalkedAll m c l level limit left counted_then counted_now) (sym all) (progress_front p)
 
 pub walked_null : (m : List (List ℕ)) (c : Bool) (place : Place) (level : ℕ) (limit words : Option ℕ) → PointsTo m place nothing → Walked m c place level limit limit words words
 walked_null m c place level limit words object = record {

@@ -1,10 +1,16 @@
 -- What a walk over trees may still be charged, and the words that it has counted (src/layout/walk.rt).
-use Rattle.std.specs.Prelude.{◌≡◌, Bool, ℕ, ◌+◌, ◌-◌, ◌^◌, ◌<◌, ◌≤◌, List, [], ◌∷◌, Option, Some, None, IfSome, if◌then◌else◌}
+use Rattle.std.specs.Prelude.{◌≡◌, Bool, ℕ, ◌+◌, ◌-◌, ◌^◌, ◌<◌, ◌≤◌, List, [], ◌∷◌, ◌++◌, Option, Some, None, IfSome, if◌then◌else◌}
+use Rattle.capnp_wire.specs.Pointer.{words_of}
 use Rattle.capnp_wire.specs.Tree.{Trees, depth, total_words}
+use Rattle.capnp_wire.specs.Landing.{IsObject, words_in}
 use Rattle.capnp_wire.specs.Reached.{At}
 use Rattle.capnp_wire.specs.Layout.{formed, AllHaveRoom}
+use Rattle.capnp_wire.specs.Near.{struct_of}
+use Rattle.capnp_wire.specs.Copy.{formed_body}
 use Rattle.capnp_wire.specs.declared.layout.place.Place.{Place}
 use Rattle.capnp_wire.specs.declared.layout.walk.Walk.{Walk}
+use Rattle.capnp_wire.specs.declared.layout.near.NearStruct.{NearStruct}
+use Rattle.capnp_wire.specs.declared.layout.object.Body.TheVariants.{Struct}
 
 -- a charge is within the limit, where there is one
 abbrev pub Within : Option ℕ → ℕ → Type 0
@@ -64,3 +70,18 @@ pub record Walked (m : List (List ℕ)) (canonical : Bool) (place : Place) (leve
   pub within : Within limit charge
   pub left_is : left ≡ less limit charge
   pub counted : CountsMore words_before words_now words
+
+-- What a walk over the pointers at some places finds up to a struct that holds others, with `rest` behind it: all in
+-- front of it, and then its own words alone.
+pub record WalkedTo (m : List (List ℕ)) (canonical : Bool) (at rest : List Place) (parent : NearStruct) (level : ℕ) (limit left words_before words_now : Option ℕ) : Type 0 where
+  pub front : List Place
+  pub place : Place
+  pub at_is : at ≡ front ++ place ∷ rest
+  pub left_there : Option ℕ
+  pub words_there : Option ℕ
+  pub in_front : WalkedAll m canonical front level limit left_there words_before words_there
+  pub there : IsObject m place (struct_of parent)
+  pub deep : 0 < level
+  pub within : Within left_there (parent.size.data_words + parent.size.pointers)
+  pub left_is : left ≡ less left_there (parent.size.data_words + parent.size.pointers)
+  pub counted : CountsMore words_there words_now (words_in (formed_body canonical (words_of parent.segment.now) parent.start.word (Struct parent.size)))

@@ -1,7 +1,9 @@
 //! The short ways: to null, to a struct and to a list of numbers in the segment of their pointer.
 ghost use Rattle.std.specs.Prelude.{◌≡◌, ◌↔◌, ℕ, List, ◌+◌, ◌/◌, ◌^◌, ◌<◌, ◌≤◌, length, Some, slice_get, IfSome, IsTrue};
 ghost use Rattle.capnp_wire.specs.Pointer.{words_of};
+ghost use Rattle.capnp_wire.specs.Object.{places};
 ghost use Rattle.capnp_wire.specs.Landing.{IsObject};
+ghost use Rattle.capnp_wire.specs.Rows.{places_in};
 ghost use Rattle.capnp_wire.specs.Near.{AreNull, object_of, struct_of};
 ghost use Rattle.capnp_wire.specs.Copy.{formed_body, IsNarrower};
 ghost use Rattle.capnp_wire.specs.declared.layout.object.Body.{Body};
@@ -13,6 +15,7 @@ use crate::layout::number_list::NumberList;
 use crate::layout::object::{fits, words_fit};
 use crate::layout::place::{Place, word};
 use crate::layout::pointer::{NearShape, PointerWord, StructSize};
+use crate::layout::rows::PointerRows;
 
 // Most pointers of most messages are null, or lead to structs, or to lists of numbers, which hold no
 // pointers. So a walk over many of them asks here first, of the segment that it has in hand: it then
@@ -129,6 +132,18 @@ impl NearStruct<'_> {
             segment: self.start.segment,
             word: self.start.word + self.size.data_words as usize,
         }
+    }
+
+    /// Its pointers.
+    #[inline(always)]
+    pub(crate) fn pointers(&self) -> PointerRows
+        requires room { self.now.start.word + (self.now.size.data_words + self.now.size.pointers)
+            ≤ length self.now.segment.now / 8 }
+        ensures places { places_in result ≡ places self.now.start.segment
+            (self.now.start.word + self.now.size.data_words) self.now.size.pointers }
+        ensures segment { result.next.segment ≡ self.now.start.segment }
+    {
+        PointerRows::run(self.first_pointer(), self.size.pointers as u32)
     }
 
     /// Whether its first pointers are null, so many of them.

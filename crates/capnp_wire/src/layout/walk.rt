@@ -1,16 +1,16 @@
 //! Walks over all objects that a pointer leads to.
-ghost use Rattle.std.specs.Prelude.{◌≡◌, ◌≢◌, ◌+◌, ◌-◌, ◌/◌, ◌^◌, ◌<◌, ◌≤◌, [], ◌∷◌, length, slice_get, Some, IfErr, OnOk};
+ghost use Rattle.std.specs.Prelude.{◌≡◌, ◌≢◌, ◌+◌, ◌-◌, ◌/◌, ◌^◌, ◌<◌, ◌≤◌, [], ◌∷◌, length, slice_get, Some, IfErr, IfOk, OnOk, MatchOption};
 ghost use Rattle.capnp_frame.specs.declared.error.ErrorKind.{ErrorKind};
 ghost use Rattle.capnp_wire.specs.Pointer.{words_of};
 ghost use Rattle.capnp_wire.specs.Object.{message_of, places};
 ghost use Rattle.capnp_wire.specs.Landing.{IsObject, room_of, words_in};
-ghost use Rattle.capnp_wire.specs.Charge.{counted, Within, Exceeds, CountsMore, Walked, WalkedAll, less};
+ghost use Rattle.capnp_wire.specs.Charge.{counted, Within, Exceeds, CountsMore, Walked, WalkedAll, WalkedTo, less};
 ghost use Rattle.capnp_wire.specs.Faults.{StopsWalk};
 ghost use Rattle.capnp_wire.specs.Copy.{formed_body};
 ghost use Rattle.capnp_wire.specs.Rows.{places_in};
 
 use crate::layout::formed::formed_as;
-use crate::layout::near::{is_null, near_list, near_struct};
+use crate::layout::near::{NearStruct, is_null, near_list, near_struct};
 use crate::layout::object::{Object, object_at, words_fit};
 use crate::layout::place::Place;
 use crate::layout::rows::PointerRows;
@@ -149,6 +149,46 @@ impl Walk {
             IfErr result (λ error.
             StopsWalk m (places_in pointers) level self.old.left error.kind) }
     {
+        // What a parent holds is gone over here, and only what its children hold by a call.
+        'parents: while let Some(parent) =
+            self.next_parent(segments, segment, &mut pointers, level, canonical)?
+        {
+            let mut below = parent.pointers();
+            'children: while let Some(child) =
+                self.next_parent(segments, parent.segment, &mut below, level - 1, canonical)?
+            {
+                self.walk_run(segments, child.segment, child.first_pointer(),
+                    child.size.pointers as u32, level - 2, canonical)?;
+            }
+        }
+        Ok(())
+    }
+
+    // The same up to a struct that holds others: that is entered alone, and answered.
+    #[inline(always)]
+    #[cycle(walk)]
+    fn next_parent<'a, S: ReaderSegments>(
+        &mut self,
+        segments: &S,
+        segment: &'a [u8],
+        pointers: &mut PointerRows,
+        level: u32,
+        canonical: bool,
+    ) -> Result<Option<NearStruct<'a>>>
+        requires content { places_in pointers.old ≢ [] →
+            slice_get (message_of (S.segments segments.now)) pointers.old.next.segment
+            ≡ Some (words_of segment.now) }
+        ensures found { let m = message_of (S.segments segments.now) in
+            IfOk result (λ met. MatchOption met
+            (WalkedAll m canonical (places_in pointers.old) level
+            self.old.left self.new.left (counted self.old) (counted self.new))
+            (λ parent. WalkedTo m canonical (places_in pointers.old) (places_in pointers.new)
+            parent level self.old.left self.new.left (counted self.old) (counted self.new))) }
+        ensures refused { let m = message_of (S.segments segments.now) in
+            IfErr result (λ error.
+            StopsWalk m (places_in pointers.old) level self.old.left error.kind) }
+        ensures segment { pointers.new.next.segment ≡ pointers.old.next.segment }
+    {
         'pointers: while !pointers.is_empty() {
             let place = pointers.take();
             // What most pointers lead to needs no call.
@@ -158,13 +198,9 @@ impl Walk {
             if let Some(found) = near_struct(segment, place, level) {
                 self.pay(found.size.words())?;
                 self.count(found.formed(canonical).words());
-                let count = found.size.pointers;
-                if found.holds_nulls(count) {
-                    continue 'pointers;
+                if !found.holds_nulls(found.size.pointers) {
+                    return Ok(Some(found));
                 }
-                let first = found.first_pointer();
-                let segment = found.segment;
-                self.walk_run(segments, segment, first, count as u32, level - 1, canonical)?;
             } else if let Some(list) = near_list(segment, place, level) {
                 self.pay(list.charge())?;
                 self.count(list.words());
@@ -172,7 +208,7 @@ impl Walk {
                 self.walk(segments, place, level, canonical)?;
             }
         }
-        Ok(())
+        Ok(None)
     }
 
     // As `walk_pointers`, of so many pointers that stand one behind the other. All that it is told

@@ -1,5 +1,5 @@
 -- How far a walk over the pointers of an object has come.
-use Rattle.std.proofs.Common.{◌≡◌, ◌≢◌, ◌+◌, ◌*◌, [], length, slice_get, Some}
+use Rattle.std.proofs.Common.{◌≡◌, ◌≢◌, ◌+◌, ◌-◌, ◌*◌, [], length, slice_get, Some}
 use Rattle.capnp_wire.specs.Pointer.{words_of}
 use Rattle.capnp_wire.specs.Object.{message_of}
 use Rattle.capnp_wire.specs.Rows.{places_in}
@@ -8,19 +8,41 @@ use Rattle.capnp_wire.proofs.ProgressLemmas.{Progress}
 use Rattle.capnp_wire.proofs.layout.walk.Walk.+walk.Given as goal
 
 abbrev pub decreases-walk : goal.decreases-walk
-decreases-walk g l = 3 * l.level
+decreases-walk g l = 4 * l.level
 
 abbrev pub decreases-walk_run : goal.decreases-walk_run
-decreases-walk_run g l = 3 * l.level + 2
+decreases-walk_run g l = 4 * l.level + 3
 
 abbrev pub decreases-walk_pointers : goal.decreases-walk_pointers
-decreases-walk_pointers g l = 3 * l.level + 1
+decreases-walk_pointers g l = 4 * l.level + 2
 
-abbrev pub invariant-walk_pointers-pointers : goal.invariant-walk_pointers-pointers
-invariant-walk_pointers-pointers g l =
+abbrev pub decreases-next_parent : goal.decreases-next_parent
+decreases-next_parent g l = 4 * l.level + 1
+
+abbrev pub invariant-next_parent-pointers : goal.invariant-next_parent-pointers
+invariant-next_parent-pointers g l =
+    Progress (message_of (g.S.ReaderSegments.segments l.segments)) l.canonical (places_in l.fn.pointers) (places_in l.pointers) l.level
+    l.fn.self.left l.self.left (counted l.fn.self) (counted l.self)
+    × (places_in l.pointers ≢ [] → slice_get (message_of (g.S.ReaderSegments.segments l.segments)) l.pointers.next.segment ≡ Some (words_of l.segment))
+    × (l.pointers.next.segment ≡ l.fn.pointers.next.segment)
+
+abbrev pub decreases-next_parent-pointers : goal.decreases-next_parent-pointers
+decreases-next_parent-pointers g l = length (places_in l.pointers)
+
+abbrev pub invariant-walk_pointers-parents : goal.invariant-walk_pointers-parents
+invariant-walk_pointers-parents g l =
     Progress (message_of (g.S.ReaderSegments.segments l.segments)) l.canonical (places_in l.fn.pointers) (places_in l.pointers) l.level
     l.fn.self.left l.self.left (counted l.fn.self) (counted l.self)
     × (places_in l.pointers ≢ [] → slice_get (message_of (g.S.ReaderSegments.segments l.segments)) l.pointers.next.segment ≡ Some (words_of l.segment))
 
-abbrev pub decreases-walk_pointers-pointers : goal.decreases-walk_pointers-pointers
-decreases-walk_pointers-pointers g l = length (places_in l.pointers)
+abbrev pub decreases-walk_pointers-parents : goal.decreases-walk_pointers-parents
+decreases-walk_pointers-parents g l = length (places_in l.pointers)
+
+abbrev pub invariant-walk_pointers-children : goal.invariant-walk_pointers-children
+invariant-walk_pointers-children g l =
+    Progress (message_of (g.S.ReaderSegments.segments l.segments)) l.canonical (places_in l.initial.below) (places_in l.below) (l.level - 1)
+    l.initial.self.left l.self.left (counted l.initial.self) (counted l.self)
+    × (slice_get (message_of (g.S.ReaderSegments.segments l.segments)) l.below.next.segment ≡ Some (words_of l.parent.segment.now))
+
+abbrev pub decreases-walk_pointers-children : goal.decreases-walk_pointers-children
+decreases-walk_pointers-children g l = length (places_in l.below)
