@@ -24,6 +24,8 @@ use Rattle.capnp_wire.proofs.FaultLemmas.{refused_has_no_object}
 use Rattle.capnp_wire.proofs.CopyLemmas.{none_at}
 use Rattle.capnp_wire.proofs.OpenLemmas.{Opened, under}
 use Rattle.capnp_wire.proofs.OpenedLemmas.{opened}
+use Rattle.capnp_wire.proofs.NearLemmas.{list_formed}
+use Rattle.capnp_wire.proofs.PointerRowLemmas.{kept_held}
 
 -- the object that is read
 pub opened_here : {m : List (List ℕ)} {place : Place} {object : ReadObject} {copied : Body} {level : ℕ} {c : Bool} {next room : ℕ} (can : CanCopy m (place ∷ []) level c next room)
@@ -135,26 +137,17 @@ object_is_copied {m} {place} {words} {start} {from} {copied} {level} {inner} {c}
     })
 
 -- a list of pointers, which has no words of its own but these
-run_places : (start : Place) (n : ℕ) → kept_in start (Pointers n) n ≡ places start.segment start.word n
-run_places start n =
-    let here : start.word + 0 ≡ start.word = omega arith in
-    append-nil (places start.segment (start.word + 0) n) ∙ ap (λ (w : ℕ). places start.segment w n) here
-
-list_formed : (c : Bool) (words : List ℕ) (start n : ℕ) → Pointers n ≡ formed_body c words start (Pointers n)
-list_formed true words start n = refl
-list_formed false words start n = refl
-
 list_opened : {m : List (List ℕ)} {place : Place} {object : ReadObject} {n level : ℕ} {c : Bool} {next room : ℕ} (can : CanCopy m (place ∷ []) level c next room)
     → IsObject m place object → object.body ≡ Pointers n
     → Opened m (words_of object.segment.now) object.start (Pointers n) (Pointers n) (level - 1) c next room can.trees
 list_opened {m} {place} {object} {n} {level} {c} {next} {room} can is body_is =
     subst (λ (b : Body). Opened m (words_of object.segment.now) object.start b (Pointers n) (level - 1) c next room can.trees) body_is
-    (opened_here can is (list_formed c (words_of object.segment.now) object.start.word n ∙ ap (formed_body c (words_of object.segment.now) object.start.word) (sym body_is)))
+    (opened_here can is (list_formed c (words_of object.segment.now) object.start.word (Pointers n) tt ∙ ap (formed_body c (words_of object.segment.now) object.start.word) (sym body_is)))
 
 pub pointers_kept : {m : List (List ℕ)} {place : Place} {object : ReadObject} {n level : ℕ} {c : Bool} {next room : ℕ} (can : CanCopy m (place ∷ []) level c next room)
     → IsObject m place object → object.body ≡ Pointers n → CanCopy m (places object.start.segment object.start.word n) (level - 1) c (next + n) room
 pointers_kept {m} {place} {object} {n} {level} {c} {next} {room} can is body_is =
-    subst (λ (l : List Place). CanCopy m l (level - 1) c (next + n) room) (run_places object.start n) (list_opened can is body_is).kept
+    subst (λ (l : List Place). CanCopy m l (level - 1) c (next + n) room) (kept_held (words_of object.segment.now) object.start (Pointers n)) (list_opened can is body_is).kept
 
 pub pointers_are_copied : {m : List (List ℕ)} {place : Place} {object : ReadObject} {copied : Body} {n level : ℕ} {c : Bool} {gap next room free pointer : ℕ} {old new : List ℕ}
     (can : CanCopy m (place ∷ []) level c next room) → IsObject m place object → object.body ≡ Pointers n → copied ≡ formed_body c (words_of object.segment.now) object.start.word object.body
@@ -163,12 +156,12 @@ pub pointers_are_copied : {m : List (List ℕ)} {place : Place} {object : ReadOb
     → ((trees : Trees) (charge : ℕ) → At m (places object.start.segment object.start.word n) trees charge → free ≡ next + n + total_words (formed c trees))
     → pointer ≡ pointer_of_body copied gap → (trees : Trees) (charge : ℕ) → At m (place ∷ []) trees charge → IsCopied (formed c trees) gap next old new (record { pointer = pointer; next = free })
 pointers_are_copied {m} {place} {object} {copied} {n} {level} {c} {gap} {next} {room} {free} {pointer} {old} {new} can is body_is copied_is long filled nexts pointer_is =
-    let list_is : copied ≡ Pointers n = copied_is ∙ ap (formed_body c (words_of object.segment.now) object.start.word) body_is ∙ sym (list_formed c (words_of object.segment.now) object.start.word n) in
+    let list_is : copied ≡ Pointers n = copied_is ∙ ap (formed_body c (words_of object.segment.now) object.start.word) body_is ∙ sym (list_formed c (words_of object.segment.now) object.start.word (Pointers n) tt) in
     let here : next + 0 ≡ next = omega arith in
     let slots_are : run next n ≡ slots_of next (Pointers n) = sym (append-nil (run (next + 0) n) ∙ ap (λ (k : ℕ). run k n) here) in
     object_is_copied can (list_opened can is body_is) long refl
     (λ trees charge stand.
-    filled trees charge (subst (λ (l : List Place). At m l trees charge) (run_places object.start n) stand)
+    filled trees charge (subst (λ (l : List Place). At m l trees charge) (kept_held (words_of object.segment.now) object.start (Pointers n)) stand)
     ∙ ap (λ (l : List ℕ). fill l (next + n) (formed c trees) old) slots_are)
-    (λ trees charge stand. nexts trees charge (subst (λ (l : List Place). At m l trees charge) (run_places object.start n) stand))
+    (λ trees charge stand. nexts trees charge (subst (λ (l : List Place). At m l trees charge) (kept_held (words_of object.segment.now) object.start (Pointers n)) stand))
     (pointer_is ∙ ap (λ (b : Body). pointer_of_body b gap) list_is)

@@ -1,5 +1,6 @@
 -- Lists of numbers and structs, and that they stand where near pointers lead to them.
 use Rattle.std.proofs.Common.{◌≡◌, Bool, true, false, if◌then◌else◌, ℕ, ◌+◌, ◌*◌, ◌/◌, ◌^◌, ◌<◌, ◌≤◌, List, All, length, Some, slice_get, Bor, Option, refl, ◌∙◌, ap, subst, arith}
+use Rattle.std.specs.Prelude.{⊤}
 use Rattle.capnp_wire.specs.Pointer.{words_of, offset, pointer_kind}
 use Rattle.capnp_wire.specs.PointerWord.{IsNearShape}
 use Rattle.capnp_wire.specs.Element.{code_of, width, words_for}
@@ -11,11 +12,10 @@ use Rattle.capnp_wire.specs.Copy.{least_size, formed_body}
 use Rattle.capnp_wire.specs.declared.layout.place.Place.{Place}
 use Rattle.capnp_wire.specs.declared.layout.element.ElementSize.{ElementSize}
 use Rattle.capnp_wire.specs.declared.layout.number_list.NumberList.{NumberList}
-use Rattle.capnp_wire.specs.declared.layout.near.NearStruct.{NearStruct}
 use Rattle.capnp_wire.specs.declared.layout.pointer.NearShape.TheVariants.{Numbers as NearNumbers, Struct as NearStructShape}
 use Rattle.capnp_wire.specs.declared.layout.object.Body.{Body}
 use Rattle.capnp_wire.specs.declared.layout.pointer.StructSize.{StructSize}
-use Rattle.capnp_wire.specs.declared.layout.object.Body.TheVariants.{Struct, Numbers}
+use Rattle.capnp_wire.specs.declared.layout.object.Body.TheVariants.{Struct, Numbers, Pointers, Structs}
 use Rattle.capnp_wire.proofs.LandingLemmas.{struct_stands, numbers_stand}
 use Rattle.capnp_wire.proofs.RoomLemmas.{stands_room}
 use Rattle.capnp_wire.proofs.ProgressLemmas.{entered, walked_alone}
@@ -73,17 +73,25 @@ struct_stands_near m place pointer segment start size word positive small conten
     near_stands m place pointer segment start (Struct size) (size.data_words + size.pointers) word positive small (omega (arith, is.0)) content begins
     (stands, refl) (omega arith) words_fit room (omega arith)
 
--- it is the same in canonical form
-pub numbers_formed : (c : Bool) (words : List ℕ) (start : ℕ) (size : ElementSize) (count : ℕ) → Numbers size count ≡ formed_body c words start (Numbers size count)
-numbers_formed true words start size count = refl
-numbers_formed false words start size count = refl
+-- a list without structs is the same in canonical form
+abbrev pub IsPlainList : Body → Type 0
+IsPlainList (Numbers size count) = ⊤
+IsPlainList (Pointers count) = ⊤
+IsPlainList other = ⊥
 
--- a walk that meets it meets nothing below it
+pub list_formed : (c : Bool) (words : List ℕ) (start : ℕ) (list : Body) → IsPlainList list → list ≡ formed_body c words start list
+list_formed true words start (Numbers size count) plain = refl
+list_formed true words start (Pointers count) plain = refl
+list_formed true words start (Struct size) plain = absurd plain
+list_formed true words start (Structs elements words_behind) plain = absurd plain
+list_formed false words start list plain = refl
+
+-- a walk that meets a list of numbers meets nothing below it
 pub number_list_walked : (m : List (List ℕ)) (c : Bool) (place : Place) (list : NumberList) (level : ℕ) (limit left counted_then counted_now : Option ℕ) (charge words : ℕ)
     → IsObject m place (object_of list) → 0 < level → charge ≡ charge_of (Numbers list.size list.count) → words ≡ words_for list.count (width (code_of list.size))
     → Within limit charge → left ≡ less limit charge → CountsMore counted_then counted_now words → Walked m c place level limit left counted_then counted_now
 number_list_walked m c place list level limit left before now charge words is deep charge_is words_are within left_is counted =
-    let formed_words = words_are ∙ ap words_in (numbers_formed c (words_of list.segment.now) list.start.word list.size list.count) in
+    let formed_words = words_are ∙ ap words_in (list_formed c (words_of list.segment.now) list.start.word (Numbers list.size list.count) tt) in
     walked_alone
     (entered m c place (object_of list) level limit left before now is deep (subst (Within limit) charge_is within) (subst (λ (x : ℕ). left ≡ less limit x) charge_is left_is)
     (subst (CountsMore before now) formed_words counted))

@@ -13,13 +13,13 @@ use Rattle.capnp_wire.specs.declared.layout.number_list.NumberList.{NumberList}
 use Rattle.capnp_wire.specs.declared.layout.object.Body.TheVariants.{Numbers}
 use Rattle.capnp_wire.proofs.CopyLemmas.{none_at, none_formed, fill_nothing}
 use Rattle.capnp_wire.proofs.CopiedLemmas.{opened_here, object_is_copied}
-use Rattle.capnp_wire.proofs.NearLemmas.{numbers_formed}
+use Rattle.capnp_wire.proofs.NearLemmas.{list_formed}
 use Rattle.capnp_wire.proofs.OpenLemmas.{Opened}
 
 pub number_list_opened : {m : List (List ℕ)} {place : Place} {level : ℕ} {c : Bool} {next room : ℕ} (list : NumberList) (can : CanCopy m (place ∷ []) level c next room)
     → IsObject m place (object_of list)
     → Opened m (words_of list.segment.now) list.start (Numbers list.size list.count) (Numbers list.size list.count) (level - 1) c next room can.trees
-number_list_opened {c = c} list can is = opened_here can is (numbers_formed c (words_of list.segment.now) list.start.word list.size list.count)
+number_list_opened {c = c} list can is = opened_here can is (list_formed c (words_of list.segment.now) list.start.word (Numbers list.size list.count) tt)
 
 -- it holds no pointers, so its own words are its copy
 pub number_list_copied : {m : List (List ℕ)} {place : Place} {level : ℕ} {c : Bool} {gap next room free pointer : ℕ} {old new : List ℕ}

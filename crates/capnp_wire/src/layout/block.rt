@@ -61,8 +61,17 @@ fn copy_bytes(to: &mut [u8], bytes: &[u8])
     match bytes.len() {
         16 => to[..16].copy_from_slice(&bytes[..16]),
         24 => to[..24].copy_from_slice(&bytes[..24]),
-        _ => to.copy_from_slice(bytes),
+        _ => copy_long(to, bytes),
     }
+}
+
+// The same in a call, which leaves registers to the loops that copy.
+#[inline(never)]
+fn copy_long(to: &mut [u8], bytes: &[u8])
+    requires { length to.old ≡ length bytes.now }
+    ensures { to.new ≡ bytes.now }
+{
+    to.copy_from_slice(bytes);
 }
 
 impl BlockItem for Word {

@@ -150,15 +150,29 @@ impl Walk {
             StopsWalk m (places_in pointers) level self.old.left error.kind) }
     {
         // What a parent holds is gone over here, and only what its children hold by a call.
-        'parents: while let Some(parent) =
-            self.next_parent(segments, segment, &mut pointers, level, canonical)?
-        {
+        'parents: while let Some(parent) = self.next_parent(
+            segments,
+            segment,
+            &mut pointers,
+            level,
+            canonical,
+        )? {
             let mut below = parent.pointers();
-            'children: while let Some(child) =
-                self.next_parent(segments, parent.segment, &mut below, level - 1, canonical)?
-            {
-                self.walk_run(segments, child.segment, child.first_pointer(),
-                    child.size.pointers as u32, level - 2, canonical)?;
+            'children: while let Some(child) = self.next_parent(
+                segments,
+                parent.segment,
+                &mut below,
+                level - 1,
+                canonical,
+            )? {
+                self.walk_run(
+                    segments,
+                    child.segment,
+                    child.first_pointer(),
+                    child.size.pointers as u32,
+                    level - 2,
+                    canonical,
+                )?;
             }
         }
         Ok(())

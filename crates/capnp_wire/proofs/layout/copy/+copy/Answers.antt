@@ -1,10 +1,10 @@
 -- An object is copied, and then what its pointers lead to, one after the other.
-use Rattle.std.proofs.Common.{◌≡◌, ◌+◌, ◌<◌, ◌∙◌, ap, sym, refl, arith, length}
+use Rattle.std.proofs.Common.{◌≡◌, ◌+◌, ◌∙◌, ap, sym, refl, arith, length}
 use Rattle.capnp_wire.specs.Pointer.{words_of}
-use Rattle.capnp_wire.specs.Object.{message_of, places}
+use Rattle.capnp_wire.specs.Object.{places}
 use Rattle.capnp_wire.specs.Landing.{room_of}
 use Rattle.capnp_wire.specs.Layout.{run}
-use Rattle.capnp_wire.specs.Rows.{kept_in, slots_of, places_in, slots_in}
+use Rattle.capnp_wire.specs.Rows.{kept_in, slots_of}
 use Rattle.capnp_wire.specs.declared.layout.object.Body.TheVariants.{Struct}
 use Rattle.capnp_wire.specs.declared.layout.rows.RowSize.{RowSize}
 use Rattle.capnp_wire.proofs.CopyLemmas.{copying_begins, copying_first, copying_next, copying_ends}

@@ -1,10 +1,10 @@
 -- A walk meets an object, and then goes over its pointers.
-use Rattle.std.proofs.Common.{◌≡◌, ◌∙◌, ◌+◌, ◌-◌, length, ap, refl, sym, arith}
+use Rattle.std.proofs.Common.{◌≡◌, ◌∙◌, ◌+◌, ◌-◌, refl, sym, arith}
 use Rattle.std.proofs.lemmas.List.{append-nil}
 use Rattle.capnp_wire.specs.Pointer.{words_of}
 use Rattle.capnp_wire.specs.Object.{message_of, places, is_null as null_there}
 use Rattle.capnp_wire.proofs.NearLemmas.{word_there, number_list_walked}
-use Rattle.capnp_wire.proofs.ParentLemmas.{struct_met, struct_entered, struct_walked, struct_stops, some_before}
+use Rattle.capnp_wire.proofs.ParentLemmas.{struct_met, struct_walked, struct_stops, some_before}
 use Rattle.capnp_wire.specs.Rows.{places_in}
 use Rattle.capnp_wire.specs.Faults.{at_pointer}
 use Rattle.capnp_wire.specs.Charge.{counted}
