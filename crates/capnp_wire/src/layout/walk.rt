@@ -149,7 +149,7 @@ impl Walk {
             IfErr result (λ error.
             StopsWalk m (places_in pointers) level self.old.left error.kind) }
     {
-        // What a parent holds is gone over here, and only what its children hold by a call.
+        // Only what a parent's children hold takes a call.
         'parents: while let Some(parent) = self.next_parent(
             segments,
             segment,
@@ -158,11 +158,12 @@ impl Walk {
             canonical,
         )? {
             let mut below = parent.pointers();
+            let inside = level - 1;
             'children: while let Some(child) = self.next_parent(
                 segments,
                 parent.segment,
                 &mut below,
-                level - 1,
+                inside,
                 canonical,
             )? {
                 self.walk_run(
@@ -170,7 +171,7 @@ impl Walk {
                     child.segment,
                     child.first_pointer(),
                     child.size.pointers as u32,
-                    level - 2,
+                    inside - 1,
                     canonical,
                 )?;
             }

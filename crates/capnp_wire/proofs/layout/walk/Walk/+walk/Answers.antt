@@ -189,9 +189,8 @@ walk_pointers-children-preserved g t c =
     let met = rw c.in-Some-2.is at c.in_ok-child.ensures.found in
     let all : places c.first_pointer.result.segment c.first_pointer.result.word c.in-Some-2.child.size.pointers
     ≡ places c.in-Some-2.child.start.segment (c.in-Some-2.child.start.word + c.in-Some-2.child.size.data_words) c.in-Some-2.child.size.pointers =
-    rw (c.first_pointer.ensures.segment, c.first_pointer.ensures.word) refl in
-    let deeper : c.args.level - 1 - 1 ≡ c.args.level - 2 = omega arith in (
-      struct_walked c.children.invariant.0 met all (rw deeper c.in_ok-walk_run.ensures.found),
+    rw (c.first_pointer.ensures.segment, c.first_pointer.ensures.word) refl in (
+      struct_walked c.children.invariant.0 met all c.in_ok-walk_run.ensures.found,
       rw c.next_parent-in-children.ensures.segment c.children.invariant.1,
     )
 
@@ -202,9 +201,8 @@ walk_pointers-returns-in_err-walk_run-clause-refused g t c =
     let all : places c.first_pointer.result.segment c.first_pointer.result.word c.in-Some-2.child.size.pointers
     ≡ places c.in-Some-2.child.start.segment (c.in-Some-2.child.start.word + c.in-Some-2.child.size.data_words) c.in-Some-2.child.size.pointers =
     rw (c.first_pointer.ensures.segment, c.first_pointer.ensures.word) refl in
-    let deeper : c.args.level - 1 - 1 ≡ c.args.level - 2 = omega arith in
     passed_on _ _ c.from_residual-in_err-walk_run.ensures.1
-    (struct_stops c.parents.invariant.0 parent c.pointers-below.ensures.places (struct_stops c.children.invariant.0 child all (rw deeper c.in_err-walk_run.ensures.refused)))
+    (struct_stops c.parents.invariant.0 parent c.pointers-below.ensures.places (struct_stops c.children.invariant.0 child all c.in_err-walk_run.ensures.refused))
 
 pub walk_pointers-parents-preserved : goal.walk_pointers-parents-preserved
 walk_pointers-parents-preserved g t c =
