@@ -59,6 +59,7 @@ fn copy_bytes(to: &mut [u8], bytes: &[u8])
         return;
     }
     match bytes.len() {
+        0 => (),
         16 => to[..16].copy_from_slice(&bytes[..16]),
         24 => to[..24].copy_from_slice(&bytes[..24]),
         _ => copy_long(to, bytes),
