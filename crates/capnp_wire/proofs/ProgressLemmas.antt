@@ -64,7 +64,7 @@ pub progress_next : {m : List (List ℕ)} {c : Bool} {held rest others : List Pl
     → rest ≡ place ∷ others → Progress m c held rest level limit left counted_then counted_now → Walked m c place level left after counted_now counted_after
     → Progress m c held others level limit after counted_then counted_after
 progress_next {m} {c} {held} {rest} {others} {place} {level} {limit} {left} {after} {counted_then} {counted_now} {counted_after} is p w =
-    progress_over {front = place ∷ []} is p (record { charge = w.charge; words = w.words; stand = w.stand; within = w.within; left_is = w.left_is; counted = w.counted })
+    progress_over {front = place ∷ []} is p w
 
 -- it stops among those that are left, or at the first of them
 pub progress_stopped : {m : List (List ℕ)} {c : Bool} {held rest : List Place} {level : ℕ} {limit left counted_then counted_now : Option ℕ} {kind : ErrorKind}

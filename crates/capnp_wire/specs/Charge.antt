@@ -53,7 +53,7 @@ pub record TreesWithRoom (m : List (List ℕ)) (at : List Place) (level charge :
   pub rooms : AllHaveRoom trees
   pub words_are : total_words (formed canonical trees) ≡ words
 
--- What a walk over the trees at some places finds.
+-- What a walk over the trees at some places finds: they stand there, within the level and the limit.
 pub record WalkedAll (m : List (List ℕ)) (canonical : Bool) (at : List Place) (level : ℕ) (limit left words_before words_now : Option ℕ) : Type 0 where
   pub charge : ℕ
   pub words : ℕ
@@ -62,14 +62,9 @@ pub record WalkedAll (m : List (List ℕ)) (canonical : Bool) (at : List Place) 
   pub left_is : left ≡ less limit charge
   pub counted : CountsMore words_before words_now words
 
--- What a walk from a place finds: the trees that stand there, within the level and the limit.
-pub record Walked (m : List (List ℕ)) (canonical : Bool) (place : Place) (level : ℕ) (limit left words_before words_now : Option ℕ) : Type 0 where
-  pub charge : ℕ
-  pub words : ℕ
-  pub stand : TreesWithRoom m (place ∷ []) level charge canonical words
-  pub within : Within limit charge
-  pub left_is : left ≡ less limit charge
-  pub counted : CountsMore words_before words_now words
+-- What a walk from one place finds.
+abbrev pub Walked : List (List ℕ) → Bool → Place → ℕ → Option ℕ → Option ℕ → Option ℕ → Option ℕ → Type 0
+Walked m canonical place = WalkedAll m canonical (place ∷ [])
 
 -- What a walk over the pointers at some places finds up to a struct that holds others, with `rest` behind it: all in
 -- front of it, and then its own words alone.
