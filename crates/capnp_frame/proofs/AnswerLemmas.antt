@@ -1,14 +1,19 @@
 -- What the answers of a reader that grows come to.
 use Rattle.std.proofs.Common.{◌≡◌, ℕ, Option, Some, None, IfSome, ◌⊎◌, inl, inr, List, [], Result, Ok, Err, IfErr}
 use Rattle.std.specs.Prelude.{IfOk, IfNone}
+use Rattle.std.specs.List.{AllByRecursion}
 use Rattle.std.specs.Result.{IsErrAnd}
+use Rattle.capnp_frame.specs.declared.io.Read.{Ghosts}
+use Rattle.capnp_frame.specs.Message.{IsWholeWords}
+use Rattle.capnp_frame.specs.Asking.{Asked, FailsOr}
+use Rattle.capnp_frame.specs.Streams.{ReadsStream}
 use Rattle.capnp_frame.specs.declared.error.Error.{Error}
 use Rattle.capnp_frame.specs.declared.error.ErrorKind.{ErrorKind}
 use Rattle.capnp_frame.specs.declared.error.ErrorKind.TheVariants.{DeviceFailed, OutOfMemory}
 use Rattle.capnp_frame.specs.Limits.{IsWithin}
 use Rattle.capnp_frame.specs.Source.{Giving, Refusing, IsSource, IfKnown, IsRefused}
 use Rattle.capnp_frame.specs.Requests.{MessageStands}
-use Rattle.capnp_frame.specs.Refusals.{RefusesStream, IsReaderKind}
+use Rattle.capnp_frame.specs.Refusals.{RefusesStream, TakesMemory, IsReaderKind}
 use Rattle.capnp_frame.proofs.RefusalLemmas.{Unless-after, RefusesStream-once, RefusesStream-apart}
 
 pub accepted : (M : Type 0) {gives : Giving} {refuses : Refusing} (laws : IsSource gives refuses) {X : Type 0}
@@ -48,3 +53,30 @@ pub source_kind : (refuses : Refusing) (n : ℕ) (unread : Option (List ℕ)) (k
 source_kind refuses n unread kind (inl p) = inl p
 source_kind refuses n None kind (inr p) = inr (inr (inr (inr p)))
 source_kind refuses n (Some raw) kind (inr p) = inr (inr (inr (inr (raw, n, p))))
+
+-- a reader that grows keeps all of it, once these are known of its call
+pub reads_stream : {S : Type 0} (source : Ghosts S) (laws : IsSource source.gives source.refuses) (old new : S)
+    (limit : Option ℕ) (r : Result (Option (List (List ℕ))) Error)
+    → IfOk r (λ found. IfSome found (λ segments. IfKnown (source.unread old) (source.unread new) (MessageStands source.gives segments)))
+    → IfOk r (λ found. IfSome found (λ segments. IsWithin segments limit))
+    → IfOk r (λ found. IfSome found (AllByRecursion IsWholeWords))
+    → IfOk r (λ found. IfNone found (IfSome (source.unread old) (λ raw. raw ≡ [])))
+    → FailsOr r (λ kind. ((kind ≡ OutOfMemory) × IfKnown (source.unread old) (source.unread new) (TakesMemory source.gives limit))
+    ⊎ IfKnown (source.unread old) (source.unread new) (RefusesStream source.gives source.refuses limit None kind))
+    → IfErr r (λ error. source.unread old ≡ Some [] → error.kind ≡ DeviceFailed)
+    → IfErr r (λ error. IsReaderKind source.refuses error.kind)
+    → Asked source.unread source.failures source.same old new r
+    → ReadsStream source old new (MessageStands source.gives) limit r
+reads_stream source laws old new limit r found within whole none refused end kinds asked = record {
+  found = found;
+  within = within;
+  whole = whole;
+  none = none;
+  accepted = accepted _ laws limit _ _ r refused;
+  end = end;
+  refused = refused;
+  exact = exact _ laws limit _ _ r found within none refused;
+  kinds = kinds;
+  failed = asked.failed;
+  advances = asked.advances;
+}

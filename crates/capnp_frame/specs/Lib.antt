@@ -19,3 +19,4 @@ pub mod Front
 pub mod FlatRefusals
 pub mod KeptTables
 pub mod Asking
+pub mod Streams

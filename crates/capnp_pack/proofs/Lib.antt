@@ -26,3 +26,4 @@ pub mod PackingLemmas
 pub mod MessageLemmas
 pub mod Shown
 pub mod WorkedRows
+mod PackedStreamLemmas

@@ -7,3 +7,4 @@ pub mod PackedSink
 pub mod Steps
 pub mod UnpackingLaws
 pub mod RefusingLaws
+pub mod PackedStreams

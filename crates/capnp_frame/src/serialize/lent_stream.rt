@@ -1,14 +1,12 @@
 //! Reading messages from a source into a lent buffer.
-ghost use Rattle.std.specs.Prelude.{◌≡◌, ℕ, ◌+◌, ◌*◌, ◌/◌, ◌<◌, ◌≤◌, ◌^◌, List, [], length, sum, IfOk, IfErr, OnOk, IfSome, IfNone, ◌⊎◌, Option, Some, None};
-ghost use Rattle.std.specs.List.{AllByRecursion};
-ghost use Rattle.std.specs.Result.{IsErrAnd};
-ghost use Rattle.capnp_frame.specs.Message.{IsWholeWords, size_in_words};
+ghost use Rattle.std.specs.Prelude.{◌≡◌, ◌+◌, ◌*◌, ◌/◌, ◌<◌, ◌≤◌, ◌^◌, [], length, sum, IfOk, IfErr, OnOk, IfSome, IfNone, Option, Some, None};
 ghost use Rattle.capnp_frame.specs.SegmentTable.{table_size};
-ghost use Rattle.capnp_frame.specs.Limits.{KeepsLimit, IsWithin};
+ghost use Rattle.capnp_frame.specs.Limits.{KeepsLimit};
 ghost use Rattle.capnp_frame.specs.Front.{told_lengths, told_segments, TellsTable, HoldsMessage};
-ghost use Rattle.capnp_frame.specs.Source.{IfKnown, Advances, Fails, IsRefused};
+ghost use Rattle.capnp_frame.specs.Source.{IfKnown, IsRefused};
 ghost use Rattle.capnp_frame.specs.Asking.{Asked, FailsOr};
 ghost use Rattle.capnp_frame.specs.Errors.{IsRefusedBy};
+ghost use Rattle.capnp_frame.specs.Streams.{ReadsStreamInto};
 ghost use Rattle.capnp_frame.specs.Requests.{RestStands, TableStands, MessageStands};
 ghost use Rattle.capnp_frame.specs.Refusals.{TellsAccepted, RefusesTable, RefusesStream, IsLentReaderKind};
 ghost use Rattle.capnp_frame.specs.declared.error.ErrorKind.{ErrorKind};
@@ -32,43 +30,8 @@ pub fn try_read_segments_into<'b, R: Read>(
     buffer: &'b mut [u8],
     options: ReaderOptions,
 ) -> Result<Option<NoAllocBufferSegments<&'b [u8]>>>
-    ensures found { IfOk result (λ found. IfSome found (λ held.
-        IfKnown (R.unread source.old) (R.unread source.new) (MessageStands R.gives held.segments))) }
-    ensures within { IfOk result (λ found. IfSome found (λ held.
-        IsWithin held.segments options.traversal_limit_in_words)) }
-    ensures whole { IfOk result (λ found. IfSome found (λ held.
-        AllByRecursion IsWholeWords held.segments)) }
-    ensures none { IfOk result (λ found. IfNone found
-        (IfSome (R.unread source.old) (λ raw. raw ≡ []))) }
-
-    // A message that stands there and fits the buffer is refused only by the device.
-    ensures accepted { IfSome (R.unread source.old) (λ raw.
-        (segments : List (List ℕ)) (rest : List ℕ) → MessageStands R.gives segments raw rest →
-        IsWithin segments options.traversal_limit_in_words →
-        table_size (length segments) + 8 * size_in_words segments ≤ length buffer.old →
-        IfErr result (λ error. error.kind ≡ ErrorKind.DeviceFailed)) }
-    ensures end { IfErr result (λ error. R.unread source.old ≡ Some [] →
-        8 ≤ length buffer.old → error.kind ≡ ErrorKind.DeviceFailed) }
-
-    // Under 8 bytes of room nothing is asked for.
-    ensures short { length buffer.old < 8 →
-        (source.new ≡ source.old) × IsRefusedBy result ErrorKind.BufferNotLargeEnough }
-
-    // A refusal is the device's, or a line of the table of refusals.
-    ensures refused { IfErr result (λ error. (error.kind ≡ ErrorKind.DeviceFailed)
-        ⊎ IfKnown (R.unread source.old) (R.unread source.new)
-        (RefusesStream R.gives R.refuses options.traversal_limit_in_words
-        (Some (length buffer.old)) error.kind)) }
-    // A line that is the first to hold is answered, but for the device's refusal.
-    ensures exact { IfSome (R.unread source.old) (λ raw. (kind : ErrorKind) (left : List ℕ) →
-        RefusesStream R.gives R.refuses options.traversal_limit_in_words
-        (Some (length buffer.old)) kind raw left →
-        IsErrAnd result (λ error. (error.kind ≡ ErrorKind.DeviceFailed) ⊎ (error.kind ≡ kind))) }
-    ensures kinds { IfErr result (λ error. IsLentReaderKind R.refuses error.kind) }
-    ensures failed { IfErr result (λ error. error.kind ≡ ErrorKind.DeviceFailed →
-        Fails (R.failures source.old) (R.failures source.new)) }
-
-    ensures advances { Advances R.unread R.failures R.same source.old source.new }
+    ensures { ReadsStreamInto R.Read source.old source.new (MessageStands R.gives)
+        options.traversal_limit_in_words (length buffer.old) (λ held. held.segments) result }
 {
     let Some(info) = read_into(source, buffer, options.traversal_limit_in_words)? else {
         return Ok(None);

@@ -1,13 +1,13 @@
 //! Reading messages from a source.
-ghost use Rattle.std.specs.Prelude.{◌≡◌, ℕ, ◌-◌, ◌*◌, ◌/◌, ◌<◌, ◌≤◌, ◌^◌, List, [], length, take, drop, map, sum, IfOk, IfErr, OnOk, IfSome, IfNone, IsOk, ◌⊎◌, Option, Some, None};
+ghost use Rattle.std.specs.Prelude.{◌≡◌, ◌-◌, ◌*◌, ◌/◌, ◌<◌, ◌≤◌, ◌^◌, [], length, take, drop, map, sum, IfOk, IfErr, OnOk, IfSome, IfNone, IsOk, ◌⊎◌, Option, Some, None};
 ghost use Rattle.std.specs.List.{AllByRecursion};
-ghost use Rattle.std.specs.Result.{IsErrAnd};
 ghost use Rattle.capnp_frame.specs.Message.{IsWholeWords};
 ghost use Rattle.capnp_frame.specs.SegmentTable.{field, FitsField, table_size};
 ghost use Rattle.capnp_frame.specs.SegmentLengths.{range_len, AreRanges};
 ghost use Rattle.capnp_frame.specs.Limits.{AreWithin, IsWithin};
-ghost use Rattle.capnp_frame.specs.Source.{IfKnown, Advances, Fails, IsRefused};
+ghost use Rattle.capnp_frame.specs.Source.{IfKnown, IsRefused};
 ghost use Rattle.capnp_frame.specs.Asking.{Asked, FailsOr};
+ghost use Rattle.capnp_frame.specs.Streams.{ReadsStream};
 ghost use Rattle.capnp_frame.specs.Requests.{RestStands, TableStands, MessageStands};
 ghost use Rattle.capnp_frame.specs.Refusals.{RefusesTable, RefusesStream, CountStands, TakesMemory, IsReaderKind};
 ghost use Rattle.capnp_frame.specs.declared.error.ErrorKind.{ErrorKind};
@@ -33,40 +33,8 @@ pub fn try_read_segments<R: Read>(
     source: &mut R,
     options: ReaderOptions,
 ) -> Result<Option<OwnedSegments>>
-    ensures found { IfOk result (λ found. IfSome found (λ segments.
-        IfKnown (R.unread source.old) (R.unread source.new) (MessageStands R.gives segments))) }
-    ensures within { IfOk result (λ found. IfSome found (λ segments.
-        IsWithin segments options.traversal_limit_in_words)) }
-    ensures whole { IfOk result (λ found. IfSome found (AllByRecursion IsWholeWords)) }
-    ensures none { IfOk result (λ found. IfNone found
-        (IfSome (R.unread source.old) (λ raw. raw ≡ []))) }
-
-    // A message that stands there is refused only by these two.
-    ensures accepted { IfSome (R.unread source.old) (λ raw.
-        (segments : List (List ℕ)) (rest : List ℕ) → MessageStands R.gives segments raw rest →
-        IsWithin segments options.traversal_limit_in_words → IfErr result (λ error.
-        (error.kind ≡ ErrorKind.DeviceFailed) ⊎ (error.kind ≡ ErrorKind.OutOfMemory))) }
-    ensures end { IfErr result (λ error. R.unread source.old ≡ Some [] →
-        error.kind ≡ ErrorKind.DeviceFailed) }
-
-    // A refusal is the device's, want of memory where memory is taken, or a line of the table of
-    // refusals.
-    ensures refused { IfErr result (λ error. (error.kind ≡ ErrorKind.DeviceFailed)
-        ⊎ ((error.kind ≡ ErrorKind.OutOfMemory)
-        × IfKnown (R.unread source.old) (R.unread source.new)
-        (TakesMemory R.gives options.traversal_limit_in_words))
-        ⊎ IfKnown (R.unread source.old) (R.unread source.new)
-        (RefusesStream R.gives R.refuses options.traversal_limit_in_words None error.kind)) }
-    // A line that is the first to hold is answered, but for these two.
-    ensures exact { IfSome (R.unread source.old) (λ raw. (kind : ErrorKind) (left : List ℕ) →
-        RefusesStream R.gives R.refuses options.traversal_limit_in_words None kind raw left →
-        IsErrAnd result (λ error. (error.kind ≡ ErrorKind.DeviceFailed)
-        ⊎ (error.kind ≡ ErrorKind.OutOfMemory) ⊎ (error.kind ≡ kind))) }
-    ensures kinds { IfErr result (λ error. IsReaderKind R.refuses error.kind) }
-    ensures failed { IfErr result (λ error. error.kind ≡ ErrorKind.DeviceFailed →
-        Fails (R.failures source.old) (R.failures source.new)) }
-
-    ensures advances { Advances R.unread R.failures R.same source.old source.new }
+    ensures { ReadsStream R.Read source.old source.new (MessageStands R.gives)
+        options.traversal_limit_in_words result }
 {
     next_segments(
         source,
@@ -83,40 +51,8 @@ pub fn try_read_segments_reusing<R: Read>(
     options: ReaderOptions,
     spare: OwnedSegments,
 ) -> Result<Option<OwnedSegments>>
-    ensures found { IfOk result (λ found. IfSome found (λ segments.
-        IfKnown (R.unread source.old) (R.unread source.new) (MessageStands R.gives segments))) }
-    ensures within { IfOk result (λ found. IfSome found (λ segments.
-        IsWithin segments options.traversal_limit_in_words)) }
-    ensures whole { IfOk result (λ found. IfSome found (AllByRecursion IsWholeWords)) }
-    ensures none { IfOk result (λ found. IfNone found
-        (IfSome (R.unread source.old) (λ raw. raw ≡ []))) }
-
-    // A message that stands there is refused only by these two.
-    ensures accepted { IfSome (R.unread source.old) (λ raw.
-        (segments : List (List ℕ)) (rest : List ℕ) → MessageStands R.gives segments raw rest →
-        IsWithin segments options.traversal_limit_in_words → IfErr result (λ error.
-        (error.kind ≡ ErrorKind.DeviceFailed) ⊎ (error.kind ≡ ErrorKind.OutOfMemory))) }
-    ensures end { IfErr result (λ error. R.unread source.old ≡ Some [] →
-        error.kind ≡ ErrorKind.DeviceFailed) }
-
-    // A refusal is the device's, want of memory where memory is taken, or a line of the table of
-    // refusals.
-    ensures refused { IfErr result (λ error. (error.kind ≡ ErrorKind.DeviceFailed)
-        ⊎ ((error.kind ≡ ErrorKind.OutOfMemory)
-        × IfKnown (R.unread source.old) (R.unread source.new)
-        (TakesMemory R.gives options.traversal_limit_in_words))
-        ⊎ IfKnown (R.unread source.old) (R.unread source.new)
-        (RefusesStream R.gives R.refuses options.traversal_limit_in_words None error.kind)) }
-    // A line that is the first to hold is answered, but for these two.
-    ensures exact { IfSome (R.unread source.old) (λ raw. (kind : ErrorKind) (left : List ℕ) →
-        RefusesStream R.gives R.refuses options.traversal_limit_in_words None kind raw left →
-        IsErrAnd result (λ error. (error.kind ≡ ErrorKind.DeviceFailed)
-        ⊎ (error.kind ≡ ErrorKind.OutOfMemory) ⊎ (error.kind ≡ kind))) }
-    ensures kinds { IfErr result (λ error. IsReaderKind R.refuses error.kind) }
-    ensures failed { IfErr result (λ error. error.kind ≡ ErrorKind.DeviceFailed →
-        Fails (R.failures source.old) (R.failures source.new)) }
-
-    ensures advances { Advances R.unread R.failures R.same source.old source.new }
+    ensures { ReadsStream R.Read source.old source.new (MessageStands R.gives)
+        options.traversal_limit_in_words result }
 {
     let (memory, bytes) = spare.into_parts();
     next_segments(source, options.traversal_limit_in_words, memory, bytes)
@@ -124,6 +60,18 @@ pub fn try_read_segments_reusing<R: Read>(
 
 // The next message of a source, or none at its end.
 fn next_segments<R: Read>(
+    source: &mut R,
+    limit: Option<usize>,
+    memory: Vec<(usize, usize)>,
+    spare: Vec<u8>,
+) -> Result<Option<OwnedSegments>>
+    ensures { ReadsStream R.Read source.old source.new (MessageStands R.gives) limit result }
+{
+    read_segments(source, limit, memory, spare)
+}
+
+// Reads the table and the segments.
+fn read_segments<R: Read>(
     source: &mut R,
     limit: Option<usize>,
     memory: Vec<(usize, usize)>,

@@ -1,16 +1,11 @@
 -- The three requests take the three pieces.
 use Rattle.std.proofs.Common.{rules, ◌≡◌}
-use Rattle.capnp_pack.proofs.MessageLemmas.{found_packed, accepted_packed}
+use Rattle.capnp_pack.proofs.PackedStreamLemmas.{packed_reads}
 use Rattle.capnp_pack.proofs.stream.try_read_packed_segments_reusing.Goals as goal
 
-pub returns-clause-found : goal.returns-clause-found
-returns-clause-found g c =
-    let found = rw c.new-packed.ensures.source at c.try_read_segments_reusing.ensures.found in
-    let packed = found_packed c.try_read_segments_reusing.result _ _ found in
+pub returns : goal.returns
+returns g c =
+    let told = c.try_read_segments_reusing.ensures in
     let behind : c.source-1.given.0 ≡ c.try_read_segments_reusing.new.source.source.now = search rules in
-    rw behind packed
-
-pub returns-clause-accepted : goal.returns-clause-accepted
-returns-clause-accepted g c =
-    let accepted = rw c.new-packed.ensures.source at c.try_read_segments_reusing.ensures.accepted in
-    accepted_packed _ c.try_read_segments_reusing.result _ accepted
+    let reads = packed_reads (λ p. p.source.now) g.R.Read _ _ _ c.args.options.traversal_limit_in_words c.try_read_segments_reusing.result told.advances.same_source.1 told in
+    rw behind (rw c.new-packed.ensures.source at reads)
