@@ -6,7 +6,7 @@ use Rattle.std.specs.Result.{IsErrAnd}
 use Rattle.capnp_frame.specs.declared.io.Read.{Ghosts}
 use Rattle.capnp_frame.specs.Message.{IsWholeWords}
 use Rattle.capnp_frame.specs.Asking.{Asked, FailsOr}
-use Rattle.capnp_frame.specs.Streams.{ReadsStream}
+use Rattle.capnp_frame.specs.Streams.{framed_rules, ReadsStream}
 use Rattle.capnp_frame.specs.declared.error.Error.{Error}
 use Rattle.capnp_frame.specs.declared.error.ErrorKind.{ErrorKind}
 use Rattle.capnp_frame.specs.declared.error.ErrorKind.TheVariants.{DeviceFailed, OutOfMemory}
@@ -66,7 +66,7 @@ pub reads_stream : {S : Type 0} (source : Ghosts S) (laws : IsSource source.give
     → IfErr r (λ error. source.unread old ≡ Some [] → error.kind ≡ DeviceFailed)
     → IfErr r (λ error. IsReaderKind source.refuses error.kind)
     → Asked source.unread source.failures source.same old new r
-    → ReadsStream source old new (MessageStands source.gives) limit r
+    → ReadsStream source old new (framed_rules source.gives source.refuses) limit r
 reads_stream source laws old new limit r found within whole none refused end kinds asked = record {
   found = found;
   within = within;

@@ -14,7 +14,7 @@ use Rattle.capnp_frame.specs.Limits.{KeepsLimit, AreWithin, IsWithin}
 use Rattle.capnp_frame.specs.Source.{Giving, Refusing, IsSource, IfKnown, IsTail, IsRefused, Advances, Fails}
 use Rattle.capnp_frame.specs.Refusals.{RefusesStream, IsLentReaderKind}
 use Rattle.capnp_frame.specs.declared.io.Read.{Ghosts}
-use Rattle.capnp_frame.specs.Streams.{ReadsStreamInto}
+use Rattle.capnp_frame.specs.Streams.{framed_rules, ReadsStreamInto}
 use Rattle.capnp_frame.specs.Requests.{TableStands, MessageStands}
 use Rattle.capnp_frame.specs.Front.{told_lengths, told_segments, TellsTable, HoldsMessage}
 use Rattle.capnp_frame.proofs.RequestLemmas.{MessageStands-cut}
@@ -179,48 +179,48 @@ lent_apart laws limit buffer count len segments (Some raw) (Some rest) holds are
     let room = holds.room in
     RefusesStream-apart laws limit (Some len) kind raw left rest segments found within (λ lacks. absurd (omega arith)) met
 
--- what the reader keeps, where it finds a message
-pub reads_into : {S X : Type 0} (source : Ghosts S) (laws : IsSource source.gives source.refuses) (old new : S)
-    (limit : Option ℕ) (room : ℕ) (buffer : List ℕ) (count : ℕ) (segments : X → List (List ℕ)) (held : X)
-    → HoldsMessage buffer count → segments held ≡ told_segments count buffer → length buffer ≡ room
+-- what the reader returns, where it finds a message
+pub reads_into : {S : Type 0} (source : Ghosts S) (laws : IsSource source.gives source.refuses) (old new : S)
+    (limit : Option ℕ) (room : ℕ) (buffer : List ℕ) (count : ℕ) (segments : List (List ℕ))
+    → HoldsMessage buffer count → segments ≡ told_segments count buffer → length buffer ≡ room
     → KeepsLimit (told_lengths count buffer) limit
     → IfKnown (source.unread old) (source.unread new) (MessageStands source.gives (told_segments count buffer))
     → (room < 8 → ⊥) → Advances source.unread source.failures source.same old new
-    → ReadsStreamInto source old new (MessageStands source.gives) limit room segments (Ok (Some held))
-reads_into source laws old new limit room buffer count segments held holds are long keeps stands enough advances =
+    → ReadsStreamInto source old new (framed_rules source.gives source.refuses) limit room (Ok (Some segments))
+reads_into source laws old new limit room buffer count segments holds are long keeps stands enough advances =
     let found = subst (λ m. IfKnown (source.unread old) (source.unread new) (MessageStands source.gives m)) (sym are) stands in
-    let within = within_held buffer count (segments held) limit holds are keeps in
+    let within = within_held buffer count segments limit holds are keeps in
     record {
       found = found;
       within = within;
-      whole = (begins_held buffer count (segments held) holds are).1.1.whole;
+      whole = (begins_held buffer count segments holds are).1.1.whole;
       none = tt;
-      accepted = lent_accepted laws limit room _ (source.unread new) (Ok (Some held)) tt;
+      accepted = lent_accepted laws limit room _ (source.unread new) (Ok (Some segments)) tt;
       end = tt;
       short = λ few. absurd (enough few);
       refused = tt;
-      exact = lent_apart laws limit buffer count room (segments held) _ _ holds are long found within;
+      exact = lent_apart laws limit buffer count room segments _ _ holds are long found within;
       kinds = tt;
       failed = tt;
       advances = advances;
     }
 
--- and where it is refused
-pub refused_into : {S X : Type 0} (source : Ghosts S) (laws : IsSource source.gives source.refuses) (old new : S)
-    (limit : Option ℕ) (room : ℕ) (segments : X → List (List ℕ)) (error : Error)
+-- and where it fails
+pub refused_into : {S : Type 0} (source : Ghosts S) (laws : IsSource source.gives source.refuses) (old new : S)
+    (limit : Option ℕ) (room : ℕ) (error : Error)
     → (error.kind ≡ DeviceFailed)
     ⊎ IfKnown (source.unread old) (source.unread new) (RefusesStream source.gives source.refuses limit (Some room) error.kind)
     → (source.unread old ≡ Some [] → 8 ≤ room → error.kind ≡ DeviceFailed)
     → (room < 8 → (new ≡ old) × (error.kind ≡ BufferNotLargeEnough)) → IsLentReaderKind source.refuses error.kind
     → (error.kind ≡ DeviceFailed → Fails (source.failures old) (source.failures new))
     → Advances source.unread source.failures source.same old new
-    → ReadsStreamInto source old new (MessageStands source.gives) limit room segments (Err error)
-refused_into {X = X} source laws old new limit room segments error refused end short kinds failed advances = record {
+    → ReadsStreamInto source old new (framed_rules source.gives source.refuses) limit room (Err error)
+refused_into source laws old new limit room error refused end short kinds failed advances = record {
   found = tt;
   within = tt;
   whole = tt;
   none = tt;
-  accepted = lent_accepted laws {X = Option X} limit room _ (source.unread new) (Err error) refused;
+  accepted = lent_accepted laws {X = Option (List (List ℕ))} limit room _ (source.unread new) (Err error) refused;
   end = end;
   short = short;
   refused = refused;

@@ -1,7 +1,8 @@
--- What the readers of streams keep (src/serialize/stream.rt, src/serialize/lent_stream.rt).
+-- What the readers of streams return, and when they fail (src/serialize/stream.rt, src/serialize/lent_stream.rt).
 use Rattle.std.specs.Prelude.{◌≡◌, ℕ, ◌+◌, ◌*◌, ◌<◌, ◌≤◌, ◌⊎◌, List, [], length, Option, Some, None, Result, IfOk, IfErr, IfSome, IfNone}
 use Rattle.std.specs.List.{AllByRecursion}
-use Rattle.std.specs.Result.{IsErrAnd}
+use Rattle.std.specs.Option.{option_map}
+use Rattle.std.specs.Result.{IsErrAnd, result_map_both}
 use Rattle.capnp_frame.specs.declared.error.Error.{Error}
 use Rattle.capnp_frame.specs.declared.error.ErrorKind.{ErrorKind}
 use Rattle.capnp_frame.specs.declared.error.ErrorKind.TheVariants.{DeviceFailed, OutOfMemory, BufferNotLargeEnough}
@@ -9,65 +10,103 @@ use Rattle.capnp_frame.specs.declared.io.Read.{Ghosts}
 use Rattle.capnp_frame.specs.Message.{IsWholeWords, size_in_words}
 use Rattle.capnp_frame.specs.SegmentTable.{table_size}
 use Rattle.capnp_frame.specs.Limits.{IsWithin}
-use Rattle.capnp_frame.specs.Source.{IfKnown, Advances, Fails}
+use Rattle.capnp_frame.specs.Requests.{MessageStands}
+use Rattle.capnp_frame.specs.Source.{Giving, Refusing, IfKnown, Advances, Fails}
 use Rattle.capnp_frame.specs.Errors.{IsRefusedBy}
 use Rattle.capnp_frame.specs.Refusals.{RefusesStream, TakesMemory, IsReaderKind, IsLentReaderKind}
 
--- A message stands at the front of `raw`, and `rest` behind it: stands segments raw rest.
+-- A message stands at the front of `raw`, and `rest` after it: stands segments raw rest.
 abbrev pub Standing : Type 1
 Standing = List (List ℕ) → List ℕ → List ℕ → Type 0
 
--- What each reader of a stream that grows keeps. `source` is what is seen of the source (the members of the trait Read),
+-- What a reader returns, by the message that it sees in it: of a value that holds one, and of one that may.
+abbrev pub message_in : {X : Type 0} → (X → List (List ℕ)) → Result X Error → Result (List (List ℕ)) Error
+message_in segments result = result_map_both segments (λ error. error) result
+
+abbrev pub next_in : {X : Type 0} → (X → List (List ℕ)) → Result (Option X) Error → Result (Option (List (List ℕ))) Error
+next_in segments result = result_map_both (option_map segments) (λ error. error) result
+
+-- What a reader of streams goes by: the format, and in it the rule of padding.
+pub record StreamRules : Type 1 where
+  -- where a message stands
+  pub stands : Standing
+  -- where a reader that grows takes memory, within a limit of words: takes_memory limit raw left
+  pub takes_memory : Option ℕ → List ℕ → List ℕ → Type 0
+  -- the table of refusals, within a limit of words and the bytes of a caller-provided buffer: the first line that holds
+  -- fails with this kind, and leaves `left` unread: refuses limit room kind raw left
+  pub refuses : Option ℕ → Option ℕ → ErrorKind → List ℕ → List ℕ → Type 0
+  -- the kinds that a reader that grows fails with, also where the unread bytes aren't known
+  pub kinds : ErrorKind → Type 0
+  -- and those of a reader into a caller-provided buffer
+  pub provided_kinds : ErrorKind → Type 0
+
+-- Framed messages over a source whose requests take and fail so, of any padding.
+abbrev pub framed_rules : Giving → Refusing → StreamRules
+framed_rules gives refuses = record {
+  stands = MessageStands gives;
+  takes_memory = TakesMemory gives;
+  refuses = RefusesStream gives refuses;
+  kinds = IsReaderKind refuses;
+  provided_kinds = IsLentReaderKind refuses;
+}
+
+-- What each reader of a stream that grows returns. `source` is what is seen of the source (the members of the trait Read),
 -- `old` and `new` are the source before the call and after it.
-pub record ReadsStream {S : Type 0} (source : Ghosts S) (old new : S) (stands : Standing) (limit : Option ℕ)
+pub record ReadsStream {S : Type 0} (source : Ghosts S) (old new : S) (rules : StreamRules) (limit : Option ℕ)
     (result : Result (Option (List (List ℕ))) Error) : Type 0 where
-  -- what is answered stands there, and just its bytes are consumed
-  pub found : IfOk result (λ found. IfSome found (λ segments. IfKnown (source.unread old) (source.unread new) (stands segments)))
+  -- the message that is returned stands there, and just its bytes are consumed
+  pub found : IfOk result (λ found. IfSome found (λ segments. IfKnown (source.unread old) (source.unread new) (rules.stands segments)))
+  -- it has 1 to 511 segments and is within the limit of words
   pub within : IfOk result (λ found. IfSome found (λ segments. IsWithin segments limit))
+  -- its segments are whole words
   pub whole : IfOk result (λ found. IfSome found (AllByRecursion IsWholeWords))
+  -- None is returned only where nothing is unread
   pub none : IfOk result (λ found. IfNone found (IfSome (source.unread old) (λ raw. raw ≡ [])))
-  -- a message that stands there is refused only by these two
-  pub accepted : IfSome (source.unread old) (λ raw. (segments : List (List ℕ)) (rest : List ℕ) → stands segments raw rest
+  -- where a message stands, the call fails only with the device's failure or for want of memory
+  pub accepted : IfSome (source.unread old) (λ raw. (segments : List (List ℕ)) (rest : List ℕ) → rules.stands segments raw rest
       → IsWithin segments limit → IfErr result (λ error. (error.kind ≡ DeviceFailed) ⊎ (error.kind ≡ OutOfMemory)))
+  -- where nothing is unread, only with the device's failure
   pub end : IfErr result (λ error. source.unread old ≡ Some [] → error.kind ≡ DeviceFailed)
-  -- a refusal is the device's, want of memory where memory is taken, or a line of the table of refusals
+  -- it fails with the device's failure, for want of memory where memory is taken, or with a line of the table of refusals
   pub refused : IfErr result (λ error. (error.kind ≡ DeviceFailed)
-      ⊎ ((error.kind ≡ OutOfMemory) × IfKnown (source.unread old) (source.unread new) (TakesMemory source.gives limit))
-      ⊎ IfKnown (source.unread old) (source.unread new) (RefusesStream source.gives source.refuses limit None error.kind))
-  -- a line that is the first to hold is answered, but for these two
-  pub exact : IfSome (source.unread old) (λ raw. (kind : ErrorKind) (left : List ℕ)
-      → RefusesStream source.gives source.refuses limit None kind raw left
+      ⊎ ((error.kind ≡ OutOfMemory) × IfKnown (source.unread old) (source.unread new) (rules.takes_memory limit))
+      ⊎ IfKnown (source.unread old) (source.unread new) (rules.refuses limit None error.kind))
+  -- where a line is the first to hold, the call fails with that line's kind, but for these two
+  pub exact : IfSome (source.unread old) (λ raw. (kind : ErrorKind) (left : List ℕ) → rules.refuses limit None kind raw left
       → IsErrAnd result (λ error. (error.kind ≡ DeviceFailed) ⊎ (error.kind ≡ OutOfMemory) ⊎ (error.kind ≡ kind)))
-  pub kinds : IfErr result (λ error. IsReaderKind source.refuses error.kind)
+  pub kinds : IfErr result (λ error. rules.kinds error.kind)
   -- the device is blamed only where it failed
   pub failed : IfErr result (λ error. error.kind ≡ DeviceFailed → Fails (source.failures old) (source.failures new))
-  -- and the source moves on, or stays
+  -- the source moves on, or stays
   pub advances : Advances source.unread source.failures source.same old new
 
--- What each reader of a stream into a lent buffer keeps: of `room` bytes, in which `segments` sees what is answered.
-pub record ReadsStreamInto {S X : Type 0} (source : Ghosts S) (old new : S) (stands : Standing) (limit : Option ℕ) (room : ℕ)
-    (segments : X → List (List ℕ)) (result : Result (Option X) Error) : Type 0 where
-  -- what is answered stands there, and just its bytes are consumed
-  pub found : IfOk result (λ found. IfSome found (λ held. IfKnown (source.unread old) (source.unread new) (stands (segments held))))
-  pub within : IfOk result (λ found. IfSome found (λ held. IsWithin (segments held) limit))
-  pub whole : IfOk result (λ found. IfSome found (λ held. AllByRecursion IsWholeWords (segments held)))
+-- What each reader of a stream into a caller-provided buffer of `room` bytes returns. It takes no memory.
+pub record ReadsStreamInto {S : Type 0} (source : Ghosts S) (old new : S) (rules : StreamRules) (limit : Option ℕ) (room : ℕ)
+    (result : Result (Option (List (List ℕ))) Error) : Type 0 where
+  -- the message that is returned stands there, and just its bytes are consumed
+  pub found : IfOk result (λ found. IfSome found (λ segments. IfKnown (source.unread old) (source.unread new) (rules.stands segments)))
+  -- it has 1 to 511 segments and is within the limit of words
+  pub within : IfOk result (λ found. IfSome found (λ segments. IsWithin segments limit))
+  -- its segments are whole words
+  pub whole : IfOk result (λ found. IfSome found (AllByRecursion IsWholeWords))
+  -- None is returned only where nothing is unread
   pub none : IfOk result (λ found. IfNone found (IfSome (source.unread old) (λ raw. raw ≡ [])))
-  -- a message that stands there and fits the buffer is refused only by the device
-  pub accepted : IfSome (source.unread old) (λ raw. (segments : List (List ℕ)) (rest : List ℕ) → stands segments raw rest
+  -- where a message stands and fits the buffer, the call fails only with the device's failure
+  pub accepted : IfSome (source.unread old) (λ raw. (segments : List (List ℕ)) (rest : List ℕ) → rules.stands segments raw rest
       → IsWithin segments limit → table_size (length segments) + 8 * size_in_words segments ≤ room
       → IfErr result (λ error. error.kind ≡ DeviceFailed))
+  -- where nothing is unread and the buffer has a word, only with the device's failure
   pub end : IfErr result (λ error. source.unread old ≡ Some [] → 8 ≤ room → error.kind ≡ DeviceFailed)
-  -- under 8 bytes of room nothing is asked for
+  -- a buffer under 8 bytes asks the source for nothing
   pub short : room < 8 → (new ≡ old) × IsRefusedBy result BufferNotLargeEnough
-  -- a refusal is the device's, or a line of the table of refusals
+  -- it fails with the device's failure, or with a line of the table of refusals
   pub refused : IfErr result (λ error. (error.kind ≡ DeviceFailed)
-      ⊎ IfKnown (source.unread old) (source.unread new) (RefusesStream source.gives source.refuses limit (Some room) error.kind))
-  -- a line that is the first to hold is answered, but for the device's refusal
-  pub exact : IfSome (source.unread old) (λ raw. (kind : ErrorKind) (left : List ℕ)
-      → RefusesStream source.gives source.refuses limit (Some room) kind raw left
+      ⊎ IfKnown (source.unread old) (source.unread new) (rules.refuses limit (Some room) error.kind))
+  -- where a line is the first to hold, the call fails with that line's kind, but for the device's failure
+  pub exact : IfSome (source.unread old) (λ raw. (kind : ErrorKind) (left : List ℕ) → rules.refuses limit (Some room) kind raw left
       → IsErrAnd result (λ error. (error.kind ≡ DeviceFailed) ⊎ (error.kind ≡ kind)))
-  pub kinds : IfErr result (λ error. IsLentReaderKind source.refuses error.kind)
+  pub kinds : IfErr result (λ error. rules.provided_kinds error.kind)
   -- the device is blamed only where it failed
   pub failed : IfErr result (λ error. error.kind ≡ DeviceFailed → Fails (source.failures old) (source.failures new))
-  -- and the source moves on, or stays
+  -- the source moves on, or stays
   pub advances : Advances source.unread source.failures source.same old new

@@ -1,16 +1,14 @@
 -- The engine's readers over a packed source, in packed texts.
-use Rattle.std.proofs.Common.{◌≡◌, ℕ, ◌+◌, ◌*◌, ◌≤◌, ap, Option, Result, IfErr, List, length}
+use Rattle.std.proofs.Common.{◌≡◌, ◌⊎◌, ℕ, ◌+◌, ◌*◌, ◌≤◌, ap, Option, Result, IfErr, List, length}
 use Rattle.capnp_frame.specs.declared.error.Error.{Error}
-use Rattle.capnp_frame.specs.declared.error.ErrorKind.TheVariants.{DeviceFailed}
+use Rattle.capnp_frame.specs.declared.error.ErrorKind.TheVariants.{DeviceFailed, OutOfMemory}
 use Rattle.capnp_frame.specs.declared.io.Read.{Ghosts}
 use Rattle.capnp_frame.specs.Message.{size_in_words}
 use Rattle.capnp_frame.specs.SegmentTable.{table_size}
-use Rattle.capnp_frame.specs.Requests.{MessageStands}
-use Rattle.capnp_frame.specs.Streams.{ReadsStream, ReadsStreamInto}
-use Rattle.capnp_pack.specs.PackedFrame.{PackedStands}
+use Rattle.capnp_frame.specs.Streams.{framed_rules, ReadsStream, ReadsStreamInto}
 use Rattle.capnp_pack.specs.PackedSource.{Unpacks, RefusesPiece}
-use Rattle.capnp_pack.specs.PackedStreams.{packed}
-use Rattle.capnp_pack.proofs.MessageLemmas.{found_packed, accepted_packed, found_packed_in, accepted_packed_in}
+use Rattle.capnp_pack.specs.PackedStreams.{packed_rules}
+use Rattle.capnp_pack.proofs.MessageLemmas.{found_packed, accepted_packed}
 
 -- what unpacks a source, `behind` it
 abbrev pub unpacked : {S T : Type 0} → (T → S) → Ghosts S → (T → T → Type 0) → Ghosts T
@@ -24,14 +22,14 @@ unpacked behind source same = record {
 
 pub packed_reads : {S T : Type 0} (behind : T → S) (source : Ghosts S) (same : T → T → Type 0) (old new : T)
     (limit : Option ℕ) (r : Result (Option (List (List ℕ))) Error) → source.same (behind old) (behind new)
-    → ReadsStream (unpacked behind source same) old new (MessageStands Unpacks) limit r
-    → ReadsStream (packed source) (behind old) (behind new) PackedStands limit r
+    → ReadsStream (unpacked behind source same) old new (framed_rules Unpacks RefusesPiece) limit r
+    → ReadsStream source (behind old) (behind new) packed_rules limit r
 packed_reads behind source same old new limit r same_source told = record {
   found = found_packed r _ _ told.found;
   within = told.within;
   whole = told.whole;
   none = told.none;
-  accepted = accepted_packed limit r _ told.accepted;
+  accepted = accepted_packed limit (λ m. IfErr r (λ error. (error.kind ≡ DeviceFailed) ⊎ (error.kind ≡ OutOfMemory))) _ told.accepted;
   end = told.end;
   refused = told.refused;
   exact = told.exact;
@@ -40,17 +38,16 @@ packed_reads behind source same old new limit r same_source told = record {
   advances = record { tail = told.advances.tail; counted = told.advances.counted; same_source = same_source };
 }
 
-pub packed_reads_into : {S T X : Type 0} (behind : T → S) (source : Ghosts S) (same : T → T → Type 0) (old new : T)
-    (limit : Option ℕ) (room : ℕ) (segments : X → List (List ℕ)) (r : Result (Option X) Error)
-    → source.same (behind old) (behind new)
-    → ReadsStreamInto (unpacked behind source same) old new (MessageStands Unpacks) limit room segments r
-    → ReadsStreamInto (packed source) (behind old) (behind new) PackedStands limit room segments r
-packed_reads_into behind source same old new limit room segments r same_source told = record {
-  found = found_packed_in segments r _ _ told.found;
+pub packed_reads_into : {S T : Type 0} (behind : T → S) (source : Ghosts S) (same : T → T → Type 0) (old new : T)
+    (limit : Option ℕ) (room : ℕ) (r : Result (Option (List (List ℕ))) Error) → source.same (behind old) (behind new)
+    → ReadsStreamInto (unpacked behind source same) old new (framed_rules Unpacks RefusesPiece) limit room r
+    → ReadsStreamInto source (behind old) (behind new) packed_rules limit room r
+packed_reads_into behind source same old new limit room r same_source told = record {
+  found = found_packed r _ _ told.found;
   within = told.within;
   whole = told.whole;
   none = told.none;
-  accepted = accepted_packed_in limit (λ m. table_size (length m) + 8 * size_in_words m ≤ room
+  accepted = accepted_packed limit (λ m. table_size (length m) + 8 * size_in_words m ≤ room
       → IfErr r (λ error. error.kind ≡ DeviceFailed)) _ told.accepted;
   end = told.end;
   short = λ few. (ap behind (told.short few).0, (told.short few).1);

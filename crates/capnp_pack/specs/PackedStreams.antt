@@ -1,7 +1,8 @@
--- What the readers of packed streams see of a source (src/stream.rt).
-use Rattle.capnp_frame.specs.declared.io.Read.{Ghosts}
+-- Streams of packed messages (src/stream.rt).
+use Rattle.capnp_frame.specs.Streams.{StreamRules, framed_rules}
+use Rattle.capnp_pack.specs.PackedFrame.{PackedStands}
 use Rattle.capnp_pack.specs.PackedSource.{Unpacks, RefusesPiece}
 
--- a source of packed messages: its requests are packed pieces
-abbrev pub packed : {S : Type 0} → Ghosts S → Ghosts S
-packed source = record source { gives = Unpacks; refuses = RefusesPiece }
+-- Packed messages, of any padding: each request is a packed piece.
+abbrev pub packed_rules : StreamRules
+packed_rules = record (framed_rules Unpacks RefusesPiece) { stands = PackedStands }

@@ -1,7 +1,6 @@
 //! Packed messages, read by the engine of `capnp_frame` over `PackedRead`.
 ghost use Rattle.capnp_frame.specs.Streams.{ReadsStream};
-ghost use Rattle.capnp_pack.specs.PackedFrame.{PackedStands};
-ghost use Rattle.capnp_pack.specs.PackedStreams.{packed};
+ghost use Rattle.capnp_pack.specs.PackedStreams.{packed_rules};
 
 mod lent;
 
@@ -22,7 +21,7 @@ pub fn try_read_packed_segments<R: BufRead>(
     source: &mut R,
     options: ReaderOptions,
 ) -> Result<Option<OwnedSegments>>
-    ensures { ReadsStream (packed R.Read) source.old source.new PackedStands
+    ensures { ReadsStream R.Read source.old source.new packed_rules
         options.traversal_limit_in_words result }
 {
     let mut packed = PackedRead::new(source);
@@ -35,7 +34,7 @@ pub fn try_read_packed_segments_reusing<R: BufRead>(
     options: ReaderOptions,
     spare: OwnedSegments,
 ) -> Result<Option<OwnedSegments>>
-    ensures { ReadsStream (packed R.Read) source.old source.new PackedStands
+    ensures { ReadsStream R.Read source.old source.new packed_rules
         options.traversal_limit_in_words result }
 {
     let mut packed = PackedRead::new(source);

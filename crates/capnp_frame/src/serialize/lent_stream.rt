@@ -6,7 +6,7 @@ ghost use Rattle.capnp_frame.specs.Front.{told_lengths, told_segments, TellsTabl
 ghost use Rattle.capnp_frame.specs.Source.{IfKnown, IsRefused};
 ghost use Rattle.capnp_frame.specs.Asking.{Asked, FailsOr};
 ghost use Rattle.capnp_frame.specs.Errors.{IsRefusedBy};
-ghost use Rattle.capnp_frame.specs.Streams.{ReadsStreamInto};
+ghost use Rattle.capnp_frame.specs.Streams.{next_in, framed_rules, ReadsStreamInto};
 ghost use Rattle.capnp_frame.specs.Requests.{RestStands, TableStands, MessageStands};
 ghost use Rattle.capnp_frame.specs.Refusals.{TellsAccepted, RefusesTable, RefusesStream, IsLentReaderKind};
 ghost use Rattle.capnp_frame.specs.declared.error.ErrorKind.{ErrorKind};
@@ -30,8 +30,9 @@ pub fn try_read_segments_into<'b, R: Read>(
     buffer: &'b mut [u8],
     options: ReaderOptions,
 ) -> Result<Option<NoAllocBufferSegments<&'b [u8]>>>
-    ensures { ReadsStreamInto R.Read source.old source.new (MessageStands R.gives)
-        options.traversal_limit_in_words (length buffer.old) (λ held. held.segments) result }
+    ensures { ReadsStreamInto R.Read source.old source.new (framed_rules R.gives R.refuses)
+        options.traversal_limit_in_words (length buffer.old)
+        (next_in (λ held. held.segments) result) }
 {
     let Some(info) = read_into(source, buffer, options.traversal_limit_in_words)? else {
         return Ok(None);

@@ -7,7 +7,7 @@ ghost use Rattle.capnp_frame.specs.SegmentLengths.{range_len, AreRanges};
 ghost use Rattle.capnp_frame.specs.Limits.{AreWithin, IsWithin};
 ghost use Rattle.capnp_frame.specs.Source.{IfKnown, IsRefused};
 ghost use Rattle.capnp_frame.specs.Asking.{Asked, FailsOr};
-ghost use Rattle.capnp_frame.specs.Streams.{ReadsStream};
+ghost use Rattle.capnp_frame.specs.Streams.{framed_rules, ReadsStream};
 ghost use Rattle.capnp_frame.specs.Requests.{RestStands, TableStands, MessageStands};
 ghost use Rattle.capnp_frame.specs.Refusals.{RefusesTable, RefusesStream, CountStands, TakesMemory, IsReaderKind};
 ghost use Rattle.capnp_frame.specs.declared.error.ErrorKind.{ErrorKind};
@@ -33,7 +33,7 @@ pub fn try_read_segments<R: Read>(
     source: &mut R,
     options: ReaderOptions,
 ) -> Result<Option<OwnedSegments>>
-    ensures { ReadsStream R.Read source.old source.new (MessageStands R.gives)
+    ensures { ReadsStream R.Read source.old source.new (framed_rules R.gives R.refuses)
         options.traversal_limit_in_words result }
 {
     next_segments(
@@ -51,7 +51,7 @@ pub fn try_read_segments_reusing<R: Read>(
     options: ReaderOptions,
     spare: OwnedSegments,
 ) -> Result<Option<OwnedSegments>>
-    ensures { ReadsStream R.Read source.old source.new (MessageStands R.gives)
+    ensures { ReadsStream R.Read source.old source.new (framed_rules R.gives R.refuses)
         options.traversal_limit_in_words result }
 {
     let (memory, bytes) = spare.into_parts();
@@ -65,7 +65,8 @@ fn next_segments<R: Read>(
     memory: Vec<(usize, usize)>,
     spare: Vec<u8>,
 ) -> Result<Option<OwnedSegments>>
-    ensures { ReadsStream R.Read source.old source.new (MessageStands R.gives) limit result }
+    ensures { ReadsStream R.Read source.old source.new (framed_rules R.gives R.refuses) limit
+        result }
 {
     read_segments(source, limit, memory, spare)
 }

@@ -1,8 +1,7 @@
 //! Packed messages, read into a lent buffer.
 ghost use Rattle.std.specs.Prelude.{length};
-ghost use Rattle.capnp_frame.specs.Streams.{ReadsStreamInto};
-ghost use Rattle.capnp_pack.specs.PackedFrame.{PackedStands};
-ghost use Rattle.capnp_pack.specs.PackedStreams.{packed};
+ghost use Rattle.capnp_frame.specs.Streams.{next_in, ReadsStreamInto};
+ghost use Rattle.capnp_pack.specs.PackedStreams.{packed_rules};
 
 use crate::packed_read::PackedRead;
 use capnp_frame::Result;
@@ -20,8 +19,9 @@ pub fn try_read_packed_segments_into<'b, R: BufRead>(
     buffer: &'b mut [u8],
     options: ReaderOptions,
 ) -> Result<Option<NoAllocBufferSegments<&'b [u8]>>>
-    ensures { ReadsStreamInto (packed R.Read) source.old source.new PackedStands
-        options.traversal_limit_in_words (length buffer.old) (λ held. held.segments) result }
+    ensures { ReadsStreamInto R.Read source.old source.new packed_rules
+        options.traversal_limit_in_words (length buffer.old)
+        (next_in (λ held. held.segments) result) }
 {
     let mut packed = PackedRead::new(source);
     try_read_segments_into(&mut packed, buffer, options)

@@ -8,7 +8,7 @@ pub returns-in_err-info : goal.returns-in_err-info
 returns-in_err-info g c =
     let told = c.in_err-info.ensures in
     let p = err_from_is_err_and c.from_residual.result c.from_residual.ensures.1 in
-    rw (p.1, p.2) (refused_into g.R.Read g.met.R.Read.lawful _ _ c.args.options.traversal_limit_in_words (length c.args.buffer.now) _ _
+    rw (p.1, p.2) (refused_into g.R.Read g.met.R.Read.lawful _ _ c.args.options.traversal_limit_in_words (length c.args.buffer.now) _
     told.refused told.end told.short told.kinds told.asked.failed told.asked.advances)
 
 pub returns : goal.returns
@@ -19,5 +19,5 @@ returns g c =
     let stands = rw c.in-Some.is at told.found in
     let long : length c.read_into.new.buffer ≡ length c.args.buffer.now = search rules in
     reads_into g.R.Read g.met.R.Read.lawful _ _ c.args.options.traversal_limit_in_words (length c.args.buffer.now) c.read_into.new.buffer
-    c.in-Some.info.segments_count _ c.of_held.result holds c.of_held.ensures.segments long keeps stands
+    c.in-Some.info.segments_count c.of_held.result.segments holds c.of_held.ensures.segments long keeps stands
     (λ few. (told.short few).1) told.asked.advances
