@@ -3,6 +3,7 @@ use Rattle.std.proofs.Common.{◌≡◌, ◌⊎◌, inl, inr, ℕ, ◌+◌, ◌-
 use Rattle.std.proofs.Math.ListN.{get_or}
 use Rattle.std.proofs.lemmas.List.{map-append, length-map, take_more, append-nil}
 use Rattle.std.specs.List.{AllByRecursion}
+use Rattle.std.specs.Option.{option_map}
 use Rattle.capnp_frame.specs.declared.error.ErrorKind.{ErrorKind}
 use Rattle.capnp_frame.specs.declared.error.ErrorKind.TheVariants.{DeviceFailed, OutOfMemory}
 use Rattle.capnp_frame.specs.Sink.{Adds}
@@ -140,7 +141,7 @@ read_same format limit segments of xs ms raw left had texts many =
 -- behind them none is
 pub none_left : {X : Type 0} (format : Format) (limit : Option ℕ) (segments : X → List (List ℕ)) (end : Option X)
     (left : List ℕ) (new : Option (List ℕ)) → left ≡ []
-    → IfSome end (λ x. IfKnown (Some left) new (StandsNext format limit (segments x))) → end ≡ None
+    → IfSome (option_map segments end) (λ m. IfKnown (Some left) new (StandsNext format limit m)) → end ≡ None
 none_left format limit segments None left new none begins = refl
 none_left format limit segments (Some x) left new none begins = absurd (nothing_begins_known (format_lawful format) (format_requested format) limit (segments x) (Some left) new (ap Some none) begins)
 

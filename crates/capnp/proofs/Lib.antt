@@ -1,5 +1,6 @@
 -- The lemmas, by subject.
 pub mod ReaderLemmas
+pub mod FormatLemmas
 pub mod WriterLemmas
 pub mod ReadNextLemmas
 pub mod RunLemmas

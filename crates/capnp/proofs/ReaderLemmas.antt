@@ -1,19 +1,21 @@
 -- From the requests of a source to the texts of its stream.
-use Rattle.std.proofs.Common.{◌≡◌, inl, inr, ℕ, List, [], Option, Some, None, IfSome, Err, lit<}
+use Rattle.std.proofs.Common.{◌≡◌, ◌↔◌, ℕ, List, [], ◌++◌, Option, Some, None, IfSome, Result, Ok, Err, IfOk, IfErr, lit<}
 use Rattle.capnp_frame.specs.declared.error.Error.{Error}
+use Rattle.capnp_frame.specs.declared.error.ErrorKind.TheVariants.{DeviceFailed}
+use Rattle.capnp_frame.specs.declared.io.Read.{Ghosts}
 use Rattle.capnp_frame.specs.Limits.{IsWithin}
 use Rattle.capnp_frame.specs.Frame.{IsFrame}
 use Rattle.capnp_frame.specs.Source.{Giving, Refusing, IsSource, IfKnown}
 use Rattle.capnp_frame.specs.Requests.{MessageStands}
+use Rattle.capnp_frame.specs.Streams.{StreamRules, ReadsStream, ReadsStreamInto}
 use Rattle.capnp_frame.specs.Texts.{Grammar, BeginsWith}
 use Rattle.capnp_frame.proofs.RefusalLemmas.{given_some}
 use Rattle.capnp_frame.proofs.SourceLemmas.{IfKnown-weaker}
 use Rattle.capnp_frame.proofs.RequestLemmas.{MessageStands-map}
 use Rattle.capnp_frame.proofs.FrameLemmas.{plain_requests}
-use Rattle.capnp_frame.proofs.TextLemmas.{AreRequested, begins_from_requests}
-use Rattle.capnp_pack.specs.PackedFrame.{IsPackedFrame, PackedStands}
+use Rattle.capnp_frame.proofs.TextLemmas.{AreRequested}
 use Rattle.capnp.specs.Streams.{IsPlainSource}
-use Rattle.capnp.specs.Headline.{RefusesGrowing, RefusesLent, RefusesGrowingOrEnds, RefusesLentOrEnds}
+use Rattle.capnp.specs.Headline.{IsFault, HasRoom, ReturnsTexts, ReturnsTextsInto}
 
 -- the requests of a plain source take just the frames
 pub frames_requested : (gives : Giving) (refuses : Refusing) → IsPlainSource gives refuses → AreRequested IsFrame gives
@@ -22,31 +24,50 @@ frames_requested gives refuses plain segments raw rest = (
   λ text. MessageStands-map (λ w n b t. (plain.given w n b t).0) segments raw rest ((plain_requests segments raw rest).1 text),
 )
 
--- what stands by requests begins the stream
-pub begins_stream : (IsText : Grammar) (gives : Giving) (limit : Option ℕ) (m : List (List ℕ))
-    (old new : Option (List ℕ)) → AreRequested IsText gives → IsWithin m limit → IfKnown old new (MessageStands gives m)
-    → IfKnown old new (BeginsWith IsText limit m)
-begins_stream IsText gives limit m old new texts within found =
-    IfKnown-weaker old new (λ raw rest. begins_from_requests texts limit m raw rest within) found
+-- where a message stands by these rules, there stands a text of it in this grammar
+abbrev pub AreTextsBy : Grammar → StreamRules → Type 0
+AreTextsBy IsText rules = (m : List (List ℕ)) (raw rest : List ℕ) → rules.stands m raw rest ↔ ((text : List ℕ) × IsText text m × (raw ≡ text ++ rest))
 
--- and what follows where a message stands by requests follows where the stream begins with it
-pub accepts_stream : (IsText : Grammar) (gives : Giving) (limit : Option ℕ) (F : List (List ℕ) → Type 0)
-    (old : Option (List ℕ)) → AreRequested IsText gives
-    → IfSome old (λ raw. (m : List (List ℕ)) (rest : List ℕ) → MessageStands gives m raw rest → IsWithin m limit → F m)
+-- so it begins the stream, within the limit
+begins_next : (IsText : Grammar) (rules : StreamRules) (limit : Option ℕ) (old new : Option (List ℕ)) (r : Result (Option (List (List ℕ))) Error)
+    → AreTextsBy IsText rules → IfOk r (λ found. IfSome found (λ m. IsWithin m limit))
+    → IfOk r (λ found. IfSome found (λ m. IfKnown old new (rules.stands m)))
+    → IfOk r (λ found. IfSome found (λ m. IfKnown old new (BeginsWith IsText limit m)))
+begins_next IsText rules limit old new (Err e) texts within found = tt
+begins_next IsText rules limit old new (Ok None) texts within found = tt
+begins_next IsText rules limit old new (Ok (Some m)) texts within found = IfKnown-weaker old new (λ raw rest stands.
+    let text = (texts m raw rest).0 stands in
+    record { text = text.0; is_text = text.1; within = within; spelled = text.2 }) found
+
+-- and what follows where a message stands follows where the stream begins with it
+accepts_next : (IsText : Grammar) (rules : StreamRules) (limit : Option ℕ) (F : List (List ℕ) → Type 0)
+    (old : Option (List ℕ)) → AreTextsBy IsText rules
+    → IfSome old (λ raw. (m : List (List ℕ)) (rest : List ℕ) → rules.stands m raw rest → IsWithin m limit → F m)
     → IfSome old (λ raw. (m : List (List ℕ)) (rest : List ℕ) → BeginsWith IsText limit m raw rest → F m)
-accepts_stream IsText gives limit F None texts accepted = tt
-accepts_stream IsText gives limit F (Some raw) texts accepted =
+accepts_next IsText rules limit F None texts accepted = tt
+accepts_next IsText rules limit F (Some raw) texts accepted =
     λ m rest begins. accepted m rest ((texts m raw rest).1 (begins.text, begins.is_text, begins.spelled)) begins.within
 
--- packed texts of messages
-pub accepts_packed : (limit : Option ℕ) (F : List (List ℕ) → Type 0) (old : Option (List ℕ))
-    → IfSome old (λ raw. (m : List (List ℕ)) (rest : List ℕ) → PackedStands m raw rest → IsWithin m limit → F m)
-    → IfSome old (λ raw. (m : List (List ℕ)) (rest : List ℕ) → BeginsWith IsPackedFrame limit m raw rest → F m)
-accepts_packed limit F None accepted = tt
-accepts_packed limit F (Some raw) accepted = λ m rest begins. accepted m rest (begins.text, begins.is_text, begins.spelled) begins.within
+-- what a reader returns by its rules it returns in texts
+pub returns_texts : {S : Type 0} (source : Ghosts S) (old new : S) (rules : StreamRules) (IsText : Grammar)
+    (limit : Option ℕ) (r : Result (Option (List (List ℕ))) Error) → AreTextsBy IsText rules
+    → ReadsStream source old new rules limit r → ReturnsTexts IsText limit (source.unread old) (source.unread new) r
+returns_texts source old new rules IsText limit r texts reads = record {
+  found = begins_next IsText rules limit _ _ r texts reads.within reads.found;
+  accepted = accepts_next IsText rules limit (λ m. IfErr r (λ error. IsFault error.kind)) _ texts reads.accepted;
+}
+
+pub returns_texts_into : {S : Type 0} (source : Ghosts S) (old new : S) (rules : StreamRules) (IsText : Grammar)
+    (limit : Option ℕ) (room : ℕ) (r : Result (Option (List (List ℕ))) Error) → AreTextsBy IsText rules
+    → ReadsStreamInto source old new rules limit room r
+    → ReturnsTextsInto IsText limit room (source.unread old) (source.unread new) r
+returns_texts_into source old new rules IsText limit room r texts reads = record {
+  found = begins_next IsText rules limit _ _ r texts reads.within reads.found;
+  accepted = accepts_next IsText rules limit (λ m. HasRoom room m → IfErr r (λ error. error.kind ≡ DeviceFailed)) _ texts reads.accepted;
+}
 
 -- no message stands where nothing is unread
-nothing_stands : {gives : Giving} {refuses : Refusing} → IsSource gives refuses → (m : List (List ℕ))
+pub nothing_stands : {gives : Giving} {refuses : Refusing} → IsSource gives refuses → (m : List (List ℕ))
     (old new : Option (List ℕ)) → old ≡ Some [] → IfKnown old new (MessageStands gives m) → ⊥
 nothing_stands laws m None new none stands = cc
 nothing_stands laws m (Some raw) None none stands = stands
@@ -69,19 +90,19 @@ nothing_begins laws texts limit F (Some raw) none = λ m rest begins.
     let stands = (texts m raw rest).1 (begins.text, begins.is_text, begins.spelled) in
     absurd (given_some laws raw 8 stands.table.first stands.table.between stands.table.first_given (lit< tt) none)
 
--- a refusal of the try form is one of the form that the end refuses
-pub growing_or_ends : {X Y : Type 0} {gives : Giving} {refuses : Refusing} (limit : Option ℕ) (e : Error)
-    (old new : Option (List ℕ)) → RefusesGrowing {X = X} gives refuses limit (Err e) old new
-    → RefusesGrowingOrEnds {X = Y} gives refuses limit (Err e) old new
-growing_or_ends limit e old new refused = record {
-  told = elim (refused.told) [ inl device ↦ inl device | inr (inl memory) ↦ inr (inl memory) | inr (inr line) ↦ inr (inr (inr line)) ];
-  exact = refused.exact;
+-- so where nothing is unread any failure is one
+pub ends_texts : {IsText : Grammar} {gives : Giving} {refuses : Refusing} → IsSource gives refuses
+    → AreRequested IsText gives → (limit : Option ℕ) (old new : Option (List ℕ)) (error : Error)
+    → IfSome old (λ raw. raw ≡ []) → ReturnsTexts IsText limit old new (Err error)
+ends_texts laws texts limit old new error none = record {
+  found = tt;
+  accepted = nothing_begins laws texts limit (λ m. IsFault error.kind) old none;
 }
 
-pub lent_or_ends : {X Y : Type 0} {gives : Giving} {refuses : Refusing} (limit : Option ℕ) (room : ℕ) (e : Error)
-    (old new : Option (List ℕ)) → RefusesLent {X = X} gives refuses limit room (Err e) old new
-    → RefusesLentOrEnds {X = Y} gives refuses limit room (Err e) old new
-lent_or_ends limit room e old new refused = record {
-  told = elim (refused.told) [ inl device ↦ inl device | inr line ↦ inr (inr line) ];
-  exact = refused.exact;
+pub ends_texts_into : {IsText : Grammar} {gives : Giving} {refuses : Refusing} → IsSource gives refuses
+    → AreRequested IsText gives → (limit : Option ℕ) (room : ℕ) (old new : Option (List ℕ)) (error : Error)
+    → IfSome old (λ raw. raw ≡ []) → ReturnsTextsInto IsText limit room old new (Err error)
+ends_texts_into laws texts limit room old new error none = record {
+  found = tt;
+  accepted = nothing_begins laws texts limit (λ m. HasRoom room m → error.kind ≡ DeviceFailed) old none;
 }

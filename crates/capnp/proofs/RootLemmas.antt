@@ -1,11 +1,13 @@
 -- A message that was written and is read back.
-use Rattle.std.proofs.Common.{◌≡◌, ℕ, ◌+◌, ◌-◌, ◌^◌, ◌<◌, ◌≤◌, min, Option, Some, None, Result, Ok, Err, IfOk, IfErr, List, [], ◌∷◌, ◌++◌, length, map, refl, sym, ap, ◌∙◌, subst}
+use Rattle.std.proofs.Common.{◌≡◌, ℕ, ◌+◌, ◌-◌, ◌^◌, ◌<◌, ◌≤◌, min, Option, Some, None, Result, Ok, Err, IfOk, IfErr, List, [], ◌∷◌, ◌++◌, length, map, refl, sym, ap, ◌∙◌, subst, arith}
 use Rattle.std.proofs.lemmas.List.{append-nil}
 use Rattle.capnp_frame.specs.declared.error.Error.{Error}
 use Rattle.capnp_frame.specs.declared.error.ErrorKind.TheVariants.{DeviceFailed, OutOfMemory}
 use Rattle.capnp_frame.specs.Limits.{IsWithin}
+use Rattle.capnp_frame.specs.declared.io.Read.{Ghosts}
 use Rattle.capnp_frame.specs.Sink.{Adds}
 use Rattle.capnp_frame.specs.Source.{IfKnown}
+use Rattle.capnp_frame.specs.Streams.{StreamRules, message_in, ReadsStream}
 use Rattle.capnp_frame.specs.Writing.{IsWritable}
 use Rattle.capnp_wire.specs.Tree.{Trees}
 use Rattle.capnp_wire.specs.Reached.{At, at, root}
@@ -15,11 +17,12 @@ use Rattle.capnp_build.specs.Built.{message}
 use Rattle.capnp_build.specs.Held.{used_of}
 use Rattle.capnp_build.proofs.NullLemmas.{root_stands}
 use Rattle.capnp.specs.declared.streams.Format.{Format}
-use Rattle.capnp.specs.Headline.{IsFault}
+use Rattle.capnp.specs.Headline.{IsFault, ReturnsTexts, OrFailsAtEnd}
 use Rattle.capnp.specs.Roots.{HasRootTree, HasRootOf}
-use Rattle.capnp.specs.Streams.{StandsNext}
+use Rattle.capnp.specs.Streams.{grammar_of, StandsNext}
 use Rattle.capnp.specs.Written.{IsTextOf}
 use Rattle.capnp.proofs.AppendedLemmas.{text_is, memory_only}
+use Rattle.capnp.proofs.FormatLemmas.{or_fails_failed}
 use Rattle.capnp.proofs.RunLemmas.{format_parts}
 
 -- where a tree stands at the root, there is a segment
@@ -53,16 +56,20 @@ added_stands format limit m start new shown none same writable (text, here, e) w
     subst (λ (l : List ℕ). StandsNext format limit m l []) (sym alone) (text_stands format limit m text [] writable within here)
 
 pub read_again : {X : Type 0} (format : Format) (limit : Option ℕ) (segments : X → List (List ℕ)) (r : Result X Error) (m : List (List ℕ)) (shown : List ℕ)
-    (left : Option (List ℕ)) → StandsNext format limit m shown [] → IfOk r (λ x. IfKnown (Some shown) left (StandsNext format limit (segments x)))
-    → IfOk r (λ x. segments x ≡ m)
-read_again format limit segments (Err e) m shown left stands found = tt
-read_again format limit segments (Ok x) m shown None stands found = absurd found
-read_again format limit segments (Ok x) m shown (Some rest) stands found = ((format_parts format limit).begins_once (segments x) m shown rest [] found stands).0
+    (left : Option (List ℕ)) → StandsNext format limit m shown []
+    → ReturnsTexts (grammar_of format) limit (Some shown) left (message_in segments r) → IfOk r (λ x. segments x ≡ m)
+read_again format limit segments (Err e) m shown left stands texts = tt
+read_again format limit segments (Ok x) m shown None stands texts = absurd texts.found
+read_again format limit segments (Ok x) m shown (Some rest) stands texts = ((format_parts format limit).begins_once (segments x) m shown rest [] texts.found stands).0
 
-pub memory_alone : {X : Type 0} (r : Result X Error) → IfErr r (λ e. IsFault e.kind) → IfErr r (λ e. e.kind ≡ DeviceFailed → min (0 + 1) (2 ^ 64 - 1) ≤ 0)
-    → IfErr r (λ e. e.kind ≡ OutOfMemory)
-memory_alone (Ok x) fault failed = tt
-memory_alone (Err e) fault failed = memory_only e.kind fault failed
+pub memory_alone : {S X : Type 0} (source : Ghosts S) (old new : S) (rules : StreamRules) (limit : Option ℕ)
+    (segments : X → List (List ℕ)) (r : Result X Error) → IfErr (message_in segments r) (λ e. IsFault e.kind)
+    → OrFailsAtEnd (ReadsStream source old new rules limit) (message_in segments r)
+    → source.failures old ≡ 0 → source.failures new ≡ 0 → IfErr r (λ e. e.kind ≡ OutOfMemory)
+memory_alone source old new rules limit segments (Ok x) fault reads none still = tt
+memory_alone source old new rules limit segments (Err e) fault reads none still =
+    let failed = or_fails_failed source old new rules limit (Err e) reads in
+    memory_only e.kind fault (λ device. let fails = failed device in omega (arith, fails, none, still))
 
 -- the root of what is read is that of what was built
 pub tree_again : {X : Type 0} (has_tree : Trees → Type 0) (segments : X → List (List ℕ)) (r : Result X Error) (m : List (List ℕ)) → HasRootOf has_tree m

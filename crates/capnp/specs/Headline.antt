@@ -1,53 +1,41 @@
--- What readers of streams answer.
-use Rattle.std.specs.Prelude.{◌≡◌, ℕ, ◌*◌, ◌+◌, ◌≤◌, List, [], length, ◌⊎◌, Option, Some, None, IfSome, Result, IfErr}
-use Rattle.std.specs.Result.{IsErrAnd}
+-- What readers of streams return, in texts of messages.
+use Rattle.std.specs.Prelude.{◌≡◌, ℕ, ◌*◌, ◌+◌, ◌≤◌, List, length, ◌⊎◌, Option, Some, None, IfSome, Result, Ok, Err, IfOk, IfErr}
 use Rattle.capnp_frame.specs.declared.error.Error.{Error}
 use Rattle.capnp_frame.specs.declared.error.ErrorKind.{ErrorKind}
 use Rattle.capnp_frame.specs.declared.error.ErrorKind.TheVariants.{DeviceFailed, OutOfMemory, PrematureEndOfFile}
 use Rattle.capnp_frame.specs.Message.{size_in_words}
 use Rattle.capnp_frame.specs.SegmentTable.{table_size}
-use Rattle.capnp_frame.specs.Source.{Giving, Refusing, IfKnown}
-use Rattle.capnp_frame.specs.Refusals.{RefusesStream, TakesMemory}
+use Rattle.capnp_frame.specs.Source.{IfKnown}
+use Rattle.capnp_frame.specs.Texts.{Grammar, BeginsWith}
 
--- a refusal that the bytes give no cause for
+-- a failure that the bytes give no cause for
 abbrev pub IsFault : ErrorKind → Type 0
 IsFault kind = (kind ≡ DeviceFailed) ⊎ (kind ≡ OutOfMemory)
 
--- a lent buffer has room for the message
+-- a caller-provided buffer has room for the message
 abbrev pub HasRoom : ℕ → List (List ℕ) → Type 0
 HasRoom room message = table_size (length message) + 8 * size_in_words message ≤ room
 
--- at the end of the source
-abbrev pub IsAtEnd : Option (List ℕ) → Type 0
-IsAtEnd unread = IfSome unread (λ raw. raw ≡ [])
+-- What a reader that grows returns of a stream in a grammar: `old` is unread before the call, and `new` after it.
+pub record ReturnsTexts (IsText : Grammar) (limit : Option ℕ) (old new : Option (List ℕ))
+    (result : Result (Option (List (List ℕ))) Error) : Type 0 where
+  -- a text of the message that is returned stands there, the message is within the limit, and just that text is consumed
+  pub found : IfOk result (λ found. IfSome found (λ message. IfKnown old new (BeginsWith IsText limit message)))
+  -- where the text of a message within the limit stands, the call fails only with the device's failure or for want of memory
+  pub accepted : IfSome old (λ raw. (message : List (List ℕ)) (rest : List ℕ) → BeginsWith IsText limit message raw rest
+      → IfErr result (λ error. IsFault error.kind))
 
--- How a reader that grows is refused: by the device, for want of memory where it takes some, or by a line of the table of refusals (docs/REFUSALS.md), and the line that holds first is answered, but for these two.
-pub record RefusesGrowing {X : Type 0} (gives : Giving) (refuses : Refusing) (limit : Option ℕ) (result : Result X Error) (old new : Option (List ℕ)) : Type 0 where
-  pub told : IfErr result (λ error. (error.kind ≡ DeviceFailed)
-      ⊎ ((error.kind ≡ OutOfMemory) × IfKnown old new (TakesMemory gives limit))
-      ⊎ IfKnown old new (RefusesStream gives refuses limit None error.kind))
-  pub exact : IfSome old (λ raw. (kind : ErrorKind) (left : List ℕ) → RefusesStream gives refuses limit None kind raw left →
-      IsErrAnd result (λ error. (error.kind ≡ DeviceFailed) ⊎ (error.kind ≡ OutOfMemory) ⊎ (error.kind ≡ kind)))
+-- What a reader into a caller-provided buffer of `room` bytes returns.
+pub record ReturnsTextsInto (IsText : Grammar) (limit : Option ℕ) (room : ℕ) (old new : Option (List ℕ))
+    (result : Result (Option (List (List ℕ))) Error) : Type 0 where
+  -- a text of the message that is returned stands there, the message is within the limit, and just that text is consumed
+  pub found : IfOk result (λ found. IfSome found (λ message. IfKnown old new (BeginsWith IsText limit message)))
+  -- where the text of a message within the limit stands, and the buffer has room for it, the call fails only with the
+  -- device's failure
+  pub accepted : IfSome old (λ raw. (message : List (List ℕ)) (rest : List ℕ) → BeginsWith IsText limit message raw rest
+      → HasRoom room message → IfErr result (λ error. error.kind ≡ DeviceFailed))
 
--- The same of a reader into a lent buffer of so many bytes, which takes no memory.
-pub record RefusesLent {X : Type 0} (gives : Giving) (refuses : Refusing) (limit : Option ℕ) (room : ℕ) (result : Result X Error) (old new : Option (List ℕ)) : Type 0 where
-  pub told : IfErr result (λ error. (error.kind ≡ DeviceFailed)
-      ⊎ IfKnown old new (RefusesStream gives refuses limit (Some room) error.kind))
-  pub exact : IfSome old (λ raw. (kind : ErrorKind) (left : List ℕ) → RefusesStream gives refuses limit (Some room) kind raw left →
-      IsErrAnd result (λ error. (error.kind ≡ DeviceFailed) ⊎ (error.kind ≡ kind)))
-
--- The same where the end of the source is a refusal too.
-pub record RefusesGrowingOrEnds {X : Type 0} (gives : Giving) (refuses : Refusing) (limit : Option ℕ) (result : Result X Error) (old new : Option (List ℕ)) : Type 0 where
-  pub told : IfErr result (λ error. (error.kind ≡ DeviceFailed)
-      ⊎ ((error.kind ≡ OutOfMemory) × IfKnown old new (TakesMemory gives limit))
-      ⊎ (IsAtEnd old × (error.kind ≡ PrematureEndOfFile))
-      ⊎ IfKnown old new (RefusesStream gives refuses limit None error.kind))
-  pub exact : IfSome old (λ raw. (kind : ErrorKind) (left : List ℕ) → RefusesStream gives refuses limit None kind raw left →
-      IsErrAnd result (λ error. (error.kind ≡ DeviceFailed) ⊎ (error.kind ≡ OutOfMemory) ⊎ (error.kind ≡ kind)))
-
-pub record RefusesLentOrEnds {X : Type 0} (gives : Giving) (refuses : Refusing) (limit : Option ℕ) (room : ℕ) (result : Result X Error) (old new : Option (List ℕ)) : Type 0 where
-  pub told : IfErr result (λ error. (error.kind ≡ DeviceFailed)
-      ⊎ (IsAtEnd old × (error.kind ≡ PrematureEndOfFile))
-      ⊎ IfKnown old new (RefusesStream gives refuses limit (Some room) error.kind))
-  pub exact : IfSome old (λ raw. (kind : ErrorKind) (left : List ℕ) → RefusesStream gives refuses limit (Some room) kind raw left →
-      IsErrAnd result (λ error. (error.kind ≡ DeviceFailed) ⊎ (error.kind ≡ kind)))
+-- As the form that may return None; where that does, the call fails with PrematureEndOfFile.
+abbrev pub OrFailsAtEnd : (Result (Option (List (List ℕ))) Error → Type 0) → Result (Option (List (List ℕ))) Error → Type 0
+OrFailsAtEnd tried (Ok found) = tried (Ok found)
+OrFailsAtEnd tried (Err error) = tried (Err error) ⊎ ((error.kind ≡ PrematureEndOfFile) × tried (Ok None))

@@ -1,10 +1,11 @@
 -- Streams of either format: texts of messages behind one another.
-use Rattle.std.specs.Prelude.{ℕ, List, Option, None, ◌↔◌}
+use Rattle.std.specs.Prelude.{◌≡◌, ℕ, List, ◌++◌, Option, None, ◌↔◌}
 use Rattle.capnp_frame.specs.declared.error.ErrorKind.{ErrorKind}
 use Rattle.capnp_frame.specs.Frame.{IsFrame}
 use Rattle.capnp_frame.specs.Source.{Giving, Refusing, Splits, RunsShort}
 use Rattle.capnp_frame.specs.Texts.{Grammar, BeginsWith, AreTexts, Ends}
-use Rattle.capnp_frame.specs.Refusals.{RefusesStream}
+use Rattle.capnp_frame.specs.Refusals.{RefusesStream, TakesMemory, IsReaderKind, IsLentReaderKind}
+use Rattle.capnp_frame.specs.Streams.{StreamRules}
 use Rattle.capnp_pack.specs.PackedFrame.{IsPackedFrame}
 use Rattle.capnp_pack.specs.PackedSource.{Unpacks, RefusesPiece}
 use Rattle.capnp.specs.declared.streams.Format.{Format}
@@ -36,6 +37,16 @@ gives_of Packed = Unpacks
 abbrev pub refuses_of : Format → Refusing
 refuses_of Framed = RunsShort
 refuses_of Packed = RefusesPiece
+
+-- what the readers of a format go by, over a source of plain bytes
+abbrev pub rules_of : Format → StreamRules
+rules_of format = record {
+  stands = λ message raw rest. (text : List ℕ) × grammar_of format text message × (raw ≡ text ++ rest);
+  takes_memory = TakesMemory (gives_of format);
+  refuses = RefusesStream (gives_of format) (refuses_of format);
+  kinds = IsReaderKind (refuses_of format);
+  provided_kinds = IsLentReaderKind (refuses_of format);
+}
 
 -- a text of the message in this format stands at the front, and the message is within the limit
 abbrev pub StandsNext : Format → Option ℕ → List (List ℕ) → List ℕ → List ℕ → Type 0

@@ -7,8 +7,9 @@ ghost use Rattle.capnp_frame.specs.Source.{IfKnown, Advances, Fails};
 ghost use Rattle.capnp_frame.specs.Sink.{Adds, Grows};
 ghost use Rattle.capnp_frame.specs.Texts.{AreTexts};
 ghost use Rattle.capnp_frame.specs.Writing.{IsWritable};
-ghost use Rattle.capnp.specs.Headline.{IsFault};
-ghost use Rattle.capnp.specs.Streams.{grammar_of, StandsNext};
+ghost use Rattle.capnp_frame.specs.Streams.{next_in, message_in, ReadsStream};
+ghost use Rattle.capnp.specs.Headline.{IsFault, ReturnsTexts, OrFailsAtEnd};
+ghost use Rattle.capnp.specs.Streams.{grammar_of, rules_of};
 ghost use Rattle.capnp.specs.Written.{IsPlainSink, IsTextOf, AppendsEach, RefusesAppending};
 
 use crate::streams::Format;
@@ -126,15 +127,12 @@ pub(crate) fn read_message<R: BufRead>(
     source: &mut R,
     options: ReaderOptions,
 ) -> Result<Reader<OwnedSegments>>
-    ensures found { IfOk result (λ reader. IfKnown (R.unread source.old) (R.unread source.new)
-        (StandsNext format options.traversal_limit_in_words reader.segments)) }
-    ensures accepted { IfSome (R.unread source.old) (λ raw.
-        (message : List (List ℕ)) (rest : List ℕ) →
-        StandsNext format options.traversal_limit_in_words message raw rest →
-        IfErr result (λ error. IsFault error.kind)) }
-    ensures failed { IfErr result (λ error. error.kind ≡ ErrorKind.DeviceFailed →
-        Fails (R.failures source.old) (R.failures source.new)) }
-    ensures advances { Advances R.unread R.failures R.same source.old source.new }
+    ensures texts { ReturnsTexts (grammar_of format) options.traversal_limit_in_words
+        (R.unread source.old) (R.unread source.new)
+        (message_in (λ reader. reader.segments) result) }
+    ensures reads { OrFailsAtEnd (ReadsStream R.Read source.old source.new
+        (rules_of format) options.traversal_limit_in_words)
+        (message_in (λ reader. reader.segments) result) }
 {
     match format {
         Format::Framed => serialize::read_message(alloc, source, options),
@@ -149,13 +147,11 @@ fn try_read_message<R: BufRead>(
     source: &mut R,
     options: ReaderOptions,
 ) -> Result<Option<Reader<OwnedSegments>>>
-    ensures found { IfOk result (λ found. IfSome found (λ reader.
-        IfKnown (R.unread source.old) (R.unread source.new)
-        (StandsNext format options.traversal_limit_in_words reader.segments))) }
-    ensures end { IfErr result (λ error. R.unread source.old ≡ Some [] →
-        error.kind ≡ ErrorKind.DeviceFailed) }
-    ensures failed { IfErr result (λ error. error.kind ≡ ErrorKind.DeviceFailed →
-        Fails (R.failures source.old) (R.failures source.new)) }
+    ensures texts { ReturnsTexts (grammar_of format) options.traversal_limit_in_words
+        (R.unread source.old) (R.unread source.new)
+        (next_in (λ reader. reader.segments) result) }
+    ensures reads { ReadsStream R.Read source.old source.new (rules_of format)
+        options.traversal_limit_in_words (next_in (λ reader. reader.segments) result) }
 {
     match format {
         Format::Framed => serialize::try_read_message(alloc, source, options),

@@ -19,12 +19,12 @@ use Rattle.capnp_frame.specs.Refusals.{RefusesStream, TakesMemory, IsReaderKind,
 abbrev pub Standing : Type 1
 Standing = List (List ℕ) → List ℕ → List ℕ → Type 0
 
--- What a reader returns, by the message that it sees in it: of a value that holds one, and of one that may.
-abbrev pub message_in : {X : Type 0} → (X → List (List ℕ)) → Result X Error → Result (List (List ℕ)) Error
-message_in segments result = result_map_both segments (λ error. error) result
-
+-- What a reader returns, by the message that is seen in it: of one that may return None, and of one that does not.
 abbrev pub next_in : {X : Type 0} → (X → List (List ℕ)) → Result (Option X) Error → Result (Option (List (List ℕ))) Error
 next_in segments result = result_map_both (option_map segments) (λ error. error) result
+
+abbrev pub message_in : {X : Type 0} → (X → List (List ℕ)) → Result X Error → Result (Option (List (List ℕ))) Error
+message_in segments result = result_map_both (λ held. Some (segments held)) (λ error. error) result
 
 -- What a reader of streams goes by: the format, and in it the rule of padding.
 pub record StreamRules : Type 1 where

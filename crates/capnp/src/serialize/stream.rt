@@ -1,16 +1,9 @@
 //! Reading messages from a source.
-ghost use Rattle.std.specs.Prelude.{◌≡◌, ◌⊎◌, ◌<◌, ◌≤◌, ℕ, List, [], length, Some, IfSome, IfNone, IfOk, IfErr};
-ghost use Rattle.std.specs.List.{AllByRecursion};
-ghost use Rattle.std.specs.Result.{IsErrAnd};
-ghost use Rattle.capnp_frame.specs.declared.error.ErrorKind.{ErrorKind};
-ghost use Rattle.capnp_frame.specs.Errors.{IsRefusedBy};
-ghost use Rattle.capnp_frame.specs.Limits.{IsWithin};
-ghost use Rattle.capnp_frame.specs.Message.{IsWholeWords};
-ghost use Rattle.capnp_frame.specs.Source.{IfKnown, Advances, Fails};
-ghost use Rattle.capnp_frame.specs.Requests.{MessageStands};
-ghost use Rattle.capnp_frame.specs.Refusals.{IsReaderKind, IsLentReaderKind};
-ghost use Rattle.capnp.specs.Streams.{IsPlainSource, BeginsFramed};
-ghost use Rattle.capnp.specs.Headline.{IsFault, HasRoom, RefusesGrowing, RefusesLent, RefusesGrowingOrEnds, RefusesLentOrEnds};
+ghost use Rattle.std.specs.Prelude.{◌≡◌, length, IfSome, IfOk};
+ghost use Rattle.capnp_frame.specs.Streams.{message_in, next_in, framed_rules, ReadsStream, ReadsStreamInto};
+ghost use Rattle.capnp_frame.specs.Frame.{IsFrame};
+ghost use Rattle.capnp.specs.Streams.{IsPlainSource};
+ghost use Rattle.capnp.specs.Headline.{ReturnsTexts, ReturnsTextsInto, OrFailsAtEnd};
 
 use capnp_frame::io::Read;
 use capnp_frame::message::ReaderOptions;
@@ -39,35 +32,14 @@ pub fn try_read_message<R: Read>(
     source: &mut R,
     options: ReaderOptions,
 ) -> Result<Option<Reader<OwnedSegments>>>
-    ensures found { IsPlainSource R.gives R.refuses →
-        IfOk result (λ found. IfSome found (λ reader.
-        IfKnown (R.unread source.old) (R.unread source.new)
-        (BeginsFramed options.traversal_limit_in_words reader.segments))) }
-    ensures accepted { IsPlainSource R.gives R.refuses → IfSome (R.unread source.old) (λ raw.
-        (message : List (List ℕ)) (rest : List ℕ) →
-        BeginsFramed options.traversal_limit_in_words message raw rest →
-        IfErr result (λ error. IsFault error.kind)) }
-    ensures none { IfOk result (λ found. IfNone found
-        (IfSome (R.unread source.old) (λ raw. raw ≡ []))) }
-    ensures end { IfErr result (λ error. R.unread source.old ≡ Some [] →
-        error.kind ≡ ErrorKind.DeviceFailed) }
+    // Over a source of plain bytes: the framed text of the message stands there.
+    ensures texts { IsPlainSource R.gives R.refuses → ReturnsTexts IsFrame
+        options.traversal_limit_in_words (R.unread source.old) (R.unread source.new)
+        (next_in (λ reader. reader.segments) result) }
+    ensures reads { ReadsStream R.Read source.old source.new (framed_rules R.gives R.refuses)
+        options.traversal_limit_in_words (next_in (λ reader. reader.segments) result) }
     ensures options { IfOk result (λ found. IfSome found (λ reader.
         reader.options ≡ options)) }
-
-    // Of every source, also where its bytes aren't known.
-    ensures given { IfOk result (λ found. IfSome found (λ reader.
-        IfKnown (R.unread source.old) (R.unread source.new)
-        (MessageStands R.gives reader.segments))) }
-    ensures within { IfOk result (λ found. IfSome found (λ reader.
-        IsWithin reader.segments options.traversal_limit_in_words)) }
-    ensures whole { IfOk result (λ found. IfSome found (λ reader.
-        AllByRecursion IsWholeWords reader.segments)) }
-    ensures refused { RefusesGrowing R.gives R.refuses
-        options.traversal_limit_in_words result (R.unread source.old) (R.unread source.new) }
-    ensures kinds { IfErr result (λ error. IsReaderKind R.refuses error.kind) }
-    ensures failed { IfErr result (λ error. error.kind ≡ ErrorKind.DeviceFailed →
-        Fails (R.failures source.old) (R.failures source.new)) }
-    ensures advances { Advances R.unread R.failures R.same source.old source.new }
 {
     match try_read_segments(alloc, source, options)? {
         Some(segments) => Ok(Some(Reader::new(segments, options))),
@@ -82,33 +54,14 @@ pub fn read_message<R: Read>(
     source: &mut R,
     options: ReaderOptions,
 ) -> Result<Reader<OwnedSegments>>
-    ensures found { IsPlainSource R.gives R.refuses → IfOk result (λ reader.
-        IfKnown (R.unread source.old) (R.unread source.new)
-        (BeginsFramed options.traversal_limit_in_words reader.segments)) }
-    ensures accepted { IsPlainSource R.gives R.refuses → IfSome (R.unread source.old) (λ raw.
-        (message : List (List ℕ)) (rest : List ℕ) →
-        BeginsFramed options.traversal_limit_in_words message raw rest →
-        IfErr result (λ error. IsFault error.kind)) }
-    ensures end { R.unread source.old ≡ Some [] → IsErrAnd result (λ error.
-        (error.kind ≡ ErrorKind.PrematureEndOfFile) ⊎ (error.kind ≡ ErrorKind.DeviceFailed)) }
-    ensures options { IfOk result (λ reader.
-        reader.options ≡ options) }
-
-    // Of every source, also where its bytes aren't known.
-    ensures given { IfOk result (λ reader.
-        IfKnown (R.unread source.old) (R.unread source.new)
-        (MessageStands R.gives reader.segments)) }
-    ensures within { IfOk result (λ reader.
-        IsWithin reader.segments options.traversal_limit_in_words) }
-    ensures whole { IfOk result (λ reader.
-        AllByRecursion IsWholeWords reader.segments) }
-    ensures refused { RefusesGrowingOrEnds R.gives R.refuses
-        options.traversal_limit_in_words result (R.unread source.old) (R.unread source.new) }
-    ensures kinds { IfErr result (λ error. (error.kind ≡ ErrorKind.PrematureEndOfFile)
-        ⊎ IsReaderKind R.refuses error.kind) }
-    ensures failed { IfErr result (λ error. error.kind ≡ ErrorKind.DeviceFailed →
-        Fails (R.failures source.old) (R.failures source.new)) }
-    ensures advances { Advances R.unread R.failures R.same source.old source.new }
+    // Over a source of plain bytes: the framed text of the message stands there.
+    ensures texts { IsPlainSource R.gives R.refuses → ReturnsTexts IsFrame
+        options.traversal_limit_in_words (R.unread source.old) (R.unread source.new)
+        (message_in (λ reader. reader.segments) result) }
+    ensures reads { OrFailsAtEnd (ReadsStream R.Read source.old source.new
+        (framed_rules R.gives R.refuses) options.traversal_limit_in_words)
+        (message_in (λ reader. reader.segments) result) }
+    ensures options { IfOk result (λ reader. reader.options ≡ options) }
 {
     match try_read_message(alloc, source, options)? {
         Some(reader) => Ok(reader),
@@ -126,40 +79,14 @@ pub fn try_read_message_no_alloc<'b, R: Read>(
     buffer: &'b mut [u8],
     options: ReaderOptions,
 ) -> Result<Option<Reader<NoAllocBufferSegments<&'b [u8]>>>>
-    ensures found { IsPlainSource R.gives R.refuses →
-        IfOk result (λ found. IfSome found (λ reader.
-        IfKnown (R.unread source.old) (R.unread source.new)
-        (BeginsFramed options.traversal_limit_in_words reader.segments.segments))) }
-    ensures accepted { IsPlainSource R.gives R.refuses → IfSome (R.unread source.old) (λ raw.
-        (message : List (List ℕ)) (rest : List ℕ) →
-        BeginsFramed options.traversal_limit_in_words message raw rest →
-        HasRoom (length buffer.old) message →
-        IfErr result (λ error. error.kind ≡ ErrorKind.DeviceFailed)) }
-    ensures none { IfOk result (λ found. IfNone found
-        (IfSome (R.unread source.old) (λ raw. raw ≡ []))) }
-    ensures end { IfErr result (λ error. R.unread source.old ≡ Some [] →
-        8 ≤ length buffer.old → error.kind ≡ ErrorKind.DeviceFailed) }
+    // Over a source of plain bytes: the framed text of the message stands there.
+    ensures texts { IsPlainSource R.gives R.refuses → ReturnsTextsInto IsFrame
+        options.traversal_limit_in_words (length buffer.old) (R.unread source.old) (R.unread source.new)
+        (next_in (λ reader. reader.segments.segments) result) }
+    ensures reads { ReadsStreamInto R.Read source.old source.new (framed_rules R.gives R.refuses)
+        options.traversal_limit_in_words (length buffer.old) (next_in (λ reader. reader.segments.segments) result) }
     ensures options { IfOk result (λ found. IfSome found (λ reader.
         reader.options ≡ options)) }
-
-    // Of every source, also where its bytes aren't known.
-    ensures given { IfOk result (λ found. IfSome found (λ reader.
-        IfKnown (R.unread source.old) (R.unread source.new)
-        (MessageStands R.gives reader.segments.segments))) }
-    ensures within { IfOk result (λ found. IfSome found (λ reader.
-        IsWithin reader.segments.segments options.traversal_limit_in_words)) }
-    ensures whole { IfOk result (λ found. IfSome found (λ reader.
-        AllByRecursion IsWholeWords reader.segments.segments)) }
-    ensures refused { RefusesLent R.gives R.refuses
-        options.traversal_limit_in_words (length buffer.old) result
-        (R.unread source.old) (R.unread source.new) }
-    // Under 8 bytes of room nothing is asked for.
-    ensures short { length buffer.old < 8 →
-        (source.new ≡ source.old) × IsRefusedBy result ErrorKind.BufferNotLargeEnough }
-    ensures kinds { IfErr result (λ error. IsLentReaderKind R.refuses error.kind) }
-    ensures failed { IfErr result (λ error. error.kind ≡ ErrorKind.DeviceFailed →
-        Fails (R.failures source.old) (R.failures source.new)) }
-    ensures advances { Advances R.unread R.failures R.same source.old source.new }
 {
     match try_read_segments_into(source, buffer, options)? {
         Some(segments) => Ok(Some(Reader::new(segments, options))),
@@ -174,39 +101,14 @@ pub fn read_message_no_alloc<'b, R: Read>(
     buffer: &'b mut [u8],
     options: ReaderOptions,
 ) -> Result<Reader<NoAllocBufferSegments<&'b [u8]>>>
-    ensures found { IsPlainSource R.gives R.refuses → IfOk result (λ reader.
-        IfKnown (R.unread source.old) (R.unread source.new)
-        (BeginsFramed options.traversal_limit_in_words reader.segments.segments)) }
-    ensures accepted { IsPlainSource R.gives R.refuses → IfSome (R.unread source.old) (λ raw.
-        (message : List (List ℕ)) (rest : List ℕ) →
-        BeginsFramed options.traversal_limit_in_words message raw rest →
-        HasRoom (length buffer.old) message →
-        IfErr result (λ error. error.kind ≡ ErrorKind.DeviceFailed)) }
-    ensures end { R.unread source.old ≡ Some [] → 8 ≤ length buffer.old →
-        IsErrAnd result (λ error. (error.kind ≡ ErrorKind.PrematureEndOfFile)
-        ⊎ (error.kind ≡ ErrorKind.DeviceFailed)) }
-    ensures options { IfOk result (λ reader.
-        reader.options ≡ options) }
-
-    // Of every source, also where its bytes aren't known.
-    ensures given { IfOk result (λ reader.
-        IfKnown (R.unread source.old) (R.unread source.new)
-        (MessageStands R.gives reader.segments.segments)) }
-    ensures within { IfOk result (λ reader.
-        IsWithin reader.segments.segments options.traversal_limit_in_words) }
-    ensures whole { IfOk result (λ reader.
-        AllByRecursion IsWholeWords reader.segments.segments) }
-    ensures refused { RefusesLentOrEnds R.gives R.refuses
-        options.traversal_limit_in_words (length buffer.old) result
-        (R.unread source.old) (R.unread source.new) }
-    // Under 8 bytes of room nothing is asked for.
-    ensures short { length buffer.old < 8 →
-        (source.new ≡ source.old) × IsRefusedBy result ErrorKind.BufferNotLargeEnough }
-    ensures kinds { IfErr result (λ error. (error.kind ≡ ErrorKind.PrematureEndOfFile)
-        ⊎ IsLentReaderKind R.refuses error.kind) }
-    ensures failed { IfErr result (λ error. error.kind ≡ ErrorKind.DeviceFailed →
-        Fails (R.failures source.old) (R.failures source.new)) }
-    ensures advances { Advances R.unread R.failures R.same source.old source.new }
+    // Over a source of plain bytes: the framed text of the message stands there.
+    ensures texts { IsPlainSource R.gives R.refuses → ReturnsTextsInto IsFrame
+        options.traversal_limit_in_words (length buffer.old) (R.unread source.old) (R.unread source.new)
+        (message_in (λ reader. reader.segments.segments) result) }
+    ensures reads { OrFailsAtEnd (ReadsStreamInto R.Read source.old source.new
+        (framed_rules R.gives R.refuses) options.traversal_limit_in_words (length buffer.old))
+        (message_in (λ reader. reader.segments.segments) result) }
+    ensures options { IfOk result (λ reader. reader.options ≡ options) }
 {
     match try_read_message_no_alloc(source, buffer, options)? {
         Some(reader) => Ok(reader),

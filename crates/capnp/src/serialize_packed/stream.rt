@@ -1,16 +1,9 @@
 //! Reading packed messages from a source.
-ghost use Rattle.std.specs.Prelude.{◌≡◌, ◌⊎◌, ◌<◌, ◌≤◌, ℕ, List, [], length, Some, IfSome, IfNone, IfOk, IfErr};
-ghost use Rattle.std.specs.List.{AllByRecursion};
-ghost use Rattle.std.specs.Result.{IsErrAnd};
-ghost use Rattle.capnp_frame.specs.declared.error.ErrorKind.{ErrorKind};
-ghost use Rattle.capnp_frame.specs.Errors.{IsRefusedBy};
-ghost use Rattle.capnp_frame.specs.Limits.{IsWithin};
-ghost use Rattle.capnp_frame.specs.Message.{IsWholeWords};
-ghost use Rattle.capnp_frame.specs.Source.{IfKnown, Advances, Fails};
-ghost use Rattle.capnp_frame.specs.Refusals.{IsReaderKind, IsLentReaderKind};
-ghost use Rattle.capnp_pack.specs.PackedSource.{Unpacks, RefusesPiece};
-ghost use Rattle.capnp.specs.Streams.{BeginsPacked};
-ghost use Rattle.capnp.specs.Headline.{IsFault, HasRoom, RefusesGrowing, RefusesLent, RefusesGrowingOrEnds, RefusesLentOrEnds};
+ghost use Rattle.std.specs.Prelude.{◌≡◌, length, IfSome, IfOk};
+ghost use Rattle.capnp_frame.specs.Streams.{message_in, next_in, ReadsStream, ReadsStreamInto};
+ghost use Rattle.capnp_pack.specs.PackedFrame.{IsPackedFrame};
+ghost use Rattle.capnp_pack.specs.PackedStreams.{packed_rules};
+ghost use Rattle.capnp.specs.Headline.{ReturnsTexts, ReturnsTextsInto, OrFailsAtEnd};
 
 use capnp_frame::io::BufRead;
 use capnp_frame::message::ReaderOptions;
@@ -38,31 +31,14 @@ pub fn try_read_message<R: BufRead>(
     source: &mut R,
     options: ReaderOptions,
 ) -> Result<Option<Reader<OwnedSegments>>>
-    ensures found { IfOk result (λ found. IfSome found (λ reader.
-        IfKnown (R.unread source.old) (R.unread source.new)
-        (BeginsPacked options.traversal_limit_in_words reader.segments))) }
-    ensures accepted { IfSome (R.unread source.old) (λ raw.
-        (message : List (List ℕ)) (rest : List ℕ) →
-        BeginsPacked options.traversal_limit_in_words message raw rest →
-        IfErr result (λ error. IsFault error.kind)) }
-    ensures none { IfOk result (λ found. IfNone found
-        (IfSome (R.unread source.old) (λ raw. raw ≡ []))) }
-    ensures end { IfErr result (λ error. R.unread source.old ≡ Some [] →
-        error.kind ≡ ErrorKind.DeviceFailed) }
+    // The packed text of the message stands there.
+    ensures texts { ReturnsTexts IsPackedFrame
+        options.traversal_limit_in_words (R.unread source.old) (R.unread source.new)
+        (next_in (λ reader. reader.segments) result) }
+    ensures reads { ReadsStream R.Read source.old source.new packed_rules
+        options.traversal_limit_in_words (next_in (λ reader. reader.segments) result) }
     ensures options { IfOk result (λ found. IfSome found (λ reader.
         reader.options ≡ options)) }
-
-    // Of every source, also where its bytes aren't known.
-    ensures within { IfOk result (λ found. IfSome found (λ reader.
-        IsWithin reader.segments options.traversal_limit_in_words)) }
-    ensures whole { IfOk result (λ found. IfSome found (λ reader.
-        AllByRecursion IsWholeWords reader.segments)) }
-    ensures refused { RefusesGrowing Unpacks RefusesPiece
-        options.traversal_limit_in_words result (R.unread source.old) (R.unread source.new) }
-    ensures kinds { IfErr result (λ error. IsReaderKind RefusesPiece error.kind) }
-    ensures failed { IfErr result (λ error. error.kind ≡ ErrorKind.DeviceFailed →
-        Fails (R.failures source.old) (R.failures source.new)) }
-    ensures advances { Advances R.unread R.failures R.same source.old source.new }
 {
     match try_read_packed_segments(alloc, source, options)? {
         Some(segments) => Ok(Some(Reader::new(segments, options))),
@@ -77,30 +53,14 @@ pub fn read_message<R: BufRead>(
     source: &mut R,
     options: ReaderOptions,
 ) -> Result<Reader<OwnedSegments>>
-    ensures found { IfOk result (λ reader.
-        IfKnown (R.unread source.old) (R.unread source.new)
-        (BeginsPacked options.traversal_limit_in_words reader.segments)) }
-    ensures accepted { IfSome (R.unread source.old) (λ raw.
-        (message : List (List ℕ)) (rest : List ℕ) →
-        BeginsPacked options.traversal_limit_in_words message raw rest →
-        IfErr result (λ error. IsFault error.kind)) }
-    ensures end { R.unread source.old ≡ Some [] → IsErrAnd result (λ error.
-        (error.kind ≡ ErrorKind.PrematureEndOfFile) ⊎ (error.kind ≡ ErrorKind.DeviceFailed)) }
-    ensures options { IfOk result (λ reader.
-        reader.options ≡ options) }
-
-    // Of every source, also where its bytes aren't known.
-    ensures within { IfOk result (λ reader.
-        IsWithin reader.segments options.traversal_limit_in_words) }
-    ensures whole { IfOk result (λ reader.
-        AllByRecursion IsWholeWords reader.segments) }
-    ensures refused { RefusesGrowingOrEnds Unpacks RefusesPiece
-        options.traversal_limit_in_words result (R.unread source.old) (R.unread source.new) }
-    ensures kinds { IfErr result (λ error. (error.kind ≡ ErrorKind.PrematureEndOfFile)
-        ⊎ IsReaderKind RefusesPiece error.kind) }
-    ensures failed { IfErr result (λ error. error.kind ≡ ErrorKind.DeviceFailed →
-        Fails (R.failures source.old) (R.failures source.new)) }
-    ensures advances { Advances R.unread R.failures R.same source.old source.new }
+    // The packed text of the message stands there.
+    ensures texts { ReturnsTexts IsPackedFrame
+        options.traversal_limit_in_words (R.unread source.old) (R.unread source.new)
+        (message_in (λ reader. reader.segments) result) }
+    ensures reads { OrFailsAtEnd (ReadsStream R.Read source.old source.new
+        packed_rules options.traversal_limit_in_words)
+        (message_in (λ reader. reader.segments) result) }
+    ensures options { IfOk result (λ reader. reader.options ≡ options) }
 {
     match try_read_message(alloc, source, options)? {
         Some(reader) => Ok(reader),
@@ -118,36 +78,14 @@ pub fn try_read_message_no_alloc<'b, R: BufRead>(
     buffer: &'b mut [u8],
     options: ReaderOptions,
 ) -> Result<Option<Reader<NoAllocBufferSegments<&'b [u8]>>>>
-    ensures found { IfOk result (λ found. IfSome found (λ reader.
-        IfKnown (R.unread source.old) (R.unread source.new)
-        (BeginsPacked options.traversal_limit_in_words reader.segments.segments))) }
-    ensures accepted { IfSome (R.unread source.old) (λ raw.
-        (message : List (List ℕ)) (rest : List ℕ) →
-        BeginsPacked options.traversal_limit_in_words message raw rest →
-        HasRoom (length buffer.old) message →
-        IfErr result (λ error. error.kind ≡ ErrorKind.DeviceFailed)) }
-    ensures none { IfOk result (λ found. IfNone found
-        (IfSome (R.unread source.old) (λ raw. raw ≡ []))) }
-    ensures end { IfErr result (λ error. R.unread source.old ≡ Some [] →
-        8 ≤ length buffer.old → error.kind ≡ ErrorKind.DeviceFailed) }
+    // The packed text of the message stands there.
+    ensures texts { ReturnsTextsInto IsPackedFrame
+        options.traversal_limit_in_words (length buffer.old) (R.unread source.old) (R.unread source.new)
+        (next_in (λ reader. reader.segments.segments) result) }
+    ensures reads { ReadsStreamInto R.Read source.old source.new packed_rules
+        options.traversal_limit_in_words (length buffer.old) (next_in (λ reader. reader.segments.segments) result) }
     ensures options { IfOk result (λ found. IfSome found (λ reader.
         reader.options ≡ options)) }
-
-    // Of every source, also where its bytes aren't known.
-    ensures within { IfOk result (λ found. IfSome found (λ reader.
-        IsWithin reader.segments.segments options.traversal_limit_in_words)) }
-    ensures whole { IfOk result (λ found. IfSome found (λ reader.
-        AllByRecursion IsWholeWords reader.segments.segments)) }
-    ensures refused { RefusesLent Unpacks RefusesPiece
-        options.traversal_limit_in_words (length buffer.old) result
-        (R.unread source.old) (R.unread source.new) }
-    // Under 8 bytes of room nothing is asked for.
-    ensures short { length buffer.old < 8 →
-        (source.new ≡ source.old) × IsRefusedBy result ErrorKind.BufferNotLargeEnough }
-    ensures kinds { IfErr result (λ error. IsLentReaderKind RefusesPiece error.kind) }
-    ensures failed { IfErr result (λ error. error.kind ≡ ErrorKind.DeviceFailed →
-        Fails (R.failures source.old) (R.failures source.new)) }
-    ensures advances { Advances R.unread R.failures R.same source.old source.new }
 {
     match try_read_packed_segments_into(source, buffer, options)? {
         Some(segments) => Ok(Some(Reader::new(segments, options))),
@@ -162,36 +100,14 @@ pub fn read_message_no_alloc<'b, R: BufRead>(
     buffer: &'b mut [u8],
     options: ReaderOptions,
 ) -> Result<Reader<NoAllocBufferSegments<&'b [u8]>>>
-    ensures found { IfOk result (λ reader.
-        IfKnown (R.unread source.old) (R.unread source.new)
-        (BeginsPacked options.traversal_limit_in_words reader.segments.segments)) }
-    ensures accepted { IfSome (R.unread source.old) (λ raw.
-        (message : List (List ℕ)) (rest : List ℕ) →
-        BeginsPacked options.traversal_limit_in_words message raw rest →
-        HasRoom (length buffer.old) message →
-        IfErr result (λ error. error.kind ≡ ErrorKind.DeviceFailed)) }
-    ensures end { R.unread source.old ≡ Some [] → 8 ≤ length buffer.old →
-        IsErrAnd result (λ error. (error.kind ≡ ErrorKind.PrematureEndOfFile)
-        ⊎ (error.kind ≡ ErrorKind.DeviceFailed)) }
-    ensures options { IfOk result (λ reader.
-        reader.options ≡ options) }
-
-    // Of every source, also where its bytes aren't known.
-    ensures within { IfOk result (λ reader.
-        IsWithin reader.segments.segments options.traversal_limit_in_words) }
-    ensures whole { IfOk result (λ reader.
-        AllByRecursion IsWholeWords reader.segments.segments) }
-    ensures refused { RefusesLentOrEnds Unpacks RefusesPiece
-        options.traversal_limit_in_words (length buffer.old) result
-        (R.unread source.old) (R.unread source.new) }
-    // Under 8 bytes of room nothing is asked for.
-    ensures short { length buffer.old < 8 →
-        (source.new ≡ source.old) × IsRefusedBy result ErrorKind.BufferNotLargeEnough }
-    ensures kinds { IfErr result (λ error. (error.kind ≡ ErrorKind.PrematureEndOfFile)
-        ⊎ IsLentReaderKind RefusesPiece error.kind) }
-    ensures failed { IfErr result (λ error. error.kind ≡ ErrorKind.DeviceFailed →
-        Fails (R.failures source.old) (R.failures source.new)) }
-    ensures advances { Advances R.unread R.failures R.same source.old source.new }
+    // The packed text of the message stands there.
+    ensures texts { ReturnsTextsInto IsPackedFrame
+        options.traversal_limit_in_words (length buffer.old) (R.unread source.old) (R.unread source.new)
+        (message_in (λ reader. reader.segments.segments) result) }
+    ensures reads { OrFailsAtEnd (ReadsStreamInto R.Read source.old source.new
+        packed_rules options.traversal_limit_in_words (length buffer.old))
+        (message_in (λ reader. reader.segments.segments) result) }
+    ensures options { IfOk result (λ reader. reader.options ≡ options) }
 {
     match try_read_message_no_alloc(source, buffer, options)? {
         Some(reader) => Ok(reader),

@@ -1,8 +1,18 @@
 -- Either reader's message.
+use Rattle.capnp.specs.Streams.{IsPlainSource}
+use Rattle.capnp.proofs.FormatLemmas.{plain_reads, or_fails_map}
 use Rattle.capnp.proofs.appended.read_message.Goals as goal
 
-pub returns-in-Framed-clause-accepted : goal.returns-in-Framed-clause-accepted
-returns-in-Framed-clause-accepted g c = rw c.in-Framed.is (c.read_message.ensures.accepted (record { given = g.met.R.BufRead.plain; refused = g.met.R.BufRead.plain_refusals }))
+pub returns-in-Framed-clause-texts : goal.returns-in-Framed-clause-texts
+returns-in-Framed-clause-texts g c = rw c.in-Framed.is (c.read_message.ensures.texts (record { given = g.met.R.BufRead.plain; refused = g.met.R.BufRead.plain_refusals }))
 
-pub returns-in-Packed-clause-accepted : goal.returns-in-Packed-clause-accepted
-returns-in-Packed-clause-accepted g c = rw c.in-Packed.is c.read_message-in-Packed.ensures.accepted
+pub returns-in-Framed-clause-reads : goal.returns-in-Framed-clause-reads
+returns-in-Framed-clause-reads g c =
+    let plain : IsPlainSource g.R.Read.gives g.R.Read.refuses = record { given = g.met.R.BufRead.plain; refused = g.met.R.BufRead.plain_refusals } in
+    rw c.in-Framed.is (or_fails_map _ (plain_reads g.R.Read plain c.args.options.traversal_limit_in_words _ _) c.read_message.ensures.reads)
+
+pub returns-in-Packed-clause-texts : goal.returns-in-Packed-clause-texts
+returns-in-Packed-clause-texts g c = rw c.in-Packed.is c.read_message-in-Packed.ensures.texts
+
+pub returns-in-Packed-clause-reads : goal.returns-in-Packed-clause-reads
+returns-in-Packed-clause-reads g c = rw c.in-Packed.is c.read_message-in-Packed.ensures.reads

@@ -26,7 +26,7 @@ returns-in_err-end-clause-memory g c =
     let same = read_same c.args.format c.args.options.traversal_limit_in_words (λ reader. reader.segments) g.S.ReaderSegments.segments
     c.in_ok-readers.readers.items c.args.messages.now c.deref-source.result.now _ c.in_ok-readers.ensures.found texts
     c.in_ok-readers.ensures.count in
-    rw (p.1, p.2) (memory_only c.in_err-end.field-0.0.kind (inl (c.in_err-end.ensures.end (ap Some same.1))) c.in_err-end.ensures.failed)
+    rw (p.1, p.2) (memory_only c.in_err-end.field-0.0.kind (inl (c.in_err-end.ensures.reads.end (ap Some same.1))) c.in_err-end.ensures.reads.failed)
 
 pub returns-clause-back : goal.returns-clause-back
 returns-clause-back g c =
@@ -48,4 +48,4 @@ returns-clause-end g c =
     c.in_ok-readers.readers.items c.args.messages.now c.deref-source.result.now _ c.in_ok-readers.ensures.found texts
     c.in_ok-readers.ensures.count in
     none_left c.args.format c.args.options.traversal_limit_in_words (λ reader. reader.segments) c.in_ok-end.end _
-    (Some c.try_read_message.new.source.now) same.1 c.in_ok-end.ensures.found
+    (Some c.try_read_message.new.source.now) same.1 c.in_ok-end.ensures.texts.found

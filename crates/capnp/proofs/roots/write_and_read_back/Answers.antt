@@ -1,5 +1,5 @@
 -- What was written is one text, which is read.
-use Rattle.std.proofs.Common.{Some, subst, sym}
+use Rattle.std.proofs.Common.{Some, refl, subst, sym}
 use Rattle.capnp_frame.specs.Limits.{IsWithin}
 use Rattle.capnp.proofs.RootLemmas.{added_stands, read_again, memory_alone}
 use Rattle.capnp.proofs.roots.write_and_read_back.Goals as goal
@@ -11,7 +11,7 @@ returns-clause-back g c = λ within.
     let stands = added_stands c.args.format limit output.result c.new-text.result.items _ c.deref-source.result.now
     c.new-text.ensures.items c.deref-source.ensures.value (output.ensures.writable c.requires)
     (c.in_ok-write_message.ensures.text (λ piece text same. same)) (subst (λ m. IsWithin m limit) (sym output.ensures.segments) within) in
-    rw (← output.ensures.segments) (read_again c.args.format limit (λ reader. reader.segments) c.read_message.result output.result c.deref-source.result.now (Some c.read_message.new.source.now) stands c.read_message.ensures.found)
+    rw (← output.ensures.segments) (read_again c.args.format limit (λ reader. reader.segments) c.read_message.result output.result c.deref-source.result.now (Some c.read_message.new.source.now) stands c.read_message.ensures.texts)
 
 pub returns-clause-memory : goal.returns-clause-memory
 returns-clause-memory g c = λ within.
@@ -20,4 +20,5 @@ returns-clause-memory g c = λ within.
     let stands = added_stands c.args.format limit output.result c.new-text.result.items _ c.deref-source.result.now
     c.new-text.ensures.items c.deref-source.ensures.value (output.ensures.writable c.requires)
     (c.in_ok-write_message.ensures.text (λ piece text same. same)) (subst (λ m. IsWithin m limit) (sym output.ensures.segments) within) in
-    memory_alone c.read_message.result (c.read_message.ensures.accepted _ _ stands) c.read_message.ensures.failed
+    memory_alone _ _ _ _ limit (λ reader. reader.segments) c.read_message.result (c.read_message.ensures.texts.accepted _ _ stands)
+    c.read_message.ensures.reads refl refl

@@ -1,15 +1,9 @@
--- A refusal of the try form.
+-- A failure of the form that may return None.
+use Rattle.std.proofs.Common.{inl}
 use Rattle.std.proofs.lemmas.Result.{err_from_is_err_and}
-use Rattle.capnp.proofs.ReaderLemmas.{growing_or_ends}
 use Rattle.capnp.proofs.serialize.stream.read_message.Goals as goal
 
-pub returns-in_err-reader-clause-accepted : goal.returns-in_err-reader-clause-accepted
-returns-in_err-reader-clause-accepted g c =
+pub returns-in_err-reader-clause-reads : goal.returns-in_err-reader-clause-reads
+returns-in_err-reader-clause-reads g c =
     let p = err_from_is_err_and c.from_residual.result c.from_residual.ensures.1 in
-    λ plain. rw (p.1, p.2) (c.in_err-reader.ensures.accepted plain)
-
-pub returns-in_err-reader-clause-refused : goal.returns-in_err-reader-clause-refused
-returns-in_err-reader-clause-refused g c =
-    let p = err_from_is_err_and c.from_residual.result c.from_residual.ensures.1 in
-    rw (p.1, p.2) (growing_or_ends c.args.options.traversal_limit_in_words c.in_err-reader.field-0.0 _ _
-    c.in_err-reader.ensures.refused)
+    rw (p.1, p.2) (inl c.in_err-reader.ensures.reads)

@@ -1,28 +1,19 @@
--- A refusal of the try form, or the end.
-use Rattle.std.proofs.Common.{◌≡◌, length}
+-- A failure of the form that may return None.
+use Rattle.std.proofs.Common.{inl, inr, length}
 use Rattle.std.proofs.lemmas.Result.{err_from_is_err_and}
-use Rattle.capnp_frame.specs.declared.error.ErrorKind.TheVariants.{DeviceFailed}
 use Rattle.capnp_pack.specs.RefusingLaws.{unpacking}
 use Rattle.capnp_pack.proofs.PackedFrameLemmas.{packed_requests}
-use Rattle.capnp.specs.Headline.{HasRoom}
-use Rattle.capnp.proofs.ReaderLemmas.{lent_or_ends, nothing_begins, nothing_begins_known}
+use Rattle.capnp.proofs.ReaderLemmas.{ends_texts_into}
 use Rattle.capnp.proofs.serialize_packed.stream.read_message_no_alloc.Goals as goal
 
-pub returns-in_err-reader-clause-accepted : goal.returns-in_err-reader-clause-accepted
-returns-in_err-reader-clause-accepted g c =
+pub returns-in_err-reader-clause-reads : goal.returns-in_err-reader-clause-reads
+returns-in_err-reader-clause-reads g c =
     let p = err_from_is_err_and c.from_residual.result c.from_residual.ensures.1 in
-    rw (p.1, p.2) c.in_err-reader.ensures.accepted
+    rw (p.1, p.2) (inl c.in_err-reader.ensures.reads)
 
-pub returns-in_err-reader-clause-refused : goal.returns-in_err-reader-clause-refused
-returns-in_err-reader-clause-refused g c =
-    let p = err_from_is_err_and c.from_residual.result c.from_residual.ensures.1 in
-    rw (p.1, p.2) (lent_or_ends c.args.options.traversal_limit_in_words (length c.args.buffer.now)
-    c.in_err-reader.field-0.0 _ _ c.in_err-reader.ensures.refused)
+pub returns-in-None-clause-reads : goal.returns-in-None-clause-reads
+returns-in-None-clause-reads g c = inr (c.from_kind.ensures, rw c.in-None.is at c.in_ok-reader.ensures.reads)
 
-pub returns-in-Some-clause-end : goal.returns-in-Some-clause-end
-returns-in-Some-clause-end g c = λ none room. nothing_begins_known unpacking packed_requests
-    c.args.options.traversal_limit_in_words _ _ _ none (rw c.in-Some.is at c.in_ok-reader.ensures.found)
-
-pub returns-in-None-clause-accepted : goal.returns-in-None-clause-accepted
-returns-in-None-clause-accepted g c = nothing_begins unpacking packed_requests c.args.options.traversal_limit_in_words
-    (λ m. HasRoom (length c.args.buffer.now) m → c.from_kind.result.kind ≡ DeviceFailed) _ (rw c.in-None.is at c.in_ok-reader.ensures.none)
+pub returns-in-None-clause-texts : goal.returns-in-None-clause-texts
+returns-in-None-clause-texts g c = ends_texts_into unpacking packed_requests c.args.options.traversal_limit_in_words (length c.args.buffer.now)
+    _ _ c.from_kind.result (rw c.in-None.is at c.in_ok-reader.ensures.reads.none)

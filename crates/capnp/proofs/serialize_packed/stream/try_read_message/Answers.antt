@@ -1,16 +1,12 @@
--- What the engine says, in texts.
+-- What is read by requests, in texts.
 use Rattle.std.proofs.lemmas.Result.{err_from_is_err_and}
-use Rattle.capnp.specs.Headline.{IsFault}
-use Rattle.capnp.proofs.ReaderLemmas.{accepts_packed}
+use Rattle.capnp_pack.specs.PackedFrame.{IsPackedFrame}
+use Rattle.capnp_pack.specs.PackedStreams.{packed_rules}
+use Rattle.capnp.proofs.ReaderLemmas.{returns_texts}
 use Rattle.capnp.proofs.serialize_packed.stream.try_read_message.Goals as goal
 
-pub returns-in_err-segments-clause-accepted : goal.returns-in_err-segments-clause-accepted
-returns-in_err-segments-clause-accepted g c =
+pub returns-in_err-segments-clause-texts : goal.returns-in_err-segments-clause-texts
+returns-in_err-segments-clause-texts g c =
     let p = err_from_is_err_and c.from_residual.result c.from_residual.ensures.1 in
-    rw (p.1, p.2) (accepts_packed c.args.options.traversal_limit_in_words
-    (λ m. IsFault c.in_err-segments.field-0.0.kind) _ c.in_err-segments.ensures.accepted)
-
-pub returns-in_err-segments-clause-refused : goal.returns-in_err-segments-clause-refused
-returns-in_err-segments-clause-refused g c =
-    let p = err_from_is_err_and c.from_residual.result c.from_residual.ensures.1 in
-    rw (p.1, p.2) (record { told = c.in_err-segments.ensures.refused; exact = c.in_err-segments.ensures.exact })
+    rw (p.1, p.2) (returns_texts g.R.Read _ _ packed_rules IsPackedFrame
+    c.args.options.traversal_limit_in_words _ (λ m raw rest. (λ x. x, λ x. x)) c.in_err-segments.ensures)

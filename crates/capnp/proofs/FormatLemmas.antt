@@ -1,0 +1,125 @@
+-- The readers of both formats over a source of plain bytes.
+use Rattle.std.proofs.Common.{◌≡◌, inl, inr, ◌⊎◌, ℕ, List, Option, Some, None, IfSome, Result, Ok, Err, IfOk, IfErr}
+use Rattle.std.specs.Result.{IsErrAnd}
+use Rattle.capnp_frame.specs.declared.error.Error.{Error}
+use Rattle.capnp_frame.specs.declared.error.ErrorKind.{ErrorKind}
+use Rattle.capnp_frame.specs.declared.error.ErrorKind.TheVariants.{DeviceFailed, OutOfMemory, PrematureEndOfFile}
+use Rattle.capnp_frame.specs.declared.io.Read.{Ghosts}
+use Rattle.capnp_frame.specs.Limits.{IsWithin}
+use Rattle.capnp_frame.specs.Source.{Giving, Refusing, Splits, RunsShort, IfKnown, Advances, Fails}
+use Rattle.capnp_frame.specs.Refusals.{RefusesStream, CountStands, TakesMemory, IsReaderKind}
+use Rattle.capnp_frame.specs.Requests.{MessageStands, TableStands}
+use Rattle.capnp_frame.specs.Streams.{StreamRules, framed_rules, ReadsStream}
+use Rattle.capnp_frame.proofs.SourceLemmas.{IfKnown-weaker}
+use Rattle.capnp_frame.proofs.RefusalLemmas.{RefusesStream-map}
+use Rattle.capnp.specs.declared.streams.Format.TheVariants.{Framed}
+use Rattle.capnp.specs.Headline.{OrFailsAtEnd}
+use Rattle.capnp.specs.Streams.{IsPlainSource, rules_of}
+use Rattle.capnp.proofs.ReaderLemmas.{frames_requested}
+
+TakesMemory-map : {gives others : Giving}
+    (given : (raw : List ℕ) (n : ℕ) (bytes rest : List ℕ) → gives raw n bytes rest → others raw n bytes rest)
+    (limit : Option ℕ) (raw left : List ℕ) → TakesMemory gives limit raw left → TakesMemory others limit raw left
+TakesMemory-map given limit raw left (inl count) = inl (record {
+  word = count.word;
+  count = count.count;
+  given = given raw 8 count.word left count.given;
+  told = count.told;
+  accepted = count.accepted;
+})
+TakesMemory-map given limit raw left (inr (lengths, table, within)) = inr (lengths, record {
+  first = table.first;
+  others = table.others;
+  between = table.between;
+  first_given = given _ _ _ _ table.first_given;
+  others_given = given _ _ _ _ table.others_given;
+  table = table.table;
+}, within)
+
+kinds_of : {refuses also : Refusing} (refused : (raw : List ℕ) (n : ℕ) (kind : ErrorKind) → refuses raw n kind → also raw n kind)
+    (kind : ErrorKind) → IsReaderKind refuses kind → IsReaderKind also kind
+kinds_of refused kind (inl device) = inl device
+kinds_of refused kind (inr (inl memory)) = inr (inl memory)
+kinds_of refused kind (inr (inr (inl count))) = inr (inr (inl count))
+kinds_of refused kind (inr (inr (inr (inl total)))) = inr (inr (inr (inl total)))
+kinds_of refused kind (inr (inr (inr (inr (raw, n, line))))) = inr (inr (inr (inr (raw, n, refused raw n kind line))))
+
+-- Over a source of plain bytes what is read by its requests is read by the framed format's rules.
+module _ {S : Type 0} (source : Ghosts S) (plain : IsPlainSource source.gives source.refuses) (limit : Option ℕ) where
+  texts_found : (old new : Option (List ℕ)) (r : Result (Option (List (List ℕ))) Error)
+      → IfOk r (λ found. IfSome found (λ m. IfKnown old new (MessageStands source.gives m)))
+      → IfOk r (λ found. IfSome found (λ m. IfKnown old new ((rules_of Framed).stands m)))
+  texts_found old new (Err e) found = tt
+  texts_found old new (Ok None) found = tt
+  texts_found old new (Ok (Some m)) found = IfKnown-weaker old new (λ raw rest. (frames_requested _ _ plain m raw rest).0) found
+
+  texts_accepted : (F : Type 0) (old : Option (List ℕ))
+      → IfSome old (λ raw. (m : List (List ℕ)) (rest : List ℕ) → MessageStands source.gives m raw rest → IsWithin m limit → F)
+      → IfSome old (λ raw. (m : List (List ℕ)) (rest : List ℕ) → (rules_of Framed).stands m raw rest → IsWithin m limit → F)
+  texts_accepted F None accepted = tt
+  texts_accepted F (Some raw) accepted = λ m rest stands within. accepted m rest ((frames_requested _ _ plain m raw rest).1 stands) within
+
+  texts_refused : (old new : Option (List ℕ)) (r : Result (Option (List (List ℕ))) Error)
+      → IfErr r (λ error. (error.kind ≡ DeviceFailed)
+      ⊎ ((error.kind ≡ OutOfMemory) × IfKnown old new (TakesMemory source.gives limit))
+      ⊎ IfKnown old new (RefusesStream source.gives source.refuses limit None error.kind))
+      → IfErr r (λ error. (error.kind ≡ DeviceFailed)
+      ⊎ ((error.kind ≡ OutOfMemory) × IfKnown old new (TakesMemory Splits limit))
+      ⊎ IfKnown old new (RefusesStream Splits RunsShort limit None error.kind))
+  texts_refused old new (Ok found) refused = tt
+  texts_refused old new (Err e) (inl device) = inl device
+  texts_refused old new (Err e) (inr (inl (memory, takes))) =
+      inr (inl (memory, IfKnown-weaker old new (TakesMemory-map (λ w n b t. (plain.given w n b t).1) limit) takes))
+  texts_refused old new (Err e) (inr (inr line)) = inr (inr (IfKnown-weaker old new
+      (RefusesStream-map (λ w n b t. (plain.given w n b t).1) (λ w n k. (plain.refused w n k).1) limit None e.kind) line))
+
+  texts_exact : (F : ErrorKind → Type 0) (old : Option (List ℕ))
+      → IfSome old (λ raw. (kind : ErrorKind) (left : List ℕ) → RefusesStream source.gives source.refuses limit None kind raw left → F kind)
+      → IfSome old (λ raw. (kind : ErrorKind) (left : List ℕ) → RefusesStream Splits RunsShort limit None kind raw left → F kind)
+  texts_exact F None exact = tt
+  texts_exact F (Some raw) exact = λ kind left line. exact kind left
+      (RefusesStream-map (λ w n b t. (plain.given w n b t).0) (λ w n k. (plain.refused w n k).0) limit None kind raw left line)
+
+  texts_kinds : (r : Result (Option (List (List ℕ))) Error) → IfErr r (λ error. IsReaderKind source.refuses error.kind)
+      → IfErr r (λ error. IsReaderKind RunsShort error.kind)
+  texts_kinds (Ok found) kinds = tt
+  texts_kinds (Err e) kinds = kinds_of (λ w n k. (plain.refused w n k).1) e.kind kinds
+
+  pub plain_reads : (old new : S) (r : Result (Option (List (List ℕ))) Error)
+      → ReadsStream source old new (framed_rules source.gives source.refuses) limit r
+      → ReadsStream source old new (rules_of Framed) limit r
+  plain_reads old new r reads = record {
+    found = texts_found _ _ r reads.found;
+    within = reads.within;
+    whole = reads.whole;
+    none = reads.none;
+    accepted = texts_accepted _ _ reads.accepted;
+    end = reads.end;
+    refused = texts_refused _ _ r reads.refused;
+    exact = texts_exact _ _ reads.exact;
+    kinds = texts_kinds r reads.kinds;
+    failed = reads.failed;
+    advances = reads.advances;
+  }
+
+-- what holds of the form that may return None, carried over
+pub or_fails_map : {P Q : Result (Option (List (List ℕ))) Error → Type 0} (r : Result (Option (List (List ℕ))) Error)
+    → ((tried : Result (Option (List (List ℕ))) Error) → P tried → Q tried) → OrFailsAtEnd P r → OrFailsAtEnd Q r
+or_fails_map (Ok found) map p = map (Ok found) p
+or_fails_map (Err e) map (inl p) = inl (map (Err e) p)
+or_fails_map (Err e) map (inr (kind, p)) = inr (kind, map (Ok None) p)
+
+-- and what it says of the source
+pub or_fails_advances : {S : Type 0} (source : Ghosts S) (old new : S) (rules : StreamRules) (limit : Option ℕ)
+    (r : Result (Option (List (List ℕ))) Error) → OrFailsAtEnd (ReadsStream source old new rules limit) r
+    → Advances source.unread source.failures source.same old new
+or_fails_advances source old new rules limit (Ok found) reads = reads.advances
+or_fails_advances source old new rules limit (Err e) (inl reads) = reads.advances
+or_fails_advances source old new rules limit (Err e) (inr (kind, reads)) = reads.advances
+
+pub or_fails_failed : {S : Type 0} (source : Ghosts S) (old new : S) (rules : StreamRules) (limit : Option ℕ)
+    (r : Result (Option (List (List ℕ))) Error) → OrFailsAtEnd (ReadsStream source old new rules limit) r
+    → IfErr r (λ error. error.kind ≡ DeviceFailed → Fails (source.failures old) (source.failures new))
+or_fails_failed source old new rules limit (Ok found) reads = tt
+or_fails_failed source old new rules limit (Err e) (inl reads) = reads.failed
+or_fails_failed source old new rules limit (Err e) (inr (kind, reads)) = λ device. cc
