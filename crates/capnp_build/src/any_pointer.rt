@@ -1,16 +1,7 @@
 //! The root of a message that is built.
-ghost use Rattle.std.specs.Prelude.{◌≡◌, ◌↔◌, ◌⊎◌, ℕ, ⊤, ◌^◌, ◌<◌, false, length, map, IsOk, IsTrue, IfOk, IfErr, OnOk, OnErr, MatchResult};
-ghost use Rattle.std.specs.Result.{IsErrAnd};
-ghost use Rattle.capnp_frame.specs.declared.error.ErrorKind.{ErrorKind};
-ghost use Rattle.capnp_wire.specs.Tree.{Form, null, none};
-ghost use Rattle.capnp_wire.specs.Reached.{Root};
-ghost use Rattle.capnp_wire.specs.Readers.{unlimited_root};
-ghost use Rattle.capnp_wire.specs.Views.{Measures, Unmeasured};
-ghost use Rattle.capnp_wire.specs.Values.{HasWords, LacksWords};
-ghost use Rattle.capnp_build.specs.Out.{MayRefuse};
-ghost use Rattle.capnp_build.specs.Held.{used_of, KeepsOthers};
-ghost use Rattle.capnp_build.specs.Built.{held_of, message, ForRoot, DeclinesRoot};
-ghost use Rattle.capnp_build.specs.Built.{InitWords, IsSet, IsPut, IsInit, IsCleared, IsCrowded, WasCrowded};
+ghost use Rattle.std.specs.Prelude.{◌≡◌, ◌↔◌, ⊤, ◌<◌, false, length, IsTrue, IfOk, IfErr};
+ghost use Rattle.capnp_wire.specs.Tree.{null};
+ghost use Rattle.capnp_build.specs.Built.{message, ForRoot, DeclinesRoot};
 ghost use Rattle.capnp_build.specs.Outcomes.{SetsRoot, InitsRoot};
 ghost use Rattle.capnp_build.specs.RootViews.{InitsView, SizesRoot};
 

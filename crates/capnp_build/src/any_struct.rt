@@ -4,7 +4,7 @@ ghost use Rattle.capnp_frame.specs.declared.error.ErrorKind.TheVariants.{Allocat
 ghost use Rattle.capnp_wire.specs.Tree.{struct};
 ghost use Rattle.capnp_wire.specs.Views.{HasData, TakesStruct, DeclinesStruct};
 ghost use Rattle.capnp_build.specs.Built.{ForRoot};
-ghost use Rattle.capnp_build.specs.Written.{HasField, IsFieldSet, IsWritten};
+ghost use Rattle.capnp_build.specs.Written.{HasField, IsFieldSet};
 ghost use Rattle.capnp_build.specs.RootViews.{WritesView};
 
 use crate::object::Body;

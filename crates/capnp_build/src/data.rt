@@ -5,7 +5,7 @@ ghost use Rattle.capnp_wire.specs.Tree.{numbers};
 ghost use Rattle.capnp_wire.specs.Element.{words_for};
 ghost use Rattle.capnp_wire.specs.Views.{IsData, TakesNumbers, DeclinesNumbers};
 ghost use Rattle.capnp_build.specs.Built.{ForRoot};
-ghost use Rattle.capnp_build.specs.Written.{HasBytes, IsBytesSet, IsWritten};
+ghost use Rattle.capnp_build.specs.Written.{HasBytes, IsBytesSet};
 ghost use Rattle.capnp_build.specs.RootViews.{WritesView};
 
 use crate::object::Body;

@@ -1,9 +1,7 @@
 //! Blocks of values behind the used words of segments, and the root's pointer to them.
 ghost use Rattle.std.specs.Prelude.{◌≡◌, ℕ, ◌+◌, ◌-◌, ◌*◌, ◌^◌, ◌<◌, ◌≤◌, length, Some};
 ghost use Rattle.capnp_build.specs.Held.{space_at, room_of};
-ghost use Rattle.capnp_build.specs.Built.{HasBody, HasSomeBody, HasValue, IsAtEnd, IsLonger, IsRewritten};
-ghost use Rattle.capnp_build.specs.Built.{IsLaid as IsReached};
-ghost use Rattle.capnp_wire.specs.Tree.{Form, Trees};
+ghost use Rattle.capnp_build.specs.Built.{HasSomeBody, HasValue, IsAtEnd, IsLonger};
 ghost use Rattle.capnp_wire.specs.Values.{HasWords};
 ghost use Rattle.capnp_build.specs.Blocks.{PointsRoot};
 

@@ -4,7 +4,7 @@ ghost use Rattle.capnp_frame.specs.declared.error.ErrorKind.TheVariants.{Allocat
 ghost use Rattle.capnp_wire.specs.Tree.{numbers};
 ghost use Rattle.capnp_wire.specs.Views.{IsWords, TakesNumbers, DeclinesNumbers};
 ghost use Rattle.capnp_build.specs.Built.{ForRoot};
-ghost use Rattle.capnp_build.specs.Written.{HasNumber, IsNumberSet, IsWritten};
+ghost use Rattle.capnp_build.specs.Written.{HasNumber, IsNumberSet};
 ghost use Rattle.capnp_build.specs.RootViews.{WritesView};
 
 use crate::object::Body;

@@ -4,7 +4,7 @@ ghost use Rattle.capnp_frame.specs.declared.error.ErrorKind.TheVariants.{Allocat
 ghost use Rattle.capnp_wire.specs.Tree.{numbers};
 ghost use Rattle.capnp_wire.specs.Views.{IsText, TakesText, DeclinesText};
 ghost use Rattle.capnp_build.specs.Built.{ForRoot};
-ghost use Rattle.capnp_build.specs.Written.{HasBytes, IsBytesSet, IsWritten};
+ghost use Rattle.capnp_build.specs.Written.{HasBytes, IsBytesSet};
 ghost use Rattle.capnp_build.specs.RootViews.{WritesView};
 
 use crate::object::Body;

@@ -1,17 +1,9 @@
 //! Views of the object at the root of a message that is built.
-ghost use Rattle.std.specs.Prelude.{◌≡◌, ◌⊎◌, ℕ, ◌^◌, ◌<◌, List, false, length, map, IsOk, IfErr, OnOk, OnErr, MatchResult};
-ghost use Rattle.std.specs.Result.{IsErrAnd};
-ghost use Rattle.capnp_frame.specs.declared.error.ErrorKind.{ErrorKind};
-ghost use Rattle.capnp_wire.specs.Tree.{Form, Trees, none};
-ghost use Rattle.capnp_wire.specs.Reached.{Root};
-ghost use Rattle.capnp_wire.specs.Readers.{unlimited_root};
-ghost use Rattle.capnp_wire.specs.Views.{Measures, Unmeasured};
-ghost use Rattle.capnp_wire.specs.Values.{HasWords, LacksWords};
-ghost use Rattle.capnp_build.specs.Out.{MayRefuse};
-ghost use Rattle.capnp_build.specs.Held.{used_of, KeepsOthers};
-ghost use Rattle.capnp_build.specs.Built.{Built, held_of, message as words_of_message, ForRoot, IsShown};
-ghost use Rattle.capnp_build.specs.Written.{IsWritten, HasField, IsFieldSet, HasBytes, IsBytesSet, HasNumber, IsNumberSet};
-ghost use Rattle.capnp_build.specs.Built.{DeclinesRoot, InitWords, IsSet, IsPut, IsInit, IsCleared, IsCrowded, WasCrowded};
+ghost use Rattle.std.specs.Prelude.{◌≡◌, ◌⊎◌, ◌<◌, List, length, IfErr, OnOk};
+ghost use Rattle.capnp_wire.specs.Tree.{Trees, none};
+ghost use Rattle.capnp_build.specs.Built.{Built, ForRoot, IsShown};
+ghost use Rattle.capnp_build.specs.Written.{HasField, IsFieldSet, HasBytes, IsBytesSet, HasNumber, IsNumberSet};
+ghost use Rattle.capnp_build.specs.Built.{DeclinesRoot, InitWords, WasCrowded};
 ghost use Rattle.capnp_build.specs.Shown.{Shows, HoldsForm};
 ghost use Rattle.capnp_build.specs.Outcomes.{SetsRoot, InitsRoot, LacksFirst};
 ghost use Rattle.capnp_build.specs.RootViews.{WritesRoot, SizesRoot};

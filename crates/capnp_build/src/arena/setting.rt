@@ -1,12 +1,9 @@
 //! The root of a message, set to a value or to a new object.
-ghost use Rattle.std.specs.Prelude.{◌≡◌, ◌⊎◌, ℕ, ◌-◌, ◌/◌, ◌<◌, [], length, false, true, Some, None, IfErr, OnOk, OnErr};
-ghost use Rattle.capnp_build.specs.Out.{MayRefuse};
-ghost use Rattle.capnp_build.specs.Held.{KeepsOthers};
-ghost use Rattle.capnp_build.specs.Built.{held_of, message, Built, IsSet, IsWhole, NotInOne, IsCrowded, NewWords, InitWords, IsPlaced, IsPut, IsInit, IsCleared};
+ghost use Rattle.std.specs.Prelude.{◌≡◌, ℕ, ◌-◌, ◌/◌, ◌<◌, length, false, true, Some, None};
+ghost use Rattle.capnp_build.specs.Built.{message, Built, NewWords};
 ghost use Rattle.capnp_build.specs.Body.{Fits, zero_form};
-ghost use Rattle.capnp_wire.specs.Tree.{Form, none};
-ghost use Rattle.capnp_wire.specs.Reached.{root, Root};
-ghost use Rattle.capnp_wire.specs.Values.{HasWords, LacksWords};
+ghost use Rattle.capnp_wire.specs.Tree.{none};
+ghost use Rattle.capnp_wire.specs.Reached.{root};
 ghost use Rattle.capnp_build.specs.Outcomes.{SetsRoot, SetsRootCanonical, InitsRoot};
 ghost use Rattle.capnp_build.specs.Blocks.{IsNew, PutsBlock};
 

@@ -1,6 +1,6 @@
 //! What is written into the object at the root.
 ghost use Rattle.std.specs.Prelude.{◌+◌, ◌*◌, ◌/◌, ◌<◌, length, Some};
-ghost use Rattle.capnp_build.specs.Written.{HasField, IsFieldSet, HasBytes, IsBytesSet, HasNumber, IsNumberSet, IsWritten};
+ghost use Rattle.capnp_build.specs.Written.{HasField, IsFieldSet, HasBytes, IsBytesSet, HasNumber, IsNumberSet};
 ghost use Rattle.capnp_wire.specs.Reached.{root};
 ghost use Rattle.capnp_build.specs.RootViews.{WritesRoot};
 
