@@ -1,15 +1,10 @@
 //! Builders of messages.
-ghost use Rattle.std.specs.Prelude.{◌≡◌, ◌≢◌, ◌⊎◌, ◌<◌, ◌≤◌, ◌^◌, ◌-◌, ◌↔◌, ℕ, [], false, true, IsTrue, length, map, None, IfErr, OnOk, OnErr, IsOk, MatchResult, pos};
-ghost use Rattle.std.specs.Result.{IsErrAnd};
-ghost use Rattle.capnp_frame.specs.declared.error.ErrorKind.{ErrorKind};
-ghost use Rattle.capnp_frame.specs.declared.error.ErrorKind.TheVariants.{ReadLimitExceeded, NotOneSegment};
+ghost use Rattle.std.specs.Prelude.{◌≡◌, ◌<◌, ◌≤◌, ◌^◌, ◌-◌, ◌↔◌, ℕ, [], false, IsTrue, length, map, None};
+ghost use Rattle.capnp_frame.specs.declared.error.ErrorKind.TheVariants.{NotOneSegment};
 ghost use Rattle.capnp_frame.specs.Writing.{IsWritable};
 ghost use Rattle.capnp_wire.specs.Readers.{unlimited_root};
-ghost use Rattle.capnp_wire.specs.Values.{HasWords, LacksWords};
-ghost use Rattle.capnp_wire.specs.Views.{LeadsAstray};
-ghost use Rattle.capnp_build.specs.Out.{MayRefuse};
-ghost use Rattle.capnp_build.specs.Held.{used_of, KeepsOthers, BringsHome};
-ghost use Rattle.capnp_build.specs.Built.{Built, held_of, size_in_words, IsSet, IsWhole, IsPut, IsCrowded, NotInOne, IsCleared};
+ghost use Rattle.capnp_build.specs.Held.{used_of};
+ghost use Rattle.capnp_build.specs.Built.{Built, held_of, size_in_words};
 ghost use Rattle.capnp_build.specs.Outcomes.{SetsRoot, SetsRootCanonical, IsNewMessage, GivesBack};
 ghost use Rattle.capnp_wire.specs.Views.{IsViewOf};
 ghost use Rattle.capnp_message.specs.Roots.{IsReadUnlimited};

@@ -1,11 +1,7 @@
 //! The object at the root of a message that is built, as a view that writes it.
-ghost use Rattle.std.specs.Prelude.{◌≡◌, ◌⊎◌, ℕ, length, IfOk, IfErr};
+ghost use Rattle.std.specs.Prelude.{length};
 ghost use Rattle.std.specs.Borrow.{RestsIfErr, sem};
-ghost use Rattle.capnp_wire.specs.Tree.{Form, none};
-ghost use Rattle.capnp_wire.specs.Reached.{Root};
-ghost use Rattle.capnp_build.specs.Out.{MayRefuse};
-ghost use Rattle.capnp_build.specs.Held.{KeepsOthers};
-ghost use Rattle.capnp_build.specs.Built.{held_of, message, ForRoot, DeclinesRoot, InitWords, IsInit, IsCleared, WasCrowded, IsLookedAt};
+ghost use Rattle.capnp_build.specs.Built.{message, IsCleared, IsLookedAt};
 ghost use Rattle.capnp_build.specs.RootViews.{InitsView, GetsView};
 
 use crate::builder::Builder;

@@ -1,5 +1,5 @@
 //! One region first, then segments from the heap.
-ghost use Rattle.std.specs.Prelude.{◌≡◌, ◌⊎◌, ℕ, ◌*◌, ◌/◌, ◌^◌, ◌<◌, ◌≤◌, true, false, List, length, IfOk, IfErr, IfSome, IsSome, IsOk, OnOk, OnErr, None};
+ghost use Rattle.std.specs.Prelude.{◌≡◌, ◌⊎◌, ℕ, ◌*◌, ◌/◌, ◌^◌, ◌<◌, ◌≤◌, true, false, List, length, IfOk, IfErr, IsSome, IsOk, OnOk, OnErr, None};
 ghost use Rattle.std.specs.Option.{ForSome};
 ghost use Rattle.capnp_frame.specs.declared.error.ErrorKind.TheVariants.{OutOfMemory};
 ghost use Rattle.capnp_build.specs.Bytes.{ZeroFrom};

@@ -1,17 +1,9 @@
 //! Builders of messages whose root has a type.
-ghost use Rattle.std.specs.Prelude.{◌≡◌, ◌≢◌, ◌⊎◌, ◌+◌, ◌^◌, ◌-◌, ℕ, [], false, length, map, None, IfOk, IfErr, OnOk, OnErr, IsOk, MatchResult, pos};
-ghost use Rattle.std.specs.Result.{IsErrAnd};
+ghost use Rattle.std.specs.Prelude.{◌≡◌, ◌+◌, ◌^◌, ◌-◌, length, map};
 ghost use Rattle.std.specs.Borrow.{RestsIfErr, sem};
-ghost use Rattle.capnp_frame.specs.declared.error.ErrorKind.{ErrorKind};
-ghost use Rattle.capnp_frame.specs.declared.error.ErrorKind.TheVariants.{ReadLimitExceeded};
-ghost use Rattle.capnp_wire.specs.Tree.{Form, none};
-ghost use Rattle.capnp_wire.specs.Reached.{Root};
 ghost use Rattle.capnp_wire.specs.Readers.{unlimited_root};
-ghost use Rattle.capnp_wire.specs.Values.{HasWords, LacksWords};
-ghost use Rattle.capnp_wire.specs.Views.{LeadsAstray};
-ghost use Rattle.capnp_build.specs.Out.{MayRefuse};
-ghost use Rattle.capnp_build.specs.Held.{used_of, KeepsOthers};
-ghost use Rattle.capnp_build.specs.Built.{Built, held_of, message, ForRoot, DeclinesRoot, InitWords, IsSet, IsPut, IsCrowded, IsInit, IsCleared, WasCrowded, IsLookedAt};
+ghost use Rattle.capnp_build.specs.Held.{used_of};
+ghost use Rattle.capnp_build.specs.Built.{Built, message, IsCleared, IsLookedAt};
 ghost use Rattle.capnp_build.specs.Outcomes.{SetsRoot, IsNewMessage};
 ghost use Rattle.capnp_build.specs.RootViews.{InitsView, GetsView};
 ghost use Rattle.capnp_wire.specs.Views.{IsViewOf};

@@ -1,12 +1,7 @@
 //! Readers of messages whose root has a type.
-ghost use Rattle.std.specs.Prelude.{◌≡◌, ◌≢◌, ◌⊎◌, ◌^◌, ◌-◌, pos, None, IfErr, OnOk, IsOk, MatchResult};
-ghost use Rattle.std.specs.Result.{IsErrAnd};
-ghost use Rattle.capnp_frame.specs.declared.error.ErrorKind.{ErrorKind};
-ghost use Rattle.capnp_frame.specs.declared.error.ErrorKind.TheVariants.{ReadLimitExceeded};
+ghost use Rattle.std.specs.Prelude.{◌≡◌, ◌^◌, ◌-◌, pos, None};
 ghost use Rattle.capnp_wire.specs.Reached.{root};
-ghost use Rattle.capnp_wire.specs.Faults.{NoWord};
-ghost use Rattle.capnp_wire.specs.Views.{LeadsAstray, MeetsLimit};
-ghost use Rattle.capnp_message.specs.Seen.{root_of, HasRoot};
+ghost use Rattle.capnp_message.specs.Seen.{root_of};
 ghost use Rattle.capnp_message.specs.Roots.{ReadsRoot};
 
 use crate::builder::Builder;
