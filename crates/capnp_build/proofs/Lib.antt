@@ -13,6 +13,7 @@ pub mod FieldLemmas
 pub mod RewriteLemmas
 pub mod ReadLemmas
 pub mod PlaceLemmas
+pub mod OutcomeLemmas
 pub mod WriteLemmas
 pub mod FreshLemmas
 pub mod OutputLemmas

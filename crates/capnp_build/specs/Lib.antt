@@ -7,3 +7,6 @@ pub mod Shown
 pub mod Built
 pub mod Written
 pub mod Output
+pub mod Blocks
+pub mod Outcomes
+pub mod RootViews

@@ -1,16 +1,9 @@
 //! The root of a message that is built.
-ghost use Rattle.std.specs.Prelude.{◌≡◌, ◌↔◌, ◌⊎◌, ℕ, ⊤, ◌^◌, ◌<◌, false, length, map, IsOk, IsTrue, IfOk, IfErr, OnOk, OnErr, MatchResult};
-ghost use Rattle.std.specs.Result.{IsErrAnd};
-ghost use Rattle.capnp_frame.specs.declared.error.ErrorKind.{ErrorKind};
-ghost use Rattle.capnp_wire.specs.Tree.{Form, null, none};
-ghost use Rattle.capnp_wire.specs.Reached.{Root};
-ghost use Rattle.capnp_wire.specs.Readers.{unlimited_root};
-ghost use Rattle.capnp_wire.specs.Views.{Measures, Unmeasured};
-ghost use Rattle.capnp_wire.specs.Values.{HasWords, LacksWords};
-ghost use Rattle.capnp_build.specs.Out.{MayRefuse};
-ghost use Rattle.capnp_build.specs.Held.{used_of, KeepsOthers};
-ghost use Rattle.capnp_build.specs.Built.{held_of, message, ForRoot, DeclinesRoot};
-ghost use Rattle.capnp_build.specs.Built.{InitWords, IsSet, IsPut, IsInit, IsCleared, IsCrowded, WasCrowded};
+ghost use Rattle.std.specs.Prelude.{◌≡◌, ◌↔◌, ⊤, ◌<◌, false, length, IsTrue, IfOk, IfErr};
+ghost use Rattle.capnp_wire.specs.Tree.{null};
+ghost use Rattle.capnp_build.specs.Built.{message, ForRoot, DeclinesRoot};
+ghost use Rattle.capnp_build.specs.Outcomes.{SetsRoot, InitsRoot};
+ghost use Rattle.capnp_build.specs.RootViews.{InitsView, SizesRoot};
 
 use crate::object::Body;
 use crate::owned_builder::OwnedBuilder;
@@ -56,13 +49,7 @@ impl<'a, M: Building> View<'a, M, Owned> {
     /// The size of the root's object with all below it, without pads. The walk has no traversal limit,
     /// and is refused where a reading pointer to the root refuses it.
     pub fn target_size(&self) -> Result<MessageSize>
-        ensures answer { let pointer = unlimited_root (map used_of (M.built self.now.message.now).spaces) in MatchResult result
-            (λ size. Measures pointer size.word_count × (size.cap_count ≡ 0))
-            (λ error. Unmeasured pointer error.kind) }
-        ensures measured { let pointer = unlimited_root (map used_of (M.built self.now.message.now).spaces) in
-            (words : ℕ) → Measures pointer words → words < 2 ^ 64 → IsOk result }
-        ensures exact { let pointer = unlimited_root (map used_of (M.built self.now.message.now).spaces) in
-            (kind : ErrorKind) → Unmeasured pointer kind → IsErrAnd result (λ error. error.kind ≡ kind) }
+        ensures { SizesRoot (M.built self.now.message.now).spaces result }
     {
         self.message.target_size()
     }
@@ -79,14 +66,7 @@ impl<'a, M: Building> View<'a, M, Owned> {
     /// Makes the root a new object of some length, all zero. Where it is refused, the root is null.
     pub fn set_new<K: OwnedBuilder>(&mut self, n: u32) -> Result<()>
         ensures same { self.new.message.ghost_name ≡ self.old.message.ghost_name }
-        ensures inits { OnOk result ((form : Form) × (charge : ℕ) × K.inits n form × Root (message (M.built self.new.message.now).spaces) form none charge) }
-        ensures placed { OnOk result (IsInit M.Allocator.same (InitWords K.inits n) (M.built self.old.message.now) (M.built self.new.message.now)) }
-        ensures nulled { OnErr result (IsCleared M.Allocator.same (M.built self.old.message.now) (M.built self.new.message.now)) }
-        ensures kind { IfErr result (λ error. K.refuses n error.kind
-            ⊎ ((length (M.built self.old.message.now).spaces ≡ 0) × MayRefuse 1 error.kind)
-            ⊎ IsCrowded (InitWords K.inits n) (M.built self.new.message.now).spaces error.kind) }
-        ensures allocator { M.Allocator.same (M.built self.old.message.now).allocator (M.built self.new.message.now).allocator }
-        ensures others { KeepsOthers M.Allocator.out (held_of (M.built self.old.message.now)) (held_of (M.built self.new.message.now)) }
+        ensures inits { InitsRoot M.Allocator.Allocator K.OwnedBuilder n (M.built self.old.message.now) (M.built self.new.message.now) result }
     {
         self.message.init_object::<K>(n)
     }
@@ -107,15 +87,7 @@ impl<'a, M: Building> View<'a, M, Owned> {
     /// Makes the root a new object of some length, all zero, and answers a view that writes it. Where it
     /// is refused, the root is null.
     pub fn initn_as<K: OwnedBuilder>(self, n: u32) -> Result<View<'a, M, K>>
-        ensures same { IfOk result (λ view. view.message.ghost_name ≡ self.entry.message.ghost_name) }
-        ensures inits { IfOk result (λ view. (form : Form) × (charge : ℕ) × K.inits n form
-            × Root (message (M.built view.message.now).spaces) form none charge) }
-        ensures placed { IfOk result (λ view. IsInit M.Allocator.same (InitWords K.inits n) (M.built self.entry.message.now) (M.built view.message.now)) }
-        ensures kind { IfErr result (λ error. K.refuses n error.kind
-            ⊎ ((length (M.built self.entry.message.now).spaces ≡ 0) × MayRefuse 1 error.kind)
-            ⊎ WasCrowded M.Allocator.same (InitWords K.inits n) (M.built self.entry.message.now) error.kind) }
-        ensures allocator { IfOk result (λ view. M.Allocator.same (M.built self.entry.message.now).allocator (M.built view.message.now).allocator) }
-        ensures others { IfOk result (λ view. KeepsOthers M.Allocator.out (held_of (M.built self.entry.message.now)) (held_of (M.built view.message.now))) }
+        ensures { InitsView M.Allocator.Allocator K.OwnedBuilder n M.built (λ view. view.message) self.entry.message result }
     {
         let View { message, kind: _ } = self;
         init::<M, K>(message, n)?;
@@ -124,15 +96,7 @@ impl<'a, M: Building> View<'a, M, Owned> {
 
     /// The same, of length 0.
     pub fn init_as<K: OwnedBuilder>(self) -> Result<View<'a, M, K>>
-        ensures same { IfOk result (λ view. view.message.ghost_name ≡ self.entry.message.ghost_name) }
-        ensures inits { IfOk result (λ view. (form : Form) × (charge : ℕ) × K.inits 0 form
-            × Root (message (M.built view.message.now).spaces) form none charge) }
-        ensures placed { IfOk result (λ view. IsInit M.Allocator.same (InitWords K.inits 0) (M.built self.entry.message.now) (M.built view.message.now)) }
-        ensures kind { IfErr result (λ error. K.refuses 0 error.kind
-            ⊎ ((length (M.built self.entry.message.now).spaces ≡ 0) × MayRefuse 1 error.kind)
-            ⊎ WasCrowded M.Allocator.same (InitWords K.inits 0) (M.built self.entry.message.now) error.kind) }
-        ensures allocator { IfOk result (λ view. M.Allocator.same (M.built self.entry.message.now).allocator (M.built view.message.now).allocator) }
-        ensures others { IfOk result (λ view. KeepsOthers M.Allocator.out (held_of (M.built self.entry.message.now)) (held_of (M.built view.message.now))) }
+        ensures { InitsView M.Allocator.Allocator K.OwnedBuilder 0 M.built (λ view. view.message) self.entry.message result }
     {
         self.initn_as::<K>(0)
     }
@@ -140,14 +104,7 @@ impl<'a, M: Building> View<'a, M, Owned> {
     /// Sets the root to a value. Where it is refused, the root is null.
     pub fn set_as<T, V: SetterInput<T> + Drop>(&mut self, value: V) -> Result<()>
         ensures same { self.new.message.ghost_name ≡ self.old.message.ghost_name }
-        ensures set { OnOk result (IsSet (V.has_tree value) false (M.built self.new.message.now).spaces) }
-        ensures placed { OnOk result (IsPut M.Allocator.same (HasWords (V.has_tree value) false) (M.built self.old.message.now) (M.built self.new.message.now)) }
-        ensures nulled { OnErr result (IsCleared M.Allocator.same (M.built self.old.message.now) (M.built self.new.message.now)) }
-        ensures kind { IfErr result (λ error. LacksWords (V.has_tree value) (V.refuses value) false error.kind
-            ⊎ ((length (M.built self.old.message.now).spaces ≡ 0) × MayRefuse 1 error.kind)
-            ⊎ IsCrowded (HasWords (V.has_tree value) false) (M.built self.new.message.now).spaces error.kind) }
-        ensures allocator { M.Allocator.same (M.built self.old.message.now).allocator (M.built self.new.message.now).allocator }
-        ensures others { KeepsOthers M.Allocator.out (held_of (M.built self.old.message.now)) (held_of (M.built self.new.message.now)) }
+        ensures sets { SetsRoot M.Allocator.Allocator (V.has_tree value) (V.refuses value) (M.built self.old.message.now) (M.built self.new.message.now) result }
     {
         self.message.set_root::<T, V>(&value)
     }

@@ -4,7 +4,8 @@ ghost use Rattle.capnp_frame.specs.declared.error.ErrorKind.TheVariants.{Allocat
 ghost use Rattle.capnp_wire.specs.Tree.{struct};
 ghost use Rattle.capnp_wire.specs.Views.{HasData, TakesStruct, DeclinesStruct};
 ghost use Rattle.capnp_build.specs.Built.{ForRoot};
-ghost use Rattle.capnp_build.specs.Written.{HasField, IsFieldSet, IsWritten};
+ghost use Rattle.capnp_build.specs.Written.{HasField, IsFieldSet};
+ghost use Rattle.capnp_build.specs.RootViews.{WritesView};
 
 use crate::object::Body;
 use crate::owned_builder::OwnedBuilder;
@@ -44,9 +45,7 @@ impl<'a, M: Building> View<'a, M, Owned> {
     /// Sets a data word.
     pub fn set_word(&mut self, index: u16, word: u64)
         requires { HasField (M.built self.old.message.now).spaces index }
-        ensures same { self.new.message.ghost_name ≡ self.old.message.ghost_name }
-        ensures set { IsFieldSet (M.built self.old.message.now).spaces (M.built self.new.message.now).spaces index word }
-        ensures written { IsWritten (M.built self.old.message.now) (M.built self.new.message.now) }
+        ensures { WritesView M.built (λ old new. IsFieldSet old new index word) self.old.message self.new.message }
     {
         self.message.set_word(index, word);
     }

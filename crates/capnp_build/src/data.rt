@@ -5,7 +5,8 @@ ghost use Rattle.capnp_wire.specs.Tree.{numbers};
 ghost use Rattle.capnp_wire.specs.Element.{words_for};
 ghost use Rattle.capnp_wire.specs.Views.{IsData, TakesNumbers, DeclinesNumbers};
 ghost use Rattle.capnp_build.specs.Built.{ForRoot};
-ghost use Rattle.capnp_build.specs.Written.{HasBytes, IsBytesSet, IsWritten};
+ghost use Rattle.capnp_build.specs.Written.{HasBytes, IsBytesSet};
+ghost use Rattle.capnp_build.specs.RootViews.{WritesView};
 
 use crate::object::Body;
 use crate::owned_builder::OwnedBuilder;
@@ -45,9 +46,7 @@ impl<'a, M: Building> View<'a, M, Owned> {
     /// Sets a byte.
     pub fn set(&mut self, index: u32, byte: u8)
         requires { HasBytes (M.built self.old.message.now).spaces index 1 }
-        ensures same { self.new.message.ghost_name ≡ self.old.message.ghost_name }
-        ensures set { IsBytesSet (M.built self.old.message.now).spaces (M.built self.new.message.now).spaces index (byte ∷ []) }
-        ensures written { IsWritten (M.built self.old.message.now) (M.built self.new.message.now) }
+        ensures { WritesView M.built (λ old new. IsBytesSet old new index (byte ∷ [])) self.old.message self.new.message }
     {
         self.message.write_bytes(index, &[byte]);
     }
@@ -55,9 +54,7 @@ impl<'a, M: Building> View<'a, M, Owned> {
     /// Writes bytes over those from an index on.
     pub fn write(&mut self, index: u32, bytes: &[u8])
         requires { HasBytes (M.built self.old.message.now).spaces index (length bytes.now) }
-        ensures same { self.new.message.ghost_name ≡ self.old.message.ghost_name }
-        ensures set { IsBytesSet (M.built self.old.message.now).spaces (M.built self.new.message.now).spaces index bytes.now }
-        ensures written { IsWritten (M.built self.old.message.now) (M.built self.new.message.now) }
+        ensures { WritesView M.built (λ old new. IsBytesSet old new index bytes.now) self.old.message self.new.message }
     {
         self.message.write_bytes(index, bytes);
     }

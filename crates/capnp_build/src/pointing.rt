@@ -1,10 +1,9 @@
 //! Blocks of values behind the used words of segments, and the root's pointer to them.
 ghost use Rattle.std.specs.Prelude.{◌≡◌, ℕ, ◌+◌, ◌-◌, ◌*◌, ◌^◌, ◌<◌, ◌≤◌, length, Some};
 ghost use Rattle.capnp_build.specs.Held.{space_at, room_of};
-ghost use Rattle.capnp_build.specs.Built.{HasBody, HasSomeBody, HasValue, IsAtEnd, IsLonger, IsRewritten};
-ghost use Rattle.capnp_build.specs.Built.{IsLaid as IsReached};
-ghost use Rattle.capnp_wire.specs.Tree.{Form, Trees};
+ghost use Rattle.capnp_build.specs.Built.{HasSomeBody, HasValue, IsAtEnd, IsLonger};
 ghost use Rattle.capnp_wire.specs.Values.{HasWords};
+ghost use Rattle.capnp_build.specs.Blocks.{PointsRoot};
 
 use crate::allocator::Allocator;
 use crate::arena::spot::{Spot, far, moved};
@@ -42,8 +41,7 @@ impl<A: Allocator> Segments<A> {
     pub fn point_near(&mut self, spot: Spot)
         requires first { spot.segment ≡ 0 }
         requires body { HasSomeBody self.old.spaces spot }
-        ensures stands { (form : Form) (held : Trees) → HasBody self.old.spaces spot form held → IsReached self.new.spaces spot form held }
-        ensures rewritten { IsRewritten self.old self.new }
+        ensures { PointsRoot spot self.old self.new }
     {
         let pointer = moved(spot.tag, spot.start - 1);
         self.write_at(0, 0, &pointer.to_le_bytes());
@@ -55,8 +53,7 @@ impl<A: Allocator> Segments<A> {
         requires some { 0 < spot.words }
         requires first { 8 ≤ length (space_at self.old.spaces 0).used }
         requires body { HasSomeBody self.old.spaces spot }
-        ensures stands { (form : Form) (held : Trees) → HasBody self.old.spaces spot form held → IsReached self.new.spaces spot form held }
-        ensures rewritten { IsRewritten self.old self.new }
+        ensures { PointsRoot spot self.old self.new }
     {
         let pad = spot.start - 1;
         self.write_at(spot.segment, 8 * pad as usize, &spot.tag.to_le_bytes());

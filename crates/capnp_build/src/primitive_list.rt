@@ -4,7 +4,8 @@ ghost use Rattle.capnp_frame.specs.declared.error.ErrorKind.TheVariants.{Allocat
 ghost use Rattle.capnp_wire.specs.Tree.{numbers};
 ghost use Rattle.capnp_wire.specs.Views.{IsWords, TakesNumbers, DeclinesNumbers};
 ghost use Rattle.capnp_build.specs.Built.{ForRoot};
-ghost use Rattle.capnp_build.specs.Written.{HasNumber, IsNumberSet, IsWritten};
+ghost use Rattle.capnp_build.specs.Written.{HasNumber, IsNumberSet};
+ghost use Rattle.capnp_build.specs.RootViews.{WritesView};
 
 use crate::object::Body;
 use crate::owned_builder::OwnedBuilder;
@@ -44,9 +45,7 @@ impl<'a, M: Building> View<'a, M, Owned<u64>> {
     /// Sets a number.
     pub fn set(&mut self, index: u32, number: u64)
         requires { HasNumber (M.built self.old.message.now).spaces index }
-        ensures same { self.new.message.ghost_name ≡ self.old.message.ghost_name }
-        ensures set { IsNumberSet (M.built self.old.message.now).spaces (M.built self.new.message.now).spaces index number }
-        ensures written { IsWritten (M.built self.old.message.now) (M.built self.new.message.now) }
+        ensures { WritesView M.built (λ old new. IsNumberSet old new index number) self.old.message self.new.message }
     {
         self.message.set_number(index, number);
     }

@@ -5,9 +5,10 @@ ghost use Rattle.capnp_frame.specs.declared.error.ErrorKind.{ErrorKind};
 ghost use Rattle.capnp_build.specs.Bytes.{Space, with_block, with_bytes};
 ghost use Rattle.capnp_build.specs.Out.{MayRefuse};
 ghost use Rattle.capnp_build.specs.Built.{size_in_words};
-ghost use Rattle.capnp_build.specs.Held.{IsAppendedAt, Held, spaces_of, used_of, space_at, room_of, with_space, KeepsOthers, BringsHome};
+ghost use Rattle.capnp_build.specs.Held.{IsAppendedAt, Held, spaces_of, used_of, space_at, room_of, with_space, KeepsOthers};
 ghost use Rattle.capnp_build.specs.Output.{CanBeWritten};
 ghost use Rattle.capnp_wire.specs.Values.{HasWords};
+ghost use Rattle.capnp_build.specs.Outcomes.{GivesBack};
 
 use crate::allocator::Allocator;
 use crate::part::Part;
@@ -226,8 +227,7 @@ impl<A: Allocator> Segments<A> {
 
     /// The allocator, once each segment has gone back to it.
     pub fn into_allocator(self) -> A
-        ensures home { BringsHome A.out self result }
-        ensures same { A.same self.allocator result }
+        ensures { GivesBack A.Allocator self result }
     {
         let Segments {
             mut allocator,

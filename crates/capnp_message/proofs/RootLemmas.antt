@@ -1,12 +1,18 @@
--- Roots whose word does not stand.
-use Rattle.std.proofs.Common.{◌≡◌, ℕ, List, Some, None, sym, ◌∙◌, subst}
+-- Roots whose word does not stand, and views of the root.
+use Rattle.std.proofs.Common.{◌≡◌, ◌≢◌, inl, inr, ℕ, List, Some, None, Result, Ok, Err, ap, sym, ◌∙◌, subst}
+use Rattle.std.specs.Result.{IsErrAnd}
+use Rattle.capnp_frame.specs.declared.error.Error.{Error}
 use Rattle.capnp_frame.specs.declared.error.ErrorKind.{ErrorKind}
+use Rattle.capnp_frame.specs.declared.error.ErrorKind.TheVariants.{ReadLimitExceeded}
 use Rattle.capnp_wire.specs.Object.{word_at}
 use Rattle.capnp_wire.specs.Reached.{root}
-use Rattle.capnp_wire.specs.Faults.{NoWord, Fault, no_word}
+use Rattle.capnp_wire.specs.Faults.{NoWord, no_segment, past_segment, Fault, no_word}
+use Rattle.capnp_wire.specs.Views.{Pointer, IsViewOf}
 use Rattle.capnp_wire.specs.declared.layout.place.Place.{Place}
 use Rattle.capnp_wire.proofs.RefusalLemmas.{one_refusal}
 use Rattle.capnp_wire.proofs.FaultLemmas.{no_word_there}
+use Rattle.capnp_message.specs.Seen.{ReadMessage, root_of, HasRoot}
+use Rattle.capnp_message.specs.Roots.{ReadsRoot}
 
 -- a word that does not stand is refused in one way
 pub no_word_once : (m : List (List ℕ)) (place : Place) (own kind : ErrorKind) → NoWord m place own → NoWord m place kind → own ≡ kind
@@ -24,3 +30,58 @@ word_apart m word kind stands refused =
     let none : word_at m root ≡ None = no_word_there m root kind refused in
     let both : Some word ≡ None = sym stands ∙ none in
     cc
+
+no_limit : (m : List (List ℕ)) (kind : ErrorKind) → NoWord m root kind → kind ≢ ReadLimitExceeded
+no_limit m kind (no_segment e) same = cc
+no_limit m kind (past_segment there e) same = cc
+
+-- where the root's own word does not stand, no view is had
+pub root_nowhere : {S V : Type 0} (segments : S → List (List ℕ)) (inside message : ReadMessage S) (shows : Pointer → V → Type 0) (accepts : Pointer → Type 0)
+    (refuses declines : Pointer → ErrorKind → Type 0) {error : Error} (r : Result V Error) → inside ≡ message → IsErrAnd r (λ y. y ≡ error)
+    → NoWord (root_of segments inside).message root error.kind
+    → (let pointer : Pointer = root_of segments message in ReadsRoot pointer (shows pointer) (accepts pointer) (refuses pointer) (declines pointer) r)
+root_nowhere segments inside message shows accepts refuses declines (Ok view) same is none = absurd is
+root_nowhere {S} segments inside message shows accepts refuses declines {error} (Err e) same is none =
+    let m : List (List ℕ) = (root_of segments message).message in
+    let own : NoWord m root e.kind =
+    subst (λ (x : Error). NoWord m root x.kind) (sym is) (subst (λ (x : ReadMessage S). NoWord (root_of segments x).message root error.kind) same none) in
+    record {
+      answer = inl own;
+      stands = tt;
+      found = λ unlimited has accepted. absurd (word_apart m has.0 e.kind has.1 own);
+      unlimited = λ unlimited. no_limit m e.kind own;
+      exact = λ kind astray none. astray_once m e.kind kind own astray;
+      declined = λ kind has declines. absurd (word_apart m has.0 e.kind has.1 own);
+      nowhere = λ kind nowhere. no_word_once m root e.kind kind own nowhere;
+    }
+
+-- a view of the root's pointer, where its word stands
+read_root : {V : Type 0} (pointer : Pointer) (shows : V → Type 0) (accepts : Type 0) (refuses declines : ErrorKind → Type 0) (r : Result V Error) → HasRoot pointer
+    → IsViewOf pointer shows accepts refuses declines r → ReadsRoot pointer shows accepts refuses declines r
+read_root pointer shows accepts refuses declines (Ok view) has told = record {
+  answer = told.answer;
+  stands = has;
+  found = λ unlimited stands accepted. told.found unlimited accepted;
+  unlimited = told.unlimited;
+  exact = told.exact;
+  declined = λ kind stands is. told.declined kind is;
+  nowhere = λ kind nowhere. absurd (word_apart pointer.message has.0 kind has.1 nowhere);
+}
+read_root pointer shows accepts refuses declines (Err error) has told = record {
+  answer = inr told.answer;
+  stands = tt;
+  found = λ unlimited stands accepted. told.found unlimited accepted;
+  unlimited = told.unlimited;
+  exact = told.exact;
+  declined = λ kind stands is. told.declined kind is;
+  nowhere = λ kind nowhere. absurd (word_apart pointer.message has.0 kind has.1 nowhere);
+}
+
+pub root_read : {S V : Type 0} (segments : S → List (List ℕ)) (inside message : ReadMessage S) (pointer : Pointer) (shows : Pointer → V → Type 0) (accepts : Pointer → Type 0)
+    (refuses declines : Pointer → ErrorKind → Type 0) (r : Result V Error) → inside ≡ message → pointer ≡ root_of segments inside → HasRoot (root_of segments inside)
+    → IsViewOf pointer (shows pointer) (accepts pointer) (refuses pointer) (declines pointer) r
+    → (let last : Pointer = root_of segments message in ReadsRoot last (shows last) (accepts last) (refuses last) (declines last) r)
+root_read {S} segments inside message pointer shows accepts refuses declines r same is has told =
+    let last : Pointer = root_of segments message in
+    read_root last (shows last) (accepts last) (refuses last) (declines last) r (subst (λ (x : ReadMessage S). HasRoot (root_of segments x)) same has)
+    (subst (λ (p : Pointer). IsViewOf p (shows p) (accepts p) (refuses p) (declines p) r) (is ∙ ap (root_of segments) same) told)

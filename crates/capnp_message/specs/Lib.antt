@@ -3,3 +3,5 @@ pub mod Canonical
 pub mod Next
 pub mod Region
 pub mod Scratch
+pub mod Roots
+pub mod Heaps

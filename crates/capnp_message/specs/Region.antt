@@ -1,5 +1,6 @@
 -- One region that is lent: at home, or away (src/scratch_space.rt, src/single_segment.rt).
-use Rattle.std.specs.Prelude.{◌≡◌, ℕ, true, List, [], ◌∷◌, Option, Some, None, MatchOption, refl}
+use Rattle.std.specs.Prelude.{◌≡◌, ℕ, true, List, [], ◌∷◌, length, Option, Some, None, IfSome, IsSome, MatchOption, refl}
+use Rattle.std.specs.Borrow.{MutBor}
 use Rattle.capnp_build.specs.Out.{Out, lent_of}
 
 -- a region of so many bytes, as a segment that is out
@@ -22,3 +23,9 @@ some_out (Some x) size = ([], refl)
 pub some_lent : {X : Type 0} (region : Option X) (size : ℕ) → (list : List Out) × IsLentAlone region size list
 some_lent None size = (region_out size ∷ [], refl)
 some_lent (Some x) size = ([], refl)
+
+-- a caller-provided region is at home
+pub record HoldsRegion (region : Option (MutBor (List ℕ))) (bytes : ℕ) (provided : MutBor (List ℕ)) : Type 0 where
+  pub same : IfSome region (λ r. r.ghost_name ≡ provided.ghost_name)
+  pub home : IsSome region
+  pub size : bytes ≡ length provided.now

@@ -1,15 +1,15 @@
 //! Builders of messages.
-ghost use Rattle.std.specs.Prelude.{◌≡◌, ◌≢◌, ◌⊎◌, ◌<◌, ◌≤◌, ◌^◌, ◌-◌, ◌↔◌, ℕ, [], false, true, IsTrue, length, map, None, IfErr, OnOk, OnErr, IsOk, MatchResult, pos};
-ghost use Rattle.std.specs.Result.{IsErrAnd};
-ghost use Rattle.capnp_frame.specs.declared.error.ErrorKind.{ErrorKind};
-ghost use Rattle.capnp_frame.specs.declared.error.ErrorKind.TheVariants.{ReadLimitExceeded, NotOneSegment};
+ghost use Rattle.std.specs.Prelude.{◌≡◌, ◌<◌, ◌≤◌, ◌^◌, ◌-◌, ◌↔◌, ℕ, [], false, IsTrue, length, map, None};
+ghost use Rattle.capnp_frame.specs.declared.error.ErrorKind.TheVariants.{NotOneSegment};
 ghost use Rattle.capnp_frame.specs.Writing.{IsWritable};
 ghost use Rattle.capnp_wire.specs.Readers.{unlimited_root};
-ghost use Rattle.capnp_wire.specs.Values.{HasWords, LacksWords};
-ghost use Rattle.capnp_wire.specs.Views.{LeadsAstray};
-ghost use Rattle.capnp_build.specs.Out.{MayRefuse};
-ghost use Rattle.capnp_build.specs.Held.{used_of, KeepsOthers, BringsHome};
-ghost use Rattle.capnp_build.specs.Built.{Built, held_of, size_in_words, IsSet, IsWhole, IsPut, IsCrowded, NotInOne, IsCleared};
+ghost use Rattle.capnp_build.specs.Held.{used_of};
+ghost use Rattle.capnp_build.specs.Built.{Built, held_of, size_in_words};
+ghost use Rattle.capnp_build.specs.Outcomes.{SetsRoot, SetsRootCanonical, IsNewMessage, GivesBack};
+ghost use Rattle.capnp_wire.specs.Views.{IsViewOf};
+ghost use Rattle.capnp_message.specs.Roots.{IsReadUnlimited};
+ghost use Rattle.capnp_message.specs.Heaps.{IsHeapOf};
+ghost use Rattle.capnp_message.specs.declared.heap_allocator.AllocationStrategy.TheVariants.{GrowHeuristically};
 
 use crate::heap_allocator::HeapAllocator;
 use crate::output_segments::OutputSegments;
@@ -50,9 +50,7 @@ impl<A: Allocator> Builder<A> {
     /// A message of no segments, whose root is null. `alloc` serves the list of its segments from the
     /// second on.
     pub fn new(alloc: Global, allocator: A) -> Builder<A>
-        ensures spaces { result.spaces ≡ [] }
-        ensures spot { result.spot ≡ None }
-        ensures allocator { result.allocator ≡ allocator }
+        ensures { IsNewMessage (λ own. own ≡ allocator) result }
     {
         Builder {
             arena: BuilderArena::new(alloc, allocator),
@@ -65,16 +63,7 @@ impl<A: Allocator> Builder<A> {
     /// else with its pad in another segment that has room, else in a new one. It is refused as the
     /// value's `measure` is, and as the allocator refuses a segment; then the root is null.
     pub fn set_root<T, V: SetterInput<T> + Drop>(&mut self, value: V) -> Result<()>
-        ensures set { OnOk result (IsSet (V.has_tree value) false self.new.spaces) }
-        // Which words it takes, once the old root is cleared.
-        ensures placed { OnOk result (IsPut A.same (HasWords (V.has_tree value) false) self.old self.new) }
-        ensures nulled { OnErr result (IsCleared A.same self.old self.new) }
-        ensures kind { IfErr result (λ error.
-            LacksWords (V.has_tree value) (V.refuses value) false error.kind
-            ⊎ ((length self.old.spaces ≡ 0) × MayRefuse 1 error.kind)
-            ⊎ IsCrowded (HasWords (V.has_tree value) false) self.new.spaces error.kind) }
-        ensures same { A.same self.old.allocator self.new.allocator }
-        ensures others { KeepsOthers A.out (held_of self.old) (held_of self.new) }
+        ensures { SetsRoot A.Allocator (V.has_tree value) (V.refuses value) self.old self.new result }
     {
         self.arena.set_root::<T, V>(&value)
     }
@@ -85,19 +74,8 @@ impl<A: Allocator> Builder<A> {
     /// It is refused as the value's `measure` is, as the allocator refuses the first segment, and by
     /// `NotOneSegment` where there are more segments or the first has no room; then the root is null.
     pub fn set_root_canonical<T, V: SetterInput<T> + Drop>(&mut self, value: V) -> Result<()>
-        ensures set { OnOk result (IsSet (V.has_tree value) true self.new.spaces) }
-        ensures placed { OnOk result (IsPut A.same (HasWords (V.has_tree value) true) self.old self.new) }
-        ensures one { OnOk result (length self.new.spaces ≡ 1) }
-        ensures whole { self.old.spaces ≡ [] →
-            OnOk result (IsWhole (V.has_tree value) true self.new.spaces) }
-        ensures nulled { OnErr result (IsCleared A.same self.old self.new) }
-        ensures kind { IfErr result (λ error.
-            LacksWords (V.has_tree value) (V.refuses value) true error.kind
-            ⊎ ((length self.old.spaces ≡ 0) × MayRefuse 1 error.kind)
-            ⊎ ((error.kind ≡ NotOneSegment)
-            × NotInOne (HasWords (V.has_tree value) true) self.new.spaces)) }
-        ensures same { A.same self.old.allocator self.new.allocator }
-        ensures others { KeepsOthers A.out (held_of self.old) (held_of self.new) }
+        ensures { SetsRootCanonical A.Allocator (V.has_tree value) (V.refuses value)
+            self.old self.new result }
     {
         self.arena.set_root_canonical::<T, V>(&value)
     }
@@ -105,14 +83,9 @@ impl<A: Allocator> Builder<A> {
     /// The root as a reading view, which borrows it from the segments: null without a segment. It has
     /// no traversal limit, and takes no segment.
     pub fn get_root_as_reader<'a, T: FromPointerReader<'a, BuilderArena<A>>>(&'a self) -> Result<T>
-        ensures answer { let pointer = unlimited_root (map used_of self.now.spaces) in
-            MatchResult result (λ view. T.shows pointer view) (λ error. T.refuses pointer error.kind) }
-        ensures found { let pointer = unlimited_root (map used_of self.now.spaces) in
-            T.accepts pointer → IsOk result }
-        ensures unlimited { IfErr result (λ error. error.kind ≢ ReadLimitExceeded) }
-        ensures exact { let pointer = unlimited_root (map used_of self.now.spaces) in
-            (kind : ErrorKind) → LeadsAstray pointer kind → (T.accepts pointer → ⊥) →
-            IsErrAnd result (λ error. error.kind ≡ kind) }
+        ensures { let pointer = unlimited_root (map used_of self.now.spaces) in
+            IsViewOf pointer (T.shows pointer) (T.accepts pointer) (T.refuses pointer)
+            (T.declines pointer) result }
     {
         self.arena.get_root_as_reader().get_as()
     }
@@ -135,9 +108,7 @@ impl<A: Allocator> Builder<A> {
     /// The message as one that is read, without a traversal limit and with objects nested up to 2^31 - 1
     /// deep.
     pub fn into_reader(self) -> Reader<Builder<A>>
-        ensures segments { result.segments ≡ self }
-        ensures unlimited { result.options.traversal_limit_in_words ≡ None }
-        ensures nesting { result.options.nesting_limit ≡ pos (2 ^ 31 - 1) }
+        ensures { IsReadUnlimited self result }
     {
         Reader::new(
             self,
@@ -157,8 +128,7 @@ impl<A: Allocator> Builder<A> {
 
     /// The allocator, once each segment has gone back to it with its used words.
     pub fn into_allocator(self) -> A
-        ensures home { BringsHome A.out (held_of self) result }
-        ensures same { A.same self.allocator result }
+        ensures { GivesBack A.Allocator (held_of self) result }
     {
         let Builder { arena } = self;
         arena.into_allocator()
@@ -168,9 +138,7 @@ impl<A: Allocator> Builder<A> {
 impl Builder<HeapAllocator> {
     /// A message over a heap that begins with 1,024 words.
     pub fn new_default(alloc: Global) -> Builder<HeapAllocator>
-        ensures spaces { result.spaces ≡ [] }
-        ensures spot { result.spot ≡ None }
-        ensures next { result.allocator.next_size ≡ 1024 }
+        ensures { IsNewMessage (IsHeapOf 1024 GrowHeuristically (2 ^ 29)) result }
     {
         Builder::new(alloc, HeapAllocator::new(alloc))
     }

@@ -4,6 +4,7 @@ ghost use Rattle.capnp_frame.specs.declared.error.ErrorKind.TheVariants.{OutOfMe
 ghost use Rattle.capnp_build.specs.Bytes.{ZeroFrom};
 ghost use Rattle.capnp_build.specs.Out.{Out, MayRefuse, Removed};
 ghost use Rattle.capnp_message.specs.Next.{size_of, next_after};
+ghost use Rattle.capnp_message.specs.declared.heap_allocator.AllocationStrategy.TheVariants.{GrowHeuristically};
 
 use capnp_build::allocator::Allocator;
 use capnp_frame::{Error, ErrorKind, Result};
@@ -35,11 +36,11 @@ pub struct HeapAllocator {
 }
 
 impl HeapAllocator {
+    ghost use Rattle.capnp_message.specs.Heaps.{IsHeapOf};
+
     /// A first segment of 1,024 words, growing up to 2^29.
     pub fn new(alloc: Global) -> HeapAllocator
-        ensures next { result.next_size ≡ 1024 }
-        ensures strategy { result.allocation_strategy ≡ AllocationStrategy.GrowHeuristically }
-        ensures maximum { result.max_segment_words ≡ 2 ^ 29 }
+        ensures { IsHeapOf 1024 GrowHeuristically (2 ^ 29) result }
     {
         HeapAllocator {
             alloc,
@@ -52,9 +53,7 @@ impl HeapAllocator {
     /// With so many words in the first segment, at most the maximum.
     pub fn first_segment_words(self, words: u32) -> HeapAllocator
         requires { words ≤ self.max_segment_words }
-        ensures next { result.next_size ≡ words }
-        ensures strategy { result.allocation_strategy ≡ self.allocation_strategy }
-        ensures maximum { result.max_segment_words ≡ self.max_segment_words }
+        ensures { IsHeapOf words self.allocation_strategy self.max_segment_words result }
     {
         HeapAllocator {
             alloc: self.alloc,
@@ -67,9 +66,7 @@ impl HeapAllocator {
     /// With so many words at most in a segment, where no more are asked; at least the next size.
     pub fn max_segment_words(self, words: u32) -> HeapAllocator
         requires { self.next_size ≤ words }
-        ensures next { result.next_size ≡ self.next_size }
-        ensures strategy { result.allocation_strategy ≡ self.allocation_strategy }
-        ensures maximum { result.max_segment_words ≡ words }
+        ensures { IsHeapOf self.next_size self.allocation_strategy words result }
     {
         HeapAllocator {
             alloc: self.alloc,
@@ -81,9 +78,7 @@ impl HeapAllocator {
 
     /// With segments that grow so.
     pub fn allocation_strategy(self, strategy: AllocationStrategy) -> HeapAllocator
-        ensures next { result.next_size ≡ self.next_size }
-        ensures strategy { result.allocation_strategy ≡ strategy }
-        ensures maximum { result.max_segment_words ≡ self.max_segment_words }
+        ensures { IsHeapOf self.next_size strategy self.max_segment_words result }
     {
         HeapAllocator {
             alloc: self.alloc,
@@ -95,10 +90,9 @@ impl HeapAllocator {
 
     // Counts a segment of so many words.
     fn grow(&mut self, size: u32)
-        ensures next { self.new.next_size ≡ next_after self.old.allocation_strategy
-            self.old.next_size self.old.max_segment_words size }
-        ensures strategy { self.new.allocation_strategy ≡ self.old.allocation_strategy }
-        ensures maximum { self.new.max_segment_words ≡ self.old.max_segment_words }
+        ensures { IsHeapOf
+            (next_after self.old.allocation_strategy self.old.next_size self.old.max_segment_words size)
+            self.old.allocation_strategy self.old.max_segment_words self.new }
     {
         if size == 0 {
             return;

@@ -1,20 +1,19 @@
 //! Readers of messages.
-ghost use Rattle.std.specs.Prelude.{◌≡◌, ◌≢◌, ◌⊎◌, ◌<◌, ◌^◌, ◌-◌, ◌↔◌, ℕ, length, min, None, IfOk, IfErr, OnOk, IsOk, IsTrue, MatchResult};
+ghost use Rattle.std.specs.Prelude.{◌≡◌, ◌⊎◌, ◌<◌, ◌^◌, ◌-◌, ◌↔◌, ℕ, length, min, IfOk, IfErr, IsOk, IsTrue, MatchResult};
 ghost use Rattle.std.specs.Result.{IsErrAnd};
 ghost use Rattle.capnp_frame.specs.Message.{IsWholeWords, size_in_words};
 ghost use Rattle.capnp_frame.specs.declared.error.ErrorKind.{ErrorKind};
 ghost use Rattle.capnp_frame.specs.declared.error.ErrorKind.TheVariants.{ReadLimitExceeded, OutOfMemory};
 ghost use Rattle.capnp_wire.specs.Reached.{root};
-ghost use Rattle.capnp_wire.specs.Faults.{NoWord};
-ghost use Rattle.capnp_wire.specs.Views.{LeadsAstray, MeetsLimit};
 ghost use Rattle.capnp_wire.specs.Pointer.{words_of};
 ghost use Rattle.capnp_wire.specs.Tree.{Trees};
 ghost use Rattle.capnp_wire.specs.Canonical.{IsCanonical};
 ghost use Rattle.capnp_wire.specs.Tested.{Unsaid};
 ghost use Rattle.capnp_wire.specs.Values.{LeadsToTree, StopsWalkFrom, IsCanonicalForm};
-ghost use Rattle.capnp_message.specs.Seen.{root_of, HasRoot};
+ghost use Rattle.capnp_message.specs.Seen.{root_of};
 ghost use Rattle.capnp_wire.specs.Block.{numbers_of};
 ghost use Rattle.capnp_message.specs.Canonical.{HasForm, LacksForm};
+ghost use Rattle.capnp_message.specs.Roots.{ReadsRoot};
 
 use crate::typed_reader::TypedReader;
 use capnp_frame::message::{ReaderOptions, ReaderSegments};
@@ -61,25 +60,9 @@ impl<S: ReaderSegments> Reader<S> {
     /// It is refused by `InvalidSegmentId(0)` without a segment, by `PointerOutOfBounds` where the first
     /// segment has no word, and else as `get_as` refuses the root pointer.
     pub fn get_root<'a, T: FromPointerReader<'a, S>>(&'a self) -> Result<T>
-        ensures answer { let pointer = root_of S.segments self.now in MatchResult result
-            (λ view. T.shows pointer view)
-            (λ error. NoWord pointer.message root error.kind ⊎ T.refuses pointer error.kind) }
-        ensures stands { OnOk result (HasRoot (root_of S.segments self.now)) }
-        ensures found { let pointer = root_of S.segments self.now in
-            pointer.limit ≡ None → HasRoot pointer → T.accepts pointer → IsOk result }
-        ensures unlimited { let pointer = root_of S.segments self.now in
-            pointer.limit ≡ None → IfErr result (λ error. error.kind ≢ ReadLimitExceeded) }
-        // Where no object stands, and the root itself is no view, whatever was read before.
-        ensures exact { let pointer = root_of S.segments self.now in
-            (kind : ErrorKind) → LeadsAstray pointer kind → (T.accepts pointer → ⊥) →
-            IsErrAnd result (λ error. error.kind ≡ kind) }
-        // Where an object stands that is no such view.
-        ensures declined { let pointer = root_of S.segments self.now in
-            (kind : ErrorKind) → HasRoot pointer → T.declines pointer kind →
-            IsErrAnd result (λ error. (error.kind ≡ kind) ⊎ MeetsLimit pointer error.kind) }
-        // Where the root's own word does not stand.
-        ensures nowhere { (kind : ErrorKind) → NoWord (root_of S.segments self.now).message root kind →
-            IsErrAnd result (λ error. error.kind ≡ kind) }
+        ensures { let pointer = root_of S.segments self.now in
+            ReadsRoot pointer (T.shows pointer) (T.accepts pointer) (T.refuses pointer)
+            (T.declines pointer) result }
     {
         self.arena.get_root()?.get_as()
     }

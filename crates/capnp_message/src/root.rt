@@ -1,11 +1,8 @@
 //! The object at the root of a message that is built, as a view that writes it.
-ghost use Rattle.std.specs.Prelude.{◌≡◌, ◌⊎◌, ℕ, length, IfOk, IfErr};
+ghost use Rattle.std.specs.Prelude.{length};
 ghost use Rattle.std.specs.Borrow.{RestsIfErr, sem};
-ghost use Rattle.capnp_wire.specs.Tree.{Form, none};
-ghost use Rattle.capnp_wire.specs.Reached.{Root};
-ghost use Rattle.capnp_build.specs.Out.{MayRefuse};
-ghost use Rattle.capnp_build.specs.Held.{KeepsOthers};
-ghost use Rattle.capnp_build.specs.Built.{held_of, message, ForRoot, DeclinesRoot, InitWords, IsInit, IsCleared, WasCrowded, IsLookedAt};
+ghost use Rattle.capnp_build.specs.Built.{message, IsCleared, IsLookedAt};
+ghost use Rattle.capnp_build.specs.RootViews.{InitsView, GetsView};
 
 use crate::builder::Builder;
 use capnp_build::allocator::Allocator;
@@ -70,19 +67,8 @@ impl<A: Allocator> Builder<A> {
             (the_row A.row A.Segment.row A.Allocator A.Segment.SegmentSpace)
             self.entry (λ view. view.message.ghost_name) result
             (λ last. IsCleared A.same self.old last)) }
-        ensures same { IfOk result (λ view. view.message.ghost_name ≡ self.entry.ghost_name) }
-        ensures inits { IfOk result (λ view. (form : Form) × (charge : ℕ) × K.inits n form
-            × Root (message view.message.now.spaces) form none charge) }
-        // Which words it takes, once the old root is cleared.
-        ensures placed { IfOk result (λ view.
-            IsInit A.same (InitWords K.inits n) self.old view.message.now) }
-        ensures kind { IfErr result (λ error. K.refuses n error.kind
-            ⊎ ((length self.old.spaces ≡ 0) × MayRefuse 1 error.kind)
-            ⊎ WasCrowded A.same (InitWords K.inits n) self.old error.kind) }
-        ensures allocator { IfOk result (λ view.
-            A.same self.old.allocator view.message.now.allocator) }
-        ensures others { IfOk result (λ view.
-            KeepsOthers A.out (held_of self.old) (held_of view.message.now)) }
+        ensures inits { InitsView A.Allocator K.OwnedBuilder n (λ message. message)
+            (λ view. view.message) self.entry result }
     {
         init::<Builder<A>, K>(self, n)?;
         Ok(View::new(self))
@@ -94,19 +80,8 @@ impl<A: Allocator> Builder<A> {
             (the_row A.row A.Segment.row A.Allocator A.Segment.SegmentSpace)
             self.entry (λ view. view.message.ghost_name) result
             (λ last. IsCleared A.same self.old last)) }
-        ensures same { IfOk result (λ view. view.message.ghost_name ≡ self.entry.ghost_name) }
-        ensures inits { IfOk result (λ view. (form : Form) × (charge : ℕ) × K.inits 0 form
-            × Root (message view.message.now.spaces) form none charge) }
-        // Which words it takes, once the old root is cleared.
-        ensures placed { IfOk result (λ view.
-            IsInit A.same (InitWords K.inits 0) self.old view.message.now) }
-        ensures kind { IfErr result (λ error. K.refuses 0 error.kind
-            ⊎ ((length self.old.spaces ≡ 0) × MayRefuse 1 error.kind)
-            ⊎ WasCrowded A.same (InitWords K.inits 0) self.old error.kind) }
-        ensures allocator { IfOk result (λ view.
-            A.same self.old.allocator view.message.now.allocator) }
-        ensures others { IfOk result (λ view.
-            KeepsOthers A.out (held_of self.old) (held_of view.message.now)) }
+        ensures inits { InitsView A.Allocator K.OwnedBuilder 0 (λ message. message)
+            (λ view. view.message) self.entry result }
     {
         self.initn_root::<K>(0)
     }
@@ -118,13 +93,8 @@ impl<A: Allocator> Builder<A> {
             (the_row A.row A.Segment.row A.Allocator A.Segment.SegmentSpace)
             self.entry (λ view. view.message.ghost_name) result
             (λ last. IsLookedAt A.same self.old last)) }
-        ensures same { IfOk result (λ view. view.message.ghost_name ≡ self.entry.ghost_name) }
-        ensures taken { IfOk result (λ view. ForRoot view.message.now.spaces K.takes) }
-        ensures looked { IfOk result (λ view. IsLookedAt A.same self.old view.message.now) }
-        ensures others { IfOk result (λ view.
-            KeepsOthers A.out (held_of self.old) (held_of view.message.now)) }
-        ensures kind { IfErr result (λ error. ((length self.old.spaces ≡ 0) × MayRefuse 1 error.kind)
-            ⊎ DeclinesRoot K.declines self.old.spaces error.kind) }
+        ensures gets { GetsView A.Allocator K.OwnedBuilder (λ message. message)
+            (λ view. view.message) self.entry result }
     {
         self.arena.accept_root::<K>()?;
         Ok(View::new(self))

@@ -1,11 +1,11 @@
 //! One region first, then segments from the heap.
-ghost use Rattle.std.specs.Prelude.{◌≡◌, ◌⊎◌, ℕ, ◌*◌, ◌/◌, ◌^◌, ◌<◌, ◌≤◌, true, false, List, length, IfOk, IfErr, IfSome, IsSome, IsOk, OnOk, OnErr, None};
+ghost use Rattle.std.specs.Prelude.{◌≡◌, ◌⊎◌, ℕ, ◌*◌, ◌/◌, ◌^◌, ◌<◌, ◌≤◌, true, false, List, length, IfOk, IfErr, IsSome, IsOk, OnOk, OnErr, None};
 ghost use Rattle.std.specs.Option.{ForSome};
 ghost use Rattle.capnp_frame.specs.declared.error.ErrorKind.TheVariants.{OutOfMemory};
 ghost use Rattle.capnp_build.specs.Bytes.{ZeroFrom};
 ghost use Rattle.capnp_build.specs.Out.{Out, Adds, MayRefuse};
 ghost use Rattle.capnp_message.specs.Next.{size_of};
-ghost use Rattle.capnp_message.specs.Region.{IsLentAlone};
+ghost use Rattle.capnp_message.specs.Region.{IsLentAlone, HoldsRegion};
 ghost use Rattle.capnp_message.specs.Scratch.{scratch_bytes, scratch_lent};
 
 use crate::heap_allocator::{AllocationStrategy, HeapAllocator};
@@ -78,13 +78,13 @@ pub struct ScratchSpaceHeapAllocator<'a> {
 }
 
 impl<'a> ScratchSpaceHeapAllocator<'a> {
+    ghost use Rattle.capnp_message.specs.Heaps.{WithHeap};
+
     /// The region, which is made zero, and a heap behind it. Bytes behind the region's last whole word
     /// are not used.
     pub fn new(alloc: Global, region: &'a mut [u8]) -> ScratchSpaceHeapAllocator<'a>
         requires { length region.old / 8 < 2 ^ 32 }
-        ensures same { IfSome result.region (λ r. r.ghost_name ≡ region.entry.ghost_name) }
-        ensures home { IsSome result.region }
-        ensures size { result.size ≡ length region.old }
+        ensures holds { HoldsRegion result.region result.size region.entry }
         ensures next { result.heap.next_size ≡ 1024 }
         ensures strategy { result.heap.allocation_strategy ≡ AllocationStrategy.GrowHeuristically }
     {
@@ -100,10 +100,7 @@ impl<'a> ScratchSpaceHeapAllocator<'a> {
     /// With so many words in the heap's first segment, at most 2^29.
     pub fn second_segment_words(self, words: u32) -> ScratchSpaceHeapAllocator<'a>
         requires { words ≤ 2 ^ 29 }
-        ensures region { result.region ≡ self.entry.region }
-        ensures size { result.size ≡ self.entry.size }
-        ensures next { result.heap.next_size ≡ words }
-        ensures strategy { result.heap.allocation_strategy ≡ self.entry.heap.allocation_strategy }
+        ensures { WithHeap self.entry words self.entry.heap.allocation_strategy result }
     {
         let ScratchSpaceHeapAllocator { region, size, heap } = self;
         ScratchSpaceHeapAllocator {
@@ -115,10 +112,7 @@ impl<'a> ScratchSpaceHeapAllocator<'a> {
 
     /// With segments of the heap that grow so.
     pub fn allocation_strategy(self, strategy: AllocationStrategy) -> ScratchSpaceHeapAllocator<'a>
-        ensures region { result.region ≡ self.entry.region }
-        ensures size { result.size ≡ self.entry.size }
-        ensures next { result.heap.next_size ≡ self.entry.heap.next_size }
-        ensures strategy { result.heap.allocation_strategy ≡ strategy }
+        ensures { WithHeap self.entry self.entry.heap.next_size strategy result }
     {
         let ScratchSpaceHeapAllocator { region, size, heap } = self;
         ScratchSpaceHeapAllocator {

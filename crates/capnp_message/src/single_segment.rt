@@ -1,11 +1,11 @@
 //! One region, as the only segment.
-ghost use Rattle.std.specs.Prelude.{◌≡◌, ◌≢◌, ◌⊎◌, ℕ, ◌*◌, ◌/◌, ◌^◌, ◌<◌, ◌≤◌, true, List, length, IfSome, IsSome, IsNone, IsOk, OnOk, IfOk, IfErr, OnErr, None, Some};
+ghost use Rattle.std.specs.Prelude.{◌≡◌, ◌≢◌, ◌⊎◌, ℕ, ◌*◌, ◌/◌, ◌^◌, ◌<◌, ◌≤◌, true, List, length, IsSome, IsNone, IsOk, OnOk, IfOk, IfErr, OnErr, None, Some};
 ghost use Rattle.std.specs.Option.{ForSome};
 ghost use Rattle.std.specs.Result.{IsErrAnd};
 ghost use Rattle.capnp_frame.specs.declared.error.ErrorKind.TheVariants.{AllocationTooLarge, SegmentTaken};
 ghost use Rattle.capnp_build.specs.Bytes.{ZeroFrom};
 ghost use Rattle.capnp_build.specs.Out.{Out, Adds, TakesOff, IsOut, MayRefuse};
-ghost use Rattle.capnp_message.specs.Region.{IsOutAlone, region_out};
+ghost use Rattle.capnp_message.specs.Region.{IsOutAlone, region_out, HoldsRegion};
 
 use capnp_build::allocator::Allocator;
 use capnp_frame::{Error, ErrorKind, Result};
@@ -30,9 +30,7 @@ impl<'a> SingleSegmentAllocator<'a> {
     /// The region, which is made zero. Bytes behind its last whole word are not used.
     pub fn new(region: &'a mut [u8]) -> SingleSegmentAllocator<'a>
         requires { length region.old / 8 < 2 ^ 32 }
-        ensures same { IfSome result.region (λ r. r.ghost_name ≡ region.entry.ghost_name) }
-        ensures home { IsSome result.region }
-        ensures size { result.size ≡ length region.old }
+        ensures { HoldsRegion result.region result.size region.entry }
     {
         region.fill(0);
         let size = region.len();

@@ -1,17 +1,15 @@
 //! Builders of messages whose root has a type.
-ghost use Rattle.std.specs.Prelude.{◌≡◌, ◌≢◌, ◌⊎◌, ◌+◌, ◌^◌, ◌-◌, ℕ, [], false, length, map, None, IfOk, IfErr, OnOk, OnErr, IsOk, MatchResult, pos};
-ghost use Rattle.std.specs.Result.{IsErrAnd};
+ghost use Rattle.std.specs.Prelude.{◌≡◌, ◌+◌, ◌^◌, ◌-◌, length, map};
 ghost use Rattle.std.specs.Borrow.{RestsIfErr, sem};
-ghost use Rattle.capnp_frame.specs.declared.error.ErrorKind.{ErrorKind};
-ghost use Rattle.capnp_frame.specs.declared.error.ErrorKind.TheVariants.{ReadLimitExceeded};
-ghost use Rattle.capnp_wire.specs.Tree.{Form, none};
-ghost use Rattle.capnp_wire.specs.Reached.{Root};
 ghost use Rattle.capnp_wire.specs.Readers.{unlimited_root};
-ghost use Rattle.capnp_wire.specs.Values.{HasWords, LacksWords};
-ghost use Rattle.capnp_wire.specs.Views.{LeadsAstray};
-ghost use Rattle.capnp_build.specs.Out.{MayRefuse};
-ghost use Rattle.capnp_build.specs.Held.{used_of, KeepsOthers};
-ghost use Rattle.capnp_build.specs.Built.{Built, held_of, message, ForRoot, DeclinesRoot, InitWords, IsSet, IsPut, IsCrowded, IsInit, IsCleared, WasCrowded, IsLookedAt};
+ghost use Rattle.capnp_build.specs.Held.{used_of};
+ghost use Rattle.capnp_build.specs.Built.{Built, message, IsCleared, IsLookedAt};
+ghost use Rattle.capnp_build.specs.Outcomes.{SetsRoot, IsNewMessage};
+ghost use Rattle.capnp_build.specs.RootViews.{InitsView, GetsView};
+ghost use Rattle.capnp_wire.specs.Views.{IsViewOf};
+ghost use Rattle.capnp_message.specs.Roots.{IsReadUnlimited};
+ghost use Rattle.capnp_message.specs.Heaps.{IsHeapOf};
+ghost use Rattle.capnp_message.specs.declared.heap_allocator.AllocationStrategy.TheVariants.{GrowHeuristically};
 
 use crate::builder::Builder;
 use crate::heap_allocator::HeapAllocator;
@@ -87,24 +85,14 @@ impl<T, A: Allocator> TypedBuilder<T, A> {
     /// The message as one that is read, without a traversal limit and with objects nested up to 2^31 - 1
     /// deep.
     pub fn into_reader(self) -> TypedReader<Builder<A>, T>
-        ensures segments { result.segments ≡ self }
-        ensures unlimited { result.options.traversal_limit_in_words ≡ None }
-        ensures nesting { result.options.nesting_limit ≡ pos (2 ^ 31 - 1) }
+        ensures { IsReadUnlimited self result }
     {
         TypedReader::new(self.into_inner().into_reader())
     }
 
     /// Sets the root to a value, as `set_root` of the message.
     pub fn set_root<V: SetterInput<T> + Drop>(&mut self, value: V) -> Result<()>
-        ensures set { OnOk result (IsSet (V.has_tree value) false self.new.spaces) }
-        ensures placed { OnOk result (IsPut A.same (HasWords (V.has_tree value) false) self.old self.new) }
-        ensures nulled { OnErr result (IsCleared A.same self.old self.new) }
-        ensures kind { IfErr result (λ error.
-            LacksWords (V.has_tree value) (V.refuses value) false error.kind
-            ⊎ ((length self.old.spaces ≡ 0) × MayRefuse 1 error.kind)
-            ⊎ IsCrowded (HasWords (V.has_tree value) false) self.new.spaces error.kind) }
-        ensures same { A.same self.old.allocator self.new.allocator }
-        ensures others { KeepsOthers A.out (held_of self.old) (held_of self.new) }
+        ensures { SetsRoot A.Allocator (V.has_tree value) (V.refuses value) self.old self.new result }
     {
         self.message.set_root::<T, V>(value)
     }
@@ -113,15 +101,9 @@ impl<T, A: Allocator> TypedBuilder<T, A> {
     pub fn get_root_as_reader<'a>(&'a self) -> Result<T::Reader>
     where
         T: Owned<'a, BuilderArena<A>>,
-        ensures answer { let pointer = unlimited_root (map used_of self.now.spaces) in
-            MatchResult result (λ view. T.Reader.shows pointer view)
-            (λ error. T.Reader.refuses pointer error.kind) }
-        ensures found { let pointer = unlimited_root (map used_of self.now.spaces) in
-            T.Reader.accepts pointer → IsOk result }
-        ensures unlimited { IfErr result (λ error. error.kind ≢ ReadLimitExceeded) }
-        ensures exact { let pointer = unlimited_root (map used_of self.now.spaces) in
-            (kind : ErrorKind) → LeadsAstray pointer kind → (T.Reader.accepts pointer → ⊥) →
-            IsErrAnd result (λ error. error.kind ≡ kind) }
+        ensures { let pointer = unlimited_root (map used_of self.now.spaces) in
+            IsViewOf pointer (T.Reader.shows pointer) (T.Reader.accepts pointer)
+            (T.Reader.refuses pointer) (T.Reader.declines pointer) result }
     {
         self.message.get_root_as_reader()
     }
@@ -138,9 +120,7 @@ impl<A: Allocator, T> From<Builder<A>> for TypedBuilder<T, A> {
 impl<T> TypedBuilder<T, HeapAllocator> {
     /// A message over a heap that begins with 1,024 words.
     pub fn new_default(alloc: Global) -> TypedBuilder<T, HeapAllocator>
-        ensures spaces { result.spaces ≡ [] }
-        ensures spot { result.spot ≡ None }
-        ensures next { result.allocator.next_size ≡ 1024 }
+        ensures { IsNewMessage (IsHeapOf 1024 GrowHeuristically (2 ^ 29)) result }
     {
         TypedBuilder::new(Builder::new_default(alloc))
     }
@@ -193,18 +173,8 @@ impl<T: OwnedBuilder, A: Allocator> TypedBuilder<T, A> {
             (typed_row T.row A.row A.Segment.row A.Allocator A.Segment.SegmentSpace)
             self.entry (λ view. view.message.ghost_name) result
             (λ last. IsCleared A.same self.old last)) }
-        ensures same { IfOk result (λ view. view.message.ghost_name ≡ self.entry.ghost_name) }
-        ensures inits { IfOk result (λ view. (form : Form) × (charge : ℕ) × T.inits n form
-            × Root (message view.message.now.spaces) form none charge) }
-        ensures placed { IfOk result (λ view.
-            IsInit A.same (InitWords T.inits n) self.old view.message.now) }
-        ensures kind { IfErr result (λ error. T.refuses n error.kind
-            ⊎ ((length self.old.spaces ≡ 0) × MayRefuse 1 error.kind)
-            ⊎ WasCrowded A.same (InitWords T.inits n) self.old error.kind) }
-        ensures allocator { IfOk result (λ view.
-            A.same self.old.allocator view.message.now.allocator) }
-        ensures others { IfOk result (λ view.
-            KeepsOthers A.out (held_of self.old) (held_of view.message.now)) }
+        ensures inits { InitsView A.Allocator T.OwnedBuilder n (λ typed. typed)
+            (λ view. view.message) self.entry result }
     {
         init::<TypedBuilder<T, A>, T>(self, n)?;
         Ok(View::new(self))
@@ -216,18 +186,8 @@ impl<T: OwnedBuilder, A: Allocator> TypedBuilder<T, A> {
             (typed_row T.row A.row A.Segment.row A.Allocator A.Segment.SegmentSpace)
             self.entry (λ view. view.message.ghost_name) result
             (λ last. IsCleared A.same self.old last)) }
-        ensures same { IfOk result (λ view. view.message.ghost_name ≡ self.entry.ghost_name) }
-        ensures inits { IfOk result (λ view. (form : Form) × (charge : ℕ) × T.inits 0 form
-            × Root (message view.message.now.spaces) form none charge) }
-        ensures placed { IfOk result (λ view.
-            IsInit A.same (InitWords T.inits 0) self.old view.message.now) }
-        ensures kind { IfErr result (λ error. T.refuses 0 error.kind
-            ⊎ ((length self.old.spaces ≡ 0) × MayRefuse 1 error.kind)
-            ⊎ WasCrowded A.same (InitWords T.inits 0) self.old error.kind) }
-        ensures allocator { IfOk result (λ view.
-            A.same self.old.allocator view.message.now.allocator) }
-        ensures others { IfOk result (λ view.
-            KeepsOthers A.out (held_of self.old) (held_of view.message.now)) }
+        ensures inits { InitsView A.Allocator T.OwnedBuilder 0 (λ typed. typed)
+            (λ view. view.message) self.entry result }
     {
         self.initn_root(0)
     }
@@ -238,13 +198,8 @@ impl<T: OwnedBuilder, A: Allocator> TypedBuilder<T, A> {
             (typed_row T.row A.row A.Segment.row A.Allocator A.Segment.SegmentSpace)
             self.entry (λ view. view.message.ghost_name) result
             (λ last. IsLookedAt A.same self.old last)) }
-        ensures same { IfOk result (λ view. view.message.ghost_name ≡ self.entry.ghost_name) }
-        ensures taken { IfOk result (λ view. ForRoot view.message.now.spaces T.takes) }
-        ensures looked { IfOk result (λ view. IsLookedAt A.same self.old view.message.now) }
-        ensures others { IfOk result (λ view.
-            KeepsOthers A.out (held_of self.old) (held_of view.message.now)) }
-        ensures kind { IfErr result (λ error. ((length self.old.spaces ≡ 0) × MayRefuse 1 error.kind)
-            ⊎ DeclinesRoot T.declines self.old.spaces error.kind) }
+        ensures gets { GetsView A.Allocator T.OwnedBuilder (λ typed. typed)
+            (λ view. view.message) self.entry result }
     {
         self.message.arena.accept_root::<T>()?;
         Ok(View::new(self))

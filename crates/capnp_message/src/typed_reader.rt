@@ -1,12 +1,8 @@
 //! Readers of messages whose root has a type.
-ghost use Rattle.std.specs.Prelude.{◌≡◌, ◌≢◌, ◌⊎◌, ◌^◌, ◌-◌, pos, None, IfErr, OnOk, IsOk, MatchResult};
-ghost use Rattle.std.specs.Result.{IsErrAnd};
-ghost use Rattle.capnp_frame.specs.declared.error.ErrorKind.{ErrorKind};
-ghost use Rattle.capnp_frame.specs.declared.error.ErrorKind.TheVariants.{ReadLimitExceeded};
+ghost use Rattle.std.specs.Prelude.{◌≡◌, ◌^◌, ◌-◌, pos, None};
 ghost use Rattle.capnp_wire.specs.Reached.{root};
-ghost use Rattle.capnp_wire.specs.Faults.{NoWord};
-ghost use Rattle.capnp_wire.specs.Views.{LeadsAstray, MeetsLimit};
-ghost use Rattle.capnp_message.specs.Seen.{root_of, HasRoot};
+ghost use Rattle.capnp_message.specs.Seen.{root_of};
+ghost use Rattle.capnp_message.specs.Roots.{ReadsRoot};
 
 use crate::builder::Builder;
 use crate::reader::Reader;
@@ -48,22 +44,9 @@ impl<S: ReaderSegments, T> TypedReader<S, T> {
     pub fn get<'a>(&'a self) -> Result<T::Reader>
     where
         T: Owned<'a, S>,
-        ensures answer { let pointer = root_of S.segments self.now in MatchResult result
-            (λ view. T.Reader.shows pointer view)
-            (λ error. NoWord pointer.message root error.kind ⊎ T.Reader.refuses pointer error.kind) }
-        ensures stands { OnOk result (HasRoot (root_of S.segments self.now)) }
-        ensures found { let pointer = root_of S.segments self.now in
-            pointer.limit ≡ None → HasRoot pointer → T.Reader.accepts pointer → IsOk result }
-        ensures unlimited { let pointer = root_of S.segments self.now in
-            pointer.limit ≡ None → IfErr result (λ error. error.kind ≢ ReadLimitExceeded) }
-        ensures exact { let pointer = root_of S.segments self.now in
-            (kind : ErrorKind) → LeadsAstray pointer kind → (T.Reader.accepts pointer → ⊥) →
-            IsErrAnd result (λ error. error.kind ≡ kind) }
-        ensures declined { let pointer = root_of S.segments self.now in
-            (kind : ErrorKind) → HasRoot pointer → T.Reader.declines pointer kind →
-            IsErrAnd result (λ error. (error.kind ≡ kind) ⊎ MeetsLimit pointer error.kind) }
-        ensures nowhere { (kind : ErrorKind) → NoWord (root_of S.segments self.now).message root kind →
-            IsErrAnd result (λ error. error.kind ≡ kind) }
+        ensures { let pointer = root_of S.segments self.now in
+            ReadsRoot pointer (T.Reader.shows pointer) (T.Reader.accepts pointer)
+            (T.Reader.refuses pointer) (T.Reader.declines pointer) result }
     {
         self.message.get_root()
     }

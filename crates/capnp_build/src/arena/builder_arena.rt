@@ -1,14 +1,15 @@
 //! The arena that a message is built in.
 ghost use Rattle.std.specs.Prelude.{⊤, MatchOption, ◌≡◌, ℕ, ◌+◌, ◌-◌, ◌*◌, ◌/◌, ◌<◌, ◌≤◌, [], ◌∷◌, length, map, max, slice_index_or, take, drop, Some, None, IfErr, OnOk, OnErr};
 ghost use Rattle.capnp_build.specs.Out.{MayRefuse};
-ghost use Rattle.capnp_build.specs.Held.{used_of, space_at, KeepsOthers, BringsHome};
-ghost use Rattle.capnp_build.specs.Built.{held_of, ForRoot, IsShown, IsLookedAt, size_in_words, message, HasNullRoot, Built, IsZeroAt, KeepsRooms};
+ghost use Rattle.capnp_build.specs.Held.{used_of, space_at, KeepsOthers};
+ghost use Rattle.capnp_build.specs.Built.{held_of, ForRoot, IsShown, size_in_words, message, HasNullRoot, Built, IsZeroAt, KeepsRooms};
 ghost use Rattle.capnp_build.specs.Shown.{Shows, HoldsForm};
 ghost use Rattle.capnp_build.specs.Output.{CanBeWritten};
 ghost use Rattle.capnp_wire.specs.Tree.{Form, Trees, none, tree, count};
 ghost use Rattle.capnp_wire.specs.Reached.{At, root};
 ghost use Rattle.capnp_wire.specs.Layout.{pointer};
 ghost use Rattle.capnp_wire.specs.Readers.{pointer_of, unlimited_root};
+ghost use Rattle.capnp_build.specs.Outcomes.{ClearsRoot, EnsuresRoot, IsNewMessage, GivesBack};
 
 use crate::allocator::Allocator;
 use crate::arena::spot::Spot;
@@ -40,9 +41,7 @@ impl<A: Allocator> Model for BuilderArena<A> {
 impl<A: Allocator> BuilderArena<A> {
     /// A message of no segments, whose root is null.
     pub fn new(alloc: Global, allocator: A) -> BuilderArena<A>
-        ensures spaces { result.spaces ≡ [] }
-        ensures spot { result.spot ≡ None }
-        ensures allocator { result.allocator ≡ allocator }
+        ensures { IsNewMessage (λ own. own ≡ allocator) result }
     {
         BuilderArena {
             segments: Segments::new(alloc, allocator),
@@ -52,6 +51,13 @@ impl<A: Allocator> BuilderArena<A> {
 
     /// Makes the root null, and the old body zero.
     pub fn clear_root(&mut self) -> Result<()>
+        ensures { ClearsRoot A.Allocator self.old self.new result }
+    {
+        self.zero_root()
+    }
+
+    // The root's word and its body become zero.
+    fn zero_root(&mut self) -> Result<()>
         ensures null { self.new.spot ≡ None }
         ensures null_word { HasNullRoot self.new.spaces }
         ensures zero { MatchOption self.old.spot ⊤ (IsZeroAt self.new.spaces) }
@@ -84,11 +90,7 @@ impl<A: Allocator> BuilderArena<A> {
 
     /// There is a root; where there was no segment, a null one in a new segment.
     pub fn ensure_root(&mut self) -> Result<()>
-        ensures there { OnOk result (0 < length self.new.spaces) }
-        ensures none { OnErr result (self.new.spaces ≡ []) }
-        ensures looked { IsLookedAt A.same self.old self.new }
-        ensures kind { IfErr result (λ error. (length self.old.spaces ≡ 0) × MayRefuse 1 error.kind) }
-        ensures others { KeepsOthers A.out (held_of self.old) (held_of self.new) }
+        ensures { EnsuresRoot A.Allocator self.old self.new result }
     {
         if self.segments.len() == 0 {
             return self.clear_root();
@@ -98,8 +100,7 @@ impl<A: Allocator> BuilderArena<A> {
 
     /// The allocator, once each segment has gone back to it with its used words.
     pub fn into_allocator(self) -> A
-        ensures home { BringsHome A.out (held_of self) result }
-        ensures same { A.same self.allocator result }
+        ensures { GivesBack A.Allocator (held_of self) result }
     {
         let BuilderArena { segments, spot: _ } = self;
         segments.into_allocator()

@@ -1,12 +1,13 @@
 //! Where the block of a value is placed, and the pointer to it.
-ghost use Rattle.std.specs.Prelude.{◌≡◌, ℕ, ◌+◌, ◌-◌, ◌*◌, ◌/◌, ◌^◌, ◌<◌, ◌≤◌, length, Some, None, IfOk, IfErr, OnOk, OnErr};
+ghost use Rattle.std.specs.Prelude.{◌≡◌, ℕ, ◌+◌, ◌-◌, ◌*◌, ◌/◌, ◌^◌, ◌<◌, ◌≤◌, length, Some, None, IfOk, IfErr, OnErr};
 ghost use Rattle.capnp_build.specs.Out.{MayRefuse};
 ghost use Rattle.capnp_build.specs.Held.{space_at, room_of, KeepsOthers};
-ghost use Rattle.capnp_build.specs.Built.{held_of, size_in_words, IsSet, IsWhole, HasNoRoom, IsAdded, IsAtEnd, IsPlaced};
+ghost use Rattle.capnp_build.specs.Built.{held_of, IsSet, IsWhole, IsAdded};
 ghost use Rattle.capnp_wire.specs.Tree.{count};
 ghost use Rattle.capnp_wire.specs.Reached.{root};
 ghost use Rattle.capnp_wire.specs.Layout.{pointer};
 ghost use Rattle.capnp_wire.specs.Values.{HasWords};
+ghost use Rattle.capnp_build.specs.Blocks.{PutsBlock, PlacesBlock};
 
 use crate::allocator::Allocator;
 use crate::arena::builder_arena::BuilderArena;
@@ -45,13 +46,8 @@ impl<A: Allocator> BuilderArena<A> {
         requires null { self.old.spot ≡ None }
         requires value { HasWords (V.has_tree value.now) canonical words }
         requires room { words ≤ room_of (space_at self.old.spaces 0) }
-        ensures set { IsSet (V.has_tree value.now) canonical self.new.spaces }
         ensures whole { length self.old.spaces ≡ 1 → length (space_at self.old.spaces 0).used ≡ 8 → IsWhole (V.has_tree value.now) canonical self.new.spaces }
-        ensures count { length self.new.spaces ≡ length self.old.spaces }
-        ensures spot { IsAtEnd self.old.spaces self.new.spot 0 0 words }
-        ensures size { size_in_words self.new.spaces ≡ size_in_words self.old.spaces + words }
-        ensures same { self.new.allocator ≡ self.old.allocator }
-        ensures others { KeepsOthers A.out (held_of self.old) (held_of self.new) }
+        ensures block { PlacesBlock A.Allocator (V.has_tree value.now) canonical 0 0 words self.old self.new }
     {
         let spot = self.segments.fill(0, canonical, value, words);
         self.segments.point_near(spot);
@@ -71,12 +67,7 @@ impl<A: Allocator> BuilderArena<A> {
         requires some { 0 < words }
         requires value { HasWords (V.has_tree value.now) canonical words }
         requires room { words + 1 ≤ room_of (space_at self.old.spaces segment) }
-        ensures set { IsSet (V.has_tree value.now) canonical self.new.spaces }
-        ensures count { length self.new.spaces ≡ length self.old.spaces }
-        ensures spot { IsAtEnd self.old.spaces self.new.spot segment 1 words }
-        ensures size { size_in_words self.new.spaces ≡ size_in_words self.old.spaces + words + 1 }
-        ensures same { self.new.allocator ≡ self.old.allocator }
-        ensures others { KeepsOthers A.out (held_of self.old) (held_of self.new) }
+        ensures { PlacesBlock A.Allocator (V.has_tree value.now) canonical segment 1 words self.old self.new }
     {
         self.segments.grow(segment, 1);
         let spot = self.segments.fill(segment, canonical, value, words);
@@ -94,13 +85,7 @@ impl<A: Allocator> BuilderArena<A> {
         requires there { 0 < length self.old.spaces }
         requires null { self.old.spot ≡ None }
         requires value { HasWords (V.has_tree value.now) canonical words }
-        ensures set { OnOk result (IsSet (V.has_tree value.now) canonical self.new.spaces) }
-        ensures placed { OnOk result (IsPlaced self.old.spaces self.new words) }
-        ensures refused { OnErr result (self.new.spot ≡ None) }
-        ensures kept { OnErr result (self.new.spaces ≡ self.old.spaces) }
-        ensures kind { IfErr result (λ error. HasNoRoom self.old.spaces words × MayRefuse (words + 1) error.kind) }
-        ensures same { A.same self.old.allocator self.new.allocator }
-        ensures others { KeepsOthers A.out (held_of self.old) (held_of self.new) }
+        ensures { PutsBlock A.Allocator (IsSet (V.has_tree value.now) canonical) words self.old self.new result }
     {
         if words <= self.segments.room(0) {
             self.put_near(canonical, value, words);

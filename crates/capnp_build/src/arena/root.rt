@@ -1,11 +1,9 @@
 //! The object at the root of a message that is built, as a view that writes it.
-ghost use Rattle.std.specs.Prelude.{◌≡◌, ◌⊎◌, ℕ, ◌+◌, ◌<◌, ◌≤◌, [], length, None, IfOk, IfErr, OnOk, OnErr};
+ghost use Rattle.std.specs.Prelude.{◌+◌, ◌<◌, ◌≤◌, [], length, None, OnErr};
 ghost use Rattle.std.specs.Borrow.{RestsIfErr, sem};
-ghost use Rattle.capnp_wire.specs.Tree.{Form, none};
-ghost use Rattle.capnp_wire.specs.Reached.{Root};
-ghost use Rattle.capnp_build.specs.Out.{MayRefuse};
-ghost use Rattle.capnp_build.specs.Held.{KeepsOthers};
-ghost use Rattle.capnp_build.specs.Built.{held_of, message, ForRoot, DeclinesRoot, InitWords, IsInit, IsCleared, WasCrowded, IsLookedAt};
+ghost use Rattle.capnp_build.specs.Built.{message, IsCleared, IsLookedAt};
+ghost use Rattle.capnp_build.specs.Outcomes.{LooksAtRoot};
+ghost use Rattle.capnp_build.specs.RootViews.{InitsView, GetsView};
 
 use crate::allocator::Allocator;
 use crate::arena::builder_arena::BuilderArena;
@@ -23,14 +21,7 @@ impl<A: Allocator> BuilderArena<A> {
     ) -> Result<View<'a, BuilderArena<A>, K>>
         ensures* rests { sem 𝓛 (RestsIfErr (the_row A.row A.Segment.row A.Allocator A.Segment.SegmentSpace) self.entry (λ view. view.message.ghost_name) result
             (λ last. IsCleared A.same self.old last)) }
-        ensures same { IfOk result (λ view. view.message.ghost_name ≡ self.entry.ghost_name) }
-        ensures inits { IfOk result (λ view. (form : Form) × (charge : ℕ) × K.inits n form × Root (message view.message.now.spaces) form none charge) }
-        ensures placed { IfOk result (λ view. IsInit A.same (InitWords K.inits n) self.old view.message.now) }
-        ensures kind { IfErr result (λ error. K.refuses n error.kind
-            ⊎ ((length self.old.spaces ≡ 0) × MayRefuse 1 error.kind)
-            ⊎ WasCrowded A.same (InitWords K.inits n) self.old error.kind) }
-        ensures allocator { IfOk result (λ view. A.same self.old.allocator view.message.now.allocator) }
-        ensures others { IfOk result (λ view. KeepsOthers A.out (held_of self.old) (held_of view.message.now)) }
+        ensures inits { InitsView A.Allocator K.OwnedBuilder n (λ arena. arena) (λ view. view.message) self.entry result }
     {
         init::<BuilderArena<A>, K>(self, n)?;
         Ok(View::new(self))
@@ -40,25 +31,14 @@ impl<A: Allocator> BuilderArena<A> {
     pub fn init_root<'a, K: OwnedBuilder>(&'a mut self) -> Result<View<'a, BuilderArena<A>, K>>
         ensures* rests { sem 𝓛 (RestsIfErr (the_row A.row A.Segment.row A.Allocator A.Segment.SegmentSpace) self.entry (λ view. view.message.ghost_name) result
             (λ last. IsCleared A.same self.old last)) }
-        ensures same { IfOk result (λ view. view.message.ghost_name ≡ self.entry.ghost_name) }
-        ensures inits { IfOk result (λ view. (form : Form) × (charge : ℕ) × K.inits 0 form × Root (message view.message.now.spaces) form none charge) }
-        ensures placed { IfOk result (λ view. IsInit A.same (InitWords K.inits 0) self.old view.message.now) }
-        ensures kind { IfErr result (λ error. K.refuses 0 error.kind
-            ⊎ ((length self.old.spaces ≡ 0) × MayRefuse 1 error.kind)
-            ⊎ WasCrowded A.same (InitWords K.inits 0) self.old error.kind) }
-        ensures allocator { IfOk result (λ view. A.same self.old.allocator view.message.now.allocator) }
-        ensures others { IfOk result (λ view. KeepsOthers A.out (held_of self.old) (held_of view.message.now)) }
+        ensures inits { InitsView A.Allocator K.OwnedBuilder 0 (λ arena. arena) (λ view. view.message) self.entry result }
     {
         self.initn_root::<K>(0)
     }
 
     /// Whether there is a view of the object at the root, which stays.
     pub fn accept_root<K: OwnedBuilder>(&mut self) -> Result<()>
-        ensures taken { OnOk result (ForRoot self.new.spaces K.takes) }
-        ensures there { OnOk result (0 < length self.new.spaces) }
-        ensures looked { IsLookedAt A.same self.old self.new }
-        ensures kind { IfErr result (λ error. ((length self.old.spaces ≡ 0) × MayRefuse 1 error.kind) ⊎ DeclinesRoot K.declines self.old.spaces error.kind) }
-        ensures others { KeepsOthers A.out (held_of self.old) (held_of self.new) }
+        ensures { LooksAtRoot A.Allocator K.OwnedBuilder self.old self.new result }
     {
         self.ensure_root()?;
         K::accept(self.root_shown(), self.root_bytes())
@@ -68,11 +48,7 @@ impl<A: Allocator> BuilderArena<A> {
     pub fn get_root<'a, K: OwnedBuilder>(&'a mut self) -> Result<View<'a, BuilderArena<A>, K>>
         ensures* rests { sem 𝓛 (RestsIfErr (the_row A.row A.Segment.row A.Allocator A.Segment.SegmentSpace) self.entry (λ view. view.message.ghost_name) result
             (λ last. IsLookedAt A.same self.old last)) }
-        ensures same { IfOk result (λ view. view.message.ghost_name ≡ self.entry.ghost_name) }
-        ensures taken { IfOk result (λ view. ForRoot view.message.now.spaces K.takes) }
-        ensures looked { IfOk result (λ view. IsLookedAt A.same self.old view.message.now) }
-        ensures others { IfOk result (λ view. KeepsOthers A.out (held_of self.old) (held_of view.message.now)) }
-        ensures kind { IfErr result (λ error. ((length self.old.spaces ≡ 0) × MayRefuse 1 error.kind) ⊎ DeclinesRoot K.declines self.old.spaces error.kind) }
+        ensures gets { GetsView A.Allocator K.OwnedBuilder (λ arena. arena) (λ view. view.message) self.entry result }
     {
         self.accept_root::<K>()?;
         Ok(View::new(self))

@@ -1,12 +1,11 @@
 //! The root of a message, set to a value or to a new object.
-ghost use Rattle.std.specs.Prelude.{◌≡◌, ◌⊎◌, ℕ, ◌-◌, ◌/◌, ◌<◌, [], length, false, true, Some, None, IfErr, OnOk, OnErr};
-ghost use Rattle.capnp_build.specs.Out.{MayRefuse};
-ghost use Rattle.capnp_build.specs.Held.{KeepsOthers};
-ghost use Rattle.capnp_build.specs.Built.{held_of, message, Built, IsSet, IsWhole, NotInOne, IsCrowded, NewWords, InitWords, IsPlaced, IsPut, IsInit, IsCleared};
+ghost use Rattle.std.specs.Prelude.{◌≡◌, ℕ, ◌-◌, ◌/◌, ◌<◌, length, false, true, Some, None};
+ghost use Rattle.capnp_build.specs.Built.{message, Built, NewWords};
 ghost use Rattle.capnp_build.specs.Body.{Fits, zero_form};
-ghost use Rattle.capnp_wire.specs.Tree.{Form, none};
-ghost use Rattle.capnp_wire.specs.Reached.{root, Root};
-ghost use Rattle.capnp_wire.specs.Values.{HasWords, LacksWords};
+ghost use Rattle.capnp_wire.specs.Tree.{none};
+ghost use Rattle.capnp_wire.specs.Reached.{root};
+ghost use Rattle.capnp_build.specs.Outcomes.{SetsRoot, SetsRootCanonical, InitsRoot};
+ghost use Rattle.capnp_build.specs.Blocks.{IsNew, PutsBlock};
 
 use crate::allocator::Allocator;
 use crate::arena::builder_arena::BuilderArena;
@@ -19,14 +18,7 @@ use capnp_wire::traits::SetterInput;
 impl<A: Allocator> BuilderArena<A> {
     /// Sets the root to a value.
     pub fn set_root<T, V: SetterInput<T>>(&mut self, value: &V) -> Result<()>
-        ensures set { OnOk result (IsSet (V.has_tree value.now) false self.new.spaces) }
-        ensures placed { OnOk result (IsPut A.same (HasWords (V.has_tree value.now) false) self.old self.new) }
-        ensures nulled { OnErr result (IsCleared A.same self.old self.new) }
-        ensures kind { IfErr result (λ error. LacksWords (V.has_tree value.now) (V.refuses value.now) false error.kind
-            ⊎ ((length self.old.spaces ≡ 0) × MayRefuse 1 error.kind)
-            ⊎ IsCrowded (HasWords (V.has_tree value.now) false) self.new.spaces error.kind) }
-        ensures same { A.same self.old.allocator self.new.allocator }
-        ensures others { KeepsOthers A.out (held_of self.old) (held_of self.new) }
+        ensures { SetsRoot A.Allocator (V.has_tree value.now) (V.refuses value.now) self.old self.new result }
     {
         self.clear_root()?;
         let words = value.measure(false)?;
@@ -35,14 +27,7 @@ impl<A: Allocator> BuilderArena<A> {
 
     /// A new object of some length at the root; null for none.
     pub fn init_object<K: OwnedBuilder>(&mut self, n: u32) -> Result<()>
-        ensures inits { OnOk result ((form : Form) × (charge : ℕ) × K.inits n form × Root (message self.new.spaces) form none charge) }
-        ensures placed { OnOk result (IsInit A.same (InitWords K.inits n) self.old self.new) }
-        ensures nulled { OnErr result (IsCleared A.same self.old self.new) }
-        ensures kind { IfErr result (λ error. K.refuses n error.kind
-            ⊎ ((length self.old.spaces ≡ 0) × MayRefuse 1 error.kind)
-            ⊎ IsCrowded (InitWords K.inits n) self.new.spaces error.kind) }
-        ensures same { A.same self.old.allocator self.new.allocator }
-        ensures others { KeepsOthers A.out (held_of self.old) (held_of self.new) }
+        ensures { InitsRoot A.Allocator K.OwnedBuilder n self.old self.new result }
     {
         self.clear_root()?;
         match K::object(n)? {
@@ -56,13 +41,7 @@ impl<A: Allocator> BuilderArena<A> {
         requires there { 0 < length self.old.spaces }
         requires null { self.old.spot ≡ None }
         requires fits { Fits body }
-        ensures new { OnOk result ((charge : ℕ) × Root (message self.new.spaces) (zero_form body) none charge) }
-        ensures placed { OnOk result ((words : ℕ) × NewWords (zero_form body) words × IsPlaced self.old.spaces self.new words) }
-        ensures refused { OnErr result (self.new.spot ≡ None) }
-        ensures kept { OnErr result (self.new.spaces ≡ self.old.spaces) }
-        ensures kind { IfErr result (λ error. IsCrowded (NewWords (zero_form body)) self.old.spaces error.kind) }
-        ensures same { A.same self.old.allocator self.new.allocator }
-        ensures others { KeepsOthers A.out (held_of self.old) (held_of self.new) }
+        ensures { (words : ℕ) × NewWords (zero_form body) words × PutsBlock A.Allocator (IsNew (zero_form body)) words self.old self.new result }
     {
         let fresh = Fresh::new(body);
         let words = fresh.words();
@@ -71,16 +50,7 @@ impl<A: Allocator> BuilderArena<A> {
 
     /// Sets the root to a value in canonical form, in the first segment.
     pub fn set_root_canonical<T, V: SetterInput<T>>(&mut self, value: &V) -> Result<()>
-        ensures set { OnOk result (IsSet (V.has_tree value.now) true self.new.spaces) }
-        ensures placed { OnOk result (IsPut A.same (HasWords (V.has_tree value.now) true) self.old self.new) }
-        ensures one { OnOk result (length self.new.spaces ≡ 1) }
-        ensures whole { self.old.spaces ≡ [] → OnOk result (IsWhole (V.has_tree value.now) true self.new.spaces) }
-        ensures nulled { OnErr result (IsCleared A.same self.old self.new) }
-        ensures kind { IfErr result (λ error. LacksWords (V.has_tree value.now) (V.refuses value.now) true error.kind
-            ⊎ ((length self.old.spaces ≡ 0) × MayRefuse 1 error.kind)
-            ⊎ ((error.kind ≡ ErrorKind.NotOneSegment) × NotInOne (HasWords (V.has_tree value.now) true) self.new.spaces)) }
-        ensures same { A.same self.old.allocator self.new.allocator }
-        ensures others { KeepsOthers A.out (held_of self.old) (held_of self.new) }
+        ensures { SetsRootCanonical A.Allocator (V.has_tree value.now) (V.refuses value.now) self.old self.new result }
     {
         self.clear_root()?;
         if self.segments.len() > 1 {

@@ -1,7 +1,8 @@
 //! What is written into the object at the root.
 ghost use Rattle.std.specs.Prelude.{◌+◌, ◌*◌, ◌/◌, ◌<◌, length, Some};
-ghost use Rattle.capnp_build.specs.Written.{HasField, IsFieldSet, HasBytes, IsBytesSet, HasNumber, IsNumberSet, IsWritten};
+ghost use Rattle.capnp_build.specs.Written.{HasField, IsFieldSet, HasBytes, IsBytesSet, HasNumber, IsNumberSet};
 ghost use Rattle.capnp_wire.specs.Reached.{root};
+ghost use Rattle.capnp_build.specs.RootViews.{WritesRoot};
 
 use crate::allocator::Allocator;
 use crate::arena::builder_arena::{BuilderArena, each_is_a_byte};
@@ -10,8 +11,7 @@ impl<A: Allocator> BuilderArena<A> {
     /// Sets a data word of the struct at the root.
     pub fn set_word(&mut self, index: u16, word: u64)
         requires { HasField self.old.spaces index }
-        ensures set { IsFieldSet self.old.spaces self.new.spaces index word }
-        ensures written { IsWritten self.old self.new }
+        ensures { WritesRoot (λ old new. IsFieldSet old new index word) self.old self.new }
     {
         if let Some(spot) = self.spot {
             let at = 8 * (spot.start as usize + index as usize);
@@ -23,8 +23,7 @@ impl<A: Allocator> BuilderArena<A> {
     /// Sets a number of the list of words at the root.
     pub fn set_number(&mut self, index: u32, number: u64)
         requires { HasNumber self.old.spaces index }
-        ensures set { IsNumberSet self.old.spaces self.new.spaces index number }
-        ensures written { IsWritten self.old self.new }
+        ensures { WritesRoot (λ old new. IsNumberSet old new index number) self.old self.new }
     {
         if let Some(spot) = self.spot {
             let at = 8 * spot.start as usize + 8 * index as usize;
@@ -36,8 +35,7 @@ impl<A: Allocator> BuilderArena<A> {
     /// Writes bytes over those of the list of bytes at the root, from an index on.
     pub fn write_bytes(&mut self, index: u32, bytes: &[u8])
         requires { HasBytes self.old.spaces index (length bytes.now) }
-        ensures set { IsBytesSet self.old.spaces self.new.spaces index bytes.now }
-        ensures written { IsWritten self.old self.new }
+        ensures { WritesRoot (λ old new. IsBytesSet old new index bytes.now) self.old self.new }
     {
         let Some(spot) = self.spot else {
             return;

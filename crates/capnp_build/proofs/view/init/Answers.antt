@@ -2,5 +2,5 @@
 use Rattle.capnp_build.proofs.PlaceLemmas.{was_crowded}
 use Rattle.capnp_build.proofs.view.init.Goals as goal
 
-pub returns-clause-kind : goal.returns-clause-kind
-returns-clause-kind g c = was_crowded _ _ _ _ _ _ c.init_object.result c.init_object.ensures.nulled c.init_object.ensures.kind
+pub returns-clause-crowded : goal.returns-clause-crowded
+returns-clause-crowded g c = was_crowded _ _ _ _ _ _ c.init_object.result c.init_object.ensures.nulled c.init_object.ensures.kind

@@ -1,11 +1,11 @@
 -- The text that is read is the one that was set.
-use Rattle.std.proofs.Common.{sym, ◌∙◌}
+use Rattle.std.proofs.Common.{refl, sym, ◌∙◌}
 use Rattle.capnp_message.proofs.BackLemmas.{text_accepted, text_read, bytes_same}
 use Rattle.capnp_message.proofs.callers.text_is_read_back.Goals as goal
 
 pub returns-in_err-view-clause-cleared : goal.returns-in_err-view-clause-cleared
 returns-in_err-view-clause-cleared g c =
-    let never = c.in_err-view.ensures.found (text_accepted _ _ c.in_ok-set_root.ensures.set) in
+    let never = c.in_err-view.ensures.found refl (text_accepted _ _ c.in_ok-set_root.ensures.set) in
     absurd (cc)
 
 pub returns-clause-back : goal.returns-clause-back

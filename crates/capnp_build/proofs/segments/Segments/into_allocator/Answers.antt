@@ -39,10 +39,14 @@ deallocate_segment-requires-in-Some-first-clause-is_out g c =
     (same_pair _ _ _ _ c.into_segment-segment-in-Some-first.ensures.size c.into_segment-segment-in-Some-first.ensures.lent)
     (only_first c.self.inside.first c.loop-part.others.items c.in-Some-first.part out.0 c.in-Some-first.is none)
 
-pub returns-in-Some-first-clause-home : goal.returns-in-Some-first-clause-home
-returns-in-Some-first-clause-home g c = λ rest is.
+pub returns-in-Some-first : goal.returns-in-Some-first
+returns-in-Some-first g c =
     let none : c.loop-part.others.items ≡ [] = none_left _ c.pop.new.self.items _ c.in_default.ensures.cases.0 c.in_default.ensures.rest c.in_default.ensures.items in
-    taken_first (g.A.Allocator.out c.loop-part.allocator) (g.A.Allocator.out c.deallocate_segment-in-Some-first.new.self) _ (pair c.in-Some-first.part) _ rest
-    (c.loop-part.invariant.others rest is) (same_pair _ _ _ _ c.into_segment-segment-in-Some-first.ensures.size c.into_segment-segment-in-Some-first.ensures.lent)
-    (only_first c.self.inside.first c.loop-part.others.items c.in-Some-first.part rest c.in-Some-first.is none)
-    c.deallocate_segment-in-Some-first.ensures.takes_off
+    record {
+      home = λ rest is.
+          taken_first (g.A.Allocator.out c.loop-part.allocator) (g.A.Allocator.out c.deallocate_segment-in-Some-first.new.self) _ (pair c.in-Some-first.part) _ rest
+          (c.loop-part.invariant.others rest is) (same_pair _ _ _ _ c.into_segment-segment-in-Some-first.ensures.size c.into_segment-segment-in-Some-first.ensures.lent)
+          (only_first c.self.inside.first c.loop-part.others.items c.in-Some-first.part rest c.in-Some-first.is none)
+          c.deallocate_segment-in-Some-first.ensures.takes_off;
+      same = g.met.A.Allocator.keeps.transitive _ _ _ c.loop-part.invariant.same c.deallocate_segment-in-Some-first.ensures.same;
+    }

@@ -4,18 +4,18 @@ use Rattle.capnp_build.specs.Held.{Held}
 use Rattle.capnp_build.proofs.PointLemmas.{far_points, rewritten_by, rewritten_twice}
 use Rattle.capnp_build.proofs.segments.Segments.point_far.Goals as goal
 
-pub returns-clause-stands : goal.returns-clause-stands
-returns-clause-stands g c = λ form held b.
-    far_points c.args.self.now.spaces c.write_at.new.self.spaces c.write_at-2.new.self.spaces c.args.spot form held c.far-pointer.result c.to_le_bytes.result c.to_le_bytes-2.result
-    c.requires.other c.requires.some (omega arith) b c.requires.first c.to_le_bytes.ensures (ap length c.to_le_bytes.ensures)
-    (ap (λ (h : Held g.row.A.Denot). h.spaces) c.write_at.ensures) c.far-pointer.ensures.word c.to_le_bytes-2.ensures (ap length c.to_le_bytes-2.ensures)
-    (ap (λ (h : Held g.row.A.Denot). h.spaces) c.write_at-2.ensures)
-
-pub returns-clause-rewritten : goal.returns-clause-rewritten
-returns-clause-rewritten g c =
+pub returns : goal.returns
+returns g c =
     let b = c.requires.body.2 in
     let pad = rewritten_by c.args.self.now c.write_at.new.self c.args.spot.segment (8 * (c.args.spot.start - 1)) c.to_le_bytes.result
     (omega (arith, b.room, b.behind, ap length c.to_le_bytes.ensures)) c.write_at.ensures in
     let root = rewritten_by c.write_at.new.self c.write_at-2.new.self 0 0 c.to_le_bytes-2.result
     (omega (arith, c.requires.first, pad.used 0, ap length c.to_le_bytes-2.ensures)) c.write_at-2.ensures in
-    rewritten_twice c.args.self.now c.write_at.new.self c.write_at-2.new.self pad root
+    record {
+      stands = λ form held body.
+          far_points c.args.self.now.spaces c.write_at.new.self.spaces c.write_at-2.new.self.spaces c.args.spot form held c.far-pointer.result c.to_le_bytes.result c.to_le_bytes-2.result
+          c.requires.other c.requires.some (omega arith) body c.requires.first c.to_le_bytes.ensures (ap length c.to_le_bytes.ensures)
+          (ap (λ (h : Held g.row.A.Denot). h.spaces) c.write_at.ensures) c.far-pointer.ensures.word c.to_le_bytes-2.ensures (ap length c.to_le_bytes-2.ensures)
+          (ap (λ (h : Held g.row.A.Denot). h.spaces) c.write_at-2.ensures);
+      rewritten = rewritten_twice c.args.self.now c.write_at.new.self c.write_at-2.new.self pad root;
+    }

@@ -1,15 +1,24 @@
--- A block behind a pad is placed in the first segment with room.
-use Rattle.std.proofs.Common.{◌≡◌, List, ap, arith}
+-- A block after a landing pad is placed in the first segment with room.
+use Rattle.std.proofs.Common.{rules, ◌≡◌, List, ap, arith}
 use Rattle.capnp_build.specs.Bytes.{Space}
 use Rattle.capnp_build.specs.Held.{space_at, room_of}
 use Rattle.capnp_build.specs.Built.{Built}
 use Rattle.capnp_build.proofs.PlaceLemmas.{placed_far}
 use Rattle.capnp_build.proofs.arena.builder_arena.BuilderArena.put.Goals as goal
 
-pub returns-clause-placed : goal.returns-clause-placed
-returns-clause-placed g c =
+pub returns : goal.returns
+returns g c =
     let old : List Space = c.args.self.now.spaces in
     let s = c.in_ok-segment.ensures in
+    let far = c.put_far.ensures in
     let same : room_of (space_at c.self.inside.segments.spaces 0) ≡ room_of (space_at old 0) = ap (λ (v : Built g.row.A.Denot). room_of (space_at v.spaces 0)) c.self.view_is in
-    placed_far old c.find_room.new.self.spaces c.put_far.new.self c.in_ok-segment.segment c.args.words (omega (arith, c.if-words-room.false, c.room.ensures, same)) s.found.0
-    s.first s.older s.newer c.put_far.ensures.count c.put_far.ensures.spot c.put_far.ensures.size
+    record {
+      set = far.set;
+      placed = placed_far old c.find_room.new.self.spaces c.put_far.new.self c.in_ok-segment.segment c.args.words (omega (arith, c.if-words-room.false, c.room.ensures, same)) s.found.0
+          s.first s.older s.newer far.count far.spot far.size;
+      refused = tt;
+      kept = tt;
+      kind = tt;
+      same = search rules;
+      others = λ others is. far.others others (c.find_room.ensures.others others is);
+    }

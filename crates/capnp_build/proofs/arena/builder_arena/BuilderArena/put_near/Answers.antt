@@ -1,7 +1,7 @@
 -- A tree stands behind the used words of the first segment, and the root leads to it.
-use Rattle.std.proofs.Common.{◌≡◌, ◌+◌, ◌<◌, length, Option, None, ap, sym, subst, ◌∙◌, arith}
+use Rattle.std.proofs.Common.{◌≡◌, ◌<◌, length, Option, Some, None, ap, sym, subst, ◌∙◌, arith}
 use Rattle.capnp_build.specs.Held.{space_at, KeepsOthers}
-use Rattle.capnp_build.specs.Built.{size_in_words, Built, held_of, IsBuilt}
+use Rattle.capnp_build.specs.Built.{size_in_words, Built, held_of, IsAtEnd, IsBuilt}
 use Rattle.capnp_build.specs.declared.arena.spot.Spot.{Spot}
 use Rattle.capnp_build.proofs.NullLemmas.{root_room}
 use Rattle.capnp_build.proofs.PointLemmas.{keeps_of}
@@ -16,12 +16,6 @@ fill-spot-requires-clause-behind g c =
 
 pub invariant_of-self : goal.invariant_of-self
 invariant_of-self g c = let v = c.fill-spot.ensures.body in (v.form, v.held, c.point_near.ensures.stands v.form v.held v.body_is)
-
-pub returns-clause-set : goal.returns-clause-set
-returns-clause-set g c =
-    let v = c.fill-spot.ensures.body in
-    value_set (g.V.SetterInput.has_tree c.args.value.now) c.args.canonical c.fill-spot.new.self.spaces c.point_near.new.self.spaces c.fill-spot.result v
-    (c.point_near.ensures.stands v.form v.held v.body_is)
 
 pub returns-clause-whole : goal.returns-clause-whole
 returns-clause-whole g c = λ one short.
@@ -40,13 +34,18 @@ returns-clause-whole g c = λ one short.
     (c.point_near.ensures.stands v.form v.held v.body_is) (kept.count ∙ more.count ∙ alone) first (omega (arith, start, p.start_is, eight))
     (omega (arith, kept.used 0, more.used, eight, many))
 
-pub returns-clause-size : goal.returns-clause-size
-returns-clause-size g c =
-    c.point_near.ensures.rewritten.size ∙ c.fill-spot.ensures.longer.size ∙ ap (λ (v : Built g.row.A.Denot). size_in_words v.spaces + c.args.words) c.self.view_is
-
-pub returns-clause-others : goal.returns-clause-others
-returns-clause-others g c =
+pub returns-clause-block : goal.returns-clause-block
+returns-clause-block g c =
+    let v = c.fill-spot.ensures.body in
     let more = c.fill-spot.ensures.longer in
     let kept = c.point_near.ensures.rewritten in
-    subst (λ (v : Built g.row.A.Denot). KeepsOthers g.A.Allocator.out (held_of v) c.point_near.new.self) c.self.view_is
-    (keeps_of g.A.Allocator.out c.self.inside.segments c.point_near.new.self (kept.allocator ∙ more.allocator) (λ others. kept.pairs others ∙ more.pairs others))
+    record {
+      set = value_set (g.V.SetterInput.has_tree c.args.value.now) c.args.canonical c.fill-spot.new.self.spaces c.point_near.new.self.spaces c.fill-spot.result v
+          (c.point_near.ensures.stands v.form v.held v.body_is);
+      count = kept.count ∙ more.count ∙ ap (λ (v : Built g.row.A.Denot). length v.spaces) c.self.view_is;
+      spot = subst (λ (v : Built g.row.A.Denot). IsAtEnd v.spaces (Some c.fill-spot.result) 0 0 c.args.words) c.self.view_is c.fill-spot.ensures.place;
+      size = omega (arith, kept.size, more.size, ap (λ (v : Built g.row.A.Denot). size_in_words v.spaces) c.self.view_is);
+      same = kept.allocator ∙ more.allocator ∙ ap (λ (v : Built g.row.A.Denot). v.allocator) c.self.view_is;
+      others = subst (λ (v : Built g.row.A.Denot). KeepsOthers g.A.Allocator.out (held_of v) c.point_near.new.self) c.self.view_is
+          (keeps_of g.A.Allocator.out c.self.inside.segments c.point_near.new.self (kept.allocator ∙ more.allocator) (λ others. kept.pairs others ∙ more.pairs others));
+    }

@@ -1,6 +1,5 @@
 -- A data word of the struct at the root is another one, and all else stays.
 use Rattle.std.proofs.Common.{◌≡◌, ◌+◌, ◌*◌, List, length, Option, Some, slice_set, ap, sym, subst}
-use Rattle.std.specs.Int.{to_le_bytes}
 use Rattle.capnp_build.specs.Bytes.{Space}
 use Rattle.capnp_build.specs.Held.{Held}
 use Rattle.capnp_build.specs.Built.{Built, HasNullRoot, IsBuilt}
@@ -30,28 +29,24 @@ invariant_of-self g c =
     let after : IsBuilt c.write_at.new.self.spaces (Some c.in-Some.spot) = (struct (slice_set f.words c.args.index c.args.word), f.held, laid) in
     subst (λ (o : Option Spot). IsBuilt c.write_at.new.self.spaces o) (sym c.in-Some.is) after
 
-pub returns-in-Some-clause-set : goal.returns-in-Some-clause-set
-returns-in-Some-clause-set g c = λ words held charge there.
+pub returns-in-Some : goal.returns-in-Some
+returns-in-Some g c =
     let spaces : List Space = c.self.inside.segments.spaces in
     let f : HasField spaces c.args.index = subst (λ (v : Built g.row.A.Denot). HasField v.spaces c.args.index) (sym c.self.view_is) c.requires in
     let p : IsBuilt spaces (Some c.in-Some.spot) = subst (λ (o : Option Spot). IsBuilt spaces o) c.in-Some.is c.self.invariant in
+    let spot : Spot = c.in-Some.spot in
+    let new : Built g.row.A.Denot = record { spaces = c.write_at.new.self.spaces; spot = c.self.inside.spot; allocator = c.write_at.new.self.allocator } in
     let e = ap (λ (h : Held g.row.A.Denot). h.spaces) c.write_at.ensures in
     let a = field_set spaces c.write_at.new.self.spaces c.in-Some.spot c.args.index c.args.word c.to_le_bytes.result f p c.ranges.word.fits c.to_le_bytes.ensures (ap length c.to_le_bytes.ensures) e in
-    subst (λ (v : Built g.row.A.Denot). IsFieldSet v.spaces c.write_at.new.self.spaces c.args.index c.args.word) c.self.view_is a words held charge there
+    record {
+      set = subst (λ (v : Built g.row.A.Denot). IsFieldSet v.spaces c.write_at.new.self.spaces c.args.index c.args.word) c.self.view_is a;
+      written = subst (λ (v : Built g.row.A.Denot). IsWritten v new) c.self.view_is
+          (written_at c.self.inside.segments c.write_at.new.self c.self.inside.spot spot.segment (8 * (spot.start + c.args.index)) c.to_le_bytes.result c.write_at.ensures
+          (field_room spaces spot c.args.index (length c.to_le_bytes.result) f p (ap length c.to_le_bytes.ensures)));
+    }
 
-pub returns-in-Some-clause-written : goal.returns-in-Some-clause-written
-returns-in-Some-clause-written g c =
-    let spaces : List Space = c.self.inside.segments.spaces in
-    let spot : Spot = c.in-Some.spot in
-    let f : HasField spaces c.args.index = subst (λ (v : Built g.row.A.Denot). HasField v.spaces c.args.index) (sym c.self.view_is) c.requires in
-    let p : IsBuilt spaces (Some spot) = subst (λ (o : Option Spot). IsBuilt spaces o) c.in-Some.is c.self.invariant in
-    let new : Built g.row.A.Denot = record { spaces = c.write_at.new.self.spaces; spot = c.self.inside.spot; allocator = c.write_at.new.self.allocator } in
-    subst (λ (v : Built g.row.A.Denot). IsWritten v new) c.self.view_is
-    (written_at c.self.inside.segments c.write_at.new.self c.self.inside.spot spot.segment (8 * (spot.start + c.args.index)) c.to_le_bytes.result c.write_at.ensures
-    (field_room spaces spot c.args.index (length c.to_le_bytes.result) f p (ap length c.to_le_bytes.ensures)))
-
-pub returns-in_default-clause-set : goal.returns-in_default-clause-set
-returns-in_default-clause-set g c =
+pub returns-in_default : goal.returns-in_default
+returns-in_default g c =
     let spaces : List Space = c.self.inside.segments.spaces in
     let f : HasField spaces c.args.index = subst (λ (v : Built g.row.A.Denot). HasField v.spaces c.args.index) (sym c.self.view_is) c.requires in
     let r : HasNullRoot spaces = subst (λ (o : Option Spot). IsBuilt spaces o) c.in_default.is c.self.invariant in

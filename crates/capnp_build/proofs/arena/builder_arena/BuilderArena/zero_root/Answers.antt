@@ -13,7 +13,7 @@ use Rattle.capnp_build.proofs.SpaceLemmas.{one_zeroed, two_zeroed, wiped}
 use Rattle.std.specs.Prelude.{⊤, MatchOption}
 use Rattle.std.proofs.Common.{refl}
 use Rattle.capnp_build.proofs.HeldLemmas.{edit_keeps}
-use Rattle.capnp_build.proofs.arena.builder_arena.BuilderArena.clear_root.Goals as goal
+use Rattle.capnp_build.proofs.arena.builder_arena.BuilderArena.zero_root.Goals as goal
 
 -- the body's zeros lie in its segment
 fits : (spaces : List Space) (spot : Spot) (form : Form) (held : Trees) → IsLaid spaces spot form held

@@ -1,0 +1,43 @@
+-- What the steps keep by which a value is placed at a null root (src/arena/placing.rt, src/pointing.rt).
+use Rattle.std.specs.Prelude.{◌≡◌, ℕ, ◌+◌, Bool, List, length, None, Result, IfErr, OnOk, OnErr}
+use Rattle.capnp_frame.specs.declared.error.Error.{Error}
+use Rattle.capnp_wire.specs.Tree.{Form, Trees, none}
+use Rattle.capnp_wire.specs.Reached.{Root}
+use Rattle.capnp_build.specs.declared.allocator.Allocator.{Ghosts}
+use Rattle.capnp_build.specs.declared.arena.spot.Spot.{Spot}
+use Rattle.capnp_build.specs.Bytes.{Space}
+use Rattle.capnp_build.specs.Out.{MayRefuse}
+use Rattle.capnp_build.specs.Held.{Held, KeepsOthers}
+use Rattle.capnp_build.specs.Built.{Built, held_of, message, size_in_words, IsSet, IsAtEnd, IsPlaced, HasNoRoom, HasBody, IsLaid, IsRewritten}
+
+-- a new object stands at the root
+abbrev pub IsNew : Form → List Space → Type 0
+IsNew form spaces = (charge : ℕ) × Root (message spaces) form none charge
+
+-- A block of so many words is placed at the null root, which is then such a root, or nothing changes.
+pub record PutsBlock {A S : Type 0} (alloc : Ghosts A S) (stands : List Space → Type 0) (words : ℕ) (old new : Built A)
+    (result : Result (Unit {0}) Error) : Type 0 where
+  pub set : OnOk result (stands new.spaces)
+  pub placed : OnOk result (IsPlaced old.spaces new words)
+  pub refused : OnErr result (new.spot ≡ None)
+  pub kept : OnErr result (new.spaces ≡ old.spaces)
+  pub kind : IfErr result (λ error. HasNoRoom old.spaces words × MayRefuse (words + 1) error.kind)
+  pub same : alloc.same old.allocator new.allocator
+  -- what else the allocator has out stays out
+  pub others : KeepsOthers alloc.out (held_of old) (held_of new)
+
+-- A value's block is placed in a segment that has room for it, after so many words of a landing pad.
+pub record PlacesBlock {A S : Type 0} (alloc : Ghosts A S) (has_tree : Trees → Type 0) (canonical : Bool) (segment pad words : ℕ)
+    (old new : Built A) : Type 0 where
+  pub set : IsSet has_tree canonical new.spaces
+  pub count : length new.spaces ≡ length old.spaces
+  pub spot : IsAtEnd old.spaces new.spot segment pad words
+  pub size : size_in_words new.spaces ≡ size_in_words old.spaces + words + pad
+  pub same : new.allocator ≡ old.allocator
+  -- what else the allocator has out stays out
+  pub others : KeepsOthers alloc.out (held_of old) (held_of new)
+
+-- The root's word leads to the body that stands at a spot; no segment becomes longer.
+pub record PointsRoot {A : Type 0} (spot : Spot) (old new : Held A) : Type 0 where
+  pub stands : (form : Form) (held : Trees) → HasBody old.spaces spot form held → IsLaid new.spaces spot form held
+  pub rewritten : IsRewritten old new

@@ -1,0 +1,121 @@
+-- What the calls on the root of a message keep (src/arena, src/view.rt, src/any_pointer.rt). In each record `alloc` is what
+-- is seen of the message's allocator (the members of the trait Allocator), and `old` and `new` are the message before the
+-- call and after it.
+use Rattle.std.specs.Prelude.{⊤, ◌≡◌, ◌⊎◌, ℕ, ◌<◌, max, true, false, List, [], length, MatchOption, None, Result, IfErr, OnOk, OnErr}
+use Rattle.capnp_frame.specs.declared.error.Error.{Error}
+use Rattle.capnp_frame.specs.declared.error.ErrorKind.{ErrorKind}
+use Rattle.capnp_frame.specs.declared.error.ErrorKind.TheVariants.{NotOneSegment}
+use Rattle.capnp_wire.specs.Tree.{Form, Trees, none}
+use Rattle.capnp_wire.specs.Reached.{Root}
+use Rattle.capnp_wire.specs.Values.{HasWords, LacksWords}
+use Rattle.capnp_build.specs.declared.allocator.Allocator as allocator
+use Rattle.capnp_build.specs.declared.owned_builder.OwnedBuilder as owned_builder
+use Rattle.capnp_build.specs.Bytes.{Space}
+use Rattle.capnp_build.specs.Out.{MayRefuse}
+use Rattle.capnp_build.specs.Held.{space_at, Held, KeepsOthers, BringsHome}
+use Rattle.capnp_build.specs.Built.{Built, held_of, message, size_in_words, HasNullRoot, ForRoot, DeclinesRoot, IsSet, IsWhole, IsPut, IsInit}
+use Rattle.capnp_build.specs.Built.{InitWords, IsCrowded, NotInOne, IsCleared, IsZeroAt, KeepsRooms, IsLookedAt}
+
+-- there is no segment yet, and the allocator fails to hand out the first one
+abbrev pub LacksFirst : List Space → ErrorKind → Type 0
+LacksFirst spaces kind = (length spaces ≡ 0) × MayRefuse 1 kind
+
+-- What setting the root to a value keeps: to a value that is such a tree, and of which `measure` fails so.
+pub record SetsRoot {A S : Type 0} (alloc : allocator.Ghosts A S) (has_tree : Trees → Type 0) (refuses : ErrorKind → Type 0)
+    (old new : Built A) (result : Result (Unit {0}) Error) : Type 0 where
+  pub set : OnOk result (IsSet has_tree false new.spaces)
+  -- which words it takes, once the old root is cleared
+  pub placed : OnOk result (IsPut alloc.same (HasWords has_tree false) old new)
+  -- after a failure the root is null
+  pub nulled : OnErr result (IsCleared alloc.same old new)
+  -- it fails as `measure` does, as the allocator fails to hand out the first segment, or where no segment has room
+  pub kind : IfErr result (λ error. LacksWords has_tree refuses false error.kind ⊎ LacksFirst old.spaces error.kind
+      ⊎ IsCrowded (HasWords has_tree false) new.spaces error.kind)
+  pub same : alloc.same old.allocator new.allocator
+  -- what else the allocator has out stays out
+  pub others : KeepsOthers alloc.out (held_of old) (held_of new)
+
+-- What setting the root to a value in canonical form, in the first segment, keeps.
+pub record SetsRootCanonical {A S : Type 0} (alloc : allocator.Ghosts A S) (has_tree : Trees → Type 0) (refuses : ErrorKind → Type 0)
+    (old new : Built A) (result : Result (Unit {0}) Error) : Type 0 where
+  pub set : OnOk result (IsSet has_tree true new.spaces)
+  -- which words it takes, once the old root is cleared
+  pub placed : OnOk result (IsPut alloc.same (HasWords has_tree true) old new)
+  pub one : OnOk result (length new.spaces ≡ 1)
+  -- as the first action on the message it makes the one segment the canonical form
+  pub whole : old.spaces ≡ [] → OnOk result (IsWhole has_tree true new.spaces)
+  -- after a failure the root is null
+  pub nulled : OnErr result (IsCleared alloc.same old new)
+  -- it fails as `measure` does, as the allocator fails to hand out the first segment, or where that has no room or is
+  -- not the only one
+  pub kind : IfErr result (λ error. LacksWords has_tree refuses true error.kind ⊎ LacksFirst old.spaces error.kind
+      ⊎ ((error.kind ≡ NotOneSegment) × NotInOne (HasWords has_tree true) new.spaces))
+  pub same : alloc.same old.allocator new.allocator
+  -- what else the allocator has out stays out
+  pub others : KeepsOthers alloc.out (held_of old) (held_of new)
+
+-- What making the root a new object of length `n` keeps: of a type of which `schema` is what is seen (the members of the
+-- trait OwnedBuilder).
+pub record InitsRoot {A S K : Type 0} (alloc : allocator.Ghosts A S) (schema : owned_builder.Ghosts K) (n : ℕ) (old new : Built A)
+    (result : Result (Unit {0}) Error) : Type 0 where
+  pub inits : OnOk result ((form : Form) × (charge : ℕ) × schema.inits n form × Root (message new.spaces) form none charge)
+  -- which words it takes, once the old root is cleared
+  pub placed : OnOk result (IsInit alloc.same (InitWords schema.inits n) old new)
+  -- after a failure the root is null
+  pub nulled : OnErr result (IsCleared alloc.same old new)
+  -- it fails as the type has no such object, as the allocator fails to hand out the first segment, or where no segment
+  -- has room
+  pub kind : IfErr result (λ error. schema.refuses n error.kind ⊎ LacksFirst old.spaces error.kind
+      ⊎ IsCrowded (InitWords schema.inits n) new.spaces error.kind)
+  pub same : alloc.same old.allocator new.allocator
+  -- what else the allocator has out stays out
+  pub others : KeepsOthers alloc.out (held_of old) (held_of new)
+
+-- What making the root null, and the old body zero, keeps.
+pub record ClearsRoot {A S : Type 0} (alloc : allocator.Ghosts A S) (old new : Built A) (result : Result (Unit {0}) Error) : Type 0 where
+  pub null : new.spot ≡ None
+  pub null_word : HasNullRoot new.spaces
+  pub zero : MatchOption old.spot ⊤ (IsZeroAt new.spaces)
+  pub there : OnOk result (0 < length new.spaces)
+  pub none : OnErr result (new.spaces ≡ [])
+  -- it fails as the allocator fails to hand out the first segment
+  pub kind : IfErr result (λ error. LacksFirst old.spaces error.kind)
+  pub same : alloc.same old.allocator new.allocator
+  -- what else the allocator has out stays out
+  pub others : KeepsOthers alloc.out (held_of old) (held_of new)
+  pub size : OnOk result (size_in_words new.spaces ≡ max 1 (size_in_words old.spaces))
+  -- no room is lost
+  pub rooms : KeepsRooms old.spaces new.spaces
+  pub fresh : old.spaces ≡ [] → OnOk result ((length new.spaces ≡ 1) × (length (space_at new.spaces 0).used ≡ 8))
+
+-- What making sure of a root keeps: where there is no segment, a null one stands in a new segment afterwards.
+pub record EnsuresRoot {A S : Type 0} (alloc : allocator.Ghosts A S) (old new : Built A) (result : Result (Unit {0}) Error) : Type 0 where
+  pub there : OnOk result (0 < length new.spaces)
+  pub none : OnErr result (new.spaces ≡ [])
+  pub looked : IsLookedAt alloc.same old new
+  -- it fails as the allocator fails to hand out the first segment
+  pub kind : IfErr result (λ error. LacksFirst old.spaces error.kind)
+  -- what else the allocator has out stays out
+  pub others : KeepsOthers alloc.out (held_of old) (held_of new)
+
+-- What a look at the root keeps, whether a type takes the object there.
+pub record LooksAtRoot {A S K : Type 0} (alloc : allocator.Ghosts A S) (schema : owned_builder.Ghosts K) (old new : Built A)
+    (result : Result (Unit {0}) Error) : Type 0 where
+  pub taken : OnOk result (ForRoot new.spaces schema.takes)
+  pub there : OnOk result (0 < length new.spaces)
+  pub looked : IsLookedAt alloc.same old new
+  -- it fails as the allocator fails to hand out the first segment, or as the type declines the root
+  pub kind : IfErr result (λ error. LacksFirst old.spaces error.kind ⊎ DeclinesRoot schema.declines old.spaces error.kind)
+  -- what else the allocator has out stays out
+  pub others : KeepsOthers alloc.out (held_of old) (held_of new)
+
+-- A message of no segments, whose root is null, and of whose allocator a fact holds.
+pub record IsNewMessage {A : Type 0} (fact : A → Type 0) (built : Built A) : Type 0 where
+  pub spaces : built.spaces ≡ []
+  pub spot : built.spot ≡ None
+  pub allocator : fact built.allocator
+
+-- What the allocator that comes back keeps: each segment has gone back to it with its used words.
+pub record GivesBack {A S : Type 0} (alloc : allocator.Ghosts A S) (held : Held A) (last : A) : Type 0 where
+  pub home : BringsHome alloc.out held last
+  pub same : alloc.same held.allocator last

@@ -1,0 +1,68 @@
+-- What the calls keep that return a view of the root's object, or write through one (src/arena/root.rt, src/any_pointer.rt
+-- and the views). `message` is the reference that a view holds, and `built` what is seen of the message behind it.
+use Rattle.std.specs.Prelude.{◌≡◌, ◌⊎◌, ℕ, ◌^◌, ◌<◌, List, map, Result, IfOk, IfErr, IsOk, MatchResult}
+use Rattle.std.specs.Borrow.{MutBor}
+use Rattle.std.specs.Result.{IsErrAnd}
+use Rattle.capnp_frame.specs.declared.error.Error.{Error}
+use Rattle.capnp_frame.specs.declared.error.ErrorKind.{ErrorKind}
+use Rattle.capnp_wire.specs.Tree.{Form, none}
+use Rattle.capnp_wire.specs.Reached.{Root}
+use Rattle.capnp_wire.specs.Readers.{unlimited_root}
+use Rattle.capnp_wire.specs.Views.{Pointer, Measures, Unmeasured}
+use Rattle.capnp_wire.specs.declared.message_size.MessageSize.{MessageSize}
+use Rattle.capnp_build.specs.declared.allocator.Allocator as allocator
+use Rattle.capnp_build.specs.declared.owned_builder.OwnedBuilder as owned_builder
+use Rattle.capnp_build.specs.Bytes.{Space}
+use Rattle.capnp_build.specs.Held.{used_of, KeepsOthers}
+use Rattle.capnp_build.specs.Built.{Built, held_of, message as words_of_message, ForRoot, DeclinesRoot, InitWords, IsInit, WasCrowded, IsLookedAt}
+use Rattle.capnp_build.specs.Written.{IsWritten}
+use Rattle.capnp_build.specs.Outcomes.{LacksFirst}
+
+-- What a call keeps that makes the root a new object of length `n` and returns a view that writes it.
+pub record InitsView {A S K M V : Type 0} (alloc : allocator.Ghosts A S) (schema : owned_builder.Ghosts K) (n : ℕ) (built : M → Built A)
+    (message : V → MutBor M) (old : MutBor M) (result : Result V Error) : Type 0 where
+  -- the view writes the message that was borrowed
+  pub same : IfOk result (λ view. (message view).ghost_name ≡ old.ghost_name)
+  pub inits : IfOk result (λ view. (form : Form) × (charge : ℕ) × schema.inits n form
+      × Root (words_of_message (built (message view).now).spaces) form none charge)
+  -- which words it takes, once the old root is cleared
+  pub placed : IfOk result (λ view. IsInit alloc.same (InitWords schema.inits n) (built old.now) (built (message view).now))
+  -- it fails as the type has no such object, as the allocator fails to hand out the first segment, or where no segment
+  -- had room once the old root was cleared
+  pub kind : IfErr result (λ error. schema.refuses n error.kind ⊎ LacksFirst (built old.now).spaces error.kind
+      ⊎ WasCrowded alloc.same (InitWords schema.inits n) (built old.now) error.kind)
+  pub allocator : IfOk result (λ view. alloc.same (built old.now).allocator (built (message view).now).allocator)
+  -- what else the allocator has out stays out
+  pub others : IfOk result (λ view. KeepsOthers alloc.out (held_of (built old.now)) (held_of (built (message view).now)))
+
+-- What a call keeps that returns a view of the root's object, where the type takes it.
+pub record GetsView {A S K M V : Type 0} (alloc : allocator.Ghosts A S) (schema : owned_builder.Ghosts K) (built : M → Built A)
+    (message : V → MutBor M) (old : MutBor M) (result : Result V Error) : Type 0 where
+  -- the view writes the message that was borrowed
+  pub same : IfOk result (λ view. (message view).ghost_name ≡ old.ghost_name)
+  pub taken : IfOk result (λ view. ForRoot (built (message view).now).spaces schema.takes)
+  pub looked : IfOk result (λ view. IsLookedAt alloc.same (built old.now) (built (message view).now))
+  -- what else the allocator has out stays out
+  pub others : IfOk result (λ view. KeepsOthers alloc.out (held_of (built old.now)) (held_of (built (message view).now)))
+  -- it fails as the allocator fails to hand out the first segment, or as the type declines the root
+  pub kind : IfErr result (λ error. LacksFirst (built old.now).spaces error.kind
+      ⊎ DeclinesRoot schema.declines (built old.now).spaces error.kind)
+
+-- What writing into the root's object keeps: a relation of the segments before and after says what is written.
+pub record WritesRoot {A : Type 0} (writes : List Space → List Space → Type 0) (old new : Built A) : Type 0 where
+  pub set : writes old.spaces new.spaces
+  pub written : IsWritten old new
+
+-- The same through a view.
+pub record WritesView {A M : Type 0} (built : M → Built A) (writes : List Space → List Space → Type 0) (old new : MutBor M) : Type 0 where
+  -- it is still a view of the message that was borrowed
+  pub same : new.ghost_name ≡ old.ghost_name
+  pub set : writes (built old.now).spaces (built new.now).spaces
+  pub written : IsWritten (built old.now) (built new.now)
+
+-- What the size of the tree at the root keeps: it is what a reading pointer to it answers.
+pub record SizesRoot (spaces : List Space) (result : Result MessageSize Error) : Type 0 where
+  pub answer : let pointer : Pointer = unlimited_root (map used_of spaces) in MatchResult result
+      (λ size. Measures pointer size.word_count × (size.cap_count ≡ 0)) (λ error. Unmeasured pointer error.kind)
+  pub measured : (words : ℕ) → Measures (unlimited_root (map used_of spaces)) words → words < 2 ^ 64 → IsOk result
+  pub exact : (kind : ErrorKind) → Unmeasured (unlimited_root (map used_of spaces)) kind → IsErrAnd result (λ error. error.kind ≡ kind)
