@@ -79,3 +79,21 @@ reads_held rules bytes left segments x count holds are keeps is =
       refused = tt;
       exact = λ kind line. stands_apart rules kind bytes rest (segments x) begins line;
     }
+
+-- what is handed on, in another view of the segments
+
+pub reads_shown : {X Y : Type 0} (rules : FlatRules) (bytes : List ℕ) (left : Option (List ℕ)) (segments : X → List (List ℕ))
+    (others : Y → List (List ℕ)) (x : X) (y : Y) → others y ≡ segments x → ReadsFlat rules bytes left segments (Ok x)
+    → ReadsFlat rules bytes left others (Ok y)
+reads_shown rules bytes left segments others x y same told = record {
+  found = subst (λ l. Leaves left (StandsBy rules l bytes)) (sym same) told.found;
+  accepted = λ message rest begins. accepts rules.form y;
+  unchanged = tt;
+  refused = tt;
+  exact = told.exact;
+}
+
+pub reads_passed : {X Y : Type 0} (rules : FlatRules) (bytes : List ℕ) (left : Option (List ℕ)) (segments : X → List (List ℕ))
+    (others : Y → List (List ℕ)) (error : Error) (result : Result Y Error) → IsErrAnd result (λ own. own ≡ error)
+    → ReadsFlat rules bytes left segments (Err error) → ReadsFlat rules bytes left others result
+reads_passed rules bytes left segments others error result is told = reads_none rules bytes left others error result is told.unchanged told.refused
