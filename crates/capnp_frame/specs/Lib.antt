@@ -21,3 +21,4 @@ pub mod FlatReaders
 pub mod KeptTables
 pub mod Asking
 pub mod Streams
+pub mod Steps

@@ -2,14 +2,14 @@
 ghost use Rattle.std.specs.Prelude.{◌≡◌, ◌-◌, ◌*◌, ◌/◌, ◌<◌, ◌≤◌, ◌^◌, [], length, take, drop, map, sum, IfOk, IfErr, OnOk, IfSome, IfNone, IsOk, ◌⊎◌, Option, Some, None};
 ghost use Rattle.std.specs.List.{AllByRecursion};
 ghost use Rattle.capnp_frame.specs.Message.{IsWholeWords};
-ghost use Rattle.capnp_frame.specs.SegmentTable.{field, FitsField, table_size};
-ghost use Rattle.capnp_frame.specs.SegmentLengths.{range_len, AreRanges};
+ghost use Rattle.capnp_frame.specs.SegmentTable.{table_size};
 ghost use Rattle.capnp_frame.specs.Limits.{AreWithin, IsWithin};
 ghost use Rattle.capnp_frame.specs.Source.{IfKnown, IsRefused};
 ghost use Rattle.capnp_frame.specs.Asking.{Asked, FailsOr};
 ghost use Rattle.capnp_frame.specs.Streams.{ReadsStream};
-ghost use Rattle.capnp_frame.specs.Requests.{RestStands, TableStands, MessageStands};
-ghost use Rattle.capnp_frame.specs.Refusals.{RefusesTable, RefusesStream, CountStands, TakesMemory, IsReaderKind};
+ghost use Rattle.capnp_frame.specs.Steps.{ReadsLengths};
+ghost use Rattle.capnp_frame.specs.Requests.{TableStands, MessageStands};
+ghost use Rattle.capnp_frame.specs.Refusals.{TellsAccepted, RefusesTable, RefusesStream, CountStands, TakesMemory, IsReaderKind};
 ghost use Rattle.capnp_frame.specs.declared.error.ErrorKind.{ErrorKind};
 
 use crate::error::{Error, ErrorKind, Result};
@@ -140,17 +140,8 @@ fn read_lengths<R: Read>(
     first: &[u8; 8],
     indices: &mut [(usize, usize)],
 ) -> Result<usize>
-    requires some { 0 < length indices.old }
-    requires few { length indices.old < SEGMENTS_COUNT_LIMIT }
-    requires told { field (length indices.old - 1) ≡ take 4 first.now }
-    ensures table { OnOk result (IfKnown (R.unread source.old) (R.unread source.new)
-        (RestStands R.gives first.now (map range_len indices.new))) }
-    ensures ranges { IfOk result (AreRanges indices.new) }
-    ensures bound { IfOk result (λ total. total < 2 ^ 42) }
-    ensures each { OnOk result (AllByRecursion FitsField (map range_len indices.new)) }
-    ensures refused { FailsOr result
-        (IsRefused R.refuses (8 * (length indices.new / 2)) (R.unread source.old)) }
-    ensures asked { Asked R.unread R.failures R.same source.old source.new result }
+    requires accepted { TellsAccepted first.now (length indices.old) }
+    ensures { ReadsLengths R.Read source.old source.new first.now indices.new result }
 {
     let size = table_len(indices.len());
     if size <= 16 {
@@ -168,18 +159,9 @@ fn read_lengths_by<R: Read>(
     indices: &mut [(usize, usize)],
     table: &mut [u8],
 ) -> Result<usize>
-    requires some { 0 < length indices.old }
-    requires few { length indices.old < SEGMENTS_COUNT_LIMIT }
-    requires told { field (length indices.old - 1) ≡ take 4 first.now }
+    requires accepted { TellsAccepted first.now (length indices.old) }
     requires size { length table.old ≡ table_size (length indices.old) }
-    ensures table { OnOk result (IfKnown (R.unread source.old) (R.unread source.new)
-        (RestStands R.gives first.now (map range_len indices.new))) }
-    ensures ranges { IfOk result (AreRanges indices.new) }
-    ensures bound { IfOk result (λ total. total < 2 ^ 42) }
-    ensures each { OnOk result (AllByRecursion FitsField (map range_len indices.new)) }
-    ensures refused { FailsOr result
-        (IsRefused R.refuses (8 * (length indices.new / 2)) (R.unread source.old)) }
-    ensures asked { Asked R.unread R.failures R.same source.old source.new result }
+    ensures { ReadsLengths R.Read source.old source.new first.now indices.new result }
 {
     complete_table(source, first, table)?;
     Ok(fill_indices(indices, table))
