@@ -7,7 +7,7 @@ ghost use Rattle.capnp_frame.specs.Limits.{AreWithin, IsWithin};
 ghost use Rattle.capnp_frame.specs.Source.{IfKnown, IsRefused};
 ghost use Rattle.capnp_frame.specs.Asking.{Asked, FailsOr};
 ghost use Rattle.capnp_frame.specs.Streams.{ReadsStream};
-ghost use Rattle.capnp_frame.specs.Steps.{ReadsLengths};
+ghost use Rattle.capnp_frame.specs.Steps.{AsksNext, ReadsLengths};
 ghost use Rattle.capnp_frame.specs.Requests.{TableStands, MessageStands};
 ghost use Rattle.capnp_frame.specs.Refusals.{TellsAccepted, RefusesTable, RefusesStream, CountStands, TakesMemory, IsReaderKind};
 ghost use Rattle.capnp_frame.specs.declared.error.ErrorKind.{ErrorKind};
@@ -81,16 +81,8 @@ fn read_segments<R: Read>(
         IfKnown (R.unread source.old) (R.unread source.new) (MessageStands R.gives segments))) }
     ensures within { IfOk result (λ found. IfSome found (λ segments. IsWithin segments limit)) }
     ensures whole { IfOk result (λ found. IfSome found (AllByRecursion IsWholeWords)) }
-    ensures none { IfOk result (λ found. IfNone found
-        (IfSome (R.unread source.old) (λ raw. raw ≡ []))) }
-    ensures refused { FailsOr result (λ kind. ((kind ≡ ErrorKind.OutOfMemory)
-        × IfKnown (R.unread source.old) (R.unread source.new) (TakesMemory R.gives limit))
-        ⊎ IfKnown (R.unread source.old) (R.unread source.new)
-        (RefusesStream R.gives R.refuses limit None kind)) }
-    ensures kinds { IfErr result (λ error. IsReaderKind R.refuses error.kind) }
-    ensures end { IfErr result (λ error. R.unread source.old ≡ Some [] →
-        error.kind ≡ ErrorKind.DeviceFailed) }
-    ensures asked { Asked R.unread R.failures R.same source.old source.new result }
+    ensures asks { AsksNext R.Read source.old source.new (TakesMemory R.gives limit)
+        (RefusesStream R.gives R.refuses limit None) result }
 {
     let Some(lengths) = read_table(memory, source, limit)? else {
         return Ok(None);
@@ -111,16 +103,8 @@ pub(crate) fn read_table<R: Read>(
         IfKnown (R.unread source.old) (R.unread source.new) (TableStands R.gives ns))) }
     ensures within { IfOk result (λ found. IfSome found (λ ns. AreWithin ns limit)) }
     ensures bound { IfOk result (λ found. IfSome found (λ ns. sum ns < 2 ^ 42)) }
-    ensures none { IfOk result (λ found. IfNone found
-        (IfSome (R.unread source.old) (λ raw. raw ≡ []))) }
-    ensures refused { FailsOr result (λ kind. ((kind ≡ ErrorKind.OutOfMemory)
-        × IfKnown (R.unread source.old) (R.unread source.new) (CountStands R.gives))
-        ⊎ IfKnown (R.unread source.old) (R.unread source.new)
-        (RefusesTable R.gives R.refuses limit None kind)) }
-    ensures kinds { IfErr result (λ error. IsReaderKind R.refuses error.kind) }
-    ensures end { IfErr result (λ error. R.unread source.old ≡ Some [] →
-        error.kind ≡ ErrorKind.DeviceFailed) }
-    ensures asked { Asked R.unread R.failures R.same source.old source.new result }
+    ensures asks { AsksNext R.Read source.old source.new (CountStands R.gives)
+        (RefusesTable R.gives R.refuses limit None) result }
 {
     let Some(first) = read_first(source)? else {
         return Ok(None);
