@@ -4,7 +4,6 @@ use Rattle.std.specs.Prelude.{slice_get}
 use Rattle.std.specs.Option.{option_map}
 use Rattle.std.proofs.Math.Seq.{take-append_seam}
 use Rattle.std.proofs.lemmas.Option.{slice_get-map, slice_get_within}
-use Rattle.capnp_frame.specs.Front.{HasFrame}
 use Rattle.capnp_frame.specs.Message.{word_count, lengths}
 use Rattle.capnp_frame.specs.declared.error.ErrorKind.{ErrorKind}
 use Rattle.capnp_frame.specs.declared.error.ErrorKind.TheVariants.{BufferNotLargeEnough}
@@ -17,10 +16,10 @@ use Rattle.capnp_wire.specs.Views.{Pointer}
 use Rattle.capnp_wire.specs.Faults.{NoWord, no_word, at_pointer}
 use Rattle.capnp_wire.specs.Values.{IsCanonicalForm, LeadsToTree, StopsWalkFrom}
 use Rattle.capnp_wire.proofs.OneValueLemmas.{one_of_pointer, measured_exactly, measured_found}
-use Rattle.capnp_c.specs.Fronts.{HasForm, LacksForm, IsShort, root_pointer}
+use Rattle.capnp_c.specs.Fronts.{IsAtFront, HasForm, LacksForm, IsShort, root_pointer}
 
-pub one_front : (bytes rest left : List ℕ) (segments others : List (List ℕ)) → HasFrame bytes segments rest → HasFrame bytes others left → segments ≡ others
-one_front bytes rest left segments others p q = (frames_part p.0 q.0 rest left segments others p.1 q.1 (sym p.2 ∙ q.2)).1
+pub one_front : (bytes rest left : List ℕ) (segments others : List (List ℕ)) → IsAtFront bytes segments rest → IsAtFront bytes others left → segments ≡ others
+one_front bytes rest left segments others p q = (frames_part p.text q.text rest left segments others p.is_text q.is_text (sym p.spelled ∙ q.spelled)).1
 
 pub segment_words : (segments others : List (List ℕ)) (id : ℕ) (segment : List ℕ) → others ≡ segments → slice_get others id ≡ Some segment → slice_get (lengths segments) id ≡ Some (word_count segment)
 segment_words segments others id segment same is =

@@ -2,8 +2,8 @@
 use Rattle.std.specs.Prelude.{◌≡◌, ◌+◌, ◌*◌, ◌<◌, ℕ, true, List, Option, Some}
 use Rattle.capnp_frame.specs.declared.error.ErrorKind.{ErrorKind}
 use Rattle.capnp_frame.specs.declared.error.ErrorKind.TheVariants.{BufferNotLargeEnough}
-use Rattle.capnp_frame.specs.Front.{HasFrame}
-use Rattle.capnp_frame.specs.Limits.{IsWithin}
+use Rattle.capnp_frame.specs.Frame.{IsFrame}
+use Rattle.capnp_frame.specs.Texts.{BeginsWith}
 use Rattle.capnp_wire.specs.Object.{message_of}
 use Rattle.capnp_wire.specs.Reached.{root}
 use Rattle.capnp_wire.specs.Views.{Pointer}
@@ -13,10 +13,9 @@ use Rattle.capnp_wire.specs.Values.{HasWords, LacksWords, LeadsToTree, StopsWalk
 abbrev pub default_limit : Option ℕ
 default_limit = Some 8388608
 
--- a frame of the message stands there, and the message is within that limit
-pub record IsAtFront (bytes : List ℕ) (segments : List (List ℕ)) (rest : List ℕ) : Type 0 where
-  pub frame : HasFrame bytes segments rest
-  pub within : IsWithin segments default_limit
+-- a framed text of the message stands there, and the message is within that limit
+abbrev pub IsAtFront : List ℕ → List (List ℕ) → List ℕ → Type 0
+IsAtFront bytes segments rest = BeginsWith IsFrame default_limit segments bytes rest
 
 -- its root pointer, within the default limits
 abbrev pub root_pointer : List (List ℕ) → Pointer

@@ -14,7 +14,7 @@ use Rattle.capnp_frame.specs.Source.{Splits, RunsShort, IfKnown, Fails}
 use Rattle.capnp_frame.specs.Requests.{TableStands}
 use Rattle.capnp_frame.specs.Refusals.{CountStands, RefusesTable}
 use Rattle.capnp_frame.specs.Front.{HasFrame, IsDescribed, HaveSameNumbers, number, told_lengths, told_segments, HoldsMessage}
-use Rattle.capnp_frame.specs.FlatRefusals.{FlatForm, by_words, by_fields, AcceptsCount, RefusesFlat}
+use Rattle.capnp_frame.specs.FlatRefusals.{by_words, by_fields, AcceptsCount, RefusesFlat}
 use Rattle.capnp_frame.proofs.AskLemmas.{never_fails}
 use Rattle.capnp_frame.proofs.Ranges.{widths}
 use Rattle.capnp_frame.proofs.FrontLemmas.{found_from_held, held_from_begins, within_told, length-told_segments}
@@ -27,30 +27,16 @@ begins_held bytes count segments holds are =
     let left = drop (table_size count + 8 * sum (told_lengths count bytes)) bytes in
     (left, subst (λ l. HasFrame bytes l left) (sym are) (found_from_held bytes count holds).begins)
 
-pub begins_moved : (bytes : List ℕ) (count size total : ℕ) (segments : List (List ℕ)) → HoldsMessage bytes count
-    → segments ≡ told_segments count bytes → size ≡ table_size count → total ≡ 8 * sum (told_lengths count bytes)
-    → HasFrame bytes segments (take (length bytes - (size + total)) (drop (size + total) bytes))
-begins_moved bytes count size total segments holds are table_is total_is =
-    let left = drop (table_size count + 8 * sum (told_lengths count bytes)) bytes in
-    let place : table_size count + 8 * sum (told_lengths count bytes) ≡ size + total = omega arith in
-    let rest : left ≡ take (length bytes - (size + total)) (drop (size + total) bytes) = ap (λ k. drop k bytes) place ∙ sym (take_rest bytes (size + total)) in
-    subst (HasFrame bytes segments) rest (subst (λ l. HasFrame bytes l left) (sym are) (found_from_held bytes count holds).begins)
+-- a slice that moved past it
+pub moved : (bytes : List ℕ) (count size total : ℕ) → size ≡ table_size count → total ≡ 8 * sum (told_lengths count bytes)
+    → take (length bytes - (size + total)) (drop (size + total) bytes) ≡ drop (table_size count + 8 * sum (told_lengths count bytes)) bytes
+moved bytes count size total table_is total_is =
+    let place : size + total ≡ table_size count + 8 * sum (told_lengths count bytes) = omega arith in
+    take_rest bytes (size + total) ∙ ap (λ k. drop k bytes) place
 
 pub within_held : (bytes : List ℕ) (count : ℕ) (segments : List (List ℕ)) (limit : Option ℕ) → HoldsMessage bytes count
     → segments ≡ told_segments count bytes → KeepsLimit (told_lengths count bytes) limit → IsWithin segments limit
 within_held bytes count segments limit holds are keeps = subst (λ l. IsWithin l limit) (sym are) (within_told bytes count limit holds keeps)
-
--- a refusal, where a message that is accepted stands
-pub flat_vacuous : {P : Type 0} (form : FlatForm) (limit : Option ℕ) (kind : ErrorKind) (bytes : List ℕ)
-    → RefusesFlat form limit kind bytes → (segments : List (List ℕ)) (rest : List ℕ) → HasFrame bytes segments rest
-    → IsWithin segments limit → P
-flat_vacuous form limit kind bytes met segments rest begins within = absurd (RefusesFlat-apart form limit kind bytes segments rest begins within met)
-
-pub memory_alone : {M : Type 0} (form : FlatForm) (limit : Option ℕ) (kind : ErrorKind) (bytes : List ℕ)
-    → ((kind ≡ OutOfMemory) × M) ⊎ RefusesFlat form limit kind bytes → (segments : List (List ℕ)) (rest : List ℕ)
-    → HasFrame bytes segments rest → IsWithin segments limit → kind ≡ OutOfMemory
-memory_alone form limit kind bytes (inl memory) segments rest begins within = memory.0
-memory_alone form limit kind bytes (inr met) segments rest begins within = absurd (RefusesFlat-apart form limit kind bytes segments rest begins within met)
 
 -- parts behind a table
 

@@ -14,6 +14,7 @@ pub mod SizeLemmas
 pub mod FrontLemmas
 pub mod FlatLemmas
 pub mod HeldLemmas
+pub mod FlatReaderLemmas
 pub mod LentLemmas
 pub mod TableReading
 pub mod AgreementLemmas

@@ -17,6 +17,8 @@ pub mod Words
 pub mod Views
 pub mod Front
 pub mod FlatRefusals
+pub mod FlatReaders
 pub mod KeptTables
 pub mod Asking
 pub mod Streams
+pub mod Steps

@@ -1,11 +1,11 @@
 //! Segments that stay in the buffer in which their message stands.
-ghost use Rattle.std.specs.Prelude.{◌≡◌, ℕ, ◌+◌, ◌*◌, ◌≤◌, List, length, map, take, drop, sum, ◌⊎◌, IfOk, IfErr, OnErr};
-ghost use Rattle.std.specs.Result.{IsErrAnd};
+ghost use Rattle.std.specs.Prelude.{◌≡◌, ◌+◌, ◌*◌, ◌≤◌, length, map, drop, sum, ◌⊎◌, IfOk, IfErr, Some, None};
 ghost use Rattle.capnp_frame.specs.SegmentLengths.{ranges, range_len, cut};
-ghost use Rattle.capnp_frame.specs.Limits.{AreWithin, IsWithin};
-ghost use Rattle.capnp_frame.specs.SegmentTable.{IsTable, table_size};
-ghost use Rattle.capnp_frame.specs.Front.{HasFrame, HoldsMessage, told_lengths};
+ghost use Rattle.capnp_frame.specs.Limits.{AreWithin};
+ghost use Rattle.capnp_frame.specs.SegmentTable.{table_size};
+ghost use Rattle.capnp_frame.specs.Front.{HoldsMessage, told_lengths};
 ghost use Rattle.capnp_frame.specs.FlatRefusals.{by_words, AcceptsCount, RefusesFlat};
+ghost use Rattle.capnp_frame.specs.FlatReaders.{buffer_rules, slice_rules, ReadsFlat};
 ghost use Rattle.capnp_frame.specs.declared.error.ErrorKind.{ErrorKind};
 
 use crate::error::{Error, ErrorKind, Result};
@@ -79,24 +79,8 @@ impl<T: AsBytes + Drop> BufferSegments<T> {
     /// Memory is taken for the lengths of the segments alone, once their number is accepted.
     pub fn new(alloc: Global, buffer: T, options: ReaderOptions) -> Result<BufferSegments<T>>
         ensures buffer { IfOk result (λ found. found.buffer ≡ buffer) }
-        ensures found { IfOk result (λ found. (rest : List ℕ)
-            × HasFrame (T.bytes buffer) found.segments rest) }
-        ensures within { IfOk result (λ found.
-            IsWithin found.segments options.traversal_limit_in_words) }
-        ensures accepted { (segments : List (List ℕ)) (rest : List ℕ) →
-            HasFrame (T.bytes buffer) segments rest →
-            IsWithin segments options.traversal_limit_in_words →
-            IfErr result (λ error. error.kind ≡ ErrorKind.OutOfMemory) }
-
-        // A refusal is want of memory once the number of segments is accepted, or a line of the
-        // table, and the line that is met is answered.
-        ensures refused { IfErr result (λ error. ((error.kind ≡ ErrorKind.OutOfMemory)
-            × AcceptsCount (by_words ErrorKind.EmptyBuffer) (T.bytes buffer))
-            ⊎ RefusesFlat (by_words ErrorKind.EmptyBuffer) options.traversal_limit_in_words
-            error.kind (T.bytes buffer)) }
-        ensures exact { (kind : ErrorKind) → RefusesFlat (by_words ErrorKind.EmptyBuffer)
-            options.traversal_limit_in_words kind (T.bytes buffer) →
-            IsErrAnd result (λ error. (error.kind ≡ ErrorKind.OutOfMemory) ⊎ (error.kind ≡ kind)) }
+        ensures reads { ReadsFlat (buffer_rules options.traversal_limit_in_words) (T.bytes buffer)
+            None (λ found. found.segments) result }
     {
         let (lengths, table_len) = find_message(
             alloc,
@@ -137,25 +121,8 @@ pub fn take_segments<'a>(
     options: ReaderOptions,
 ) -> Result<BufferSegments<&'a [u8]>>
     ensures buffer { IfOk result (λ found. found.buffer.now ≡ slice.old.now) }
-    ensures found { IfOk result (λ found.
-        HasFrame slice.old.now found.segments slice.new.now) }
-    ensures within { IfOk result (λ found.
-        IsWithin found.segments options.traversal_limit_in_words) }
-    ensures unchanged { OnErr result (slice.new.now ≡ slice.old.now) }
-    ensures accepted { (segments : List (List ℕ)) (rest : List ℕ) →
-        HasFrame slice.old.now segments rest →
-        IsWithin segments options.traversal_limit_in_words →
-        IfErr result (λ error. error.kind ≡ ErrorKind.OutOfMemory) }
-
-    // A refusal is want of memory once the number of segments is accepted, or a line of the table,
-    // and the line that is met is answered.
-    ensures refused { IfErr result (λ error. ((error.kind ≡ ErrorKind.OutOfMemory)
-        × AcceptsCount (by_words ErrorKind.EmptySlice) slice.old.now)
-        ⊎ RefusesFlat (by_words ErrorKind.EmptySlice) options.traversal_limit_in_words
-        error.kind slice.old.now) }
-    ensures exact { (kind : ErrorKind) → RefusesFlat (by_words ErrorKind.EmptySlice)
-        options.traversal_limit_in_words kind slice.old.now →
-        IsErrAnd result (λ error. (error.kind ≡ ErrorKind.OutOfMemory) ⊎ (error.kind ≡ kind)) }
+    ensures reads { ReadsFlat (slice_rules options.traversal_limit_in_words) slice.old.now
+        (Some slice.new.now) (λ found. found.segments) result }
 {
     let all: &'a [u8] = *slice;
     let (lengths, table_len) = find_message(

@@ -1,11 +1,8 @@
 //! Segments in a buffer that are found without memory.
-ghost use Rattle.std.specs.Prelude.{◌≡◌, ℕ, ◌+◌, ◌*◌, ◌<◌, ◌≤◌, List, length, sum, IfOk, IfErr, IsOk, OnErr};
-ghost use Rattle.std.specs.Result.{IsErrAnd};
-ghost use Rattle.capnp_frame.specs.Limits.{IsWithin};
+ghost use Rattle.std.specs.Prelude.{◌≡◌, ℕ, ◌+◌, ◌<◌, List, length, sum, IfOk, Some, None};
 ghost use Rattle.capnp_frame.specs.Front.{HasFrame, IsDescribed, HoldsMessage, told_lengths, told_segments};
 ghost use Rattle.capnp_frame.specs.KeptTables.{KeepsEnds};
-ghost use Rattle.capnp_frame.specs.FlatRefusals.{by_fields, RefusesFlat};
-ghost use Rattle.capnp_frame.specs.declared.error.ErrorKind.{ErrorKind};
+ghost use Rattle.capnp_frame.specs.FlatReaders.{no_alloc_rules, ReadsFlat};
 
 use crate::error::Result;
 use crate::message::{AsBytes, ReaderOptions, ReaderSegments};
@@ -81,20 +78,8 @@ impl<T: AsBytes + Drop> NoAllocBufferSegments<T> {
     /// Finds the message at the front of a buffer. Behind it anything may stand.
     pub fn from_buffer(buffer: T, options: ReaderOptions) -> Result<NoAllocBufferSegments<T>>
         ensures buffer { IfOk result (λ found. found.buffer ≡ buffer) }
-        ensures found { IfOk result (λ found. (rest : List ℕ)
-            × HasFrame (T.bytes buffer) found.segments rest) }
-        ensures within { IfOk result (λ found.
-            IsWithin found.segments options.traversal_limit_in_words) }
-        ensures accepted { (segments : List (List ℕ)) (rest : List ℕ) →
-            HasFrame (T.bytes buffer) segments rest →
-            IsWithin segments options.traversal_limit_in_words → IsOk result }
-
-        // A refusal is a line of the table, and the line that is met is answered.
-        ensures refused { IfErr result (λ error. RefusesFlat by_fields
-            options.traversal_limit_in_words error.kind (T.bytes buffer)) }
-        ensures exact { (kind : ErrorKind) → RefusesFlat by_fields
-            options.traversal_limit_in_words kind (T.bytes buffer) →
-            IsErrAnd result (λ error. error.kind ≡ kind) }
+        ensures reads { ReadsFlat (no_alloc_rules options.traversal_limit_in_words)
+            (T.bytes buffer) None (λ found. found.segments) result }
     {
         let info = read_table_info(buffer.as_bytes(), options.traversal_limit_in_words)?;
         Ok(NoAllocBufferSegments::of_held(buffer, info.segments_count))
@@ -108,21 +93,8 @@ impl<'b> NoAllocBufferSegments<&'b [u8]> {
         slice: &mut &'b [u8],
         options: ReaderOptions,
     ) -> Result<NoAllocBufferSegments<&'b [u8]>>
-        ensures found { IfOk result (λ found.
-            HasFrame slice.old.now found.segments slice.new.now) }
-        ensures within { IfOk result (λ found.
-            IsWithin found.segments options.traversal_limit_in_words) }
-        ensures unchanged { OnErr result (slice.new.now ≡ slice.old.now) }
-        ensures accepted { (segments : List (List ℕ)) (rest : List ℕ) →
-            HasFrame slice.old.now segments rest →
-            IsWithin segments options.traversal_limit_in_words → IsOk result }
-
-        // A refusal is a line of the table, and the line that is met is answered.
-        ensures refused { IfErr result (λ error. RefusesFlat by_fields
-            options.traversal_limit_in_words error.kind slice.old.now) }
-        ensures exact { (kind : ErrorKind) → RefusesFlat by_fields
-            options.traversal_limit_in_words kind slice.old.now →
-            IsErrAnd result (λ error. error.kind ≡ kind) }
+        ensures { ReadsFlat (no_alloc_rules options.traversal_limit_in_words) slice.old.now
+            (Some slice.new.now) (λ found. found.segments) result }
     {
         let all: &'b [u8] = *slice;
         let info = read_table_info(all, options.traversal_limit_in_words)?;

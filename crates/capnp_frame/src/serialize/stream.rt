@@ -2,14 +2,14 @@
 ghost use Rattle.std.specs.Prelude.{◌≡◌, ◌-◌, ◌*◌, ◌/◌, ◌<◌, ◌≤◌, ◌^◌, [], length, take, drop, map, sum, IfOk, IfErr, OnOk, IfSome, IfNone, IsOk, ◌⊎◌, Option, Some, None};
 ghost use Rattle.std.specs.List.{AllByRecursion};
 ghost use Rattle.capnp_frame.specs.Message.{IsWholeWords};
-ghost use Rattle.capnp_frame.specs.SegmentTable.{field, FitsField, table_size};
-ghost use Rattle.capnp_frame.specs.SegmentLengths.{range_len, AreRanges};
+ghost use Rattle.capnp_frame.specs.SegmentTable.{table_size};
 ghost use Rattle.capnp_frame.specs.Limits.{AreWithin, IsWithin};
 ghost use Rattle.capnp_frame.specs.Source.{IfKnown, IsRefused};
 ghost use Rattle.capnp_frame.specs.Asking.{Asked, FailsOr};
 ghost use Rattle.capnp_frame.specs.Streams.{framed_rules, ReadsStream};
-ghost use Rattle.capnp_frame.specs.Requests.{RestStands, TableStands, MessageStands};
-ghost use Rattle.capnp_frame.specs.Refusals.{RefusesTable, RefusesStream, CountStands, TakesMemory, IsReaderKind};
+ghost use Rattle.capnp_frame.specs.Steps.{AsksNext, ReadsLengths};
+ghost use Rattle.capnp_frame.specs.Requests.{TableStands, MessageStands};
+ghost use Rattle.capnp_frame.specs.Refusals.{TellsAccepted, RefusesTable, RefusesStream, CountStands, TakesMemory, IsReaderKind};
 ghost use Rattle.capnp_frame.specs.declared.error.ErrorKind.{ErrorKind};
 
 use crate::error::{Error, ErrorKind, Result};
@@ -82,16 +82,8 @@ fn read_segments<R: Read>(
         IfKnown (R.unread source.old) (R.unread source.new) (MessageStands R.gives segments))) }
     ensures within { IfOk result (λ found. IfSome found (λ segments. IsWithin segments limit)) }
     ensures whole { IfOk result (λ found. IfSome found (AllByRecursion IsWholeWords)) }
-    ensures none { IfOk result (λ found. IfNone found
-        (IfSome (R.unread source.old) (λ raw. raw ≡ []))) }
-    ensures refused { FailsOr result (λ kind. ((kind ≡ ErrorKind.OutOfMemory)
-        × IfKnown (R.unread source.old) (R.unread source.new) (TakesMemory R.gives limit))
-        ⊎ IfKnown (R.unread source.old) (R.unread source.new)
-        (RefusesStream R.gives R.refuses limit None kind)) }
-    ensures kinds { IfErr result (λ error. IsReaderKind R.refuses error.kind) }
-    ensures end { IfErr result (λ error. R.unread source.old ≡ Some [] →
-        error.kind ≡ ErrorKind.DeviceFailed) }
-    ensures asked { Asked R.unread R.failures R.same source.old source.new result }
+    ensures asks { AsksNext R.Read source.old source.new (TakesMemory R.gives limit)
+        (RefusesStream R.gives R.refuses limit None) result }
 {
     let Some(lengths) = read_table(memory, source, limit)? else {
         return Ok(None);
@@ -112,16 +104,8 @@ pub(crate) fn read_table<R: Read>(
         IfKnown (R.unread source.old) (R.unread source.new) (TableStands R.gives ns))) }
     ensures within { IfOk result (λ found. IfSome found (λ ns. AreWithin ns limit)) }
     ensures bound { IfOk result (λ found. IfSome found (λ ns. sum ns < 2 ^ 42)) }
-    ensures none { IfOk result (λ found. IfNone found
-        (IfSome (R.unread source.old) (λ raw. raw ≡ []))) }
-    ensures refused { FailsOr result (λ kind. ((kind ≡ ErrorKind.OutOfMemory)
-        × IfKnown (R.unread source.old) (R.unread source.new) (CountStands R.gives))
-        ⊎ IfKnown (R.unread source.old) (R.unread source.new)
-        (RefusesTable R.gives R.refuses limit None kind)) }
-    ensures kinds { IfErr result (λ error. IsReaderKind R.refuses error.kind) }
-    ensures end { IfErr result (λ error. R.unread source.old ≡ Some [] →
-        error.kind ≡ ErrorKind.DeviceFailed) }
-    ensures asked { Asked R.unread R.failures R.same source.old source.new result }
+    ensures asks { AsksNext R.Read source.old source.new (CountStands R.gives)
+        (RefusesTable R.gives R.refuses limit None) result }
 {
     let Some(first) = read_first(source)? else {
         return Ok(None);
@@ -141,17 +125,8 @@ fn read_lengths<R: Read>(
     first: &[u8; 8],
     indices: &mut [(usize, usize)],
 ) -> Result<usize>
-    requires some { 0 < length indices.old }
-    requires few { length indices.old < SEGMENTS_COUNT_LIMIT }
-    requires told { field (length indices.old - 1) ≡ take 4 first.now }
-    ensures table { OnOk result (IfKnown (R.unread source.old) (R.unread source.new)
-        (RestStands R.gives first.now (map range_len indices.new))) }
-    ensures ranges { IfOk result (AreRanges indices.new) }
-    ensures bound { IfOk result (λ total. total < 2 ^ 42) }
-    ensures each { OnOk result (AllByRecursion FitsField (map range_len indices.new)) }
-    ensures refused { FailsOr result
-        (IsRefused R.refuses (8 * (length indices.new / 2)) (R.unread source.old)) }
-    ensures asked { Asked R.unread R.failures R.same source.old source.new result }
+    requires accepted { TellsAccepted first.now (length indices.old) }
+    ensures { ReadsLengths R.Read source.old source.new first.now indices.new result }
 {
     let size = table_len(indices.len());
     if size <= 16 {
@@ -169,18 +144,9 @@ fn read_lengths_by<R: Read>(
     indices: &mut [(usize, usize)],
     table: &mut [u8],
 ) -> Result<usize>
-    requires some { 0 < length indices.old }
-    requires few { length indices.old < SEGMENTS_COUNT_LIMIT }
-    requires told { field (length indices.old - 1) ≡ take 4 first.now }
+    requires accepted { TellsAccepted first.now (length indices.old) }
     requires size { length table.old ≡ table_size (length indices.old) }
-    ensures table { OnOk result (IfKnown (R.unread source.old) (R.unread source.new)
-        (RestStands R.gives first.now (map range_len indices.new))) }
-    ensures ranges { IfOk result (AreRanges indices.new) }
-    ensures bound { IfOk result (λ total. total < 2 ^ 42) }
-    ensures each { OnOk result (AllByRecursion FitsField (map range_len indices.new)) }
-    ensures refused { FailsOr result
-        (IsRefused R.refuses (8 * (length indices.new / 2)) (R.unread source.old)) }
-    ensures asked { Asked R.unread R.failures R.same source.old source.new result }
+    ensures { ReadsLengths R.Read source.old source.new first.now indices.new result }
 {
     complete_table(source, first, table)?;
     Ok(fill_indices(indices, table))

@@ -5,9 +5,9 @@ use Rattle.capnp_c.proofs.canonical.opened.Goals as goal
 
 pub returns-clause-front : goal.returns-clause-front
 returns-clause-front c segments rest front =
-    let found = c.in_ok-segments.ensures.found in
-    ap (λ held. held.segments) c.new.ensures.segments ∙ one_front c.args.bytes.now found.0 rest c.in_ok-segments.segments.segments segments found.1 front.frame
+    let found = c.in_ok-segments.ensures.reads.found in
+    ap (λ held. held.segments) c.new.ensures.segments ∙ one_front c.args.bytes.now found.0 rest c.in_ok-segments.segments.segments segments found.1 front
 
 pub returns-in_err-segments-clause-accepted : goal.returns-in_err-segments-clause-accepted
 returns-in_err-segments-clause-accepted c segments rest front =
-    let never = c.in_err-segments.ensures.accepted segments rest front.frame front.within in absurd (cc)
+    let never = c.in_err-segments.ensures.reads.accepted segments rest front in absurd (cc)

@@ -7,7 +7,7 @@ pub returns-in-Ok-clause-refused : goal.returns-in-Ok-clause-refused
 returns-in-Ok-clause-refused c kind refused = absurd (c.in-Ok.ensures.exact kind refused)
 
 pub returns-in-Err-clause-accepted : goal.returns-in-Err-clause-accepted
-returns-in-Err-clause-accepted c segments rest front = let never = c.in-Err.ensures.accepted segments rest front.frame front.within in absurd (cc)
+returns-in-Err-clause-accepted c segments rest front = let never = c.in-Err.ensures.accepted segments rest front in absurd (cc)
 
 pub returns-in-Err-clause-refused : goal.returns-in-Err-clause-refused
 returns-in-Err-clause-refused c kind refused = c.number.ensures ∙ ap number_of (c.in-Err.ensures.exact kind refused)

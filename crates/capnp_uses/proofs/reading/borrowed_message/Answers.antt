@@ -6,5 +6,5 @@ use Rattle.capnp_uses.proofs.reading.borrowed_message.Goals as goal
 
 pub returns-clause-exact : goal.returns-clause-exact
 returns-clause-exact c = exactly_lent (λ reader. reader.segments.segments) Framed default_limit c.args.bytes.now _
-    c.read_message_from_flat_slice_no_alloc.result c.read_message_from_flat_slice_no_alloc.ensures.found
-    c.read_message_from_flat_slice_no_alloc.ensures.accepted
+    c.read_message_from_flat_slice_no_alloc.result c.read_message_from_flat_slice_no_alloc.ensures.reads.found
+    c.read_message_from_flat_slice_no_alloc.ensures.reads.accepted
