@@ -20,3 +20,4 @@ pub mod FlatRefusals
 pub mod KeptTables
 pub mod Asking
 pub mod Streams
+pub mod Writers
