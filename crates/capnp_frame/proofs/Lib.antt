@@ -20,3 +20,4 @@ pub mod TableReading
 pub mod AgreementLemmas
 pub mod AnswerLemmas
 pub mod PartLemmas
+pub mod SinkLemmas

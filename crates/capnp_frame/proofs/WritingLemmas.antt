@@ -6,8 +6,7 @@ use Rattle.std.proofs.lemmas.List.Sums.{sum_by-cons}
 use Rattle.std.proofs.lemmas.List.Concat.{flat_map-append}
 use Rattle.std.proofs.lemmas.Option.{slice_get_within, get_or_from_slice_get}
 use Rattle.std.proofs.lemmas.Bool.Decides.{nat_tests}
-use Rattle.std.specs.Prelude.{slice_get, sum, Result, OnOk}
-use Rattle.std.proofs.lemmas.Result.{on_ok_weaker}
+use Rattle.std.specs.Prelude.{slice_get, sum}
 use Rattle.std.specs.List.{flat_map, AllByRecursion}
 use Rattle.capnp_frame.specs.declared.error.ErrorKind.{ErrorKind}
 use Rattle.capnp_frame.specs.Message.{word_count, lengths, size_in_words}
@@ -158,9 +157,3 @@ length-lengths segments = length-map segments word_count
 
 pub length-lengths_take : (segments : List (List ℕ)) (i : ℕ) → i ≤ length segments → length (lengths (take i segments)) ≡ i
 length-lengths_take segments i within = length-map (take i segments) word_count ∙ length-take-le i segments within
-
--- what is written after the first pieces, if all is
-pub written_rest : {X E : Type 0} (r : Result X E) (appends : Appending) (xs ys : List (List ℕ))
-    (a b c : Option (List ℕ)) → IfKnown a b (Adds (AppendsAll appends xs))
-    → OnOk r (IfKnown b c (Adds (AppendsAll appends ys))) → OnOk r (IfKnown a c (Adds (AppendsAll appends (xs ++ ys))))
-written_rest r appends xs ys a b c before = on_ok_weaker r (written_more appends xs ys a b c before)

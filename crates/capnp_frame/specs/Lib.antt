@@ -22,3 +22,4 @@ pub mod KeptTables
 pub mod Asking
 pub mod Streams
 pub mod Steps
+pub mod Writers

@@ -1,5 +1,5 @@
 -- What is handed on to a sink, and what a buffer keeps.
-use Rattle.std.proofs.Common.{◌≡◌, ℕ, ◌⊎◌, inl, inr, Option, Result, Ok, Err, IfErr, OnOk, List, [], ◌∷◌, ◌++◌, refl, sym, ap, ◌∙◌, subst, append_assoc}
+use Rattle.std.proofs.Common.{◌≡◌, ℕ, ◌⊎◌, inl, inr, Option, Result, Ok, Err, IfErr, List, [], ◌∷◌, ◌++◌, refl, sym, ap, ◌∙◌, subst, append_assoc}
 use Rattle.std.specs.List.{concat, flat_map}
 use Rattle.std.proofs.lemmas.List.{append-nil}
 use Rattle.std.proofs.lemmas.List.Folds.{concat-append}
@@ -53,10 +53,6 @@ IfKnown-literal appends count old pushed left flat words a b c push none all flu
     let piece : Hands appends left (concat words) [] y z = Hands-one appends left (concat words) flat y z (ap (λ l. l ++ concat words) none ∙ concat_is words ∙ sym all) q in
     subst (λ l. Hands appends old (count ∷ concat words) l x z) (sym none) (Hands-join appends old (count ∷ []) left (concat words) [] x y z first piece)) flushed added
 
-pub on_ok_weaker : {P Q X E : Type 0} (r : Result X E) → (P → Q) → OnOk r P → OnOk r Q
-on_ok_weaker (Ok x) weaker p = weaker p
-on_ok_weaker (Err e) weaker p = tt
-
 -- what a sink refuses
 pub declines_any : (F : Type 0) (refuses : Declining) (part : List ℕ) (kind : ErrorKind) → F ⊎ refuses part kind → F ⊎ DeclinesAny refuses kind
 declines_any F refuses part kind (inl failed) = inl failed
@@ -71,13 +67,3 @@ pub declines_whole : {X : Type 0} (F : ErrorKind → Type 0) (refuses : Declinin
     IfErr r (λ e. F e.kind ⊎ DeclinesAny refuses e.kind) → IfErr r (λ e. F e.kind ⊎ DeclinesPacked refuses piece e.kind)
 declines_whole F refuses piece (Ok x) whole refused = tt
 declines_whole F refuses piece (Err e) whole refused = declines (F e.kind) refuses piece e.kind whole refused
-
-pub declines_part : {X : Type 0} (F : ErrorKind → Type 0) (refuses : Declining) (part : List ℕ) (r : Result X Error) →
-    IfErr r (λ e. F e.kind ⊎ refuses part e.kind) → IfErr r (λ e. F e.kind ⊎ DeclinesAny refuses e.kind)
-declines_part F refuses part (Ok x) refused = tt
-declines_part F refuses part (Err e) refused = declines_any (F e.kind) refuses part e.kind refused
-
-pub known_flushed : {X : Type 0} (appends : Appending) (old piece : List ℕ) (a b : Option (List ℕ)) (r : Result X Error) → old ≡ piece →
-    OnOk r (IfKnown a b (Adds (appends piece))) → OnOk r (IfKnown a b (Hands appends old [] []))
-known_flushed appends old piece a b (Ok x) e added = IfKnown-flush appends old piece a b e added
-known_flushed appends old piece a b (Err x) e added = tt

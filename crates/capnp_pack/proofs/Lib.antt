@@ -27,3 +27,4 @@ pub mod MessageLemmas
 pub mod Shown
 pub mod WorkedRows
 mod PackedStreamLemmas
+pub mod CallLemmas

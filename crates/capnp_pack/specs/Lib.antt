@@ -8,3 +8,4 @@ pub mod Steps
 pub mod UnpackingLaws
 pub mod RefusingLaws
 pub mod PackedStreams
+pub mod Calls

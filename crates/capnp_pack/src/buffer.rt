@@ -2,10 +2,9 @@
 //!
 //! They are collected in 64 bytes, of which so many are used. A group adds at most 10 of them: a
 //! tag, a word and a count.
-ghost use Rattle.std.specs.Prelude.{◌≡◌, ◌+◌, ◌<◌, ◌≤◌, [], ◌∷◌, ◌++◌, IfOk, IfErr, OnOk, length, take, ◌⊎◌, count_ones};
-ghost use Rattle.capnp_frame.specs.declared.error.ErrorKind.{ErrorKind};
-ghost use Rattle.capnp_frame.specs.Source.{IfKnown, Fails};
-ghost use Rattle.capnp_frame.specs.Sink.{DeclinesAny, Grows};
+ghost use Rattle.std.specs.Prelude.{◌≡◌, ◌+◌, ◌<◌, ◌≤◌, [], ◌∷◌, ◌++◌, IfOk, length, take, count_ones};
+ghost use Rattle.capnp_frame.specs.Source.{IfKnown};
+ghost use Rattle.capnp_pack.specs.Calls.{HandsOn};
 ghost use Rattle.capnp_pack.specs.Steps.{Hands, nonzero, tag_of};
 
 use crate::marks::MARKS;
@@ -18,13 +17,9 @@ use std::simd::prelude::*;
 pub(crate) fn make_room<W: Write>(sink: &mut W, bytes: &[u8; 64], used: usize) -> Result<usize>
     requires { used ≤ 64 }
     ensures room { IfOk result (λ left. left ≤ 54) }
-    ensures handed { IfOk result (λ left. IfKnown (W.written sink.old) (W.written sink.new)
-        (Hands W.appends (take used bytes.now) [] (take left bytes.now))) }
-    ensures refused { IfErr result (λ error. (error.kind ≡ ErrorKind.DeviceFailed)
-        ⊎ DeclinesAny W.refuses error.kind) }
-    ensures failed { IfErr result (λ error. error.kind ≡ ErrorKind.DeviceFailed →
-        Fails (W.failures sink.old) (W.failures sink.new)) }
-    ensures grows { Grows W.written W.failures W.same sink.old sink.new }
+    ensures hands { HandsOn W.Write sink.old sink.new (λ left.
+        IfKnown (W.written sink.old) (W.written sink.new)
+        (Hands W.appends (take used bytes.now) [] (take left bytes.now))) result }
 {
     if used <= 54 {
         return Ok(used);
@@ -37,13 +32,9 @@ pub(crate) fn make_room<W: Write>(sink: &mut W, bytes: &[u8; 64], used: usize) -
 #[inline(always)]
 pub(crate) fn flush<W: Write>(sink: &mut W, bytes: &[u8; 64], used: usize) -> Result<()>
     requires { used ≤ 64 }
-    ensures handed { OnOk result (IfKnown (W.written sink.old) (W.written sink.new)
-        (Hands W.appends (take used bytes.now) [] [])) }
-    ensures refused { IfErr result (λ error. (error.kind ≡ ErrorKind.DeviceFailed)
-        ⊎ DeclinesAny W.refuses error.kind) }
-    ensures failed { IfErr result (λ error. error.kind ≡ ErrorKind.DeviceFailed →
-        Fails (W.failures sink.old) (W.failures sink.new)) }
-    ensures grows { Grows W.written W.failures W.same sink.old sink.new }
+    ensures { HandsOn W.Write sink.old sink.new (λ _.
+        IfKnown (W.written sink.old) (W.written sink.new)
+        (Hands W.appends (take used bytes.now) [] [])) result }
 {
     if used == 0 {
         return Ok(());

@@ -7,6 +7,7 @@ ghost use Rattle.capnp_frame.specs.declared.error.ErrorKind.{ErrorKind};
 ghost use Rattle.capnp_frame.specs.Message.{IsWholeWords};
 ghost use Rattle.capnp_frame.specs.Source.{IfKnown, IsRefused, AnswersPart, RunsShort};
 ghost use Rattle.capnp_frame.specs.Asking.{Asked, FailsOr};
+ghost use Rattle.capnp_pack.specs.Calls.{Takes, TakesNext};
 ghost use Rattle.capnp_pack.specs.PackedSource.{Unpacks, MeetsFault, RefusesPiece};
 ghost use Rattle.capnp_pack.specs.Steps.{TakesGroups, GroupAt, FaultBehind, MarkedAt, marked_count, Lacks, RunAt, RefusesRun};
 
@@ -46,15 +47,9 @@ pub(crate) fn read_piece<R: BufRead>(source: &mut R, buffer: &mut [u8]) -> Resul
 // whole the next one, and answers how many bytes they have, or none at the end.
 fn read_groups<R: BufRead>(source: &mut R, buffer: &mut [u8]) -> Result<Option<usize>>
     requires { 8 ≤ length buffer.old }
-    ensures found { IfOk result (λ found. IfSome found
-        (TakesGroups (R.unread source.old) (R.unread source.new) buffer.new)) }
-    ensures none { IfOk result (λ found. IfNone found
-        (IfSome (R.unread source.old) (λ raw. raw ≡ []))) }
-    ensures refused { FailsOr result
-        (IsRefused MeetsFault (length buffer.new) (R.unread source.old)) }
-    ensures at_end { IfErr result (λ error. R.unread source.old ≡ Some [] →
-        error.kind ≡ ErrorKind.DeviceFailed) }
-    ensures asked { Asked R.unread R.failures R.same source.old source.new result }
+    ensures { TakesNext R.Read source.old source.new
+        (TakesGroups (R.unread source.old) (R.unread source.new) buffer.new)
+        (IsRefused MeetsFault (length buffer.new) (R.unread source.old)) result }
 {
     let taken = unpack_shown(source.fill_buf()?, buffer);
     if taken.filled == 0 {
@@ -68,15 +63,9 @@ fn read_groups<R: BufRead>(source: &mut R, buffer: &mut [u8]) -> Result<Option<u
 // at the end. One byte is looked at at a time.
 fn read_group<R: BufRead>(source: &mut R, buffer: &mut [u8]) -> Result<Option<usize>>
     requires { 8 ≤ length buffer.old }
-    ensures found { IfOk result (λ found. IfSome found
-        (TakesGroups (R.unread source.old) (R.unread source.new) buffer.new)) }
-    ensures none { IfOk result (λ found. IfNone found
-        (IfSome (R.unread source.old) (λ raw. raw ≡ []))) }
-    ensures refused { FailsOr result
-        (IsRefused MeetsFault (length buffer.new) (R.unread source.old)) }
-    ensures at_end { IfErr result (λ error. R.unread source.old ≡ Some [] →
-        error.kind ≡ ErrorKind.DeviceFailed) }
-    ensures asked { Asked R.unread R.failures R.same source.old source.new result }
+    ensures { TakesNext R.Read source.old source.new
+        (TakesGroups (R.unread source.old) (R.unread source.new) buffer.new)
+        (IsRefused MeetsFault (length buffer.new) (R.unread source.old)) result }
 {
     let Some(tag) = next_byte(source)? else {
         return Ok(None);
@@ -93,11 +82,9 @@ fn read_zeros<R: BufRead>(source: &mut R, buffer: &mut [u8]) -> Result<usize>
     requires room { 8 ≤ length buffer.old }
     ensures within { IfOk result (λ count. (0 < count) × (count ≤ length buffer.new)
         × (count % 8 ≡ 0)) }
-    ensures found { IfOk result (λ count. IfKnown (R.unread source.old) (R.unread source.new)
-        (GroupAt 0 (take count buffer.new))) }
-    ensures refused { FailsOr result
-        (IsRefused (FaultBehind 0) (length buffer.new) (R.unread source.old)) }
-    ensures asked { Asked R.unread R.failures R.same source.old source.new result }
+    ensures takes { Takes R.Read source.old source.new (λ count.
+        IfKnown (R.unread source.old) (R.unread source.new) (GroupAt 0 (take count buffer.new)))
+        (IsRefused (FaultBehind 0) (length buffer.new) (R.unread source.old)) result }
 {
     let Some(further) = next_byte(source)? else {
         return Err(Error::from_kind(ErrorKind::PrematureEndOfPackedInput));
@@ -116,11 +103,9 @@ fn read_words<R: BufRead>(source: &mut R, tag: u8, buffer: &mut [u8]) -> Result<
     requires room { 8 ≤ length buffer.old }
     ensures within { IfOk result (λ count. (0 < count) × (count ≤ length buffer.new)
         × (count % 8 ≡ 0)) }
-    ensures found { IfOk result (λ count. IfKnown (R.unread source.old) (R.unread source.new)
-        (GroupAt tag (take count buffer.new))) }
-    ensures refused { FailsOr result
-        (IsRefused (FaultBehind tag) (length buffer.new) (R.unread source.old)) }
-    ensures asked { Asked R.unread R.failures R.same source.old source.new result }
+    ensures takes { Takes R.Read source.old source.new (λ count.
+        IfKnown (R.unread source.old) (R.unread source.new) (GroupAt tag (take count buffer.new)))
+        (IsRefused (FaultBehind tag) (length buffer.new) (R.unread source.old)) result }
 {
     read_word(source, tag, &mut buffer[..8])?;
     if tag < 255 {
@@ -133,11 +118,9 @@ fn read_words<R: BufRead>(source: &mut R, tag: u8, buffer: &mut [u8]) -> Result<
 // Fills a word by the bytes that a tag marks, at once where they are shown.
 fn read_word<R: BufRead>(source: &mut R, tag: u8, word: &mut [u8]) -> Result<()>
     requires { length word.old ≡ 8 }
-    ensures found { OnOk result (IfKnown (R.unread source.old) (R.unread source.new)
-        (MarkedAt tag word.new)) }
-    ensures refused { FailsOr result
-        (Lacks (marked_count tag (length word.new)) (R.unread source.old)) }
-    ensures asked { Asked R.unread R.failures R.same source.old source.new result }
+    ensures { Takes R.Read source.old source.new (λ _.
+        IfKnown (R.unread source.old) (R.unread source.new) (MarkedAt tag word.new))
+        (Lacks (marked_count tag (length word.new)) (R.unread source.old)) result }
 {
     let shown = source.fill_buf()?;
     if shown.len() < 8 {
@@ -150,11 +133,9 @@ fn read_word<R: BufRead>(source: &mut R, tag: u8, word: &mut [u8]) -> Result<()>
 
 // The same byte by byte, with a look at the source for each.
 fn read_marked<R: BufRead>(source: &mut R, tag: u8, word: &mut [u8]) -> Result<()>
-    ensures found { OnOk result (IfKnown (R.unread source.old) (R.unread source.new)
-        (MarkedAt tag word.new)) }
-    ensures refused { FailsOr result
-        (Lacks (marked_count tag (length word.new)) (R.unread source.old)) }
-    ensures asked { Asked R.unread R.failures R.same source.old source.new result }
+    ensures { Takes R.Read source.old source.new (λ _.
+        IfKnown (R.unread source.old) (R.unread source.new) (MarkedAt tag word.new))
+        (Lacks (marked_count tag (length word.new)) (R.unread source.old)) result }
 {
     let mut bits = tag;
     for byte in word.iter_mut() {
@@ -166,10 +147,9 @@ fn read_marked<R: BufRead>(source: &mut R, tag: u8, word: &mut [u8]) -> Result<(
 
 // Reads a byte where the lowest of the bits marks it, else answers zero.
 fn read_byte<R: BufRead>(source: &mut R, bits: u8) -> Result<u8>
-    ensures found { IfOk result (λ byte. IfKnown (R.unread source.old) (R.unread source.new)
-        (MarkedAt bits (byte ∷ []))) }
-    ensures refused { FailsOr result (Lacks (marked_count bits 1) (R.unread source.old)) }
-    ensures asked { Asked R.unread R.failures R.same source.old source.new result }
+    ensures { Takes R.Read source.old source.new (λ byte.
+        IfKnown (R.unread source.old) (R.unread source.new) (MarkedAt bits (byte ∷ [])))
+        (Lacks (marked_count bits 1) (R.unread source.old)) result }
 {
     if bits % 2 == 0 {
         return Ok(0);
@@ -180,11 +160,9 @@ fn read_byte<R: BufRead>(source: &mut R, bits: u8) -> Result<u8>
 // Reads the words after the first of a literal group, and answers how many bytes they have.
 fn read_run<R: BufRead>(source: &mut R, buffer: &mut [u8]) -> Result<usize>
     ensures within { IfOk result (λ count. (count ≤ length buffer.new) × (count % 8 ≡ 0)) }
-    ensures found { IfOk result (λ count. IfKnown (R.unread source.old) (R.unread source.new)
-        (RunAt (take count buffer.new))) }
-    ensures refused { FailsOr result
-        (IsRefused RefusesRun (length buffer.new) (R.unread source.old)) }
-    ensures asked { Asked R.unread R.failures R.same source.old source.new result }
+    ensures takes { Takes R.Read source.old source.new (λ count.
+        IfKnown (R.unread source.old) (R.unread source.new) (RunAt (take count buffer.new)))
+        (IsRefused RefusesRun (length buffer.new) (R.unread source.old)) result }
 {
     let further = required_byte(source)?;
     let count = 8 * further as usize;
@@ -198,11 +176,9 @@ fn read_run<R: BufRead>(source: &mut R, buffer: &mut [u8]) -> Result<usize>
 // Fills the buffer by the bytes as they stand: what is shown is copied, and the rest is read by one
 // request.
 fn read_stored<R: BufRead>(source: &mut R, buffer: &mut [u8]) -> Result<()>
-    ensures found { OnOk result (IfKnown (R.unread source.old) (R.unread source.new)
-        (λ raw left. raw ≡ buffer.new ++ left)) }
-    ensures refused { FailsOr result
-        (IsRefused RunsShort (length buffer.new) (R.unread source.old)) }
-    ensures asked { Asked R.unread R.failures R.same source.old source.new result }
+    ensures { Takes R.Read source.old source.new (λ _.
+        IfKnown (R.unread source.old) (R.unread source.new) (λ raw left. raw ≡ buffer.new ++ left))
+        (IsRefused RunsShort (length buffer.new) (R.unread source.old)) result }
 {
     if buffer.is_empty() {
         return Ok(());
@@ -232,10 +208,9 @@ fn copy_shown<R: BufRead>(source: &mut R, buffer: &mut [u8]) -> Result<usize>
 
 // Takes the next byte of a group.
 fn required_byte<R: BufRead>(source: &mut R) -> Result<u8>
-    ensures found { IfOk result (λ byte.
-        IfKnown (R.unread source.old) (R.unread source.new) (λ raw left. raw ≡ byte ∷ left)) }
-    ensures refused { FailsOr result (Lacks 1 (R.unread source.old)) }
-    ensures asked { Asked R.unread R.failures R.same source.old source.new result }
+    ensures { Takes R.Read source.old source.new (λ byte.
+        IfKnown (R.unread source.old) (R.unread source.new) (λ raw left. raw ≡ byte ∷ left))
+        (Lacks 1 (R.unread source.old)) result }
 {
     match next_byte(source)? {
         Some(byte) => Ok(byte),

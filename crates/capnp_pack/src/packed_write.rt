@@ -7,6 +7,8 @@ ghost use Rattle.capnp_frame.specs.declared.error.ErrorKind.{ErrorKind};
 ghost use Rattle.capnp_frame.specs.Message.{IsWholeWords};
 ghost use Rattle.capnp_frame.specs.Source.{IfKnown, Fails};
 ghost use Rattle.capnp_frame.specs.Sink.{DeclinesAny, Adds, Grows};
+ghost use Rattle.capnp_frame.specs.Writers.{WritesTo};
+ghost use Rattle.capnp_pack.specs.Calls.{HandsOn};
 ghost use Rattle.capnp_pack.specs.Group.{Group, group_text};
 ghost use Rattle.capnp_pack.specs.PackedSink.{AppendsPacked, DeclinesPacked};
 ghost use Rattle.capnp_pack.specs.Steps.{IsRun, IsZero, HasFewZeros, Hands, IsGroupOf};
@@ -92,13 +94,8 @@ struct Packed {
 // Hands on the packed words of a piece.
 fn pack<W: Write>(sink: &mut W, piece: &[u8]) -> Result<()>
     requires { IsWholeWords piece.now }
-    ensures added { OnOk result (IfKnown (W.written sink.old) (W.written sink.new)
-        (Adds (AppendsPacked W.appends piece.now))) }
-    ensures refused { IfErr result (λ error. (error.kind ≡ ErrorKind.DeviceFailed)
-        ⊎ DeclinesAny W.refuses error.kind) }
-    ensures failed { IfErr result (λ error. error.kind ≡ ErrorKind.DeviceFailed →
-        Fails (W.failures sink.old) (W.failures sink.new)) }
-    ensures grows { Grows W.written W.failures W.same sink.old sink.new }
+    ensures { WritesTo W.Write sink.old sink.new (AppendsPacked W.appends piece.now)
+        (DeclinesAny W.refuses) result }
 {
     let (words, _) = piece.as_chunks::<8>();
     let mut bytes = [0; 64];
@@ -123,15 +120,11 @@ fn pack_group<W: Write>(
 ) -> Result<Packed>
     requires { used ≤ 64 }
     ensures used { IfOk result (λ packed. packed.used ≤ 64) }
-    ensures group { IfOk result (λ packed. (group : Group)
+    ensures hands { HandsOn W.Write sink.old sink.new (λ packed. (group : Group)
         × IsGroupOf word.now others.now packed.words group
         × IfKnown (W.written sink.old) (W.written sink.new)
-        (Hands W.appends (take used bytes.old) (group_text group) (take packed.used bytes.new))) }
-    ensures refused { IfErr result (λ error. (error.kind ≡ ErrorKind.DeviceFailed)
-        ⊎ DeclinesAny W.refuses error.kind) }
-    ensures failed { IfErr result (λ error. error.kind ≡ ErrorKind.DeviceFailed →
-        Fails (W.failures sink.old) (W.failures sink.new)) }
-    ensures grows { Grows W.written W.failures W.same sink.old sink.new }
+        (Hands W.appends (take used bytes.old) (group_text group)
+        (take packed.used bytes.new))) result }
 {
     let start = make_room(sink, bytes, used)?;
     let tag = tag(word);
@@ -171,14 +164,10 @@ fn pack_literal<W: Write>(
     requires { end < 64 }
     ensures used { IfOk result (λ packed. packed.used ≤ 64) }
     ensures run { IfOk result (λ packed. IsRun HasFewZeros others.now packed.words) }
-    ensures handed { IfOk result (λ packed. IfKnown (W.written sink.old) (W.written sink.new)
-        (Hands W.appends (take end bytes.old)
-        (packed.words ∷ concat (take packed.words others.now)) (take packed.used bytes.new))) }
-    ensures refused { IfErr result (λ error. (error.kind ≡ ErrorKind.DeviceFailed)
-        ⊎ DeclinesAny W.refuses error.kind) }
-    ensures failed { IfErr result (λ error. error.kind ≡ ErrorKind.DeviceFailed →
-        Fails (W.failures sink.old) (W.failures sink.new)) }
-    ensures grows { Grows W.written W.failures W.same sink.old sink.new }
+    ensures hands { HandsOn W.Write sink.old sink.new (λ packed.
+        IfKnown (W.written sink.old) (W.written sink.new) (Hands W.appends (take end bytes.old)
+        (packed.words ∷ concat (take packed.words others.now))
+        (take packed.used bytes.new))) result }
 {
     let words = literal_run(others);
     let used = push(bytes, end, words as u8);

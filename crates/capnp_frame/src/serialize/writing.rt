@@ -1,13 +1,11 @@
 //! Writing messages to a sink.
-ghost use Rattle.std.specs.Prelude.{◌≡◌, ℕ, ◌+◌, ◌*◌, ◌<◌, ◌≤◌, ◌^◌, ◌↔◌, ◌⊎◌, length, take, drop, replicate, sum, ◌++◌, slice_get, Some, IfSome, IfNone, IfOk, OnOk, IfErr};
+ghost use Rattle.std.specs.Prelude.{◌≡◌, ◌+◌, ◌<◌, ◌≤◌, ◌^◌, length, take, drop, replicate, ◌++◌, slice_get, Some, IfSome, IfNone};
 ghost use Rattle.std.specs.List.{AllByRecursion};
 ghost use Rattle.capnp_frame.specs.Message.{IsWholeWords, lengths};
 ghost use Rattle.capnp_frame.specs.SegmentTable.{field, zero_padded_table, table_size};
-ghost use Rattle.capnp_frame.specs.Frame.{frame_text};
-ghost use Rattle.capnp_frame.specs.Writing.{IsWritable, word_and_rest, table_pieces, pieces, serialized_words};
-ghost use Rattle.capnp_frame.specs.Errors.{IsRefusedBy};
-ghost use Rattle.capnp_frame.specs.Source.{IfKnown, Fails};
-ghost use Rattle.capnp_frame.specs.Sink.{Adds, AppendsAll, DeclinesSome, Grows};
+ghost use Rattle.capnp_frame.specs.Writing.{IsWritable, word_and_rest, table_pieces, pieces};
+ghost use Rattle.capnp_frame.specs.Sink.{AppendsAll, DeclinesSome};
+ghost use Rattle.capnp_frame.specs.Writers.{WritesTo, WritesPieces, LacksTable, ReturnsText, CountsWords};
 
 use crate::error::{Error, ErrorKind, Result};
 use crate::io::Write;
@@ -25,18 +23,8 @@ pub fn write_segments<W: Write, S: ReaderSegments>(
     segments: &S,
 ) -> Result<()>
     requires { IsWritable (S.segments segments.now) }
-    ensures written { OnOk result (IfKnown (W.written sink.old) (W.written sink.new)
-        (Adds (AppendsAll W.appends (pieces (S.segments segments.now))))) }
-    ensures refused { IfErr result (λ error. (error.kind ≡ ErrorKind.DeviceFailed)
-        ⊎ DeclinesSome W.refuses (pieces (S.segments segments.now)) error.kind
-        ⊎ (4 ≤ length (S.segments segments.now)) × (error.kind ≡ ErrorKind.OutOfMemory)) }
-    // A refusal that isn't the sink's leaves the sink as it was.
-    ensures untouched { IfErr result (λ error. (error.kind ≡ ErrorKind.DeviceFailed)
-        ⊎ DeclinesSome W.refuses (pieces (S.segments segments.now)) error.kind
-        ⊎ (sink.new ≡ sink.old)) }
-    ensures failed { IfErr result (λ error. error.kind ≡ ErrorKind.DeviceFailed →
-        Fails (W.failures sink.old) (W.failures sink.new)) }
-    ensures grows { Grows W.written W.failures W.same sink.old sink.new }
+    ensures { WritesPieces W.Write sink.old sink.new (pieces (S.segments segments.now))
+        (LacksTable (S.segments segments.now)) result }
 {
     write_table(alloc, sink, segments)?;
     write_each(sink, segments)
@@ -46,11 +34,7 @@ pub fn write_segments<W: Write, S: ReaderSegments>(
 /// its bytes does not fit `usize`.
 pub fn segments_to_words<S: ReaderSegments>(alloc: Global, segments: &S) -> Result<Vec<u8>>
     requires { IsWritable (S.segments segments.now) }
-    ensures text { IfOk result (λ text. text.items ≡ frame_text (S.segments segments.now)) }
-    ensures overflow { IsRefusedBy result ErrorKind.MessageSizeOverflow
-        ↔ (2 ^ 64 ≤ 8 * serialized_words (S.segments segments.now)) }
-    ensures kinds { IfErr result (λ error. (error.kind ≡ ErrorKind.OutOfMemory)
-        ⊎ (error.kind ≡ ErrorKind.MessageSizeOverflow)) }
+    ensures { ReturnsText (S.segments segments.now) (λ text. text.items) result }
 {
     let words = serialized_size_in_words(segments)?;
     let Some(length) = words.checked_mul(8) else {
@@ -65,10 +49,7 @@ pub fn segments_to_words<S: ReaderSegments>(alloc: Global, segments: &S) -> Resu
 pub fn serialized_size_in_words<S: ReaderSegments>(segments: &S) -> Result<usize>
     requires few { length (S.segments segments.now) < 2 ^ 32 }
     requires whole { AllByRecursion IsWholeWords (S.segments segments.now) }
-    ensures size { IfOk result (λ words. words ≡ serialized_words (S.segments segments.now)) }
-    ensures overflow { IsRefusedBy result ErrorKind.MessageSizeOverflow
-        ↔ (2 ^ 64 ≤ serialized_words (S.segments segments.now)) }
-    ensures kinds { IfErr result (λ error. error.kind ≡ ErrorKind.MessageSizeOverflow) }
+    ensures { CountsWords (S.segments segments.now) result }
 {
     let mut words = segments.len() / 2 + 1;
     let mut index = 0;
@@ -85,17 +66,8 @@ pub fn serialized_size_in_words<S: ReaderSegments>(segments: &S) -> Result<usize
 // Writes the table, with memory for it from four segments on.
 fn write_table<W: Write, S: ReaderSegments>(alloc: Global, sink: &mut W, segments: &S) -> Result<()>
     requires { IsWritable (S.segments segments.now) }
-    ensures written { OnOk result (IfKnown (W.written sink.old) (W.written sink.new)
-        (Adds (AppendsAll W.appends (table_pieces (lengths (S.segments segments.now)))))) }
-    ensures refused { IfErr result (λ error. (error.kind ≡ ErrorKind.DeviceFailed)
-        ⊎ DeclinesSome W.refuses (table_pieces (lengths (S.segments segments.now))) error.kind
-        ⊎ (4 ≤ length (S.segments segments.now)) × (error.kind ≡ ErrorKind.OutOfMemory)) }
-    ensures untouched { IfErr result (λ error. (error.kind ≡ ErrorKind.DeviceFailed)
-        ⊎ DeclinesSome W.refuses (table_pieces (lengths (S.segments segments.now))) error.kind
-        ⊎ (sink.new ≡ sink.old)) }
-    ensures failed { IfErr result (λ error. error.kind ≡ ErrorKind.DeviceFailed →
-        Fails (W.failures sink.old) (W.failures sink.new)) }
-    ensures grows { Grows W.written W.failures W.same sink.old sink.new }
+    ensures { WritesPieces W.Write sink.old sink.new (table_pieces (lengths (S.segments segments.now)))
+        (LacksTable (S.segments segments.now)) result }
 {
     let count = segments.len();
     if count < 4 {
@@ -112,13 +84,8 @@ fn write_table<W: Write, S: ReaderSegments>(alloc: Global, sink: &mut W, segment
 // Writes the first word of a table, and where it has more the others.
 fn write_in_parts<W: Write>(sink: &mut W, table: &[u8]) -> Result<()>
     requires { 8 ≤ length table.now }
-    ensures written { OnOk result (IfKnown (W.written sink.old) (W.written sink.new)
-        (Adds (AppendsAll W.appends (word_and_rest table.now)))) }
-    ensures refused { IfErr result (λ error. (error.kind ≡ ErrorKind.DeviceFailed)
-        ⊎ DeclinesSome W.refuses (word_and_rest table.now) error.kind) }
-    ensures failed { IfErr result (λ error. error.kind ≡ ErrorKind.DeviceFailed →
-        Fails (W.failures sink.old) (W.failures sink.new)) }
-    ensures grows { Grows W.written W.failures W.same sink.old sink.new }
+    ensures { WritesTo W.Write sink.old sink.new (AppendsAll W.appends (word_and_rest table.now))
+        (DeclinesSome W.refuses (word_and_rest table.now)) result }
 {
     sink.write_all(&table[..8])?;
     if table.len() > 8 {
@@ -130,13 +97,8 @@ fn write_in_parts<W: Write>(sink: &mut W, table: &[u8]) -> Result<()>
 // Writes each segment as a piece.
 fn write_each<W: Write, S: ReaderSegments>(sink: &mut W, segments: &S) -> Result<()>
     requires { length (S.segments segments.now) < 2 ^ 32 }
-    ensures written { OnOk result (IfKnown (W.written sink.old) (W.written sink.new)
-        (Adds (AppendsAll W.appends (S.segments segments.now)))) }
-    ensures refused { IfErr result (λ error. (error.kind ≡ ErrorKind.DeviceFailed)
-        ⊎ DeclinesSome W.refuses (S.segments segments.now) error.kind) }
-    ensures failed { IfErr result (λ error. error.kind ≡ ErrorKind.DeviceFailed →
-        Fails (W.failures sink.old) (W.failures sink.new)) }
-    ensures grows { Grows W.written W.failures W.same sink.old sink.new }
+    ensures { WritesTo W.Write sink.old sink.new (AppendsAll W.appends (S.segments segments.now))
+        (DeclinesSome W.refuses (S.segments segments.now)) result }
 {
     let mut index = 0;
     while let Some(segment) = segment_at(segments, index) {

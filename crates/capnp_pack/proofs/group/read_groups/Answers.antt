@@ -3,15 +3,12 @@ use Rattle.std.proofs.Common.{rules, arith, ◌<◌}
 use Rattle.capnp_pack.proofs.UnpackedLemmas.{shown_takes, shown_some}
 use Rattle.capnp_pack.proofs.group.read_groups.Goals as goal
 
-pub returns-clause-found : goal.returns-clause-found
-returns-clause-found g c =
+pub returns : goal.returns
+returns g c =
     let taken = c.unpack_shown-taken.result in
     let buffer = c.unpack_shown-taken.new.buffer in
     let is = c.unpack_shown-taken.ensures in
-    let some : 0 < taken.filled = omega arith in (
-      some,
-      is.filled_within,
-      is.whole,
-      shown_some taken.used taken.filled c.in_ok-fill_buf.field-0.now buffer _ c.in_ok-fill_buf.ensures.front is some,
-      shown_takes taken.used taken.filled c.in_ok-fill_buf.field-0.now buffer _ _ _ c.in_ok-fill_buf.ensures.front (search rules) c.consume.ensures.taken is,
-    )
+    let some : 0 < taken.filled = omega arith in
+    let shown = shown_some taken.used taken.filled c.in_ok-fill_buf.field-0.now buffer _ c.in_ok-fill_buf.ensures.front is some in
+    let takes = shown_takes taken.used taken.filled c.in_ok-fill_buf.field-0.now buffer _ _ _ c.in_ok-fill_buf.ensures.front (search rules) c.consume.ensures.taken is in
+    record { found = (some, is.filled_within, is.whole, shown, takes); none = tt; refused = tt; at_end = tt; asked = search rules }

@@ -2,17 +2,15 @@
 use Rattle.std.proofs.Common.{rules, take}
 use Rattle.std.proofs.lemmas.List.{length-take-le, take_all, take_more_set}
 use Rattle.capnp_frame.proofs.SourceLemmas.{Advances-join}
-use Rattle.capnp_frame.proofs.AskLemmas.{passed_on, Asked-err}
+use Rattle.capnp_pack.proofs.CallLemmas.{takes_err}
 use Rattle.capnp_pack.proofs.WordLemmas.{marks_more, marks_all, marks_lacking}
 use Rattle.capnp_pack.proofs.group.read_marked.Goals as goal
 
-pub returns-in_err-byte-clause-refused : goal.returns-in_err-byte-clause-refused
-returns-in_err-byte-clause-refused g c =
-    passed_on _ _ c.from_residual.ensures.1
+pub returns-in_err-byte : goal.returns-in_err-byte
+returns-in_err-byte g c =
+    takes_err g.R.Read g.met.R.Read.keeps _ _ _ _ _ _ _ c.from_residual.ensures.1
     (marks_lacking _ c.args.tag c.loop-byte.bits _ (take c.loop-byte.byte-index c.loop-byte.word) _ _ _ (search (rules, length-take-le)) c.loop-byte.invariant.0 c.in_err-byte.ensures.refused)
-
-pub returns-in_err-byte-clause-asked : goal.returns-in_err-byte-clause-asked
-returns-in_err-byte-clause-asked g c = Asked-err (g.met.R.Read.keeps.transitive _ _ _) c.from_residual.ensures.1 c.loop-byte.invariant.1 c.in_err-byte.ensures.asked
+    c.loop-byte.invariant.1 c.in_err-byte.ensures.asked
 
 pub loop-byte-preserved : goal.loop-byte-preserved
 loop-byte-preserved g c = (
@@ -21,7 +19,11 @@ loop-byte-preserved g c = (
   Advances-join _ _ _ (g.met.R.Read.keeps.transitive _ _ _) c.loop-byte.invariant.1 c.read_byte.ensures.asked.advances,
 )
 
-pub returns-clause-found : goal.returns-clause-found
-returns-clause-found g c =
-    marks_all c.args.tag c.loop-byte.bits (take c.loop-byte.byte-index c.loop-byte.word) c.loop-byte.word _ _
-    (take_all c.loop-byte.byte-index c.loop-byte.word (search rules)) c.loop-byte.invariant.0
+pub returns : goal.returns
+returns g c =
+    record {
+      found = marks_all c.args.tag c.loop-byte.bits (take c.loop-byte.byte-index c.loop-byte.word) c.loop-byte.word _ _
+          (take_all c.loop-byte.byte-index c.loop-byte.word (search rules)) c.loop-byte.invariant.0;
+      refused = tt;
+      asked = record { failed = tt; advances = c.loop-byte.invariant.1 };
+    }

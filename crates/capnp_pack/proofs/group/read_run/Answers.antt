@@ -1,24 +1,25 @@
 -- The run is a request of so many bytes, after its count.
-use Rattle.std.proofs.Common.{rules, inr}
-use Rattle.capnp_frame.proofs.AskLemmas.{passed_on, Asked-ok, Asked-err}
+use Rattle.std.proofs.Common.{rules, arith}
+use Rattle.std.proofs.lemmas.Grind.{common_steps}
+use Rattle.capnp_pack.proofs.CallLemmas.{takes_passed, takes_err, takes_own, takes_ok}
 use Rattle.capnp_pack.proofs.RunFaults.{count_missing, count_large, run_short}
 use Rattle.capnp_pack.proofs.group.read_run.Goals as goal
 
-pub returns-in_err-further-clause-refused : goal.returns-in_err-further-clause-refused
-returns-in_err-further-clause-refused g c =
-    passed_on _ _ c.from_residual.ensures.1 (count_missing _ _ _ _ c.in_err-further.ensures.refused)
+pub returns-in_err-further-clause-takes : goal.returns-in_err-further-clause-takes
+returns-in_err-further-clause-takes g c =
+    takes_passed g.R.Read _ _ _ _ _ _ c.from_residual.ensures.1 (count_missing _ _ _ _ c.in_err-further.ensures.refused) c.in_err-further.ensures.asked
 
-pub returns-then-count-buffer-clause-refused : goal.returns-then-count-buffer-clause-refused
-returns-then-count-buffer-clause-refused g c = rw c.from_kind.ensures (inr (count_large _ c.in_ok-further.further _ _ (search rules) (search rules) c.in_ok-further.ensures.found))
+pub returns-then-count-buffer-clause-takes : goal.returns-then-count-buffer-clause-takes
+returns-then-count-buffer-clause-takes g c =
+    takes_own g.R.Read _ _ _ _ _ _ c.from_kind.ensures (λ device. cc)
+    (count_large _ c.in_ok-further.further _ _ (search rules) (search rules) c.in_ok-further.ensures.found) c.required_byte.ensures.asked.advances
 
-pub returns-in_err-read_stored-clause-refused : goal.returns-in_err-read_stored-clause-refused
-returns-in_err-read_stored-clause-refused g c =
-    passed_on _ _ c.from_residual-in_err-read_stored.ensures.1
+pub returns-in_err-read_stored-clause-takes : goal.returns-in_err-read_stored-clause-takes
+returns-in_err-read_stored-clause-takes g c =
+    takes_err g.R.Read g.met.R.Read.keeps _ _ _ _ _ _ _ c.from_residual-in_err-read_stored.ensures.1
     (run_short _ _ c.in_ok-further.further _ _ _ _ (search rules) (search rules) (search rules) c.in_ok-further.ensures.found c.in_err-read_stored.ensures.refused)
+    c.required_byte.ensures.asked.advances c.in_err-read_stored.ensures.asked
 
-pub returns-in_err-read_stored-clause-asked : goal.returns-in_err-read_stored-clause-asked
-returns-in_err-read_stored-clause-asked g c =
-    Asked-err (g.met.R.Read.keeps.transitive _ _ _) c.from_residual-in_err-read_stored.ensures.1 c.required_byte.ensures.asked.advances c.in_err-read_stored.ensures.asked
-
-pub returns-clause-asked : goal.returns-clause-asked
-returns-clause-asked g c = Asked-ok (g.met.R.Read.keeps.transitive _ _ _) c.required_byte.ensures.asked.advances c.read_stored.ensures.asked.advances
+pub returns-clause-takes : goal.returns-clause-takes
+returns-clause-takes g c =
+    takes_ok g.R.Read g.met.R.Read.keeps _ _ _ _ _ _ (grind (arith, common_steps)) c.required_byte.ensures.asked.advances c.read_stored.ensures.asked.advances

@@ -3,7 +3,7 @@ use Rattle.std.proofs.Common.{arith, ◌+◌, ◌/◌, ◌≡◌, length, drop, 
 use Rattle.std.proofs.lemmas.List.{take_all}
 use Rattle.std.specs.List.{concat}
 use Rattle.capnp_frame.proofs.SourceLemmas.{Grows-join}
-use Rattle.capnp_pack.proofs.HandingLemmas.{on_ok_weaker}
+use Rattle.capnp_pack.proofs.CallLemmas.{hands_last}
 use Rattle.capnp_pack.proofs.PackingLemmas.{packed_more, packed_all}
 use Rattle.capnp_pack.proofs.Chunks.{chunks_whole}
 use Rattle.capnp_pack.proofs.packed_write.pack.Goals as goal
@@ -17,20 +17,20 @@ loop-done-preserved g c =
     let all : others ≡ drop (done + 1) words = take_all (length words - (done + 1)) (drop (done + 1) words) (omega (arith, length-drop (done + 1) words)) in
     let front : drop done words ≡ get_or words done [] ∷ others = drop-cons words done [] within
     ∙ ap (λ k. get_or words done [] ∷ drop k words) (sym (add-one done)) ∙ ap (λ l. get_or words done [] ∷ l) (sym all) in
-    let rest = c.in_ok-packed.ensures.group.1.within in
-    let more = packed_more g.W.Write.appends words done c.in_ok-packed.packed.words (get_or words done []) others _ _ _ _ _ front all c.loop-done.invariant.2 c.in_ok-packed.ensures.group in (
+    let rest = c.in_ok-packed.ensures.hands.handed.1.within in
+    let more = packed_more g.W.Write.appends words done c.in_ok-packed.packed.words (get_or words done []) others _ _ _ _ _ front all c.loop-done.invariant.2 c.in_ok-packed.ensures.hands.handed in (
       omega (arith, length-drop (done + 1) words, ap length all, rest),
       c.in_ok-packed.ensures.used,
       more,
-      Grows-join _ _ _ (g.met.W.Write.keeps.transitive _ _ _) c.loop-done.invariant.3 c.in_ok-packed.ensures.grows,
+      Grows-join _ _ _ (g.met.W.Write.keeps.transitive _ _ _) c.loop-done.invariant.3 c.in_ok-packed.ensures.hands.grows,
     )
 
-pub returns-clause-added : goal.returns-clause-added
-returns-clause-added g c =
+pub returns : goal.returns
+returns g c =
     let words = c.as_chunks.result.0.now in
     let piece = c.args.piece.now in
     let cut = chunks_whole (length piece / 8) piece (omega arith) in
     let whole : concat words ≡ piece = ap concat c.as_chunks.ensures.front ∙ cut.0 in
-    on_ok_weaker c.flush.result
+    hands_last g.W.Write g.met.W.Write.keeps _ _ _ _ _ c.flush.result
     (λ last. packed_all g.W.Write.appends piece words c.loop-done.done (take c.loop-done.used c.loop-done.bytes) [] _ _ _
-    whole c.loop-done-test.false refl c.loop-done.invariant.2 last) c.flush.ensures.handed
+    whole c.loop-done-test.false refl c.loop-done.invariant.2 last) c.loop-done.invariant.3 c.flush.ensures

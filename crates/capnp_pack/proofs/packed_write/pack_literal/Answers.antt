@@ -2,16 +2,24 @@
 use Rattle.std.proofs.Common.{rules, ◌≡◌, take, refl}
 use Rattle.std.proofs.lemmas.Result.{err_from_is_err_and}
 use Rattle.std.specs.List.{flat_map}
-use Rattle.capnp_pack.proofs.HandingLemmas.{IfKnown-literal, declines_any}
+use Rattle.capnp_frame.proofs.SourceLemmas.{Grows-join}
+use Rattle.capnp_pack.proofs.CallLemmas.{hands_err}
+use Rattle.capnp_pack.proofs.HandingLemmas.{IfKnown-literal}
 use Rattle.capnp_pack.proofs.packed_write.pack_literal.Goals as goal
 
-pub returns-clause-handed : goal.returns-clause-handed
-returns-clause-handed g c =
+pub returns-clause-hands : goal.returns-clause-hands
+returns-clause-hands g c =
     let flat : c.as_flattened.result.now ≡ flat_map (λ x. x) (take c.literal_run-words.result c.args.others.now) = search rules in
-    IfKnown-literal g.W.Write.appends _ _ _ _ _
-    (take c.literal_run-words.result c.args.others.now) _ _ _ c.push-used.ensures.added refl flat c.in_ok-flush.ensures.handed c.in_ok-write_all.ensures.added
+    record {
+      handed = IfKnown-literal g.W.Write.appends _ _ _ _ _
+          (take c.literal_run-words.result c.args.others.now) _ _ _ c.push-used.ensures.added refl flat c.in_ok-flush.ensures.handed c.in_ok-write_all.ensures.added;
+      refused = tt;
+      failed = tt;
+      grows = Grows-join _ _ _ (g.met.W.Write.keeps.transitive _ _ _) c.flush.ensures.grows c.write_all.ensures.grows;
+    }
 
-pub returns-in_err-write_all-clause-refused : goal.returns-in_err-write_all-clause-refused
-returns-in_err-write_all-clause-refused g c =
+pub returns-in_err-write_all-clause-hands : goal.returns-in_err-write_all-clause-hands
+returns-in_err-write_all-clause-hands g c =
     let p = err_from_is_err_and c.from_residual-in_err-write_all.result c.from_residual-in_err-write_all.ensures.1 in
-    rw (p.1, p.2) (declines_any _ g.W.Write.refuses _ _ c.in_err-write_all.ensures.refused)
+    let told = c.in_err-write_all.ensures in
+    rw (p.1, p.2) (hands_err g.W.Write g.met.W.Write.keeps _ _ _ _ _ _ told.refused told.failed c.flush.ensures.grows told.grows)

@@ -5,14 +5,18 @@ use Rattle.std.proofs.lemmas.List.{take_all}
 use Rattle.capnp_frame.proofs.WritingLemmas.{size-next, size_take_le, le_of_not_lt}
 use Rattle.capnp_frame.proofs.serialize.writing.serialized_size_in_words.Goals as goal
 
-pub returns-in_default-checked_add-clause-overflow : goal.returns-in_default-checked_add-clause-overflow
-returns-in_default-checked_add-clause-overflow g c =
+pub returns-in_default-checked_add : goal.returns-in_default-checked_add
+returns-in_default-checked_add g c =
     let segments = g.S.ReaderSegments.segments c.args.segments.now in
     let here = c.in-Some.ensures.here in
     let more = size-next segments c.loop-segment.index c.in-Some.segment.now here in
     let most = size_take_le segments (c.loop-segment.index + 1) in
     let past = rw c.in_default-checked_add.is at c.checked_add.ensures in
-    (λ _. le_of_not_lt _ _ (λ fits. past (omega arith)), λ _. c.from_kind.ensures)
+    record {
+      size = tt;
+      overflow = (λ _. le_of_not_lt _ _ (λ fits. past (omega arith)), λ _. c.from_kind.ensures);
+      kinds = c.from_kind.ensures;
+    }
 
 pub loop-segment-preserved : goal.loop-segment-preserved
 loop-segment-preserved g c =
@@ -26,17 +30,10 @@ loop-segment-preserved g c =
       words = rw (size-next segments c.loop-segment.index c.in-Some.segment.now here) (omega arith);
     }
 
-pub returns-clause-size : goal.returns-clause-size
-returns-clause-size g c =
-    let segments = g.S.ReaderSegments.segments c.args.segments.now in
-    let past = rw c.in_default.is at c.segment_at.ensures.end in
-    let all = take_all c.loop-segment.index segments past in
-    c.loop-segment.invariant.words ∙ ap (λ l. length segments / 2 + 1 + size_in_words l) all
-
-pub returns-clause-overflow : goal.returns-clause-overflow
-returns-clause-overflow g c =
+pub returns : goal.returns
+returns g c =
     let segments = g.S.ReaderSegments.segments c.args.segments.now in
     let past = rw c.in_default.is at c.segment_at.ensures.end in
     let all = take_all c.loop-segment.index segments past in
     let total : c.loop-segment.words ≡ length segments / 2 + 1 + size_in_words segments = c.loop-segment.invariant.words ∙ ap (λ l. length segments / 2 + 1 + size_in_words l) all in
-    (λ never. absurd never, λ over. omega arith)
+    record { size = total; overflow = (λ never. absurd never, λ over. omega arith); kinds = tt }

@@ -3,15 +3,18 @@ use Rattle.std.proofs.Common.{arith}
 use Rattle.std.proofs.lemmas.List.{take_all}
 use Rattle.std.proofs.lemmas.Result.{err_from_is_err_and}
 use Rattle.capnp_frame.proofs.SourceLemmas.{Grows-join}
-use Rattle.capnp_frame.proofs.WritingLemmas.{written_next, refused_at}
+use Rattle.capnp_frame.proofs.WritingLemmas.{written_next}
+use Rattle.capnp_frame.proofs.SinkLemmas.{stopped_at}
 use Rattle.capnp_frame.proofs.serialize.writing.write_each.Goals as goal
 
-pub returns-in_err-write_all-clause-refused : goal.returns-in_err-write_all-clause-refused
-returns-in_err-write_all-clause-refused g c =
+pub returns-in_err-write_all : goal.returns-in_err-write_all
+returns-in_err-write_all g c =
     let p = err_from_is_err_and c.from_residual.result c.from_residual.ensures.1 in
     let segments = g.S.ReaderSegments.segments c.args.segments.now in
+    let told = c.in_err-write_all.ensures in
     let here = c.in-Some.ensures.here in
-    rw (p.1, p.2) (refused_at g.W.Write.refuses segments c.loop-segment.index c.in-Some.segment.now _ here c.in_err-write_all.ensures.refused)
+    rw (p.1, p.2) (stopped_at g.W.Write g.met.W.Write.keeps _ _ _ segments c.loop-segment.index c.in-Some.segment.now _ here
+    c.loop-segment.invariant.grows told.refused told.failed told.grows)
 
 pub loop-segment-preserved : goal.loop-segment-preserved
 loop-segment-preserved g c =
@@ -24,9 +27,9 @@ loop-segment-preserved g c =
       grows = Grows-join _ _ _ (g.met.W.Write.keeps.transitive _ _ _) c.loop-segment.invariant.grows c.write_all.ensures.grows;
     }
 
-pub returns-clause-written : goal.returns-clause-written
-returns-clause-written g c =
+pub returns : goal.returns
+returns g c =
     let segments = g.S.ReaderSegments.segments c.args.segments.now in
     let past = rw c.in_default.is at c.segment_at.ensures.end in
     let all = take_all c.loop-segment.index segments past in
-    rw all at c.loop-segment.invariant.written
+    record { written = rw all at c.loop-segment.invariant.written; refused = tt; failed = tt; grows = c.loop-segment.invariant.grows }

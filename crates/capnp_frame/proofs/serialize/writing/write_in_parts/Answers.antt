@@ -1,19 +1,35 @@
 -- Two pieces exactly where there is more than a word.
-use Rattle.std.proofs.Common.{◌≡◌, ◌-◌, [], ◌∷◌, length, take, drop, arith}
+use Rattle.std.proofs.Common.{◌≡◌, ◌-◌, [], ◌∷◌, length, take, drop, arith, Err}
 use Rattle.std.proofs.lemmas.List.{take_all, length-drop}
-use Rattle.capnp_frame.proofs.WritingLemmas.{written_more, written_one, parts_one, parts_two}
+use Rattle.std.proofs.lemmas.Result.{err_from_is_err_and}
+use Rattle.capnp_frame.proofs.WritingLemmas.{written_one, parts_one, parts_two}
+use Rattle.capnp_frame.proofs.SinkLemmas.{writes_one, writes_after}
 use Rattle.capnp_frame.proofs.serialize.writing.write_in_parts.Goals as goal
 
-pub returns-in_ok-write_all-2-clause-written : goal.returns-in_ok-write_all-2-clause-written
-returns-in_ok-write_all-2-clause-written g c =
+pub returns-in_ok-write_all-2 : goal.returns-in_ok-write_all-2
+returns-in_ok-write_all-2 g c =
     let W = g.W.Write in
     let table = c.args.table.now in
+    let told = c.in_ok-write_all-2.ensures in
     let whole : take (length table - 8) (drop 8 table) ≡ drop 8 table = take_all (length table - 8) (drop 8 table) (omega (arith, length-drop 8 table)) in
-    let second = rw whole at c.in_ok-write_all-2.ensures.added in
+    let second = writes_one W _ _ (drop 8 table) _ (rw whole at told.added) tt tt told.grows in
     rw (parts_two table c.if-table-gt8.true)
-    (written_more W.appends (take 8 table ∷ []) (drop 8 table ∷ []) _ _ _
-    (written_one W.appends _ _ _ c.in_ok-write_all.ensures.added) (written_one W.appends _ _ _ second))
+    (writes_after W g.met.W.Write.keeps _ _ _ (take 8 table ∷ []) (drop 8 table ∷ []) _
+    (written_one W.appends _ _ _ c.in_ok-write_all.ensures.added) c.write_all.ensures.grows second)
 
-pub returns-else-table-gt8-clause-written : goal.returns-else-table-gt8-clause-written
-returns-else-table-gt8-clause-written g c =
-    rw (parts_one c.args.table.now c.if-table-gt8.false) (written_one g.W.Write.appends _ _ _ c.in_ok-write_all.ensures.added)
+pub returns-in_err-write_all-2 : goal.returns-in_err-write_all-2
+returns-in_err-write_all-2 g c =
+    let p = err_from_is_err_and c.from_residual-in_err-write_all-2.result c.from_residual-in_err-write_all-2.ensures.1 in
+    let W = g.W.Write in
+    let table = c.args.table.now in
+    let told = c.in_err-write_all-2.ensures in
+    let whole : take (length table - 8) (drop 8 table) ≡ drop 8 table = take_all (length table - 8) (drop 8 table) (omega (arith, length-drop 8 table)) in
+    let second = writes_one W _ _ (drop 8 table) (Err c.in_err-write_all-2.field-0.0) tt (rw whole at told.refused) told.failed told.grows in
+    rw (p.1, p.2, parts_two table c.if-table-gt8.true)
+    (writes_after W g.met.W.Write.keeps _ _ _ (take 8 table ∷ []) (drop 8 table ∷ []) _
+    (written_one W.appends _ _ _ c.in_ok-write_all.ensures.added) c.write_all.ensures.grows second)
+
+pub returns-else-table-gt8 : goal.returns-else-table-gt8
+returns-else-table-gt8 g c =
+    let told = c.in_ok-write_all.ensures in
+    rw (parts_one c.args.table.now c.if-table-gt8.false) (writes_one g.W.Write _ _ _ _ told.added tt tt told.grows)

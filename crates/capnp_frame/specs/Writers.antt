@@ -1,0 +1,58 @@
+-- What the functions that write keep (src/serialize/writing.rt).
+use Rattle.std.specs.Prelude.{◌≡◌, ℕ, ◌*◌, ◌^◌, ◌≤◌, ◌⊎◌, ◌↔◌, List, length, Result, IfOk, OnOk, IfErr}
+use Rattle.capnp_frame.specs.declared.error.Error.{Error}
+use Rattle.capnp_frame.specs.declared.error.ErrorKind.{ErrorKind}
+use Rattle.capnp_frame.specs.declared.error.ErrorKind.TheVariants.{DeviceFailed, OutOfMemory, MessageSizeOverflow}
+use Rattle.capnp_frame.specs.declared.io.Write.{Ghosts}
+use Rattle.capnp_frame.specs.Asking.{FailsOr}
+use Rattle.capnp_frame.specs.Errors.{IsRefusedBy}
+use Rattle.capnp_frame.specs.Frame.{frame_text}
+use Rattle.capnp_frame.specs.Sink.{Adds, AppendsAll, DeclinesSome, Grows}
+use Rattle.capnp_frame.specs.Source.{IfKnown, Fails}
+use Rattle.capnp_frame.specs.Writing.{serialized_words}
+
+-- What each function that writes does to its sink. `sink` is what is seen of the sink (the members of the trait Write),
+-- `old` and `new` are the sink before the call and after it. `adds` holds of what is added, and `declines` of the kinds
+-- that the call may fail with beside the device's.
+pub record WritesTo {S X : Type 0} (sink : Ghosts S) (old new : S) (adds : List ℕ → Type 0) (declines : ErrorKind → Type 0)
+    (result : Result X Error) : Type 0 where
+  -- where the call succeeds, this is added after what was written before
+  pub written : OnOk result (IfKnown (sink.written old) (sink.written new) (Adds adds))
+  -- it fails with the device's failure, or with a kind that is declined
+  pub refused : FailsOr result declines
+  -- the device is blamed only where it failed
+  pub failed : IfErr result (λ error. error.kind ≡ DeviceFailed → Fails (sink.failures old) (sink.failures new))
+  -- what was written before stays at the front, also where the call fails
+  pub grows : Grows sink.written sink.failures sink.same old new
+
+-- The same of pieces, one after the other. `lacks` holds of the kinds that the call may fail with before anything is written.
+pub record WritesPieces {S X : Type 0} (sink : Ghosts S) (old new : S) (pieces : List (List ℕ)) (lacks : ErrorKind → Type 0)
+    (result : Result X Error) : Type 0 where
+  -- where the call succeeds, what the pieces add stands after what was written before
+  pub written : OnOk result (IfKnown (sink.written old) (sink.written new) (Adds (AppendsAll sink.appends pieces)))
+  -- it fails with the device's failure, as the sink refuses one of the pieces, or with a kind that is lacked
+  pub refused : FailsOr result (λ kind. DeclinesSome sink.refuses pieces kind ⊎ lacks kind)
+  -- a failure that isn't the sink's leaves the sink as it was
+  pub untouched : FailsOr result (λ kind. DeclinesSome sink.refuses pieces kind ⊎ (new ≡ old))
+  -- the device is blamed only where it failed
+  pub failed : IfErr result (λ error. error.kind ≡ DeviceFailed → Fails (sink.failures old) (sink.failures new))
+  -- what was written before stays at the front, also where the call fails
+  pub grows : Grows sink.written sink.failures sink.same old new
+
+-- from four segments on, memory is taken for the table of a message
+abbrev pub LacksTable : List (List ℕ) → ErrorKind → Type 0
+LacksTable segments kind = (4 ≤ length segments) × (kind ≡ OutOfMemory)
+
+-- What each function that returns the framed text of a message keeps, `bytes` being the text that is seen of it.
+pub record ReturnsText {X : Type 0} (segments : List (List ℕ)) (bytes : X → List ℕ) (result : Result X Error) : Type 0 where
+  pub text : IfOk result (λ text. bytes text ≡ frame_text segments)
+  -- the call fails with this kind exactly where the number of bytes does not fit
+  pub overflow : IsRefusedBy result MessageSizeOverflow ↔ (2 ^ 64 ≤ 8 * serialized_words segments)
+  pub kinds : IfErr result (λ error. (error.kind ≡ OutOfMemory) ⊎ (error.kind ≡ MessageSizeOverflow))
+
+-- What each function that counts the words of a framed text keeps.
+pub record CountsWords (segments : List (List ℕ)) (result : Result ℕ Error) : Type 0 where
+  pub size : IfOk result (λ words. words ≡ serialized_words segments)
+  -- the call fails exactly where the number of words does not fit
+  pub overflow : IsRefusedBy result MessageSizeOverflow ↔ (2 ^ 64 ≤ serialized_words segments)
+  pub kinds : IfErr result (λ error. error.kind ≡ MessageSizeOverflow)

@@ -1,0 +1,137 @@
+-- Calls that hand bytes on to a sink, or take bytes of a source, one after another.
+use Rattle.std.proofs.Common.{◌≡◌, ◌⊎◌, inr, ℕ, List, [], ◌∷◌, Option, Some, None, Result, Ok, Err, IfErr, OnOk, sym, ◌∙◌, subst}
+use Rattle.std.specs.Prelude.{IfOk}
+use Rattle.std.specs.Result.{IsErrAnd}
+use Rattle.capnp_frame.specs.declared.error.Error.{Error}
+use Rattle.capnp_frame.specs.declared.error.ErrorKind.{ErrorKind}
+use Rattle.capnp_frame.specs.declared.error.ErrorKind.TheVariants.{DeviceFailed}
+use Rattle.capnp_frame.specs.declared.io.Read.{Ghosts as Source}
+use Rattle.capnp_frame.specs.declared.io.Write.{Ghosts as Sink}
+use Rattle.capnp_frame.specs.Asking.{Asked, FailsOr}
+use Rattle.capnp_frame.specs.Sink.{Adds, DeclinesAny, Grows}
+use Rattle.capnp_frame.specs.Source.{IsPreorder, IfKnown, Advances, Fails}
+use Rattle.capnp_frame.specs.Writers.{WritesTo}
+use Rattle.capnp_frame.proofs.AskLemmas.{Asked-ok, Asked-err}
+use Rattle.capnp_frame.proofs.SourceLemmas.{Grows-join, Fails-join}
+use Rattle.capnp_pack.specs.Calls.{HandsOn, Takes, TakesNext}
+use Rattle.capnp_pack.specs.Steps.{Hands}
+use Rattle.capnp_pack.proofs.HandingLemmas.{IfKnown-flush, declines_any}
+
+-- Handing on
+
+-- one piece, which is all that is kept
+pub hands_piece : {S X : Type 0} (sink : Sink S) (old new : S) (kept piece : List ℕ) (r : Result X Error) → kept ≡ piece
+    → OnOk r (IfKnown (sink.written old) (sink.written new) (Adds (sink.appends piece))) → FailsOr r (sink.refuses piece)
+    → IfErr r (λ e. e.kind ≡ DeviceFailed → Fails (sink.failures old) (sink.failures new)) → Grows sink.written sink.failures sink.same old new
+    → HandsOn sink old new (λ _. IfKnown (sink.written old) (sink.written new) (Hands sink.appends kept [] [])) r
+hands_piece sink old new kept piece (Ok x) is added refused failed grows =
+    record { handed = IfKnown-flush sink.appends kept piece _ _ is added; refused = tt; failed = tt; grows = grows }
+hands_piece sink old new kept piece (Err e) is added refused failed grows =
+    record { handed = tt; refused = declines_any (e.kind ≡ DeviceFailed) sink.refuses piece e.kind refused; failed = failed; grows = grows }
+
+-- a call after one that returned
+pub hands_after : {S X : Type 0} (sink : Sink S) (keeps : IsPreorder sink.same) (a b c : S) (first hands : X → Type 0) (r : Result X Error)
+    → IfOk r hands → Grows sink.written sink.failures sink.same a b → HandsOn sink b c first r → HandsOn sink a c hands r
+hands_after sink keeps a b c first hands (Ok x) handed before told =
+    record { handed = handed; refused = tt; failed = tt; grows = Grows-join a b c (keeps.transitive a b c) before told.grows }
+hands_after sink keeps a b c first hands (Err e) handed before told = record {
+  handed = tt;
+  refused = told.refused;
+  failed = λ device. Fails-join (sink.failures a) (sink.failures b) (sink.failures c) before.counted (told.failed device);
+  grows = Grows-join a b c (keeps.transitive a b c) before told.grows;
+}
+
+-- a piece that the sink refuses, after a call that returned
+pub hands_err : {S X : Type 0} (sink : Sink S) (keeps : IsPreorder sink.same) (a b c : S) (hands : X → Type 0) (piece : List ℕ) (e : Error)
+    → (e.kind ≡ DeviceFailed) ⊎ sink.refuses piece e.kind → (e.kind ≡ DeviceFailed → Fails (sink.failures b) (sink.failures c))
+    → Grows sink.written sink.failures sink.same a b → Grows sink.written sink.failures sink.same b c → HandsOn sink a c hands (Err e)
+hands_err sink keeps a b c hands piece e refused failed before grows = record {
+  handed = tt;
+  refused = declines_any (e.kind ≡ DeviceFailed) sink.refuses piece e.kind refused;
+  failed = λ device. Fails-join (sink.failures a) (sink.failures b) (sink.failures c) before.counted (failed device);
+  grows = Grows-join a b c (keeps.transitive a b c) before grows;
+}
+
+-- the last call of a packer
+pub hands_last : {S X : Type 0} (sink : Sink S) (keeps : IsPreorder sink.same) (a b c : S) (P : Type 0) (adds : List ℕ → Type 0) (r : Result X Error)
+    → (P → IfKnown (sink.written a) (sink.written c) (Adds adds)) → Grows sink.written sink.failures sink.same a b
+    → HandsOn sink b c (λ _. P) r → WritesTo sink a c adds (DeclinesAny sink.refuses) r
+hands_last sink keeps a b c P adds (Ok x) all before told =
+    record { written = all told.handed; refused = tt; failed = tt; grows = Grows-join a b c (keeps.transitive a b c) before told.grows }
+hands_last sink keeps a b c P adds (Err e) all before told = record {
+  written = tt;
+  refused = told.refused;
+  failed = λ device. Fails-join (sink.failures a) (sink.failures b) (sink.failures c) before.counted (told.failed device);
+  grows = Grows-join a b c (keeps.transitive a b c) before told.grows;
+}
+
+-- Taking
+
+-- a failure that is passed on
+pub takes_passed : {S X Y : Type 0} (source : Source S) (old new : S) (finds : Y → Type 0) (refuses : ErrorKind → Type 0) (e : Error) (r : Result Y Error)
+    → IsErrAnd r (λ y. y ≡ e) → (e.kind ≡ DeviceFailed) ⊎ refuses e.kind → Asked {X = X} source.unread source.failures source.same old new (Err e)
+    → Takes source old new finds refuses r
+takes_passed source old new finds refuses e (Ok y) is refused told = absurd is
+takes_passed source old new finds refuses e (Err y) is refused told = record {
+  found = tt;
+  refused = subst (λ (o : Error). (o.kind ≡ DeviceFailed) ⊎ refuses o.kind) (sym is) refused;
+  asked = record {
+      failed = subst (λ (o : Error). o.kind ≡ DeviceFailed → Fails (source.failures old) (source.failures new)) (sym is) told.failed;
+      advances = told.advances;
+    };
+}
+
+-- the same after a call that returned
+pub takes_err : {S X Y : Type 0} (source : Source S) (keeps : IsPreorder source.same) (a b c : S) (finds : Y → Type 0) (refuses : ErrorKind → Type 0)
+    (e : Error) (r : Result Y Error) → IsErrAnd r (λ y. y ≡ e) → (e.kind ≡ DeviceFailed) ⊎ refuses e.kind
+    → Advances source.unread source.failures source.same a b → Asked {X = X} source.unread source.failures source.same b c (Err e)
+    → Takes source a c finds refuses r
+takes_err source keeps a b c finds refuses e (Ok y) is refused first second = absurd is
+takes_err source keeps a b c finds refuses e (Err y) is refused first second = record {
+  found = tt;
+  refused = subst (λ (o : Error). (o.kind ≡ DeviceFailed) ⊎ refuses o.kind) (sym is) refused;
+  asked = Asked-err (keeps.transitive a b c) is first second;
+}
+
+-- a failure of the call's own
+pub takes_own : {S X : Type 0} (source : Source S) (old new : S) (finds : X → Type 0) (refuses : ErrorKind → Type 0) (e : Error) (kind : ErrorKind)
+    → e.kind ≡ kind → (kind ≡ DeviceFailed → ⊥) → refuses kind → Advances source.unread source.failures source.same old new
+    → Takes source old new finds refuses (Err e)
+takes_own source old new finds refuses e kind is other refused advances = record {
+  found = tt;
+  refused = inr (subst refuses (sym is) refused);
+  asked = record { failed = λ device. absurd (other (sym is ∙ device)); advances = advances };
+}
+
+-- two calls that returned
+pub takes_ok : {S X : Type 0} (source : Source S) (keeps : IsPreorder source.same) (a b c : S) (finds : X → Type 0) (refuses : ErrorKind → Type 0) (x : X)
+    → finds x → Advances source.unread source.failures source.same a b → Advances source.unread source.failures source.same b c
+    → Takes source a c finds refuses (Ok x)
+takes_ok source keeps a b c finds refuses x found first second =
+    record { found = found; refused = tt; asked = Asked-ok (keeps.transitive a b c) first second }
+
+-- where a byte was taken, the source was not at its end
+not_at_end : (byte : ℕ) (a b : Option (List ℕ)) → IfKnown a b (λ raw left. raw ≡ byte ∷ left) → a ≡ Some [] → ⊥
+not_at_end byte None b taken at_end = cc
+not_at_end byte (Some raw) None taken at_end = absurd taken
+not_at_end byte (Some raw) (Some left) taken at_end = cc
+
+-- a call that fails, or returns, after a byte was taken
+pub next_err : {S X Y : Type 0} (source : Source S) (keeps : IsPreorder source.same) (a b c : S) (finds : Y → Type 0) (refuses : ErrorKind → Type 0)
+    (e : Error) (r : Result (Option Y) Error) (byte : ℕ) → IfKnown (source.unread a) (source.unread b) (λ raw left. raw ≡ byte ∷ left)
+    → IsErrAnd r (λ y. y ≡ e) → (e.kind ≡ DeviceFailed) ⊎ refuses e.kind → Advances source.unread source.failures source.same a b
+    → Asked {X = X} source.unread source.failures source.same b c (Err e) → TakesNext source a c finds refuses r
+next_err source keeps a b c finds refuses e (Ok y) byte taken is refused first second = absurd is
+next_err source keeps a b c finds refuses e (Err y) byte taken is refused first second = record {
+  found = tt;
+  none = tt;
+  refused = subst (λ (o : Error). (o.kind ≡ DeviceFailed) ⊎ refuses o.kind) (sym is) refused;
+  at_end = λ end. absurd (not_at_end byte (source.unread a) (source.unread b) taken end);
+  asked = Asked-err (keeps.transitive a b c) is first second;
+}
+
+pub next_ok : {S X : Type 0} (source : Source S) (keeps : IsPreorder source.same) (a b c : S) (finds : X → Type 0) (refuses : ErrorKind → Type 0) (x : X)
+    → finds x → Advances source.unread source.failures source.same a b → Advances source.unread source.failures source.same b c
+    → TakesNext source a c finds refuses (Ok (Some x))
+next_ok source keeps a b c finds refuses x found first second =
+    record { found = found; none = tt; refused = tt; at_end = tt; asked = Asked-ok (keeps.transitive a b c) first second }

@@ -1,0 +1,38 @@
+-- What the private functions of a packer keep of their sink, and those of an unpacker of their source.
+use Rattle.std.specs.Prelude.{◌≡◌, [], Option, Some, Result, IfOk, IfErr, IfSome, IfNone}
+use Rattle.capnp_frame.specs.declared.error.Error.{Error}
+use Rattle.capnp_frame.specs.declared.error.ErrorKind.{ErrorKind}
+use Rattle.capnp_frame.specs.declared.error.ErrorKind.TheVariants.{DeviceFailed}
+use Rattle.capnp_frame.specs.declared.io.Read.{Ghosts as Source}
+use Rattle.capnp_frame.specs.declared.io.Write.{Ghosts as Sink}
+use Rattle.capnp_frame.specs.Asking.{Asked, FailsOr}
+use Rattle.capnp_frame.specs.Sink.{DeclinesAny, Grows}
+use Rattle.capnp_frame.specs.Source.{Fails}
+
+-- A call that hands bytes on to a sink. `sink` is what is seen of the sink (the members of the trait Write), `old` and `new`
+-- are the sink before the call and after it, and `hands` holds of what is returned.
+pub record HandsOn {S X : Type 0} (sink : Sink S) (old new : S) (hands : X → Type 0) (result : Result X Error) : Type 0 where
+  pub handed : IfOk result hands
+  -- the call fails with the device's failure, or as the sink refuses some piece
+  pub refused : FailsOr result (DeclinesAny sink.refuses)
+  -- the device is blamed only where it failed
+  pub failed : IfErr result (λ error. error.kind ≡ DeviceFailed → Fails (sink.failures old) (sink.failures new))
+  -- what was written before stays at the front
+  pub grows : Grows sink.written sink.failures sink.same old new
+
+-- A call that takes bytes of a source. `source` is what is seen of the source (the members of the trait Read), `finds` holds
+-- of what is returned, and `refuses` of the kinds that the call may fail with beside the device's.
+pub record Takes {S X : Type 0} (source : Source S) (old new : S) (finds : X → Type 0) (refuses : ErrorKind → Type 0)
+    (result : Result X Error) : Type 0 where
+  pub found : IfOk result finds
+  pub refused : FailsOr result refuses
+  pub asked : Asked source.unread source.failures source.same old new result
+
+-- The same of a call that returns none exactly at the end, where only the device's failure comes.
+pub record TakesNext {S X : Type 0} (source : Source S) (old new : S) (finds : X → Type 0) (refuses : ErrorKind → Type 0)
+    (result : Result (Option X) Error) : Type 0 where
+  pub found : IfOk result (λ found. IfSome found finds)
+  pub none : IfOk result (λ found. IfNone found (IfSome (source.unread old) (λ raw. raw ≡ [])))
+  pub refused : FailsOr result refuses
+  pub at_end : IfErr result (λ error. source.unread old ≡ Some [] → error.kind ≡ DeviceFailed)
+  pub asked : Asked source.unread source.failures source.same old new result
