@@ -11,8 +11,9 @@ use Rattle.capnp_wire.specs.Values.{IsCanonicalForm}
 use Rattle.capnp_message.specs.Seen.{root_of}
 use Rattle.capnp_frame.specs.Source.{Fails, Splits, RunsShort}
 use Rattle.capnp.specs.declared.streams.Format.{Format}
-use Rattle.capnp.specs.Streams.{StandsNext, IsPlainSource}
-use Rattle.capnp.specs.Headline.{IsFault}
+use Rattle.capnp_frame.specs.Streams.{next_in}
+use Rattle.capnp.specs.Streams.{grammar_of, StandsNext, IsPlainSource}
+use Rattle.capnp.specs.Headline.{ReturnsTexts}
 use Rattle.capnp_uses.specs.Reading.{default_root}
 use Rattle.capnp.proofs.RunLemmas.{format_lawful, format_requested, format_parts}
 use Rattle.capnp.proofs.ReaderLemmas.{nothing_begins}
@@ -24,18 +25,17 @@ slices_are_plain = record { given = λ raw n bytes rest. (λ p. p, λ p. p); ref
 
 -- a reader that asks for memory, or answers that there is nothing
 pub exactly : {X : Type 0} (segments : X → List (List ℕ)) (format : Format) (limit : Option ℕ) (bytes left : List ℕ) (r : Result (Option X) Error)
-    → IfOk r (λ found. IfSome found (λ x. StandsNext format limit (segments x) bytes left))
-    → IfOk r (λ found. IfNone found (bytes ≡ []))
-    → ((message : List (List ℕ)) (rest : List ℕ) → StandsNext format limit message bytes rest → IfErr r (λ e. IsFault e.kind))
-    → IfErr r (λ e. e.kind ≡ DeviceFailed → Fails 0 0)
+    → ReturnsTexts (grammar_of format) limit (Some bytes) (Some left) (next_in segments r)
+    → IfOk (next_in segments r) (λ found. IfNone found (bytes ≡ []))
+    → IfErr (next_in segments r) (λ e. e.kind ≡ DeviceFailed → Fails 0 0)
     → (message : List (List ℕ)) (rest : List ℕ) → StandsNext format limit message bytes rest
     → MatchResult r (λ found. IsSomeAnd found (λ x. segments x ≡ message)) (λ e. e.kind ≡ OutOfMemory)
-exactly segments format limit bytes left (Ok None) found none accepted failed message rest begins =
+exactly segments format limit bytes left (Ok None) texts none failed message rest begins =
     absurd (nothing_begins (format_lawful format) (format_requested format) limit (λ m. ⊥) (Some bytes) none message rest begins)
-exactly segments format limit bytes left (Ok (Some x)) found none accepted failed message rest begins =
-    ((format_parts format limit).begins_once (segments x) message bytes left rest found begins).0
-exactly segments format limit bytes left (Err e) found none accepted failed message rest begins =
-    memory_only e.kind (accepted message rest begins) failed
+exactly segments format limit bytes left (Ok (Some x)) texts none failed message rest begins =
+    ((format_parts format limit).begins_once (segments x) message bytes left rest texts.found begins).0
+exactly segments format limit bytes left (Err e) texts none failed message rest begins =
+    memory_only e.kind (texts.accepted message rest begins) failed
 
 -- and one that asks for none
 pub exactly_lent : {X : Type 0} (segments : X → List (List ℕ)) (format : Format) (limit : Option ℕ) (bytes left : List ℕ) (r : Result X Error)

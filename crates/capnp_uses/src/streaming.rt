@@ -1,10 +1,11 @@
 //! Streams whose messages are all read.
-ghost use Rattle.std.specs.Prelude.{◌≡◌, ◌≤◌, ◌++◌, ◌∷◌, [], ◌⊎◌, ℕ, List, Option, drop, length, map, IsTrue, IsFalse, IfOk, IfErr, OnErr, IfSome, IfNone};
+ghost use Rattle.std.specs.Prelude.{◌≡◌, ◌≤◌, ◌++◌, ◌∷◌, [], ◌⊎◌, ℕ, List, Option, Some, drop, length, map, IsTrue, IsFalse, IfOk, IfErr, OnErr};
 ghost use Rattle.capnp_frame.specs.declared.error.ErrorKind.{ErrorKind};
-ghost use Rattle.capnp_frame.specs.Source.{IfKnown, Fails};
+ghost use Rattle.capnp_frame.specs.Source.{IfKnown, IsTail};
+ghost use Rattle.capnp_frame.specs.Streams.{next_in, ReadsStream};
 ghost use Rattle.capnp_frame.specs.Texts.{AreTexts};
-ghost use Rattle.capnp.specs.Streams.{grammar_of, StandsNext, EndsBy, IsStream};
-ghost use Rattle.capnp.specs.Runs.{IsReadingFault};
+ghost use Rattle.capnp.specs.Headline.{ReturnsTexts};
+ghost use Rattle.capnp.specs.Streams.{grammar_of, rules_of, StandsNext, EndsBy, IsStream};
 ghost use Rattle.capnp_uses.specs.Streaming.{kind_of, LacksMemory};
 
 use capnp::io::BufRead;
@@ -17,28 +18,40 @@ use std::alloc::Global;
 /// The next message of a stream in either format, or `None` at its end.
 ///
 /// What is said of the bytes holds where the source's are known, as a slice's are. A device's are
-/// not; there `failed` alone says something.
+/// not; there `reads.failed` says that it is blamed only where it failed.
 pub fn next_message<R: BufRead>(
     alloc: Global,
     format: Format,
     source: &mut R,
     options: ReaderOptions,
 ) -> Result<Option<Reader<OwnedSegments>>>
-    ensures found { IfOk result (λ found. IfSome found (λ reader.
-        IfKnown (R.unread source.old) (R.unread source.new)
-        (StandsNext format options.traversal_limit_in_words reader.segments))) }
-    ensures none { IfOk result (λ found. IfNone found
-        (IfSome (R.unread source.old) (λ raw. raw ≡ []))) }
-    ensures refused { IfErr result (λ error. IsReadingFault format
-        options.traversal_limit_in_words error.kind
-        (R.unread source.old) (R.unread source.new)) }
-    ensures failed { IfErr result (λ error. error.kind ≡ ErrorKind.DeviceFailed →
-        Fails (R.failures source.old) (R.failures source.new)) }
+    ensures texts { ReturnsTexts (grammar_of format) options.traversal_limit_in_words
+        (R.unread source.old) (R.unread source.new)
+        (next_in (λ reader. reader.segments) result) }
+    ensures reads { ReadsStream R.Read source.old source.new (rules_of format)
+        options.traversal_limit_in_words (next_in (λ reader. reader.segments) result) }
 {
     match format {
         Format::Framed => serialize::try_read_message(alloc, source, options),
         Format::Packed => serialize_packed::try_read_message(alloc, source, options),
     }
+}
+
+/// Reads over the next message of a stream, and tells whether there was one.
+pub fn skip_message<R: BufRead>(
+    alloc: Global,
+    format: Format,
+    source: &mut R,
+    options: ReaderOptions,
+) -> Result<bool>
+    // Whatever comes of it, what is left to read is a tail of the stream.
+    ensures left { IfKnown (R.unread source.old) (R.unread source.new) IsTail }
+    // At the end of the stream it fails only with the device's failure.
+    ensures end { IfErr result (λ error. R.unread source.old ≡ Some [] →
+        error.kind ≡ ErrorKind.DeviceFailed) }
+{
+    let message = next_message(alloc, format, source, options)?;
+    Ok(message.is_some())
 }
 
 /// What was read of a stream that lies in memory.

@@ -1,6 +1,8 @@
 -- The message that is read is the one that was written, and the fields stand at its root.
-use Rattle.std.proofs.Common.{rules, refl, sym, subst, [], ◌∷◌, inl, inr}
+use Rattle.std.proofs.Common.{◌≡◌, rules, refl, sym, subst, [], ◌∷◌, inl, inr}
 use Rattle.std.proofs.lemmas.Result.{err_from_is_err_and}
+use Rattle.capnp_frame.specs.declared.error.ErrorKind.TheVariants.{DeviceFailed}
+use Rattle.capnp_frame.specs.Source.{Fails}
 use Rattle.capnp_wire.specs.Tree.{struct}
 use Rattle.capnp_wire.specs.Views.{DeclinesStruct}
 use Rattle.capnp_message.specs.Seen.{root_of}
@@ -15,12 +17,13 @@ use Rattle.capnp_uses.proofs.packed_struct.read_packed_words.Goals as goal
 pub returns-in_err-message-clause-found : goal.returns-in_err-message-clause-found
 returns-in_err-message-clause-found c message first second writable within packed stands =
     let p = err_from_is_err_and c.from_residual.result c.from_residual.ensures.1 in
-    rw (p.1, p.2) (inl (memory_only _ (c.in_err-message.ensures.accepted message [] (begins_packed default_limit message _ writable within packed)) c.in_err-message.ensures.failed))
+    let failed = elim (c.in_err-message.ensures.reads) as (λ reads. c.in_err-message.field-0.0.kind ≡ DeviceFailed → Fails 0 0) [ inl reads ↦ reads.failed | inr (end, reads) ↦ λ device. cc ] in
+    rw (p.1, p.2) (inl (memory_only _ (c.in_err-message.ensures.texts.accepted message [] (begins_packed default_limit message _ writable within packed)) failed))
 
 pub returns-in_err-fields-clause-found : goal.returns-in_err-fields-clause-found
 returns-in_err-fields-clause-found c message first second writable within packed stands =
     let reader = c.in_ok-message.message in
-    let same = packed_read default_limit reader.segments message c.args.text.now _ c.in_ok-message.ensures.found writable packed in
+    let same = packed_read default_limit reader.segments message c.args.text.now _ c.in_ok-message.ensures.texts.found writable packed in
     let here = subst (λ m. HasRoot m (struct (first ∷ second ∷ []))) (sym same) stands in
     let p = err_from_is_err_and c.from_residual-in_err-fields.result c.from_residual-in_err-fields.ensures.1 in
     rw (p.1, p.2) (inr (root_meets_limit (root_of (λ segments. segments) reader) (struct (first ∷ second ∷ [])) DeclinesStruct c.in_err-fields.field-0.0.kind refl here (default_depth reader.options c.in_ok-message.ensures.options)
@@ -29,7 +32,7 @@ returns-in_err-fields-clause-found c message first second writable within packed
 pub returns-clause-words : goal.returns-clause-words
 returns-clause-words c message first second writable packed stands =
     let reader = c.in_ok-message.message in
-    let same = packed_read default_limit reader.segments message c.args.text.now _ c.in_ok-message.ensures.found writable packed in
+    let same = packed_read default_limit reader.segments message c.args.text.now _ c.in_ok-message.ensures.texts.found writable packed in
     let here = subst (λ m. HasRoot m (struct (first ∷ second ∷ []))) (sym same) stands in
     let there = read_at_root (root_of (λ segments. segments) reader) (struct (first ∷ second ∷ [])) _ refl here c.in_ok-fields.ensures.answer.shown in
     search rules

@@ -6,5 +6,4 @@ use Rattle.capnp_uses.proofs.reading.first_message.Goals as goal
 
 pub returns-clause-exact : goal.returns-clause-exact
 returns-clause-exact c = exactly (λ reader. reader.segments) Framed default_limit c.args.bytes.now _ c.try_read_message.result
-    (c.try_read_message.ensures.found slices_are_plain) c.try_read_message.ensures.none
-    (c.try_read_message.ensures.accepted slices_are_plain) c.try_read_message.ensures.failed
+    (c.try_read_message.ensures.texts slices_are_plain) c.try_read_message.ensures.reads.none c.try_read_message.ensures.reads.failed

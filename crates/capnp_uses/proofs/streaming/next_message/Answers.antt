@@ -1,18 +1,18 @@
 -- Either format's reader.
-use Rattle.capnp.proofs.ReadNextLemmas.{framed_refused}
-use Rattle.capnp_uses.proofs.StreamLemmas.{packed_refused}
+use Rattle.capnp.specs.Streams.{IsPlainSource}
+use Rattle.capnp.proofs.FormatLemmas.{plain_reads}
 use Rattle.capnp_uses.proofs.streaming.next_message.Goals as goal
 
-pub returns-in-Framed-clause-found : goal.returns-in-Framed-clause-found
-returns-in-Framed-clause-found g c = rw c.in-Framed.is (c.try_read_message.ensures.found (record { given = g.met.R.BufRead.plain; refused = g.met.R.BufRead.plain_refusals }))
+pub returns-in-Framed-clause-texts : goal.returns-in-Framed-clause-texts
+returns-in-Framed-clause-texts g c = rw c.in-Framed.is (c.try_read_message.ensures.texts (record { given = g.met.R.BufRead.plain; refused = g.met.R.BufRead.plain_refusals }))
 
-pub returns-in-Framed-clause-refused : goal.returns-in-Framed-clause-refused
-returns-in-Framed-clause-refused g c = framed_refused g.R.Read.gives g.R.Read.refuses g.met.R.BufRead.plain g.met.R.BufRead.plain_refusals
-    c.args.format c.args.options.traversal_limit_in_words c.in-Framed.is c.try_read_message.result _ _ c.try_read_message.ensures.refused.told
+pub returns-in-Framed-clause-reads : goal.returns-in-Framed-clause-reads
+returns-in-Framed-clause-reads g c =
+    let plain : IsPlainSource g.R.Read.gives g.R.Read.refuses = record { given = g.met.R.BufRead.plain; refused = g.met.R.BufRead.plain_refusals } in
+    rw c.in-Framed.is (plain_reads g.R.Read plain c.args.options.traversal_limit_in_words _ _ _ c.try_read_message.ensures.reads)
 
-pub returns-in-Packed-clause-found : goal.returns-in-Packed-clause-found
-returns-in-Packed-clause-found g c = rw c.in-Packed.is c.try_read_message-in-Packed.ensures.found
+pub returns-in-Packed-clause-texts : goal.returns-in-Packed-clause-texts
+returns-in-Packed-clause-texts g c = rw c.in-Packed.is c.try_read_message-in-Packed.ensures.texts
 
-pub returns-in-Packed-clause-refused : goal.returns-in-Packed-clause-refused
-returns-in-Packed-clause-refused g c = packed_refused c.args.format c.args.options.traversal_limit_in_words c.in-Packed.is
-    c.try_read_message-in-Packed.result _ _ c.try_read_message-in-Packed.ensures.refused.told
+pub returns-in-Packed-clause-reads : goal.returns-in-Packed-clause-reads
+returns-in-Packed-clause-reads g c = rw c.in-Packed.is c.try_read_message-in-Packed.ensures.reads
