@@ -2,7 +2,7 @@
 //!
 //! What is shown whole is unpacked from there. A group that the source cuts is read a byte at a
 //! time, so just what it has is consumed, wherever the cut is.
-ghost use Rattle.std.specs.Prelude.{◌≡◌, ℕ, ◌<◌, ◌≤◌, ◌%◌, List, [], ◌∷◌, ◌++◌, length, take, Option, Some, IfOk, IfErr, IfSome, IfNone, OnOk, ◌⊎◌, ◌↔◌};
+ghost use Rattle.std.specs.Prelude.{◌≡◌, ◌<◌, ◌≤◌, ◌%◌, [], ◌∷◌, ◌++◌, length, take, Option, Some, IfOk, IfErr, IfSome, ◌⊎◌, ◌↔◌};
 ghost use Rattle.capnp_frame.specs.declared.error.ErrorKind.{ErrorKind};
 ghost use Rattle.capnp_frame.specs.Message.{IsWholeWords};
 ghost use Rattle.capnp_frame.specs.Source.{IfKnown, IsRefused, AnswersPart, RunsShort};

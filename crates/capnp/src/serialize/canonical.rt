@@ -34,9 +34,9 @@ pub fn write_canonical_message<W: Write, S: ReaderSegments>(
 
     // Of every sink.
     ensures writes { WritesTo W.Write sink.old sink.new
-        (AppendsForm (root_of S.segments reader.now) W.appends) (λ kind.
-        (kind ≡ ErrorKind.OutOfMemory) ⊎ DeclinesForm (root_of S.segments reader.now) W.refuses kind)
-        result }
+        (AppendsForm (root_of S.segments reader.now) W.appends)
+        (λ kind. (kind ≡ ErrorKind.OutOfMemory)
+        ⊎ DeclinesForm (root_of S.segments reader.now) W.refuses kind) result }
 {
     let form = reader.canonical_segment(alloc)?;
     let segments = [form.as_slice()];

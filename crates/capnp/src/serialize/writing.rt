@@ -45,7 +45,8 @@ pub fn write_message_segments<W: Write, S: ReaderSegments>(
     segments: &S,
 ) -> Result<()>
     requires { IsWritable (S.segments segments.now) }
-    ensures { WritesMessage Format.Framed W.Write sink.old sink.new (S.segments segments.now) result }
+    ensures { WritesMessage Format.Framed W.Write sink.old sink.new
+        (S.segments segments.now) result }
 {
     write_segments(alloc, sink, segments)
 }

@@ -42,7 +42,8 @@ pub fn write_message_segments<W: Write, S: ReaderSegments>(
     segments: &S,
 ) -> Result<()>
     requires { IsWritable (S.segments segments.now) }
-    ensures { WritesMessage Format.Packed W.Write sink.old sink.new (S.segments segments.now) result }
+    ensures { WritesMessage Format.Packed W.Write sink.old sink.new
+        (S.segments segments.now) result }
 {
     let mut packed = PackedWrite::new(sink);
     write_segments(alloc, &mut packed, segments)
