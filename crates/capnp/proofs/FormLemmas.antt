@@ -1,11 +1,17 @@
 -- The one segment of a canonical form can be written.
 use Rattle.std.proofs.Common.{◌≡◌, ◌⊎◌, ℕ, suc, ◌≤◌, ◌/◌, ◌^◌, ◌<◌, List, [], ◌∷◌, length, Result, Ok, Err, true, inl, inr, sym, ap, subst, arith}
+use Rattle.std.proofs.lemmas.List.{append-nil}
 use Rattle.std.specs.Result.{IsErrAnd}
 use Rattle.capnp_frame.specs.declared.error.Error.{Error}
 use Rattle.capnp_frame.specs.declared.error.ErrorKind.{ErrorKind}
 use Rattle.capnp_frame.specs.declared.error.ErrorKind.TheVariants.{DeviceFailed, OutOfMemory}
-use Rattle.capnp_frame.specs.Sink.{Declining, DeclinesSome}
+use Rattle.capnp_frame.specs.declared.io.Write.{Ghosts}
+use Rattle.capnp_frame.specs.Sink.{Declining, AppendsAll, DeclinesSome}
+use Rattle.capnp_frame.specs.Source.{IsPreorder, IsFront, Fails}
+use Rattle.capnp_frame.specs.Writers.{WritesTo, WritesPieces, LacksTable}
 use Rattle.capnp_frame.specs.Writing.{IsWritable, pieces}
+use Rattle.capnp_frame.proofs.AskLemmas.{passed_on}
+use Rattle.capnp_frame.proofs.SourceLemmas.{IfKnown-refl, IfKnown-weaker}
 use Rattle.capnp_wire.specs.Pointer.{words_of}
 use Rattle.capnp_wire.specs.Tree.{total_words}
 use Rattle.capnp_wire.specs.Trim.{trim}
@@ -16,7 +22,8 @@ use Rattle.capnp_wire.proofs.SizeLemmas.{length-body}
 use Rattle.capnp_wire.proofs.OpenLemmas.{room_formed}
 use Rattle.capnp_wire.proofs.WordLemmas.{length-words_of}
 use Rattle.capnp_message.specs.Canonical.{LacksForm}
-use Rattle.capnp.specs.Canonical.{IsForm, DeclinesForm}
+use Rattle.capnp.specs.Canonical.{IsForm, AppendsForm, DeclinesForm}
+use Rattle.capnp.proofs.BlameLemmas.{answer_blames_none}
 
 -- a form has fewer words than a segment may
 pub form_is_small : (pointer : Pointer) (form : List ℕ) → IsCanonicalForm pointer (words_of form) → length form / 8 < 2 ^ 32
@@ -34,7 +41,7 @@ one_writable pointer form is = record {
 }
 
 -- a refusal of the reader's is one of the form's
-pub declines_reading : (pointer : Pointer) (refuses : Declining) (kind : ErrorKind) → LacksForm pointer kind ⊎ (kind ≡ OutOfMemory)
+declines_reading : (pointer : Pointer) (refuses : Declining) (kind : ErrorKind) → LacksForm pointer kind ⊎ (kind ≡ OutOfMemory)
     → (kind ≡ DeviceFailed) ⊎ (kind ≡ OutOfMemory) ⊎ DeclinesForm pointer refuses kind
 declines_reading pointer refuses kind (inl lacks) = inr (inr (inl lacks))
 declines_reading pointer refuses kind (inr memory) = inr (inl memory)
@@ -45,10 +52,42 @@ refused_on P (Ok y) is p = is
 refused_on P (Err e) is p = subst P (sym is) p
 
 -- the engine's refusal is one of the form's
-pub declines_writing : (pointer : Pointer) (refuses : Declining) (form : List ℕ) (segments : List (List ℕ)) (kind : ErrorKind) → IsForm pointer form → segments ≡ form ∷ []
+declines_writing : (pointer : Pointer) (refuses : Declining) (form : List ℕ) (segments : List (List ℕ)) (kind : ErrorKind) → IsForm pointer form → segments ≡ form ∷ []
     → (kind ≡ DeviceFailed) ⊎ DeclinesSome refuses (pieces segments) kind ⊎ (4 ≤ length segments) × (kind ≡ OutOfMemory)
     → (kind ≡ DeviceFailed) ⊎ (kind ≡ OutOfMemory) ⊎ DeclinesForm pointer refuses kind
 declines_writing pointer refuses form segments kind stands is (inl failed) = inl failed
 declines_writing pointer refuses form segments kind stands is (inr (inl declined)) =
     inr (inr (inr (form, stands, subst (λ (s : List (List ℕ)). DeclinesSome refuses (pieces s) kind) is declined)))
 declines_writing pointer refuses form segments kind stands is (inr (inr memory)) = inr (inl memory.1)
+
+-- so where there is no form, nothing is written
+pub form_lacking : {S X : Type 0} (sink : Ghosts S) (keeps : IsPreorder sink.same) (s : S) (pointer : Pointer) (e : Error) (r : Result X Error)
+    → IsErrAnd r (λ y. y ≡ e) → LacksForm pointer e.kind ⊎ (e.kind ≡ OutOfMemory)
+    → WritesTo sink s s (AppendsForm pointer sink.appends) (λ kind. (kind ≡ OutOfMemory) ⊎ DeclinesForm pointer sink.refuses kind) r
+form_lacking sink keeps s pointer e (Ok y) is lacks = absurd is
+form_lacking {X = X} sink keeps s pointer e (Err o) is lacks = record {
+  written = tt;
+  refused = passed_on {Y = X} {error = e} (λ (y : Error). (y.kind ≡ DeviceFailed) ⊎ (y.kind ≡ OutOfMemory) ⊎ DeclinesForm pointer sink.refuses y.kind)
+      (Err o) is (declines_reading pointer sink.refuses e.kind lacks);
+  failed = passed_on {Y = X} {error = e} (λ (y : Error). y.kind ≡ DeviceFailed → Fails (sink.failures s) (sink.failures s)) (Err o) is
+      (λ device. absurd (answer_blames_none pointer e.kind lacks device));
+  grows = record { front = IfKnown-refl IsFront (sink.written s) (λ x. ([], sym (append-nil x))); counted = omega arith; same_sink = keeps.reflexive s };
+}
+
+-- and the form is written as the message of one segment
+pub form_written : {S X : Type 0} (sink : Ghosts S) (old new : S) (pointer : Pointer) (form : List ℕ) (segments : List (List ℕ)) (r : Result X Error)
+    → IsForm pointer form → segments ≡ form ∷ [] → WritesPieces sink old new (pieces segments) (LacksTable segments) r
+    → WritesTo sink old new (AppendsForm pointer sink.appends) (λ kind. (kind ≡ OutOfMemory) ⊎ DeclinesForm pointer sink.refuses kind) r
+form_written sink old new pointer form segments (Ok x) stands is told = record {
+  written = IfKnown-weaker (sink.written old) (sink.written new) (λ before after (text, p, e).
+      (text, (form, stands, subst (λ (s : List (List ℕ)). AppendsAll sink.appends (pieces s) text) is p), e)) told.written;
+  refused = tt;
+  failed = tt;
+  grows = told.grows;
+}
+form_written sink old new pointer form segments (Err e) stands is told = record {
+  written = tt;
+  refused = declines_writing pointer sink.refuses form segments e.kind stands is told.refused;
+  failed = told.failed;
+  grows = told.grows;
+}

@@ -7,15 +7,19 @@ use Rattle.capnp_frame.specs.declared.error.ErrorKind.{ErrorKind}
 use Rattle.capnp_frame.specs.declared.error.ErrorKind.TheVariants.{DeviceFailed, OutOfMemory}
 use Rattle.capnp_frame.specs.Limits.{IsWithin}
 use Rattle.capnp_frame.specs.Message.{IsWholeWords, word_count}
-use Rattle.capnp_frame.specs.Source.{IfKnown}
-use Rattle.capnp_frame.specs.Sink.{Appending, Declining, DeclinesSome, Adds, AppendsAll, AppendsSame}
+use Rattle.capnp_frame.specs.declared.io.Write.{Ghosts}
+use Rattle.capnp_frame.specs.Asking.{FailsOr}
+use Rattle.capnp_frame.specs.Source.{IfKnown, Fails}
+use Rattle.capnp_frame.specs.Sink.{Appending, Declining, DeclinesSome, Adds, AppendsAll, AppendsSame, Grows}
+use Rattle.capnp_frame.specs.Writers.{WritesPieces, LacksTable}
 use Rattle.capnp_frame.specs.Writing.{IsWritable, pieces, serialized_words}
 use Rattle.capnp_frame.proofs.SourceLemmas.{IfKnown-weaker}
 use Rattle.capnp_frame.proofs.SizeLemmas.{concat-pieces, length-frame_text}
 use Rattle.capnp_frame.proofs.TextLemmas.{pieces_joined}
-use Rattle.capnp_pack.specs.PackedSink.{AppendsPacked}
+use Rattle.capnp_pack.specs.PackedSink.{AppendsPacked, DeclinesPacked}
 use Rattle.capnp_pack.proofs.PackedTextLemmas.{packed_pieces}
-use Rattle.capnp.specs.Written.{IsPlainSink, IsFrameText, IsPackedTextOf, RefusesWriter}
+use Rattle.capnp.specs.declared.streams.Format.TheVariants.{Framed, Packed}
+use Rattle.capnp.specs.Written.{IsPlainSink, IsFrameText, IsPackedTextOf, RefusesWriter, WritesMessage}
 
 -- a plain sink gets the pieces themselves
 AppendsAll-plain : (appends : Appending) (xs : List (List ℕ)) (text : List ℕ) → IsPlainSink appends → AppendsAll appends xs text → AppendsAll AppendsSame xs text
@@ -69,3 +73,39 @@ pub text_size : (r : Result ℕ Error) (message : List (List ℕ)) → IsWritabl
     → IfOk r (λ words. (text : List ℕ) → IsFrameText message text → length text ≡ 8 * words)
 text_size (Err e) message writable size = tt
 text_size (Ok words) message writable size = λ text is. ap length is ∙ length-frame_text message writable ∙ ap (λ (n : ℕ). 8 * n) (sym size)
+
+-- what the engine writes of a message, framed
+pub frame_written : {S X : Type 0} (sink : Ghosts S) (old new : S) (message : List (List ℕ)) (r : Result X Error)
+    → WritesPieces sink old new (pieces message) (LacksTable message) r → WritesMessage Framed sink old new message r
+frame_written sink old new message r told = record {
+  text = λ plain. Adds-weaker r _ _ (frame_text_added sink.appends plain message) told.written;
+  written = told.written;
+  refused = told.refused;
+  untouched = told.untouched;
+  failed = told.failed;
+  grows = told.grows;
+}
+
+-- what stays of a packer stays of its sink
+kept_below : {S P X : Type 0} (see : P → S) (Declines : ErrorKind → Type 0) (old new : P) (r : Result X Error)
+    → FailsOr r (λ kind. Declines kind ⊎ (new ≡ old)) → FailsOr r (λ kind. Declines kind ⊎ (see new ≡ see old))
+kept_below see Declines old new (Ok x) told = tt
+kept_below see Declines old new (Err e) (inl failed) = inl failed
+kept_below see Declines old new (Err e) (inr (inl declined)) = inr (inl declined)
+kept_below see Declines old new (Err e) (inr (inr same)) = inr (inr (ap see same))
+
+-- and packed, by a packer in which the sink is seen
+pub packed_written : {S P X : Type 0} (sink : Ghosts S) (see : P → S) (old new : P) (message : List (List ℕ)) (r : Result X Error)
+    → OnOk r (IfKnown (sink.written (see old)) (sink.written (see new)) (Adds (AppendsAll (AppendsPacked sink.appends) (pieces message))))
+    → IfErr r (λ e. RefusesWriter (DeclinesPacked sink.refuses) message e.kind)
+    → FailsOr r (λ kind. DeclinesSome (DeclinesPacked sink.refuses) (pieces message) kind ⊎ (new ≡ old))
+    → IfErr r (λ e. e.kind ≡ DeviceFailed → Fails (sink.failures (see old)) (sink.failures (see new)))
+    → Grows sink.written sink.failures sink.same (see old) (see new) → WritesMessage Packed sink (see old) (see new) message r
+packed_written sink see old new message r written refused untouched failed grows = record {
+  text = λ plain. Adds-weaker r _ _ (packed_text_added sink.appends plain message) written;
+  written = written;
+  refused = refused;
+  untouched = kept_below see (DeclinesSome (DeclinesPacked sink.refuses) (pieces message)) old new r untouched;
+  failed = failed;
+  grows = grows;
+}

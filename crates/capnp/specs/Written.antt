@@ -1,13 +1,18 @@
 -- What writers add to sinks.
-use Rattle.std.specs.Prelude.{◌≡◌, ◌⊎◌, ◌≤◌, ℕ, List, [], ◌∷◌, ◌++◌, length, map}
+use Rattle.std.specs.Prelude.{◌≡◌, ◌⊎◌, ◌≤◌, ℕ, List, [], ◌∷◌, ◌++◌, length, map, Result, OnOk, IfErr}
+use Rattle.capnp_frame.specs.declared.error.Error.{Error}
 use Rattle.capnp_frame.specs.declared.error.ErrorKind.{ErrorKind}
 use Rattle.capnp_frame.specs.declared.error.ErrorKind.TheVariants.{DeviceFailed, OutOfMemory}
+use Rattle.capnp_frame.specs.declared.io.Write.{Ghosts}
+use Rattle.capnp_frame.specs.Asking.{FailsOr}
 use Rattle.capnp_frame.specs.Frame.{frame_text}
-use Rattle.capnp_frame.specs.Sink.{Appending, Declining, DeclinesAny, DeclinesSome}
+use Rattle.capnp_frame.specs.Sink.{Appending, Declining, DeclinesAny, DeclinesSome, Adds, AppendsAll, Grows}
+use Rattle.capnp_frame.specs.Source.{IfKnown, Fails}
 use Rattle.capnp_frame.specs.Writing.{pieces}
 use Rattle.capnp_build.specs.Built.{Built}
 use Rattle.capnp_build.specs.Held.{used_of}
 use Rattle.capnp_pack.specs.PackedFrame.{IsPackedText}
+use Rattle.capnp_pack.specs.PackedSink.{AppendsPacked, DeclinesPacked}
 use Rattle.capnp.specs.declared.streams.Format.{Format}
 use Rattle.capnp.specs.declared.streams.Format.TheVariants.{Framed, Packed}
 
@@ -35,6 +40,32 @@ abbrev pub RefusesWriter : Declining → List (List ℕ) → ErrorKind → Type 
 RefusesWriter refuses message kind = (kind ≡ DeviceFailed)
     ⊎ DeclinesSome refuses (pieces message) kind
     ⊎ (4 ≤ length message) × (kind ≡ OutOfMemory)
+
+-- what a piece adds to a sink in this format, and by which kinds it may be refused
+abbrev pub AppendsAs : Format → Appending → Appending
+AppendsAs Framed appends = appends
+AppendsAs Packed appends = AppendsPacked appends
+
+abbrev pub DeclinesAs : Format → Declining → Declining
+DeclinesAs Framed refuses = refuses
+DeclinesAs Packed refuses = DeclinesPacked refuses
+
+-- What each writer of a message does to its sink, in this format. `sink` is what is seen of the sink (the members of the
+-- trait Write), `old` and `new` are the sink before the call and after it.
+pub record WritesMessage {S X : Type 0} (format : Format) (sink : Ghosts S) (old new : S) (message : List (List ℕ))
+    (result : Result X Error) : Type 0 where
+  -- to a plain sink the text of the message is added
+  pub text : IsPlainSink sink.appends → OnOk result (IfKnown (sink.written old) (sink.written new) (Adds (IsTextOf format message)))
+  -- and to every sink what its pieces add, one after the other
+  pub written : OnOk result (IfKnown (sink.written old) (sink.written new)
+      (Adds (AppendsAll (AppendsAs format sink.appends) (pieces message))))
+  pub refused : IfErr result (λ error. RefusesWriter (DeclinesAs format sink.refuses) message error.kind)
+  -- a failure that isn't the sink's leaves the sink as it was
+  pub untouched : FailsOr result (λ kind. DeclinesSome (DeclinesAs format sink.refuses) (pieces message) kind ⊎ (new ≡ old))
+  -- the device is blamed only where it failed
+  pub failed : IfErr result (λ error. error.kind ≡ DeviceFailed → Fails (sink.failures old) (sink.failures new))
+  -- what was written before stays at the front, also where the call fails
+  pub grows : Grows sink.written sink.failures sink.same old new
 
 -- the same of messages one after the other: by the device, for want of memory, or as the sink refuses some piece
 abbrev pub RefusesAppending : Declining → ErrorKind → Type 0

@@ -76,9 +76,9 @@ takes_passed source old new finds refuses e (Err y) is refused told = record {
   found = tt;
   refused = subst (λ (o : Error). (o.kind ≡ DeviceFailed) ⊎ refuses o.kind) (sym is) refused;
   asked = record {
-      failed = subst (λ (o : Error). o.kind ≡ DeviceFailed → Fails (source.failures old) (source.failures new)) (sym is) told.failed;
-      advances = told.advances;
-    };
+    failed = subst (λ (o : Error). o.kind ≡ DeviceFailed → Fails (source.failures old) (source.failures new)) (sym is) told.failed;
+    advances = told.advances;
+  };
 }
 
 -- the same after a call that returned

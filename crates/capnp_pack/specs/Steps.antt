@@ -24,6 +24,11 @@ FaultBehind tag raw n kind = MeetsFault (tag ∷ raw) n kind
 abbrev pub MarkedAt : ℕ → List ℕ → List ℕ → List ℕ → Type 0
 MarkedAt tag word raw left = (raw ≡ marked tag word ++ left) × AreZero (unmarked tag word)
 
+-- So many bytes of a text, at most a word, fill a word under a tag.
+pub record TakesMarked (tag : ℕ) (text word : List ℕ) (used : ℕ) : Type 0 where
+  pub used_within : used ≤ 8
+  pub marked : MarkedAt tag word text (drop used text)
+
 -- how many of so many bytes a tag marks
 abbrev pub marked_count : ℕ → ℕ → ℕ
 marked_count tag n = length (marked tag (replicate n 0))

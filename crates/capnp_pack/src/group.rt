@@ -2,7 +2,7 @@
 //!
 //! What is shown whole is unpacked from there. A group that the source cuts is read a byte at a
 //! time, so just what it has is consumed, wherever the cut is.
-ghost use Rattle.std.specs.Prelude.{◌≡◌, ℕ, ◌<◌, ◌≤◌, ◌%◌, List, [], ◌∷◌, ◌++◌, length, take, Option, Some, IfOk, IfErr, IfSome, IfNone, OnOk, ◌⊎◌, ◌↔◌};
+ghost use Rattle.std.specs.Prelude.{◌≡◌, ◌<◌, ◌≤◌, ◌%◌, [], ◌∷◌, ◌++◌, length, take, Option, Some, IfOk, IfErr, IfSome, ◌⊎◌, ◌↔◌};
 ghost use Rattle.capnp_frame.specs.declared.error.ErrorKind.{ErrorKind};
 ghost use Rattle.capnp_frame.specs.Message.{IsWholeWords};
 ghost use Rattle.capnp_frame.specs.Source.{IfKnown, IsRefused, AnswersPart, RunsShort};
@@ -194,10 +194,9 @@ fn read_stored<R: BufRead>(source: &mut R, buffer: &mut [u8]) -> Result<()>
 // Copies what is shown into the front of the buffer, and answers how many bytes they are.
 fn copy_shown<R: BufRead>(source: &mut R, buffer: &mut [u8]) -> Result<usize>
     ensures within { IfOk result (λ count. count ≤ length buffer.new) }
-    ensures found { IfOk result (λ count. IfKnown (R.unread source.old) (R.unread source.new)
-        (λ raw left. raw ≡ take count buffer.new ++ left)) }
-    ensures refused { IfErr result (λ error. error.kind ≡ ErrorKind.DeviceFailed) }
-    ensures asked { Asked R.unread R.failures R.same source.old source.new result }
+    ensures takes { Takes R.Read source.old source.new (λ count.
+        IfKnown (R.unread source.old) (R.unread source.new)
+        (λ raw left. raw ≡ take count buffer.new ++ left)) (λ _. ⊥) result }
 {
     let shown = source.fill_buf()?;
     let count = shown.len().min(buffer.len());
@@ -220,12 +219,9 @@ fn required_byte<R: BufRead>(source: &mut R) -> Result<u8>
 
 // Takes the next byte, if there is one.
 fn next_byte<R: BufRead>(source: &mut R) -> Result<Option<u8>>
-    ensures found { IfOk result (λ found. IfSome found (λ byte.
-        IfKnown (R.unread source.old) (R.unread source.new) (λ raw left. raw ≡ byte ∷ left))) }
-    ensures none { IfOk result (λ found. IfNone found
-        (IfSome (R.unread source.old) (λ raw. raw ≡ []))) }
-    ensures refused { IfErr result (λ error. error.kind ≡ ErrorKind.DeviceFailed) }
-    ensures asked { Asked R.unread R.failures R.same source.old source.new result }
+    ensures { TakesNext R.Read source.old source.new (λ byte.
+        IfKnown (R.unread source.old) (R.unread source.new) (λ raw left. raw ≡ byte ∷ left))
+        (λ _. ⊥) result }
 {
     let Some(byte) = source.fill_buf()?.first().copied() else {
         return Ok(None);

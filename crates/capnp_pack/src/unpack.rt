@@ -3,7 +3,7 @@
 //! Just whole groups are taken that fit the buffer. One that isn't shown whole, or does not fit, is
 //! left to `group.rt`, which reads it through the source.
 ghost use Rattle.std.specs.Prelude.{◌≡◌, ◌<◌, ◌≤◌, ◌+◌, ◌%◌, ◌∷◌, [], length, take, drop, replicate, IfSome};
-ghost use Rattle.capnp_pack.specs.Steps.{MarkedAt, GroupBehind, Unpacked};
+ghost use Rattle.capnp_pack.specs.Steps.{MarkedAt, TakesMarked, GroupBehind, Unpacked};
 
 use crate::places::PLACES;
 use std::simd::prelude::*;
@@ -163,8 +163,7 @@ pub(crate) fn copy_front(count: usize, text: &[u8], buffer: &mut [u8])
 pub(crate) fn unpack_tagged(tag: u8, text: &[u8], word: &mut [u8]) -> usize
     requires long { 8 ≤ length text.now }
     requires word { length word.old ≡ 8 }
-    ensures used { result ≤ 8 }
-    ensures marked { MarkedAt tag word.new text.now (drop result text.now) }
+    ensures { TakesMarked tag text.now word.new result }
 {
     if text.len() >= 16 {
         return unpack_lanes(tag, text, word);
@@ -177,8 +176,7 @@ pub(crate) fn unpack_tagged(tag: u8, text: &[u8], word: &mut [u8]) -> usize
 fn unpack_lanes(tag: u8, text: &[u8], word: &mut [u8]) -> usize
     requires long { 16 ≤ length text.now }
     requires word { length word.old ≡ 8 }
-    ensures used { result ≤ 8 }
-    ensures marked { MarkedAt tag word.new text.now (drop result text.now) }
+    ensures { TakesMarked tag text.now word.new result }
 {
     let places = u8x16::from_array(PLACES[tag as usize]);
     let lanes = u8x16::from_slice(text).swizzle_dyn(places).to_array();
@@ -191,8 +189,7 @@ fn unpack_lanes(tag: u8, text: &[u8], word: &mut [u8]) -> usize
 fn unpack_word(tag: u8, text: &[u8], word: &mut [u8]) -> usize
     requires long { 8 ≤ length text.now }
     requires word { length word.old ≡ 8 }
-    ensures used { result ≤ 8 }
-    ensures marked { MarkedAt tag word.new text.now (drop result text.now) }
+    ensures { TakesMarked tag text.now word.new result }
 {
     let mut bits = tag;
     let mut used = 0;

@@ -1,9 +1,10 @@
 //! Writing the canonical form of a message.
-ghost use Rattle.std.specs.Prelude.{◌≡◌, ◌⊎◌, OnOk, IfErr};
+ghost use Rattle.std.specs.Prelude.{◌≡◌, ◌⊎◌, OnOk};
 ghost use Rattle.std.specs.Result.{IsErrAnd};
 ghost use Rattle.capnp_frame.specs.declared.error.ErrorKind.{ErrorKind};
-ghost use Rattle.capnp_frame.specs.Source.{IfKnown, Fails};
-ghost use Rattle.capnp_frame.specs.Sink.{Adds, Grows};
+ghost use Rattle.capnp_frame.specs.Source.{IfKnown};
+ghost use Rattle.capnp_frame.specs.Sink.{Adds};
+ghost use Rattle.capnp_frame.specs.Writers.{WritesTo};
 ghost use Rattle.capnp_message.specs.Seen.{root_of};
 ghost use Rattle.capnp_message.specs.Canonical.{LacksForm};
 ghost use Rattle.capnp.specs.Written.{IsPlainSink};
@@ -32,14 +33,10 @@ pub fn write_canonical_message<W: Write, S: ReaderSegments>(
         IsErrAnd result (λ error. error.kind ≡ kind) × (sink.new ≡ sink.old) }
 
     // Of every sink.
-    ensures written { OnOk result (IfKnown (W.written sink.old) (W.written sink.new)
-        (Adds (AppendsForm (root_of S.segments reader.now) W.appends))) }
-    ensures refused { IfErr result (λ error. (error.kind ≡ ErrorKind.DeviceFailed)
-        ⊎ (error.kind ≡ ErrorKind.OutOfMemory)
-        ⊎ DeclinesForm (root_of S.segments reader.now) W.refuses error.kind) }
-    ensures failed { IfErr result (λ error. error.kind ≡ ErrorKind.DeviceFailed →
-        Fails (W.failures sink.old) (W.failures sink.new)) }
-    ensures grows { Grows W.written W.failures W.same sink.old sink.new }
+    ensures writes { WritesTo W.Write sink.old sink.new
+        (AppendsForm (root_of S.segments reader.now) W.appends)
+        (λ kind. (kind ≡ ErrorKind.OutOfMemory)
+        ⊎ DeclinesForm (root_of S.segments reader.now) W.refuses kind) result }
 {
     let form = reader.canonical_segment(alloc)?;
     let segments = [form.as_slice()];

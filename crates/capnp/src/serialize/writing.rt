@@ -1,11 +1,9 @@
 //! Writing messages to a sink.
-ghost use Rattle.std.specs.Prelude.{◌≡◌, ◌*◌, ◌<◌, ◌≤◌, ◌^◌, ◌↔◌, ◌⊎◌, ℕ, List, length, IfOk, OnOk, IfErr};
-ghost use Rattle.capnp_frame.specs.declared.error.ErrorKind.{ErrorKind};
-ghost use Rattle.capnp_frame.specs.Errors.{IsRefusedBy};
-ghost use Rattle.capnp_frame.specs.Source.{IfKnown, Fails};
-ghost use Rattle.capnp_frame.specs.Sink.{Adds, AppendsAll, DeclinesSome, Grows};
-ghost use Rattle.capnp_frame.specs.Writing.{IsWritable, pieces, serialized_words};
-ghost use Rattle.capnp.specs.Written.{IsPlainSink, IsFrameText, RefusesWriter, output_of};
+ghost use Rattle.std.specs.Prelude.{◌≡◌, ◌*◌, ◌<◌, ℕ, List, length, IfOk};
+ghost use Rattle.capnp_frame.specs.Writers.{ReturnsText, CountsWords};
+ghost use Rattle.capnp_frame.specs.Writing.{IsWritable};
+ghost use Rattle.capnp.specs.declared.streams.Format.{Format};
+ghost use Rattle.capnp.specs.Written.{IsFrameText, WritesMessage, output_of};
 
 use capnp_build::allocator::Allocator;
 use capnp_frame::Result;
@@ -25,22 +23,7 @@ pub fn write_message<W: Write, A: Allocator>(
     message: &Builder<A>,
 ) -> Result<()>
     requires { 0 < length message.now.spaces }
-    ensures text { IsPlainSink W.appends → OnOk result
-        (IfKnown (W.written sink.old) (W.written sink.new)
-        (Adds (IsFrameText (output_of message.now)))) }
-
-    // Of every sink.
-    ensures written { OnOk result (IfKnown (W.written sink.old) (W.written sink.new)
-        (Adds (AppendsAll W.appends (pieces (output_of message.now))))) }
-    ensures refused { IfErr result (λ error.
-        RefusesWriter W.refuses (output_of message.now) error.kind) }
-    // A refusal that isn't the sink's leaves the sink as it was.
-    ensures untouched { IfErr result (λ error. (error.kind ≡ ErrorKind.DeviceFailed)
-        ⊎ DeclinesSome W.refuses (pieces (output_of message.now)) error.kind
-        ⊎ (sink.new ≡ sink.old)) }
-    ensures failed { IfErr result (λ error. error.kind ≡ ErrorKind.DeviceFailed →
-        Fails (W.failures sink.old) (W.failures sink.new)) }
-    ensures grows { Grows W.written W.failures W.same sink.old sink.new }
+    ensures { WritesMessage Format.Framed W.Write sink.old sink.new (output_of message.now) result }
 {
     write_message_segments(alloc, sink, &message.get_segments_for_output())
 }
@@ -62,22 +45,8 @@ pub fn write_message_segments<W: Write, S: ReaderSegments>(
     segments: &S,
 ) -> Result<()>
     requires { IsWritable (S.segments segments.now) }
-    ensures text { IsPlainSink W.appends → OnOk result
-        (IfKnown (W.written sink.old) (W.written sink.new)
-        (Adds (IsFrameText (S.segments segments.now)))) }
-
-    // Of every sink.
-    ensures written { OnOk result (IfKnown (W.written sink.old) (W.written sink.new)
-        (Adds (AppendsAll W.appends (pieces (S.segments segments.now))))) }
-    ensures refused { IfErr result (λ error.
-        RefusesWriter W.refuses (S.segments segments.now) error.kind) }
-    // A refusal that isn't the sink's leaves the sink as it was.
-    ensures untouched { IfErr result (λ error. (error.kind ≡ ErrorKind.DeviceFailed)
-        ⊎ DeclinesSome W.refuses (pieces (S.segments segments.now)) error.kind
-        ⊎ (sink.new ≡ sink.old)) }
-    ensures failed { IfErr result (λ error. error.kind ≡ ErrorKind.DeviceFailed →
-        Fails (W.failures sink.old) (W.failures sink.new)) }
-    ensures grows { Grows W.written W.failures W.same sink.old sink.new }
+    ensures { WritesMessage Format.Framed W.Write sink.old sink.new
+        (S.segments segments.now) result }
 {
     write_segments(alloc, sink, segments)
 }
@@ -89,11 +58,7 @@ pub fn write_message_segments_to_words<S: ReaderSegments>(
     segments: &S,
 ) -> Result<Vec<u8>>
     requires { IsWritable (S.segments segments.now) }
-    ensures text { IfOk result (λ text. IsFrameText (S.segments segments.now) text.items) }
-    ensures overflow { IsRefusedBy result ErrorKind.MessageSizeOverflow
-        ↔ (2 ^ 64 ≤ 8 * serialized_words (S.segments segments.now)) }
-    ensures kinds { IfErr result (λ error. (error.kind ≡ ErrorKind.OutOfMemory)
-        ⊎ (error.kind ≡ ErrorKind.MessageSizeOverflow)) }
+    ensures { ReturnsText (S.segments segments.now) (λ text. text.items) result }
 {
     segments_to_words(alloc, segments)
 }
@@ -102,11 +67,7 @@ pub fn write_message_segments_to_words<S: ReaderSegments>(
 /// `MessageSizeOverflow` only where the number of its bytes does not fit `usize`.
 pub fn write_message_to_words<A: Allocator>(alloc: Global, message: &Builder<A>) -> Result<Vec<u8>>
     requires { 0 < length message.now.spaces }
-    ensures text { IfOk result (λ text. IsFrameText (output_of message.now) text.items) }
-    ensures overflow { IsRefusedBy result ErrorKind.MessageSizeOverflow
-        ↔ (2 ^ 64 ≤ 8 * serialized_words (output_of message.now)) }
-    ensures kinds { IfErr result (λ error. (error.kind ≡ ErrorKind.OutOfMemory)
-        ⊎ (error.kind ≡ ErrorKind.MessageSizeOverflow)) }
+    ensures { ReturnsText (output_of message.now) (λ text. text.items) result }
 {
     write_message_segments_to_words(alloc, &message.get_segments_for_output())
 }
@@ -116,12 +77,9 @@ pub fn write_message_to_words<A: Allocator>(alloc: Global, message: &Builder<A>)
 /// `usize`.
 pub fn compute_serialized_size_in_words<A: Allocator>(message: &Builder<A>) -> Result<usize>
     requires { 0 < length message.now.spaces }
-    ensures size { IfOk result (λ words. words ≡ serialized_words (output_of message.now)) }
     ensures bytes { IfOk result (λ words. (text : List ℕ) →
         IsFrameText (output_of message.now) text → length text ≡ 8 * words) }
-    ensures overflow { IsRefusedBy result ErrorKind.MessageSizeOverflow
-        ↔ (2 ^ 64 ≤ serialized_words (output_of message.now)) }
-    ensures kinds { IfErr result (λ error. error.kind ≡ ErrorKind.MessageSizeOverflow) }
+    ensures counts { CountsWords (output_of message.now) result }
 {
     serialized_size_in_words(&message.get_segments_for_output())
 }

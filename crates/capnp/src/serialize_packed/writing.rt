@@ -1,11 +1,8 @@
 //! Writing packed messages to a sink.
-ghost use Rattle.std.specs.Prelude.{◌≡◌, ◌<◌, ◌⊎◌, length, OnOk, IfErr};
-ghost use Rattle.capnp_frame.specs.declared.error.ErrorKind.{ErrorKind};
-ghost use Rattle.capnp_frame.specs.Source.{IfKnown, Fails};
-ghost use Rattle.capnp_frame.specs.Sink.{Adds, AppendsAll, DeclinesSome, Grows};
-ghost use Rattle.capnp_frame.specs.Writing.{IsWritable, pieces};
-ghost use Rattle.capnp_pack.specs.PackedSink.{AppendsPacked, DeclinesPacked};
-ghost use Rattle.capnp.specs.Written.{IsPlainSink, IsPackedTextOf, RefusesWriter, output_of};
+ghost use Rattle.std.specs.Prelude.{◌<◌, length};
+ghost use Rattle.capnp_frame.specs.Writing.{IsWritable};
+ghost use Rattle.capnp.specs.declared.streams.Format.{Format};
+ghost use Rattle.capnp.specs.Written.{WritesMessage, output_of};
 
 use capnp_build::allocator::Allocator;
 use capnp_frame::Result;
@@ -24,18 +21,7 @@ pub fn write_message<W: Write, A: Allocator>(
     message: &Builder<A>,
 ) -> Result<()>
     requires { 0 < length message.now.spaces }
-    ensures text { IsPlainSink W.appends → OnOk result
-        (IfKnown (W.written sink.old) (W.written sink.new)
-        (Adds (IsPackedTextOf (output_of message.now)))) }
-
-    // Of every sink.
-    ensures written { OnOk result (IfKnown (W.written sink.old) (W.written sink.new)
-        (Adds (AppendsAll (AppendsPacked W.appends) (pieces (output_of message.now))))) }
-    ensures refused { IfErr result (λ error.
-        RefusesWriter (DeclinesPacked W.refuses) (output_of message.now) error.kind) }
-    ensures failed { IfErr result (λ error. error.kind ≡ ErrorKind.DeviceFailed →
-        Fails (W.failures sink.old) (W.failures sink.new)) }
-    ensures grows { Grows W.written W.failures W.same sink.old sink.new }
+    ensures { WritesMessage Format.Packed W.Write sink.old sink.new (output_of message.now) result }
 {
     write_message_segments(alloc, sink, &message.get_segments_for_output())
 }
@@ -56,18 +42,8 @@ pub fn write_message_segments<W: Write, S: ReaderSegments>(
     segments: &S,
 ) -> Result<()>
     requires { IsWritable (S.segments segments.now) }
-    ensures text { IsPlainSink W.appends → OnOk result
-        (IfKnown (W.written sink.old) (W.written sink.new)
-        (Adds (IsPackedTextOf (S.segments segments.now)))) }
-
-    // Of every sink.
-    ensures written { OnOk result (IfKnown (W.written sink.old) (W.written sink.new)
-        (Adds (AppendsAll (AppendsPacked W.appends) (pieces (S.segments segments.now))))) }
-    ensures refused { IfErr result (λ error.
-        RefusesWriter (DeclinesPacked W.refuses) (S.segments segments.now) error.kind) }
-    ensures failed { IfErr result (λ error. error.kind ≡ ErrorKind.DeviceFailed →
-        Fails (W.failures sink.old) (W.failures sink.new)) }
-    ensures grows { Grows W.written W.failures W.same sink.old sink.new }
+    ensures { WritesMessage Format.Packed W.Write sink.old sink.new
+        (S.segments segments.now) result }
 {
     let mut packed = PackedWrite::new(sink);
     write_segments(alloc, &mut packed, segments)

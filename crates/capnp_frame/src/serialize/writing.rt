@@ -66,7 +66,8 @@ pub fn serialized_size_in_words<S: ReaderSegments>(segments: &S) -> Result<usize
 // Writes the table, with memory for it from four segments on.
 fn write_table<W: Write, S: ReaderSegments>(alloc: Global, sink: &mut W, segments: &S) -> Result<()>
     requires { IsWritable (S.segments segments.now) }
-    ensures { WritesPieces W.Write sink.old sink.new (table_pieces (lengths (S.segments segments.now)))
+    ensures { WritesPieces W.Write sink.old sink.new
+        (table_pieces (lengths (S.segments segments.now)))
         (LacksTable (S.segments segments.now)) result }
 {
     let count = segments.len();

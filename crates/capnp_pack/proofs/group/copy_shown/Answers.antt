@@ -3,7 +3,8 @@ use Rattle.std.proofs.Common.{rules, take}
 use Rattle.capnp_pack.proofs.StoredLemmas.{shown_taken}
 use Rattle.capnp_pack.proofs.group.copy_shown.Goals as goal
 
-pub returns-clause-found : goal.returns-clause-found
-returns-clause-found g c =
-    shown_taken c.min-count.result c.in_ok-shown.shown.now (take c.min-count.result c.copy_front.new.buffer) _ _ _ c.in_ok-shown.ensures.front
-    (search rules) c.consume.ensures.taken (search rules) c.copy_front.ensures
+pub returns-clause-takes : goal.returns-clause-takes
+returns-clause-takes g c =
+    let found = shown_taken c.min-count.result c.in_ok-shown.shown.now (take c.min-count.result c.copy_front.new.buffer) _ _ _ c.in_ok-shown.ensures.front
+    (search rules) c.consume.ensures.taken (search rules) c.copy_front.ensures in
+    record { found = found; refused = tt; asked = search rules }

@@ -8,11 +8,11 @@ pub returns-in_err-read_exact : goal.returns-in_err-read_exact
 returns-in_err-read_exact g c =
     takes_err {X = Unit {0}} g.R.Read g.met.R.Read.keeps _ _ _ _ _ _ _ c.from_residual-in_err-read_exact.ensures.1
     (stored_short _ g.R.Read.refuses c.in_ok-copied.copied c.copy_shown.new.buffer c.read_exact.new.buffer _ _ _ g.met.R.BufRead.plain_refusals
-    (search rules) (search rules) c.in_ok-copied.ensures.found c.in_err-read_exact.ensures.refused) c.copy_shown.ensures.asked.advances
+    (search rules) (search rules) c.in_ok-copied.ensures.takes.found c.in_err-read_exact.ensures.refused) c.copy_shown.ensures.takes.asked.advances
     (record { failed = c.in_err-read_exact.ensures.failed; advances = c.read_exact.ensures.advances })
 
 pub returns : goal.returns
 returns g c =
     takes_ok g.R.Read g.met.R.Read.keeps _ _ _ _ _ _
     (stored_given g.R.Read.gives c.in_ok-copied.copied c.copy_shown.new.buffer c.read_exact.new.buffer _ _ _ g.met.R.BufRead.plain (search rules)
-    (search rules) c.in_ok-copied.ensures.found c.in_ok-read_exact.ensures.given) c.copy_shown.ensures.asked.advances c.read_exact.ensures.advances
+    (search rules) c.in_ok-copied.ensures.takes.found c.in_ok-read_exact.ensures.given) c.copy_shown.ensures.takes.asked.advances c.read_exact.ensures.advances

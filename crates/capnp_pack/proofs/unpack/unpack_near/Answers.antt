@@ -10,7 +10,7 @@ returns-then-tag-eq0 c =
     let none : c.args.tag ≡ 0 = search rules in
     let count : get_or c.args.behind.now 0 0 ≡ 0 = omega arith in
     lone_zero_behind c.args.tag _ c.args.behind.now c.unpack_tagged-marked.new.word _ none count word (search rules) (search rules)
-    (take_at c.unpack_tagged-marked.new.word _ 8 word) c.unpack_tagged-marked.ensures.used c.unpack_tagged-marked.ensures.marked
+    (take_at c.unpack_tagged-marked.new.word _ 8 word) c.unpack_tagged-marked.ensures.used_within c.unpack_tagged-marked.ensures.marked
 
 pub returns-else-tag-eq0 : goal.returns-else-tag-eq0
 returns-else-tag-eq0 c =

@@ -10,7 +10,10 @@ loop-byte-preserved c =
     let here = bit_here c.loop-byte.bits c.loop-byte.used c.kept.result c.args.text.now c.kept.ensures.clear (λ e. (omega arith, c.kept.ensures.set e)) in
     (omega arith, marks_next c.args.tag c.loop-byte.bits c.kept.result (take c.loop-byte.byte-index c.loop-byte.word) _ _ _ _ next c.loop-byte.invariant.1 here)
 
-pub returns-clause-marked : goal.returns-clause-marked
-returns-clause-marked c =
-    marks_word_whole c.args.tag c.loop-byte.bits (take c.loop-byte.byte-index c.loop-byte.word) c.loop-byte.word _ _
-    (take_all c.loop-byte.byte-index c.loop-byte.word (search rules)) c.loop-byte.invariant.1
+pub returns : goal.returns
+returns c =
+    record {
+      used_within = search rules;
+      marked = marks_word_whole c.args.tag c.loop-byte.bits (take c.loop-byte.byte-index c.loop-byte.word) c.loop-byte.word _ _
+          (take_all c.loop-byte.byte-index c.loop-byte.word (search rules)) c.loop-byte.invariant.1;
+    }

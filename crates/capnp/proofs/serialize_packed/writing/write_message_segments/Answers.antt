@@ -1,11 +1,14 @@
 -- The engine's pieces, packed.
 use Rattle.std.proofs.Common.{rules, ◌≡◌}
-use Rattle.capnp.proofs.WriterLemmas.{packed_text_added, Adds-weaker}
+use Rattle.capnp.proofs.WriterLemmas.{packed_written}
 use Rattle.capnp.proofs.serialize_packed.writing.write_message_segments.Goals as goal
 
-pub returns-clause-text : goal.returns-clause-text
-returns-clause-text g c = λ plain.
-    let written = rw c.new-packed.ensures.sink at c.write_segments.ensures.written in
-    let text = Adds-weaker c.write_segments.result _ _ (packed_text_added g.W.Write.appends plain _) written in
+pub returns : goal.returns
+returns g c =
+    let told = c.write_segments.ensures in
+    let kept = told.grows in
+    let all = packed_written g.W.Write (λ p. p.sink.now) c.new-packed.result c.write_segments.new.sink
+    (g.S.ReaderSegments.segments c.args.segments.now) c.write_segments.result
+    told.written told.refused told.untouched told.failed (record { front = kept.front; counted = kept.counted; same_sink = kept.same_sink.1 }) in
     let behind : c.sink-1.given.0 ≡ c.write_segments.new.sink.sink.now = search rules in
-    rw behind text
+    rw behind (rw c.new-packed.ensures.sink at all)
