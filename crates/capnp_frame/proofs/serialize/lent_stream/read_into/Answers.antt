@@ -2,7 +2,8 @@
 use Rattle.std.proofs.Common.{◌≡◌, ◌+◌, ◌-◌, ◌*◌, Some, length, inr, arith, rules}
 use borrow.Rule.Slice.PartMut.{put_mid}
 use Rattle.capnp_frame.specs.Front.{told_lengths}
-use Rattle.capnp_frame.proofs.AskLemmas.{passed_on, Asked-ok, Asked-err}
+use Rattle.capnp_frame.proofs.AskLemmas.{passed_on, Asked-err}
+use Rattle.capnp_frame.proofs.StepLemmas.{asks_found_into, asks_passed_into}
 use Rattle.capnp_frame.proofs.RequestLemmas.{table_not_empty}
 use Rattle.capnp_frame.proofs.MetRefusals.{table_met}
 use Rattle.capnp_frame.proofs.LentLemmas.{is_read, lacks_segments, segments_refused, Filled, body_put, message_stands, filled_total, filled_within}
@@ -11,15 +12,8 @@ use Rattle.capnp_frame.proofs.serialize.lent_stream.read_into.Goals as goal
 
 pub returns-in_err-segments_count-clause-asks : goal.returns-in_err-segments_count-clause-asks
 returns-in_err-segments_count-clause-asks g c =
-    let told = c.in_err-segments_count.ensures.asks in
-    record {
-      none = search rules;
-      short = search rules;
-      refused = passed_on _ _ c.from_residual.ensures.1 (table_met _ g.R.Read.gives g.R.Read.refuses c.args.limit (Some (length c.args.buffer.now)) _ _ _ told.refused);
-      kinds = passed_on _ _ c.from_residual.ensures.1 told.kinds;
-      end = passed_on _ _ c.from_residual.ensures.1 told.end;
-      asked = search rules;
-    }
+    asks_passed_into g.R.Read _ _ _ _ _ _ _ c.from_residual.ensures.1
+    (table_met _ g.R.Read.gives g.R.Read.refuses c.args.limit (Some (length c.args.buffer.now)) _ _ _) c.in_err-segments_count.ensures.asks
 
 pub returns-then-buffer-end-clause-asks : goal.returns-then-buffer-end-clause-asks
 returns-then-buffer-end-clause-asks g c =
@@ -89,11 +83,7 @@ returns-clause-within g c =
     filled_within c.read_table_into.new.buffer c.read_piece.new.piece _ c.in-Some.segments_count c.args.limit (filled g c) keeps
 
 pub returns-clause-asks : goal.returns-clause-asks
-returns-clause-asks g c = record {
-  none = tt;
-  short = search rules;
-  refused = tt;
-  kinds = tt;
-  end = tt;
-  asked = Asked-ok (g.met.R.Read.keeps.transitive _ _ _) c.read_table_into.ensures.asks.asked.advances c.read_piece.ensures.asked.advances;
-}
+returns-clause-asks g c =
+    let start = c.table_len-start.ensures in
+    asks_found_into g.R.Read _ _ _ _ _ _ (λ few. absurd (omega arith)) (g.met.R.Read.keeps.transitive _ _ _)
+    c.read_table_into.ensures.asks.asked.advances c.read_piece.ensures.asked.advances

@@ -3,7 +3,8 @@ use Rattle.std.proofs.Common.{◌<◌, Some, length, inr, arith, rules}
 use Rattle.capnp_frame.specs.SegmentTable.{table_size}
 use Rattle.capnp_frame.specs.Front.{told_lengths}
 use borrow.Rule.Slice.PartMut.{put_mid}
-use Rattle.capnp_frame.proofs.AskLemmas.{passed_on, Asked-ok, Asked-err}
+use Rattle.capnp_frame.proofs.AskLemmas.{passed_on, Asked-err}
+use Rattle.capnp_frame.proofs.StepLemmas.{asks_found_into}
 use Rattle.capnp_frame.proofs.SourceLemmas.{Advances-join}
 use Rattle.capnp_frame.proofs.MetRefusals.{others_met, limit_met}
 use Rattle.capnp_frame.proofs.FrontLemmas.{length-told}
@@ -73,11 +74,5 @@ returns-clause-within g c =
     rw (← (put g c).lengths_are) kept
 
 pub returns-clause-asks : goal.returns-clause-asks
-returns-clause-asks g c = record {
-  none = tt;
-  short = search rules;
-  refused = tt;
-  kinds = tt;
-  end = tt;
-  asked = Asked-ok (g.met.R.Read.keeps.transitive _ _ _) c.read_first.ensures.asked.advances c.read_total.ensures.asked.advances;
-}
+returns-clause-asks g c = asks_found_into g.R.Read _ _ _ _ _ _ (λ few. absurd (omega arith)) (g.met.R.Read.keeps.transitive _ _ _)
+    c.read_first.ensures.asked.advances c.read_total.ensures.asked.advances
