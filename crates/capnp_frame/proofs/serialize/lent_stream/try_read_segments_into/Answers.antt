@@ -1,5 +1,5 @@
 -- The message that is held is the one that stands there.
-use Rattle.std.proofs.Common.{◌≡◌, length, rules}
+use Rattle.std.proofs.Common.{◌≡◌, length, rules, ap}
 use Rattle.std.proofs.lemmas.Result.{err_from_is_err_and}
 use Rattle.capnp_frame.proofs.LentLemmas.{reads_into, refused_into}
 use Rattle.capnp_frame.proofs.serialize.lent_stream.try_read_segments_into.Goals as goal
@@ -19,5 +19,5 @@ returns g c =
     let stands = rw c.in-Some.is at told.found in
     let long : length c.read_into.new.buffer ≡ length c.args.buffer.now = search rules in
     reads_into g.R.Read g.met.R.Read.lawful _ _ c.args.options.traversal_limit_in_words (length c.args.buffer.now) c.read_into.new.buffer
-    c.in-Some.info.segments_count _ c.of_held.result holds c.of_held.ensures.segments long keeps stands
+    c.in-Some.info.segments_count _ c.of_held.result holds (ap (λ held. held.segments) c.of_held.ensures) long keeps stands
     (λ few. (told.asks.short few).1) told.asks.asked.advances
