@@ -5,8 +5,8 @@ use Rattle.std.specs.List.{AllByRecursion}
 use Rattle.std.specs.Result.{IsErrAnd}
 use Rattle.capnp_frame.specs.declared.io.Read.{Ghosts}
 use Rattle.capnp_frame.specs.Message.{IsWholeWords}
-use Rattle.capnp_frame.specs.Asking.{Asked, FailsOr}
 use Rattle.capnp_frame.specs.Streams.{framed_rules, ReadsStream}
+use Rattle.capnp_frame.specs.Steps.{AsksNext}
 use Rattle.capnp_frame.specs.declared.error.Error.{Error}
 use Rattle.capnp_frame.specs.declared.error.ErrorKind.{ErrorKind}
 use Rattle.capnp_frame.specs.declared.error.ErrorKind.TheVariants.{DeviceFailed, OutOfMemory}
@@ -60,23 +60,18 @@ pub reads_stream : {S : Type 0} (source : Ghosts S) (laws : IsSource source.give
     → IfOk r (λ found. IfSome found (λ segments. IfKnown (source.unread old) (source.unread new) (MessageStands source.gives segments)))
     → IfOk r (λ found. IfSome found (λ segments. IsWithin segments limit))
     → IfOk r (λ found. IfSome found (AllByRecursion IsWholeWords))
-    → IfOk r (λ found. IfNone found (IfSome (source.unread old) (λ raw. raw ≡ [])))
-    → FailsOr r (λ kind. ((kind ≡ OutOfMemory) × IfKnown (source.unread old) (source.unread new) (TakesMemory source.gives limit))
-    ⊎ IfKnown (source.unread old) (source.unread new) (RefusesStream source.gives source.refuses limit None kind))
-    → IfErr r (λ error. source.unread old ≡ Some [] → error.kind ≡ DeviceFailed)
-    → IfErr r (λ error. IsReaderKind source.refuses error.kind)
-    → Asked source.unread source.failures source.same old new r
+    → AsksNext source old new (TakesMemory source.gives limit) (RefusesStream source.gives source.refuses limit None) r
     → ReadsStream source old new (framed_rules source.gives source.refuses) limit r
-reads_stream source laws old new limit r found within whole none refused end kinds asked = record {
+reads_stream source laws old new limit r found within whole asks = record {
   found = found;
   within = within;
   whole = whole;
-  none = none;
-  accepted = accepted _ laws limit _ _ r refused;
-  end = end;
-  refused = refused;
-  exact = exact _ laws limit _ _ r found within none refused;
-  kinds = kinds;
-  failed = asked.failed;
-  advances = asked.advances;
+  none = asks.none;
+  accepted = accepted _ laws limit _ _ r asks.refused;
+  end = asks.end;
+  refused = asks.refused;
+  exact = exact _ laws limit _ _ r found within asks.none asks.refused;
+  kinds = asks.kinds;
+  failed = asks.asked.failed;
+  advances = asks.asked.advances;
 }

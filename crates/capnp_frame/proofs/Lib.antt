@@ -2,6 +2,7 @@
 pub mod Ranges
 pub mod SourceLemmas
 pub mod AskLemmas
+pub mod StepLemmas
 pub mod TableLemmas
 pub mod RequestLemmas
 pub mod FrameLemmas

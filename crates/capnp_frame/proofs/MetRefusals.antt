@@ -1,14 +1,14 @@
 -- Which line of the refusal table each part of a reader meets.
-use Rattle.std.proofs.Common.{◌≡◌, ℕ, ◌+◌, ◌-◌, ◌*◌, ◌/◌, ◌%◌, ◌<◌, ◌^◌, Option, Some, None, ◌⊎◌, inl, inr, List, [], ◌∷◌, ◌++◌, length, take, refl, sym, ap, ◌∙◌, subst, arith}
+use Rattle.std.proofs.Common.{◌≡◌, ℕ, ◌+◌, ◌-◌, ◌*◌, ◌/◌, ◌%◌, ◌<◌, ◌^◌, Option, None, ◌⊎◌, inl, inr, List, ◌++◌, length, take, refl, sym, ap, ◌∙◌, subst, arith}
 use Rattle.std.specs.Prelude.{sum, IsSomeAnd}
 use lib.Seq.{take-append-le}
 use Rattle.capnp_frame.specs.declared.error.ErrorKind.{ErrorKind}
-use Rattle.capnp_frame.specs.declared.error.ErrorKind.TheVariants.{BufferNotLargeEnough, InvalidNumberOfSegments, MessageTooLarge, DeviceFailed}
+use Rattle.capnp_frame.specs.declared.error.ErrorKind.TheVariants.{BufferNotLargeEnough, MessageTooLarge}
 use Rattle.capnp_frame.specs.SegmentTable.{field, table_size, IsTable}
 use Rattle.capnp_frame.specs.Limits.{AreWithin}
 use Rattle.capnp_frame.specs.Source.{Giving, Refusing, IsSource, IfKnown, IsTail, IsRefused}
 use Rattle.capnp_frame.specs.Requests.{RestStands, TableStands}
-use Rattle.capnp_frame.specs.Refusals.{Tells, TellsAccepted, CountStands, TakesMemory, IsOutOfRange, IsTooLarge, LacksRoom}
+use Rattle.capnp_frame.specs.Refusals.{Tells, TellsAccepted, CountStands, TakesMemory, IsTooLarge, LacksRoom}
 use Rattle.capnp_frame.specs.Refusals.{RefusesAtStart, RefusesTable, RefusesStream}
 use Rattle.capnp_frame.proofs.SourceLemmas.{IfKnown-join, IfKnown-weaker, IfKnown-refused}
 use Rattle.capnp_frame.proofs.RefusalLemmas.{in_range, within_limit, small_room, RefusesAtStart-map, given_some}
@@ -62,39 +62,12 @@ RefusesAtStart-from laws limit room kind A raw left ns behind fits sent accepts 
 
 -- the lines, as a reader meets them
 
-pub word_met : (gives : Giving) (refuses : Refusing) (limit room : Option ℕ) (kind : ErrorKind)
-    (old new : Option (List ℕ)) → (LacksRoom room 8 → ⊥) → (old ≡ Some [] → kind ≡ DeviceFailed)
-    → IfKnown old new IsTail → (kind ≡ DeviceFailed) ⊎ IsRefused refuses 8 old kind → (kind ≡ DeviceFailed)
-    ⊎ IfKnown old new (RefusesTable gives refuses limit room kind)
-word_met gives refuses limit room kind old new fits end tail (inl failed) = inl failed
-word_met gives refuses limit room kind None new fits end tail (inr refused) = inr tt
-word_met gives refuses limit room kind (Some raw) None fits end tail (inr refused) = absurd tail
-word_met gives refuses limit room kind (Some []) (Some left) fits end tail (inr refused) = inl (end refl)
-word_met gives refuses limit room kind (Some (byte ∷ raw)) (Some left) fits end tail (inr refused) = inr (inr (fits, (λ e. cc, inl refused)))
-
 -- a count that is accepted is the one that the word tells
 Tells-accepted : (word : List ℕ) (count : ℕ) → TellsAccepted word count → Tells word count
 Tells-accepted word count accepted =
     let some = accepted.some in
     let few = accepted.few in
     (count - 1, omega arith, accepted.told, omega arith)
-
-pub count_stands : (gives : Giving) (word : List ℕ) (count : ℕ) (old mid : Option (List ℕ)) → TellsAccepted word count
-    → IfKnown old mid (λ raw rest. gives raw 8 word rest) → IfKnown old mid (CountStands gives)
-count_stands gives word count old mid accepted = IfKnown-weaker old mid (λ raw rest given. record {
-  word = word;
-  count = count;
-  given = given;
-  told = Tells-accepted word count accepted;
-  accepted = in_range count accepted.some accepted.few;
-})
-
-pub count_met : {gives : Giving} {refuses : Refusing} (laws : IsSource gives refuses) (limit room : Option ℕ)
-    (kind : ErrorKind) (old mid : Option (List ℕ)) (word : List ℕ) → (LacksRoom room 8 → ⊥)
-    → IfKnown old mid (λ raw rest. gives raw 8 word rest) → (count : ℕ) × Tells word count × IsOutOfRange count
-    × (kind ≡ InvalidNumberOfSegments count) → IfKnown old mid (RefusesTable gives refuses limit room kind)
-count_met laws limit room kind old mid word holds given (count, tells, out, is) =
-    IfKnown-weaker old mid (λ raw left here. inr (holds, (given_some laws raw 8 word left here (omega arith), inr (word, left, here, (count, tells, inl (out, (is, refl))))))) given
 
 -- a lent buffer has no room for the table
 pub room_met : {gives : Giving} {refuses : Refusing} (laws : IsSource gives refuses) (limit room : Option ℕ)
@@ -223,8 +196,3 @@ pub table_met_growing : (F M : Type 0) (gives : Giving) (refuses : Refusing) (li
 table_met_growing F M gives refuses limit kind old new (inl p) = inl p
 table_met_growing F M gives refuses limit kind old new (inr (inl p)) = inr (inl (p.0, IfKnown-weaker old new (λ raw left. inl) p.1))
 table_met_growing F M gives refuses limit kind old new (inr (inr p)) = or_memory (table_met F gives refuses limit None kind old new (inr p))
-
--- memory for the segments
-pub segments_memory : (gives : Giving) (limit : Option ℕ) (old mid : Option (List ℕ)) (ns : List ℕ)
-    → AreWithin ns limit → IfKnown old mid (TableStands gives ns) → IfKnown old mid (TakesMemory gives limit)
-segments_memory gives limit old mid ns within = IfKnown-weaker old mid (λ raw left table. inr (ns, table, within))

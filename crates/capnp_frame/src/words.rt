@@ -12,7 +12,7 @@ pub struct Word {
 
 impl Word {
     ghost use Rattle.std.specs.Prelude.{◌≡◌, ℕ, ◌*◌, ◌≤◌, ◌^◌, ◌↔◌, ◌⊎◌, replicate, map, IfOk, IfErr};
-    ghost use Rattle.capnp_frame.specs.Errors.{IsRefusedBy};
+    ghost use Rattle.capnp_frame.specs.Errors.{MayOverflow};
     ghost use Rattle.capnp_frame.specs.Words.{bytes_of};
 
     /// The word of these bytes.
@@ -26,9 +26,7 @@ impl Word {
     pub fn allocate_zeroed_vec(alloc: Global, length: usize) -> Result<Vec<Word>>
         ensures zero { IfOk result (λ words.
             map bytes_of words.items ≡ replicate length (replicate 8 0)) }
-        ensures overflow { IsRefusedBy result ErrorKind.MessageSizeOverflow ↔ (2 ^ 64 ≤ 8 * length) }
-        ensures kinds { IfErr result (λ error. (error.kind ≡ ErrorKind.OutOfMemory)
-            ⊎ (error.kind ≡ ErrorKind.MessageSizeOverflow)) }
+        ensures sized { MayOverflow (2 ^ 64 ≤ 8 * length) result }
     {
         if length.checked_mul(8).is_none() {
             return Err(Error::from_kind(ErrorKind::MessageSizeOverflow));

@@ -7,6 +7,7 @@ ghost use Rattle.capnp_frame.specs.Source.{IfKnown, IsRefused};
 ghost use Rattle.capnp_frame.specs.Asking.{Asked, FailsOr};
 ghost use Rattle.capnp_frame.specs.Errors.{IsRefusedBy};
 ghost use Rattle.capnp_frame.specs.Streams.{next_in, framed_rules, ReadsStreamInto};
+ghost use Rattle.capnp_frame.specs.Steps.{AsksNextInto};
 ghost use Rattle.capnp_frame.specs.Requests.{RestStands, TableStands, MessageStands};
 ghost use Rattle.capnp_frame.specs.Refusals.{TellsAccepted, RefusesTable, RefusesStream, IsLentReaderKind};
 ghost use Rattle.capnp_frame.specs.declared.error.ErrorKind.{ErrorKind};
@@ -56,16 +57,8 @@ fn read_into<R: Read>(
         ≡ 8 * sum (told_lengths info.segments_count buffer.new))) }
     ensures within { IfOk result (λ found. IfSome found (λ info.
         KeepsLimit (told_lengths info.segments_count buffer.new) limit)) }
-    ensures none { IfOk result (λ found. IfNone found
-        ((8 ≤ length buffer.old) × IfSome (R.unread source.old) (λ raw. raw ≡ []))) }
-    ensures short { length buffer.old < 8 →
-        (source.new ≡ source.old) × IsRefusedBy result ErrorKind.BufferNotLargeEnough }
-    ensures refused { FailsOr result (λ kind. IfKnown (R.unread source.old) (R.unread source.new)
-        (RefusesStream R.gives R.refuses limit (Some (length buffer.old)) kind)) }
-    ensures kinds { IfErr result (λ error. IsLentReaderKind R.refuses error.kind) }
-    ensures end { IfErr result (λ error. R.unread source.old ≡ Some [] →
-        8 ≤ length buffer.old → error.kind ≡ ErrorKind.DeviceFailed) }
-    ensures asked { Asked R.unread R.failures R.same source.old source.new result }
+    ensures asks { AsksNextInto R.Read source.old source.new (length buffer.old)
+        (RefusesStream R.gives R.refuses limit (Some (length buffer.old))) result }
 {
     let Some((segments_count, total)) = read_table_into(source, buffer, limit)? else {
         return Ok(None);
@@ -99,16 +92,8 @@ fn read_table_into<R: Read>(
     ensures bound { IfOk result (λ found. IfSome found (λ table. table.1 < 2 ^ 42)) }
     ensures within { IfOk result (λ found. IfSome found (λ table.
         KeepsLimit (told_lengths table.0 buffer.new) limit)) }
-    ensures none { IfOk result (λ found. IfNone found
-        ((8 ≤ length buffer.old) × IfSome (R.unread source.old) (λ raw. raw ≡ []))) }
-    ensures short { length buffer.old < 8 →
-        (source.new ≡ source.old) × IsRefusedBy result ErrorKind.BufferNotLargeEnough }
-    ensures refused { FailsOr result (λ kind. IfKnown (R.unread source.old) (R.unread source.new)
-        (RefusesTable R.gives R.refuses limit (Some (length buffer.old)) kind)) }
-    ensures kinds { IfErr result (λ error. IsLentReaderKind R.refuses error.kind) }
-    ensures end { IfErr result (λ error. R.unread source.old ≡ Some [] →
-        8 ≤ length buffer.old → error.kind ≡ ErrorKind.DeviceFailed) }
-    ensures asked { Asked R.unread R.failures R.same source.old source.new result }
+    ensures asks { AsksNextInto R.Read source.old source.new (length buffer.old)
+        (RefusesTable R.gives R.refuses limit (Some (length buffer.old))) result }
 {
     if buffer.len() < 8 {
         return Err(Error::from_kind(ErrorKind::BufferNotLargeEnough));

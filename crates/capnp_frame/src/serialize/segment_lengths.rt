@@ -1,7 +1,7 @@
 //! The lengths of segments that stand behind one another.
 ghost use Rattle.std.specs.Prelude.{◌≡◌, ℕ, ◌+◌, ◌*◌, ◌<◌, ◌≤◌, ◌^◌, ◌↔◌, List, [], ◌∷◌, ◌++◌, length, map, drop, sum, replicate, IfOk, OnOk, OnErr, IfErr, ◌⊎◌, vec_len, slice_get, option_copied};
 ghost use Rattle.capnp_frame.specs.SegmentLengths.{ranges, range_len, cut, AreRanges};
-ghost use Rattle.capnp_frame.specs.Errors.{IsRefusedBy};
+ghost use Rattle.capnp_frame.specs.Errors.{MayOverflow};
 
 use crate::error::{Error, ErrorKind, Result};
 use crate::serialize::buffer_segments::BufferSegments;
@@ -56,10 +56,7 @@ impl SegmentLengthsBuilder {
     pub fn try_push_segment(&mut self, length_in_words: usize) -> Result<()>
         ensures ok { OnOk result (self.new ≡ self.old ++ length_in_words ∷ []) }
         ensures err { OnErr result (self.new ≡ self.old) }
-        ensures overflow { IsRefusedBy result ErrorKind.MessageSizeOverflow
-            ↔ (2 ^ 64 ≤ sum self.old + length_in_words) }
-        ensures kinds { IfErr result (λ error. (error.kind ≡ ErrorKind.OutOfMemory)
-            ⊎ (error.kind ≡ ErrorKind.MessageSizeOverflow)) }
+        ensures sized { MayOverflow (2 ^ 64 ≤ sum self.old + length_in_words) result }
     {
         let Some(end) = self.total_words.checked_add(length_in_words) else {
             return Err(Error::from_kind(ErrorKind::MessageSizeOverflow));
@@ -86,10 +83,7 @@ impl SegmentLengthsBuilder {
     /// Segments of these lengths, of zeros.
     pub fn into_owned_segments(self) -> Result<OwnedSegments>
         ensures ok { IfOk result (λ segments. segments ≡ cut self (replicate (8 * sum self) 0)) }
-        ensures overflow { IsRefusedBy result ErrorKind.MessageSizeOverflow
-            ↔ (2 ^ 64 ≤ 8 * sum self) }
-        ensures kinds { IfErr result (λ error. (error.kind ≡ ErrorKind.OutOfMemory)
-            ⊎ (error.kind ≡ ErrorKind.MessageSizeOverflow)) }
+        ensures sized { MayOverflow (2 ^ 64 ≤ 8 * sum self) result }
     {
         let Some(length) = self.total_words().checked_mul(8) else {
             return Err(Error::from_kind(ErrorKind::MessageSizeOverflow));

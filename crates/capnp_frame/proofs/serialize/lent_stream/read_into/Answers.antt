@@ -2,48 +2,52 @@
 use Rattle.std.proofs.Common.{◌≡◌, ◌+◌, ◌-◌, ◌*◌, Some, length, inr, arith, rules}
 use borrow.Rule.Slice.PartMut.{put_mid}
 use Rattle.capnp_frame.specs.Front.{told_lengths}
-use Rattle.capnp_frame.proofs.AskLemmas.{passed_on, Asked-ok, Asked-err}
+use Rattle.capnp_frame.proofs.AskLemmas.{passed_on, Asked-err}
+use Rattle.capnp_frame.proofs.StepLemmas.{asks_found_into, asks_passed_into}
 use Rattle.capnp_frame.proofs.RequestLemmas.{table_not_empty}
 use Rattle.capnp_frame.proofs.MetRefusals.{table_met}
 use Rattle.capnp_frame.proofs.LentLemmas.{is_read, lacks_segments, segments_refused, Filled, body_put, message_stands, filled_total, filled_within}
 use Rattle.capnp_frame.proofs.serialize.lent_stream.read_into.Given as given
 use Rattle.capnp_frame.proofs.serialize.lent_stream.read_into.Goals as goal
 
-pub returns-in_err-segments_count-clause-refused : goal.returns-in_err-segments_count-clause-refused
-returns-in_err-segments_count-clause-refused g c =
-    passed_on _ _ c.from_residual.ensures.1 (table_met _ g.R.Read.gives g.R.Read.refuses c.args.limit (Some (length c.args.buffer.now)) _ _ _ c.in_err-segments_count.ensures.refused)
+pub returns-in_err-segments_count-clause-asks : goal.returns-in_err-segments_count-clause-asks
+returns-in_err-segments_count-clause-asks g c =
+    asks_passed_into g.R.Read _ _ _ _ _ _ _ c.from_residual.ensures.1
+    (table_met _ g.R.Read.gives g.R.Read.refuses c.args.limit (Some (length c.args.buffer.now)) _ _ _) c.in_err-segments_count.ensures.asks
 
-pub returns-then-buffer-end-clause-refused : goal.returns-then-buffer-end-clause-refused
-returns-then-buffer-end-clause-refused g c =
+pub returns-then-buffer-end-clause-asks : goal.returns-then-buffer-end-clause-asks
+returns-then-buffer-end-clause-asks g c =
     let table = c.in_ok-segments_count.ensures in
     let read = is_read g.R.Read.gives c.args.limit c.read_table_into.new.buffer c.in-Some.segments_count c.in-Some.total _ _ _ c.in-Some.is table.found table.tells table.total table.within in
     let room = read.tells.room in
     let size = c.table_len-start.ensures in
-    rw c.from_kind.ensures (inr (lacks_segments g.met.R.Read.lawful c.args.limit _ _ _ (length c.args.buffer.now) _ _ read (omega arith) (omega arith)))
+    record {
+      none = search rules;
+      short = search rules;
+      refused = rw c.from_kind.ensures (inr (lacks_segments g.met.R.Read.lawful c.args.limit _ _ _ (length c.args.buffer.now) _ _ read (omega arith) (omega arith)));
+      kinds = search rules;
+      end = search rules;
+      asked = search rules;
+    }
 
-pub returns-in_err-read_piece-clause-refused : goal.returns-in_err-read_piece-clause-refused
-returns-in_err-read_piece-clause-refused g c =
+pub returns-in_err-read_piece-clause-asks : goal.returns-in_err-read_piece-clause-asks
+returns-in_err-read_piece-clause-asks g c =
     let table = c.in_ok-segments_count.ensures in
     let read = is_read g.R.Read.gives c.args.limit c.read_table_into.new.buffer c.in-Some.segments_count c.in-Some.total _ _ _ c.in-Some.is table.found table.tells table.total table.within in
     let size = c.table_len-start.ensures in
     let start = c.table_len-start.result in
     let fill : length c.read_piece.new.piece ≡ start + 8 * c.in-Some.total - start = search rules in
-    passed_on _ _ c.from_residual-in_err-read_piece.ensures.1
-    (segments_refused g.met.R.Read.lawful _ c.args.limit _ _ _ _ (length c.args.buffer.now) _ _ _ _ read (omega arith)
-    (omega arith) c.read_piece.ensures.asked.advances.tail c.in_err-read_piece.ensures.refused)
-
-pub returns-in_err-read_piece-clause-end : goal.returns-in_err-read_piece-clause-end
-returns-in_err-read_piece-clause-end g c =
-    let table = rw c.in-Some.is at c.in_ok-segments_count.ensures.found in
-    passed_on _ _ c.from_residual-in_err-read_piece.ensures.1
-    (λ none room. absurd (table_not_empty g.R.Read.gives _ _
-    (told_lengths c.in-Some.segments_count c.read_table_into.new.buffer) g.met.R.Read.lawful.none_from_nothing
-    table none))
-
-pub returns-in_err-read_piece-clause-asked : goal.returns-in_err-read_piece-clause-asked
-returns-in_err-read_piece-clause-asked g c = Asked-err (g.met.R.Read.keeps.transitive _ _ _)
-    c.from_residual-in_err-read_piece.ensures.1 c.read_table_into.ensures.asked.advances
-    c.in_err-read_piece.ensures.asked
+    let is = c.from_residual-in_err-read_piece.ensures.1 in
+    record {
+      none = search rules;
+      short = search rules;
+      refused = passed_on _ _ is (segments_refused g.met.R.Read.lawful _ c.args.limit _ _ _ _ (length c.args.buffer.now) _ _ _ _ read (omega arith)
+          (omega arith) c.read_piece.ensures.asked.advances.tail c.in_err-read_piece.ensures.refused);
+      kinds = search rules;
+      end = passed_on _ _ is (λ none room. absurd (table_not_empty g.R.Read.gives _ _
+          (told_lengths c.in-Some.segments_count c.read_table_into.new.buffer) g.met.R.Read.lawful.none_from_nothing read.found none));
+      asked = Asked-err (g.met.R.Read.keeps.transitive _ _ _) is c.read_table_into.ensures.asks.asked.advances c.in_err-read_piece.ensures.asked;
+    }
 
 -- what is in the buffer once the segments are read
 filled : (g : given.Over) (c : goal.In_ok-read_piece g)
@@ -78,5 +82,8 @@ returns-clause-within g c =
     let keeps = rw c.in-Some.is at c.in_ok-segments_count.ensures.within in
     filled_within c.read_table_into.new.buffer c.read_piece.new.piece _ c.in-Some.segments_count c.args.limit (filled g c) keeps
 
-pub returns-clause-asked : goal.returns-clause-asked
-returns-clause-asked g c = Asked-ok (g.met.R.Read.keeps.transitive _ _ _) c.read_table_into.ensures.asked.advances c.read_piece.ensures.asked.advances
+pub returns-clause-asks : goal.returns-clause-asks
+returns-clause-asks g c =
+    let start = c.table_len-start.ensures in
+    asks_found_into g.R.Read _ _ _ _ _ _ (λ few. absurd (omega arith)) (g.met.R.Read.keeps.transitive _ _ _)
+    c.read_table_into.ensures.asks.asked.advances c.read_piece.ensures.asked.advances

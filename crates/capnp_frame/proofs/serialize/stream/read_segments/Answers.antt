@@ -5,7 +5,8 @@ use Rattle.std.specs.Prelude.{sum}
 use Rattle.capnp_frame.specs.SegmentLengths.{cut}
 use Rattle.capnp_frame.specs.declared.error.Error.{Error}
 use Rattle.capnp_frame.specs.declared.error.ErrorKind.TheVariants.{DeviceFailed}
-use Rattle.capnp_frame.proofs.AskLemmas.{passed_on, Asked-ok, Asked-err}
+use Rattle.capnp_frame.proofs.AskLemmas.{passed_on, Asked-err}
+use Rattle.capnp_frame.proofs.StepLemmas.{asks_found, asks_passed}
 use Rattle.capnp_frame.proofs.SourceLemmas.{IfErr-vacuous}
 use Rattle.capnp_frame.proofs.Ranges.{widths}
 use Rattle.capnp_frame.proofs.RequestLemmas.{lengths-cut, MessageStands-cut, IsWithin-cut, table_not_empty}
@@ -16,14 +17,8 @@ use Rattle.capnp_frame.proofs.serialize.stream.read_segments.Goals as goal
 
 pub returns-in_err-lengths-clause-asks : goal.returns-in_err-lengths-clause-asks
 returns-in_err-lengths-clause-asks g c =
-    let told = c.in_err-lengths.ensures.asks in
-    record {
-      none = search rules;
-      refused = passed_on _ _ c.from_residual.ensures.1 (table_met_growing _ _ g.R.Read.gives g.R.Read.refuses _ _ _ _ told.refused);
-      kinds = passed_on _ _ c.from_residual.ensures.1 told.kinds;
-      end = passed_on _ _ c.from_residual.ensures.1 told.end;
-      asked = search rules;
-    }
+    asks_passed g.R.Read _ _ _ _ _ _ _ _ c.from_residual.ensures.1
+    (table_met_growing _ _ g.R.Read.gives g.R.Read.refuses _ _ _ _) c.in_err-lengths.ensures.asks
 
 pub returns-in_err-read_piece-clause-asks : goal.returns-in_err-read_piece-clause-asks
 returns-in_err-read_piece-clause-asks g c =
@@ -60,10 +55,5 @@ pub returns-clause-whole : goal.returns-clause-whole
 returns-clause-whole g c = rw (parts g c).1 (lengths-cut c.in-Some.lengths c.read_piece.new.piece (parts g c).0).1
 
 pub returns-clause-asks : goal.returns-clause-asks
-returns-clause-asks g c = record {
-  none = tt;
-  refused = tt;
-  kinds = tt;
-  end = tt;
-  asked = Asked-ok (g.met.R.Read.keeps.transitive _ _ _) c.read_table.ensures.asks.asked.advances c.read_piece.ensures.asked.advances;
-}
+returns-clause-asks g c = asks_found g.R.Read _ _ _ _ _ _ (g.met.R.Read.keeps.transitive _ _ _)
+    c.read_table.ensures.asks.asked.advances c.read_piece.ensures.asked.advances

@@ -2,7 +2,8 @@
 use Rattle.std.proofs.Common.{rules, arith, ◌≡◌, ◌<◌, length, map, inr, None}
 use Rattle.std.proofs.lemmas.List.{length-map}
 use Rattle.capnp_frame.specs.SegmentLengths.{range_len}
-use Rattle.capnp_frame.proofs.AskLemmas.{passed_on, Asked-ok, Asked-err}
+use Rattle.capnp_frame.proofs.AskLemmas.{passed_on, Asked-err}
+use Rattle.capnp_frame.proofs.StepLemmas.{asks_found}
 use Rattle.capnp_frame.proofs.SourceLemmas.{Advances-join}
 use Rattle.capnp_frame.proofs.AnswerLemmas.{source_kind}
 use Rattle.capnp_frame.proofs.MetRefusals.{or_memory, others_met, limit_met}
@@ -44,10 +45,5 @@ returns-in_err-keep_limit-clause-asks g c =
     }
 
 pub returns-clause-asks : goal.returns-clause-asks
-returns-clause-asks g c = record {
-  none = tt;
-  refused = tt;
-  kinds = tt;
-  end = tt;
-  asked = Asked-ok (g.met.R.Read.keeps.transitive _ _ _) c.read_first.ensures.asked.advances c.read_lengths.ensures.asked.advances;
-}
+returns-clause-asks g c = asks_found g.R.Read _ _ _ _ _ _ (g.met.R.Read.keeps.transitive _ _ _)
+    c.read_first.ensures.asked.advances c.read_lengths.ensures.asked.advances

@@ -1,5 +1,5 @@
 -- The message at the front is the one that is found.
-use Rattle.std.proofs.Common.{length}
+use Rattle.std.proofs.Common.{length, ap}
 use Rattle.capnp_frame.proofs.HeldLemmas.{parts_are, keeps_told}
 use Rattle.capnp_frame.proofs.FlatReaderLemmas.{reads_none, reads_held}
 use Rattle.capnp_frame.proofs.serialize.buffer_segments.BufferSegments.new.Goals as goal
@@ -17,5 +17,5 @@ returns-clause-reads g c =
     let told = rw c.as_bytes.ensures at c.in_ok-lengths.ensures.lengths in
     reads_held _ _ _ _ _ (length ns) holds
     (parts_are bytes c.to_segment_indices.result.items ns c.in_ok-lengths.table_len c.from_parts.result.segments
-    c.to_segment_indices.ensures told c.in_ok-lengths.ensures.table c.from_parts.ensures.segments)
+    c.to_segment_indices.ensures told c.in_ok-lengths.ensures.table (ap (λ held. held.segments) c.from_parts.ensures))
     (keeps_told bytes ns c.args.options.traversal_limit_in_words told c.in_ok-lengths.ensures.within) tt

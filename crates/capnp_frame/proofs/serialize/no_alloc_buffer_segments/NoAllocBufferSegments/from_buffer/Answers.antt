@@ -1,4 +1,5 @@
 -- The message at the front is the one that is held.
+use Rattle.std.proofs.Common.{ap}
 use Rattle.capnp_frame.proofs.FlatReaderLemmas.{reads_none, reads_held}
 use Rattle.capnp_frame.proofs.serialize.no_alloc_buffer_segments.NoAllocBufferSegments.from_buffer.Goals as goal
 
@@ -11,4 +12,4 @@ pub returns-clause-reads : goal.returns-clause-reads
 returns-clause-reads g c =
     let holds = rw c.as_bytes.ensures at c.in_ok-info.ensures.holds in
     let keeps = rw c.as_bytes.ensures at c.in_ok-info.ensures.within in
-    reads_held _ _ _ _ _ c.in_ok-info.info.segments_count holds c.of_held.ensures.segments keeps tt
+    reads_held _ _ _ _ _ c.in_ok-info.info.segments_count holds (ap (λ held. held.segments) c.of_held.ensures) keeps tt
