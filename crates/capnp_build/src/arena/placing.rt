@@ -7,7 +7,7 @@ ghost use Rattle.capnp_wire.specs.Tree.{count};
 ghost use Rattle.capnp_wire.specs.Reached.{root};
 ghost use Rattle.capnp_wire.specs.Layout.{pointer};
 ghost use Rattle.capnp_wire.specs.Values.{HasWords};
-ghost use Rattle.capnp_build.specs.Blocks.{PutsBlock, PlacesBlock};
+ghost use Rattle.capnp_build.specs.Blocks.{LeavesNull, PutsBlock, PlacesBlock};
 
 use crate::allocator::Allocator;
 use crate::arena::builder_arena::BuilderArena;
@@ -24,12 +24,10 @@ impl<A: Allocator> BuilderArena<A> {
         ensures first { IfOk result (λ segment. (i : ℕ) → 0 < i → i < segment → room_of (space_at self.old.spaces i) < words) }
         ensures older { IfOk result (λ segment. segment < length self.old.spaces → self.new.spaces ≡ self.old.spaces) }
         ensures newer { IfOk result (λ segment. length self.old.spaces ≤ segment → (segment ≡ length self.old.spaces) × IsAdded self.old.spaces self.new.spaces) }
-        ensures null { self.new.spot ≡ None }
+        ensures leaves { LeavesNull A.Allocator self.old self.new }
         ensures kept { OnErr result (self.new.spaces ≡ self.old.spaces) }
         ensures full { OnErr result ((i : ℕ) → 0 < i → i < length self.old.spaces → room_of (space_at self.old.spaces i) < words) }
         ensures kind { IfErr result (λ error. MayRefuse words error.kind) }
-        ensures same { A.same self.old.allocator self.new.allocator }
-        ensures others { KeepsOthers A.out (held_of self.old) (held_of self.new) }
     {
         let count = self.segments.len();
         for segment in 1..count {
