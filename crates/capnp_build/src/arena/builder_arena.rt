@@ -1,7 +1,7 @@
 //! The arena that a message is built in.
 ghost use Rattle.std.specs.Prelude.{⊤, MatchOption, ◌≡◌, ℕ, ◌+◌, ◌-◌, ◌*◌, ◌/◌, ◌<◌, ◌≤◌, [], ◌∷◌, length, map, max, slice_index_or, take, drop, Some, None, IfErr, OnOk, OnErr};
 ghost use Rattle.capnp_build.specs.Out.{MayRefuse};
-ghost use Rattle.capnp_build.specs.Held.{used_of, space_at, KeepsOthers};
+ghost use Rattle.capnp_build.specs.Held.{used_of, space_at};
 ghost use Rattle.capnp_build.specs.Built.{held_of, ForRoot, IsShown, size_in_words, message, HasNullRoot, Built, IsZeroAt, KeepsRooms};
 ghost use Rattle.capnp_build.specs.Shown.{Shows, HoldsForm};
 ghost use Rattle.capnp_build.specs.Output.{CanBeWritten};

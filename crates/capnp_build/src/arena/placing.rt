@@ -1,8 +1,8 @@
 //! Where the block of a value is placed, and the pointer to it.
 ghost use Rattle.std.specs.Prelude.{◌≡◌, ℕ, ◌+◌, ◌-◌, ◌*◌, ◌/◌, ◌^◌, ◌<◌, ◌≤◌, length, Some, None, IfOk, IfErr, OnErr};
 ghost use Rattle.capnp_build.specs.Out.{MayRefuse};
-ghost use Rattle.capnp_build.specs.Held.{space_at, room_of, KeepsOthers};
-ghost use Rattle.capnp_build.specs.Built.{held_of, IsSet, IsWhole, IsAdded};
+ghost use Rattle.capnp_build.specs.Held.{space_at, room_of};
+ghost use Rattle.capnp_build.specs.Built.{IsSet, IsWhole, IsAdded};
 ghost use Rattle.capnp_wire.specs.Tree.{count};
 ghost use Rattle.capnp_wire.specs.Reached.{root};
 ghost use Rattle.capnp_wire.specs.Layout.{pointer};
