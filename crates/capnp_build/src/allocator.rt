@@ -24,14 +24,17 @@ pub trait Allocator: Drop {
     /// Hands out a segment of at least so many words and fewer than 2^32, all zero. It is refused by
     /// `OutOfMemory`, `AllocationTooLarge` with the words asked, or `SegmentTaken` alone.
     fn allocate_segment(&mut self, minimum_size: u32) -> Result<Self::Segment>
-        ensures { HandsOut out same Self.Segment.content Self.Segment.is_lent minimum_size self.old self.new result };
+        ensures { HandsOut out same Self.Segment.content Self.Segment.is_lent
+            minimum_size self.old self.new result };
 
     /// Takes a segment back, of which the first words were used. What lies past these is zero.
     fn deallocate_segment(&mut self, segment: Self::Segment, words_used: u32)
         requires is_out { IsOut (out self.old) (record { length = length (Self.Segment.content segment); is_lent = Self.Segment.is_lent segment }) }
         requires used { 8 * words_used ≤ length (Self.Segment.content segment) }
         requires zero { ZeroFrom (8 * words_used) (Self.Segment.content segment) }
-        ensures { TakesBack out same (record { length = length (Self.Segment.content segment); is_lent = Self.Segment.is_lent segment }) self.old self.new };
+        ensures { TakesBack out same
+            (record { length = length (Self.Segment.content segment); is_lent = Self.Segment.is_lent segment })
+            self.old self.new };
 
     /// What each call keeps, the calls together keep.
     ghost keeps: { IsPreorder same };

@@ -92,7 +92,8 @@ impl HeapAllocator {
     // Counts a segment of so many words.
     fn grow(&mut self, size: u32)
         ensures { IsHeapOf
-            (next_after self.old.allocation_strategy self.old.next_size self.old.max_segment_words size)
+            (next_after self.old.allocation_strategy
+            self.old.next_size self.old.max_segment_words size)
             self.old.allocation_strategy self.old.max_segment_words self.new }
     {
         if size == 0 {
@@ -122,7 +123,8 @@ impl Allocator for HeapAllocator {
 
     // Beside what any allocator ensures: how many words there are, and what is next.
     fn allocate_segment(&mut self, minimum_size: u32) -> Result<Vec<u8>>
-        ensures hands_out { HandsOut (λ allocator list. ⊤) (λ old new. ⊤) (λ s. s.items) (λ s. false)
+        ensures hands_out { HandsOut (λ allocator list. ⊤) (λ old new. ⊤)
+            (λ s. s.items) (λ s. false)
             minimum_size self.old self.new result }
         ensures kind { IfErr result (λ error. error.kind ≡ OutOfMemory) }
         ensures size { IfOk result (λ s.

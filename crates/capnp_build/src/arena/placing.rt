@@ -45,7 +45,8 @@ impl<A: Allocator> BuilderArena<A> {
         requires value { HasWords (V.has_tree value.now) canonical words }
         requires room { words ≤ room_of (space_at self.old.spaces 0) }
         ensures whole { length self.old.spaces ≡ 1 → length (space_at self.old.spaces 0).used ≡ 8 → IsWhole (V.has_tree value.now) canonical self.new.spaces }
-        ensures block { PlacesBlock A.Allocator (V.has_tree value.now) canonical 0 0 words self.old self.new }
+        ensures block { PlacesBlock A.Allocator (V.has_tree value.now) canonical 0 0 words
+            self.old self.new }
     {
         let spot = self.segments.fill(0, canonical, value, words);
         self.segments.point_near(spot);
@@ -65,7 +66,8 @@ impl<A: Allocator> BuilderArena<A> {
         requires some { 0 < words }
         requires value { HasWords (V.has_tree value.now) canonical words }
         requires room { words + 1 ≤ room_of (space_at self.old.spaces segment) }
-        ensures { PlacesBlock A.Allocator (V.has_tree value.now) canonical segment 1 words self.old self.new }
+        ensures { PlacesBlock A.Allocator (V.has_tree value.now) canonical segment 1 words
+            self.old self.new }
     {
         self.segments.grow(segment, 1);
         let spot = self.segments.fill(segment, canonical, value, words);
@@ -83,7 +85,8 @@ impl<A: Allocator> BuilderArena<A> {
         requires there { 0 < length self.old.spaces }
         requires null { self.old.spot ≡ None }
         requires value { HasWords (V.has_tree value.now) canonical words }
-        ensures { PutsBlock A.Allocator (IsSet (V.has_tree value.now) canonical) words self.old self.new result }
+        ensures { PutsBlock A.Allocator (IsSet (V.has_tree value.now) canonical) words
+            self.old self.new result }
     {
         if words <= self.segments.room(0) {
             self.put_near(canonical, value, words);
