@@ -41,3 +41,10 @@ pub record PlacesBlock {A S : Type 0} (alloc : Ghosts A S) (has_tree : Trees →
 pub record PointsRoot {A : Type 0} (spot : Spot) (old new : Held A) : Type 0 where
   pub stands : (form : Form) (held : Trees) → HasBody old.spaces spot form held → IsLaid new.spaces spot form held
   pub rewritten : IsRewritten old new
+
+-- A step leaves the root null.
+pub record LeavesNull {A S : Type 0} (alloc : Ghosts A S) (old new : Built A) : Type 0 where
+  pub null : new.spot ≡ None
+  pub same : alloc.same old.allocator new.allocator
+  -- what else the allocator has out stays out
+  pub others : KeepsOthers alloc.out (held_of old) (held_of new)

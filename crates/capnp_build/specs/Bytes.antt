@@ -22,3 +22,8 @@ with_block space n = record { used = space.used ++ replicate n 0; size = space.s
 -- with other bytes from an index on
 abbrev pub with_bytes : Space → ℕ → List ℕ → Space
 with_bytes space at w = record { used = written space.used at w; size = space.size; is_lent = space.is_lent }
+
+-- Bytes of a segment are others from an index on, and it is lent or not as before; `content` is its bytes.
+pub record IsOverwritten {S : Type 0} (content : S → List ℕ) (is_lent : S → Bool) (start : ℕ) (block : List ℕ) (old new : S) : Type 0 where
+  pub bytes : content new ≡ written (content old) start block
+  pub lent : is_lent new ≡ is_lent old

@@ -1,5 +1,6 @@
 pub mod Bytes
 pub mod Out
+pub mod Allocating
 pub mod Filled
 pub mod Held
 pub mod Body

@@ -1,5 +1,5 @@
 -- What of a message that is built is written (src/segments.rt).
-use Rattle.std.specs.Prelude.{◌≡◌, ◌*◌, ◌%◌, ◌^◌, ◌<◌, ◌≤◌, List, length, map}
+use Rattle.std.specs.Prelude.{◌≡◌, ℕ, ◌*◌, ◌%◌, ◌^◌, ◌<◌, ◌≤◌, List, length, map}
 use Rattle.capnp_frame.specs.Writing.{IsWritable}
 use Rattle.capnp_build.specs.Bytes.{Space}
 use Rattle.capnp_build.specs.Held.{used_of}
@@ -11,3 +11,8 @@ UsesWords space = (length space.used % 8 ≡ 0) × (length space.used ≤ 8 * 2 
 -- where there is a segment, what is used can be written
 abbrev pub CanBeWritten : List Space → Type 0
 CanBeWritten spaces = 0 < length spaces → IsWritable (map used_of spaces)
+
+-- so many words are used
+pub record CountsWords (count : ℕ) (used : List ℕ) : Type 0 where
+  pub words : 8 * count ≡ length used
+  pub bound : count ≤ 2 ^ 29

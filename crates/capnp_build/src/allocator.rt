@@ -1,7 +1,8 @@
 //! What hands out segments and takes them back.
-ghost use Rattle.std.specs.Prelude.{◌≡◌, ℕ, ◌+◌, ◌*◌, ◌/◌, ◌^◌, ◌<◌, ◌≤◌, ◌⊎◌, List, length, IfOk, IfErr, OnErr};
+ghost use Rattle.std.specs.Prelude.{◌≡◌, ℕ, ◌+◌, ◌*◌, ◌/◌, ◌^◌, ◌<◌, ◌≤◌, ◌⊎◌, List, length};
 ghost use Rattle.capnp_build.specs.Bytes.{ZeroFrom};
-ghost use Rattle.capnp_build.specs.Out.{Out, Adds, TakesOff, IsOut, IsPreorder, MayRefuse};
+ghost use Rattle.capnp_build.specs.Out.{Out, IsOut, IsPreorder};
+ghost use Rattle.capnp_build.specs.Allocating.{HandsOut, TakesBack};
 
 use crate::segment_space::SegmentSpace;
 use capnp_frame::Result;
@@ -23,21 +24,17 @@ pub trait Allocator: Drop {
     /// Hands out a segment of at least so many words and fewer than 2^32, all zero. It is refused by
     /// `OutOfMemory`, `AllocationTooLarge` with the words asked, or `SegmentTaken` alone.
     fn allocate_segment(&mut self, minimum_size: u32) -> Result<Self::Segment>
-        ensures room { IfOk result (λ s. minimum_size ≤ length (Self.Segment.content s) / 8) }
-        ensures field { IfOk result (λ s. length (Self.Segment.content s) / 8 < 2 ^ 32) }
-        ensures zero { IfOk result (λ s. ZeroFrom 0 (Self.Segment.content s)) }
-        ensures adds { IfOk result (λ s. Adds (out self.old) (out self.new) (record { length = length (Self.Segment.content s); is_lent = Self.Segment.is_lent s })) }
-        ensures refusal { IfErr result (λ error. MayRefuse minimum_size error.kind) }
-        ensures refused { OnErr result ((list : List Out) → out self.old list → out self.new list) }
-        ensures same { same self.old self.new };
+        ensures { HandsOut out same Self.Segment.content Self.Segment.is_lent
+            minimum_size self.old self.new result };
 
     /// Takes a segment back, of which the first words were used. What lies past these is zero.
     fn deallocate_segment(&mut self, segment: Self::Segment, words_used: u32)
         requires is_out { IsOut (out self.old) (record { length = length (Self.Segment.content segment); is_lent = Self.Segment.is_lent segment }) }
         requires used { 8 * words_used ≤ length (Self.Segment.content segment) }
         requires zero { ZeroFrom (8 * words_used) (Self.Segment.content segment) }
-        ensures takes_off { TakesOff (out self.old) (out self.new) (record { length = length (Self.Segment.content segment); is_lent = Self.Segment.is_lent segment }) }
-        ensures same { same self.old self.new };
+        ensures { TakesBack out same
+            (record { length = length (Self.Segment.content segment); is_lent = Self.Segment.is_lent segment })
+            self.old self.new };
 
     /// What each call keeps, the calls together keep.
     ghost keeps: { IsPreorder same };

@@ -66,7 +66,8 @@ impl<'a, M: Building> View<'a, M, Owned> {
     /// Makes the root a new object of some length, all zero. Where it is refused, the root is null.
     pub fn set_new<K: OwnedBuilder>(&mut self, n: u32) -> Result<()>
         ensures same { self.new.message.ghost_name ≡ self.old.message.ghost_name }
-        ensures inits { InitsRoot M.Allocator.Allocator K.OwnedBuilder n (M.built self.old.message.now) (M.built self.new.message.now) result }
+        ensures inits { InitsRoot M.Allocator.Allocator K.OwnedBuilder n
+            (M.built self.old.message.now) (M.built self.new.message.now) result }
     {
         self.message.init_object::<K>(n)
     }
@@ -87,7 +88,8 @@ impl<'a, M: Building> View<'a, M, Owned> {
     /// Makes the root a new object of some length, all zero, and answers a view that writes it. Where it
     /// is refused, the root is null.
     pub fn initn_as<K: OwnedBuilder>(self, n: u32) -> Result<View<'a, M, K>>
-        ensures { InitsView M.Allocator.Allocator K.OwnedBuilder n M.built (λ view. view.message) self.entry.message result }
+        ensures { InitsView M.Allocator.Allocator K.OwnedBuilder n M.built
+            (λ view. view.message) self.entry.message result }
     {
         let View { message, kind: _ } = self;
         init::<M, K>(message, n)?;
@@ -96,7 +98,8 @@ impl<'a, M: Building> View<'a, M, Owned> {
 
     /// The same, of length 0.
     pub fn init_as<K: OwnedBuilder>(self) -> Result<View<'a, M, K>>
-        ensures { InitsView M.Allocator.Allocator K.OwnedBuilder 0 M.built (λ view. view.message) self.entry.message result }
+        ensures { InitsView M.Allocator.Allocator K.OwnedBuilder 0 M.built
+            (λ view. view.message) self.entry.message result }
     {
         self.initn_as::<K>(0)
     }
@@ -104,7 +107,8 @@ impl<'a, M: Building> View<'a, M, Owned> {
     /// Sets the root to a value. Where it is refused, the root is null.
     pub fn set_as<T, V: SetterInput<T> + Drop>(&mut self, value: V) -> Result<()>
         ensures same { self.new.message.ghost_name ≡ self.old.message.ghost_name }
-        ensures sets { SetsRoot M.Allocator.Allocator (V.has_tree value) (V.refuses value) (M.built self.old.message.now) (M.built self.new.message.now) result }
+        ensures sets { SetsRoot M.Allocator.Allocator (V.has_tree value) (V.refuses value)
+            (M.built self.old.message.now) (M.built self.new.message.now) result }
     {
         self.message.set_root::<T, V>(&value)
     }

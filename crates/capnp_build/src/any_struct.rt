@@ -45,7 +45,8 @@ impl<'a, M: Building> View<'a, M, Owned> {
     /// Sets a data word.
     pub fn set_word(&mut self, index: u16, word: u64)
         requires { HasField (M.built self.old.message.now).spaces index }
-        ensures { WritesView M.built (λ old new. IsFieldSet old new index word) self.old.message self.new.message }
+        ensures { WritesView M.built (λ old new. IsFieldSet old new index word)
+            self.old.message self.new.message }
     {
         self.message.set_word(index, word);
     }

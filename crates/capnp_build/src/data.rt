@@ -46,7 +46,8 @@ impl<'a, M: Building> View<'a, M, Owned> {
     /// Sets a byte.
     pub fn set(&mut self, index: u32, byte: u8)
         requires { HasBytes (M.built self.old.message.now).spaces index 1 }
-        ensures { WritesView M.built (λ old new. IsBytesSet old new index (byte ∷ [])) self.old.message self.new.message }
+        ensures { WritesView M.built (λ old new. IsBytesSet old new index (byte ∷ []))
+            self.old.message self.new.message }
     {
         self.message.write_bytes(index, &[byte]);
     }
@@ -54,7 +55,8 @@ impl<'a, M: Building> View<'a, M, Owned> {
     /// Writes bytes over those from an index on.
     pub fn write(&mut self, index: u32, bytes: &[u8])
         requires { HasBytes (M.built self.old.message.now).spaces index (length bytes.now) }
-        ensures { WritesView M.built (λ old new. IsBytesSet old new index bytes.now) self.old.message self.new.message }
+        ensures { WritesView M.built (λ old new. IsBytesSet old new index bytes.now)
+            self.old.message self.new.message }
     {
         self.message.write_bytes(index, bytes);
     }

@@ -3,6 +3,7 @@ ghost use Rattle.std.specs.Prelude.{◌≡◌, ℕ, ◌+◌, ◌-◌, ◌*◌, �
 ghost use Rattle.capnp_build.specs.Bytes.{written, ZeroFrom, Space, with_block, with_bytes};
 ghost use Rattle.capnp_build.specs.Filled.{IsAppended};
 ghost use Rattle.capnp_wire.specs.Values.{HasWords};
+ghost use Rattle.capnp_build.specs.Output.{CountsWords};
 
 use crate::segment_space::SegmentSpace;
 use capnp_frame::Word;
@@ -51,9 +52,8 @@ impl<S: SegmentSpace> Part<S> {
 
     /// The used words.
     pub fn words(&self) -> u32
-        ensures words { 8 * result ≡ length self.now.used }
-        ensures bound { result ≤ 2 ^ 29 }
         ensures within { length self.now.used ≤ self.now.size }
+        ensures counts { CountsWords result self.now.used }
     {
         self.words
     }

@@ -45,7 +45,8 @@ impl<'a, M: Building> View<'a, M, Owned<u64>> {
     /// Sets a number.
     pub fn set(&mut self, index: u32, number: u64)
         requires { HasNumber (M.built self.old.message.now).spaces index }
-        ensures { WritesView M.built (λ old new. IsNumberSet old new index number) self.old.message self.new.message }
+        ensures { WritesView M.built (λ old new. IsNumberSet old new index number)
+            self.old.message self.new.message }
     {
         self.message.set_number(index, number);
     }

@@ -1,7 +1,7 @@
 //! The bytes of segments.
 ghost use Rattle.std.specs.Prelude.{◌≡◌, ℕ, ◌+◌, ◌-◌, ◌/◌, ◌%◌, ◌≤◌, Bool, true, false, List, length, replicate, take, drop};
 ghost use Rattle.capnp_wire.specs.Values.{HasWords};
-ghost use Rattle.capnp_build.specs.Bytes.{written};
+ghost use Rattle.capnp_build.specs.Bytes.{IsOverwritten};
 ghost use Rattle.capnp_build.specs.Filled.{IsFilled};
 
 use capnp_frame::Word;
@@ -22,15 +22,13 @@ pub trait SegmentSpace: Drop {
     /// Writes bytes from an index on.
     fn write_at(&mut self, at: usize, bytes: &[u8])
         requires { at + length bytes.now ≤ length (content self.old) }
-        ensures bytes { content self.new ≡ written (content self.old) at bytes.now }
-        ensures lent { is_lent self.new ≡ is_lent self.old };
+        ensures { IsOverwritten content is_lent at bytes.now self.old self.new };
 
     /// Makes the bytes between two indexes zero.
     fn zero(&mut self, from: usize, to: usize)
         requires order { from ≤ to }
         requires within { to ≤ length (content self.old) }
-        ensures bytes { content self.new ≡ written (content self.old) from (replicate (to - from) 0) }
-        ensures lent { is_lent self.new ≡ is_lent self.old };
+        ensures { IsOverwritten content is_lent from (replicate (to - from) 0) self.old self.new };
 
     /// Writes a value into the bytes between two indexes, which are zero and just its words, and answers
     /// the pointer to it for a block that follows this pointer at once.

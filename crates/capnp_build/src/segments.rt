@@ -6,7 +6,7 @@ ghost use Rattle.capnp_build.specs.Bytes.{Space, with_block, with_bytes};
 ghost use Rattle.capnp_build.specs.Out.{MayRefuse};
 ghost use Rattle.capnp_build.specs.Built.{size_in_words};
 ghost use Rattle.capnp_build.specs.Held.{IsAppendedAt, Held, spaces_of, used_of, space_at, room_of, with_space, KeepsOthers};
-ghost use Rattle.capnp_build.specs.Output.{CanBeWritten};
+ghost use Rattle.capnp_build.specs.Output.{CanBeWritten, CountsWords};
 ghost use Rattle.capnp_wire.specs.Values.{HasWords};
 ghost use Rattle.capnp_build.specs.Outcomes.{GivesBack};
 
@@ -97,8 +97,7 @@ impl<A: Allocator> Segments<A> {
     /// The words that are used of a segment.
     pub fn words(&self, index: u32) -> u32
         requires { index < length self.now.spaces }
-        ensures words { 8 * result ≡ length (space_at self.now.spaces index).used }
-        ensures bound { result ≤ 2 ^ 29 }
+        ensures { CountsWords result (space_at self.now.spaces index).used }
     {
         match &self.first {
             None => 0,

@@ -36,17 +36,20 @@ pub trait Building: Drop {
     /// Sets a data word of the struct at the root.
     fn set_word(&mut self, index: u16, word: u64)
         requires { HasField (built self.old).spaces index }
-        ensures { WritesRoot (λ old new. IsFieldSet old new index word) (built self.old) (built self.new) };
+        ensures { WritesRoot (λ old new. IsFieldSet old new index word)
+            (built self.old) (built self.new) };
 
     /// Sets a number of the list of words at the root.
     fn set_number(&mut self, index: u32, number: u64)
         requires { HasNumber (built self.old).spaces index }
-        ensures { WritesRoot (λ old new. IsNumberSet old new index number) (built self.old) (built self.new) };
+        ensures { WritesRoot (λ old new. IsNumberSet old new index number)
+            (built self.old) (built self.new) };
 
     /// Writes bytes over those of the list of bytes at the root, from an index on.
     fn write_bytes(&mut self, index: u32, bytes: &[u8])
         requires { HasBytes (built self.old).spaces index (length bytes.now) }
-        ensures { WritesRoot (λ old new. IsBytesSet old new index bytes.now) (built self.old) (built self.new) };
+        ensures { WritesRoot (λ old new. IsBytesSet old new index bytes.now)
+            (built self.old) (built self.new) };
 
     /// The size of the tree at the root, as a reading pointer to it answers.
     fn target_size(&self) -> Result<MessageSize>
@@ -54,11 +57,13 @@ pub trait Building: Drop {
 
     /// A new object of some length at the root; null for none.
     fn init_object<K: OwnedBuilder>(&mut self, n: u32) -> Result<()>
-        ensures { InitsRoot Self.Allocator.Allocator K.OwnedBuilder n (built self.old) (built self.new) result };
+        ensures { InitsRoot Self.Allocator.Allocator K.OwnedBuilder n
+            (built self.old) (built self.new) result };
 
     /// Sets the root to a value.
     fn set_root<T, V: SetterInput<T>>(&mut self, value: &V) -> Result<()>
-        ensures { SetsRoot Self.Allocator.Allocator (V.has_tree value.now) (V.refuses value.now) (built self.old) (built self.new) result };
+        ensures { SetsRoot Self.Allocator.Allocator (V.has_tree value.now) (V.refuses value.now)
+            (built self.old) (built self.new) result };
 }
 
 impl<A: Allocator> Building for BuilderArena<A> {
@@ -121,9 +126,11 @@ impl<'a, M: Building, K> View<'a, M, K> {
 
 /// A new object of some length at the root. Where it is refused, the root is null.
 pub fn init<M: Building, K: OwnedBuilder>(message: &mut M, n: u32) -> Result<()>
-    ensures inits { InitsRoot M.Allocator.Allocator K.OwnedBuilder n (M.built message.old) (M.built message.new) result }
+    ensures inits { InitsRoot M.Allocator.Allocator K.OwnedBuilder n
+        (M.built message.old) (M.built message.new) result }
     // The same of the message before the call alone.
-    ensures crowded { IfErr result (λ error. K.refuses n error.kind ⊎ LacksFirst (M.built message.old).spaces error.kind
+    ensures crowded { IfErr result (λ error. K.refuses n error.kind
+        ⊎ LacksFirst (M.built message.old).spaces error.kind
         ⊎ WasCrowded M.Allocator.same (InitWords K.inits n) (M.built message.old) error.kind) }
 {
     message.init_object::<K>(n)

@@ -1,5 +1,6 @@
 -- A message has a canonical form, or lacks it for one reason.
 use Rattle.std.proofs.Common.{◌≡◌, ◌⊎◌, ℕ, Bool, List, [], ◌∷◌, Option, Some, Result, Ok, Err, IsOk, IfErr, MatchResult, inl, inr, refl, sym, ◌∙◌, ap, subst, arith}
+use Rattle.std.specs.Result.{IsErrAnd}
 use Rattle.capnp_frame.specs.declared.error.Error.{Error}
 use Rattle.capnp_frame.specs.declared.error.ErrorKind.{ErrorKind}
 use Rattle.capnp_frame.specs.declared.error.ErrorKind.TheVariants.{OutOfMemory}
@@ -8,17 +9,18 @@ use Rattle.capnp_wire.specs.Trim.{trim}
 use Rattle.capnp_wire.specs.Reached.{root}
 use Rattle.capnp_wire.specs.Faults.{NoWord, StopsWalk, no_word, at_pointer}
 use Rattle.capnp_wire.specs.Views.{Pointer}
-use Rattle.capnp_wire.specs.Values.{TreeAt}
+use Rattle.capnp_wire.specs.Values.{TreeAt, IsCanonicalForm}
 use Rattle.capnp_wire.proofs.StopLemmas.{stops_has_no_trees}
 use Rattle.capnp_wire.proofs.OneValueLemmas.{one_of_pointer}
-use Rattle.capnp_message.specs.Canonical.{HasForm, LacksForm}
+use Rattle.capnp_message.specs.Canonical.{HasForm, LacksForm, ReturnsForm}
+use Rattle.capnp_message.specs.Seen.{ReadMessage, root_of}
 
 -- where the root's word does not stand, that is the reason
-pub root_lacks : (p : Pointer) (kind : ErrorKind) → p.place ≡ Some root → NoWord p.message root kind → LacksForm p kind
+root_lacks : (p : Pointer) (kind : ErrorKind) → p.place ≡ Some root → NoWord p.message root kind → LacksForm p kind
 root_lacks p kind there none = inl (root, there, at_pointer (no_word none))
 
 -- a message without a form has none
-pub lacks_or_has : (p : Pointer) (kind : ErrorKind) → LacksForm p kind → HasForm p → ⊥
+lacks_or_has : (p : Pointer) (kind : ErrorKind) → LacksForm p kind → HasForm p → ⊥
 lacks_or_has p kind (inl stops) has = (one_of_pointer p).apart kind has.trees stops has.tree_is
 lacks_or_has p kind (inr many) has =
     let same : total_words (trim has.trees) ≡ total_words (trim many.0) =
@@ -26,14 +28,14 @@ lacks_or_has p kind (inr many) has =
     omega (arith, has.few, many.2, same)
 
 -- the reason is one
-pub lacks_once : (p : Pointer) (a b : ErrorKind) → LacksForm p a → LacksForm p b → a ≡ b
+lacks_once : (p : Pointer) (a b : ErrorKind) → LacksForm p a → LacksForm p b → a ≡ b
 lacks_once p a b (inl x) (inl y) = (one_of_pointer p).same_refusal a b x y
 lacks_once p a b (inl x) (inr y) = absurd ((one_of_pointer p).apart a y.0 x y.1)
 lacks_once p a b (inr x) (inl y) = absurd ((one_of_pointer p).apart b x.0 y x.1)
 lacks_once p a b (inr x) (inr y) = x.3 ∙ sym y.3
 
 -- where there is a form, memory alone is wanting
-pub form_found : {T : Type 0} (p : Pointer) (r : Result T Error) (P : T → Type 0)
+form_found : {T : Type 0} (p : Pointer) (r : Result T Error) (P : T → Type 0)
     → MatchResult r P (λ error. LacksForm p error.kind ⊎ (error.kind ≡ OutOfMemory)) → HasForm p → IfErr r (λ error. error.kind ≡ OutOfMemory)
 form_found p (Ok x) P answer has = tt
 form_found p (Err e) P (inl lacks) has = absurd (lacks_or_has p e.kind lacks has)
@@ -45,10 +47,22 @@ pub tree_found : {limit : Option ℕ} (m : List (List ℕ)) (level : ℕ) (r : R
 tree_found m level (Ok x) stops trees t = refl
 tree_found {limit} m level (Err e) stops trees t = absurd (stops_has_no_trees m (root ∷ []) level t.charge limit e.kind trees stops t.stand t.shallow t.within)
 
--- refusals of two pointers that are the same
-pub lacks_there : (p q : Pointer) (kind : ErrorKind) → p ≡ q → LacksForm q kind → LacksForm p kind
-lacks_there p q kind same lacks = subst (λ (x : Pointer). LacksForm x kind) (sym same) lacks
+-- where the root's word does not stand, there is no form
+pub no_form : {S T : Type 0} (segments : S → List (List ℕ)) (inside message : ReadMessage S) (words : T → List ℕ) {error : Error} (r : Result T Error) → inside ≡ message
+    → IsErrAnd r (λ y. y ≡ error) → NoWord (root_of segments inside).message root error.kind → ReturnsForm (root_of segments message) words r
+no_form segments inside message words (Ok form) same is none = absurd is
+no_form {S} segments inside message words {error} (Err e) same is none =
+    let p : Pointer = root_of segments message in
+    let own : NoWord p.message root e.kind =
+    subst (λ (x : Error). NoWord p.message root x.kind) (sym is) (subst (λ (x : ReadMessage S). NoWord (root_of segments x).message root error.kind) same none) in
+    let lacks : LacksForm p e.kind = root_lacks p e.kind refl own in
+    record { answer = inl lacks; found = λ has. absurd (lacks_or_has p e.kind lacks has); exact = λ kind other. lacks_once p e.kind kind lacks other }
 
-pub found_there : {T : Type 0} (p q : Pointer) (r : Result T Error) (P : T → Type 0) → p ≡ q
-    → MatchResult r P (λ error. LacksForm p error.kind ⊎ (error.kind ≡ OutOfMemory)) → HasForm q → IfErr r (λ error. error.kind ≡ OutOfMemory)
-found_there p q r P same answer has = form_found p r P answer (subst (λ (x : Pointer). HasForm x) (sym same) has)
+-- the form of the root's pointer is that of the message
+pub root_form : {S T : Type 0} (segments : S → List (List ℕ)) (inside message : ReadMessage S) (pointer : Pointer) (words : T → List ℕ) (r : Result T Error) → inside ≡ message
+    → pointer ≡ root_of segments inside
+    → MatchResult r (λ form. IsCanonicalForm pointer (words form)) (λ error. LacksForm pointer error.kind ⊎ (error.kind ≡ OutOfMemory))
+    → ((kind : ErrorKind) → LacksForm pointer kind → IsErrAnd r (λ error. error.kind ≡ kind)) → ReturnsForm (root_of segments message) words r
+root_form segments inside message pointer words r same is answer exact =
+    subst (λ (p : Pointer). ReturnsForm p words r) (is ∙ ap (root_of segments) same)
+    (record { answer = answer; found = form_found pointer r (λ form. IsCanonicalForm pointer (words form)) answer; exact = exact })

@@ -1,10 +1,13 @@
 -- The canonical form of a message that is read (src/reader.rt).
-use Rattle.std.specs.Prelude.{◌≤◌, ◌+◌, ◌^◌, true}
+use Rattle.std.specs.Prelude.{◌≡◌, ◌⊎◌, ℕ, ◌≤◌, ◌+◌, ◌^◌, true, List, Result, IfErr, MatchResult}
+use Rattle.std.specs.Result.{IsErrAnd}
+use Rattle.capnp_frame.specs.declared.error.Error.{Error}
 use Rattle.capnp_frame.specs.declared.error.ErrorKind.{ErrorKind}
+use Rattle.capnp_frame.specs.declared.error.ErrorKind.TheVariants.{OutOfMemory}
 use Rattle.capnp_wire.specs.Tree.{Trees, total_words}
 use Rattle.capnp_wire.specs.Trim.{trim}
 use Rattle.capnp_wire.specs.Views.{Pointer}
-use Rattle.capnp_wire.specs.Values.{LacksWords, LeadsToTree, StopsWalkFrom}
+use Rattle.capnp_wire.specs.Values.{LacksWords, LeadsToTree, StopsWalkFrom, IsCanonicalForm}
 
 -- A message has a canonical form: a tree stands at its root, within the level and the limit, and the form has at
 -- most 2 ^ 29 words with its root pointer.
@@ -16,3 +19,11 @@ pub record HasForm (pointer : Pointer) : Type 0 where
 -- It has none: a walk over its root tree stops, for this reason, or the form has more words.
 abbrev pub LacksForm : Pointer → ErrorKind → Type 0
 LacksForm pointer kind = LacksWords (LeadsToTree pointer) (StopsWalkFrom pointer) true kind
+
+-- What each call keeps that returns the canonical form, of which `words` sees the words: it is the form, or there is none, for
+-- the one reason, or memory is wanting.
+pub record ReturnsForm {T : Type 0} (pointer : Pointer) (words : T → List ℕ) (result : Result T Error) : Type 0 where
+  pub answer : MatchResult result (λ form. IsCanonicalForm pointer (words form))
+      (λ error. LacksForm pointer error.kind ⊎ (error.kind ≡ OutOfMemory))
+  pub found : HasForm pointer → IfErr result (λ error. error.kind ≡ OutOfMemory)
+  pub exact : (kind : ErrorKind) → LacksForm pointer kind → IsErrAnd result (λ error. error.kind ≡ kind)

@@ -63,7 +63,8 @@ impl<A: Allocator> Builder<A> {
     /// else with its pad in another segment that has room, else in a new one. It is refused as the
     /// value's `measure` is, and as the allocator refuses a segment; then the root is null.
     pub fn set_root<T, V: SetterInput<T> + Drop>(&mut self, value: V) -> Result<()>
-        ensures { SetsRoot A.Allocator (V.has_tree value) (V.refuses value) self.old self.new result }
+        ensures { SetsRoot A.Allocator (V.has_tree value) (V.refuses value)
+            self.old self.new result }
     {
         self.arena.set_root::<T, V>(&value)
     }

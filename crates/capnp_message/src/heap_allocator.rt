@@ -2,9 +2,10 @@
 ghost use Rattle.std.specs.Prelude.{⊤, ◌≡◌, ℕ, ◌-◌, ◌*◌, ◌/◌, ◌≤◌, ◌<◌, ◌^◌, false, List, [], length, min, IfOk, OnOk, OnErr, IfErr};
 ghost use Rattle.capnp_frame.specs.declared.error.ErrorKind.TheVariants.{OutOfMemory};
 ghost use Rattle.capnp_build.specs.Bytes.{ZeroFrom};
-ghost use Rattle.capnp_build.specs.Out.{Out, MayRefuse, Removed};
+ghost use Rattle.capnp_build.specs.Out.{Out, Removed};
 ghost use Rattle.capnp_message.specs.Next.{size_of, next_after};
 ghost use Rattle.capnp_message.specs.declared.heap_allocator.AllocationStrategy.TheVariants.{GrowHeuristically};
+ghost use Rattle.capnp_build.specs.Allocating.{HandsOut, TakesBack};
 
 use capnp_build::allocator::Allocator;
 use capnp_frame::{Error, ErrorKind, Result};
@@ -91,7 +92,8 @@ impl HeapAllocator {
     // Counts a segment of so many words.
     fn grow(&mut self, size: u32)
         ensures { IsHeapOf
-            (next_after self.old.allocation_strategy self.old.next_size self.old.max_segment_words size)
+            (next_after self.old.allocation_strategy
+            self.old.next_size self.old.max_segment_words size)
             self.old.allocation_strategy self.old.max_segment_words self.new }
     {
         if size == 0 {
@@ -111,6 +113,8 @@ impl HeapAllocator {
 }
 
 impl Allocator for HeapAllocator {
+    ghost use Rattle.capnp_message.specs.Heaps.{IsHeapOf};
+
     type Segment = Vec<u8>;
 
     ghost out = { λ allocator list. ⊤ };
@@ -119,13 +123,9 @@ impl Allocator for HeapAllocator {
 
     // Beside what any allocator ensures: how many words there are, and what is next.
     fn allocate_segment(&mut self, minimum_size: u32) -> Result<Vec<u8>>
-        ensures room { IfOk result (λ s. minimum_size ≤ length s.items / 8) }
-        ensures field { IfOk result (λ s. length s.items / 8 < 2 ^ 32) }
-        ensures zero { IfOk result (λ s. ZeroFrom 0 s.items) }
-        ensures adds { IfOk result (λ s. (list : List Out) → ⊤ → ⊤) }
-        ensures refusal { IfErr result (λ error. MayRefuse minimum_size error.kind) }
-        ensures refused { OnErr result ((list : List Out) → ⊤ → ⊤) }
-        ensures same { ⊤ }
+        ensures hands_out { HandsOut (λ allocator list. ⊤) (λ old new. ⊤)
+            (λ s. s.items) (λ s. false)
+            minimum_size self.old self.new result }
         ensures kind { IfErr result (λ error. error.kind ≡ OutOfMemory) }
         ensures size { IfOk result (λ s.
             length s.items ≡ 8 * size_of self.old.next_size minimum_size) }
@@ -149,12 +149,10 @@ impl Allocator for HeapAllocator {
             × Removed (record { length = length segment.items; is_lent = false }) list left }
         requires used { 8 * words_used ≤ length segment.items }
         requires zero { ZeroFrom (8 * words_used) segment.items }
-        ensures takes_off { (list left : List Out) → ⊤ →
-            Removed (record { length = length segment.items; is_lent = false }) list left → ⊤ }
-        ensures same { ⊤ }
-        ensures next { self.new.next_size ≡ min 1024 self.old.max_segment_words }
-        ensures strategy { self.new.allocation_strategy ≡ self.old.allocation_strategy }
-        ensures maximum { self.new.max_segment_words ≡ self.old.max_segment_words }
+        ensures takes_back { TakesBack (λ allocator list. ⊤) (λ old new. ⊤)
+            (record { length = length segment.items; is_lent = false }) self.old self.new }
+        ensures heap { IsHeapOf (min 1024 self.old.max_segment_words)
+            self.old.allocation_strategy self.old.max_segment_words self.new }
     {
         self.next_size = SUGGESTED_FIRST_SEGMENT_WORDS.min(self.max_segment_words);
         drop(segment);

@@ -1,12 +1,12 @@
 //! One region first, then segments from the heap.
-ghost use Rattle.std.specs.Prelude.{◌≡◌, ◌⊎◌, ℕ, ◌*◌, ◌/◌, ◌^◌, ◌<◌, ◌≤◌, true, false, List, length, IfOk, IfErr, IsSome, IsOk, OnOk, OnErr, None};
+ghost use Rattle.std.specs.Prelude.{◌≡◌, ◌⊎◌, ℕ, ◌*◌, ◌/◌, ◌^◌, ◌<◌, ◌≤◌, true, false, length, IfOk, IfErr, IsSome, IsOk, OnOk, None};
 ghost use Rattle.std.specs.Option.{ForSome};
 ghost use Rattle.capnp_frame.specs.declared.error.ErrorKind.TheVariants.{OutOfMemory};
 ghost use Rattle.capnp_build.specs.Bytes.{ZeroFrom};
-ghost use Rattle.capnp_build.specs.Out.{Out, Adds, MayRefuse};
 ghost use Rattle.capnp_message.specs.Next.{size_of};
 ghost use Rattle.capnp_message.specs.Region.{IsLentAlone, HoldsRegion};
 ghost use Rattle.capnp_message.specs.Scratch.{scratch_bytes, scratch_lent};
+ghost use Rattle.capnp_build.specs.Allocating.{HandsOut};
 
 use crate::heap_allocator::{AllocationStrategy, HeapAllocator};
 use capnp_build::allocator::Allocator;
@@ -136,16 +136,9 @@ impl<'a> Allocator for ScratchSpaceHeapAllocator<'a> {
 
     // Beside what any allocator ensures: where the region is lent, and what the heap hands out.
     fn allocate_segment(&mut self, minimum_size: u32) -> Result<ScratchSegment<'a>>
-        ensures room { IfOk result (λ s. minimum_size ≤ length (scratch_bytes s) / 8) }
-        ensures field { IfOk result (λ s. length (scratch_bytes s) / 8 < 2 ^ 32) }
-        ensures zero { IfOk result (λ s. ZeroFrom 0 (scratch_bytes s)) }
-        ensures adds { IfOk result (λ s. Adds (IsLentAlone self.old.region self.old.size)
-            (IsLentAlone self.new.region self.new.size)
-            (record { length = length (scratch_bytes s); is_lent = scratch_lent s })) }
-        ensures refusal { IfErr result (λ error. MayRefuse minimum_size error.kind) }
-        ensures refused { OnErr result ((list : List Out) →
-            IsLentAlone self.old.region self.old.size list → IsLentAlone self.new.region self.new.size list) }
-        ensures same { self.new.size ≡ self.old.size }
+        ensures hands_out { HandsOut (λ allocator. IsLentAlone allocator.region allocator.size)
+            (λ old new. new.size ≡ old.size) scratch_bytes scratch_lent
+            minimum_size self.old self.new result }
         ensures lent { minimum_size ≤ self.old.size / 8 → IsSome self.old.region →
             IsOk result × IfOk result (λ s. scratch_lent s ≡ true) }
         ensures large { self.old.size / 8 < minimum_size → IfOk result (λ s.

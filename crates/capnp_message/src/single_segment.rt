@@ -1,11 +1,12 @@
 //! One region, as the only segment.
-ghost use Rattle.std.specs.Prelude.{◌≡◌, ◌≢◌, ◌⊎◌, ℕ, ◌*◌, ◌/◌, ◌^◌, ◌<◌, ◌≤◌, true, List, length, IsSome, IsNone, IsOk, OnOk, IfOk, IfErr, OnErr, None, Some};
+ghost use Rattle.std.specs.Prelude.{◌≡◌, ◌≢◌, ◌⊎◌, ℕ, ◌*◌, ◌/◌, ◌^◌, ◌<◌, ◌≤◌, true, length, IsSome, IsNone, IsOk, OnOk, None, Some};
 ghost use Rattle.std.specs.Option.{ForSome};
 ghost use Rattle.std.specs.Result.{IsErrAnd};
 ghost use Rattle.capnp_frame.specs.declared.error.ErrorKind.TheVariants.{AllocationTooLarge, SegmentTaken};
 ghost use Rattle.capnp_build.specs.Bytes.{ZeroFrom};
-ghost use Rattle.capnp_build.specs.Out.{Out, Adds, TakesOff, IsOut, MayRefuse};
+ghost use Rattle.capnp_build.specs.Out.{TakesOff, IsOut};
 ghost use Rattle.capnp_message.specs.Region.{IsOutAlone, region_out, HoldsRegion};
+ghost use Rattle.capnp_build.specs.Allocating.{HandsOut};
 
 use capnp_build::allocator::Allocator;
 use capnp_frame::{Error, ErrorKind, Result};
@@ -54,15 +55,9 @@ impl<'a> Allocator for SingleSegmentAllocator<'a> {
 
     // Beside what any allocator ensures: where it is refused, and by what.
     fn allocate_segment(&mut self, minimum_size: u32) -> Result<&'a mut [u8]>
-        ensures room { IfOk result (λ s. minimum_size ≤ length s.now / 8) }
-        ensures field { IfOk result (λ s. length s.now / 8 < 2 ^ 32) }
-        ensures zero { IfOk result (λ s. ZeroFrom 0 s.now) }
-        ensures adds { IfOk result (λ s. Adds (IsOutAlone self.old.region self.old.size)
-            (IsOutAlone self.new.region self.new.size) (record { length = length s.now; is_lent = true })) }
-        ensures refusal { IfErr result (λ error. MayRefuse minimum_size error.kind) }
-        ensures refused { OnErr result ((list : List Out) →
-            IsOutAlone self.old.region self.old.size list → IsOutAlone self.new.region self.new.size list) }
-        ensures same { self.new.size ≡ self.old.size }
+        ensures hands_out { HandsOut (λ allocator. IsOutAlone allocator.region allocator.size)
+            (λ old new. new.size ≡ old.size) (λ s. s.now) (λ s. true)
+            minimum_size self.old self.new result }
         ensures too_large { self.old.size / 8 < minimum_size →
             IsErrAnd result (λ error. error.kind ≡ AllocationTooLarge minimum_size) }
         ensures taken { minimum_size ≤ self.old.size / 8 → self.old.region ≡ None →

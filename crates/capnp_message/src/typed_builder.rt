@@ -92,7 +92,8 @@ impl<T, A: Allocator> TypedBuilder<T, A> {
 
     /// Sets the root to a value, as `set_root` of the message.
     pub fn set_root<V: SetterInput<T> + Drop>(&mut self, value: V) -> Result<()>
-        ensures { SetsRoot A.Allocator (V.has_tree value) (V.refuses value) self.old self.new result }
+        ensures { SetsRoot A.Allocator (V.has_tree value) (V.refuses value)
+            self.old self.new result }
     {
         self.message.set_root::<T, V>(value)
     }

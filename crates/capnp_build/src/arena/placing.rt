@@ -1,13 +1,13 @@
 //! Where the block of a value is placed, and the pointer to it.
 ghost use Rattle.std.specs.Prelude.{◌≡◌, ℕ, ◌+◌, ◌-◌, ◌*◌, ◌/◌, ◌^◌, ◌<◌, ◌≤◌, length, Some, None, IfOk, IfErr, OnErr};
 ghost use Rattle.capnp_build.specs.Out.{MayRefuse};
-ghost use Rattle.capnp_build.specs.Held.{space_at, room_of, KeepsOthers};
-ghost use Rattle.capnp_build.specs.Built.{held_of, IsSet, IsWhole, IsAdded};
+ghost use Rattle.capnp_build.specs.Held.{space_at, room_of};
+ghost use Rattle.capnp_build.specs.Built.{IsSet, IsWhole, IsAdded};
 ghost use Rattle.capnp_wire.specs.Tree.{count};
 ghost use Rattle.capnp_wire.specs.Reached.{root};
 ghost use Rattle.capnp_wire.specs.Layout.{pointer};
 ghost use Rattle.capnp_wire.specs.Values.{HasWords};
-ghost use Rattle.capnp_build.specs.Blocks.{PutsBlock, PlacesBlock};
+ghost use Rattle.capnp_build.specs.Blocks.{LeavesNull, PutsBlock, PlacesBlock};
 
 use crate::allocator::Allocator;
 use crate::arena::builder_arena::BuilderArena;
@@ -24,12 +24,10 @@ impl<A: Allocator> BuilderArena<A> {
         ensures first { IfOk result (λ segment. (i : ℕ) → 0 < i → i < segment → room_of (space_at self.old.spaces i) < words) }
         ensures older { IfOk result (λ segment. segment < length self.old.spaces → self.new.spaces ≡ self.old.spaces) }
         ensures newer { IfOk result (λ segment. length self.old.spaces ≤ segment → (segment ≡ length self.old.spaces) × IsAdded self.old.spaces self.new.spaces) }
-        ensures null { self.new.spot ≡ None }
+        ensures leaves { LeavesNull A.Allocator self.old self.new }
         ensures kept { OnErr result (self.new.spaces ≡ self.old.spaces) }
         ensures full { OnErr result ((i : ℕ) → 0 < i → i < length self.old.spaces → room_of (space_at self.old.spaces i) < words) }
         ensures kind { IfErr result (λ error. MayRefuse words error.kind) }
-        ensures same { A.same self.old.allocator self.new.allocator }
-        ensures others { KeepsOthers A.out (held_of self.old) (held_of self.new) }
     {
         let count = self.segments.len();
         for segment in 1..count {
@@ -47,7 +45,8 @@ impl<A: Allocator> BuilderArena<A> {
         requires value { HasWords (V.has_tree value.now) canonical words }
         requires room { words ≤ room_of (space_at self.old.spaces 0) }
         ensures whole { length self.old.spaces ≡ 1 → length (space_at self.old.spaces 0).used ≡ 8 → IsWhole (V.has_tree value.now) canonical self.new.spaces }
-        ensures block { PlacesBlock A.Allocator (V.has_tree value.now) canonical 0 0 words self.old self.new }
+        ensures block { PlacesBlock A.Allocator (V.has_tree value.now) canonical 0 0 words
+            self.old self.new }
     {
         let spot = self.segments.fill(0, canonical, value, words);
         self.segments.point_near(spot);
@@ -67,7 +66,8 @@ impl<A: Allocator> BuilderArena<A> {
         requires some { 0 < words }
         requires value { HasWords (V.has_tree value.now) canonical words }
         requires room { words + 1 ≤ room_of (space_at self.old.spaces segment) }
-        ensures { PlacesBlock A.Allocator (V.has_tree value.now) canonical segment 1 words self.old self.new }
+        ensures { PlacesBlock A.Allocator (V.has_tree value.now) canonical segment 1 words
+            self.old self.new }
     {
         self.segments.grow(segment, 1);
         let spot = self.segments.fill(segment, canonical, value, words);
@@ -85,7 +85,8 @@ impl<A: Allocator> BuilderArena<A> {
         requires there { 0 < length self.old.spaces }
         requires null { self.old.spot ≡ None }
         requires value { HasWords (V.has_tree value.now) canonical words }
-        ensures { PutsBlock A.Allocator (IsSet (V.has_tree value.now) canonical) words self.old self.new result }
+        ensures { PutsBlock A.Allocator (IsSet (V.has_tree value.now) canonical) words
+            self.old self.new result }
     {
         if words <= self.segments.room(0) {
             self.put_near(canonical, value, words);

@@ -21,7 +21,8 @@ impl<A: Allocator> BuilderArena<A> {
     ) -> Result<View<'a, BuilderArena<A>, K>>
         ensures* rests { sem 𝓛 (RestsIfErr (the_row A.row A.Segment.row A.Allocator A.Segment.SegmentSpace) self.entry (λ view. view.message.ghost_name) result
             (λ last. IsCleared A.same self.old last)) }
-        ensures inits { InitsView A.Allocator K.OwnedBuilder n (λ arena. arena) (λ view. view.message) self.entry result }
+        ensures inits { InitsView A.Allocator K.OwnedBuilder n (λ arena. arena)
+            (λ view. view.message) self.entry result }
     {
         init::<BuilderArena<A>, K>(self, n)?;
         Ok(View::new(self))
@@ -31,7 +32,8 @@ impl<A: Allocator> BuilderArena<A> {
     pub fn init_root<'a, K: OwnedBuilder>(&'a mut self) -> Result<View<'a, BuilderArena<A>, K>>
         ensures* rests { sem 𝓛 (RestsIfErr (the_row A.row A.Segment.row A.Allocator A.Segment.SegmentSpace) self.entry (λ view. view.message.ghost_name) result
             (λ last. IsCleared A.same self.old last)) }
-        ensures inits { InitsView A.Allocator K.OwnedBuilder 0 (λ arena. arena) (λ view. view.message) self.entry result }
+        ensures inits { InitsView A.Allocator K.OwnedBuilder 0 (λ arena. arena)
+            (λ view. view.message) self.entry result }
     {
         self.initn_root::<K>(0)
     }
@@ -48,7 +50,8 @@ impl<A: Allocator> BuilderArena<A> {
     pub fn get_root<'a, K: OwnedBuilder>(&'a mut self) -> Result<View<'a, BuilderArena<A>, K>>
         ensures* rests { sem 𝓛 (RestsIfErr (the_row A.row A.Segment.row A.Allocator A.Segment.SegmentSpace) self.entry (λ view. view.message.ghost_name) result
             (λ last. IsLookedAt A.same self.old last)) }
-        ensures gets { GetsView A.Allocator K.OwnedBuilder (λ arena. arena) (λ view. view.message) self.entry result }
+        ensures gets { GetsView A.Allocator K.OwnedBuilder (λ arena. arena)
+            (λ view. view.message) self.entry result }
     {
         self.accept_root::<K>()?;
         Ok(View::new(self))

@@ -18,7 +18,8 @@ use capnp_wire::traits::SetterInput;
 impl<A: Allocator> BuilderArena<A> {
     /// Sets the root to a value.
     pub fn set_root<T, V: SetterInput<T>>(&mut self, value: &V) -> Result<()>
-        ensures { SetsRoot A.Allocator (V.has_tree value.now) (V.refuses value.now) self.old self.new result }
+        ensures { SetsRoot A.Allocator (V.has_tree value.now) (V.refuses value.now)
+            self.old self.new result }
     {
         self.clear_root()?;
         let words = value.measure(false)?;
@@ -41,7 +42,8 @@ impl<A: Allocator> BuilderArena<A> {
         requires there { 0 < length self.old.spaces }
         requires null { self.old.spot ≡ None }
         requires fits { Fits body }
-        ensures { (words : ℕ) × NewWords (zero_form body) words × PutsBlock A.Allocator (IsNew (zero_form body)) words self.old self.new result }
+        ensures { (words : ℕ) × NewWords (zero_form body) words
+            × PutsBlock A.Allocator (IsNew (zero_form body)) words self.old self.new result }
     {
         let fresh = Fresh::new(body);
         let words = fresh.words();
@@ -50,7 +52,8 @@ impl<A: Allocator> BuilderArena<A> {
 
     /// Sets the root to a value in canonical form, in the first segment.
     pub fn set_root_canonical<T, V: SetterInput<T>>(&mut self, value: &V) -> Result<()>
-        ensures { SetsRootCanonical A.Allocator (V.has_tree value.now) (V.refuses value.now) self.old self.new result }
+        ensures { SetsRootCanonical A.Allocator (V.has_tree value.now) (V.refuses value.now)
+            self.old self.new result }
     {
         self.clear_root()?;
         if self.segments.len() > 1 {

@@ -1,5 +1,5 @@
 -- What comes back as lent is the region, which is made zero; all else goes to the heap.
-use Rattle.std.proofs.Common.{◌≡◌, ℕ, ◌*◌, ◌≤◌, List, ◌++◌, length, drop, subst, ◌∙◌}
+use Rattle.std.proofs.Common.{◌≡◌, ℕ, ◌*◌, ◌≤◌, List, ◌++◌, length, drop, refl, subst, ◌∙◌}
 use Rattle.capnp_build.specs.Bytes.{ZeroFrom}
 use Rattle.capnp_message.proofs.RegionLemmas.{all_zero, held, filled_length, comes_home_as, stays_out}
 use Rattle.capnp_message.proofs.scratch_space.ScratchSpaceHeapAllocatorAllocator.deallocate_segment.Goals as goal
@@ -21,10 +21,16 @@ invariant_of-self c =
       maximum = c.args.self.now.maximum;
     }
 
-pub returns-in-Lent-clause-takes_off : goal.returns-in-Lent-clause-takes_off
-returns-in-Lent-clause-takes_off c list left out removed =
-    (comes_home_as c.args.self.now.region c.args.segment c.in-Lent.region c.args.self.now.size list left c.in-Lent.is out removed).1
+pub returns-in-Lent : goal.returns-in-Lent
+returns-in-Lent c = record {
+  takes_off = λ list left out removed.
+      (comes_home_as c.args.self.now.region c.args.segment c.in-Lent.region c.args.self.now.size list left c.in-Lent.is out removed).1;
+  same = refl;
+}
 
-pub returns-in-Owned-clause-takes_off : goal.returns-in-Owned-clause-takes_off
-returns-in-Owned-clause-takes_off c list left out removed =
-    stays_out c.args.self.now.region (length c.in-Owned.owned.items) c.args.self.now.size list left out (rw c.in-Owned.is at removed)
+pub returns-in-Owned : goal.returns-in-Owned
+returns-in-Owned c = record {
+  takes_off = λ list left out removed.
+      stays_out c.args.self.now.region (length c.in-Owned.owned.items) c.args.self.now.size list left out (rw c.in-Owned.is at removed);
+  same = refl;
+}

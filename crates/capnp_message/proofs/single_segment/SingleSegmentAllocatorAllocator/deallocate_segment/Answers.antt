@@ -1,5 +1,5 @@
 -- What comes back is the region, which is made zero.
-use Rattle.std.proofs.Common.{◌≡◌, ℕ, ◌*◌, List, ◌++◌, length, drop, ap, subst, ◌∙◌}
+use Rattle.std.proofs.Common.{◌≡◌, ℕ, ◌*◌, List, ◌++◌, length, drop, refl, ap, subst, ◌∙◌}
 use Rattle.capnp_build.specs.Out.{Out}
 use Rattle.capnp_build.specs.Bytes.{ZeroFrom}
 use Rattle.capnp_message.proofs.RegionLemmas.{comes_back, all_zero, held, filled_length}
@@ -19,5 +19,8 @@ invariant_of-self c =
       zero = λ x is. subst (ZeroFrom 0) (held _ x is) zero;
     }
 
-pub returns-clause-takes_off : goal.returns-clause-takes_off
-returns-clause-takes_off c list left out removed = (comes_back c.args.self.now.region _ _ list left out removed).1
+pub returns : goal.returns
+returns c = record {
+  takes_off = λ list left out removed. (comes_back c.args.self.now.region _ _ list left out removed).1;
+  same = refl;
+}

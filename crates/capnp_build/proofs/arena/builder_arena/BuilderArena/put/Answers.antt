@@ -20,5 +20,5 @@ returns g c =
       kept = tt;
       kind = tt;
       same = search rules;
-      others = λ others is. far.others others (c.find_room.ensures.others others is);
+      others = λ others is. far.others others (c.find_room.ensures.leaves.others others is);
     }

@@ -1,5 +1,5 @@
 -- The root's word and its block become zero, and no room is lost.
-use Rattle.std.proofs.Common.{◌≡◌, inr, ℕ, ◌+◌, ◌-◌, ◌*◌, ◌<◌, ◌≤◌, max, List, length, replicate, Option, Some, slice_set, ap, sym, subst, ◌∙◌, arith}
+use Rattle.std.proofs.Common.{rules, ◌≡◌, inr, ℕ, ◌+◌, ◌-◌, ◌*◌, ◌<◌, ◌≤◌, max, List, length, replicate, Option, Some, slice_set, ap, sym, subst, ◌∙◌, arith}
 use Rattle.std.proofs.lemmas.List.{length-replicate}
 use Rattle.capnp_wire.specs.Object.{word_at}
 use Rattle.capnp_wire.specs.Reached.{root}
@@ -74,12 +74,17 @@ returns-clause-rooms g c =
     let z = one_zeroed spaces c.zero-2.new.self.spaces 0 0 (replicate 8 0) first (ap (λ (h : Held g.row.A.Denot). h.spaces) c.zero-2.ensures) in
     subst (λ (v : Built g.row.A.Denot). KeepsRooms v.spaces c.zero-2.new.self.spaces) c.self.view_is (λ _. (z.0, z.1))
 
-pub returns-in-Some-clause-others : goal.returns-in-Some-clause-others
-returns-in-Some-clause-others g c = λ others is.
+pub returns-in-Some-clause-leaves : goal.returns-in-Some-clause-leaves
+returns-in-Some-clause-leaves g c =
     let out = g.A.Allocator.out in
-    edit_keeps out _ c.zero-in-Some.new.self 0 _ refl c.zero-in-Some.ensures others
-    (edit_keeps out _ c.zero.new.self c.in-Some.spot.segment _ refl c.zero.ensures others
-    (subst (λ (v : Built g.row.A.Denot). out v.allocator (pairs v.spaces others)) (sym c.self.view_is) is))
+    record {
+      null = refl;
+      same = search rules;
+      others = λ others is.
+          edit_keeps out _ c.zero-in-Some.new.self 0 _ refl c.zero-in-Some.ensures others
+          (edit_keeps out _ c.zero.new.self c.in-Some.spot.segment _ refl c.zero.ensures others
+          (subst (λ (v : Built g.row.A.Denot). out v.allocator (pairs v.spaces others)) (sym c.self.view_is) is));
+    }
 
 pub returns-in-Some-clause-zero : goal.returns-in-Some-clause-zero
 returns-in-Some-clause-zero g c =
