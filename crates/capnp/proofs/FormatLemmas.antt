@@ -1,20 +1,21 @@
 -- The readers of both formats over a source of plain bytes.
 use Rattle.std.proofs.Common.{◌≡◌, inl, inr, ◌⊎◌, ℕ, List, Option, Some, None, IfSome, Result, Ok, Err, IfOk, IfErr}
-use Rattle.std.specs.Result.{IsErrAnd}
 use Rattle.capnp_frame.specs.declared.error.Error.{Error}
 use Rattle.capnp_frame.specs.declared.error.ErrorKind.{ErrorKind}
-use Rattle.capnp_frame.specs.declared.error.ErrorKind.TheVariants.{DeviceFailed, OutOfMemory, PrematureEndOfFile}
+use Rattle.capnp_frame.specs.declared.error.ErrorKind.TheVariants.{DeviceFailed, OutOfMemory}
 use Rattle.capnp_frame.specs.declared.io.Read.{Ghosts}
 use Rattle.capnp_frame.specs.Limits.{IsWithin}
 use Rattle.capnp_frame.specs.Source.{Giving, Refusing, Splits, RunsShort, IfKnown, Advances, Fails}
-use Rattle.capnp_frame.specs.Refusals.{RefusesStream, CountStands, TakesMemory, IsReaderKind}
-use Rattle.capnp_frame.specs.Requests.{MessageStands, TableStands}
+use Rattle.capnp_frame.specs.Refusals.{RefusesStream, TakesMemory, IsReaderKind}
+use Rattle.capnp_frame.specs.Requests.{MessageStands}
 use Rattle.capnp_frame.specs.Streams.{StreamRules, framed_rules, ReadsStream}
 use Rattle.capnp_frame.proofs.SourceLemmas.{IfKnown-weaker}
 use Rattle.capnp_frame.proofs.RefusalLemmas.{RefusesStream-map}
+use Rattle.capnp.specs.declared.streams.Format.{Format}
 use Rattle.capnp.specs.declared.streams.Format.TheVariants.{Framed}
 use Rattle.capnp.specs.Headline.{OrFailsAtEnd}
-use Rattle.capnp.specs.Streams.{IsPlainSource, rules_of}
+use Rattle.capnp.specs.Streams.{IsPlainSource, rules_of, StandsNext}
+use Rattle.capnp.specs.Runs.{IsReadingFault}
 use Rattle.capnp.proofs.ReaderLemmas.{frames_requested}
 
 TakesMemory-map : {gives others : Giving}
@@ -27,14 +28,18 @@ TakesMemory-map given limit raw left (inl count) = inl (record {
   told = count.told;
   accepted = count.accepted;
 })
-TakesMemory-map given limit raw left (inr (lengths, table, within)) = inr (lengths, record {
-  first = table.first;
-  others = table.others;
-  between = table.between;
-  first_given = given _ _ _ _ table.first_given;
-  others_given = given _ _ _ _ table.others_given;
-  table = table.table;
-}, within)
+TakesMemory-map given limit raw left (inr (lengths, table, within)) = inr (
+  lengths,
+  record {
+    first = table.first;
+    others = table.others;
+    between = table.between;
+    first_given = given _ _ _ _ table.first_given;
+    others_given = given _ _ _ _ table.others_given;
+    table = table.table;
+  },
+  within,
+)
 
 kinds_of : {refuses also : Refusing} (refused : (raw : List ℕ) (n : ℕ) (kind : ErrorKind) → refuses raw n kind → also raw n kind)
     (kind : ErrorKind) → IsReaderKind refuses kind → IsReaderKind also kind
@@ -123,3 +128,18 @@ pub or_fails_failed : {S : Type 0} (source : Ghosts S) (old new : S) (rules : St
 or_fails_failed source old new rules limit (Ok found) reads = tt
 or_fails_failed source old new rules limit (Err e) (inl reads) = reads.failed
 or_fails_failed source old new rules limit (Err e) (inr (kind, reads)) = λ device. cc
+
+-- what stands in a format, within the limit, begins with a text
+pub stands_next : (format : Format) (limit : Option ℕ) (segments : List (List ℕ)) (old new : Option (List ℕ))
+    → IsWithin segments limit → IfKnown old new ((rules_of format).stands segments)
+    → IfKnown old new (StandsNext format limit segments)
+stands_next format limit segments old new within stands = IfKnown-weaker old new (λ raw rest (text, is_text, spelled).
+    record { text = text; is_text = is_text; within = within; spelled = spelled }) stands
+
+-- and a reader's failure is a cause that the run knows
+pub reading_fault : (format : Format) (limit : Option ℕ) (kind : ErrorKind) (old new : Option (List ℕ))
+    → (kind ≡ DeviceFailed) ⊎ ((kind ≡ OutOfMemory) × IfKnown old new ((rules_of format).takes_memory limit))
+    ⊎ IfKnown old new ((rules_of format).refuses limit None kind) → IsReadingFault format limit kind old new
+reading_fault format limit kind old new (inl device) = inl device
+reading_fault format limit kind old new (inr (inl memory)) = inr (inl memory.0)
+reading_fault format limit kind old new (inr (inr line)) = inr (inr line)

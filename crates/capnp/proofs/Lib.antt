@@ -2,7 +2,6 @@
 pub mod ReaderLemmas
 pub mod FormatLemmas
 pub mod WriterLemmas
-pub mod ReadNextLemmas
 pub mod RunLemmas
 pub mod EndLemmas
 pub mod TranscodingLemmas

@@ -17,8 +17,9 @@ use Rattle.capnp_pack.proofs.PackedFrameLemmas.{packed_requests}
 use Rattle.capnp.specs.declared.streams.Format.{Format}
 use Rattle.capnp.specs.declared.streams.Format.TheVariants.{Framed, Packed}
 use Rattle.capnp.specs.declared.streams.StoppedAt.{StoppedAt}
-use Rattle.capnp.specs.Streams.{grammar_of, gives_of, refuses_of, StandsNext}
+use Rattle.capnp.specs.Streams.{grammar_of, gives_of, refuses_of, rules_of, StandsNext}
 use Rattle.capnp.specs.Runs.{Writing, DecliningWriting, WritesFrom, WritesAll, HasWrittenNext, HasWritten, IsReadingFault, IsWritingFault, IsRunFault, LacksWriting, most_messages, HasRun}
+use Rattle.capnp.proofs.FormatLemmas.{stands_next}
 use Rattle.capnp.proofs.WriterLemmas.{IsWritable-within}
 
 -- Both formats.
@@ -82,11 +83,12 @@ HasWritten-next format limit Writes count before between after raw mid rest writ
 
 -- the next message stands, and is written, or not as a whole
 pub written_next : (format : Format) (limit : Option ℕ) (Writes : Writing) (index : ℕ) (message : List (List ℕ))
-    (old new before after : Option (List ℕ)) → IfKnown old new (StandsNext format limit message)
-    → IfKnown before after (Adds (Writes index message))
+    (old new before after : Option (List ℕ)) → IsWithin message limit
+    → IfKnown old new ((rules_of format).stands message) → IfKnown before after (Adds (Writes index message))
     → IfKnown old new (HasWrittenNext format limit Writes index before after)
-written_next format limit Writes index message old new before after stands written =
-    IfKnown-weaker old new (λ raw rest begins. record { message = message; stands = begins; written = written }) stands
+written_next format limit Writes index message old new before after within stands written =
+    IfKnown-weaker old new (λ raw rest begins. record { message = message; stands = begins; written = written })
+    (stands_next format limit message old new within stands)
 
 lacks_writing : (format : Format) (limit : Option ℕ) (Declines : DecliningWriting) (index : ℕ)
     (message : List (List ℕ)) (kind : ErrorKind) (old new : Option (List ℕ)) → IsWritable message
@@ -161,10 +163,10 @@ pub stopped_at_message : (format : Format) (limit : Option ℕ) (Writes : Writin
     (stop : StoppedAt) (message : List (List ℕ)) (old mid left before between after : Option (List ℕ))
     → IsWithin message limit → AllByRecursion IsWholeWords message
     → IfKnown old mid (HasWritten format limit Writes stop.message before between)
-    → IfKnown mid left (StandsNext format limit message)
+    → IfKnown mid left ((rules_of format).stands message)
     → IsWritingFault Declines stop.message message stop.error.kind → IfKnown between after IsFront
     → IfSome old (HasRun format limit Writes Declines (Err stop) left before after)
 stopped_at_message format limit Writes Declines stop message old mid left before between after within whole written stands fault front =
     stopped_writing format limit Writes Declines stop old mid left before between after written
     (lacks_writing format limit Declines stop.message message stop.error.kind mid left
-    (IsWritable-within message limit within whole) fault stands) front
+    (IsWritable-within message limit within whole) fault (stands_next format limit message mid left within stands)) front

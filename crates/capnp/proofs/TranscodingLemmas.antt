@@ -1,14 +1,16 @@
--- A run that transcodes, over a plain sink and by its answer.
-use Rattle.std.proofs.Common.{◌≡◌, ◌⊎◌, inl, inr, ℕ, ◌+◌, ◌<◌, Option, Some, None, IfSome, List, [], ◌∷◌, length}
+-- A run whose messages' texts are known by less, and so of one that transcodes, over a plain sink.
+use Rattle.std.proofs.Common.{inl, inr, ℕ, ◌+◌, Option, Some, None, IfSome, Result, Ok, Err, List, [], ◌∷◌}
 use Rattle.capnp_frame.specs.declared.error.ErrorKind.{ErrorKind}
+use Rattle.capnp_frame.specs.declared.io.Read.{Ghosts}
+use Rattle.capnp_frame.specs.declared.io.Write.{Ghosts as SinkGhosts}
 use Rattle.capnp_frame.specs.Sink.{Appending}
 use Rattle.capnp_frame.proofs.SourceLemmas.{IfKnown-weaker}
 use Rattle.capnp.specs.declared.streams.Format.{Format}
+use Rattle.capnp.specs.declared.streams.StoppedAt.{StoppedAt}
 use Rattle.capnp.specs.declared.transcoding.Way.{Way}
 use Rattle.capnp.specs.declared.transcoding.Way.TheVariants.{Pack, Unpack}
-use Rattle.capnp.specs.Streams.{IsStream}
 use Rattle.capnp.specs.Written.{IsPlainSink}
-use Rattle.capnp.specs.Runs.{Writing, DecliningWriting, WritesFrom, HasWritten, IsRunFault, most_messages, RanOut, HasStopped}
+use Rattle.capnp.specs.Runs.{Writing, DecliningWriting, WritesFrom, HasWritten, RanOut, HasStopped, HasRun, WritesEach}
 use Rattle.capnp.specs.Transcoding.{Transcodes, IsOtherText}
 use Rattle.capnp.proofs.WriterLemmas.{frame_text_added, packed_text_added}
 
@@ -31,7 +33,7 @@ HasWritten-weaker format limit P Q weaker count before after raw rest written = 
 }
 
 -- and so of a run
-pub RanOut-weaker : (format : Format) (limit : Option ℕ) (P Q : Writing) → IsWeaker P Q
+RanOut-weaker : (format : Format) (limit : Option ℕ) (P Q : Writing) → IsWeaker P Q
     → (left before after : Option (List ℕ)) (raw : List ℕ) → RanOut format limit P left before after raw
     → RanOut format limit Q left before after raw
 RanOut-weaker format limit P Q weaker left before after raw ran = record {
@@ -65,29 +67,29 @@ pub other_text_added : (way : Way) (appends : Appending) → IsPlainSink appends
 other_text_added Pack appends plain index message text all = packed_text_added appends plain message text all
 other_text_added Unpack appends plain index message text all = frame_text_added appends plain message text all
 
-pub IfSome-weaker : {P Q : List ℕ → Type 0} (unread : Option (List ℕ)) → ((raw : List ℕ) → P raw → Q raw) → IfSome unread P → IfSome unread Q
+IfSome-weaker : {P Q : List ℕ → Type 0} (unread : Option (List ℕ)) → ((raw : List ℕ) → P raw → Q raw) → IfSome unread P → IfSome unread Q
 IfSome-weaker None weaker p = tt
 IfSome-weaker (Some raw) weaker p = weaker raw p
 
--- a run that stopped, its number of messages aside
-pub with_count : (format : Format) (limit : Option ℕ) (P Q : Writing) (Declines : DecliningWriting) → IsWeaker P Q
-    → (count : ℕ) (kind : ErrorKind) (old left before after : Option (List ℕ))
-    → IfSome old (HasStopped format limit P Declines count kind left before after)
-    → IfSome old (λ raw. (many : ℕ) × HasStopped format limit Q Declines many kind left before after raw)
-with_count format limit P Q Declines weaker count kind None left before after stopped = tt
-with_count format limit P Q Declines weaker count kind (Some raw) left before after stopped =
-    (count, HasStopped-weaker format limit P Q Declines weaker count kind left before after raw stopped)
+HasRun-weaker : (format : Format) (limit : Option ℕ) (P Q : Writing) (Declines : DecliningWriting) → IsWeaker P Q
+    → (result : Result (Unit {0}) StoppedAt) (left before after : Option (List ℕ)) (raw : List ℕ)
+    → HasRun format limit P Declines result left before after raw → HasRun format limit Q Declines result left before after raw
+HasRun-weaker format limit P Q Declines weaker (Ok done) left before after raw ran = RanOut-weaker format limit P Q weaker left before after raw ran
+HasRun-weaker format limit P Q Declines weaker (Err stop) left before after raw ran =
+    HasStopped-weaker format limit P Q Declines weaker stop.message stop.error.kind left before after raw ran
 
--- and its answer
-pub without_count : (format : Format) (limit : Option ℕ) (Declines : DecliningWriting) (count : ℕ) (kind : ErrorKind)
-    (old : Option (List ℕ)) → IfSome old (λ raw. (messages : List (List (List ℕ))) (ending : Option ErrorKind)
-    → IsStream format limit messages ending raw → length messages < most_messages
-    → ((ending ≡ Some kind) × (count ≡ length messages)) ⊎ IsRunFault Declines count kind)
-    → IfSome old (λ raw. (messages : List (List (List ℕ))) (ending : Option ErrorKind)
-    → IsStream format limit messages ending raw → length messages < most_messages
-    → (ending ≡ Some kind) ⊎ ((index : ℕ) × IsRunFault Declines index kind))
-without_count format limit Declines count kind None says = tt
-without_count format limit Declines count kind (Some raw) says = λ messages ending stream few. elim (says messages ending stream few) [
-  | inl ends ↦ inl ends.0
-  | inr fault ↦ inr (count, fault)
-]
+-- and of all that a run says
+pub WritesEach-weaker : {S T : Type 0} (source : Ghosts S) (old new : S) (sink : SinkGhosts T) (before after : T)
+    (format : Format) (limit : Option ℕ) (P Q : Writing) (Declines : DecliningWriting) → IsWeaker P Q
+    → (result : Result (Unit {0}) StoppedAt)
+    → WritesEach source old new sink before after format limit P Declines result
+    → WritesEach source old new sink before after format limit Q Declines result
+WritesEach-weaker source old new sink before after format limit P Q Declines weaker result each = record {
+  written = IfSome-weaker (source.unread old) (HasRun-weaker format limit P Q Declines weaker result
+      (source.unread new) (sink.written before) (sink.written after)) each.written;
+  exact = each.exact;
+  kinds = each.kinds;
+  failed = each.failed;
+  advances = each.advances;
+  grows = each.grows;
+}

@@ -1,14 +1,18 @@
 -- What a run over the messages of a stream reads, writes and answers (src/streams.rt).
-use Rattle.std.specs.Prelude.{◌≡◌, ◌⊎◌, ◌+◌, ◌-◌, ◌^◌, ℕ, List, [], ◌∷◌, ◌++◌, length, Option, Some, None, Result, Ok, Err}
+use Rattle.std.specs.Prelude.{◌≡◌, ◌<◌, ◌⊎◌, ◌+◌, ◌-◌, ◌^◌, ℕ, List, [], ◌∷◌, ◌++◌, length, Option, Some, None, IfSome, Result, Ok, Err, IfErr}
+use Rattle.capnp_frame.specs.declared.error.Error.{Error}
 use Rattle.capnp_frame.specs.declared.error.ErrorKind.{ErrorKind}
 use Rattle.capnp_frame.specs.declared.error.ErrorKind.TheVariants.{DeviceFailed, OutOfMemory}
-use Rattle.capnp_frame.specs.Source.{IfKnown, IsFront}
-use Rattle.capnp_frame.specs.Sink.{Adds}
+use Rattle.capnp_frame.specs.declared.io.Read.{Ghosts}
+use Rattle.capnp_frame.specs.declared.io.Write.{Ghosts as SinkGhosts}
+use Rattle.capnp_frame.specs.Refusals.{IsReaderKind}
+use Rattle.capnp_frame.specs.Source.{IfKnown, IsFront, Advances, Fails}
+use Rattle.capnp_frame.specs.Sink.{Adds, Grows}
 use Rattle.capnp_frame.specs.Texts.{AreTexts}
 use Rattle.capnp_frame.specs.Writing.{IsWritable}
 use Rattle.capnp.specs.declared.streams.Format.{Format}
 use Rattle.capnp.specs.declared.streams.StoppedAt.{StoppedAt}
-use Rattle.capnp.specs.Streams.{grammar_of, StandsNext, RefusesNext}
+use Rattle.capnp.specs.Streams.{grammar_of, refuses_of, StandsNext, RefusesNext, IsStream}
 
 -- What is written of a message, by its index: Writes index message text.
 abbrev pub Writing : Type 1
@@ -107,3 +111,30 @@ IsAnswerTo (Err stop) messages ending = (ending ≡ Some stop.error.kind) × (st
 abbrev pub IsFaulted : DecliningWriting → Result (Unit {0}) StoppedAt → Type 0
 IsFaulted Declines (Ok done) = ⊥
 IsFaulted Declines (Err stop) = IsRunFault Declines stop.message stop.error.kind
+
+-- What a run over the messages of a stream reads, writes and returns. `source` is what is seen of the source (the members of
+-- the trait Read), which is `old` before the run and `new` after it; `sink` of the sink (those of Write), `before` and `after`.
+pub record WritesEach {S T : Type 0} (source : Ghosts S) (old new : S) (sink : SinkGhosts T) (before after : T)
+    (format : Format) (limit : Option ℕ) (Writes : Writing) (Declines : DecliningWriting)
+    (result : Result (Unit {0}) StoppedAt) : Type 0 where
+  -- each message is written until none is left, or those before the place where the run stopped
+  pub written : IfSome (source.unread old)
+      (HasRun format limit Writes Declines result (source.unread new) (sink.written before) (sink.written after))
+  -- what is returned says how the stream ends, and after how many messages, but for a fault
+  pub exact : IfSome (source.unread old) (λ raw. (messages : List (List (List ℕ))) (ending : Option ErrorKind)
+      → IsStream format limit messages ending raw → length messages < most_messages
+      → IsAnswerTo result messages ending ⊎ IsFaulted Declines result)
+  -- it fails with one of the reader's kinds, or with a fault at the message of that index
+  pub kinds : IfErr result (λ stop. IsReaderKind (refuses_of format) stop.error.kind ⊎ IsRunFault Declines stop.message stop.error.kind)
+  -- a device is blamed only where one of the two failed
+  pub failed : IfErr result (λ stop. stop.error.kind ≡ DeviceFailed
+      → Fails (source.failures old) (source.failures new) ⊎ Fails (sink.failures before) (sink.failures after))
+  -- the source moves on, or stays
+  pub advances : Advances source.unread source.failures source.same old new
+  -- what was written before stays at the front
+  pub grows : Grows sink.written sink.failures sink.same before after
+
+-- a run, where it isn't told after how many messages it stopped
+abbrev pub WithoutCount : (Result (Unit {0}) StoppedAt → Type 0) → Result (Unit {0}) Error → Type 0
+WithoutCount Run (Ok done) = Run (Ok done)
+WithoutCount Run (Err error) = (message : ℕ) × Run (Err (record { message = message; error = error }))

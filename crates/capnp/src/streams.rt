@@ -1,5 +1,5 @@
 //! Streams of messages: what is done with each, until none is left.
-ghost use Rattle.std.specs.Prelude.{◌≡◌, ◌<◌, ◌⊎◌, ℕ, List, [], length, Option, None, IfSome, IfNone, IfOk, OnOk, IfErr};
+ghost use Rattle.std.specs.Prelude.{◌≡◌, ◌⊎◌, None, IfSome, OnOk, IfErr};
 ghost use Rattle.std.specs.List.{AllByRecursion};
 ghost use Rattle.capnp_frame.specs.declared.error.ErrorKind.{ErrorKind};
 ghost use Rattle.capnp_frame.specs.Limits.{IsWithin};
@@ -7,8 +7,9 @@ ghost use Rattle.capnp_frame.specs.Message.{IsWholeWords};
 ghost use Rattle.capnp_frame.specs.Refusals.{IsReaderKind};
 ghost use Rattle.capnp_frame.specs.Source.{IfKnown, Advances, Fails};
 ghost use Rattle.capnp_frame.specs.Sink.{Appending, Declining, Adds, Grows};
-ghost use Rattle.capnp.specs.Streams.{refuses_of, StandsNext, IsStream};
-ghost use Rattle.capnp.specs.Runs.{Writing, DecliningWriting, IsReadingFault, IsWritingFault, IsRunFault, most_messages, HasRun, IsAnswerTo, IsFaulted};
+ghost use Rattle.capnp_frame.specs.Streams.{ReadsStream};
+ghost use Rattle.capnp.specs.Streams.{refuses_of, rules_of};
+ghost use Rattle.capnp.specs.Runs.{Writing, DecliningWriting, IsWritingFault, IsRunFault, HasRun, WritesEach};
 
 use capnp_frame::io::{BufRead, Write};
 use capnp_frame::message::ReaderOptions;
@@ -76,25 +77,9 @@ pub fn write_each_message<R: BufRead, W: Write, M: MessageWriter>(
     source: &mut R,
     sink: &mut W,
 ) -> std::result::Result<(), StoppedAt>
-    ensures written { IfSome (R.unread source.old) (HasRun format options.traversal_limit_in_words
-        (M.writes writer.now W.appends) (M.declines writer.now W.refuses) result
-        (R.unread source.new) (W.written sink.old) (W.written sink.new)) }
-    // A stream of messages gets the answer to how it ends, but for a fault.
-    ensures exact { IfSome (R.unread source.old) (λ raw. (messages : List (List (List ℕ)))
-        (ending : Option ErrorKind) →
-        IsStream format options.traversal_limit_in_words messages ending raw →
-        length messages < most_messages →
-        IsAnswerTo result messages ending
-        ⊎ IsFaulted (M.declines writer.now W.refuses) result) }
-
-    // A refusal is one of the reader's kinds, or a fault at a message of that index.
-    ensures kinds { IfErr result (λ stop. IsReaderKind (refuses_of format) stop.error.kind
-        ⊎ IsRunFault (M.declines writer.now W.refuses) stop.message stop.error.kind) }
-    ensures failed { IfErr result (λ stop. stop.error.kind ≡ ErrorKind.DeviceFailed →
-        Fails (R.failures source.old) (R.failures source.new)
-        ⊎ Fails (W.failures sink.old) (W.failures sink.new)) }
-    ensures advances { Advances R.unread R.failures R.same source.old source.new }
-    ensures grows { Grows W.written W.failures W.same sink.old sink.new }
+    ensures { WritesEach R.Read source.old source.new W.Write sink.old sink.new format
+        options.traversal_limit_in_words (M.writes writer.now W.appends)
+        (M.declines writer.now W.refuses) result }
 {
     write_all(alloc, format, options, writer, source, sink)
 }
@@ -142,21 +127,8 @@ fn read_next<R: BufRead>(
     source: &mut R,
     spare: OwnedSegments,
 ) -> Result<Option<OwnedSegments>>
-    ensures found { IfOk result (λ found. IfSome found (λ segments.
-        IfKnown (R.unread source.old) (R.unread source.new)
-        (StandsNext format options.traversal_limit_in_words segments))) }
-    ensures within { IfOk result (λ found. IfSome found (λ segments.
-        IsWithin segments options.traversal_limit_in_words)) }
-    ensures whole { IfOk result (λ found. IfSome found (AllByRecursion IsWholeWords)) }
-    ensures none { IfOk result (λ found. IfNone found
-        (IfSome (R.unread source.old) (λ raw. raw ≡ []))) }
-    ensures refused { IfErr result (λ error. IsReadingFault format
-        options.traversal_limit_in_words error.kind
-        (R.unread source.old) (R.unread source.new)) }
-    ensures kinds { IfErr result (λ error. IsReaderKind (refuses_of format) error.kind) }
-    ensures failed { IfErr result (λ error. error.kind ≡ ErrorKind.DeviceFailed →
-        Fails (R.failures source.old) (R.failures source.new)) }
-    ensures advances { Advances R.unread R.failures R.same source.old source.new }
+    ensures { ReadsStream R.Read source.old source.new (rules_of format)
+        options.traversal_limit_in_words result }
 {
     match format {
         Format::Framed => try_read_segments_reusing(source, options, spare),

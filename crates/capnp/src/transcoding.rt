@@ -1,13 +1,8 @@
 //! From one format to the other.
-ghost use Rattle.std.specs.Prelude.{◌≡◌, ◌<◌, ◌⊎◌, ℕ, List, length, Option, IfSome, IfErr};
-ghost use Rattle.capnp_frame.specs.declared.error.ErrorKind.{ErrorKind};
-ghost use Rattle.capnp_frame.specs.Refusals.{IsReaderKind};
-ghost use Rattle.capnp_frame.specs.Source.{Advances, Fails};
-ghost use Rattle.capnp_frame.specs.Sink.{Grows};
-ghost use Rattle.capnp.specs.Streams.{refuses_of, IsStream};
+ghost use Rattle.std.specs.Prelude.{◌≡◌};
 ghost use Rattle.capnp.specs.Written.{IsPlainSink};
-ghost use Rattle.capnp.specs.Runs.{IsRunFault, most_messages};
-ghost use Rattle.capnp.specs.Transcoding.{input_of, Transcodes, DeclinesTranscoded, IsOtherText, HasTranscoded, SaysEnd, IsTranscodingFault};
+ghost use Rattle.capnp.specs.Runs.{WritesEach, WithoutCount};
+ghost use Rattle.capnp.specs.Transcoding.{input_of, Transcodes, DeclinesTranscoded, IsOtherText};
 
 use crate::streams::{Format, MessageWriter, write_each_message};
 use crate::{serialize, serialize_packed};
@@ -77,27 +72,14 @@ pub fn transcode<R: BufRead, W: Write>(
     sink: &mut W,
     options: ReaderOptions,
 ) -> Result<()>
-    ensures texts { IsPlainSink W.appends → IfSome (R.unread source.old)
-        (HasTranscoded way options.traversal_limit_in_words (IsOtherText way) W.refuses result
-        (R.unread source.new) (W.written sink.old) (W.written sink.new)) }
-    // A stream of messages gets the answer to how it ends, but for a fault.
-    ensures exact { IfSome (R.unread source.old) (λ raw. (messages : List (List (List ℕ)))
-        (ending : Option ErrorKind) →
-        IsStream (input_of way) options.traversal_limit_in_words messages ending raw →
-        length messages < most_messages →
-        SaysEnd result ending ⊎ IsTranscodingFault way W.refuses result) }
-
+    // A plain sink gets the texts in the other format.
+    ensures texts { IsPlainSink W.appends → WithoutCount (WritesEach R.Read source.old source.new
+        W.Write sink.old sink.new (input_of way) options.traversal_limit_in_words
+        (IsOtherText way) (DeclinesTranscoded way W.refuses)) result }
     // Of every sink.
-    ensures written { IfSome (R.unread source.old)
-        (HasTranscoded way options.traversal_limit_in_words (Transcodes way W.appends) W.refuses
-        result (R.unread source.new) (W.written sink.old) (W.written sink.new)) }
-    ensures kinds { IfErr result (λ error. IsReaderKind (refuses_of (input_of way)) error.kind
-        ⊎ ((index : ℕ) × IsRunFault (DeclinesTranscoded way W.refuses) index error.kind)) }
-    ensures failed { IfErr result (λ error. error.kind ≡ ErrorKind.DeviceFailed →
-        Fails (R.failures source.old) (R.failures source.new)
-        ⊎ Fails (W.failures sink.old) (W.failures sink.new)) }
-    ensures advances { Advances R.unread R.failures R.same source.old source.new }
-    ensures grows { Grows W.written W.failures W.same sink.old sink.new }
+    ensures runs { WithoutCount (WritesEach R.Read source.old source.new
+        W.Write sink.old sink.new (input_of way) options.traversal_limit_in_words
+        (Transcodes way W.appends) (DeclinesTranscoded way W.refuses)) result }
 {
     match write_each_message(alloc, way.input(), options, &way, source, sink) {
         Ok(()) => Ok(()),

@@ -2,20 +2,21 @@
 use Rattle.std.proofs.Common.{rules, ◌≡◌, refl, inr}
 use Rattle.capnp_frame.proofs.SourceLemmas.{IfKnown-join, Advances-join, Grows-join}
 use Rattle.capnp.specs.Runs.{most_messages}
+use Rattle.capnp.proofs.FormatLemmas.{reading_fault}
 use Rattle.capnp.proofs.RunLemmas.{HasWritten-next, written_next, all_written, most_written, stopped_reading, stopped_at_message, message_faulted}
 use Rattle.capnp.proofs.streams.write_all.Goals as goal
 
 pub returns-in-Ok-None-clause-written : goal.returns-in-Ok-None-clause-written
 returns-in-Ok-None-clause-written g c = all_written c.args.format c.args.options.traversal_limit_in_words
     (g.M.MessageWriter.writes c.args.writer.now g.W.Write.appends) (g.M.MessageWriter.declines c.args.writer.now g.W.Write.refuses) c.loop-message.message _ _ _ _ _ _
-    c.loop-message.invariant.written (rw c.in-Ok-None.field-0-is at c.in-Ok-None.ensures.none)
-    c.read_next.ensures.advances.tail refl
+    c.loop-message.invariant.written (rw c.in-Ok-None.field-0-is at c.in-Ok-None.ensures.none) c.read_next.ensures.advances.tail refl
 
 pub returns-in-Err-clause-written : goal.returns-in-Err-clause-written
 returns-in-Err-clause-written g c = stopped_reading c.args.format c.args.options.traversal_limit_in_words
     (g.M.MessageWriter.writes c.args.writer.now g.W.Write.appends) (g.M.MessageWriter.declines c.args.writer.now g.W.Write.refuses)
     (record { message = c.loop-message.message; error = c.in-Err.error }) _ _ _ _ _ _
-    c.loop-message.invariant.written c.in-Err.ensures.refused refl
+    c.loop-message.invariant.written
+    (reading_fault c.args.format c.args.options.traversal_limit_in_words c.in-Err.error.kind _ _ c.in-Err.ensures.refused) refl
 
 pub returns-in-Err-clause-advances : goal.returns-in-Err-clause-advances
 returns-in-Err-clause-advances g c = Advances-join _ _ _ (g.met.R.Read.keeps.transitive _ _ _) c.loop-message.invariant.advances c.read_next.ensures.advances
@@ -47,7 +48,7 @@ loop-message-preserved g c = record {
       c.loop-message.invariant.written
       (written_next c.args.format c.args.options.traversal_limit_in_words
       (g.M.MessageWriter.writes c.args.writer.now g.W.Write.appends) c.loop-message.message c.in-Ok-Some.segments _ _ _ _
-      (rw c.in-Ok-Some.field-0-is at c.in-Ok-Some.ensures.found) c.in-Ok.ensures.written);
+      (rw c.in-Ok-Some.field-0-is at c.in-Ok-Some.ensures.within) (rw c.in-Ok-Some.field-0-is at c.in-Ok-Some.ensures.found) c.in-Ok.ensures.written);
   advances = Advances-join _ _ _ (g.met.R.Read.keeps.transitive _ _ _) c.loop-message.invariant.advances c.read_next.ensures.advances;
   grows = Grows-join _ _ _ (g.met.W.Write.keeps.transitive _ _ _) c.loop-message.invariant.grows c.write_message.ensures.grows;
 }

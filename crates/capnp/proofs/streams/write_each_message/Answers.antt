@@ -2,8 +2,15 @@
 use Rattle.capnp.proofs.EndLemmas.{answered_known}
 use Rattle.capnp.proofs.streams.write_each_message.Goals as goal
 
-pub returns-clause-exact : goal.returns-clause-exact
-returns-clause-exact g c = answered_known c.args.format c.args.options.traversal_limit_in_words
-    (g.M.MessageWriter.writes c.args.writer.now g.W.Write.appends)
-    (g.M.MessageWriter.declines c.args.writer.now g.W.Write.refuses) c.write_all.result _ _ _ _
-    c.write_all.ensures.written
+pub returns : goal.returns
+returns g c = record {
+  written = c.write_all.ensures.written;
+  exact = answered_known c.args.format c.args.options.traversal_limit_in_words
+      (g.M.MessageWriter.writes c.args.writer.now g.W.Write.appends)
+      (g.M.MessageWriter.declines c.args.writer.now g.W.Write.refuses) c.write_all.result _ _ _ _
+      c.write_all.ensures.written;
+  kinds = c.write_all.ensures.kinds;
+  failed = c.write_all.ensures.failed;
+  advances = c.write_all.ensures.advances;
+  grows = c.write_all.ensures.grows;
+}
