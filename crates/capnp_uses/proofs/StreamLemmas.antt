@@ -4,34 +4,22 @@ use Rattle.std.proofs.Math.Seq.{drop-append_seam}
 use Rattle.capnp_frame.specs.declared.error.Error.{Error}
 use Rattle.capnp_frame.specs.declared.error.ErrorKind.{ErrorKind}
 use Rattle.capnp_frame.specs.declared.error.ErrorKind.TheVariants.{DeviceFailed, OutOfMemory}
-use Rattle.capnp_frame.specs.Source.{IfKnown, Fails}
+use Rattle.capnp_frame.specs.Source.{Fails}
 use Rattle.capnp_frame.specs.Texts.{Grammar, AreTexts}
-use Rattle.capnp_frame.specs.Refusals.{RefusesStream, TakesMemory}
 use Rattle.capnp_frame.proofs.AskLemmas.{never_fails}
 use Rattle.capnp_frame.proofs.TextLemmas.{AreTexts-push}
-use Rattle.capnp_pack.specs.PackedSource.{Unpacks, RefusesPiece}
 use Rattle.capnp.specs.declared.streams.Format.{Format}
-use Rattle.capnp.specs.declared.streams.Format.TheVariants.{Packed}
 use Rattle.capnp.specs.Streams.{grammar_of, StandsNext, RefusesNext, EndsBy, IsStream}
-use Rattle.capnp.specs.Runs.{IsReadingFault}
 use Rattle.capnp.proofs.EndLemmas.{stream_once}
 use Rattle.capnp_uses.specs.Streaming.{kind_of, LacksMemory}
 
--- what a packed reader is refused by
-pub packed_refused : {X : Type 0} (format : Format) (limit : Option ℕ) (is : format ≡ Packed) (r : Result X Error) (old new : Option (List ℕ))
-    → IfErr r (λ e. (e.kind ≡ DeviceFailed) ⊎ ((e.kind ≡ OutOfMemory) × IfKnown old new (TakesMemory Unpacks limit)) ⊎ IfKnown old new (RefusesStream Unpacks RefusesPiece limit None e.kind))
-    → IfErr r (λ e. IsReadingFault format limit e.kind old new)
-packed_refused format limit is (Ok x) old new told = tt
-packed_refused format limit is (Err e) old new (inl device) = inl device
-packed_refused format limit is (Err e) old new (inr (inl memory)) = inr (inl memory.0)
-packed_refused format limit is (Err e) old new (inr (inr line)) = inr (inr (subst (λ f. IfKnown old new (RefusesNext f limit e.kind)) (sym is) line))
-
--- a slice never fails, so its reader is refused for want of memory or by what stands there
-pub slice_refused : (format : Format) (limit : Option ℕ) (kind : ErrorKind) (old new : List ℕ) → (kind ≡ DeviceFailed → Fails 0 0)
-    → IsReadingFault format limit kind (Some old) (Some new) → (kind ≡ OutOfMemory) ⊎ EndsBy format limit (Some kind) old
-slice_refused format limit kind old new failed (inl device) = absurd (never_fails kind failed device)
-slice_refused format limit kind old new failed (inr (inl memory)) = inl memory
-slice_refused format limit kind old new failed (inr (inr line)) = inr (new, line)
+-- a slice never fails, so its reader fails for want of memory or by what stands there
+pub slice_refused : (format : Format) (limit : Option ℕ) (kind : ErrorKind) (old new : List ℕ) (T : Type 0) → (kind ≡ DeviceFailed → Fails 0 0)
+    → (kind ≡ DeviceFailed) ⊎ ((kind ≡ OutOfMemory) × T) ⊎ RefusesNext format limit kind old new
+    → (kind ≡ OutOfMemory) ⊎ EndsBy format limit (Some kind) old
+slice_refused format limit kind old new T failed (inl device) = absurd (never_fails kind failed device)
+slice_refused format limit kind old new T failed (inr (inl memory)) = inl memory.0
+slice_refused format limit kind old new T failed (inr (inr line)) = inr (new, line)
 
 -- texts stand at the front of a stream
 pub texts_front : (IsText : Grammar) (limit : Option ℕ) (ms : List (List (List ℕ))) (raw rest : List ℕ) → AreTexts IsText limit ms raw rest
