@@ -54,8 +54,10 @@ impl<T: AsBytes> BufferSegments<T> {
         requires running { segment_indices.items ≡ ranges (map range_len segment_indices.items) }
         requires room { table_len + 8 * sum (map range_len segment_indices.items)
             ≤ length (T.bytes buffer) }
-        ensures { result ≡ record { buffer = buffer;
-            segments = cut (map range_len segment_indices.items) (drop table_len (T.bytes buffer)) } }
+        ensures { result ≡ record {
+          buffer = buffer;
+          segments = cut (map range_len segment_indices.items) (drop table_len (T.bytes buffer));
+        } }
     {
         BufferSegments {
             buffer,

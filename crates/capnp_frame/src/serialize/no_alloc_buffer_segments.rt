@@ -62,8 +62,10 @@ impl<T: AsBytes> NoAllocBufferSegments<T> {
     /// The message that the buffer holds, of so many segments.
     pub(crate) fn of_held(buffer: T, segments_count: usize) -> NoAllocBufferSegments<T>
         requires { HoldsMessage (T.bytes buffer) segments_count }
-        ensures { result ≡ record { buffer = buffer;
-            segments = told_segments segments_count (T.bytes buffer) } }
+        ensures { result ≡ record {
+          buffer = buffer;
+          segments = told_segments segments_count (T.bytes buffer);
+        } }
     {
         let ends = first_ends(buffer.as_bytes(), segments_count);
         NoAllocBufferSegments {

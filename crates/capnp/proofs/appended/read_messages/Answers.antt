@@ -31,5 +31,5 @@ loop-index-preserved g c = record {
       c.push.new.self.items c.in_ok-reader.reader _ _ _ c.in_ok-push.ensures.items c.loop-index.invariant.texts
       c.in_ok-reader.ensures.texts.found;
   advances = Advances-join _ _ _ (g.met.R.Read.keeps.transitive _ _ _) c.loop-index.invariant.advances
-    (or_fails_advances g.R.Read _ _ _ _ _ c.read_message.ensures.reads);
+      (or_fails_advances g.R.Read _ _ _ _ _ c.read_message.ensures.reads);
 }
