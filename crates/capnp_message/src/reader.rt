@@ -1,19 +1,19 @@
 //! Readers of messages.
-ghost use Rattle.std.specs.Prelude.{◌≡◌, ◌<◌, ◌^◌, ◌-◌, ◌↔◌, ℕ, length, min, IfOk, IfErr, IsOk, IsTrue, MatchResult};
+ghost use Rattle.std.specs.Prelude.{◌≡◌, ◌⊎◌, ◌<◌, ◌^◌, ◌-◌, ◌↔◌, ℕ, length, min, IfOk, IfErr, IsOk, IsTrue, MatchResult};
 ghost use Rattle.std.specs.Result.{IsErrAnd};
 ghost use Rattle.capnp_frame.specs.Message.{IsWholeWords, size_in_words};
 ghost use Rattle.capnp_frame.specs.declared.error.ErrorKind.{ErrorKind};
-ghost use Rattle.capnp_frame.specs.declared.error.ErrorKind.TheVariants.{ReadLimitExceeded};
+ghost use Rattle.capnp_frame.specs.declared.error.ErrorKind.TheVariants.{ReadLimitExceeded, OutOfMemory};
 ghost use Rattle.capnp_wire.specs.Reached.{root};
 ghost use Rattle.capnp_wire.specs.Pointer.{words_of};
 ghost use Rattle.capnp_wire.specs.Tree.{Trees};
 ghost use Rattle.capnp_wire.specs.Canonical.{IsCanonical};
 ghost use Rattle.capnp_wire.specs.Tested.{Unsaid};
-ghost use Rattle.capnp_wire.specs.Values.{LeadsToTree, StopsWalkFrom};
+ghost use Rattle.capnp_wire.specs.Values.{LeadsToTree, StopsWalkFrom, IsCanonicalForm};
 ghost use Rattle.capnp_message.specs.Seen.{root_of};
 ghost use Rattle.capnp_wire.specs.Block.{numbers_of};
+ghost use Rattle.capnp_message.specs.Canonical.{HasForm, LacksForm, ReturnsForm};
 ghost use Rattle.capnp_message.specs.Roots.{ReadsRoot};
-ghost use Rattle.capnp_message.specs.Canonical.{ReturnsForm};
 
 use crate::typed_reader::TypedReader;
 use capnp_frame::message::{ReaderOptions, ReaderSegments};
@@ -95,9 +95,14 @@ impl<S: ReaderSegments> Reader<S> {
     /// root pointer among them, it is refused by `CanonicalTooLarge`. The walk counts from 0, and what is
     /// read of the message by views stays as it was. Memory is asked for once the form is measured.
     pub fn canonical_segment(&self, alloc: Global) -> Result<Vec<u8>>
+        ensures answer { let pointer = root_of S.segments self.now in MatchResult result
+            (λ bytes. IsCanonicalForm pointer (words_of bytes.items))
+            (λ error. LacksForm pointer error.kind ⊎ (error.kind ≡ OutOfMemory)) }
         ensures whole { IfOk result (λ bytes. IsWholeWords bytes.items) }
-        ensures form { ReturnsForm (root_of S.segments self.now)
-            (λ bytes. words_of bytes.items) result }
+        ensures found { HasForm (root_of S.segments self.now) →
+            IfErr result (λ error. error.kind ≡ OutOfMemory) }
+        ensures exact { (kind : ErrorKind) → LacksForm (root_of S.segments self.now) kind →
+            IsErrAnd result (λ error. error.kind ≡ kind) }
     {
         let root = self.arena.get_root()?;
         canonical_bytes(alloc, &root)

@@ -7,7 +7,7 @@ use Rattle.capnp_message.proofs.laws.canonicalize_twice.Goals as goal
 
 pub returns-clause-same : goal.returns-clause-same
 returns-clause-same g c =
-    c.in_ok-is_canonical.ensures.same ∙ ap words_of c.deref.ensures.value ∙ one_form _ _ _ c.in_ok-segment.ensures.form.answer c.in_ok-words.ensures.answer
+    c.in_ok-is_canonical.ensures.same ∙ ap words_of c.deref.ensures.value ∙ one_form _ _ _ c.in_ok-segment.ensures.answer c.in_ok-words.ensures.answer
 
 pub returns-in_err-words-clause-kinds : goal.returns-in_err-words-clause-kinds
 returns-in_err-words-clause-kinds g c =
