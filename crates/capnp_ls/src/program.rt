@@ -1,6 +1,5 @@
 //! What the program does, over any source and sink.
-ghost use Rattle.std.specs.Prelude.{◌≡◌, ◌↔◌, map, string_bytes, IsErrOf};
-ghost use Rattle.capnp.specs.Passed.{Advances, Grows};
+ghost use Rattle.std.specs.Prelude.{◌≡◌, ◌⊎◌, ◌↔◌, map, string_bytes, IsErrOf};
 ghost use Rattle.capnp.specs.Runs.{WritesEach};
 ghost use Rattle.capnp_ls.specs.declared.command.Command.{Command};
 ghost use Rattle.capnp_ls.specs.Commands.{command_words, input_of};
@@ -31,13 +30,13 @@ pub fn run<R: BufRead, W: Write>(
     ensures untouched { IsErrOf result Stop.Usage
         → (source.new ≡ source.old) × (sink.new ≡ sink.old) }
 
-    // What a command reads and writes, and where it stops.
+    // Else they are a command's: what it reads and writes, and where it stops.
+    ensures told { IsErrOf result Stop.Usage
+        ⊎ ((command : Command) × (map string_bytes words.now ≡ command_words command)) }
     ensures runs { (command : Command) → map string_bytes words.now ≡ command_words command →
         ForCommand (WritesEach R.Read source.old source.new W.Write sink.old sink.new
         (input_of command) limit (Prints command W.appends) (DeclinesPrinted command W.refuses))
         result }
-    ensures advances { Advances R.unread R.failures R.same source.old source.new }
-    ensures grows { Grows W.written W.failures W.same sink.old sink.new }
 {
     let Some(command) = Command::from_words(words) else {
         return Err(Stop::Usage);
