@@ -1,4 +1,3 @@
 pub mod DigitLemmas
 pub mod LineLemmas
-pub mod RunLemmas
 pub mod MessageLemmas

@@ -1,12 +1,10 @@
 //! What the program does, over any source and sink.
-ghost use Rattle.std.specs.Prelude.{◌≡◌, ◌<◌, ℕ, List, ◌⊎◌, ◌↔◌, map, string_bytes, length, Option, IfSome, IsErrOf};
-ghost use Rattle.capnp.specs.Passed.{ErrorKind, Advances, Fails, Grows, IsReaderKind};
-ghost use Rattle.capnp.specs.Streams.{refuses_of, IsStream};
-ghost use Rattle.capnp.specs.Runs.{most_messages};
+ghost use Rattle.std.specs.Prelude.{◌≡◌, ◌⊎◌, ◌↔◌, map, string_bytes, IsErrOf};
+ghost use Rattle.capnp.specs.Runs.{WritesEach};
 ghost use Rattle.capnp_ls.specs.declared.command.Command.{Command};
 ghost use Rattle.capnp_ls.specs.Commands.{command_words, input_of};
-ghost use Rattle.capnp_ls.specs.Output.{limit};
-ghost use Rattle.capnp_ls.specs.Runs.{HasRun, IsFault, IsAnswerTo, IsFaulted, IfRefused};
+ghost use Rattle.capnp_ls.specs.Output.{limit, Prints, DeclinesPrinted};
+ghost use Rattle.capnp_ls.specs.Runs.{ForCommand};
 
 use crate::command::Command;
 use crate::stop::Stop;
@@ -32,27 +30,13 @@ pub fn run<R: BufRead, W: Write>(
     ensures untouched { IsErrOf result Stop.Usage
         → (source.new ≡ source.old) × (sink.new ≡ sink.old) }
 
-    // What a command reads and writes.
-    ensures printed { (command : Command) → map string_bytes words.now ≡ command_words command →
-        IfSome (R.unread source.old) (HasRun command W.appends W.refuses result
-        (R.unread source.new) (W.written sink.old) (W.written sink.new)) }
-    // A stream of messages gets the answer to how it ends, but for a fault.
-    ensures exact { (command : Command) → map string_bytes words.now ≡ command_words command →
-        IfSome (R.unread source.old) (λ raw. (messages : List (List (List ℕ)))
-        (ending : Option ErrorKind) → IsStream (input_of command) limit messages ending raw →
-        length messages < most_messages →
-        IsAnswerTo result messages ending ⊎ IsFaulted command W.refuses result) }
-
-    // A refusal is one of the reader's kinds, or by a piece of a message of that index.
-    ensures kinds { (command : Command) → map string_bytes words.now ≡ command_words command →
-        IfRefused result (λ message kind. IsReaderKind (refuses_of (input_of command)) kind
-        ⊎ IsFault command W.refuses message kind) }
-    ensures failed { IfRefused result (λ message kind. kind ≡ ErrorKind.DeviceFailed →
-        Fails (R.failures source.old) (R.failures source.new)
-        ⊎ Fails (W.failures sink.old) (W.failures sink.new)) }
-
-    ensures advances { Advances R.unread R.failures R.same source.old source.new }
-    ensures grows { Grows W.written W.failures W.same sink.old sink.new }
+    // Else they are a command's: what it reads and writes, and where it stops.
+    ensures told { IsErrOf result Stop.Usage
+        ⊎ ((command : Command) × (map string_bytes words.now ≡ command_words command)) }
+    ensures runs { (command : Command) → map string_bytes words.now ≡ command_words command →
+        ForCommand (WritesEach R.Read source.old source.new W.Write sink.old sink.new
+        (input_of command) limit (Prints command W.appends) (DeclinesPrinted command W.refuses))
+        result }
 {
     let Some(command) = Command::from_words(words) else {
         return Err(Stop::Usage);
@@ -67,17 +51,9 @@ fn print_all<R: BufRead, W: Write>(
     source: &mut R,
     sink: &mut W,
 ) -> std::result::Result<(), Stop>
-    ensures started { IsErrOf result Stop.Usage → ⊥ }
-    ensures printed { IfSome (R.unread source.old) (HasRun command W.appends W.refuses result
-        (R.unread source.new) (W.written sink.old) (W.written sink.new)) }
-    ensures kinds { IfRefused result (λ message kind.
-        IsReaderKind (refuses_of (input_of command)) kind
-        ⊎ IsFault command W.refuses message kind) }
-    ensures failed { IfRefused result (λ message kind. kind ≡ ErrorKind.DeviceFailed →
-        Fails (R.failures source.old) (R.failures source.new)
-        ⊎ Fails (W.failures sink.old) (W.failures sink.new)) }
-    ensures advances { Advances R.unread R.failures R.same source.old source.new }
-    ensures grows { Grows W.written W.failures W.same sink.old sink.new }
+    ensures { ForCommand (WritesEach R.Read source.old source.new W.Write sink.old sink.new
+        (input_of command) limit (Prints command W.appends) (DeclinesPrinted command W.refuses))
+        result }
 {
     let format = command.input();
     match write_each_message(

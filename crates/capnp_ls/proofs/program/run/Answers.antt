@@ -1,21 +1,14 @@
--- What was printed is what the stream's end asks for.
-use Rattle.std.proofs.Common.{rules, ◌≡◌, ◌⊎◌, subst}
-use Rattle.capnp.specs.Passed.{IsReaderKind}
-use Rattle.capnp.specs.Streams.{refuses_of}
+-- The words are those of one command.
+use Rattle.std.proofs.Common.{rules, ◌≡◌, subst}
+use Rattle.capnp.specs.Runs.{WritesEach}
 use Rattle.capnp_ls.specs.declared.command.Command.{Command}
 use Rattle.capnp_ls.specs.Commands.{input_of}
-use Rattle.capnp_ls.specs.Runs.{IfRefused, IsFault}
-use Rattle.capnp_ls.proofs.RunLemmas.{answered_known}
+use Rattle.capnp_ls.specs.Output.{limit, Prints, DeclinesPrinted}
+use Rattle.capnp_ls.specs.Runs.{ForCommand}
 use Rattle.capnp_ls.proofs.program.run.Goals as goal
 
-pub returns-clause-exact : goal.returns-clause-exact
-returns-clause-exact g c = λ command is.
-    answered_known command g.W.Write.appends g.W.Write.refuses c.print_all.result (g.R.Read.unread c.args.source.now)
-    (g.R.Read.unread c.print_all.new.source) (g.W.Write.written c.args.sink.now)
-    (g.W.Write.written c.print_all.new.sink) (search rules)
-
-pub returns-clause-kinds : goal.returns-clause-kinds
-returns-clause-kinds g c = λ command is.
+pub returns-clause-runs : goal.returns-clause-runs
+returns-clause-runs g c = λ command is.
     let same : c.in-Some.command ≡ command = search rules in
-    subst (λ (x : Command). IfRefused c.print_all.result (λ message kind. IsReaderKind (refuses_of (input_of x)) kind ⊎ IsFault x g.W.Write.refuses message kind))
-    same c.print_all.ensures.kinds
+    subst (λ (x : Command). ForCommand (WritesEach g.R.Read c.args.source.now c.print_all.new.source g.W.Write c.args.sink.now c.print_all.new.sink
+    (input_of x) limit (Prints x g.W.Write.appends) (DeclinesPrinted x g.W.Write.refuses)) c.print_all.result) same c.print_all.ensures
