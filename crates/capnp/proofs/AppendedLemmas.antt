@@ -4,6 +4,7 @@ use Rattle.std.proofs.Math.ListN.{get_or}
 use Rattle.std.proofs.lemmas.List.{map-append, length-map, take_more, append-nil}
 use Rattle.std.specs.List.{AllByRecursion}
 use Rattle.std.specs.Option.{option_map}
+use Rattle.capnp_frame.specs.declared.serialize.segment_table.Padding.{Padding}
 use Rattle.capnp_frame.specs.declared.error.ErrorKind.{ErrorKind}
 use Rattle.capnp_frame.specs.declared.error.ErrorKind.TheVariants.{DeviceFailed, OutOfMemory}
 use Rattle.capnp_frame.specs.Sink.{Adds}
@@ -25,19 +26,19 @@ use Rattle.capnp.proofs.RunLemmas.{format_lawful, format_requested, format_parts
 use Rattle.capnp.proofs.ReaderLemmas.{nothing_begins_known}
 
 -- one more message is read
-pub texts_next : {X : Type 0} (format : Format) (limit : Option ℕ) (segments : X → List (List ℕ)) (xs ys : List X)
+pub texts_next : {X : Type 0} (rule : Padding) (format : Format) (limit : Option ℕ) (segments : X → List (List ℕ)) (xs ys : List X)
     (x : X) (old mid new : Option (List ℕ)) → ys ≡ xs ++ x ∷ []
-    → IfKnown old mid (AreTexts (grammar_of format) limit (map segments xs))
-    → IfKnown mid new (StandsNext format limit (segments x))
-    → IfKnown old new (AreTexts (grammar_of format) limit (map segments ys))
-texts_next format limit segments xs ys x old mid new e texts begins =
+    → IfKnown old mid (AreTexts (grammar_of rule format) limit (map segments xs))
+    → IfKnown mid new (StandsNext rule format limit (segments x))
+    → IfKnown old new (AreTexts (grammar_of rule format) limit (map segments ys))
+texts_next rule format limit segments xs ys x old mid new e texts begins =
     let both : map segments ys ≡ map segments xs ++ segments x ∷ [] = ap (map segments) e ∙ map-append segments xs (x ∷ []) in
-    subst (λ ms. IfKnown old new (AreTexts (grammar_of format) limit ms)) (sym both)
-    (IfKnown-join old mid new (AreTexts-push (grammar_of format) limit (map segments xs) (segments x)) texts begins)
+    subst (λ ms. IfKnown old new (AreTexts (grammar_of rule format) limit ms)) (sym both)
+    (IfKnown-join old mid new (AreTexts-push (grammar_of rule format) limit (map segments xs) (segments x)) texts begins)
 
 -- behind fewer texts a next one stands
-texts_further : {IsText : Grammar} {gives : Giving} {refuses : Refusing} {limit : Option ℕ}
-    → PartsStreams IsText gives refuses limit
+texts_further : {IsText : Grammar} {rule : Padding} {gives : Giving} {refuses : Refusing} {limit : Option ℕ}
+    → PartsStreams IsText rule gives refuses limit
     → (ns ms : List (List (List ℕ))) (raw mid rest : List ℕ) → AreTexts IsText limit ns raw mid
     → AreTexts IsText limit ms raw rest → length ns < length ms
     → (m : List (List ℕ)) × (left : List ℕ) × BeginsWith IsText limit m mid left
@@ -48,20 +49,20 @@ texts_further {IsText} {limit = limit} parts (n ∷ ns) (m ∷ ms) raw mid rest 
     texts_further parts ns ms texts.0 mid rest (subst (λ l. AreTexts IsText limit ns l mid) same.1 had.2) texts.2 (omega arith)
 
 -- so where as many as are asked for stand, a refusal is a fault
-pub accepted_later : (format : Format) (limit : Option ℕ) (F : Type 0) (ns : List (List (List ℕ))) (count : ℕ)
-    (old mid : Option (List ℕ)) → length ns < count → IfKnown old mid (AreTexts (grammar_of format) limit ns)
-    → IfSome mid (λ raw. (m : List (List ℕ)) (rest : List ℕ) → StandsNext format limit m raw rest → F)
-    → IfSome old (λ raw. (ms : List (List (List ℕ))) (rest : List ℕ) → AreTexts (grammar_of format) limit ms raw rest
+pub accepted_later : (rule : Padding) (format : Format) (limit : Option ℕ) (F : Type 0) (ns : List (List (List ℕ))) (count : ℕ)
+    (old mid : Option (List ℕ)) → length ns < count → IfKnown old mid (AreTexts (grammar_of rule format) limit ns)
+    → IfSome mid (λ raw. (m : List (List ℕ)) (rest : List ℕ) → StandsNext rule format limit m raw rest → F)
+    → IfSome old (λ raw. (ms : List (List (List ℕ))) (rest : List ℕ) → AreTexts (grammar_of rule format) limit ms raw rest
     → length ms ≡ count → F)
-accepted_later format limit F ns count None mid few had accepted = tt
-accepted_later format limit F ns count (Some raw) None few had accepted = absurd had
-accepted_later format limit F ns count (Some raw) (Some left) few had accepted = λ ms rest texts counted.
-    let next = texts_further (format_parts format limit) ns ms raw left rest had texts (omega arith) in
+accepted_later rule format limit F ns count None mid few had accepted = tt
+accepted_later rule format limit F ns count (Some raw) None few had accepted = absurd had
+accepted_later rule format limit F ns count (Some raw) (Some left) few had accepted = λ ms rest texts counted.
+    let next = texts_further (format_parts rule format limit) ns ms raw left rest had texts (omega arith) in
     accepted next.0 next.1 next.2
 
 -- as many texts are the same messages
-texts_same : {IsText : Grammar} {gives : Giving} {refuses : Refusing} {limit : Option ℕ}
-    → PartsStreams IsText gives refuses limit
+texts_same : {IsText : Grammar} {rule : Padding} {gives : Giving} {refuses : Refusing} {limit : Option ℕ}
+    → PartsStreams IsText rule gives refuses limit
     → (ns ms : List (List (List ℕ))) (raw left rest : List ℕ) → AreTexts IsText limit ns raw left
     → AreTexts IsText limit ms raw rest → length ns ≡ length ms → (ns ≡ ms) × (left ≡ rest)
 texts_same parts [] [] raw left rest had texts many = (refl, had ∙ sym texts)
@@ -73,25 +74,25 @@ texts_same {IsText} {limit = limit} parts (n ∷ ns) (m ∷ ms) raw left rest ha
     (ap (λ x. x ∷ ns) same.0 ∙ ap (λ l. m ∷ l) inner.0, inner.1)
 
 -- what is written of a message is a text of it
-pub text_is : (format : Format) (m : List (List ℕ)) (text : List ℕ) → IsWritable m → IsTextOf format m text → grammar_of format text m
-text_is Framed m text writable e = subst (λ t. IsFrame t m) (sym e) (frame_text_is m (HasTable-writable m writable) writable.whole)
-text_is Packed m text writable p = packed_text_is text m (HasTable-writable m writable) p
+pub text_is : (rule : Padding) (format : Format) (m : List (List ℕ)) (text : List ℕ) → IsWritable m → IsTextOf format m text → grammar_of rule format text m
+text_is rule Framed m text writable e = subst (λ t. IsFrame rule t m) (sym e) (frame_text_is rule m (HasTable-writable m writable) writable.whole)
+text_is rule Packed m text writable p = packed_text_is rule text m (HasTable-writable m writable) p
 
 -- so what is written of messages is their texts
-appended_texts : (format : Format) (limit : Option ℕ) (ms : List (List (List ℕ))) (text : List ℕ)
+appended_texts : (rule : Padding) (format : Format) (limit : Option ℕ) (ms : List (List (List ℕ))) (text : List ℕ)
     → AllByRecursion IsWritable ms → AllByRecursion (λ m. IsWithin m limit) ms → AppendsEach (IsTextOf format) ms text
-    → AreTexts (grammar_of format) limit ms text []
-appended_texts format limit [] text writable within all = sym all
-appended_texts format limit (m ∷ ms) text writable within (first, others, here, more, e) = (
+    → AreTexts (grammar_of rule format) limit ms text []
+appended_texts rule format limit [] text writable within all = sym all
+appended_texts rule format limit (m ∷ ms) text writable within (first, others, here, more, e) = (
   others,
-  record { text = first; is_text = text_is format m first writable.0 here; within = within.0; spelled = e },
-  appended_texts format limit ms others writable.1 within.1 more,
+  record { text = first; is_text = text_is rule format m first writable.0 here; within = within.0; spelled = e },
+  appended_texts rule format limit ms others writable.1 within.1 more,
 )
 
-pub appended_stream : (format : Format) (limit : Option ℕ) (ms : List (List (List ℕ))) (text : List ℕ)
+pub appended_stream : (rule : Padding) (format : Format) (limit : Option ℕ) (ms : List (List (List ℕ))) (text : List ℕ)
     → AllByRecursion IsWritable ms → AllByRecursion (λ m. IsWithin m limit) ms → AppendsEach (IsTextOf format) ms text
-    → IsStream format limit ms None text
-appended_stream format limit ms text writable within all = record { rest = []; texts = appended_texts format limit ms text writable within all; ends = refl }
+    → IsStream rule format limit ms None text
+appended_stream rule format limit ms text writable within all = record { rest = []; texts = appended_texts rule format limit ms text writable within all; ends = refl }
 
 -- one more message is written
 pub AppendsEach-push : (Writes : List (List ℕ) → List ℕ → Type 0) (ms : List (List (List ℕ))) (m : List (List ℕ))
@@ -121,29 +122,29 @@ writable_at segments (y ∷ ys) zero x here is all = subst (λ z. IsWritable (se
 writable_at segments (y ∷ ys) (suc index) x here is all = writable_at segments ys index x (omega arith) is all.1
 
 -- what was appended to nothing is texts
-pub read_texts : (format : Format) (limit : Option ℕ) (ms : List (List (List ℕ))) (start new shown : List ℕ)
+pub read_texts : (rule : Padding) (format : Format) (limit : Option ℕ) (ms : List (List (List ℕ))) (start new shown : List ℕ)
     → start ≡ [] → shown ≡ new → AllByRecursion IsWritable ms → AllByRecursion (λ m. IsWithin m limit) ms
-    → Adds (AppendsEach (IsTextOf format) ms) start new → AreTexts (grammar_of format) limit ms shown []
-read_texts format limit ms start new shown none same writable within (text, all, e) =
-    subst (λ l. AreTexts (grammar_of format) limit ms l []) (ap (λ l. l ++ text) (sym none) ∙ sym e ∙ sym same)
-    (appended_texts format limit ms text writable within all)
+    → Adds (AppendsEach (IsTextOf format) ms) start new → AreTexts (grammar_of rule format) limit ms shown []
+read_texts rule format limit ms start new shown none same writable within (text, all, e) =
+    subst (λ l. AreTexts (grammar_of rule format) limit ms l []) (ap (λ l. l ++ text) (sym none) ∙ sym e ∙ sym same)
+    (appended_texts rule format limit ms text writable within all)
 
 -- and just these are read of it
-pub read_same : {X S : Type 0} (format : Format) (limit : Option ℕ) (segments : X → List (List ℕ))
+pub read_same : {X S : Type 0} (rule : Padding) (format : Format) (limit : Option ℕ) (segments : X → List (List ℕ))
     (of : S → List (List ℕ)) (xs : List X) (ms : List S) (raw left : List ℕ)
-    → AreTexts (grammar_of format) limit (map segments xs) raw left
-    → AreTexts (grammar_of format) limit (map of ms) raw [] → length xs ≡ length ms
+    → AreTexts (grammar_of rule format) limit (map segments xs) raw left
+    → AreTexts (grammar_of rule format) limit (map of ms) raw [] → length xs ≡ length ms
     → (map segments xs ≡ map of ms) × (left ≡ [])
-read_same format limit segments of xs ms raw left had texts many =
-    texts_same (format_parts format limit) (map segments xs) (map of ms) raw left [] had texts
+read_same rule format limit segments of xs ms raw left had texts many =
+    texts_same (format_parts rule format limit) (map segments xs) (map of ms) raw left [] had texts
     (length-map xs segments ∙ many ∙ sym (length-map ms of))
 
 -- behind them none is
-pub none_left : {X : Type 0} (format : Format) (limit : Option ℕ) (segments : X → List (List ℕ)) (end : Option X)
+pub none_left : {X : Type 0} (rule : Padding) (format : Format) (limit : Option ℕ) (segments : X → List (List ℕ)) (end : Option X)
     (left : List ℕ) (new : Option (List ℕ)) → left ≡ []
-    → IfSome (option_map segments end) (λ m. IfKnown (Some left) new (StandsNext format limit m)) → end ≡ None
-none_left format limit segments None left new none begins = refl
-none_left format limit segments (Some x) left new none begins = absurd (nothing_begins_known (format_lawful format) (format_requested format) limit (segments x) (Some left) new (ap Some none) begins)
+    → IfSome (option_map segments end) (λ m. IfKnown (Some left) new (StandsNext rule format limit m)) → end ≡ None
+none_left rule format limit segments None left new none begins = refl
+none_left rule format limit segments (Some x) left new none begins = absurd (nothing_begins_known rule (format_lawful format) (format_requested rule format) limit (segments x) (Some left) new (ap Some none) begins)
 
 pub memory_only : (kind : ErrorKind) → (kind ≡ DeviceFailed) ⊎ (kind ≡ OutOfMemory) → (kind ≡ DeviceFailed → min (0 + 1) (2 ^ 64 - 1) ≤ 0) → kind ≡ OutOfMemory
 memory_only kind (inl device) failed = let fails = failed device in absurd (omega arith)

@@ -1,5 +1,6 @@
 -- How the stream of a run ends, by what the run answers.
 use Rattle.std.proofs.Common.{◌≡◌, ◌⊎◌, inl, inr, ℕ, ◌<◌, Option, Some, None, IfSome, Result, Ok, Err, List, length, sym, ap, ◌∙◌, subst, arith}
+use Rattle.capnp_frame.specs.declared.serialize.segment_table.Padding.{Padding}
 use Rattle.capnp_frame.specs.declared.error.ErrorKind.{ErrorKind}
 use Rattle.capnp_frame.specs.Source.{IfKnown}
 use Rattle.capnp_frame.proofs.TextLemmas.{AreTexts-once, AreTexts-most, Ends-once}
@@ -9,79 +10,79 @@ use Rattle.capnp.specs.Streams.{RefusesNext, EndsBy, IsStream}
 use Rattle.capnp.specs.Runs.{Writing, DecliningWriting, IsRunFault, LacksWriting, most_messages, RanOut, StoppedReading, HasStopped, HasRun, IsAnswerTo, IsFaulted}
 use Rattle.capnp.proofs.RunLemmas.{format_lawful, format_parts, writing_faulted}
 
-pub ran_out_ends : (format : Format) (limit : Option ℕ) (Writes : Writing) (left before after : Option (List ℕ))
-    (raw : List ℕ) (ran : RanOut format limit Writes left before after raw) (messages : List (List (List ℕ)))
-    (ending : Option ErrorKind) → IsStream format limit messages ending raw → length messages < most_messages
+pub ran_out_ends : (rule : Padding) (format : Format) (limit : Option ℕ) (Writes : Writing) (left before after : Option (List ℕ))
+    (raw : List ℕ) (ran : RanOut rule format limit Writes left before after raw) (messages : List (List (List ℕ)))
+    (ending : Option ErrorKind) → IsStream rule format limit messages ending raw → length messages < most_messages
     → ending ≡ None
-ran_out_ends format limit Writes left before after raw ran messages ending stream few =
+ran_out_ends rule format limit Writes left before after raw ran messages ending stream few =
     let written = ran.written in
     let counted = written.counted in
     elim (ran.done) [
       | inl none ↦
-          let one = AreTexts-once (format_parts format limit) None ending written.messages messages raw ran.rest stream.rest written.texts none stream.texts stream.ends in
-          sym (Ends-once (format_lawful format) limit None ending stream.rest (sym one.1 ∙ none) stream.ends)
+          let one = AreTexts-once (format_parts rule format limit) None ending written.messages messages raw ran.rest stream.rest written.texts none stream.texts stream.ends in
+          sym (Ends-once rule (format_lawful format) limit None ending stream.rest (sym one.1 ∙ none) stream.ends)
       | inr most ↦
-          let bound = AreTexts-most (format_parts format limit) ending messages written.messages raw stream.rest ran.rest stream.texts stream.ends written.texts in
+          let bound = AreTexts-most (format_parts rule format limit) ending messages written.messages raw stream.rest ran.rest stream.texts stream.ends written.texts in
           absurd (omega (arith, bound, few, most, counted))
     ]
 
 -- the reader's refusal says what stands there
-refused_ends : (format : Format) (limit : Option ℕ) (kind : ErrorKind) (rest : List ℕ) (left : Option (List ℕ)) → IfKnown (Some rest) left (RefusesNext format limit kind) → EndsBy format limit (Some kind) rest
-refused_ends format limit kind rest None line = absurd line
-refused_ends format limit kind rest (Some left) line = (left, line)
+refused_ends : (rule : Padding) (format : Format) (limit : Option ℕ) (kind : ErrorKind) (rest : List ℕ) (left : Option (List ℕ)) → IfKnown (Some rest) left (RefusesNext rule format limit kind) → EndsBy rule format limit (Some kind) rest
+refused_ends rule format limit kind rest None line = absurd line
+refused_ends rule format limit kind rest (Some left) line = (left, line)
 
 -- how a stream ends that stopped there, and after how many messages
-stopped_ends : (format : Format) (limit : Option ℕ) (Writes : Writing) (count : ℕ) (kind : ErrorKind)
+stopped_ends : (rule : Padding) (format : Format) (limit : Option ℕ) (Writes : Writing) (count : ℕ) (kind : ErrorKind)
     (left before after : Option (List ℕ)) (raw : List ℕ)
-    (stopped : StoppedReading format limit Writes count kind left before after raw)
-    → EndsBy format limit (Some kind) stopped.rest → (messages : List (List (List ℕ))) (ending : Option ErrorKind)
-    → IsStream format limit messages ending raw → (ending ≡ Some kind) × (count ≡ length messages)
-stopped_ends format limit Writes count kind left before after raw stopped ends messages ending stream =
+    (stopped : StoppedReading rule format limit Writes count kind left before after raw)
+    → EndsBy rule format limit (Some kind) stopped.rest → (messages : List (List (List ℕ))) (ending : Option ErrorKind)
+    → IsStream rule format limit messages ending raw → (ending ≡ Some kind) × (count ≡ length messages)
+stopped_ends rule format limit Writes count kind left before after raw stopped ends messages ending stream =
     let written = stopped.written in
-    let one = AreTexts-once (format_parts format limit) (Some kind) ending written.messages messages raw stopped.rest stream.rest written.texts ends stream.texts stream.ends in
-    let moved : EndsBy format limit (Some kind) stream.rest = subst (λ l. EndsBy format limit (Some kind) l) one.1 ends in
-    (sym (Ends-once (format_lawful format) limit (Some kind) ending stream.rest moved stream.ends), sym written.counted ∙ ap length one.0)
+    let one = AreTexts-once (format_parts rule format limit) (Some kind) ending written.messages messages raw stopped.rest stream.rest written.texts ends stream.texts stream.ends in
+    let moved : EndsBy rule format limit (Some kind) stream.rest = subst (λ l. EndsBy rule format limit (Some kind) l) one.1 ends in
+    (sym (Ends-once rule (format_lawful format) limit (Some kind) ending stream.rest moved stream.ends), sym written.counted ∙ ap length one.0)
 
-lacking_faulted : (format : Format) (limit : Option ℕ) (Declines : DecliningWriting) (index : ℕ) (kind : ErrorKind)
-    (rest : List ℕ) (left : Option (List ℕ)) → IfKnown (Some rest) left (LacksWriting format limit Declines index kind)
+lacking_faulted : (rule : Padding) (format : Format) (limit : Option ℕ) (Declines : DecliningWriting) (index : ℕ) (kind : ErrorKind)
+    (rest : List ℕ) (left : Option (List ℕ)) → IfKnown (Some rest) left (LacksWriting rule format limit Declines index kind)
     → IsRunFault Declines index kind
-lacking_faulted format limit Declines index kind rest None lacks = absurd lacks
-lacking_faulted format limit Declines index kind rest (Some left) lacks = writing_faulted Declines index lacks.message kind lacks.writable lacks.fault
+lacking_faulted rule format limit Declines index kind rest None lacks = absurd lacks
+lacking_faulted rule format limit Declines index kind rest (Some left) lacks = writing_faulted Declines index lacks.message kind lacks.writable lacks.fault
 
-pub stopped_answers : (format : Format) (limit : Option ℕ) (Writes : Writing) (Declines : DecliningWriting) (count : ℕ)
+pub stopped_answers : (rule : Padding) (format : Format) (limit : Option ℕ) (Writes : Writing) (Declines : DecliningWriting) (count : ℕ)
     (kind : ErrorKind) (left before after : Option (List ℕ)) (raw : List ℕ)
-    → HasStopped format limit Writes Declines count kind left before after raw
-    → (messages : List (List (List ℕ))) (ending : Option ErrorKind) → IsStream format limit messages ending raw
+    → HasStopped rule format limit Writes Declines count kind left before after raw
+    → (messages : List (List (List ℕ))) (ending : Option ErrorKind) → IsStream rule format limit messages ending raw
     → ((ending ≡ Some kind) × (count ≡ length messages)) ⊎ IsRunFault Declines count kind
-stopped_answers format limit Writes Declines count kind left before after raw (inl stopped) messages ending stream = elim (stopped.fault) [
+stopped_answers rule format limit Writes Declines count kind left before after raw (inl stopped) messages ending stream = elim (stopped.fault) [
   | inl device ↦ inr (inl device)
   | inr (inl memory) ↦ inr (inr (inl memory))
-  | inr (inr line) ↦ inl (stopped_ends format limit Writes count kind left before after raw stopped (refused_ends format limit kind stopped.rest left line) messages ending stream)
+  | inr (inr line) ↦ inl (stopped_ends rule format limit Writes count kind left before after raw stopped (refused_ends rule format limit kind stopped.rest left line) messages ending stream)
 ]
-stopped_answers format limit Writes Declines count kind left before after raw (inr stopped) messages ending stream = inr (lacking_faulted format limit Declines count kind stopped.rest left stopped.lacks)
+stopped_answers rule format limit Writes Declines count kind left before after raw (inr stopped) messages ending stream = inr (lacking_faulted rule format limit Declines count kind stopped.rest left stopped.lacks)
 
-answered : (format : Format) (limit : Option ℕ) (Writes : Writing) (Declines : DecliningWriting)
+answered : (rule : Padding) (format : Format) (limit : Option ℕ) (Writes : Writing) (Declines : DecliningWriting)
     (result : Result (Unit {0}) StoppedAt) (left before after : Option (List ℕ)) (raw : List ℕ)
-    → HasRun format limit Writes Declines result left before after raw
-    → (messages : List (List (List ℕ))) (ending : Option ErrorKind) → IsStream format limit messages ending raw
+    → HasRun rule format limit Writes Declines result left before after raw
+    → (messages : List (List (List ℕ))) (ending : Option ErrorKind) → IsStream rule format limit messages ending raw
     → length messages < most_messages → IsAnswerTo result messages ending ⊎ IsFaulted Declines result
-answered format limit Writes Declines (Ok done) left before after raw ran messages ending stream few = inl (ran_out_ends format limit Writes left before after raw ran messages ending stream few)
-answered format limit Writes Declines (Err stop) left before after raw ran messages ending stream few =
-    stopped_answers format limit Writes Declines stop.message stop.error.kind left before after raw ran messages ending stream
+answered rule format limit Writes Declines (Ok done) left before after raw ran messages ending stream few = inl (ran_out_ends rule format limit Writes left before after raw ran messages ending stream few)
+answered rule format limit Writes Declines (Err stop) left before after raw ran messages ending stream few =
+    stopped_answers rule format limit Writes Declines stop.message stop.error.kind left before after raw ran messages ending stream
 
-pub answered_known : (format : Format) (limit : Option ℕ) (Writes : Writing) (Declines : DecliningWriting)
+pub answered_known : (rule : Padding) (format : Format) (limit : Option ℕ) (Writes : Writing) (Declines : DecliningWriting)
     (result : Result (Unit {0}) StoppedAt) (old left before after : Option (List ℕ))
-    → IfSome old (HasRun format limit Writes Declines result left before after)
+    → IfSome old (HasRun rule format limit Writes Declines result left before after)
     → IfSome old (λ raw. (messages : List (List (List ℕ))) (ending : Option ErrorKind)
-    → IsStream format limit messages ending raw → length messages < most_messages
+    → IsStream rule format limit messages ending raw → length messages < most_messages
     → IsAnswerTo result messages ending ⊎ IsFaulted Declines result)
-answered_known format limit Writes Declines result None left before after ran = tt
-answered_known format limit Writes Declines result (Some raw) left before after ran = answered format limit Writes Declines result left before after raw ran
+answered_known rule format limit Writes Declines result None left before after ran = tt
+answered_known rule format limit Writes Declines result (Some raw) left before after ran = answered rule format limit Writes Declines result left before after raw ran
 
 -- a stream is one list of messages, and ends in one way
-pub stream_once : (format : Format) (limit : Option ℕ) (messages others : List (List (List ℕ)))
-    (ending other : Option ErrorKind) (raw : List ℕ) → IsStream format limit messages ending raw
-    → IsStream format limit others other raw → (messages ≡ others) × (ending ≡ other)
-stream_once format limit messages others ending other raw stream also =
-    let one = AreTexts-once (format_parts format limit) ending other messages others raw stream.rest also.rest stream.texts stream.ends also.texts also.ends in
-    (one.0, Ends-once (format_lawful format) limit ending other also.rest (subst (λ l. EndsBy format limit ending l) one.1 stream.ends) also.ends)
+pub stream_once : (rule : Padding) (format : Format) (limit : Option ℕ) (messages others : List (List (List ℕ)))
+    (ending other : Option ErrorKind) (raw : List ℕ) → IsStream rule format limit messages ending raw
+    → IsStream rule format limit others other raw → (messages ≡ others) × (ending ≡ other)
+stream_once rule format limit messages others ending other raw stream also =
+    let one = AreTexts-once (format_parts rule format limit) ending other messages others raw stream.rest also.rest stream.texts stream.ends also.texts also.ends in
+    (one.0, Ends-once rule (format_lawful format) limit ending other also.rest (subst (λ l. EndsBy rule format limit ending l) one.1 stream.ends) also.ends)

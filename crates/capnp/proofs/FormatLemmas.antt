@@ -1,5 +1,6 @@
 -- The readers of both formats over a source of plain bytes.
 use Rattle.std.proofs.Common.{◌≡◌, inl, inr, ◌⊎◌, ℕ, List, Option, Some, None, IfSome, Result, Ok, Err, IfOk, IfErr}
+use Rattle.capnp_frame.specs.declared.serialize.segment_table.Padding.{Padding}
 use Rattle.capnp_frame.specs.declared.error.Error.{Error}
 use Rattle.capnp_frame.specs.declared.error.ErrorKind.{ErrorKind}
 use Rattle.capnp_frame.specs.declared.error.ErrorKind.TheVariants.{DeviceFailed, OutOfMemory}
@@ -18,17 +19,17 @@ use Rattle.capnp.specs.Streams.{IsPlainSource, rules_of, StandsNext}
 use Rattle.capnp.specs.Runs.{IsReadingFault}
 use Rattle.capnp.proofs.ReaderLemmas.{frames_requested}
 
-TakesMemory-map : {gives others : Giving}
+TakesMemory-map : (rule : Padding) {gives others : Giving}
     (given : (raw : List ℕ) (n : ℕ) (bytes rest : List ℕ) → gives raw n bytes rest → others raw n bytes rest)
-    (limit : Option ℕ) (raw left : List ℕ) → TakesMemory gives limit raw left → TakesMemory others limit raw left
-TakesMemory-map given limit raw left (inl count) = inl (record {
+    (limit : Option ℕ) (raw left : List ℕ) → TakesMemory rule gives limit raw left → TakesMemory rule others limit raw left
+TakesMemory-map rule given limit raw left (inl count) = inl (record {
   word = count.word;
   count = count.count;
   given = given raw 8 count.word left count.given;
   told = count.told;
   accepted = count.accepted;
 })
-TakesMemory-map given limit raw left (inr (lengths, table, within)) = inr (
+TakesMemory-map rule given limit raw left (inr (lengths, table, within)) = inr (
   lengths,
   record {
     first = table.first;
@@ -41,58 +42,59 @@ TakesMemory-map given limit raw left (inr (lengths, table, within)) = inr (
   within,
 )
 
-kinds_of : {refuses also : Refusing} (refused : (raw : List ℕ) (n : ℕ) (kind : ErrorKind) → refuses raw n kind → also raw n kind)
-    (kind : ErrorKind) → IsReaderKind refuses kind → IsReaderKind also kind
-kinds_of refused kind (inl device) = inl device
-kinds_of refused kind (inr (inl memory)) = inr (inl memory)
-kinds_of refused kind (inr (inr (inl count))) = inr (inr (inl count))
-kinds_of refused kind (inr (inr (inr (inl total)))) = inr (inr (inr (inl total)))
-kinds_of refused kind (inr (inr (inr (inr (raw, n, line))))) = inr (inr (inr (inr (raw, n, refused raw n kind line))))
+kinds_of : (rule : Padding) {refuses also : Refusing} (refused : (raw : List ℕ) (n : ℕ) (kind : ErrorKind) → refuses raw n kind → also raw n kind)
+    (kind : ErrorKind) → IsReaderKind rule refuses kind → IsReaderKind rule also kind
+kinds_of rule refused kind (inl device) = inl device
+kinds_of rule refused kind (inr (inl memory)) = inr (inl memory)
+kinds_of rule refused kind (inr (inr (inl count))) = inr (inr (inl count))
+kinds_of rule refused kind (inr (inr (inr (inl total)))) = inr (inr (inr (inl total)))
+kinds_of rule refused kind (inr (inr (inr (inr (inl padding))))) = inr (inr (inr (inr (inl padding))))
+kinds_of rule refused kind (inr (inr (inr (inr (inr (raw, n, line)))))) = inr (inr (inr (inr (inr (raw, n, refused raw n kind line)))))
 
 -- Over a source of plain bytes what is read by its requests is read by the framed format's rules.
-module _ {S : Type 0} (source : Ghosts S) (plain : IsPlainSource source.gives source.refuses) (limit : Option ℕ) where
+module _ {S : Type 0} (rule : Padding) (source : Ghosts S) (plain : IsPlainSource source.gives source.refuses) (limit : Option ℕ) where
   texts_found : (old new : Option (List ℕ)) (r : Result (Option (List (List ℕ))) Error)
-      → IfOk r (λ found. IfSome found (λ m. IfKnown old new (MessageStands source.gives m)))
-      → IfOk r (λ found. IfSome found (λ m. IfKnown old new ((rules_of Framed).stands m)))
+      → IfOk r (λ found. IfSome found (λ m. IfKnown old new (MessageStands rule source.gives m)))
+      → IfOk r (λ found. IfSome found (λ m. IfKnown old new ((rules_of rule Framed).stands m)))
   texts_found old new (Err e) found = tt
   texts_found old new (Ok None) found = tt
-  texts_found old new (Ok (Some m)) found = IfKnown-weaker old new (λ raw rest. (frames_requested _ _ plain m raw rest).0) found
+  texts_found old new (Ok (Some m)) found = IfKnown-weaker old new (λ raw rest. (frames_requested rule _ _ plain m raw rest).0) found
 
   texts_accepted : (F : Type 0) (old : Option (List ℕ))
-      → IfSome old (λ raw. (m : List (List ℕ)) (rest : List ℕ) → MessageStands source.gives m raw rest → IsWithin m limit → F)
-      → IfSome old (λ raw. (m : List (List ℕ)) (rest : List ℕ) → (rules_of Framed).stands m raw rest → IsWithin m limit → F)
+      → IfSome old (λ raw. (m : List (List ℕ)) (rest : List ℕ) → MessageStands rule source.gives m raw rest → IsWithin m limit → F)
+      → IfSome old (λ raw. (m : List (List ℕ)) (rest : List ℕ) → (rules_of rule Framed).stands m raw rest → IsWithin m limit → F)
   texts_accepted F None accepted = tt
-  texts_accepted F (Some raw) accepted = λ m rest stands within. accepted m rest ((frames_requested _ _ plain m raw rest).1 stands) within
+  texts_accepted F (Some raw) accepted = λ m rest stands within. accepted m rest ((frames_requested rule _ _ plain m raw rest).1 stands) within
 
   texts_refused : (old new : Option (List ℕ)) (r : Result (Option (List (List ℕ))) Error)
       → IfErr r (λ error. (error.kind ≡ DeviceFailed)
-      ⊎ ((error.kind ≡ OutOfMemory) × IfKnown old new (TakesMemory source.gives limit))
-      ⊎ IfKnown old new (RefusesStream source.gives source.refuses limit None error.kind))
+      ⊎ ((error.kind ≡ OutOfMemory) × IfKnown old new (TakesMemory rule source.gives limit))
+      ⊎ IfKnown old new (RefusesStream rule source.gives source.refuses limit None error.kind))
       → IfErr r (λ error. (error.kind ≡ DeviceFailed)
-      ⊎ ((error.kind ≡ OutOfMemory) × IfKnown old new (TakesMemory Splits limit))
-      ⊎ IfKnown old new (RefusesStream Splits RunsShort limit None error.kind))
+      ⊎ ((error.kind ≡ OutOfMemory) × IfKnown old new (TakesMemory rule Splits limit))
+      ⊎ IfKnown old new (RefusesStream rule Splits RunsShort limit None error.kind))
   texts_refused old new (Ok found) refused = tt
   texts_refused old new (Err e) (inl device) = inl device
   texts_refused old new (Err e) (inr (inl (memory, takes))) =
-      inr (inl (memory, IfKnown-weaker old new (TakesMemory-map (λ w n b t. (plain.given w n b t).1) limit) takes))
+      inr (inl (memory, IfKnown-weaker old new (TakesMemory-map rule (λ w n b t. (plain.given w n b t).1) limit) takes))
   texts_refused old new (Err e) (inr (inr line)) = inr (inr (IfKnown-weaker old new
-      (RefusesStream-map (λ w n b t. (plain.given w n b t).1) (λ w n k. (plain.refused w n k).1) limit None e.kind) line))
+      (RefusesStream-map rule (λ w n b t. (plain.given w n b t).1) (λ w n k. (plain.refused w n k).1) limit None e.kind) line))
 
   texts_exact : (F : ErrorKind → Type 0) (old : Option (List ℕ))
-      → IfSome old (λ raw. (kind : ErrorKind) (left : List ℕ) → RefusesStream source.gives source.refuses limit None kind raw left → F kind)
-      → IfSome old (λ raw. (kind : ErrorKind) (left : List ℕ) → RefusesStream Splits RunsShort limit None kind raw left → F kind)
+      → IfSome old (λ raw. (kind : ErrorKind) (left : List ℕ) → RefusesStream rule source.gives source.refuses limit None kind raw left → F kind)
+      → IfSome old (λ raw. (kind : ErrorKind) (left : List ℕ) → RefusesStream rule Splits RunsShort limit None kind raw left → F kind)
   texts_exact F None exact = tt
   texts_exact F (Some raw) exact = λ kind left line. exact kind left
-      (RefusesStream-map (λ w n b t. (plain.given w n b t).0) (λ w n k. (plain.refused w n k).0) limit None kind raw left line)
+      (RefusesStream-map rule (λ w n b t. (plain.given w n b t).0) (λ w n k. (plain.refused w n k).0) limit None kind raw left line)
 
-  texts_kinds : (r : Result (Option (List (List ℕ))) Error) → IfErr r (λ error. IsReaderKind source.refuses error.kind)
-      → IfErr r (λ error. IsReaderKind RunsShort error.kind)
+  texts_kinds : (r : Result (Option (List (List ℕ))) Error) → IfErr r (λ error. IsReaderKind rule source.refuses error.kind)
+      → IfErr r (λ error. IsReaderKind rule RunsShort error.kind)
   texts_kinds (Ok found) kinds = tt
-  texts_kinds (Err e) kinds = kinds_of (λ w n k. (plain.refused w n k).1) e.kind kinds
+  texts_kinds (Err e) kinds = kinds_of rule (λ w n k. (plain.refused w n k).1) e.kind kinds
 
   pub plain_reads : (old new : S) (r : Result (Option (List (List ℕ))) Error)
-      → ReadsStream source old new (framed_rules source.gives source.refuses) limit r
-      → ReadsStream source old new (rules_of Framed) limit r
+      → ReadsStream source old new (framed_rules rule source.gives source.refuses) limit r
+      → ReadsStream source old new (rules_of rule Framed) limit r
   plain_reads old new r reads = record {
     found = texts_found _ _ r reads.found;
     within = reads.within;
@@ -130,16 +132,16 @@ or_fails_failed source old new rules limit (Err e) (inl reads) = reads.failed
 or_fails_failed source old new rules limit (Err e) (inr (kind, reads)) = λ device. cc
 
 -- what stands in a format, within the limit, begins with a text
-pub stands_next : (format : Format) (limit : Option ℕ) (segments : List (List ℕ)) (old new : Option (List ℕ))
-    → IsWithin segments limit → IfKnown old new ((rules_of format).stands segments)
-    → IfKnown old new (StandsNext format limit segments)
-stands_next format limit segments old new within stands = IfKnown-weaker old new (λ raw rest (text, is_text, spelled).
+pub stands_next : (rule : Padding) (format : Format) (limit : Option ℕ) (segments : List (List ℕ)) (old new : Option (List ℕ))
+    → IsWithin segments limit → IfKnown old new ((rules_of rule format).stands segments)
+    → IfKnown old new (StandsNext rule format limit segments)
+stands_next rule format limit segments old new within stands = IfKnown-weaker old new (λ raw rest (text, is_text, spelled).
     record { text = text; is_text = is_text; within = within; spelled = spelled }) stands
 
 -- and a reader's failure is a cause that the run knows
-pub reading_fault : (format : Format) (limit : Option ℕ) (kind : ErrorKind) (old new : Option (List ℕ))
-    → (kind ≡ DeviceFailed) ⊎ ((kind ≡ OutOfMemory) × IfKnown old new ((rules_of format).takes_memory limit))
-    ⊎ IfKnown old new ((rules_of format).refuses limit None kind) → IsReadingFault format limit kind old new
-reading_fault format limit kind old new (inl device) = inl device
-reading_fault format limit kind old new (inr (inl memory)) = inr (inl memory.0)
-reading_fault format limit kind old new (inr (inr line)) = inr (inr line)
+pub reading_fault : (rule : Padding) (format : Format) (limit : Option ℕ) (kind : ErrorKind) (old new : Option (List ℕ))
+    → (kind ≡ DeviceFailed) ⊎ ((kind ≡ OutOfMemory) × IfKnown old new ((rules_of rule format).takes_memory limit))
+    ⊎ IfKnown old new ((rules_of rule format).refuses limit None kind) → IsReadingFault rule format limit kind old new
+reading_fault rule format limit kind old new (inl device) = inl device
+reading_fault rule format limit kind old new (inr (inl memory)) = inr (inl memory.0)
+reading_fault rule format limit kind old new (inr (inr line)) = inr (inr line)

@@ -9,6 +9,7 @@ use Rattle.capnp_frame.specs.Message.{IsWholeWords, lengths}
 use Rattle.capnp_frame.specs.SegmentTable.{zero_padded_table}
 use Rattle.capnp_frame.specs.Writing.{IsWritable, pieces, table_pieces}
 use Rattle.capnp_frame.specs.Sink.{Declining, DeclinesAny, DeclinesSome}
+use Rattle.capnp_frame.specs.declared.serialize.segment_table.Padding.TheVariants.{Zero}
 use Rattle.capnp_frame.proofs.FrameLemmas.{zero_padded_is, length-table}
 use Rattle.capnp_frame.proofs.SizeLemmas.{HasTable-writable}
 use Rattle.capnp_pack.proofs.AllLemmas.{AllByRecursion-append}
@@ -37,7 +38,7 @@ table_whole table words false long =
 pieces_whole : (segments : List (List ℕ)) → IsWritable segments → AllByRecursion IsWholeWords (pieces segments)
 pieces_whole segments writable =
     let table = zero_padded_table (lengths segments) in
-    let long = length-table table (lengths segments) (zero_padded_is (lengths segments) (HasTable-writable segments writable)) in
+    let long = length-table table (lengths segments) (zero_padded_is Zero (lengths segments) (HasTable-writable segments writable)) in
     AllByRecursion-append IsWholeWords (table_pieces (lengths segments)) segments (table_whole table (length (lengths segments) / 2) (nat_lt 8 (length table)) long) writable.whole
 
 -- a writer's refusal, of either format, as one of messages one after the other

@@ -2,6 +2,7 @@
 use Rattle.std.proofs.Common.{◌≡◌, ◌↔◌, ℕ, List, [], ◌++◌, Option, Some, None, IfSome, Result, Ok, Err, IfOk, IfErr, lit<}
 use Rattle.capnp_frame.specs.declared.error.Error.{Error}
 use Rattle.capnp_frame.specs.declared.error.ErrorKind.TheVariants.{DeviceFailed}
+use Rattle.capnp_frame.specs.declared.serialize.segment_table.Padding.{Padding}
 use Rattle.capnp_frame.specs.declared.io.Read.{Ghosts}
 use Rattle.capnp_frame.specs.Limits.{IsWithin}
 use Rattle.capnp_frame.specs.Frame.{IsFrame}
@@ -18,10 +19,10 @@ use Rattle.capnp.specs.Streams.{IsPlainSource}
 use Rattle.capnp.specs.Headline.{IsFault, HasRoom, ReturnsTexts, ReturnsTextsInto}
 
 -- the requests of a plain source take just the frames
-pub frames_requested : (gives : Giving) (refuses : Refusing) → IsPlainSource gives refuses → AreRequested IsFrame gives
-frames_requested gives refuses plain segments raw rest = (
-  λ stands. (plain_requests segments raw rest).0 (MessageStands-map (λ w n b t. (plain.given w n b t).1) segments raw rest stands),
-  λ text. MessageStands-map (λ w n b t. (plain.given w n b t).0) segments raw rest ((plain_requests segments raw rest).1 text),
+pub frames_requested : (rule : Padding) (gives : Giving) (refuses : Refusing) → IsPlainSource gives refuses → AreRequested (IsFrame rule) rule gives
+frames_requested rule gives refuses plain segments raw rest = (
+  λ stands. (plain_requests rule segments raw rest).0 (MessageStands-map (λ w n b t. (plain.given w n b t).1) segments raw rest stands),
+  λ text. MessageStands-map (λ w n b t. (plain.given w n b t).0) segments raw rest ((plain_requests rule segments raw rest).1 text),
 )
 
 -- where a message stands by these rules, there stands a text of it in this grammar
@@ -67,42 +68,42 @@ returns_texts_into source old new rules IsText limit room r texts reads = record
 }
 
 -- no message stands where nothing is unread
-pub nothing_stands : {gives : Giving} {refuses : Refusing} → IsSource gives refuses → (m : List (List ℕ))
-    (old new : Option (List ℕ)) → old ≡ Some [] → IfKnown old new (MessageStands gives m) → ⊥
-nothing_stands laws m None new none stands = cc
-nothing_stands laws m (Some raw) None none stands = stands
-nothing_stands laws m (Some raw) (Some rest) none stands =
+pub nothing_stands : (rule : Padding) {gives : Giving} {refuses : Refusing} → IsSource gives refuses → (m : List (List ℕ))
+    (old new : Option (List ℕ)) → old ≡ Some [] → IfKnown old new (MessageStands rule gives m) → ⊥
+nothing_stands rule laws m None new none stands = cc
+nothing_stands rule laws m (Some raw) None none stands = stands
+nothing_stands rule laws m (Some raw) (Some rest) none stands =
     let empty : raw ≡ [] = cc in
     given_some laws raw 8 stands.table.first stands.table.between stands.table.first_given (lit< tt) empty
 
-pub nothing_begins_known : {IsText : Grammar} {gives : Giving} {refuses : Refusing} → IsSource gives refuses
-    → AreRequested IsText gives → (limit : Option ℕ) (m : List (List ℕ)) (old new : Option (List ℕ)) → old ≡ Some []
+pub nothing_begins_known : {IsText : Grammar} (rule : Padding) {gives : Giving} {refuses : Refusing} → IsSource gives refuses
+    → AreRequested IsText rule gives → (limit : Option ℕ) (m : List (List ℕ)) (old new : Option (List ℕ)) → old ≡ Some []
     → IfKnown old new (BeginsWith IsText limit m) → ⊥
-nothing_begins_known laws texts limit m old new none begins = nothing_stands laws m old new none
+nothing_begins_known rule laws texts limit m old new none begins = nothing_stands rule laws m old new none
     (IfKnown-weaker old new (λ raw rest b. (texts m raw rest).1 (b.text, b.is_text, b.spelled)) begins)
 
-pub nothing_begins : {IsText : Grammar} {gives : Giving} {refuses : Refusing} → IsSource gives refuses
-    → AreRequested IsText gives → (limit : Option ℕ) (F : List (List ℕ) → Type 0) (old : Option (List ℕ))
+pub nothing_begins : {IsText : Grammar} (rule : Padding) {gives : Giving} {refuses : Refusing} → IsSource gives refuses
+    → AreRequested IsText rule gives → (limit : Option ℕ) (F : List (List ℕ) → Type 0) (old : Option (List ℕ))
     → IfSome old (λ raw. raw ≡ [])
     → IfSome old (λ raw. (m : List (List ℕ)) (rest : List ℕ) → BeginsWith IsText limit m raw rest → F m)
-nothing_begins laws texts limit F None none = tt
-nothing_begins laws texts limit F (Some raw) none = λ m rest begins.
+nothing_begins rule laws texts limit F None none = tt
+nothing_begins rule laws texts limit F (Some raw) none = λ m rest begins.
     let stands = (texts m raw rest).1 (begins.text, begins.is_text, begins.spelled) in
     absurd (given_some laws raw 8 stands.table.first stands.table.between stands.table.first_given (lit< tt) none)
 
 -- so where nothing is unread any failure is one
-pub ends_texts : {IsText : Grammar} {gives : Giving} {refuses : Refusing} → IsSource gives refuses
-    → AreRequested IsText gives → (limit : Option ℕ) (old new : Option (List ℕ)) (error : Error)
+pub ends_texts : {IsText : Grammar} (rule : Padding) {gives : Giving} {refuses : Refusing} → IsSource gives refuses
+    → AreRequested IsText rule gives → (limit : Option ℕ) (old new : Option (List ℕ)) (error : Error)
     → IfSome old (λ raw. raw ≡ []) → ReturnsTexts IsText limit old new (Err error)
-ends_texts laws texts limit old new error none = record {
+ends_texts rule laws texts limit old new error none = record {
   found = tt;
-  accepted = nothing_begins laws texts limit (λ m. IsFault error.kind) old none;
+  accepted = nothing_begins rule laws texts limit (λ m. IsFault error.kind) old none;
 }
 
-pub ends_texts_into : {IsText : Grammar} {gives : Giving} {refuses : Refusing} → IsSource gives refuses
-    → AreRequested IsText gives → (limit : Option ℕ) (room : ℕ) (old new : Option (List ℕ)) (error : Error)
+pub ends_texts_into : {IsText : Grammar} (rule : Padding) {gives : Giving} {refuses : Refusing} → IsSource gives refuses
+    → AreRequested IsText rule gives → (limit : Option ℕ) (room : ℕ) (old new : Option (List ℕ)) (error : Error)
     → IfSome old (λ raw. raw ≡ []) → ReturnsTextsInto IsText limit room old new (Err error)
-ends_texts_into laws texts limit room old new error none = record {
+ends_texts_into rule laws texts limit room old new error none = record {
   found = tt;
-  accepted = nothing_begins laws texts limit (λ m. HasRoom room m → error.kind ≡ DeviceFailed) old none;
+  accepted = nothing_begins rule laws texts limit (λ m. HasRoom room m → error.kind ≡ DeviceFailed) old none;
 }

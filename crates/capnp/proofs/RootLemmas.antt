@@ -1,6 +1,7 @@
 -- A message that was written and is read back.
 use Rattle.std.proofs.Common.{◌≡◌, ℕ, ◌+◌, ◌-◌, ◌^◌, ◌<◌, ◌≤◌, min, Option, Some, None, Result, Ok, Err, IfOk, IfErr, List, [], ◌∷◌, ◌++◌, length, map, refl, sym, ap, ◌∙◌, subst, arith}
 use Rattle.std.proofs.lemmas.List.{append-nil}
+use Rattle.capnp_frame.specs.declared.serialize.segment_table.Padding.{Padding}
 use Rattle.capnp_frame.specs.declared.error.Error.{Error}
 use Rattle.capnp_frame.specs.declared.error.ErrorKind.TheVariants.{DeviceFailed, OutOfMemory}
 use Rattle.capnp_frame.specs.Limits.{IsWithin}
@@ -31,36 +32,36 @@ has_segment spaces trees charge (at points inside behind) =
     let word = word_stands (message spaces) root _ points in (root_stands spaces word.0 word.1).0
 
 -- the text of a message stands for it before any rest
-text_stands : (format : Format) (limit : Option ℕ) (m : List (List ℕ)) (text rest : List ℕ) → IsWritable m → IsWithin m limit → IsTextOf format m text
-    → StandsNext format limit m (text ++ rest) rest
-text_stands format limit m text rest writable within here = record { text = text; is_text = text_is format m text writable here; within = within; spelled = refl }
+text_stands : (rule : Padding) (format : Format) (limit : Option ℕ) (m : List (List ℕ)) (text rest : List ℕ) → IsWritable m → IsWithin m limit → IsTextOf format m text
+    → StandsNext rule format limit m (text ++ rest) rest
+text_stands rule format limit m text rest writable within here = record { text = text; is_text = text_is rule format m text writable here; within = within; spelled = refl }
 
 -- so what is read of it is the message
-pub written_is_read : (format : Format) (limit : Option ℕ) (m read : List (List ℕ)) (text rest left : List ℕ) → IsWritable m → IsWithin m limit → IsTextOf format m text
-    → StandsNext format limit read (text ++ rest) left → (read ≡ m) × (left ≡ rest)
-written_is_read format limit m read text rest left writable within here stands =
-    (format_parts format limit).begins_once read m (text ++ rest) left rest stands (text_stands format limit m text rest writable within here)
+pub written_is_read : (rule : Padding) (format : Format) (limit : Option ℕ) (m read : List (List ℕ)) (text rest left : List ℕ) → IsWritable m → IsWithin m limit → IsTextOf format m text
+    → StandsNext rule format limit read (text ++ rest) left → (read ≡ m) × (left ≡ rest)
+written_is_read rule format limit m read text rest left writable within here stands =
+    (format_parts rule format limit).begins_once read m (text ++ rest) left rest stands (text_stands rule format limit m text rest writable within here)
 
-pub root_is_read : (format : Format) (limit : Option ℕ) (spaces : List Space) (trees : Trees) (text rest left : List ℕ) (read : List (List ℕ))
+pub root_is_read : (rule : Padding) (format : Format) (limit : Option ℕ) (spaces : List Space) (trees : Trees) (text rest left : List ℕ) (read : List (List ℕ))
     → HasRootTree (map used_of spaces) trees → IsWritable (map used_of spaces) → IsWithin (map used_of spaces) limit → IsTextOf format (map used_of spaces) text
-    → StandsNext format limit read (text ++ rest) left → HasRootTree read trees × (left ≡ rest)
-root_is_read format limit spaces trees text rest left read root writable within here stands =
-    let same = written_is_read format limit (map used_of spaces) read text rest left writable within here stands in
+    → StandsNext rule format limit read (text ++ rest) left → HasRootTree read trees × (left ≡ rest)
+root_is_read rule format limit spaces trees text rest left read root writable within here stands =
+    let same = written_is_read rule format limit (map used_of spaces) read text rest left writable within here stands in
     (subst (λ (segments : List (List ℕ)). HasRootTree segments trees) (sym same.0) root, same.1)
 
 -- what was added to nothing is its text, alone
-pub added_stands : (format : Format) (limit : Option ℕ) (m : List (List ℕ)) (start new shown : List ℕ) → start ≡ [] → shown ≡ new → IsWritable m
-    → Adds (IsTextOf format m) start new → IsWithin m limit → StandsNext format limit m shown []
-added_stands format limit m start new shown none same writable (text, here, e) within =
+pub added_stands : (rule : Padding) (format : Format) (limit : Option ℕ) (m : List (List ℕ)) (start new shown : List ℕ) → start ≡ [] → shown ≡ new → IsWritable m
+    → Adds (IsTextOf format m) start new → IsWithin m limit → StandsNext rule format limit m shown []
+added_stands rule format limit m start new shown none same writable (text, here, e) within =
     let alone : shown ≡ text ++ [] = same ∙ e ∙ ap (λ (l : List ℕ). l ++ text) none ∙ sym (append-nil text) in
-    subst (λ (l : List ℕ). StandsNext format limit m l []) (sym alone) (text_stands format limit m text [] writable within here)
+    subst (λ (l : List ℕ). StandsNext rule format limit m l []) (sym alone) (text_stands rule format limit m text [] writable within here)
 
-pub read_again : {X : Type 0} (format : Format) (limit : Option ℕ) (segments : X → List (List ℕ)) (r : Result X Error) (m : List (List ℕ)) (shown : List ℕ)
-    (left : Option (List ℕ)) → StandsNext format limit m shown []
-    → ReturnsTexts (grammar_of format) limit (Some shown) left (message_in segments r) → IfOk r (λ x. segments x ≡ m)
-read_again format limit segments (Err e) m shown left stands texts = tt
-read_again format limit segments (Ok x) m shown None stands texts = absurd texts.found
-read_again format limit segments (Ok x) m shown (Some rest) stands texts = ((format_parts format limit).begins_once (segments x) m shown rest [] texts.found stands).0
+pub read_again : {X : Type 0} (rule : Padding) (format : Format) (limit : Option ℕ) (segments : X → List (List ℕ)) (r : Result X Error) (m : List (List ℕ)) (shown : List ℕ)
+    (left : Option (List ℕ)) → StandsNext rule format limit m shown []
+    → ReturnsTexts (grammar_of rule format) limit (Some shown) left (message_in segments r) → IfOk r (λ x. segments x ≡ m)
+read_again rule format limit segments (Err e) m shown left stands texts = tt
+read_again rule format limit segments (Ok x) m shown None stands texts = absurd texts.found
+read_again rule format limit segments (Ok x) m shown (Some rest) stands texts = ((format_parts rule format limit).begins_once (segments x) m shown rest [] texts.found stands).0
 
 pub memory_alone : {S X : Type 0} (source : Ghosts S) (old new : S) (rules : StreamRules) (limit : Option ℕ)
     (segments : X → List (List ℕ)) (r : Result X Error) → IfErr (message_in segments r) (λ e. IsFault e.kind)

@@ -2,6 +2,7 @@
 use Rattle.std.proofs.Common.{◌≡◌, inl, inr, ℕ, ◌+◌, Option, Some, None, IfSome, Ok, Err, List, [], ◌∷◌, ◌++◌, length, refl, sym, ap, ◌∙◌, subst, arith, append_assoc, length-append}
 use Rattle.std.proofs.lemmas.List.{append-nil, length_push, nil_from_length}
 use Rattle.std.specs.List.{AllByRecursion}
+use Rattle.capnp_frame.specs.declared.serialize.segment_table.Padding.{Padding}
 use Rattle.capnp_frame.specs.declared.error.ErrorKind.{ErrorKind}
 use Rattle.capnp_frame.specs.Limits.{IsWithin}
 use Rattle.capnp_frame.specs.Message.{IsWholeWords}
@@ -28,12 +29,12 @@ pub format_lawful : (format : Format) → IsSource (gives_of format) (refuses_of
 format_lawful Framed = splitting
 format_lawful Packed = unpacking
 
-pub format_requested : (format : Format) → AreRequested (grammar_of format) (gives_of format)
-format_requested Framed = plain_requests
-format_requested Packed = packed_requests
+pub format_requested : (rule : Padding) (format : Format) → AreRequested (grammar_of rule format) rule (gives_of format)
+format_requested rule Framed = plain_requests rule
+format_requested rule Packed = packed_requests rule
 
-pub format_parts : (format : Format) (limit : Option ℕ) → PartsStreams (grammar_of format) (gives_of format) (refuses_of format) limit
-format_parts format limit = parts_streams (format_lawful format) (format_requested format) limit
+pub format_parts : (rule : Padding) (format : Format) (limit : Option ℕ) → PartsStreams (grammar_of rule format) rule (gives_of format) (refuses_of format) limit
+format_parts rule format limit = parts_streams rule (format_lawful format) (format_requested rule format) limit
 
 -- What is written, message by message.
 
@@ -53,8 +54,8 @@ WritesFrom-push Writes index (n ∷ ns) m text more all here =
     )
 
 -- no message is written yet
-pub HasWritten-none : (format : Format) (limit : Option ℕ) (Writes : Writing) (written : Option (List ℕ)) (raw : List ℕ) → HasWritten format limit Writes 0 written written raw raw
-HasWritten-none format limit Writes written raw = record {
+pub HasWritten-none : (rule : Padding) (format : Format) (limit : Option ℕ) (Writes : Writing) (written : Option (List ℕ)) (raw : List ℕ) → HasWritten rule format limit Writes 0 written written raw raw
+HasWritten-none rule format limit Writes written raw = record {
   messages = [];
   counted = refl;
   texts = refl;
@@ -68,33 +69,33 @@ Adds-join Writes ms m x y z (text, all, e) (more, here, f) =
     (text ++ more, WritesFrom-push Writes 0 ms m text more all (subst (λ k. Writes k m more) at here), f ∙ ap (λ l. l ++ more) e ∙ append_assoc x text more)
 
 -- one more message is written
-pub HasWritten-next : (format : Format) (limit : Option ℕ) (Writes : Writing) (count : ℕ)
+pub HasWritten-next : (rule : Padding) (format : Format) (limit : Option ℕ) (Writes : Writing) (count : ℕ)
     (before between after : Option (List ℕ)) (raw mid rest : List ℕ)
-    → HasWritten format limit Writes count before between raw mid
-    → HasWrittenNext format limit Writes count between after mid rest
-    → HasWritten format limit Writes (count + 1) before after raw rest
-HasWritten-next format limit Writes count before between after raw mid rest written next = record {
+    → HasWritten rule format limit Writes count before between raw mid
+    → HasWrittenNext rule format limit Writes count between after mid rest
+    → HasWritten rule format limit Writes (count + 1) before after raw rest
+HasWritten-next rule format limit Writes count before between after raw mid rest written next = record {
   messages = written.messages ++ next.message ∷ [];
   counted = length_push written.messages next.message ∙ ap (λ k. k + 1) written.counted;
-  texts = AreTexts-push (grammar_of format) limit written.messages next.message raw mid rest written.texts next.stands;
+  texts = AreTexts-push (grammar_of rule format) limit written.messages next.message raw mid rest written.texts next.stands;
   written = IfKnown-join before between after (Adds-join Writes written.messages next.message) written.written
       (subst (λ k. IfKnown between after (Adds (Writes k next.message))) (sym written.counted) next.written);
 }
 
 -- the next message stands, and is written, or not as a whole
-pub written_next : (format : Format) (limit : Option ℕ) (Writes : Writing) (index : ℕ) (message : List (List ℕ))
+pub written_next : (rule : Padding) (format : Format) (limit : Option ℕ) (Writes : Writing) (index : ℕ) (message : List (List ℕ))
     (old new before after : Option (List ℕ)) → IsWithin message limit
-    → IfKnown old new ((rules_of format).stands message) → IfKnown before after (Adds (Writes index message))
-    → IfKnown old new (HasWrittenNext format limit Writes index before after)
-written_next format limit Writes index message old new before after within stands written =
+    → IfKnown old new ((rules_of rule format).stands message) → IfKnown before after (Adds (Writes index message))
+    → IfKnown old new (HasWrittenNext rule format limit Writes index before after)
+written_next rule format limit Writes index message old new before after within stands written =
     IfKnown-weaker old new (λ raw rest begins. record { message = message; stands = begins; written = written })
-    (stands_next format limit message old new within stands)
+    (stands_next rule format limit message old new within stands)
 
-lacks_writing : (format : Format) (limit : Option ℕ) (Declines : DecliningWriting) (index : ℕ)
+lacks_writing : (rule : Padding) (format : Format) (limit : Option ℕ) (Declines : DecliningWriting) (index : ℕ)
     (message : List (List ℕ)) (kind : ErrorKind) (old new : Option (List ℕ)) → IsWritable message
-    → IsWritingFault Declines index message kind → IfKnown old new (StandsNext format limit message)
-    → IfKnown old new (LacksWriting format limit Declines index kind)
-lacks_writing format limit Declines index message kind old new writable fault stands =
+    → IsWritingFault Declines index message kind → IfKnown old new (StandsNext rule format limit message)
+    → IfKnown old new (LacksWriting rule format limit Declines index kind)
+lacks_writing rule format limit Declines index message kind old new writable fault stands =
     IfKnown-weaker old new (λ raw rest begins. record { message = message; stands = begins; writable = writable; fault = fault }) stands
 
 -- why a message was not written is a fault
@@ -112,61 +113,61 @@ message_faulted limit Declines index message kind within whole fault =
 
 -- What a run comes to, by what its source had and has.
 
-pub all_written : (format : Format) (limit : Option ℕ) (Writes : Writing) (Declines : DecliningWriting) (count : ℕ)
+pub all_written : (rule : Padding) (format : Format) (limit : Option ℕ) (Writes : Writing) (Declines : DecliningWriting) (count : ℕ)
     (old mid left before between after : Option (List ℕ))
-    → IfKnown old mid (HasWritten format limit Writes count before between) → IfSome mid (λ raw. raw ≡ [])
+    → IfKnown old mid (HasWritten rule format limit Writes count before between) → IfSome mid (λ raw. raw ≡ [])
     → IfKnown mid left IsTail → after ≡ between
-    → IfSome old (HasRun format limit Writes Declines (Ok tt) left before after)
-all_written format limit Writes Declines count None mid left before between after written end tail same = tt
-all_written format limit Writes Declines count (Some raw) None left before between after written end tail same = absurd written
-all_written format limit Writes Declines count (Some raw) (Some rest) None before between after written end tail same = absurd tail
-all_written format limit Writes Declines count (Some raw) (Some rest) (Some left) before between after written end tail same =
+    → IfSome old (HasRun rule format limit Writes Declines (Ok tt) left before after)
+all_written rule format limit Writes Declines count None mid left before between after written end tail same = tt
+all_written rule format limit Writes Declines count (Some raw) None left before between after written end tail same = absurd written
+all_written rule format limit Writes Declines count (Some raw) (Some rest) None before between after written end tail same = absurd tail
+all_written rule format limit Writes Declines count (Some raw) (Some rest) (Some left) before between after written end tail same =
     let none : left ≡ [] = nil_from_length left (omega (arith, ap length end, ap length tail.1, length-append tail.0 left)) in
     record {
       count = count;
       rest = left;
       unread = refl;
-      written = subst (λ w. HasWritten format limit Writes count before w raw left) (sym same)
-          (subst (λ l. HasWritten format limit Writes count before between raw l) (end ∙ sym none) written);
+      written = subst (λ w. HasWritten rule format limit Writes count before w raw left) (sym same)
+          (subst (λ l. HasWritten rule format limit Writes count before between raw l) (end ∙ sym none) written);
       done = inl none;
     }
 
-pub most_written : (format : Format) (limit : Option ℕ) (Writes : Writing) (Declines : DecliningWriting) (count : ℕ)
-    (old left before after : Option (List ℕ)) → IfKnown old left (HasWritten format limit Writes count before after)
-    → count ≡ most_messages → IfSome old (HasRun format limit Writes Declines (Ok tt) left before after)
-most_written format limit Writes Declines count None left before after written most = tt
-most_written format limit Writes Declines count (Some raw) None before after written most = absurd written
-most_written format limit Writes Declines count (Some raw) (Some rest) before after written most = record { count = count; rest = rest; unread = refl; written = written; done = inr most }
+pub most_written : (rule : Padding) (format : Format) (limit : Option ℕ) (Writes : Writing) (Declines : DecliningWriting) (count : ℕ)
+    (old left before after : Option (List ℕ)) → IfKnown old left (HasWritten rule format limit Writes count before after)
+    → count ≡ most_messages → IfSome old (HasRun rule format limit Writes Declines (Ok tt) left before after)
+most_written rule format limit Writes Declines count None left before after written most = tt
+most_written rule format limit Writes Declines count (Some raw) None before after written most = absurd written
+most_written rule format limit Writes Declines count (Some raw) (Some rest) before after written most = record { count = count; rest = rest; unread = refl; written = written; done = inr most }
 
-pub stopped_reading : (format : Format) (limit : Option ℕ) (Writes : Writing) (Declines : DecliningWriting)
+pub stopped_reading : (rule : Padding) (format : Format) (limit : Option ℕ) (Writes : Writing) (Declines : DecliningWriting)
     (stop : StoppedAt) (old mid left before between after : Option (List ℕ))
-    → IfKnown old mid (HasWritten format limit Writes stop.message before between)
-    → IsReadingFault format limit stop.error.kind mid left → after ≡ between
-    → IfSome old (HasRun format limit Writes Declines (Err stop) left before after)
-stopped_reading format limit Writes Declines stop None mid left before between after written fault same = tt
-stopped_reading format limit Writes Declines stop (Some raw) None left before between after written fault same = absurd written
-stopped_reading format limit Writes Declines stop (Some raw) (Some rest) left before between after written fault same =
-    inl (record { rest = rest; written = subst (λ w. HasWritten format limit Writes stop.message before w raw rest) (sym same) written; fault = fault })
+    → IfKnown old mid (HasWritten rule format limit Writes stop.message before between)
+    → IsReadingFault rule format limit stop.error.kind mid left → after ≡ between
+    → IfSome old (HasRun rule format limit Writes Declines (Err stop) left before after)
+stopped_reading rule format limit Writes Declines stop None mid left before between after written fault same = tt
+stopped_reading rule format limit Writes Declines stop (Some raw) None left before between after written fault same = absurd written
+stopped_reading rule format limit Writes Declines stop (Some raw) (Some rest) left before between after written fault same =
+    inl (record { rest = rest; written = subst (λ w. HasWritten rule format limit Writes stop.message before w raw rest) (sym same) written; fault = fault })
 
-stopped_writing : (format : Format) (limit : Option ℕ) (Writes : Writing) (Declines : DecliningWriting)
+stopped_writing : (rule : Padding) (format : Format) (limit : Option ℕ) (Writes : Writing) (Declines : DecliningWriting)
     (stop : StoppedAt) (old mid left before between after : Option (List ℕ))
-    → IfKnown old mid (HasWritten format limit Writes stop.message before between)
-    → IfKnown mid left (LacksWriting format limit Declines stop.message stop.error.kind) → IfKnown between after IsFront
-    → IfSome old (HasRun format limit Writes Declines (Err stop) left before after)
-stopped_writing format limit Writes Declines stop None mid left before between after written lacks front = tt
-stopped_writing format limit Writes Declines stop (Some raw) None left before between after written lacks front = absurd written
-stopped_writing format limit Writes Declines stop (Some raw) (Some rest) left before between after written lacks front =
+    → IfKnown old mid (HasWritten rule format limit Writes stop.message before between)
+    → IfKnown mid left (LacksWriting rule format limit Declines stop.message stop.error.kind) → IfKnown between after IsFront
+    → IfSome old (HasRun rule format limit Writes Declines (Err stop) left before after)
+stopped_writing rule format limit Writes Declines stop None mid left before between after written lacks front = tt
+stopped_writing rule format limit Writes Declines stop (Some raw) None left before between after written lacks front = absurd written
+stopped_writing rule format limit Writes Declines stop (Some raw) (Some rest) left before between after written lacks front =
     inr (record { rest = rest; between = between; written = written; lacks = lacks; front = front })
 
 -- the next message was read, and not written as a whole
-pub stopped_at_message : (format : Format) (limit : Option ℕ) (Writes : Writing) (Declines : DecliningWriting)
+pub stopped_at_message : (rule : Padding) (format : Format) (limit : Option ℕ) (Writes : Writing) (Declines : DecliningWriting)
     (stop : StoppedAt) (message : List (List ℕ)) (old mid left before between after : Option (List ℕ))
     → IsWithin message limit → AllByRecursion IsWholeWords message
-    → IfKnown old mid (HasWritten format limit Writes stop.message before between)
-    → IfKnown mid left ((rules_of format).stands message)
+    → IfKnown old mid (HasWritten rule format limit Writes stop.message before between)
+    → IfKnown mid left ((rules_of rule format).stands message)
     → IsWritingFault Declines stop.message message stop.error.kind → IfKnown between after IsFront
-    → IfSome old (HasRun format limit Writes Declines (Err stop) left before after)
-stopped_at_message format limit Writes Declines stop message old mid left before between after within whole written stands fault front =
-    stopped_writing format limit Writes Declines stop old mid left before between after written
-    (lacks_writing format limit Declines stop.message message stop.error.kind mid left
-    (IsWritable-within message limit within whole) fault (stands_next format limit message mid left within stands)) front
+    → IfSome old (HasRun rule format limit Writes Declines (Err stop) left before after)
+stopped_at_message rule format limit Writes Declines stop message old mid left before between after within whole written stands fault front =
+    stopped_writing rule format limit Writes Declines stop old mid left before between after written
+    (lacks_writing rule format limit Declines stop.message message stop.error.kind mid left
+    (IsWritable-within message limit within whole) fault (stands_next rule format limit message mid left within stands)) front

@@ -1,5 +1,6 @@
 -- A run whose messages' texts are known by less, and so of one that transcodes, over a plain sink.
 use Rattle.std.proofs.Common.{inl, inr, ℕ, ◌+◌, Option, Some, None, IfSome, Result, Ok, Err, List, [], ◌∷◌}
+use Rattle.capnp_frame.specs.declared.serialize.segment_table.Padding.{Padding}
 use Rattle.capnp_frame.specs.declared.error.ErrorKind.{ErrorKind}
 use Rattle.capnp_frame.specs.declared.io.Read.{Ghosts}
 use Rattle.capnp_frame.specs.declared.io.Write.{Ghosts as SinkGhosts}
@@ -22,10 +23,10 @@ WritesFrom-weaker : (P Q : Writing) → IsWeaker P Q → (index : ℕ) (ms : Lis
 WritesFrom-weaker P Q weaker index [] text all = all
 WritesFrom-weaker P Q weaker index (m ∷ ms) text (first, others, here, more, e) = (first, others, weaker index m first here, WritesFrom-weaker P Q weaker (index + 1) ms others more, e)
 
-HasWritten-weaker : (format : Format) (limit : Option ℕ) (P Q : Writing) → IsWeaker P Q → (count : ℕ)
-    (before after : Option (List ℕ)) (raw rest : List ℕ) → HasWritten format limit P count before after raw rest
-    → HasWritten format limit Q count before after raw rest
-HasWritten-weaker format limit P Q weaker count before after raw rest written = record {
+HasWritten-weaker : (rule : Padding) (format : Format) (limit : Option ℕ) (P Q : Writing) → IsWeaker P Q → (count : ℕ)
+    (before after : Option (List ℕ)) (raw rest : List ℕ) → HasWritten rule format limit P count before after raw rest
+    → HasWritten rule format limit Q count before after raw rest
+HasWritten-weaker rule format limit P Q weaker count before after raw rest written = record {
   messages = written.messages;
   counted = written.counted;
   texts = written.texts;
@@ -33,30 +34,30 @@ HasWritten-weaker format limit P Q weaker count before after raw rest written = 
 }
 
 -- and so of a run
-RanOut-weaker : (format : Format) (limit : Option ℕ) (P Q : Writing) → IsWeaker P Q
-    → (left before after : Option (List ℕ)) (raw : List ℕ) → RanOut format limit P left before after raw
-    → RanOut format limit Q left before after raw
-RanOut-weaker format limit P Q weaker left before after raw ran = record {
+RanOut-weaker : (rule : Padding) (format : Format) (limit : Option ℕ) (P Q : Writing) → IsWeaker P Q
+    → (left before after : Option (List ℕ)) (raw : List ℕ) → RanOut rule format limit P left before after raw
+    → RanOut rule format limit Q left before after raw
+RanOut-weaker rule format limit P Q weaker left before after raw ran = record {
   count = ran.count;
   rest = ran.rest;
   unread = ran.unread;
-  written = HasWritten-weaker format limit P Q weaker ran.count before after raw ran.rest ran.written;
+  written = HasWritten-weaker rule format limit P Q weaker ran.count before after raw ran.rest ran.written;
   done = ran.done;
 }
 
-HasStopped-weaker : (format : Format) (limit : Option ℕ) (P Q : Writing) (Declines : DecliningWriting)
+HasStopped-weaker : (rule : Padding) (format : Format) (limit : Option ℕ) (P Q : Writing) (Declines : DecliningWriting)
     → IsWeaker P Q → (count : ℕ) (kind : ErrorKind) (left before after : Option (List ℕ)) (raw : List ℕ)
-    → HasStopped format limit P Declines count kind left before after raw
-    → HasStopped format limit Q Declines count kind left before after raw
-HasStopped-weaker format limit P Q Declines weaker count kind left before after raw (inl stopped) = inl (record {
+    → HasStopped rule format limit P Declines count kind left before after raw
+    → HasStopped rule format limit Q Declines count kind left before after raw
+HasStopped-weaker rule format limit P Q Declines weaker count kind left before after raw (inl stopped) = inl (record {
   rest = stopped.rest;
-  written = HasWritten-weaker format limit P Q weaker count before after raw stopped.rest stopped.written;
+  written = HasWritten-weaker rule format limit P Q weaker count before after raw stopped.rest stopped.written;
   fault = stopped.fault;
 })
-HasStopped-weaker format limit P Q Declines weaker count kind left before after raw (inr stopped) = inr (record {
+HasStopped-weaker rule format limit P Q Declines weaker count kind left before after raw (inr stopped) = inr (record {
   rest = stopped.rest;
   between = stopped.between;
-  written = HasWritten-weaker format limit P Q weaker count before stopped.between raw stopped.rest stopped.written;
+  written = HasWritten-weaker rule format limit P Q weaker count before stopped.between raw stopped.rest stopped.written;
   lacks = stopped.lacks;
   front = stopped.front;
 })
@@ -71,21 +72,21 @@ IfSome-weaker : {P Q : List ℕ → Type 0} (unread : Option (List ℕ)) → ((r
 IfSome-weaker None weaker p = tt
 IfSome-weaker (Some raw) weaker p = weaker raw p
 
-HasRun-weaker : (format : Format) (limit : Option ℕ) (P Q : Writing) (Declines : DecliningWriting) → IsWeaker P Q
+HasRun-weaker : (rule : Padding) (format : Format) (limit : Option ℕ) (P Q : Writing) (Declines : DecliningWriting) → IsWeaker P Q
     → (result : Result (Unit {0}) StoppedAt) (left before after : Option (List ℕ)) (raw : List ℕ)
-    → HasRun format limit P Declines result left before after raw → HasRun format limit Q Declines result left before after raw
-HasRun-weaker format limit P Q Declines weaker (Ok done) left before after raw ran = RanOut-weaker format limit P Q weaker left before after raw ran
-HasRun-weaker format limit P Q Declines weaker (Err stop) left before after raw ran =
-    HasStopped-weaker format limit P Q Declines weaker stop.message stop.error.kind left before after raw ran
+    → HasRun rule format limit P Declines result left before after raw → HasRun rule format limit Q Declines result left before after raw
+HasRun-weaker rule format limit P Q Declines weaker (Ok done) left before after raw ran = RanOut-weaker rule format limit P Q weaker left before after raw ran
+HasRun-weaker rule format limit P Q Declines weaker (Err stop) left before after raw ran =
+    HasStopped-weaker rule format limit P Q Declines weaker stop.message stop.error.kind left before after raw ran
 
 -- and of all that a run says
 pub WritesEach-weaker : {S T : Type 0} (source : Ghosts S) (old new : S) (sink : SinkGhosts T) (before after : T)
-    (format : Format) (limit : Option ℕ) (P Q : Writing) (Declines : DecliningWriting) → IsWeaker P Q
+    (rule : Padding) (format : Format) (limit : Option ℕ) (P Q : Writing) (Declines : DecliningWriting) → IsWeaker P Q
     → (result : Result (Unit {0}) StoppedAt)
-    → WritesEach source old new sink before after format limit P Declines result
-    → WritesEach source old new sink before after format limit Q Declines result
-WritesEach-weaker source old new sink before after format limit P Q Declines weaker result each = record {
-  written = IfSome-weaker (source.unread old) (HasRun-weaker format limit P Q Declines weaker result
+    → WritesEach source old new sink before after rule format limit P Declines result
+    → WritesEach source old new sink before after rule format limit Q Declines result
+WritesEach-weaker source old new sink before after rule format limit P Q Declines weaker result each = record {
+  written = IfSome-weaker (source.unread old) (HasRun-weaker rule format limit P Q Declines weaker result
       (source.unread new) (sink.written before) (sink.written after)) each.written;
   exact = each.exact;
   kinds = each.kinds;

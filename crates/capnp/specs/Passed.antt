@@ -1,6 +1,8 @@
 -- Words of the crates below, for callers that stand on this crate alone.
 pub use Rattle.capnp_frame.specs.declared.error.Error.{Error}
 pub use Rattle.capnp_frame.specs.declared.error.ErrorKind.{ErrorKind}
+pub use Rattle.capnp_frame.specs.declared.serialize.segment_table.Padding.{Padding}
+pub use Rattle.capnp_frame.specs.declared.serialize.segment_table.Padding.TheVariants.{Any, Zero}
 pub use Rattle.capnp_frame.specs.Limits.{IsWithin}
 pub use Rattle.capnp_frame.specs.Message.{IsWholeWords, word_count, lengths, size_in_words}
 pub use Rattle.capnp_frame.specs.Numbers.{number_of}

@@ -3,6 +3,7 @@ use Rattle.std.specs.Prelude.{◌≡◌, ◌<◌, ◌⊎◌, ◌+◌, ◌-◌, �
 use Rattle.capnp_frame.specs.declared.error.Error.{Error}
 use Rattle.capnp_frame.specs.declared.error.ErrorKind.{ErrorKind}
 use Rattle.capnp_frame.specs.declared.error.ErrorKind.TheVariants.{DeviceFailed, OutOfMemory}
+use Rattle.capnp_frame.specs.declared.serialize.segment_table.Padding.{Padding}
 use Rattle.capnp_frame.specs.declared.io.Read.{Ghosts}
 use Rattle.capnp_frame.specs.declared.io.Write.{Ghosts as SinkGhosts}
 use Rattle.capnp_frame.specs.Refusals.{IsReaderKind}
@@ -31,21 +32,21 @@ abbrev pub WritesAll : Writing → List (List (List ℕ)) → List ℕ → Type 
 WritesAll Writes messages text = WritesFrom Writes 0 messages text
 
 -- the next message of a stream was written under this index
-pub record HasWrittenNext (format : Format) (limit : Option ℕ) (Writes : Writing) (index : ℕ) (before after : Option (List ℕ)) (raw rest : List ℕ) : Type 0 where
+pub record HasWrittenNext (rule : Padding) (format : Format) (limit : Option ℕ) (Writes : Writing) (index : ℕ) (before after : Option (List ℕ)) (raw rest : List ℕ) : Type 0 where
   pub message : List (List ℕ)
-  pub stands : StandsNext format limit message raw rest
+  pub stands : StandsNext rule format limit message raw rest
   pub written : IfKnown before after (Adds (Writes index message))
 
 -- So many messages from the front of raw were written, and then rest is unread.
-pub record HasWritten (format : Format) (limit : Option ℕ) (Writes : Writing) (count : ℕ) (before after : Option (List ℕ)) (raw rest : List ℕ) : Type 0 where
+pub record HasWritten (rule : Padding) (format : Format) (limit : Option ℕ) (Writes : Writing) (count : ℕ) (before after : Option (List ℕ)) (raw rest : List ℕ) : Type 0 where
   pub messages : List (List (List ℕ))
   pub counted : length messages ≡ count
-  pub texts : AreTexts (grammar_of format) limit messages raw rest
+  pub texts : AreTexts (grammar_of rule format) limit messages raw rest
   pub written : IfKnown before after (Adds (WritesAll Writes messages))
 
 -- why the next message was not read: the device's fault, want of memory, or what stands there
-abbrev pub IsReadingFault : Format → Option ℕ → ErrorKind → Option (List ℕ) → Option (List ℕ) → Type 0
-IsReadingFault format limit kind old new = (kind ≡ DeviceFailed) ⊎ (kind ≡ OutOfMemory) ⊎ IfKnown old new (RefusesNext format limit kind)
+abbrev pub IsReadingFault : Padding → Format → Option ℕ → ErrorKind → Option (List ℕ) → Option (List ℕ) → Type 0
+IsReadingFault rule format limit kind old new = (kind ≡ DeviceFailed) ⊎ (kind ≡ OutOfMemory) ⊎ IfKnown old new (RefusesNext rule format limit kind)
 
 -- why a message was not written: the device's fault, want of memory, or that the sink refuses some of it
 abbrev pub IsWritingFault : DecliningWriting → ℕ → List (List ℕ) → ErrorKind → Type 0
@@ -57,9 +58,9 @@ IsRunFault Declines index kind = (kind ≡ DeviceFailed) ⊎ (kind ≡ OutOfMemo
     ⊎ ((message : List (List ℕ)) × IsWritable message × Declines index message kind)
 
 -- the next message was read, and not written as a whole
-pub record LacksWriting (format : Format) (limit : Option ℕ) (Declines : DecliningWriting) (index : ℕ) (kind : ErrorKind) (raw rest : List ℕ) : Type 0 where
+pub record LacksWriting (rule : Padding) (format : Format) (limit : Option ℕ) (Declines : DecliningWriting) (index : ℕ) (kind : ErrorKind) (raw rest : List ℕ) : Type 0 where
   pub message : List (List ℕ)
-  pub stands : StandsNext format limit message raw rest
+  pub stands : StandsNext rule format limit message raw rest
   pub writable : IsWritable message
   pub fault : IsWritingFault Declines index message kind
 
@@ -70,37 +71,37 @@ most_messages = 2 ^ 64 - 1
 -- Below, of a run over raw that leaves `left` unread, and whose sink has `before`, and then `after`.
 
 -- All messages are written, or as many as one run takes.
-pub record RanOut (format : Format) (limit : Option ℕ) (Writes : Writing) (left before after : Option (List ℕ)) (raw : List ℕ) : Type 0 where
+pub record RanOut (rule : Padding) (format : Format) (limit : Option ℕ) (Writes : Writing) (left before after : Option (List ℕ)) (raw : List ℕ) : Type 0 where
   pub count : ℕ
   pub rest : List ℕ
   pub unread : left ≡ Some rest
-  pub written : HasWritten format limit Writes count before after raw rest
+  pub written : HasWritten rule format limit Writes count before after raw rest
   pub done : (rest ≡ []) ⊎ (count ≡ most_messages)
 
 -- So many messages are written and nothing more, since the next one was not read.
-pub record StoppedReading (format : Format) (limit : Option ℕ) (Writes : Writing) (count : ℕ) (kind : ErrorKind) (left before after : Option (List ℕ)) (raw : List ℕ) : Type 0 where
+pub record StoppedReading (rule : Padding) (format : Format) (limit : Option ℕ) (Writes : Writing) (count : ℕ) (kind : ErrorKind) (left before after : Option (List ℕ)) (raw : List ℕ) : Type 0 where
   pub rest : List ℕ
-  pub written : HasWritten format limit Writes count before after raw rest
-  pub fault : IsReadingFault format limit kind (Some rest) left
+  pub written : HasWritten rule format limit Writes count before after raw rest
+  pub fault : IsReadingFault rule format limit kind (Some rest) left
 
 -- So many messages are written, and the next one was read and not written as a whole. What was written of it is open.
-pub record StoppedWriting (format : Format) (limit : Option ℕ) (Writes : Writing) (Declines : DecliningWriting) (count : ℕ) (kind : ErrorKind) (left before after : Option (List ℕ)) (raw : List ℕ) : Type 0 where
+pub record StoppedWriting (rule : Padding) (format : Format) (limit : Option ℕ) (Writes : Writing) (Declines : DecliningWriting) (count : ℕ) (kind : ErrorKind) (left before after : Option (List ℕ)) (raw : List ℕ) : Type 0 where
   pub rest : List ℕ
   pub between : Option (List ℕ)
-  pub written : HasWritten format limit Writes count before between raw rest
-  pub lacks : IfKnown (Some rest) left (LacksWriting format limit Declines count kind)
+  pub written : HasWritten rule format limit Writes count before between raw rest
+  pub lacks : IfKnown (Some rest) left (LacksWriting rule format limit Declines count kind)
   pub front : IfKnown between after IsFront
 
 -- it stopped by this kind after so many messages
-abbrev pub HasStopped : Format → Option ℕ → Writing → DecliningWriting → ℕ → ErrorKind → Option (List ℕ) → Option (List ℕ) → Option (List ℕ) → List ℕ → Type 0
-HasStopped format limit Writes Declines count kind left before after raw =
-    StoppedReading format limit Writes count kind left before after raw
-    ⊎ StoppedWriting format limit Writes Declines count kind left before after raw
+abbrev pub HasStopped : Padding → Format → Option ℕ → Writing → DecliningWriting → ℕ → ErrorKind → Option (List ℕ) → Option (List ℕ) → Option (List ℕ) → List ℕ → Type 0
+HasStopped rule format limit Writes Declines count kind left before after raw =
+    StoppedReading rule format limit Writes count kind left before after raw
+    ⊎ StoppedWriting rule format limit Writes Declines count kind left before after raw
 
 -- what the answer of a run says that it did
-abbrev pub HasRun : Format → Option ℕ → Writing → DecliningWriting → Result (Unit {0}) StoppedAt → Option (List ℕ) → Option (List ℕ) → Option (List ℕ) → List ℕ → Type 0
-HasRun format limit Writes Declines (Ok done) left before after raw = RanOut format limit Writes left before after raw
-HasRun format limit Writes Declines (Err stop) left before after raw = HasStopped format limit Writes Declines stop.message stop.error.kind left before after raw
+abbrev pub HasRun : Padding → Format → Option ℕ → Writing → DecliningWriting → Result (Unit {0}) StoppedAt → Option (List ℕ) → Option (List ℕ) → Option (List ℕ) → List ℕ → Type 0
+HasRun rule format limit Writes Declines (Ok done) left before after raw = RanOut rule format limit Writes left before after raw
+HasRun rule format limit Writes Declines (Err stop) left before after raw = HasStopped rule format limit Writes Declines stop.message stop.error.kind left before after raw
 
 -- the answer says that the stream is these messages, and ends so
 abbrev pub IsAnswerTo : Result (Unit {0}) StoppedAt → List (List (List ℕ)) → Option ErrorKind → Type 0
@@ -115,17 +116,17 @@ IsFaulted Declines (Err stop) = IsRunFault Declines stop.message stop.error.kind
 -- What a run over the messages of a stream reads, writes and returns. `source` is what is seen of the source (the members of
 -- the trait Read), which is `old` before the run and `new` after it; `sink` of the sink (those of Write), `before` and `after`.
 pub record WritesEach {S T : Type 0} (source : Ghosts S) (old new : S) (sink : SinkGhosts T) (before after : T)
-    (format : Format) (limit : Option ℕ) (Writes : Writing) (Declines : DecliningWriting)
+    (rule : Padding) (format : Format) (limit : Option ℕ) (Writes : Writing) (Declines : DecliningWriting)
     (result : Result (Unit {0}) StoppedAt) : Type 0 where
   -- each message is written until none is left, or those before the place where the run stopped
   pub written : IfSome (source.unread old)
-      (HasRun format limit Writes Declines result (source.unread new) (sink.written before) (sink.written after))
+      (HasRun rule format limit Writes Declines result (source.unread new) (sink.written before) (sink.written after))
   -- what is returned says how the stream ends, and after how many messages, but for a fault
   pub exact : IfSome (source.unread old) (λ raw. (messages : List (List (List ℕ))) (ending : Option ErrorKind)
-      → IsStream format limit messages ending raw → length messages < most_messages
+      → IsStream rule format limit messages ending raw → length messages < most_messages
       → IsAnswerTo result messages ending ⊎ IsFaulted Declines result)
   -- it fails with one of the reader's kinds, or with a fault at the message of that index
-  pub kinds : IfErr result (λ stop. IsReaderKind (refuses_of format) stop.error.kind ⊎ IsRunFault Declines stop.message stop.error.kind)
+  pub kinds : IfErr result (λ stop. IsReaderKind rule (refuses_of format) stop.error.kind ⊎ IsRunFault Declines stop.message stop.error.kind)
   -- a device is blamed only where one of the two failed
   pub failed : IfErr result (λ stop. stop.error.kind ≡ DeviceFailed
       → Fails (source.failures old) (source.failures new) ⊎ Fails (sink.failures before) (sink.failures after))

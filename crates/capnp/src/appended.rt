@@ -17,7 +17,7 @@ use crate::{serialize, serialize_packed};
 use capnp_frame::Result;
 use capnp_frame::io::{BufRead, Write};
 use capnp_frame::message::{ReaderOptions, ReaderSegments};
-use capnp_frame::serialize::OwnedSegments;
+use capnp_frame::serialize::{OwnedSegments, Padding};
 use capnp_message::Reader;
 use std::alloc::Global;
 
@@ -79,12 +79,12 @@ pub fn read_messages<R: BufRead>(
     ensures count { IfOk result (λ readers. length readers.items ≡ count) }
     ensures found { IfOk result (λ readers.
         IfKnown (R.unread source.old) (R.unread source.new)
-        (AreTexts (grammar_of format) options.traversal_limit_in_words
+        (AreTexts (grammar_of Padding.Zero format) options.traversal_limit_in_words
         (map (λ reader. reader.segments) readers.items))) }
     // Where so many stand, a refusal is a fault.
     ensures accepted { IfErr result (λ error. IfSome (R.unread source.old) (λ raw.
         (messages : List (List (List ℕ))) (rest : List ℕ) →
-        AreTexts (grammar_of format) options.traversal_limit_in_words messages raw rest →
+        AreTexts (grammar_of Padding.Zero format) options.traversal_limit_in_words messages raw rest →
         length messages ≡ count → IsFault error.kind)) }
     ensures failed { IfErr result (λ error. error.kind ≡ ErrorKind.DeviceFailed →
         Fails (R.failures source.old) (R.failures source.new)) }
@@ -127,11 +127,11 @@ pub(crate) fn read_message<R: BufRead>(
     source: &mut R,
     options: ReaderOptions,
 ) -> Result<Reader<OwnedSegments>>
-    ensures texts { ReturnsTexts (grammar_of format) options.traversal_limit_in_words
+    ensures texts { ReturnsTexts (grammar_of Padding.Zero format) options.traversal_limit_in_words
         (R.unread source.old) (R.unread source.new)
         (message_in (λ reader. reader.segments) result) }
     ensures reads { OrFailsAtEnd (ReadsStream R.Read source.old source.new
-        (rules_of format) options.traversal_limit_in_words)
+        (rules_of Padding.Zero format) options.traversal_limit_in_words)
         (message_in (λ reader. reader.segments) result) }
 {
     match format {
@@ -147,10 +147,10 @@ fn try_read_message<R: BufRead>(
     source: &mut R,
     options: ReaderOptions,
 ) -> Result<Option<Reader<OwnedSegments>>>
-    ensures texts { ReturnsTexts (grammar_of format) options.traversal_limit_in_words
+    ensures texts { ReturnsTexts (grammar_of Padding.Zero format) options.traversal_limit_in_words
         (R.unread source.old) (R.unread source.new)
         (next_in (λ reader. reader.segments) result) }
-    ensures reads { ReadsStream R.Read source.old source.new (rules_of format)
+    ensures reads { ReadsStream R.Read source.old source.new (rules_of Padding.Zero format)
         options.traversal_limit_in_words (next_in (λ reader. reader.segments) result) }
 {
     match format {

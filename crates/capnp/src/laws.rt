@@ -2,6 +2,7 @@
 ghost use Rattle.std.specs.Prelude.{◌≡◌, ◌++◌, ℕ, List, [], Option, None, map};
 ghost use Rattle.std.specs.List.{AllByRecursion};
 ghost use Rattle.capnp_frame.specs.declared.error.ErrorKind.{ErrorKind};
+ghost use Rattle.capnp_frame.specs.declared.serialize.segment_table.Padding.{Padding};
 ghost use Rattle.capnp_frame.specs.Limits.{IsWithin};
 ghost use Rattle.capnp_frame.specs.Texts.{AreTexts};
 ghost use Rattle.capnp_frame.specs.Writing.{IsWritable};
@@ -13,46 +14,48 @@ ghost use Rattle.capnp.specs.Roots.{HasRootTree};
 ghost use Rattle.capnp.specs.Streams.{grammar_of, StandsNext, EndsBy, IsStream};
 ghost use Rattle.capnp.specs.Written.{IsTextOf, AppendsEach};
 
+use capnp_frame::serialize::Padding;
+
 /// A stream begins with one message at most, and where it does one rest is left. So all readers of a
 /// format answer the same message.
 pub fn one_message_begins_a_stream()
-    ensures { (format : Format) (limit : Option ℕ) (message other : List (List ℕ))
-        (raw rest left : List ℕ) → StandsNext format limit message raw rest →
-        StandsNext format limit other raw left → (message ≡ other) × (rest ≡ left) }
+    ensures { (rule : Padding) (format : Format) (limit : Option ℕ) (message other : List (List ℕ))
+        (raw rest left : List ℕ) → StandsNext rule format limit message raw rest →
+        StandsNext rule format limit other raw left → (message ≡ other) × (rest ≡ left) }
 {}
 
 /// Where a stream ends, or its reader refuses, no message begins it.
 pub fn no_message_begins_an_end()
-    ensures { (format : Format) (limit : Option ℕ) (ending : Option ErrorKind)
-        (message : List (List ℕ)) (raw rest : List ℕ) → EndsBy format limit ending raw →
-        StandsNext format limit message raw rest → ⊥ }
+    ensures { (rule : Padding) (format : Format) (limit : Option ℕ) (ending : Option ErrorKind)
+        (message : List (List ℕ)) (raw rest : List ℕ) → EndsBy rule format limit ending raw →
+        StandsNext rule format limit message raw rest → ⊥ }
 {}
 
 /// A stream is one list of messages, and ends in one way.
 pub fn a_stream_is_one_list()
-    ensures { (format : Format) (limit : Option ℕ) (messages others : List (List (List ℕ)))
+    ensures { (rule : Padding) (format : Format) (limit : Option ℕ) (messages others : List (List (List ℕ)))
         (ending other : Option ErrorKind) (raw : List ℕ) →
-        IsStream format limit messages ending raw → IsStream format limit others other raw →
+        IsStream rule format limit messages ending raw → IsStream rule format limit others other raw →
         (messages ≡ others) × (ending ≡ other) }
 {}
 
 /// What is written of messages one after the other is a stream of just these, within any limit that
 /// they keep.
 pub fn what_is_written_is_a_stream()
-    ensures { (format : Format) (limit : Option ℕ) (messages : List (List (List ℕ)))
+    ensures { (rule : Padding) (format : Format) (limit : Option ℕ) (messages : List (List (List ℕ)))
         (text : List ℕ) → AllByRecursion IsWritable messages →
         AllByRecursion (λ message. IsWithin message limit) messages →
-        AppendsEach (IsTextOf format) messages text → IsStream format limit messages None text }
+        AppendsEach (IsTextOf format) messages text → IsStream rule format limit messages None text }
 {}
 
 /// A tree that stands at the root of a message that is built is the root tree of what is read of its
 /// text, in both formats, for at most 511 segments within the limit of words. What follows the text
 /// is left.
 pub fn a_root_is_read_back()
-    ensures { (format : Format) (limit : Option ℕ) (spaces : List Space) (trees : Trees)
+    ensures { (rule : Padding) (format : Format) (limit : Option ℕ) (spaces : List Space) (trees : Trees)
         (text rest left : List ℕ) (read : List (List ℕ)) → HasRootTree (map used_of spaces) trees →
         IsWritable (map used_of spaces) → IsWithin (map used_of spaces) limit →
         IsTextOf format (map used_of spaces) text →
-        StandsNext format limit read (text ++ rest) left →
+        StandsNext rule format limit read (text ++ rest) left →
         HasRootTree read trees × (left ≡ rest) }
 {}

@@ -3,15 +3,24 @@
 //! [standard stream framing]: https://capnproto.org/encoding.html#serialization-over-a-stream
 mod canonical;
 mod flat;
+mod lenient;
+mod reading;
 mod stream;
 mod writing;
 
 pub use canonical::write_canonical_message;
 pub use capnp_frame::serialize::{
     BufferSegments, NoAllocBufferSegments, NoAllocSegmentTableInfo, NoAllocSliceSegments,
-    OwnedSegments, SEGMENTS_COUNT_LIMIT, SegmentLengthsBuilder,
+    OwnedSegments, Padding, SEGMENTS_COUNT_LIMIT, SegmentLengthsBuilder,
 };
-pub use flat::{read_message_from_flat_slice, read_message_from_flat_slice_no_alloc};
+pub use flat::{
+    read_message_from_flat_slice, read_message_from_flat_slice_lenient,
+    read_message_from_flat_slice_no_alloc, read_message_from_flat_slice_no_alloc_lenient,
+};
+pub use lenient::{
+    read_message_lenient, read_message_no_alloc_lenient, try_read_message_lenient,
+    try_read_message_no_alloc_lenient,
+};
 pub use stream::{
     read_message, read_message_no_alloc, try_read_message, try_read_message_no_alloc,
 };

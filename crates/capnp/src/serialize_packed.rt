@@ -1,9 +1,15 @@
 //! Reading and writing of [packed] messages.
 //!
 //! [packed]: https://capnproto.org/encoding.html#packing
+mod lenient;
+mod reading;
 mod stream;
 mod writing;
 
+pub use lenient::{
+    read_message_lenient, read_message_no_alloc_lenient, try_read_message_lenient,
+    try_read_message_no_alloc_lenient,
+};
 pub use stream::{
     read_message, read_message_no_alloc, try_read_message, try_read_message_no_alloc,
 };

@@ -7,15 +7,20 @@ ghost use Rattle.capnp_frame.specs.Message.{IsWholeWords};
 ghost use Rattle.capnp_frame.specs.Refusals.{IsReaderKind};
 ghost use Rattle.capnp_frame.specs.Source.{IfKnown, Advances, Fails};
 ghost use Rattle.capnp_frame.specs.Sink.{Appending, Declining, Adds, Grows};
-ghost use Rattle.capnp_frame.specs.Streams.{ReadsStream};
+ghost use Rattle.capnp_frame.specs.Streams.{framed_rules, ReadsStream};
+ghost use Rattle.capnp_pack.specs.PackedStreams.{packed_rules};
 ghost use Rattle.capnp.specs.Streams.{refuses_of, rules_of};
 ghost use Rattle.capnp.specs.Runs.{Writing, DecliningWriting, IsWritingFault, IsRunFault, HasRun, WritesEach};
 
 use capnp_frame::io::{BufRead, Write};
 use capnp_frame::message::ReaderOptions;
-use capnp_frame::serialize::{OwnedSegments, try_read_segments_reusing};
+use capnp_frame::serialize::{
+    OwnedSegments, Padding, try_read_segments_reusing, try_read_segments_reusing_lenient,
+};
 use capnp_frame::{Error, Result};
-use capnp_pack::stream::try_read_packed_segments_reusing;
+use capnp_pack::stream::{
+    try_read_packed_segments_reusing, try_read_packed_segments_reusing_lenient,
+};
 use std::alloc::Global;
 
 /// How messages stand in a stream.
@@ -65,38 +70,41 @@ pub trait MessageWriter {
         ensures grows { Grows W.written W.failures W.same sink.old sink.new };
 }
 
-/// Writes what `writer` has to write of each message of `source`, in turn, until none is left.
+/// Writes what `writer` has to write of each message of `source`, its padding by the rule, in turn,
+/// until none is left.
 ///
 /// It takes at most 2^64 - 1 messages, and leaves the rest unread. The memory of a message serves
 /// the next one too.
 pub fn write_each_message<R: BufRead, W: Write, M: MessageWriter>(
     alloc: Global,
     format: Format,
+    padding: Padding,
     options: ReaderOptions,
     writer: &M,
     source: &mut R,
     sink: &mut W,
 ) -> std::result::Result<(), StoppedAt>
-    ensures { WritesEach R.Read source.old source.new W.Write sink.old sink.new format
+    ensures { WritesEach R.Read source.old source.new W.Write sink.old sink.new padding format
         options.traversal_limit_in_words (M.writes writer.now W.appends)
         (M.declines writer.now W.refuses) result }
 {
-    write_all(alloc, format, options, writer, source, sink)
+    write_all(alloc, format, padding, options, writer, source, sink)
 }
 
 // Message by message.
 fn write_all<R: BufRead, W: Write, M: MessageWriter>(
     alloc: Global,
     format: Format,
+    padding: Padding,
     options: ReaderOptions,
     writer: &M,
     source: &mut R,
     sink: &mut W,
 ) -> std::result::Result<(), StoppedAt>
-    ensures written { IfSome (R.unread source.old) (HasRun format options.traversal_limit_in_words
+    ensures written { IfSome (R.unread source.old) (HasRun padding format options.traversal_limit_in_words
         (M.writes writer.now W.appends) (M.declines writer.now W.refuses) result
         (R.unread source.new) (W.written sink.old) (W.written sink.new)) }
-    ensures kinds { IfErr result (λ stop. IsReaderKind (refuses_of format) stop.error.kind
+    ensures kinds { IfErr result (λ stop. IsReaderKind padding (refuses_of format) stop.error.kind
         ⊎ IsRunFault (M.declines writer.now W.refuses) stop.message stop.error.kind) }
     ensures failed { IfErr result (λ stop. stop.error.kind ≡ ErrorKind.DeviceFailed →
         Fails (R.failures source.old) (R.failures source.new)
@@ -107,7 +115,7 @@ fn write_all<R: BufRead, W: Write, M: MessageWriter>(
     let mut spare = OwnedSegments::empty(alloc);
     let mut memory = Vec::new(alloc);
     for message in 0..u64::MAX {
-        let segments = match read_next(format, options, source, spare) {
+        let segments = match read_next(format, padding, options, source, spare) {
             Ok(Some(segments)) => segments,
             Ok(None) => return Ok(()),
             Err(error) => return Err(StoppedAt { message, error }),
@@ -120,18 +128,51 @@ fn write_all<R: BufRead, W: Write, M: MessageWriter>(
     Ok(())
 }
 
-// Reads the next message of a stream of this format, into the memory of the one before.
+// Reads the next message of a stream of this format, its padding by the rule, into the memory of the one before.
 fn read_next<R: BufRead>(
     format: Format,
+    padding: Padding,
     options: ReaderOptions,
     source: &mut R,
     spare: OwnedSegments,
 ) -> Result<Option<OwnedSegments>>
-    ensures { ReadsStream R.Read source.old source.new (rules_of format)
+    ensures { ReadsStream R.Read source.old source.new (rules_of padding format)
         options.traversal_limit_in_words result }
 {
     match format {
-        Format::Framed => try_read_segments_reusing(source, options, spare),
-        Format::Packed => try_read_packed_segments_reusing(source, options, spare),
+        Format::Framed => read_framed(padding, options, source, spare),
+        Format::Packed => read_packed(padding, options, source, spare),
+    }
+}
+
+// The next framed message.
+fn read_framed<R: BufRead>(
+    padding: Padding,
+    options: ReaderOptions,
+    source: &mut R,
+    spare: OwnedSegments,
+) -> Result<Option<OwnedSegments>>
+    ensures { ReadsStream R.Read source.old source.new (framed_rules padding R.gives R.refuses)
+        options.traversal_limit_in_words result }
+{
+    match padding {
+        Padding::Zero => try_read_segments_reusing(source, options, spare),
+        Padding::Any => try_read_segments_reusing_lenient(source, options, spare),
+    }
+}
+
+// The next packed one.
+fn read_packed<R: BufRead>(
+    padding: Padding,
+    options: ReaderOptions,
+    source: &mut R,
+    spare: OwnedSegments,
+) -> Result<Option<OwnedSegments>>
+    ensures { ReadsStream R.Read source.old source.new (packed_rules padding)
+        options.traversal_limit_in_words result }
+{
+    match padding {
+        Padding::Zero => try_read_packed_segments_reusing(source, options, spare),
+        Padding::Any => try_read_packed_segments_reusing_lenient(source, options, spare),
     }
 }

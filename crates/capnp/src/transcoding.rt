@@ -9,7 +9,7 @@ use crate::{serialize, serialize_packed};
 use capnp_frame::Result;
 use capnp_frame::io::{BufRead, Write};
 use capnp_frame::message::ReaderOptions;
-use capnp_frame::serialize::OwnedSegments;
+use capnp_frame::serialize::{OwnedSegments, Padding};
 use std::alloc::Global;
 
 /// Which format is read, and which is written.
@@ -74,14 +74,22 @@ pub fn transcode<R: BufRead, W: Write>(
 ) -> Result<()>
     // A plain sink gets the texts in the other format.
     ensures texts { IsPlainSink W.appends → WithoutCount (WritesEach R.Read source.old source.new
-        W.Write sink.old sink.new (input_of way) options.traversal_limit_in_words
+        W.Write sink.old sink.new Padding.Zero (input_of way) options.traversal_limit_in_words
         (IsOtherText way) (DeclinesTranscoded way W.refuses)) result }
     // Of every sink.
     ensures runs { WithoutCount (WritesEach R.Read source.old source.new
-        W.Write sink.old sink.new (input_of way) options.traversal_limit_in_words
+        W.Write sink.old sink.new Padding.Zero (input_of way) options.traversal_limit_in_words
         (Transcodes way W.appends) (DeclinesTranscoded way W.refuses)) result }
 {
-    match write_each_message(alloc, way.input(), options, &way, source, sink) {
+    match write_each_message(
+        alloc,
+        way.input(),
+        Padding::Zero,
+        options,
+        &way,
+        source,
+        sink,
+    ) {
         Ok(()) => Ok(()),
         Err(stop) => Err(stop.error),
     }

@@ -2,86 +2,92 @@
 use Rattle.std.proofs.Common.{◌≡◌, ℕ, ◌+◌, ◌-◌, ◌*◌, ◌/◌, ◌%◌, ◌<◌, ◌≤◌, ◌^◌, Option, None, inl, inr, List, ◌++◌, length, take, refl, sym, ap, ◌∙◌, subst, arith, append_assoc, length-append}
 use Rattle.std.specs.Prelude.{sum}
 use lib.Seq.{take-append-le}
+use Rattle.std.proofs.lemmas.List.{take_at}
 use Rattle.std.proofs.lemmas.Bool.{cases_lt}
 use Rattle.capnp_frame.specs.declared.error.ErrorKind.{ErrorKind}
-use Rattle.capnp_frame.specs.declared.error.ErrorKind.TheVariants.{BufferNotLargeEnough, InvalidNumberOfSegments, MessageEndsPrematurely}
-use Rattle.capnp_frame.specs.SegmentTable.{field, table_size}
+use Rattle.capnp_frame.specs.declared.error.ErrorKind.TheVariants.{BufferNotLargeEnough, InvalidNumberOfSegments, MessageEndsPrematurely, MessageTooLarge, NonZeroPadding}
+use Rattle.capnp_frame.specs.declared.serialize.segment_table.Padding.{Padding}
+use Rattle.capnp_frame.specs.declared.serialize.segment_table.Padding.TheVariants.{Any}
+use Rattle.capnp_frame.specs.SegmentTable.{field, table_size, KeepsPadding, IsTable}
 use Rattle.capnp_frame.specs.Limits.{KeepsLimit, IsWithin}
 use Rattle.capnp_frame.specs.Source.{Splits, RunsShort}
 use Rattle.capnp_frame.specs.Requests.{TableStands}
-use Rattle.capnp_frame.specs.Refusals.{Unless, Asks, Tells, CountStands, StopsBy, LacksRoom, RefusesAtLimit, IsOutOfRange, RefusesTable}
-use Rattle.capnp_frame.specs.Front.{HasFrame, number, told_lengths}
+use Rattle.capnp_frame.specs.Refusals.{Unless, Tells, CountStands, StopsBy, LacksRoom, RefusesAtLimit, RefusesRest, IsOutOfRange, IsTooLarge, BreaksPadding, RefusesTable}
+use Rattle.capnp_frame.specs.Front.{HasFrame, number, told_lengths, told_padding}
 use Rattle.capnp_frame.specs.FlatRefusals.{FlatForm, by_words, by_fields, cut_kind, count_end, count_of, AcceptsCount, lengths_end, CutsSegments, RefusesLengths, RefusesCount, RefusesFlat}
 use Rattle.capnp_frame.proofs.TableLemmas.{count_told}
 use Rattle.capnp_frame.proofs.FrameLemmas.{length-table}
-use Rattle.capnp_frame.proofs.FrontLemmas.{number-field, Told, told_from_table, held_from_begins}
+use Rattle.capnp_frame.proofs.FrontLemmas.{number-field, table_is, Told, told_from_table, held_from_begins}
 use Rattle.capnp_frame.proofs.RefusalLemmas.{Unless-once, Unless-after, in_range, within_limit}
 
 -- one line at most is the first that holds
-pub RefusesFlat-once : (form : FlatForm) (limit : Option ℕ) (kind other : ErrorKind) (bytes : List ℕ) → RefusesFlat form limit kind bytes → RefusesFlat form limit other bytes → kind ≡ other
-RefusesFlat-once form limit kind other bytes =
-    Unless-once same (Unless-once same (Unless-once same (Unless-once same (Unless-once same (Unless-once same (λ x y. x.1 ∙ sym y.1))))))
+pub RefusesFlat-once : (form : FlatForm) (rule : Padding) (limit : Option ℕ) (kind other : ErrorKind) (bytes : List ℕ) → RefusesFlat form rule limit kind bytes → RefusesFlat form rule limit other bytes → kind ≡ other
+RefusesFlat-once form rule limit kind other bytes =
+    Unless-once same (Unless-once same (Unless-once same (Unless-once same (Unless-once same (Unless-once same (Unless-once same (λ x y. x.1 ∙ sym y.1)))))))
   where
     same : {own : ErrorKind} → kind ≡ own → other ≡ own → kind ≡ other
     same p q = p ∙ sym q
 
 -- the lines behind a test that fails
 
-past_empty : (form : FlatForm) (limit : Option ℕ) (kind : ErrorKind) (bytes : List ℕ) → count_end form ≤ length bytes
-    → 0 < count_end form → RefusesCount form limit kind bytes (count_of form (number bytes))
-    → RefusesFlat form limit kind bytes
-past_empty form limit kind bytes there some after = inr (λ none. absurd (omega (arith, ap length none)), inr (λ short. absurd (omega arith), after))
+past_empty : (form : FlatForm) (rule : Padding) (limit : Option ℕ) (kind : ErrorKind) (bytes : List ℕ) → count_end form ≤ length bytes
+    → 0 < count_end form → RefusesCount form rule limit kind bytes (count_of form (number bytes))
+    → RefusesFlat form rule limit kind bytes
+past_empty form rule limit kind bytes there some after = inr (λ none. absurd (omega (arith, ap length none)), inr (λ short. absurd (omega arith), after))
 
 -- the first field, or the first word, is cut
-pub cut_first : (form : FlatForm) (limit : Option ℕ) (bytes : List ℕ) → 0 < length bytes → length bytes < count_end form → RefusesFlat form limit (cut_kind form (length bytes)) bytes
-cut_first form limit bytes some short = inr (λ none. absurd (omega (arith, ap length none)), inl (short, refl))
+pub cut_first : (form : FlatForm) (rule : Padding) (limit : Option ℕ) (bytes : List ℕ) → 0 < length bytes → length bytes < count_end form → RefusesFlat form rule limit (cut_kind form (length bytes)) bytes
+cut_first form rule limit bytes some short = inr (λ none. absurd (omega (arith, ap length none)), inl (short, refl))
 
 -- the number of segments is out of range
-pub count_out : (form : FlatForm) (limit : Option ℕ) (bytes : List ℕ) (count : ℕ) → count_end form ≤ length bytes
+pub count_out : (form : FlatForm) (rule : Padding) (limit : Option ℕ) (bytes : List ℕ) (count : ℕ) → count_end form ≤ length bytes
     → 0 < count_end form → count_of form (number bytes) ≡ count → IsOutOfRange count
-    → RefusesFlat form limit (InvalidNumberOfSegments count) bytes
-count_out form limit bytes count there some is out = past_empty form limit (InvalidNumberOfSegments count) bytes there
-    some (subst (RefusesCount form limit (InvalidNumberOfSegments count) bytes) (sym is) (inl (out, refl)))
+    → RefusesFlat form rule limit (InvalidNumberOfSegments count) bytes
+count_out form rule limit bytes count there some is out = past_empty form rule limit (InvalidNumberOfSegments count) bytes there
+    some (subst (RefusesCount form rule limit (InvalidNumberOfSegments count) bytes) (sym is) (inl (out, refl)))
 
 -- the lengths are cut
-pub cut_lengths : (form : FlatForm) (limit : Option ℕ) (bytes : List ℕ) (count : ℕ) → count_end form ≤ length bytes
+pub cut_lengths : (form : FlatForm) (rule : Padding) (limit : Option ℕ) (bytes : List ℕ) (count : ℕ) → count_end form ≤ length bytes
     → 0 < count_end form → count_of form (number bytes) ≡ count → 0 < count → count < 512
-    → length bytes < lengths_end form count → RefusesFlat form limit (cut_kind form (length bytes)) bytes
-cut_lengths form limit bytes count there first is some few short = past_empty form limit (cut_kind form (length bytes))
-    bytes there first (subst (RefusesCount form limit (cut_kind form (length bytes)) bytes) (sym is)
+    → length bytes < lengths_end form count → RefusesFlat form rule limit (cut_kind form (length bytes)) bytes
+cut_lengths form rule limit bytes count there first is some few short = past_empty form rule limit (cut_kind form (length bytes))
+    bytes there first (subst (RefusesCount form rule limit (cut_kind form (length bytes)) bytes) (sym is)
     (inr (in_range count some few, inl (short, refl))))
 
 -- what is met behind the lengths
-pub past_lengths : (form : FlatForm) (limit : Option ℕ) (kind : ErrorKind) (bytes : List ℕ) (count : ℕ)
+pub past_lengths : (form : FlatForm) (rule : Padding) (limit : Option ℕ) (kind : ErrorKind) (bytes : List ℕ) (count : ℕ)
     → count_end form ≤ length bytes → 0 < count_end form → count_of form (number bytes) ≡ count → 0 < count
     → count < 512 → lengths_end form count ≤ length bytes
-    → RefusesLengths form limit kind bytes count (told_lengths count bytes) → RefusesFlat form limit kind bytes
-past_lengths form limit kind bytes count there first is some few all after = past_empty form limit kind bytes there
-    first (subst (RefusesCount form limit kind bytes) (sym is)
+    → RefusesLengths form rule limit kind bytes count (told_lengths count bytes) → RefusesFlat form rule limit kind bytes
+past_lengths form rule limit kind bytes count there first is some few all after = past_empty form rule limit kind bytes there
+    first (subst (RefusesCount form rule limit kind bytes) (sym is)
     (inr (in_range count some few, inr (λ short. absurd (omega arith), after))))
 
 -- the segments are cut
-pub cut_segments : (form : FlatForm) (limit : Option ℕ) (bytes : List ℕ) (count total : ℕ)
-    → KeepsLimit (told_lengths count bytes) limit → table_size count ≤ length bytes
+pub cut_segments : (form : FlatForm) (rule : Padding) (limit : Option ℕ) (bytes : List ℕ) (count total : ℕ)
+    → KeepsLimit (told_lengths count bytes) limit → KeepsPadding rule (told_padding count bytes) → table_size count ≤ length bytes
     → total ≡ sum (told_lengths count bytes) → length bytes < table_size count + 8 * total
-    → RefusesLengths form limit (MessageEndsPrematurely total ((length bytes - table_size count) / 8)) bytes count
+    → RefusesLengths form rule limit (MessageEndsPrematurely total ((length bytes - table_size count) / 8)) bytes count
     (told_lengths count bytes)
-cut_segments form limit bytes count total keeps room is short =
+cut_segments form rule limit bytes count total keeps kept room is short =
     inr (
       within_limit (told_lengths count bytes) limit keeps,
       inr (
         λ cut. absurd (omega arith),
-        subst (CutsSegments
-            (MessageEndsPrematurely total ((length bytes - table_size count) / 8)) bytes count) is (short, refl),
+        inr (
+          λ broken. broken kept,
+          subst (CutsSegments
+              (MessageEndsPrematurely total ((length bytes - table_size count) / 8)) bytes count) is (short, refl),
+        ),
       ),
     )
 
 -- a message that stands at the front and is accepted isn't refused
-pub RefusesFlat-apart : (form : FlatForm) (limit : Option ℕ) (kind : ErrorKind) (bytes : List ℕ)
-    (segments : List (List ℕ)) (rest : List ℕ) → HasFrame bytes segments rest → IsWithin segments limit
-    → RefusesFlat form limit kind bytes → ⊥
-RefusesFlat-apart form limit kind bytes segments rest begins within =
-    let held = held_from_begins bytes segments rest limit begins within in
+pub RefusesFlat-apart : (form : FlatForm) (rule : Padding) (limit : Option ℕ) (kind : ErrorKind) (bytes : List ℕ)
+    (segments : List (List ℕ)) (rest : List ℕ) → HasFrame rule bytes segments rest → IsWithin segments limit
+    → RefusesFlat form rule limit kind bytes → ⊥
+RefusesFlat-apart form rule limit kind bytes segments rest begins within =
+    let held = held_from_begins rule bytes segments rest limit begins within in
     let count = length segments in
     let told = held.count in
     let few = held.holds.table.few in
@@ -93,10 +99,11 @@ RefusesFlat-apart form limit kind bytes segments rest begins within =
     let less = within_table form count in
     Unless-after (λ none. absurd (omega (arith, ap length none)))
     (Unless-after (λ short. absurd (omega arith)) (λ x.
-    let counted_so : RefusesCount form limit kind bytes count = subst (RefusesCount form limit kind bytes) told_count x in
+    let counted_so : RefusesCount form rule limit kind bytes count = subst (RefusesCount form rule limit kind bytes) told_count x in
     Unless-after (in_range count some few) (Unless-after (λ short. absurd (omega arith))
     (Unless-after (within_limit (told_lengths count bytes) limit keeps)
-    (Unless-after (λ short. absurd (omega arith)) (λ cuts. let short = cuts.0 in absurd (omega arith)))))
+    (Unless-after (λ short. absurd (omega arith)) (Unless-after (λ broken. broken held.padding)
+    (λ cuts. let short = cuts.0 in absurd (omega arith))))))
     counted_so))
   where
     counted : (form : FlatForm) (last count : ℕ) → last + 1 ≡ count → count < 512 → count_of form last ≡ count
@@ -113,12 +120,20 @@ RefusesFlat-apart form limit kind bytes segments rest begins within =
 
 -- the stream reader's table over a slice
 
-pub told_by_requests : (bytes ns rest : List ℕ) → TableStands Splits ns bytes rest → length ns < 512 → Told bytes ns × (length bytes ≡ table_size (length ns) + length rest)
-told_by_requests bytes ns rest stands few =
+pub told_by_requests : (rule : Padding) (bytes ns rest : List ℕ) → TableStands rule Splits ns bytes rest → length ns < 512 → Told rule bytes ns × (length bytes ≡ table_size (length ns) + length rest)
+told_by_requests rule bytes ns rest stands few =
     let table = stands.first ++ stands.others in
     let bytes_are : bytes ≡ table ++ rest = stands.first_given.0 ∙ ap (λ l. stands.first ++ l) stands.others_given.0 ∙ sym (append_assoc stands.first stands.others rest) in
     let long = length-table table ns stands.table in
-    (subst (λ l. Told l ns) (sym bytes_are) (told_from_table table rest ns stands.table few), ap length bytes_are ∙ length-append table rest ∙ omega arith)
+    (subst (λ l. Told rule l ns) (sym bytes_are) (told_from_table table rest ns stands.table few), ap length bytes_are ∙ length-append table rest ∙ omega arith)
+
+-- the table at the front keeps the rule where its padding there does
+front_table : (rule : Padding) (bytes table rest ns : List ℕ) → bytes ≡ table ++ rest → IsTable Any table ns → Told Any bytes ns
+    → KeepsPadding rule (told_padding (length ns) bytes) → IsTable rule table ns
+front_table rule bytes table rest ns is any told kept =
+    let size = table_size (length ns) in
+    let front : take size bytes ≡ table = ap (take size) is ∙ take_at table rest size (omega (arith, length-table table ns any)) in
+    subst (IsTable rule table) told.lengths (subst (λ l. IsTable rule l (told_lengths (length ns) bytes)) front (table_is rule bytes (length ns) told.tells kept))
 
 below_range : (count : ℕ) → (IsOutOfRange count → ⊥) → count < 512
 below_range count range = elim (cases_lt count 512) [ inl few ↦ few | inr many ↦ absurd (range (inr many)) ]
@@ -142,15 +157,15 @@ count_accepted empty bytes left stands =
     let long = told.0 in
     (omega arith, subst (λ k. IsOutOfRange k → ⊥) (sym told.1) stands.accepted)
 
-pub words_refused : (empty : ErrorKind) (limit : Option ℕ) (kind : ErrorKind) (bytes left : List ℕ)
-    → RefusesTable Splits RunsShort limit None kind bytes left → RefusesFlat (by_words empty) limit kind bytes
-words_refused empty limit kind bytes left (inl lacks) = absurd lacks.0
-words_refused empty limit kind bytes left (inr (room, (some, inl (short, is)))) = inr (some, inl (short, is))
-words_refused empty limit kind bytes left (inr (room, (some, inr (word, between, given, (count, tells, after))))) = inr (
+pub words_refused : (empty : ErrorKind) (rule : Padding) (limit : Option ℕ) (kind : ErrorKind) (bytes left : List ℕ)
+    → RefusesTable rule Splits RunsShort limit None kind bytes left → RefusesFlat (by_words empty) rule limit kind bytes
+words_refused empty rule limit kind bytes left (inl lacks) = absurd lacks.0
+words_refused empty rule limit kind bytes left (inr (room, (some, inl (short, is)))) = inr (some, inl (short, is))
+words_refused empty rule limit kind bytes left (inr (room, (some, inr (word, between, given, (count, tells, after))))) = inr (
   some,
   inr (
     λ short. absurd (omega (arith, long)),
-    subst (RefusesCount (by_words empty) limit kind bytes) (sym same) (counted after),
+    subst (RefusesCount (by_words empty) rule limit kind bytes) (sym same) (counted after),
   ),
 )
   where
@@ -163,15 +178,27 @@ words_refused empty limit kind bytes left (inr (room, (some, inr (word, between,
     same : count_of (by_words empty) (number bytes) ≡ count
     same = told.1
 
+    -- the limit's line, and the padding's
+    lines : (ns others behind : List ℕ) → (length bytes ≡ table_size (length ns) + length behind) → Told Any bytes ns → count ≡ length ns
+        → bytes ≡ (word ++ others) ++ behind → IsTable Any (word ++ others) ns
+        → Unless (IsTooLarge ns limit) (StopsBy (MessageTooLarge (sum ns)) kind behind left)
+        (Unless (BreaksPadding rule (word ++ others) ns) (StopsBy NonZeroPadding kind behind left) ⊥)
+        → RefusesLengths (by_words empty) rule limit kind bytes count ns
+    lines ns others behind room told exact is any (inl (over, stops)) = inl (over, stops.0)
+    lines ns others behind room told exact is any (inr (keeps, inr (taken, never))) = absurd never
+    lines ns others behind room told exact is any (inr (keeps, inl (breaks, stops))) =
+        let table = λ (kept : KeepsPadding rule (told_padding count bytes)). front_table rule bytes (word ++ others) behind ns is any told
+        (subst (λ k. KeepsPadding rule (told_padding k bytes)) exact kept) in
+        inr (keeps, inr (λ short. absurd (omega arith), inl ((λ kept. breaks (table kept)), stops.0)))
+
     limited : (others behind : List ℕ) → (IsOutOfRange count → ⊥) → Splits between (8 * (count / 2)) others behind
-        → RefusesAtLimit limit kind (λ ns behind. ⊥) left word others behind
-        → RefusesCount (by_words empty) limit kind bytes count
-    limited others behind range split (ns, table, inr met) = absurd met.1
-    limited others behind range split (ns, table, inl (over, stops)) =
+        → RefusesAtLimit rule limit kind (λ ns behind. ⊥) left word others behind
+        → RefusesCount (by_words empty) rule limit kind bytes count
+    limited others behind range split (ns, table, met) =
         let few = below_range count range in
         let many = count_told word others ns tells.0 table given.1 tells.2 tells.1 in
         let exact : count ≡ length ns = counts tells.0 count (length ns) tells.3 many table.can.count few (above_range count range) in
-        let stands : TableStands Splits ns bytes behind = record {
+        let stands : TableStands Any Splits ns bytes behind = record {
           first = word;
           others = others;
           between = between;
@@ -180,15 +207,16 @@ words_refused empty limit kind bytes left (inr (room, (some, inr (word, between,
               (λ k. Splits between (8 * (k / 2)) others behind) exact split;
           table = table;
         } in
-        let told = told_by_requests bytes ns behind stands (omega arith) in
+        let told = told_by_requests Any bytes ns behind stands (omega arith) in
         let lens : told_lengths count bytes ≡ ns = ap (λ k. told_lengths k bytes) exact ∙ told.0.lengths in
         let room = told.1 in
-        inr (range, inr (λ short. absurd (omega arith), subst (RefusesLengths (by_words empty) limit kind bytes count) (sym lens) (inl (over, stops.0))))
+        let bytes_are : bytes ≡ (word ++ others) ++ behind = given.0 ∙ ap (λ l. word ++ l) split.0 ∙ sym (append_assoc word others behind) in
+        inr (range, inr (λ short. absurd (omega arith), subst (RefusesLengths (by_words empty) rule limit kind bytes count) (sym lens) (lines ns others behind told.1 told.0 exact bytes_are table met)))
 
     counted : Unless (IsOutOfRange count) (StopsBy (InvalidNumberOfSegments count) kind between left)
         (Unless (LacksRoom None (table_size count)) (StopsBy BufferNotLargeEnough kind between left)
-        (Asks Splits RunsShort kind between (8 * (count / 2)) (RefusesAtLimit limit kind (λ ns behind. ⊥) left word)))
-        → RefusesCount (by_words empty) limit kind bytes count
+        (RefusesRest rule Splits RunsShort limit kind (λ ns behind. ⊥) left word count between))
+        → RefusesCount (by_words empty) rule limit kind bytes count
     counted (inl (out, stops)) = inl (out, stops.0)
     counted (inr (range, inl lacks)) = absurd lacks.0
     counted (inr (range, inr (room, inl (short, is)))) = inr (range, inl (omega (arith, long), is))

@@ -5,9 +5,10 @@ use Rattle.std.specs.Result.{IsErrAnd}
 use Rattle.capnp_frame.specs.declared.error.Error.{Error}
 use Rattle.capnp_frame.specs.declared.error.ErrorKind.{ErrorKind}
 use Rattle.capnp_frame.specs.declared.error.ErrorKind.TheVariants.{OutOfMemory}
-use Rattle.capnp_frame.specs.SegmentTable.{table_size}
+use Rattle.capnp_frame.specs.declared.serialize.segment_table.Padding.{Padding}
+use Rattle.capnp_frame.specs.SegmentTable.{table_size, KeepsPadding}
 use Rattle.capnp_frame.specs.Limits.{KeepsLimit}
-use Rattle.capnp_frame.specs.Front.{told_lengths, told_segments, HoldsMessage}
+use Rattle.capnp_frame.specs.Front.{told_lengths, told_padding, told_segments, HoldsMessage}
 use Rattle.capnp_frame.specs.FlatRefusals.{FlatForm, by_words, by_fields, AcceptsCount, RefusesFlat}
 use Rattle.capnp_frame.specs.FlatReaders.{FlatRules, StandsBy, RefusesBy, Leaves, OrLacksMemory, Accepts, ReadsFlat}
 use Rattle.capnp_frame.proofs.FrontLemmas.{found_from_held, within_told}
@@ -16,23 +17,23 @@ use Rattle.capnp_frame.proofs.FlatLemmas.{RefusesFlat-once, RefusesFlat-apart}
 -- no line holds where a message stands
 stands_apart : (rules : FlatRules) (kind : ErrorKind) (bytes rest : List ℕ) (message : List (List ℕ)) → StandsBy rules message bytes rest → RefusesBy rules kind bytes → ⊥
 stands_apart rules kind bytes rest message begins =
-    RefusesFlat-apart rules.form rules.limit kind bytes message rest (begins.text, begins.is_text, begins.spelled) begins.within
+    RefusesFlat-apart rules.form rules.padding rules.limit kind bytes message rest (begins.text, begins.is_text, begins.spelled) begins.within
 
 -- where it fails, it is by its rules
 
-lacks_alone : (X : Type 0) (form : FlatForm) (limit : Option ℕ) (bytes : List ℕ) (error : Error)
-    → OrLacksMemory form ((error.kind ≡ OutOfMemory) × AcceptsCount form bytes) (RefusesFlat form limit error.kind bytes)
-    → (RefusesFlat form limit error.kind bytes → ⊥) → Accepts {X = X} form (Err error)
-lacks_alone X (by_words empty) limit bytes error (inl lacks) none = lacks.0
-lacks_alone X (by_words empty) limit bytes error (inr met) none = absurd (none met)
-lacks_alone X by_fields limit bytes error met none = absurd (none met)
+lacks_alone : (X : Type 0) (form : FlatForm) (rule : Padding) (limit : Option ℕ) (bytes : List ℕ) (error : Error)
+    → OrLacksMemory form ((error.kind ≡ OutOfMemory) × AcceptsCount form bytes) (RefusesFlat form rule limit error.kind bytes)
+    → (RefusesFlat form rule limit error.kind bytes → ⊥) → Accepts {X = X} form (Err error)
+lacks_alone X (by_words empty) rule limit bytes error (inl lacks) none = lacks.0
+lacks_alone X (by_words empty) rule limit bytes error (inr met) none = absurd (none met)
+lacks_alone X by_fields rule limit bytes error met none = absurd (none met)
 
-first_line : (form : FlatForm) (limit : Option ℕ) (bytes : List ℕ) (own kind : ErrorKind)
-    → OrLacksMemory form ((own ≡ OutOfMemory) × AcceptsCount form bytes) (RefusesFlat form limit own bytes)
-    → RefusesFlat form limit kind bytes → OrLacksMemory form (own ≡ OutOfMemory) (own ≡ kind)
-first_line (by_words empty) limit bytes own kind (inl lacks) line = inl lacks.0
-first_line (by_words empty) limit bytes own kind (inr met) line = inr (RefusesFlat-once (by_words empty) limit own kind bytes met line)
-first_line by_fields limit bytes own kind met line = RefusesFlat-once by_fields limit own kind bytes met line
+first_line : (form : FlatForm) (rule : Padding) (limit : Option ℕ) (bytes : List ℕ) (own kind : ErrorKind)
+    → OrLacksMemory form ((own ≡ OutOfMemory) × AcceptsCount form bytes) (RefusesFlat form rule limit own bytes)
+    → RefusesFlat form rule limit kind bytes → OrLacksMemory form (own ≡ OutOfMemory) (own ≡ kind)
+first_line (by_words empty) rule limit bytes own kind (inl lacks) line = inl lacks.0
+first_line (by_words empty) rule limit bytes own kind (inr met) line = inr (RefusesFlat-once (by_words empty) rule limit own kind bytes met line)
+first_line by_fields rule limit bytes own kind met line = RefusesFlat-once by_fields rule limit own kind bytes met line
 
 pub reads_none : {X : Type 0} (rules : FlatRules) (bytes : List ℕ) (left : Option (List ℕ)) (segments : X → List (List ℕ))
     (error : Error) (result : Result X Error) → IsErrAnd result (λ own. own ≡ error) → IfSome left (λ left. left ≡ bytes)
@@ -42,10 +43,10 @@ reads_none rules bytes left segments error (Ok x) is stays refused = absurd is
 reads_none {X} rules bytes left segments error (Err own) is stays refused =
     subst (λ e. ReadsFlat rules bytes left segments (Err e)) (sym is) (record {
       found = tt;
-      accepted = λ message rest begins. lacks_alone X rules.form rules.limit bytes error refused (stands_apart rules error.kind bytes rest message begins);
+      accepted = λ message rest begins. lacks_alone X rules.form rules.padding rules.limit bytes error refused (stands_apart rules error.kind bytes rest message begins);
       unchanged = stays;
       refused = refused;
-      exact = λ kind line. first_line rules.form rules.limit bytes error.kind kind refused line;
+      exact = λ kind line. first_line rules.form rules.padding rules.limit bytes error.kind kind refused line;
     })
 
 -- where it finds a message, that stands there
@@ -60,12 +61,12 @@ leaves (Some left) stands rest is begins = subst stands (sym is) begins
 
 pub reads_held : {X : Type 0} (rules : FlatRules) (bytes : List ℕ) (left : Option (List ℕ)) (segments : X → List (List ℕ)) (x : X)
     (count : ℕ) → HoldsMessage bytes count → segments x ≡ told_segments count bytes
-    → KeepsLimit (told_lengths count bytes) rules.limit
+    → KeepsLimit (told_lengths count bytes) rules.limit → KeepsPadding rules.padding (told_padding count bytes)
     → IfSome left (λ left. left ≡ drop (table_size count + 8 * sum (told_lengths count bytes)) bytes)
     → ReadsFlat rules bytes left segments (Ok x)
-reads_held rules bytes left segments x count holds are keeps is =
+reads_held rules bytes left segments x count holds are keeps kept is =
     let rest = drop (table_size count + 8 * sum (told_lengths count bytes)) bytes in
-    let frame = (found_from_held bytes count holds).begins in
+    let frame = (found_from_held rules.padding bytes count holds kept).begins in
     let begins : StandsBy rules (segments x) bytes rest = subst (λ l. StandsBy rules l bytes rest) (sym are) (record {
       text = frame.0;
       is_text = frame.1;

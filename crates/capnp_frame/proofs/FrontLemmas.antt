@@ -10,16 +10,25 @@ use Rattle.std.specs.Prelude.{sum, slice_get}
 use Rattle.std.specs.List.{concat, flat_map, AllByRecursion}
 use Rattle.std.specs.Int.{w32, from_le_bytes}
 use Rattle.capnp_frame.specs.Message.{IsWholeWords, lengths, size_in_words}
-use Rattle.capnp_frame.specs.SegmentTable.{field, FitsField, table_size, padding_len, IsTable}
+use Rattle.capnp_frame.specs.declared.serialize.segment_table.Padding.{Padding}
+use Rattle.capnp_frame.specs.declared.serialize.segment_table.Padding.TheVariants.{Any}
+use Rattle.capnp_frame.specs.SegmentTable.{field, FitsField, table_size, padding_len, KeepsPadding, IsTable}
 use Rattle.capnp_frame.specs.SegmentLengths.{cut}
 use Rattle.capnp_frame.specs.Limits.{KeepsLimit, AreWithin, IsWithin}
-use Rattle.capnp_frame.specs.Front.{HasFrame, number, numbers, told_lengths, told_segments, SpellsLengths, TellsTable, HoldsMessage}
+use Rattle.capnp_frame.specs.Front.{HasFrame, number, numbers, told_lengths, told_padding, told_segments, SpellsLengths, TellsTable, HoldsMessage}
 use Rattle.capnp_frame.proofs.Ranges.{concat-cut, length-cut, sum_push}
-use Rattle.capnp_frame.proofs.TableLemmas.{length-fields, AllByRecursion-push}
+use Rattle.capnp_frame.proofs.TableLemmas.{length-fields, AllByRecursion-push, padding_at}
 use Rattle.capnp_frame.proofs.RequestLemmas.{lengths-cut}
 use Rattle.capnp_frame.proofs.FrameLemmas.{length-table, length-segments}
 use Rattle.capnp_frame.proofs.TextLemmas.{frames_part}
 use Rattle.capnp_frame.proofs.WritingLemmas.{length-lengths}
+
+-- the front of a front
+take-take : {X : Type 0} (m n : ℕ) (xs : List X) → m ≤ n → take m (take n xs) ≡ take m xs
+take-take zero n xs less = refl
+take-take (suc m) zero xs less = absurd (omega arith)
+take-take (suc m) (suc n) [] less = refl
+take-take (suc m) (suc n) (x ∷ xs) less = ap (λ l. x ∷ l) (take-take m n xs (omega arith))
 
 -- numbers in fields
 
@@ -89,39 +98,46 @@ pub length-told : (count : ℕ) (bytes : List ℕ) → length (told_lengths coun
 length-told count bytes = length-numbers count (drop 4 bytes)
 
 -- the bytes of the table are one
-pub table_is : (bytes : List ℕ) (count : ℕ) → TellsTable bytes count → IsTable (take (table_size count) bytes) (told_lengths count bytes)
-table_is bytes count tells =
+pub table_is : (rule : Padding) (bytes : List ℕ) (count : ℕ) → TellsTable bytes count → KeepsPadding rule (told_padding count bytes) → IsTable rule (take (table_size count) bytes) (told_lengths count bytes)
+table_is rule bytes count tells kept =
     let ns = told_lengths count bytes in
     let len = length-told count bytes in
     let some = tells.some in
     let few = tells.few in
     let room = tells.room in
-    let more = table_size count - (4 + 4 * count) in
-    let padding = take more (drop (4 + 4 * count) bytes) in
-    let whole : 4 + 4 * count + more ≡ table_size count = omega arith in
+    let table = take (table_size count) bytes in
+    let fields : take (4 * (count + 1)) table ≡ take (4 * (count + 1)) bytes = take-take (4 * (count + 1)) (table_size count) bytes (omega arith) in
+    let place : 4 * (count + 1) ≡ 4 + 4 * count = omega arith in
     let front : take (4 + 4 * count) bytes ≡ field (length ns - 1) ++ flat_map field ns = take-add 4 (4 * count) bytes
     ∙ ap (λ l. l ++ take (4 * count) (drop 4 bytes)) (sym tells.counted)
     ∙ ap (λ l. field (count - 1) ++ l) (sym tells.lengths.spelled)
     ∙ ap (λ k. field (k - 1) ++ flat_map field ns) (sym len) in
-    let padded : length padding ≡ padding_len ns = length-take-le more (drop (4 + 4 * count) bytes) (omega (arith, length-drop (4 + 4 * count) bytes)) ∙ padding_is count (length ns) (sym len) in
+    let padded : length (told_padding count bytes) ≡ padding_len ns = length-drop (4 * (count + 1)) table ∙ ap (λ k. k - 4 * (count + 1)) (length-take-le (table_size count) bytes room) ∙ padding_is count (length ns) (sym len) in
     record {
       can = record { some = omega arith; count = omega arith; each = tells.lengths.each };
-      padding = padding;
+      padding = told_padding count bytes;
       padded = padded;
-      spelled = ap (λ k. take k bytes) (sym whole) ∙ take-add (4 + 4 * count) more bytes ∙ ap (λ l. l ++ padding) front;
+      kept = kept;
+      spelled = sym (take-append-drop (4 * (count + 1)) table) ∙ ap (λ l. l ++ told_padding count bytes) (fields ∙ ap (λ k. take k bytes) place ∙ front);
     }
   where
-    padding_is : (count many : ℕ) → count ≡ many → table_size count - (4 + 4 * count) ≡ 4 * ((many + 1) % 2)
+    padding_is : (count many : ℕ) → count ≡ many → table_size count - 4 * (count + 1) ≡ 4 * ((many + 1) % 2)
     padding_is count many same = omega arith
 
+-- and where they are one, its padding is taken
+pub padding_told : (rule : Padding) (bytes : List ℕ) (count : ℕ) → IsTable rule (take (table_size count) bytes) (told_lengths count bytes) → KeepsPadding rule (told_padding count bytes)
+padding_told rule bytes count table =
+    subst (KeepsPadding rule) (sym (padding_at (take (table_size count) bytes) (told_lengths count bytes) count table (sym (length-told count bytes)))) table.kept
+
 -- a table at the front is told
-pub record Told (bytes ns : List ℕ) : Type 0 where
+pub record Told (rule : Padding) (bytes ns : List ℕ) : Type 0 where
   pub tells : TellsTable bytes (length ns)
   pub lengths : told_lengths (length ns) bytes ≡ ns
+  pub padding : KeepsPadding rule (told_padding (length ns) bytes)
   pub count : number bytes + 1 ≡ length ns
 
-pub told_from_table : (table rest ns : List ℕ) → IsTable table ns → length ns < 512 → Told (table ++ rest) ns
-told_from_table table rest ns is few =
+pub told_from_table : {rule : Padding} (table rest ns : List ℕ) → IsTable rule table ns → length ns < 512 → Told rule (table ++ rest) ns
+told_from_table {rule} table rest ns is few =
     let count = length ns in
     let some = is.can.some in
     let behind = flat_map field ns ++ (is.padding ++ rest) in
@@ -144,16 +160,11 @@ told_from_table table rest ns is few =
         room = omega (arith, length-table table ns is, length-append table rest);
       };
       lengths = told;
+      padding = subst (KeepsPadding rule) (sym (ap (drop (4 * (count + 1))) (take_at table rest (table_size count) (omega (arith, length-table table ns is))) ∙ padding_at table ns count is refl)) is.kept;
       count = omega arith;
     }
 
 -- segments
-
-take-take : {X : Type 0} (m n : ℕ) (xs : List X) → m ≤ n → take m (take n xs) ≡ take m xs
-take-take zero n xs less = refl
-take-take (suc m) zero xs less = absurd (omega arith)
-take-take (suc m) (suc n) [] less = refl
-take-take (suc m) (suc n) (x ∷ xs) less = ap (λ l. x ∷ l) (take-take m n xs (omega arith))
 
 -- only so many bytes are cut
 pub cut-take : (ns bytes : List ℕ) → cut ns bytes ≡ cut ns (take (8 * sum ns) bytes)
@@ -168,12 +179,12 @@ cut-take (n ∷ ns) bytes =
     ∙ ap (λ l. l ∷ cut ns (drop (8 * n) (take (8 * sum (n ∷ ns)) bytes))) (sym first)
 
 -- a message that is held stands at the front
-pub record Found (bytes : List ℕ) (count : ℕ) : Type 0 where
-  pub begins : HasFrame bytes (told_segments count bytes) (drop (table_size count + 8 * sum (told_lengths count bytes)) bytes)
+pub record Found (rule : Padding) (bytes : List ℕ) (count : ℕ) : Type 0 where
+  pub begins : HasFrame rule bytes (told_segments count bytes) (drop (table_size count + 8 * sum (told_lengths count bytes)) bytes)
   pub lengths_are : lengths (told_segments count bytes) ≡ told_lengths count bytes
 
-pub found_from_held : (bytes : List ℕ) (count : ℕ) → HoldsMessage bytes count → Found bytes count
-found_from_held bytes count holds =
+pub found_from_held : (rule : Padding) (bytes : List ℕ) (count : ℕ) → HoldsMessage bytes count → KeepsPadding rule (told_padding count bytes) → Found rule bytes count
+found_from_held rule bytes count holds kept =
     let ns = told_lengths count bytes in
     let size = table_size count in
     let total = 8 * sum ns in
@@ -190,7 +201,7 @@ found_from_held bytes count holds =
         text,
         record {
           table = take size bytes;
-          lengths_told = subst (IsTable (take size bytes)) (sym are) (table_is bytes count holds.table);
+          lengths_told = subst (IsTable rule (take size bytes)) (sym are) (table_is rule bytes count holds.table kept);
           whole = subst (AllByRecursion IsWholeWords) (sym same) parts.1;
           spelled = take-add size total bytes ∙ ap (λ l. take size bytes ++ l) (sym joined);
         },
@@ -200,19 +211,20 @@ found_from_held bytes count holds =
     }
 
 -- and a message that stands at the front is held
-pub record Held (bytes : List ℕ) (segments : List (List ℕ)) : Type 0 where
+pub record Held (rule : Padding) (bytes : List ℕ) (segments : List (List ℕ)) : Type 0 where
   pub holds : HoldsMessage bytes (length segments)
   pub lengths_are : told_lengths (length segments) bytes ≡ lengths segments
+  pub padding : KeepsPadding rule (told_padding (length segments) bytes)
   pub count : number bytes + 1 ≡ length segments
   pub segments_are : told_segments (length segments) bytes ≡ segments
-  pub rest_is : (rest : List ℕ) → HasFrame bytes segments rest → rest ≡ drop (table_size (length segments) + 8 * size_in_words segments) bytes
+  pub rest_is : (rest : List ℕ) → HasFrame rule bytes segments rest → rest ≡ drop (table_size (length segments) + 8 * size_in_words segments) bytes
 
-pub held_from_begins : (bytes : List ℕ) (segments : List (List ℕ)) (rest : List ℕ) (limit : Option ℕ) → HasFrame bytes segments rest → IsWithin segments limit → Held bytes segments
-held_from_begins bytes segments rest limit (text, frame, is) within =
+pub held_from_begins : (rule : Padding) (bytes : List ℕ) (segments : List (List ℕ)) (rest : List ℕ) (limit : Option ℕ) → HasFrame rule bytes segments rest → IsWithin segments limit → Held rule bytes segments
+held_from_begins rule bytes segments rest limit (text, frame, is) within =
     let many = length-lengths segments in
     let few = within.few in
     let bytes_are : bytes ≡ frame.table ++ (concat segments ++ rest) = is ∙ ap (λ l. l ++ rest) frame.spelled ∙ append_assoc frame.table (concat segments) rest in
-    let told : Told bytes (lengths segments) = subst (λ l. Told l (lengths segments)) (sym bytes_are)
+    let told : Told rule bytes (lengths segments) = subst (λ l. Told rule l (lengths segments)) (sym bytes_are)
     (told_from_table frame.table (concat segments ++ rest) (lengths segments) frame.lengths_told few) in
     let told_are : told_lengths (length segments) bytes ≡ lengths segments = subst (λ k. told_lengths k bytes ≡ lengths segments) many told.lengths in
     let tells : TellsTable bytes (length segments) = subst (TellsTable bytes) many told.tells in
@@ -223,13 +235,15 @@ held_from_begins bytes segments rest limit (text, frame, is) within =
     let body_len = length-segments segments frame.whole in
     let total : sum (told_lengths (length segments) bytes) ≡ size_in_words segments = ap sum told_are in
     let holds : HoldsMessage bytes (length segments) = record { table = tells; room = omega arith } in
-    let found = found_from_held bytes (length segments) holds in
-    let parts = λ (left : List ℕ) (begins : HasFrame bytes segments left). frames_part found.begins.0 begins.0
+    let kept : KeepsPadding rule (told_padding (length segments) bytes) = subst (λ k. KeepsPadding rule (told_padding k bytes)) many told.padding in
+    let found = found_from_held rule bytes (length segments) holds kept in
+    let parts = λ (left : List ℕ) (begins : HasFrame rule bytes segments left). frames_part found.begins.0 begins.0
     (drop (table_size (length segments) + 8 * sum (told_lengths (length segments) bytes)) bytes) left
     (told_segments (length segments) bytes) segments found.begins.1 begins.1 (sym found.begins.2 ∙ begins.2) in
     record {
       holds = holds;
       lengths_are = told_are;
+      padding = kept;
       count = told.count ∙ many;
       segments_are = (parts rest (text, frame, is)).1;
       rest_is = λ left begins. sym (parts left begins).2 ∙ ap (λ k. drop (table_size (length segments) + 8 * k) bytes) total;
@@ -241,7 +255,7 @@ within_told bytes count limit holds keeps =
     let len = length-told count bytes in
     let some = holds.table.some in
     let few = holds.table.few in
-    subst (λ l. AreWithin l limit) (sym (found_from_held bytes count holds).lengths_are) (record { some = omega arith; few = omega arith; each = holds.table.lengths.each; size = keeps })
+    subst (λ l. AreWithin l limit) (sym (found_from_held Any bytes count holds tt).lengths_are) (record { some = omega arith; few = omega arith; each = holds.table.lengths.each; size = keeps })
 
 pub length-told_segments : (count : ℕ) (bytes : List ℕ) → length (told_segments count bytes) ≡ count
 length-told_segments count bytes = length-cut (told_lengths count bytes) (drop (table_size count) bytes) ∙ length-told count bytes

@@ -7,13 +7,15 @@ use Rattle.capnp_frame.specs.declared.error.ErrorKind.{ErrorKind}
 use Rattle.capnp_frame.specs.declared.error.ErrorKind.TheVariants.{DeviceFailed, OutOfMemory, MessageEndsPrematurely}
 use Rattle.capnp_frame.specs.declared.serialize.segment_table_info.NoAllocSegmentTableInfo.{NoAllocSegmentTableInfo}
 use Rattle.capnp_frame.specs.Message.{size_in_words}
-use Rattle.capnp_frame.specs.SegmentTable.{table_size}
+use Rattle.capnp_frame.specs.declared.serialize.segment_table.Padding.{Padding}
+use Rattle.capnp_frame.specs.declared.serialize.segment_table.Padding.TheVariants.{Any}
+use Rattle.capnp_frame.specs.SegmentTable.{table_size, KeepsPadding}
 use Rattle.capnp_frame.specs.SegmentLengths.{ranges, range_len, cut}
 use Rattle.capnp_frame.specs.Limits.{KeepsLimit, AreWithin, IsWithin}
 use Rattle.capnp_frame.specs.Source.{Splits, RunsShort, IfKnown, Fails}
 use Rattle.capnp_frame.specs.Requests.{TableStands}
 use Rattle.capnp_frame.specs.Refusals.{CountStands, RefusesTable}
-use Rattle.capnp_frame.specs.Front.{HasFrame, IsDescribed, HaveSameNumbers, number, told_lengths, told_segments, HoldsMessage}
+use Rattle.capnp_frame.specs.Front.{HasFrame, IsDescribed, HaveSameNumbers, number, told_lengths, told_padding, told_segments, HoldsMessage}
 use Rattle.capnp_frame.specs.FlatRefusals.{by_words, by_fields, AcceptsCount, RefusesFlat}
 use Rattle.capnp_frame.proofs.AskLemmas.{never_fails}
 use Rattle.capnp_frame.proofs.Ranges.{widths}
@@ -22,10 +24,11 @@ use Rattle.capnp_frame.proofs.FlatLemmas.{RefusesFlat-apart, told_by_requests, c
 
 -- the frame at the front
 
-pub begins_held : (bytes : List ℕ) (count : ℕ) (segments : List (List ℕ)) → HoldsMessage bytes count → segments ≡ told_segments count bytes → (rest : List ℕ) × HasFrame bytes segments rest
-begins_held bytes count segments holds are =
+pub begins_held : (rule : Padding) (bytes : List ℕ) (count : ℕ) (segments : List (List ℕ)) → HoldsMessage bytes count
+    → KeepsPadding rule (told_padding count bytes) → segments ≡ told_segments count bytes → (rest : List ℕ) × HasFrame rule bytes segments rest
+begins_held rule bytes count segments holds kept are =
     let left = drop (table_size count + 8 * sum (told_lengths count bytes)) bytes in
-    (left, subst (λ l. HasFrame bytes l left) (sym are) (found_from_held bytes count holds).begins)
+    (left, subst (λ l. HasFrame rule bytes l left) (sym are) (found_from_held rule bytes count holds kept).begins)
 
 -- a slice that moved past it
 pub moved : (bytes : List ℕ) (count size total : ℕ) → size ≡ table_size count → total ≡ 8 * sum (told_lengths count bytes)
@@ -57,29 +60,29 @@ keeps_told bytes ns limit told within = subst (λ l. KeepsLimit l limit) (sym to
 
 -- the stream reader's table over a slice
 
-pub slice_refused : (empty : ErrorKind) (limit : Option ℕ) (kind : ErrorKind) (bytes left : List ℕ)
+pub slice_refused : (empty : ErrorKind) (rule : Padding) (limit : Option ℕ) (kind : ErrorKind) (bytes left : List ℕ)
     → (kind ≡ DeviceFailed → Fails 0 0) → (kind ≡ DeviceFailed)
     ⊎ ((kind ≡ OutOfMemory) × IfKnown (Some bytes) (Some left) (CountStands Splits))
-    ⊎ IfKnown (Some bytes) (Some left) (RefusesTable Splits RunsShort limit None kind)
-    → ((kind ≡ OutOfMemory) × AcceptsCount (by_words empty) bytes) ⊎ RefusesFlat (by_words empty) limit kind bytes
-slice_refused empty limit kind bytes left failed (inl device) = absurd (never_fails kind failed device)
-slice_refused empty limit kind bytes left failed (inr (inl memory)) = inl (memory.0, count_accepted empty bytes left memory.1)
-slice_refused empty limit kind bytes left failed (inr (inr met)) = inr (words_refused empty limit kind bytes left met)
+    ⊎ IfKnown (Some bytes) (Some left) (RefusesTable rule Splits RunsShort limit None kind)
+    → ((kind ≡ OutOfMemory) × AcceptsCount (by_words empty) bytes) ⊎ RefusesFlat (by_words empty) rule limit kind bytes
+slice_refused empty rule limit kind bytes left failed (inl device) = absurd (never_fails kind failed device)
+slice_refused empty rule limit kind bytes left failed (inr (inl memory)) = inl (memory.0, count_accepted empty bytes left memory.1)
+slice_refused empty rule limit kind bytes left failed (inr (inr met)) = inr (words_refused empty rule limit kind bytes left met)
 
-pub slice_holds : (bytes ns left : List ℕ) (limit : Option ℕ) (total : ℕ) → TableStands Splits ns bytes left
+pub slice_holds : (rule : Padding) (bytes ns left : List ℕ) (limit : Option ℕ) (total : ℕ) → TableStands rule Splits ns bytes left
     → AreWithin ns limit → total ≡ sum ns → 8 * total ≤ length left → HoldsMessage bytes (length ns)
-    × (told_lengths (length ns) bytes ≡ ns)
-slice_holds bytes ns left limit total stands within is room =
-    let told = told_by_requests bytes ns left stands within.few in
+    × (told_lengths (length ns) bytes ≡ ns) × KeepsPadding rule (told_padding (length ns) bytes)
+slice_holds rule bytes ns left limit total stands within is room =
+    let told = told_by_requests rule bytes ns left stands within.few in
     let long = told.1 in
     let sums : sum (told_lengths (length ns) bytes) ≡ sum ns = ap sum told.0.lengths in
-    (record { table = told.0.tells; room = omega arith }, told.0.lengths)
+    (record { table = told.0.tells; room = omega arith }, told.0.lengths, told.0.padding)
 
-pub slice_cut : (empty : ErrorKind) (bytes ns left : List ℕ) (limit : Option ℕ) (total : ℕ)
-    → TableStands Splits ns bytes left → AreWithin ns limit → total ≡ sum ns → length left < 8 * total
-    → RefusesFlat (by_words empty) limit (MessageEndsPrematurely total (length left / 8)) bytes
-slice_cut empty bytes ns left limit total stands within is short =
-    let told = told_by_requests bytes ns left stands within.few in
+pub slice_cut : (empty : ErrorKind) (rule : Padding) (bytes ns left : List ℕ) (limit : Option ℕ) (total : ℕ)
+    → TableStands rule Splits ns bytes left → AreWithin ns limit → total ≡ sum ns → length left < 8 * total
+    → RefusesFlat (by_words empty) rule limit (MessageEndsPrematurely total (length left / 8)) bytes
+slice_cut empty rule bytes ns left limit total stands within is short =
+    let told = told_by_requests rule bytes ns left stands within.few in
     let count = length ns in
     let long = told.1 in
     let some = within.some in
@@ -88,9 +91,9 @@ slice_cut empty bytes ns left limit total stands within is short =
     let counted : (number bytes + 1) % 2 ^ 32 ≡ count = small (number bytes) count number_is few in
     let behind : (length bytes - table_size count) / 8 ≡ length left / 8 = omega arith in
     let sums : total ≡ sum (told_lengths count bytes) = is ∙ ap sum (sym told.0.lengths) in
-    subst (λ k. RefusesFlat (by_words empty) limit (MessageEndsPrematurely total k) bytes) behind
-    (past_lengths (by_words empty) limit (MessageEndsPrematurely total ((length bytes - table_size count) / 8)) bytes count (omega arith) (omega arith) counted some few (omega arith)
-    (cut_segments (by_words empty) limit bytes count total (keeps_told bytes ns limit told.0.lengths within) (omega arith) sums (omega arith)))
+    subst (λ k. RefusesFlat (by_words empty) rule limit (MessageEndsPrematurely total k) bytes) behind
+    (past_lengths (by_words empty) rule limit (MessageEndsPrematurely total ((length bytes - table_size count) / 8)) bytes count (omega arith) (omega arith) counted some few (omega arith)
+    (cut_segments (by_words empty) rule limit bytes count total (keeps_told bytes ns limit told.0.lengths within) told.0.padding (omega arith) sums (omega arith)))
   where
     small : (last count : ℕ) → last + 1 ≡ count → count < 512 → (last + 1) % 2 ^ 32 ≡ count
     small last count is few = omega arith
@@ -100,14 +103,14 @@ slice_cut empty bytes ns left limit total stands within is short =
 pub described_held : (bytes : List ℕ) (info : NoAllocSegmentTableInfo) → IsDescribed bytes info
     → HoldsMessage bytes info.segments_count
 described_held bytes info d =
-    subst (HoldsMessage bytes) (sym d.count) (held_from_begins bytes d.segments d.rest None d.begins d.within).holds
+    subst (HoldsMessage bytes) (sym d.count) (held_from_begins Any bytes d.segments d.rest None d.begins d.within).holds
 
 pub held_described : (bytes : List ℕ) (info : NoAllocSegmentTableInfo) → HoldsMessage bytes info.segments_count
     → info.total_segments_length_bytes ≡ 8 * sum (told_lengths info.segments_count bytes)
     → info.segment_table_length_bytes ≡ table_size info.segments_count → IsDescribed bytes info
 held_described bytes info holds total table =
     let count = info.segments_count in
-    let found = found_from_held bytes count holds in
+    let found = found_from_held Any bytes count holds tt in
     let many : count ≡ length (told_segments count bytes) = sym (length-told_segments count bytes) in
     record {
       segments = told_segments count bytes;
@@ -122,8 +125,8 @@ held_described bytes info holds total table =
 -- one description fits a front
 pub described_once : (bytes : List ℕ) (found info : NoAllocSegmentTableInfo) → IsDescribed bytes found → IsDescribed bytes info → HaveSameNumbers found info
 described_once bytes found info d e =
-    let one = held_from_begins bytes d.segments d.rest None d.begins d.within in
-    let other = held_from_begins bytes e.segments e.rest None e.begins e.within in
+    let one = held_from_begins Any bytes d.segments d.rest None d.begins d.within in
+    let other = held_from_begins Any bytes e.segments e.rest None e.begins e.within in
     let many : length d.segments ≡ length e.segments = sym one.count ∙ other.count in
     let same : d.segments ≡ e.segments = sym one.segments_are ∙ ap (λ k. told_segments k bytes) many ∙ other.segments_are in
     record {
@@ -153,5 +156,5 @@ describes_found bytes found info b means holds table total =
     let described = held_described bytes found holds total table in
     (λ yes. same_described bytes found info (means.0 yes) described, λ d. means.1 (described_once bytes found info described d))
 
-pub describes_none : (kind : ErrorKind) (bytes : List ℕ) (info : NoAllocSegmentTableInfo) → RefusesFlat by_fields None kind bytes → IsTrue false ↔ IsDescribed bytes info
-describes_none kind bytes info met = (λ yes. absurd (false≢true yes), λ d. absurd (RefusesFlat-apart by_fields None kind bytes d.segments d.rest d.begins d.within met))
+pub describes_none : (kind : ErrorKind) (bytes : List ℕ) (info : NoAllocSegmentTableInfo) → RefusesFlat by_fields Any None kind bytes → IsTrue false ↔ IsDescribed bytes info
+describes_none kind bytes info met = (λ yes. absurd (false≢true yes), λ d. absurd (RefusesFlat-apart by_fields Any None kind bytes d.segments d.rest d.begins d.within met))

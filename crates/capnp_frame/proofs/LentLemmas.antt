@@ -8,6 +8,8 @@ use Rattle.capnp_frame.specs.declared.error.Error.{Error}
 use Rattle.capnp_frame.specs.declared.error.ErrorKind.{ErrorKind}
 use Rattle.capnp_frame.specs.declared.error.ErrorKind.TheVariants.{DeviceFailed, BufferNotLargeEnough}
 use Rattle.capnp_frame.specs.Message.{lengths, size_in_words}
+use Rattle.capnp_frame.specs.declared.serialize.segment_table.Padding.{Padding}
+use Rattle.capnp_frame.specs.declared.serialize.segment_table.Padding.TheVariants.{Any}
 use Rattle.capnp_frame.specs.SegmentTable.{table_size, IsTable}
 use Rattle.capnp_frame.specs.SegmentLengths.{cut}
 use Rattle.capnp_frame.specs.Limits.{KeepsLimit, AreWithin, IsWithin}
@@ -40,9 +42,9 @@ body_put before body count size len tells size_is len_is long room =
     let tail = body ++ post_of size len before in
     let after = front ++ tail in
     let front_len : length front ≡ size = length-take-le size before (omega arith) in
-    let table : IsTable front ns = subst (λ k. IsTable (take k before) ns) (sym size_is) (table_is before count tells) in
+    let table : IsTable Any front ns = subst (λ k. IsTable Any (take k before) ns) (sym size_is) (table_is Any before count tells tt) in
     let few = tells.few in
-    let told : Told after ns = told_from_table front tail ns table (omega arith) in
+    let told : Told Any after ns = told_from_table front tail ns table (omega arith) in
     let lens : told_lengths count after ≡ ns = subst (λ k. told_lengths k after ≡ ns) many told.lengths in
     let again : TellsTable after count = subst (TellsTable after) many told.tells in
     let sums : sum (told_lengths count after) ≡ sum ns = ap sum lens in
@@ -54,13 +56,13 @@ body_put before body count size len tells size_is len_is long room =
       segments_are = ap (λ l. cut l (drop (table_size count) after)) lens ∙ ap (cut ns) behind ∙ cut-take ns tail ∙ ap (cut ns) part;
     }
 
-pub message_stands : (gives : Giving) (before body after : List ℕ) (count len : ℕ) (old mid new : Option (List ℕ))
+pub message_stands : (rule : Padding) (gives : Giving) (before body after : List ℕ) (count len : ℕ) (old mid new : Option (List ℕ))
     → Filled before body after count → len ≡ 8 * sum (told_lengths count before) → length body ≡ len
-    → IfKnown old mid (TableStands gives (told_lengths count before))
+    → IfKnown old mid (TableStands rule gives (told_lengths count before))
     → IfKnown mid new (λ raw rest. gives raw (length body) body rest)
-    → IfKnown old new (MessageStands gives (told_segments count after))
-message_stands gives before body after count len old mid new filled len_is long table given =
-    subst (λ l. IfKnown old new (MessageStands gives l)) (sym filled.segments_are) (MessageStands-cut gives (told_lengths count before) body old mid new (long ∙ len_is) table given)
+    → IfKnown old new (MessageStands rule gives (told_segments count after))
+message_stands rule gives before body after count len old mid new filled len_is long table given =
+    subst (λ l. IfKnown old new (MessageStands rule gives l)) (sym filled.segments_are) (MessageStands-cut rule gives (told_lengths count before) body old mid new (long ∙ len_is) table given)
 
 pub filled_total : (before body after : List ℕ) (count total : ℕ) → Filled before body after count → total ≡ sum (told_lengths count before) → 8 * total ≡ 8 * sum (told_lengths count after)
 filled_total before body after count total filled is = ap (λ k. 8 * k) (is ∙ ap sum (sym filled.lengths_are))
@@ -78,20 +80,20 @@ told_within buffer count limit tells keeps =
     record { some = omega arith; few = omega arith; each = tells.lengths.each; size = keeps }
 
 -- a table was read to the front of a lent buffer: of so many segments and words, within the limit
-pub record IsRead (gives : Giving) (limit : Option ℕ) (buffer : List ℕ) (count total : ℕ) (old mid : Option (List ℕ)) : Type 0 where
-  pub found : IfKnown old mid (TableStands gives (told_lengths count buffer))
+pub record IsRead (rule : Padding) (gives : Giving) (limit : Option ℕ) (buffer : List ℕ) (count total : ℕ) (old mid : Option (List ℕ)) : Type 0 where
+  pub found : IfKnown old mid (TableStands rule gives (told_lengths count buffer))
   pub tells : TellsTable buffer count
   pub total_is : total ≡ sum (told_lengths count buffer)
   pub within : KeepsLimit (told_lengths count buffer) limit
 
 -- what the call that reads the table says where it finds one
-pub is_read : (gives : Giving) (limit : Option ℕ) (buffer : List ℕ) (count total : ℕ) (old mid : Option (List ℕ)) (found : Option (ℕ × ℕ))
+pub is_read : (rule : Padding) (gives : Giving) (limit : Option ℕ) (buffer : List ℕ) (count total : ℕ) (old mid : Option (List ℕ)) (found : Option (ℕ × ℕ))
     → found ≡ Some (count, total)
-    → IfSome found (λ table. IfKnown old mid (TableStands gives (told_lengths table.0 buffer)))
+    → IfSome found (λ table. IfKnown old mid (TableStands rule gives (told_lengths table.0 buffer)))
     → IfSome found (λ table. TellsTable buffer table.0)
     → IfSome found (λ table. table.1 ≡ sum (told_lengths table.0 buffer))
-    → IfSome found (λ table. KeepsLimit (told_lengths table.0 buffer) limit) → IsRead gives limit buffer count total old mid
-is_read gives limit buffer count total old mid found is stands tells sums keeps = record {
+    → IfSome found (λ table. KeepsLimit (told_lengths table.0 buffer) limit) → IsRead rule gives limit buffer count total old mid
+is_read rule gives limit buffer count total old mid found is stands tells sums keeps = record {
   found = rw is at stands;
   tells = rw is at tells;
   total_is = rw is at sums;
@@ -99,26 +101,26 @@ is_read gives limit buffer count total old mid found is stands tells sums keeps 
 }
 
 -- the buffer has no room for the segments
-pub lacks_segments : {gives : Giving} {refuses : Refusing} (laws : IsSource gives refuses) (limit : Option ℕ)
-    (buffer : List ℕ) (count total len : ℕ) (old mid : Option (List ℕ)) → IsRead gives limit buffer count total old mid
+pub lacks_segments : {gives : Giving} {refuses : Refusing} (rule : Padding) (laws : IsSource gives refuses) (limit : Option ℕ)
+    (buffer : List ℕ) (count total len : ℕ) (old mid : Option (List ℕ)) → IsRead rule gives limit buffer count total old mid
     → table_size count ≤ len → len < table_size count + 8 * total
-    → IfKnown old mid (RefusesStream gives refuses limit (Some len) BufferNotLargeEnough)
-lacks_segments laws limit buffer count total len old mid read room lacks =
+    → IfKnown old mid (RefusesStream rule gives refuses limit (Some len) BufferNotLargeEnough)
+lacks_segments rule laws limit buffer count total len old mid read room lacks =
     let many = length-told count buffer in
     let sums = read.total_is in
-    body_met laws limit (Some len) old mid (told_lengths count buffer) (λ short. absurd (omega arith)) (omega arith)
+    body_met rule laws limit (Some len) old mid (told_lengths count buffer) (λ short. absurd (omega arith)) (omega arith)
     read.found (told_within buffer count limit read.tells read.within)
 
 -- the source refuses the segments
-pub segments_refused : {gives : Giving} {refuses : Refusing} (laws : IsSource gives refuses) (F : Type 0)
+pub segments_refused : {gives : Giving} {refuses : Refusing} (rule : Padding) (laws : IsSource gives refuses) (F : Type 0)
     (limit : Option ℕ) (kind : ErrorKind) (buffer : List ℕ) (count total len n : ℕ) (old mid new : Option (List ℕ))
-    → IsRead gives limit buffer count total old mid → table_size count + 8 * total ≤ len → n ≡ 8 * total
+    → IsRead rule gives limit buffer count total old mid → table_size count + 8 * total ≤ len → n ≡ 8 * total
     → IfKnown mid new IsTail → F ⊎ IsRefused refuses n mid kind
-    → F ⊎ IfKnown old new (RefusesStream gives refuses limit (Some len) kind)
-segments_refused laws F limit kind buffer count total len n old mid new read room asked tail =
+    → F ⊎ IfKnown old new (RefusesStream rule gives refuses limit (Some len) kind)
+segments_refused rule laws F limit kind buffer count total len n old mid new read room asked tail =
     let many = length-told count buffer in
     let sums = read.total_is in
-    segments_met laws F limit (Some len) kind old mid new (told_lengths count buffer) n (λ short. absurd (omega arith))
+    segments_met rule laws F limit (Some len) kind old mid new (told_lengths count buffer) n (λ short. absurd (omega arith))
     read.found (told_within buffer count limit read.tells read.within) tail (omega arith)
 
 -- a table put at the front of a buffer
@@ -130,9 +132,9 @@ pub table_put : (before table : List ℕ) (count size : ℕ) → TellsTable tabl
 table_put before table count size tells long =
     let ns = told_lengths count table in
     let many = length-told count table in
-    let whole : IsTable table ns = subst (λ l. IsTable l ns) (take_all (table_size count) table (omega arith)) (table_is table count tells) in
+    let whole : IsTable Any table ns = subst (λ l. IsTable Any l ns) (take_all (table_size count) table (omega arith)) (table_is Any table count tells tt) in
     let few = tells.few in
-    let told : Told (table ++ post_of 0 size before) ns = told_from_table table (post_of 0 size before) ns whole (omega arith) in
+    let told : Told Any (table ++ post_of 0 size before) ns = told_from_table table (post_of 0 size before) ns whole (omega arith) in
     record {
       tells = subst (TellsTable (table ++ post_of 0 size before)) many told.tells;
       lengths_are = sym (subst (λ k. told_lengths k (table ++ post_of 0 size before) ≡ ns) many told.lengths);
@@ -140,91 +142,91 @@ table_put before table count size tells long =
 
 -- what the answers come to
 
-pub lent_accepted : {gives : Giving} {refuses : Refusing} (laws : IsSource gives refuses) {X : Type 0}
+pub lent_accepted : {gives : Giving} {refuses : Refusing} (rule : Padding) (laws : IsSource gives refuses) {X : Type 0}
     (limit : Option ℕ) (len : ℕ) (old new : Option (List ℕ)) (r : Result X Error)
-    → IfErr r (λ e. (e.kind ≡ DeviceFailed) ⊎ IfKnown old new (RefusesStream gives refuses limit (Some len) e.kind))
-    → IfSome old (λ raw. (segments : List (List ℕ)) (rest : List ℕ) → MessageStands gives segments raw rest
+    → IfErr r (λ e. (e.kind ≡ DeviceFailed) ⊎ IfKnown old new (RefusesStream rule gives refuses limit (Some len) e.kind))
+    → IfSome old (λ raw. (segments : List (List ℕ)) (rest : List ℕ) → MessageStands rule gives segments raw rest
     → IsWithin segments limit → table_size (length segments) + 8 * size_in_words segments ≤ len
     → IfErr r (λ e. e.kind ≡ DeviceFailed))
-lent_accepted laws limit len None new r refused = tt
-lent_accepted laws limit len (Some raw) new (Ok x) refused = λ segments rest sent within room. tt
-lent_accepted laws limit len (Some raw) new (Err e) (inl p) = λ segments rest sent within room. p
-lent_accepted laws limit len (Some raw) None (Err e) (inr p) = absurd p
-lent_accepted laws limit len (Some raw) (Some left) (Err e) (inr p) = λ segments rest sent within room. absurd
-    (RefusesStream-apart laws limit (Some len) e.kind raw left rest segments sent within
+lent_accepted rule laws limit len None new r refused = tt
+lent_accepted rule laws limit len (Some raw) new (Ok x) refused = λ segments rest sent within room. tt
+lent_accepted rule laws limit len (Some raw) new (Err e) (inl p) = λ segments rest sent within room. p
+lent_accepted rule laws limit len (Some raw) None (Err e) (inr p) = absurd p
+lent_accepted rule laws limit len (Some raw) (Some left) (Err e) (inr p) = λ segments rest sent within room. absurd
+    (RefusesStream-apart rule laws limit (Some len) e.kind raw left rest segments sent within
     (λ lacks. let many = length-lengths segments in absurd (omega arith)) p)
 
-pub lent_once : {gives : Giving} {refuses : Refusing} (laws : IsSource gives refuses) (limit : Option ℕ) (len : ℕ)
+pub lent_once : {gives : Giving} {refuses : Refusing} (rule : Padding) (laws : IsSource gives refuses) (limit : Option ℕ) (len : ℕ)
     (own : ErrorKind) (old new : Option (List ℕ)) → (own ≡ DeviceFailed)
-    ⊎ IfKnown old new (RefusesStream gives refuses limit (Some len) own)
+    ⊎ IfKnown old new (RefusesStream rule gives refuses limit (Some len) own)
     → IfSome old (λ raw. (kind : ErrorKind) (left : List ℕ)
-    → RefusesStream gives refuses limit (Some len) kind raw left → (own ≡ DeviceFailed) ⊎ (own ≡ kind))
-lent_once laws limit len own None new refused = tt
-lent_once laws limit len own (Some raw) new (inl p) = λ kind left q. inl p
-lent_once laws limit len own (Some raw) None (inr p) = absurd p
-lent_once laws limit len own (Some raw) (Some left) (inr p) = λ kind rest q. inr (RefusesStream-once laws limit (Some len) own kind raw left rest p q)
+    → RefusesStream rule gives refuses limit (Some len) kind raw left → (own ≡ DeviceFailed) ⊎ (own ≡ kind))
+lent_once rule laws limit len own None new refused = tt
+lent_once rule laws limit len own (Some raw) new (inl p) = λ kind left q. inl p
+lent_once rule laws limit len own (Some raw) None (inr p) = absurd p
+lent_once rule laws limit len own (Some raw) (Some left) (inr p) = λ kind rest q. inr (RefusesStream-once rule laws limit (Some len) own kind raw left rest p q)
 
-pub lent_apart : {gives : Giving} {refuses : Refusing} (laws : IsSource gives refuses) (limit : Option ℕ)
+pub lent_apart : {gives : Giving} {refuses : Refusing} (rule : Padding) (laws : IsSource gives refuses) (limit : Option ℕ)
     (buffer : List ℕ) (count len : ℕ) (segments : List (List ℕ)) (old new : Option (List ℕ))
     → HoldsMessage buffer count → segments ≡ told_segments count buffer → length buffer ≡ len
-    → IfKnown old new (MessageStands gives segments) → IsWithin segments limit
+    → IfKnown old new (MessageStands rule gives segments) → IsWithin segments limit
     → IfSome old (λ raw. (kind : ErrorKind) (left : List ℕ)
-    → RefusesStream gives refuses limit (Some len) kind raw left → ⊥)
-lent_apart laws limit buffer count len segments None new holds are long found within = tt
-lent_apart laws limit buffer count len segments (Some raw) None holds are long found within = absurd found
-lent_apart laws limit buffer count len segments (Some raw) (Some rest) holds are long found within = λ kind left met.
-    let lens : lengths segments ≡ told_lengths count buffer = ap lengths are ∙ (found_from_held buffer count holds).lengths_are in
+    → RefusesStream rule gives refuses limit (Some len) kind raw left → ⊥)
+lent_apart rule laws limit buffer count len segments None new holds are long found within = tt
+lent_apart rule laws limit buffer count len segments (Some raw) None holds are long found within = absurd found
+lent_apart rule laws limit buffer count len segments (Some raw) (Some rest) holds are long found within = λ kind left met.
+    let lens : lengths segments ≡ told_lengths count buffer = ap lengths are ∙ (found_from_held Any buffer count holds tt).lengths_are in
     let many : length (lengths segments) ≡ count = ap length lens ∙ length-told count buffer in
     let total : size_in_words segments ≡ sum (told_lengths count buffer) = ap sum lens in
     let room = holds.room in
-    RefusesStream-apart laws limit (Some len) kind raw left rest segments found within (λ lacks. absurd (omega arith)) met
+    RefusesStream-apart rule laws limit (Some len) kind raw left rest segments found within (λ lacks. absurd (omega arith)) met
 
 -- what the reader returns, where it finds a message
-pub reads_into : {S : Type 0} (source : Ghosts S) (laws : IsSource source.gives source.refuses) (old new : S)
+pub reads_into : {S : Type 0} (rule : Padding) (source : Ghosts S) (laws : IsSource source.gives source.refuses) (old new : S)
     (limit : Option ℕ) (room : ℕ) (buffer : List ℕ) (count : ℕ) (segments : List (List ℕ))
     → HoldsMessage buffer count → segments ≡ told_segments count buffer → length buffer ≡ room
     → KeepsLimit (told_lengths count buffer) limit
-    → IfKnown (source.unread old) (source.unread new) (MessageStands source.gives (told_segments count buffer))
+    → IfKnown (source.unread old) (source.unread new) (MessageStands rule source.gives (told_segments count buffer))
     → (room < 8 → ⊥) → Advances source.unread source.failures source.same old new
-    → ReadsStreamInto source old new (framed_rules source.gives source.refuses) limit room (Ok (Some segments))
-reads_into source laws old new limit room buffer count segments holds are long keeps stands enough advances =
-    let found = subst (λ m. IfKnown (source.unread old) (source.unread new) (MessageStands source.gives m)) (sym are) stands in
+    → ReadsStreamInto source old new (framed_rules rule source.gives source.refuses) limit room (Ok (Some segments))
+reads_into rule source laws old new limit room buffer count segments holds are long keeps stands enough advances =
+    let found = subst (λ m. IfKnown (source.unread old) (source.unread new) (MessageStands rule source.gives m)) (sym are) stands in
     let within = within_held buffer count segments limit holds are keeps in
     record {
       found = found;
       within = within;
-      whole = (begins_held buffer count segments holds are).1.1.whole;
+      whole = (begins_held Any buffer count segments holds tt are).1.1.whole;
       none = tt;
-      accepted = lent_accepted laws limit room _ (source.unread new) (Ok (Some segments)) tt;
+      accepted = lent_accepted rule laws limit room _ (source.unread new) (Ok (Some segments)) tt;
       end = tt;
       short = λ few. absurd (enough few);
       refused = tt;
-      exact = lent_apart laws limit buffer count room segments _ _ holds are long found within;
+      exact = lent_apart rule laws limit buffer count room segments _ _ holds are long found within;
       kinds = tt;
       failed = tt;
       advances = advances;
     }
 
 -- and where it fails
-pub refused_into : {S : Type 0} (source : Ghosts S) (laws : IsSource source.gives source.refuses) (old new : S)
+pub refused_into : {S : Type 0} (rule : Padding) (source : Ghosts S) (laws : IsSource source.gives source.refuses) (old new : S)
     (limit : Option ℕ) (room : ℕ) (error : Error)
     → (error.kind ≡ DeviceFailed)
-    ⊎ IfKnown (source.unread old) (source.unread new) (RefusesStream source.gives source.refuses limit (Some room) error.kind)
+    ⊎ IfKnown (source.unread old) (source.unread new) (RefusesStream rule source.gives source.refuses limit (Some room) error.kind)
     → (source.unread old ≡ Some [] → 8 ≤ room → error.kind ≡ DeviceFailed)
-    → (room < 8 → (new ≡ old) × (error.kind ≡ BufferNotLargeEnough)) → IsLentReaderKind source.refuses error.kind
+    → (room < 8 → (new ≡ old) × (error.kind ≡ BufferNotLargeEnough)) → IsLentReaderKind rule source.refuses error.kind
     → (error.kind ≡ DeviceFailed → Fails (source.failures old) (source.failures new))
     → Advances source.unread source.failures source.same old new
-    → ReadsStreamInto source old new (framed_rules source.gives source.refuses) limit room (Err error)
-refused_into source laws old new limit room error refused end short kinds failed advances = record {
+    → ReadsStreamInto source old new (framed_rules rule source.gives source.refuses) limit room (Err error)
+refused_into rule source laws old new limit room error refused end short kinds failed advances = record {
   found = tt;
   within = tt;
   whole = tt;
   none = tt;
-  accepted = lent_accepted laws {X = Option (List (List ℕ))} limit room _ (source.unread new) (Err error) refused;
+  accepted = lent_accepted rule laws {X = Option (List (List ℕ))} limit room _ (source.unread new) (Err error) refused;
   end = end;
   short = short;
   refused = refused;
-  exact = lent_once laws limit room error.kind _ (source.unread new) refused;
+  exact = lent_once rule laws limit room error.kind _ (source.unread new) refused;
   kinds = kinds;
   failed = failed;
   advances = advances;

@@ -4,6 +4,7 @@ pub mod SourceLemmas
 pub mod AskLemmas
 pub mod StepLemmas
 pub mod TableLemmas
+pub mod PaddingLemmas
 pub mod RequestLemmas
 pub mod FrameLemmas
 pub mod RefusalLemmas

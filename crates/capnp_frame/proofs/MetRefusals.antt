@@ -1,19 +1,25 @@
 -- Which line of the refusal table each part of a reader meets.
-use Rattle.std.proofs.Common.{◌≡◌, ℕ, ◌+◌, ◌-◌, ◌*◌, ◌/◌, ◌%◌, ◌<◌, ◌^◌, Option, None, ◌⊎◌, inl, inr, List, ◌++◌, length, take, refl, sym, ap, ◌∙◌, subst, arith}
+use Rattle.std.proofs.Common.{◌≡◌, ℕ, ◌+◌, ◌-◌, ◌*◌, ◌/◌, ◌%◌, ◌<◌, ◌^◌, Option, Some, None, ◌⊎◌, inl, inr, List, ◌++◌, length, take, drop, refl, sym, ap, ◌∙◌, subst, arith}
 use Rattle.std.specs.Prelude.{sum, IsSomeAnd}
 use lib.Seq.{take-append-le}
 use Rattle.capnp_frame.specs.declared.error.ErrorKind.{ErrorKind}
-use Rattle.capnp_frame.specs.declared.error.ErrorKind.TheVariants.{BufferNotLargeEnough, MessageTooLarge}
-use Rattle.capnp_frame.specs.SegmentTable.{field, table_size, IsTable}
-use Rattle.capnp_frame.specs.Limits.{AreWithin}
+use Rattle.capnp_frame.specs.declared.error.ErrorKind.TheVariants.{BufferNotLargeEnough, MessageTooLarge, NonZeroPadding, DeviceFailed}
+use Rattle.capnp_frame.specs.declared.serialize.segment_table.Padding.{Padding}
+use Rattle.capnp_frame.specs.declared.serialize.segment_table.Padding.TheVariants.{Any}
+use Rattle.capnp_frame.specs.SegmentTable.{field, table_size, KeepsPadding, IsTable}
+use Rattle.capnp_frame.specs.Front.{told_lengths, told_padding, SpellsLengths, TellsTable}
+use Rattle.capnp_frame.specs.Limits.{KeepsLimit, AreWithin}
 use Rattle.capnp_frame.specs.Source.{Giving, Refusing, IsSource, IfKnown, IsTail, IsRefused}
-use Rattle.capnp_frame.specs.Requests.{RestStands, TableStands}
-use Rattle.capnp_frame.specs.Refusals.{Tells, TellsAccepted, CountStands, TakesMemory, IsTooLarge, LacksRoom}
-use Rattle.capnp_frame.specs.Refusals.{RefusesAtStart, RefusesTable, RefusesStream}
+use Rattle.capnp_frame.specs.Requests.{TableStands}
+use Rattle.capnp_frame.specs.Refusals.{Tells, TellsAccepted, CountStands, TakesMemory, IsTooLarge, LacksRoom, IsTableKind, IsReaderKind, IsLentReaderKind}
+use Rattle.capnp_frame.specs.Refusals.{RefusesAtLimit, RefusesAtStart, RefusesTable, RefusesStream}
+use Rattle.capnp_frame.specs.Steps.{StopsAtTable}
 use Rattle.capnp_frame.proofs.SourceLemmas.{IfKnown-join, IfKnown-weaker, IfKnown-refused}
+use Rattle.capnp_frame.proofs.TableLemmas.{any_table}
+use Rattle.capnp_frame.proofs.TableReading.{tells_completed, whole_table, broken_table}
 use Rattle.capnp_frame.proofs.RefusalLemmas.{in_range, within_limit, small_room, RefusesAtStart-map, given_some}
 
-table_tells : (word others ns : List ℕ) → IsTable (word ++ others) ns → length ns < 512 → length word ≡ 8 → Tells word (length ns)
+table_tells : {rule : Padding} (word others ns : List ℕ) → IsTable rule (word ++ others) ns → length ns < 512 → length word ≡ 8 → Tells word (length ns)
 table_tells word others ns table few long =
     let front : take 4 (word ++ others) ≡ take 4 word = take-append-le 4 word others (omega arith) in
     let told : field (length ns - 1) ≡ take 4 (word ++ others) = ap (take 4) (sym table.spelled) in
@@ -24,11 +30,11 @@ table_tells word others ns table few long =
     same k some few = omega arith
 
 -- what comes after a table that is accepted
-pub RefusesAtStart-from : {gives : Giving} {refuses : Refusing} (laws : IsSource gives refuses) (limit room : Option ℕ)
+pub RefusesAtStart-from : {gives : Giving} {refuses : Refusing} (rule : Padding) (laws : IsSource gives refuses) (limit room : Option ℕ)
     (kind : ErrorKind) (A : List ℕ → List ℕ → Type 0) (raw left ns behind : List ℕ)
-    → (LacksRoom room (table_size (length ns)) → ⊥) → TableStands gives ns raw behind → AreWithin ns limit
-    → A ns behind → RefusesAtStart gives refuses limit room kind A raw left
-RefusesAtStart-from laws limit room kind A raw left ns behind fits sent accepts after =
+    → (LacksRoom room (table_size (length ns)) → ⊥) → TableStands rule gives ns raw behind → AreWithin ns limit
+    → A ns behind → RefusesAtStart rule gives refuses limit room kind A raw left
+RefusesAtStart-from rule laws limit room kind A raw left ns behind fits sent accepts after =
     let some = accepts.some in
     let few = accepts.few in
     inr (
@@ -51,7 +57,11 @@ RefusesAtStart-from laws limit room kind A raw left ns behind fits sent accepts 
                   sent.others,
                   behind,
                   sent.others_given,
-                  (ns, sent.table, inr (within_limit ns limit accepts.size, after)),
+                  (
+                    ns,
+                    any_table (sent.first ++ sent.others) ns sent.table,
+                    inr (within_limit ns limit accepts.size, inr ((λ breaks. breaks sent.table), after)),
+                  ),
                 ),
               ),
             ),
@@ -70,12 +80,12 @@ Tells-accepted word count accepted =
     (count - 1, omega arith, accepted.told, omega arith)
 
 -- a lent buffer has no room for the table
-pub room_met : {gives : Giving} {refuses : Refusing} (laws : IsSource gives refuses) (limit room : Option ℕ)
+pub room_met : {gives : Giving} {refuses : Refusing} (rule : Padding) (laws : IsSource gives refuses) (limit room : Option ℕ)
     (old mid : Option (List ℕ)) (word : List ℕ) (count : ℕ) → (LacksRoom room 8 → ⊥)
     → LacksRoom room (table_size count) → TellsAccepted word count
     → IfKnown old mid (λ raw rest. gives raw 8 word rest)
-    → IfKnown old mid (RefusesTable gives refuses limit room BufferNotLargeEnough)
-room_met laws limit room old mid word count holds lacks accepted given =
+    → IfKnown old mid (RefusesTable rule gives refuses limit room BufferNotLargeEnough)
+room_met rule laws limit room old mid word count holds lacks accepted given =
     IfKnown-weaker old mid (λ raw left here. inr (
       holds,
       (
@@ -93,15 +103,82 @@ room_met laws limit room old mid word count holds lacks accepted given =
       ),
     )) given
 
-pub others_met : {gives : Giving} {refuses : Refusing} (laws : IsSource gives refuses) (F : Type 0)
+-- the lines of a table that is completed
+
+-- the source refuses the other words
+pub others_stop : (rule : Padding) (gives : Giving) (refuses : Refusing) (F : Type 0) (limit : Option ℕ) (kind : ErrorKind)
+    (word : List ℕ) (count : ℕ) (old new : Option (List ℕ)) → IfKnown old new IsTail
+    → F ⊎ IsRefused refuses (8 * (count / 2)) old kind
+    → F ⊎ IfKnown old new (StopsAtTable rule gives refuses limit kind word count)
+others_stop rule gives refuses F limit kind word count old new tail (inl failed) = inl failed
+others_stop rule gives refuses F limit kind word count None new tail (inr refused) = inr tt
+others_stop rule gives refuses F limit kind word count (Some raw) None tail (inr refused) = absurd tail
+others_stop rule gives refuses F limit kind word count (Some raw) (Some left) tail (inr refused) = inr (inl refused)
+
+-- a table was completed: its first word, and all its bytes
+pub record IsCompleted (gives : Giving) (word table : List ℕ) (count : ℕ) (old new : Option (List ℕ)) : Type 0 where
+  pub front : take 8 table ≡ word
+  pub size : length table ≡ table_size count
+  pub tells : TellsTable table count
+  pub given : IfKnown old new (λ raw rest. gives raw (length table - 8) (drop 8 table) rest)
+
+pub is_completed : (gives : Giving) (word table : List ℕ) (count : ℕ) (old new : Option (List ℕ)) → take 8 table ≡ word
+    → length table ≡ table_size count → TellsAccepted word count → SpellsLengths table count
+    → IfKnown old new (λ raw rest. gives raw (length table - 8) (drop 8 table) rest) → IsCompleted gives word table count old new
+is_completed gives word table count old new front size accepted spells given =
+    record { front = front; size = size; tells = tells_completed word table count front size accepted spells; given = given }
+
+completed_stops : (rule : Padding) (gives : Giving) (refuses : Refusing) (limit : Option ℕ) (kind : ErrorKind)
+    (word table : List ℕ) (count : ℕ) (old new : Option (List ℕ)) → IsCompleted gives word table count old new
+    → ((left : List ℕ) → RefusesAtLimit rule limit kind (λ ns behind. ⊥) left word (drop 8 table) left)
+    → IfKnown old new (StopsAtTable rule gives refuses limit kind word count)
+completed_stops rule gives refuses limit kind word table count old new completed met =
+    let long = completed.size in
+    let size : length table - 8 ≡ 8 * (count / 2) = omega arith in
+    IfKnown-weaker old new
+    (λ raw rest given. inr (drop 8 table, rest, subst (λ k. gives raw k (drop 8 table) rest) size given, met rest))
+    completed.given
+
+-- the table is one of any padding
+some_table : {gives : Giving} (word table : List ℕ) (count : ℕ) (old new : Option (List ℕ)) → IsCompleted gives word table count old new
+    → IsTable Any (word ++ drop 8 table) (told_lengths count table)
+some_table word table count old new completed = whole_table Any word table count completed.front completed.size completed.tells tt
+
+-- its segments pass the limit
+pub limit_stops : (rule : Padding) (gives : Giving) (refuses : Refusing) (limit : Option ℕ) (kind : ErrorKind)
+    (word table : List ℕ) (count total : ℕ) (old new : Option (List ℕ)) → IsCompleted gives word table count old new
+    → total ≡ sum (told_lengths count table) → IsSomeAnd limit (λ most. most < total) × (kind ≡ MessageTooLarge total)
+    → IfKnown old new (StopsAtTable rule gives refuses limit kind word count)
+limit_stops rule gives refuses limit kind word table count total old new completed sums (over, is) =
+    let ns = told_lengths count table in
+    let large : IsTooLarge ns limit = subst (λ k. IsSomeAnd limit (λ most. most < k)) sums over in
+    completed_stops rule gives refuses limit kind word table count old new completed
+    (λ left. (ns, some_table word table count old new completed, inl (large, (is ∙ ap MessageTooLarge sums, refl))))
+
+-- its padding is not taken
+pub padding_stops : (rule : Padding) (gives : Giving) (refuses : Refusing) (limit : Option ℕ) (kind : ErrorKind)
+    (word table : List ℕ) (count : ℕ) (old new : Option (List ℕ)) → IsCompleted gives word table count old new
+    → KeepsLimit (told_lengths count table) limit → (KeepsPadding rule (told_padding count table) → ⊥) → kind ≡ NonZeroPadding
+    → IfKnown old new (StopsAtTable rule gives refuses limit kind word count)
+padding_stops rule gives refuses limit kind word table count old new completed keeps broken is =
+    let ns = told_lengths count table in
+    let breaks = broken_table rule word table count completed.front completed.size broken in
+    completed_stops rule gives refuses limit kind word table count old new completed
+    (λ left. (
+      ns,
+      some_table word table count old new completed,
+      inr (within_limit ns limit keeps, inl (breaks, (is, refl))),
+    ))
+
+-- and these are lines of the whole table of refusals
+pub rest_met : (rule : Padding) {gives : Giving} {refuses : Refusing} (laws : IsSource gives refuses) (F : Type 0)
     (limit room : Option ℕ) (kind : ErrorKind) (old mid new : Option (List ℕ)) (word : List ℕ) (count : ℕ)
     → (LacksRoom room (table_size count) → ⊥) → IfKnown old mid (λ raw rest. gives raw 8 word rest)
-    → IfKnown mid new IsTail → TellsAccepted word count → F ⊎ IsRefused refuses (8 * (count / 2)) mid kind → F
-    ⊎ IfKnown old new (RefusesTable gives refuses limit room kind)
-others_met laws F limit room kind old mid new word count table given tail accepted (inl failed) = inl failed
-others_met {gives} {refuses} laws F limit room kind old mid new word count table given tail accepted (inr refused) =
-    inr (IfKnown-refused old mid new refuses (8 * (count / 2)) kind
-    (λ raw mid left here refused. inr (
+    → TellsAccepted word count → F ⊎ IfKnown mid new (StopsAtTable rule gives refuses limit kind word count)
+    → F ⊎ IfKnown old new (RefusesTable rule gives refuses limit room kind)
+rest_met rule laws F limit room kind old mid new word count table given accepted (inl failed) = inl failed
+rest_met rule {gives} {refuses} laws F limit room kind old mid new word count table given accepted (inr stops) =
+    inr (IfKnown-join old mid new (λ raw mid left here stops. inr (
       small_room room 8 (table_size count) (omega arith) table,
       (
         given_some laws raw 8 word mid here (omega arith),
@@ -112,74 +189,55 @@ others_met {gives} {refuses} laws F limit room kind old mid new word count table
           (
             count,
             Tells-accepted word count accepted,
-            inr (in_range count accepted.some accepted.few, inr (table, inl refused)),
+            inr (in_range count accepted.some accepted.few, inr (table, stops)),
           ),
         ),
       ),
-    )) given tail refused)
+    )) given stops)
 
-pub limit_met : {gives : Giving} {refuses : Refusing} (laws : IsSource gives refuses) (limit room : Option ℕ)
-    (kind : ErrorKind) (old mid new : Option (List ℕ)) (word ns : List ℕ) (total : ℕ)
-    → (LacksRoom room (table_size (length ns)) → ⊥) → IfKnown old mid (λ raw rest. gives raw 8 word rest)
-    → IfKnown mid new (RestStands gives word ns) → length ns < 512 → total ≡ sum ns
-    → IsSomeAnd limit (λ most. most < total) × (kind ≡ MessageTooLarge total)
-    → IfKnown old new (RefusesTable gives refuses limit room kind)
-limit_met {gives} {refuses} laws limit room kind old mid new word ns total fits given rest_stands few sums (over, is) =
-    let large : IsTooLarge ns limit = subst (λ k. IsSomeAnd limit (λ most. most < k)) sums over in
-    IfKnown-join old mid new (λ raw mid left here rest.
-    let some = rest.table.can.some in
-    inr (
-      small_room room 8 (table_size (length ns)) (omega arith) fits,
-      (
-        given_some laws raw 8 word mid here (omega arith),
-        inr (
-          word,
-          mid,
-          here,
-          (
-            length ns,
-            table_tells word rest.others ns rest.table few
-                (laws.gives_all raw 8 word mid here),
-            inr (
-              in_range (length ns) some few,
-              inr (
-                fits,
-                inr (rest.others, left, rest.given, (ns, rest.table, inl (large, (is ∙ ap MessageTooLarge sums, refl)))),
-              ),
-            ),
-          ),
-        ),
-      ),
-    ))
-    given rest_stands
+-- the kinds met there are those of a reader
 
-pub table_met : (F : Type 0) (gives : Giving) (refuses : Refusing) (limit room : Option ℕ) (kind : ErrorKind)
-    (old new : Option (List ℕ)) → F ⊎ IfKnown old new (RefusesTable gives refuses limit room kind) → F
-    ⊎ IfKnown old new (RefusesStream gives refuses limit room kind)
-table_met F gives refuses limit room kind old new (inl p) = inl p
-table_met F gives refuses limit room kind old new (inr p) = inr
-    (IfKnown-weaker old new (λ raw left. RefusesAtStart-map {gives = gives} {refuses = refuses}
+pub reader_kind : (rule : Padding) (refuses : Refusing) (kind : ErrorKind) → IsTableKind rule refuses kind → IsReaderKind rule refuses kind
+reader_kind rule refuses kind (inl failed) = inl failed
+reader_kind rule refuses kind (inr others) = inr (inr (inr others))
+
+pub lent_reader_kind : (rule : Padding) (refuses : Refusing) (kind : ErrorKind) → IsTableKind rule refuses kind → IsLentReaderKind rule refuses kind
+lent_reader_kind rule refuses kind (inl failed) = inl failed
+lent_reader_kind rule refuses kind (inr others) = inr (inr (inr others))
+
+-- and a source's refusal is one of them
+pub source_kind : (rule : Padding) (refuses : Refusing) (n : ℕ) (unread : Option (List ℕ)) (kind : ErrorKind) → (kind ≡ DeviceFailed) ⊎ IsRefused refuses n unread kind → IsTableKind rule refuses kind
+source_kind rule refuses n unread kind (inl p) = inl p
+source_kind rule refuses n None kind (inr p) = inr (inr (inr p))
+source_kind rule refuses n (Some raw) kind (inr p) = inr (inr (inr (raw, n, p)))
+
+pub table_met : (rule : Padding) (F : Type 0) (gives : Giving) (refuses : Refusing) (limit room : Option ℕ) (kind : ErrorKind)
+    (old new : Option (List ℕ)) → F ⊎ IfKnown old new (RefusesTable rule gives refuses limit room kind) → F
+    ⊎ IfKnown old new (RefusesStream rule gives refuses limit room kind)
+table_met rule F gives refuses limit room kind old new (inl p) = inl p
+table_met rule F gives refuses limit room kind old new (inr p) = inr
+    (IfKnown-weaker old new (λ raw left. RefusesAtStart-map rule {gives = gives} {refuses = refuses}
     (λ raw n bytes rest given. given) (λ raw n kind refused. refused) limit room kind _ _ raw left
     (λ ns behind never. absurd never)) p)
 
 -- a lent buffer has no room for the segments
-pub body_met : {gives : Giving} {refuses : Refusing} (laws : IsSource gives refuses) (limit room : Option ℕ)
+pub body_met : {gives : Giving} {refuses : Refusing} (rule : Padding) (laws : IsSource gives refuses) (limit room : Option ℕ)
     (old mid : Option (List ℕ)) (ns : List ℕ) → (LacksRoom room (table_size (length ns)) → ⊥)
-    → LacksRoom room (table_size (length ns) + 8 * sum ns) → IfKnown old mid (TableStands gives ns)
-    → AreWithin ns limit → IfKnown old mid (RefusesStream gives refuses limit room BufferNotLargeEnough)
-body_met laws limit room old mid ns fits lacks sent accepts = IfKnown-weaker old mid
-    (λ raw left here. RefusesAtStart-from laws limit room BufferNotLargeEnough _ raw left ns left fits here accepts
+    → LacksRoom room (table_size (length ns) + 8 * sum ns) → IfKnown old mid (TableStands rule gives ns)
+    → AreWithin ns limit → IfKnown old mid (RefusesStream rule gives refuses limit room BufferNotLargeEnough)
+body_met rule laws limit room old mid ns fits lacks sent accepts = IfKnown-weaker old mid
+    (λ raw left here. RefusesAtStart-from rule laws limit room BufferNotLargeEnough _ raw left ns left fits here accepts
     (inl (lacks, (refl, refl)))) sent
 
-pub segments_met : {gives : Giving} {refuses : Refusing} (laws : IsSource gives refuses) (F : Type 0)
+pub segments_met : {gives : Giving} {refuses : Refusing} (rule : Padding) (laws : IsSource gives refuses) (F : Type 0)
     (limit room : Option ℕ) (kind : ErrorKind) (old mid new : Option (List ℕ)) (ns : List ℕ) (len : ℕ)
-    → (LacksRoom room (table_size (length ns) + 8 * sum ns) → ⊥) → IfKnown old mid (TableStands gives ns)
+    → (LacksRoom room (table_size (length ns) + 8 * sum ns) → ⊥) → IfKnown old mid (TableStands rule gives ns)
     → AreWithin ns limit → IfKnown mid new IsTail → len ≡ 8 * sum ns → F ⊎ IsRefused refuses len mid kind → F
-    ⊎ IfKnown old new (RefusesStream gives refuses limit room kind)
-segments_met laws F limit room kind old mid new ns len fits sent accepts tail long (inl p) = inl p
-segments_met {gives} {refuses} laws F limit room kind old mid new ns len fits sent accepts tail long (inr p) =
+    ⊎ IfKnown old new (RefusesStream rule gives refuses limit room kind)
+segments_met rule laws F limit room kind old mid new ns len fits sent accepts tail long (inl p) = inl p
+segments_met {gives} {refuses} rule laws F limit room kind old mid new ns len fits sent accepts tail long (inr p) =
     inr (IfKnown-refused old mid new refuses len kind
-    (λ raw mid left here refused. RefusesAtStart-from laws limit room kind _ raw left ns mid
+    (λ raw mid left here refused. RefusesAtStart-from rule laws limit room kind _ raw left ns mid
     (small_room room (table_size (length ns)) (table_size (length ns) + 8 * sum ns) (omega arith) fits) here
     accepts (inr (fits, subst (λ k. refuses mid k kind) long refused))) sent tail p)
 
@@ -189,10 +247,10 @@ pub or_memory : {F G R : Type 0} → F ⊎ R → F ⊎ G ⊎ R
 or_memory (inl p) = inl p
 or_memory (inr p) = inr (inr p)
 
-pub table_met_growing : (F M : Type 0) (gives : Giving) (refuses : Refusing) (limit : Option ℕ) (kind : ErrorKind)
+pub table_met_growing : (rule : Padding) (F M : Type 0) (gives : Giving) (refuses : Refusing) (limit : Option ℕ) (kind : ErrorKind)
     (old new : Option (List ℕ)) → F ⊎ (M × IfKnown old new (CountStands gives))
-    ⊎ IfKnown old new (RefusesTable gives refuses limit None kind) → F
-    ⊎ (M × IfKnown old new (TakesMemory gives limit)) ⊎ IfKnown old new (RefusesStream gives refuses limit None kind)
-table_met_growing F M gives refuses limit kind old new (inl p) = inl p
-table_met_growing F M gives refuses limit kind old new (inr (inl p)) = inr (inl (p.0, IfKnown-weaker old new (λ raw left. inl) p.1))
-table_met_growing F M gives refuses limit kind old new (inr (inr p)) = or_memory (table_met F gives refuses limit None kind old new (inr p))
+    ⊎ IfKnown old new (RefusesTable rule gives refuses limit None kind) → F
+    ⊎ (M × IfKnown old new (TakesMemory rule gives limit)) ⊎ IfKnown old new (RefusesStream rule gives refuses limit None kind)
+table_met_growing rule F M gives refuses limit kind old new (inl p) = inl p
+table_met_growing rule F M gives refuses limit kind old new (inr (inl p)) = inr (inl (p.0, IfKnown-weaker old new (λ raw left. inl) p.1))
+table_met_growing rule F M gives refuses limit kind old new (inr (inr p)) = or_memory (table_met rule F gives refuses limit None kind old new (inr p))

@@ -3,14 +3,15 @@ use Rattle.std.proofs.Common.{◌≡◌, ℕ, ◌+◌, ◌*◌, ◌/◌, ◌%◌
 use Rattle.std.specs.Prelude.{sum}
 use Rattle.std.specs.List.{concat}
 use Rattle.capnp_frame.specs.declared.error.ErrorKind.{ErrorKind}
-use Rattle.capnp_frame.specs.declared.error.ErrorKind.TheVariants.{BufferNotLargeEnough, InvalidNumberOfSegments, MessageTooLarge}
+use Rattle.capnp_frame.specs.declared.error.ErrorKind.TheVariants.{BufferNotLargeEnough, InvalidNumberOfSegments, MessageTooLarge, NonZeroPadding}
 use Rattle.capnp_frame.specs.Message.{lengths, size_in_words}
+use Rattle.capnp_frame.specs.declared.serialize.segment_table.Padding.{Padding}
 use Rattle.capnp_frame.specs.SegmentTable.{table_size, IsTable}
 use Rattle.capnp_frame.specs.Limits.{KeepsLimit, AreWithin, IsWithin}
 use Rattle.capnp_frame.specs.Source.{Giving, Refusing, IsSource}
 use Rattle.capnp_frame.specs.Requests.{TableStands, MessageStands}
-use Rattle.capnp_frame.specs.Refusals.{Unless, Asks, Tells, IsOutOfRange, IsTooLarge, LacksRoom, StopsBy}
-use Rattle.capnp_frame.specs.Refusals.{RefusesAtLimit, RefusesAtCount, RefusesAtStart, RefusesStream}
+use Rattle.capnp_frame.specs.Refusals.{Unless, Asks, Tells, IsOutOfRange, IsTooLarge, LacksRoom, StopsBy, BreaksPadding}
+use Rattle.capnp_frame.specs.Refusals.{RefusesAtLimit, RefusesRest, RefusesAtCount, RefusesAtStart, RefusesStream}
 use Rattle.capnp_frame.proofs.TableLemmas.{IsTable-once, field-once, count_told}
 
 pub Unless-once : {S L A M B P : Type 0} → (L → M → P) → (A → B → P) → Unless S L A → Unless S M B → P
@@ -48,48 +49,50 @@ Tells-once word m n p q =
     let last : p.0 ≡ q.0 = field-once p.0 q.0 p.1 q.1 (p.2 ∙ sym q.2) in
     p.3 ∙ ap (λ k. (k + 1) % 2 ^ 32) last ∙ sym q.3
 
-RefusesAtLimit-once : (limit : Option ℕ) (kind other : ErrorKind) (A B : List ℕ → List ℕ → Type 0)
+RefusesAtLimit-once : (rule : Padding) (limit : Option ℕ) (kind other : ErrorKind) (A B : List ℕ → List ℕ → Type 0)
     (left rest word others behind : List ℕ) → ((ns behind : List ℕ) → A ns behind → B ns behind → kind ≡ other)
-    → RefusesAtLimit limit kind A left word others behind → RefusesAtLimit limit other B rest word others behind
+    → RefusesAtLimit rule limit kind A left word others behind → RefusesAtLimit rule limit other B rest word others behind
     → kind ≡ other
-RefusesAtLimit-once limit kind other A B left rest word others behind after p q =
+RefusesAtLimit-once rule limit kind other A B left rest word others behind after p q =
     let same = IsTable-once (word ++ others) q.0 p.0 q.1 p.1 in
-    Unless-once (λ x y. x.0 ∙ sym y.0) (after p.0 behind) p.2 (subst (λ l. Unless (IsTooLarge l limit) (StopsBy (MessageTooLarge (sum l)) other behind rest) (B l behind)) same q.2)
+    Unless-once (λ x y. x.0 ∙ sym y.0) (Unless-once (λ x y. x.0 ∙ sym y.0) (after p.0 behind)) p.2
+    (subst (λ l. Unless (IsTooLarge l limit) (StopsBy (MessageTooLarge (sum l)) other behind rest)
+    (Unless (BreaksPadding rule (word ++ others) l) (StopsBy NonZeroPadding other behind rest) (B l behind))) same q.2)
 
-RefusesAtCount-once : {gives : Giving} {refuses : Refusing} (laws : IsSource gives refuses) (limit room : Option ℕ)
+RefusesAtCount-once : {gives : Giving} {refuses : Refusing} (rule : Padding) (laws : IsSource gives refuses) (limit room : Option ℕ)
     (kind other : ErrorKind) (A B : List ℕ → List ℕ → Type 0) (left rest word between : List ℕ)
     → ((ns behind : List ℕ) → A ns behind → B ns behind → kind ≡ other)
-    → RefusesAtCount gives refuses limit room kind A left word between
-    → RefusesAtCount gives refuses limit room other B rest word between → kind ≡ other
-RefusesAtCount-once {gives} {refuses} laws limit room kind other A B left rest word between after p q =
+    → RefusesAtCount rule gives refuses limit room kind A left word between
+    → RefusesAtCount rule gives refuses limit room other B rest word between → kind ≡ other
+RefusesAtCount-once {gives} {refuses} rule laws limit room kind other A B left rest word between after p q =
     let same = Tells-once word q.0 p.0 q.1 p.1 in
     Unless-once (λ x y. x.0 ∙ sym y.0) (Unless-once (λ x y. x.0 ∙ sym y.0)
-    (Asks-once laws kind other between (8 * (p.0 / 2)) (RefusesAtLimit limit kind A left word)
-    (RefusesAtLimit limit other B rest word)
-    (λ others behind. RefusesAtLimit-once limit kind other A B left rest word others behind after))) p.2
+    (Asks-once laws kind other between (8 * (p.0 / 2)) (RefusesAtLimit rule limit kind A left word)
+    (RefusesAtLimit rule limit other B rest word)
+    (λ others behind. RefusesAtLimit-once rule limit kind other A B left rest word others behind after))) p.2
     (subst (λ k. Unless (IsOutOfRange k) (StopsBy (InvalidNumberOfSegments k) other between rest)
     (Unless (LacksRoom room (table_size k)) (StopsBy BufferNotLargeEnough other between rest)
-    (Asks gives refuses other between (8 * (k / 2)) (RefusesAtLimit limit other B rest word)))) same q.2)
+    (RefusesRest rule gives refuses limit other B rest word k between))) same q.2)
 
 -- one line at most is the first that holds
-pub RefusesAtStart-once : {gives : Giving} {refuses : Refusing} (laws : IsSource gives refuses) (limit room : Option ℕ)
+pub RefusesAtStart-once : {gives : Giving} {refuses : Refusing} (rule : Padding) (laws : IsSource gives refuses) (limit room : Option ℕ)
     (kind other : ErrorKind) (A B : List ℕ → List ℕ → Type 0) (raw left rest : List ℕ)
     → ((ns behind : List ℕ) → A ns behind → B ns behind → kind ≡ other)
-    → RefusesAtStart gives refuses limit room kind A raw left
-    → RefusesAtStart gives refuses limit room other B raw rest → kind ≡ other
-RefusesAtStart-once {gives} {refuses} laws limit room kind other A B raw left rest after =
+    → RefusesAtStart rule gives refuses limit room kind A raw left
+    → RefusesAtStart rule gives refuses limit room other B raw rest → kind ≡ other
+RefusesAtStart-once {gives} {refuses} rule laws limit room kind other A B raw left rest after =
     Unless-once (λ x y. x.0 ∙ sym y.0) (λ x y. Asks-once laws kind other raw 8
-    (RefusesAtCount gives refuses limit room kind A left) (RefusesAtCount gives refuses limit room other B rest)
-    (λ word between. RefusesAtCount-once laws limit room kind other A B left rest word between after) x.1 y.1)
+    (RefusesAtCount rule gives refuses limit room kind A left) (RefusesAtCount rule gives refuses limit room other B rest)
+    (λ word between. RefusesAtCount-once rule laws limit room kind other A B left rest word between after) x.1 y.1)
 
-pub RefusesStream-once : {gives : Giving} {refuses : Refusing} (laws : IsSource gives refuses) (limit room : Option ℕ)
-    (kind other : ErrorKind) (raw left rest : List ℕ) → RefusesStream gives refuses limit room kind raw left
-    → RefusesStream gives refuses limit room other raw rest → kind ≡ other
-RefusesStream-once laws limit room kind other raw left rest = RefusesAtStart-once laws limit room kind other _ _ raw
+pub RefusesStream-once : {gives : Giving} {refuses : Refusing} (rule : Padding) (laws : IsSource gives refuses) (limit room : Option ℕ)
+    (kind other : ErrorKind) (raw left rest : List ℕ) → RefusesStream rule gives refuses limit room kind raw left
+    → RefusesStream rule gives refuses limit room other raw rest → kind ≡ other
+RefusesStream-once rule laws limit room kind other raw left rest = RefusesAtStart-once rule laws limit room kind other _ _ raw
     left rest (λ ns behind. Unless-once (λ x y. x.0 ∙ sym y.0) (laws.one_kind behind (8 * sum ns) kind other))
 
 -- a table that is accepted comes to what is after it
-few_tells : (word others ns : List ℕ) (count : ℕ) → IsTable (word ++ others) ns → length word ≡ 8 → length ns < 512 → Tells word count → count ≡ length ns
+few_tells : {rule : Padding} (word others ns : List ℕ) (count : ℕ) → IsTable rule (word ++ others) ns → length word ≡ 8 → length ns < 512 → Tells word count → count ≡ length ns
 few_tells word others ns count table long few tells =
     let told = count_told word others ns tells.0 table long tells.2 tells.1 in
     tells.3 ∙ ap (λ k. k % 2 ^ 32) told ∙ small (length ns) few
@@ -109,27 +112,26 @@ pub small_room : (room : Option ℕ) (m n : ℕ) → m ≤ n → (LacksRoom room
 small_room None m n less fits lacks = lacks
 small_room (Some len) m n less fits lacks = fits (omega arith)
 
-pub RefusesAtStart-after : {gives : Giving} {refuses : Refusing} (laws : IsSource gives refuses) (P : Type 0)
+pub RefusesAtStart-after : {gives : Giving} {refuses : Refusing} (rule : Padding) (laws : IsSource gives refuses) (P : Type 0)
     (limit room : Option ℕ) (kind : ErrorKind) (A : List ℕ → List ℕ → Type 0) (raw left ns behind : List ℕ)
-    → TableStands gives ns raw behind → AreWithin ns limit → (LacksRoom room (table_size (length ns)) → ⊥)
-    → (A ns behind → P) → RefusesAtStart gives refuses limit room kind A raw left → P
-RefusesAtStart-after {gives} {refuses} laws P limit room kind A raw left ns behind sent accepts fits after =
+    → TableStands rule gives ns raw behind → AreWithin ns limit → (LacksRoom room (table_size (length ns)) → ⊥)
+    → (A ns behind → P) → RefusesAtStart rule gives refuses limit room kind A raw left → P
+RefusesAtStart-after {gives} {refuses} rule laws P limit room kind A raw left ns behind sent accepts fits after =
     Unless-after (small_room room 8 (table_size (length ns)) (omega arith) fits)
-    (λ x. Asks-after laws kind raw 8 sent.first sent.between (RefusesAtCount gives refuses limit room kind A left)
+    (λ x. Asks-after laws kind raw 8 sent.first sent.between (RefusesAtCount rule gives refuses limit room kind A left)
     sent.first_given counted x.1)
   where
     long : length sent.first ≡ 8
     long = laws.gives_all raw 8 sent.first sent.between sent.first_given
 
-    limited : RefusesAtLimit limit kind A left sent.first sent.others behind → P
+    limited : RefusesAtLimit rule limit kind A left sent.first sent.others behind → P
     limited x =
         let same = IsTable-once (sent.first ++ sent.others) x.0 ns x.1 sent.table in
-        let rest : Unless (IsTooLarge ns limit) (StopsBy (MessageTooLarge (sum ns)) kind behind left) (A ns behind)
-        = subst (λ l. Unless (IsTooLarge l limit) (StopsBy (MessageTooLarge (sum l)) kind behind left)
-        (A l behind)) same x.2 in
-        Unless-after (within_limit ns limit accepts.size) after rest
+        let rest = subst (λ l. Unless (IsTooLarge l limit) (StopsBy (MessageTooLarge (sum l)) kind behind left)
+        (Unless (BreaksPadding rule (sent.first ++ sent.others) l) (StopsBy NonZeroPadding kind behind left) (A l behind))) same x.2 in
+        Unless-after (within_limit ns limit accepts.size) (Unless-after (λ breaks. breaks sent.table) after) rest
 
-    counted : RefusesAtCount gives refuses limit room kind A left sent.first sent.between → P
+    counted : RefusesAtCount rule gives refuses limit room kind A left sent.first sent.between → P
     counted x =
         let same = few_tells sent.first sent.others ns x.0 sent.table long accepts.few x.1 in
         let some = accepts.some in
@@ -137,22 +139,22 @@ RefusesAtStart-after {gives} {refuses} laws P limit room kind A raw left ns behi
         Unless-after (in_range x.0 (omega arith) (omega arith))
         (Unless-after (subst (λ k. LacksRoom room (table_size k) → ⊥) (sym same) fits)
         (Asks-after laws kind sent.between (8 * (x.0 / 2)) sent.others behind
-        (RefusesAtLimit limit kind A left sent.first)
+        (RefusesAtLimit rule limit kind A left sent.first)
         (subst (λ k. gives sent.between (8 * (k / 2)) sent.others behind) (sym same) sent.others_given) limited))
         x.2
 
 -- where nothing is unread no line holds, but for a lent buffer's
-pub RefusesStream-some : (gives : Giving) (refuses : Refusing) (limit room : Option ℕ) (kind : ErrorKind)
-    (raw left : List ℕ) → RefusesStream gives refuses limit room kind raw left → (LacksRoom room 8 → ⊥) → raw ≡ [] → ⊥
-RefusesStream-some gives refuses limit room kind raw left refused fits none = Unless-after fits (λ x. absurd (x.0 none)) refused
+pub RefusesStream-some : (rule : Padding) (gives : Giving) (refuses : Refusing) (limit room : Option ℕ) (kind : ErrorKind)
+    (raw left : List ℕ) → RefusesStream rule gives refuses limit room kind raw left → (LacksRoom room 8 → ⊥) → raw ≡ [] → ⊥
+RefusesStream-some rule gives refuses limit room kind raw left refused fits none = Unless-after fits (λ x. absurd (x.0 none)) refused
 
 -- a message that stands there and is accepted isn't refused
-pub RefusesStream-apart : {gives : Giving} {refuses : Refusing} (laws : IsSource gives refuses) (limit room : Option ℕ)
-    (kind : ErrorKind) (raw left rest : List ℕ) (segments : List (List ℕ)) → MessageStands gives segments raw rest
+pub RefusesStream-apart : {gives : Giving} {refuses : Refusing} (rule : Padding) (laws : IsSource gives refuses) (limit room : Option ℕ)
+    (kind : ErrorKind) (raw left rest : List ℕ) (segments : List (List ℕ)) → MessageStands rule gives segments raw rest
     → IsWithin segments limit → (LacksRoom room (table_size (length (lengths segments)) + 8 * size_in_words segments)
-    → ⊥) → RefusesStream gives refuses limit room kind raw left → ⊥
-RefusesStream-apart laws limit room kind raw left rest segments sent within fits =
-    RefusesAtStart-after laws ⊥ limit room kind _ raw left (lengths segments) sent.between sent.table within
+    → ⊥) → RefusesStream rule gives refuses limit room kind raw left → ⊥
+RefusesStream-apart rule laws limit room kind raw left rest segments sent within fits =
+    RefusesAtStart-after rule laws ⊥ limit room kind _ raw left (lengths segments) sent.between sent.table within
     (small_room room (table_size (length (lengths segments))) _ (omega arith) fits)
     (Unless-after fits (laws.apart sent.between (8 * size_in_words segments) (concat segments) rest kind
     sent.given))
@@ -172,33 +174,33 @@ Asks-map given refused kind raw n F G f (inl p) = inl (refused raw n kind p)
 Asks-map given refused kind raw n F G f (inr p) = inr (p.0, p.1, given raw n p.0 p.1 p.2, f p.0 p.1 p.3)
 
 -- the lines of one source are those of another that gives and refuses what it does
-pub RefusesAtStart-map : {gives others : Giving} {refuses also : Refusing}
+pub RefusesAtStart-map : (rule : Padding) {gives others : Giving} {refuses also : Refusing}
     (given : (raw : List ℕ) (n : ℕ) (bytes rest : List ℕ) → gives raw n bytes rest → others raw n bytes rest)
     (refused : (raw : List ℕ) (n : ℕ) (kind : ErrorKind) → refuses raw n kind → also raw n kind)
     (limit room : Option ℕ) (kind : ErrorKind) (A B : List ℕ → List ℕ → Type 0) (raw left : List ℕ)
-    → ((ns behind : List ℕ) → A ns behind → B ns behind) → RefusesAtStart gives refuses limit room kind A raw left
-    → RefusesAtStart others also limit room kind B raw left
-RefusesAtStart-map {gives} {others} {refuses} {also} given refused limit room kind A B raw left f =
-    Unless-map (λ x. (x.0, Asks-map given refused kind raw 8 (RefusesAtCount gives refuses limit room kind A left) (RefusesAtCount others also limit room kind B left) counted x.1))
+    → ((ns behind : List ℕ) → A ns behind → B ns behind) → RefusesAtStart rule gives refuses limit room kind A raw left
+    → RefusesAtStart rule others also limit room kind B raw left
+RefusesAtStart-map rule {gives} {others} {refuses} {also} given refused limit room kind A B raw left f =
+    Unless-map (λ x. (x.0, Asks-map given refused kind raw 8 (RefusesAtCount rule gives refuses limit room kind A left) (RefusesAtCount rule others also limit room kind B left) counted x.1))
   where
-    limited : (word read behind : List ℕ) → RefusesAtLimit limit kind A left word read behind → RefusesAtLimit limit kind B left word read behind
-    limited word read behind x = (x.0, x.1, Unless-map (f x.0 behind) x.2)
+    limited : (word read behind : List ℕ) → RefusesAtLimit rule limit kind A left word read behind → RefusesAtLimit rule limit kind B left word read behind
+    limited word read behind x = (x.0, x.1, Unless-map (Unless-map (f x.0 behind)) x.2)
 
-    counted : (word between : List ℕ) → RefusesAtCount gives refuses limit room kind A left word between → RefusesAtCount others also limit room kind B left word between
+    counted : (word between : List ℕ) → RefusesAtCount rule gives refuses limit room kind A left word between → RefusesAtCount rule others also limit room kind B left word between
     counted word between x = (
       x.0,
       x.1,
       Unless-map
-          (Unless-map (Asks-map given refused kind between (8 * (x.0 / 2)) (RefusesAtLimit limit kind A left word)
-          (RefusesAtLimit limit kind B left word) (limited word))) x.2,
+          (Unless-map (Asks-map given refused kind between (8 * (x.0 / 2)) (RefusesAtLimit rule limit kind A left word)
+          (RefusesAtLimit rule limit kind B left word) (limited word))) x.2,
     )
 
-pub RefusesStream-map : {gives others : Giving} {refuses also : Refusing}
+pub RefusesStream-map : (rule : Padding) {gives others : Giving} {refuses also : Refusing}
     (given : (raw : List ℕ) (n : ℕ) (bytes rest : List ℕ) → gives raw n bytes rest → others raw n bytes rest)
     (refused : (raw : List ℕ) (n : ℕ) (kind : ErrorKind) → refuses raw n kind → also raw n kind)
     (limit room : Option ℕ) (kind : ErrorKind) (raw left : List ℕ)
-    → RefusesStream gives refuses limit room kind raw left → RefusesStream others also limit room kind raw left
-RefusesStream-map given refused limit room kind raw left = RefusesAtStart-map given refused limit room kind _ _ raw left (λ ns behind. Unless-map (refused behind (8 * sum ns) kind))
+    → RefusesStream rule gives refuses limit room kind raw left → RefusesStream rule others also limit room kind raw left
+RefusesStream-map rule given refused limit room kind raw left = RefusesAtStart-map rule given refused limit room kind _ _ raw left (λ ns behind. Unless-map (refused behind (8 * sum ns) kind))
 
 pub given_some : {gives : Giving} {refuses : Refusing} (laws : IsSource gives refuses) (raw : List ℕ) (n : ℕ) (bytes rest : List ℕ) → gives raw n bytes rest → 0 < n → raw ≡ [] → ⊥
 given_some {gives} laws raw n bytes rest given some none =

@@ -1,10 +1,11 @@
 -- Messages by their requests.
-use Rattle.std.proofs.Common.{◌≡◌, ℕ, ◌+◌, ◌*◌, Option, Some, None, List, [], ◌∷◌, ◌++◌, length, take, drop, refl, sym, ap, ◌∙◌, subst, arith}
+use Rattle.std.proofs.Common.{◌≡◌, ℕ, ◌+◌, ◌*◌, Option, Some, None, List, [], ◌∷◌, ◌++◌, length, take, drop, refl, sym, ap, ◌∙◌, subst, arith, ◌↔◌}
 use Rattle.std.proofs.lemmas.List.{length-take-le, length-drop}
 use Rattle.std.specs.Prelude.{sum}
 use Rattle.std.specs.List.{concat, AllByRecursion}
 use Rattle.std.proofs.lemmas.List.Sums.{sum_by-cons}
 use Rattle.capnp_frame.specs.Message.{IsWholeWords, word_count, lengths, size_in_words}
+use Rattle.capnp_frame.specs.declared.serialize.segment_table.Padding.{Padding}
 use Rattle.capnp_frame.specs.Limits.{AreWithin, IsWithin}
 use Rattle.capnp_frame.specs.SegmentLengths.{cut}
 use Rattle.capnp_frame.specs.Source.{Giving, IfKnown}
@@ -14,7 +15,10 @@ use Rattle.std.proofs.lemmas.Option.{none-some, same_Some}
 use Rattle.capnp_frame.specs.SplittingLaws.{same_front}
 use Rattle.capnp_frame.proofs.Ranges.{concat-cut}
 use Rattle.capnp_frame.proofs.SourceLemmas.{IfKnown-join}
-use Rattle.capnp_frame.proofs.TableLemmas.{TableStands-once}
+use Rattle.capnp_frame.specs.SegmentTable.{zero_padded_table}
+use Rattle.capnp_frame.specs.declared.serialize.segment_table.Padding.TheVariants.{Any, Zero}
+use Rattle.capnp_frame.proofs.TableLemmas.{any_table, zero_table, TableStands-once}
+use Rattle.capnp_frame.proofs.FrameLemmas.{zero_table_is}
 
 -- the parts have the lengths that cut them, and are whole words
 pub lengths-cut : (ns bytes : List ℕ) → length bytes ≡ 8 * sum ns → (lengths (cut ns bytes) ≡ ns) × AllByRecursion IsWholeWords (cut ns bytes)
@@ -27,16 +31,16 @@ lengths-cut (n ∷ ns) bytes all =
     (ap (λ k. k ∷ lengths (cut ns (drop (8 * n) bytes))) here ∙ ap (λ l. n ∷ l) inner.0, (omega arith, inner.1))
 
 -- what is read after its table is the message
-pub MessageStands-cut : (gives : Giving) (ns bytes : List ℕ) (old mid new : Option (List ℕ))
-    → length bytes ≡ 8 * sum ns → IfKnown old mid (TableStands gives ns)
+pub MessageStands-cut : (rule : Padding) (gives : Giving) (ns bytes : List ℕ) (old mid new : Option (List ℕ))
+    → length bytes ≡ 8 * sum ns → IfKnown old mid (TableStands rule gives ns)
     → IfKnown mid new (λ raw rest. gives raw (length bytes) bytes rest)
-    → IfKnown old new (MessageStands gives (cut ns bytes))
-MessageStands-cut gives ns bytes old mid new long table given =
+    → IfKnown old new (MessageStands rule gives (cut ns bytes))
+MessageStands-cut rule gives ns bytes old mid new long table given =
     let lens = lengths-cut ns bytes long in
     let all : length bytes ≡ 8 * size_in_words (cut ns bytes) = long ∙ ap (λ l. 8 * sum l) (sym lens.0) in
     IfKnown-join old mid new (λ raw left rest table given. record {
       between = left;
-      table = subst (λ l. TableStands gives l raw left) (sym lens.0) table;
+      table = subst (λ l. TableStands rule gives l raw left) (sym lens.0) table;
       given = subst (λ l. gives left (8 * size_in_words (cut ns bytes)) l rest) (sym (concat-cut ns bytes long)) (subst (λ k. gives left k bytes rest) all given);
       whole = lens.1;
     }) table given
@@ -58,10 +62,10 @@ parts_once (x ∷ xs) (y ∷ ys) p q lens e =
     ap (λ l. l ∷ xs) parts.0 ∙ ap (λ l. y ∷ l) (parts_once xs ys p.1 q.1 others parts.1)
 
 -- a message stands at one front alone
-pub MessageStands-once : (gives : Giving) (raw rest left : List ℕ) (segments others : List (List ℕ))
+pub MessageStands-once : {rule other : Padding} (gives : Giving) (raw rest left : List ℕ) (segments others : List (List ℕ))
     → ((raw : List ℕ) (n : ℕ) (bytes rest others left : List ℕ) → gives raw n bytes rest → gives raw n others left
     → (bytes ≡ others) × (rest ≡ left)) → ((raw : List ℕ) (n : ℕ) (bytes rest : List ℕ) → gives raw n bytes rest
-    → length bytes ≡ n) → MessageStands gives segments raw rest → MessageStands gives others raw left
+    → length bytes ≡ n) → MessageStands rule gives segments raw rest → MessageStands other gives others raw left
     → (segments ≡ others) × (rest ≡ left)
 MessageStands-once gives raw rest left segments others unique all p q =
     let table = TableStands-once gives raw (lengths segments) p.between (lengths others) q.between unique all p.table q.table in
@@ -71,12 +75,12 @@ MessageStands-once gives raw rest left segments others unique all p q =
     (subst (λ l. gives l (8 * size_in_words segments) (concat segments) rest) table.1 p.given)) q.given in
     (parts_once segments others p.whole q.whole table.0 rests.0, rests.1)
 
-pub table_not_empty : (gives : Giving) (old mid : Option (List ℕ)) (ns : List ℕ)
-    → ((k : ℕ) (bytes rest : List ℕ) → gives [] k bytes rest → k ≡ 0) → IfKnown old mid (TableStands gives ns)
+pub table_not_empty : (rule : Padding) (gives : Giving) (old mid : Option (List ℕ)) (ns : List ℕ)
+    → ((k : ℕ) (bytes rest : List ℕ) → gives [] k bytes rest → k ≡ 0) → IfKnown old mid (TableStands rule gives ns)
     → old ≡ Some [] → ⊥
-table_not_empty gives None mid ns empty table e = absurd (none-some [] e)
-table_not_empty gives (Some raw) None ns empty table e = absurd table
-table_not_empty gives (Some raw) (Some left) ns empty table e =
+table_not_empty rule gives None mid ns empty table e = absurd (none-some [] e)
+table_not_empty rule gives (Some raw) None ns empty table e = absurd table
+table_not_empty rule gives (Some raw) (Some left) ns empty table e =
     let eight : ◌≡◌ {A = ℕ} 8 0 = empty 8 table.first table.between (subst (λ l. gives l 8 table.first table.between) (same_Some raw [] e) table.first_given) in
     absurd (omega arith)
 
@@ -90,10 +94,10 @@ overwritten_parts ns items segments len w long same parts =
     ap (λ k. cut ns (take k (w ++ drop (length w) items))) same ∙ ap (λ l. cut ns (overwritten l w)) (sym bytes) ∙ ap (λ l. cut l (overwritten (concat segments) w)) (sym lens)
 
 -- a message stands by the requests of one source where it does by another's
-pub MessageStands-map : {gives others : Giving}
+pub MessageStands-map : {rule : Padding} {gives others : Giving}
     (given : (raw : List ℕ) (n : ℕ) (bytes rest : List ℕ) → gives raw n bytes rest → others raw n bytes rest)
-    (segments : List (List ℕ)) (raw rest : List ℕ) → MessageStands gives segments raw rest
-    → MessageStands others segments raw rest
+    (segments : List (List ℕ)) (raw rest : List ℕ) → MessageStands rule gives segments raw rest
+    → MessageStands rule others segments raw rest
 MessageStands-map given segments raw rest stands = record {
   between = stands.between;
   table = record {
@@ -107,3 +111,38 @@ MessageStands-map given segments raw rest stands = record {
   given = given _ _ _ _ stands.given;
   whole = stands.whole;
 }
+
+-- a message whose table has zero padding, as one of any padding
+pub zero_message_is : (gives : Giving) (m : List (List ℕ)) (raw rest : List ℕ) → MessageStands Zero gives m raw rest
+    ↔ ((any : MessageStands Any gives m raw rest) × (any.table.first ++ any.table.others ≡ zero_padded_table (lengths m)))
+zero_message_is gives m raw rest = (
+  λ stands. (
+    record {
+      between = stands.between;
+      table = record {
+        first = stands.table.first;
+        others = stands.table.others;
+        between = stands.table.between;
+        first_given = stands.table.first_given;
+        others_given = stands.table.others_given;
+        table = any_table (stands.table.first ++ stands.table.others) (lengths m) stands.table.table;
+      };
+      given = stands.given;
+      whole = stands.whole;
+    },
+    zero_table (stands.table.first ++ stands.table.others) (lengths m) stands.table.table,
+  ),
+  λ (any, is). record {
+    between = any.between;
+    table = record {
+      first = any.table.first;
+      others = any.table.others;
+      between = any.table.between;
+      first_given = any.table.first_given;
+      others_given = any.table.others_given;
+      table = (zero_table_is (any.table.first ++ any.table.others) (lengths m)).1 (any.table.table, is);
+    };
+    given = any.given;
+    whole = any.whole;
+  },
+)

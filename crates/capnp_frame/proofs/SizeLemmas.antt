@@ -13,6 +13,7 @@ use Rattle.capnp_frame.specs.Frame.{frame_text}
 use Rattle.capnp_frame.specs.Source.{IfKnown, Fails}
 use Rattle.capnp_frame.specs.Sink.{Adds, AppendsAll, AppendsSame, ByKind, DeclinesSome}
 use Rattle.capnp_frame.specs.Writing.{IsWritable, word_and_rest, pieces, serialized_words}
+use Rattle.capnp_frame.specs.declared.serialize.segment_table.Padding.TheVariants.{Zero}
 use Rattle.capnp_frame.proofs.FrameLemmas.{zero_padded_is, length-table, length-segments}
 use Rattle.capnp_frame.proofs.AskLemmas.{never_fails}
 use Rattle.capnp_frame.proofs.WritingLemmas.{parts_one, parts_two, length-lengths}
@@ -28,7 +29,7 @@ HasTable-writable segments writable =
 pub length-frame_text : (segments : List (List ℕ)) → IsWritable segments → length (frame_text segments) ≡ 8 * serialized_words segments
 length-frame_text segments writable =
     let table = zero_padded_table (lengths segments) in
-    let long = length-table table (lengths segments) (zero_padded_is (lengths segments) (HasTable-writable segments writable)) in
+    let long = length-table table (lengths segments) (zero_padded_is Zero (lengths segments) (HasTable-writable segments writable)) in
     let body = length-segments segments writable.whole in
     let count = length-lengths segments in
     length-append table (concat segments) ∙ sizes (length table) (length (concat segments)) (length (lengths segments)) (length segments) (size_in_words segments) long body count

@@ -4,6 +4,7 @@ use Rattle.std.specs.Result.{IsErrAnd}
 use Rattle.capnp_frame.specs.declared.error.Error.{Error}
 use Rattle.capnp_frame.specs.declared.error.ErrorKind.{ErrorKind}
 use Rattle.capnp_frame.specs.declared.error.ErrorKind.TheVariants.{DeviceFailed, OutOfMemory}
+use Rattle.capnp_frame.specs.declared.serialize.segment_table.Padding.{Padding}
 use Rattle.capnp_frame.specs.declared.io.Read.{Ghosts}
 use Rattle.capnp_frame.specs.Source.{IfKnown, Advances}
 use Rattle.capnp_frame.specs.Steps.{AsksNext, AsksNextInto}
@@ -11,11 +12,11 @@ use Rattle.capnp_frame.proofs.AskLemmas.{Asked-ok}
 
 -- a step that finds what comes next, after one that was answered
 
-pub asks_found : {S X : Type 0} (source : Ghosts S) (takes : List ℕ → List ℕ → Type 0)
+pub asks_found : {S X : Type 0} (source : Ghosts S) (rule : Padding) (takes : List ℕ → List ℕ → Type 0)
     (lines : ErrorKind → List ℕ → List ℕ → Type 0) (a b c : S) (found : X)
     → (source.same a b → source.same b c → source.same a c) → Advances source.unread source.failures source.same a b
-    → Advances source.unread source.failures source.same b c → AsksNext source a c takes lines (Ok (Some found))
-asks_found source takes lines a b c found join first second = record {
+    → Advances source.unread source.failures source.same b c → AsksNext source a c rule takes lines (Ok (Some found))
+asks_found source rule takes lines a b c found join first second = record {
   none = tt;
   refused = tt;
   kinds = tt;
@@ -23,11 +24,11 @@ asks_found source takes lines a b c found join first second = record {
   asked = Asked-ok join first second;
 }
 
-pub asks_found_into : {S X : Type 0} (source : Ghosts S) (room : ℕ) (lines : ErrorKind → List ℕ → List ℕ → Type 0)
+pub asks_found_into : {S X : Type 0} (source : Ghosts S) (rule : Padding) (room : ℕ) (lines : ErrorKind → List ℕ → List ℕ → Type 0)
     (a b c : S) (found : X) → (room < 8 → ⊥) → (source.same a b → source.same b c → source.same a c)
     → Advances source.unread source.failures source.same a b → Advances source.unread source.failures source.same b c
-    → AsksNextInto source a c room lines (Ok (Some found))
-asks_found_into source room lines a b c found enough join first second = record {
+    → AsksNextInto source a c rule room lines (Ok (Some found))
+asks_found_into source rule room lines a b c found enough join first second = record {
   none = tt;
   short = λ few. absurd (enough few);
   refused = tt;
@@ -38,17 +39,17 @@ asks_found_into source room lines a b c found enough join first second = record 
 
 -- a failure that is passed on, where its lines are among the caller's
 
-pub asks_passed : {S X Y : Type 0} (source : Ghosts S) (old new : S) (takes also : List ℕ → List ℕ → Type 0)
+pub asks_passed : {S X Y : Type 0} (source : Ghosts S) (old new : S) (rule : Padding) (takes also : List ℕ → List ℕ → Type 0)
     (lines others : ErrorKind → List ℕ → List ℕ → Type 0) (error : Error) (result : Result (Option Y) Error)
     → IsErrAnd result (λ own. own ≡ error)
     → ((error.kind ≡ DeviceFailed) ⊎ ((error.kind ≡ OutOfMemory) × IfKnown (source.unread old) (source.unread new) takes)
     ⊎ IfKnown (source.unread old) (source.unread new) (lines error.kind)
     → (error.kind ≡ DeviceFailed) ⊎ ((error.kind ≡ OutOfMemory) × IfKnown (source.unread old) (source.unread new) also)
     ⊎ IfKnown (source.unread old) (source.unread new) (others error.kind))
-    → AsksNext {X = X} source old new takes lines (Err error) → AsksNext source old new also others result
-asks_passed source old new takes also lines others error (Ok found) is among told = absurd is
-asks_passed {Y = Y} source old new takes also lines others error (Err own) is among told =
-    subst (λ e. AsksNext {X = Y} source old new also others (Err e)) (sym is) (record {
+    → AsksNext {X = X} source old new rule takes lines (Err error) → AsksNext source old new rule also others result
+asks_passed source old new rule takes also lines others error (Ok found) is among told = absurd is
+asks_passed {Y = Y} source old new rule takes also lines others error (Err own) is among told =
+    subst (λ e. AsksNext {X = Y} source old new rule also others (Err e)) (sym is) (record {
       none = tt;
       refused = among told.refused;
       kinds = told.kinds;
@@ -56,15 +57,15 @@ asks_passed {Y = Y} source old new takes also lines others error (Err own) is am
       asked = record { failed = told.asked.failed; advances = told.asked.advances };
     })
 
-pub asks_passed_into : {S X Y : Type 0} (source : Ghosts S) (old new : S) (room : ℕ)
+pub asks_passed_into : {S X Y : Type 0} (source : Ghosts S) (old new : S) (rule : Padding) (room : ℕ)
     (lines others : ErrorKind → List ℕ → List ℕ → Type 0) (error : Error) (result : Result (Option Y) Error)
     → IsErrAnd result (λ own. own ≡ error)
     → ((error.kind ≡ DeviceFailed) ⊎ IfKnown (source.unread old) (source.unread new) (lines error.kind)
     → (error.kind ≡ DeviceFailed) ⊎ IfKnown (source.unread old) (source.unread new) (others error.kind))
-    → AsksNextInto {X = X} source old new room lines (Err error) → AsksNextInto source old new room others result
-asks_passed_into source old new room lines others error (Ok found) is among told = absurd is
-asks_passed_into {Y = Y} source old new room lines others error (Err own) is among told =
-    subst (λ e. AsksNextInto {X = Y} source old new room others (Err e)) (sym is) (record {
+    → AsksNextInto {X = X} source old new rule room lines (Err error) → AsksNextInto source old new rule room others result
+asks_passed_into source old new rule room lines others error (Ok found) is among told = absurd is
+asks_passed_into {Y = Y} source old new rule room lines others error (Err own) is among told =
+    subst (λ e. AsksNextInto {X = Y} source old new rule room others (Err e)) (sym is) (record {
       none = tt;
       short = told.short;
       refused = among told.refused;

@@ -1,12 +1,15 @@
 -- Tables, field by field.
-use Rattle.std.proofs.Common.{◌≡◌, ℕ, ◌+◌, ◌-◌, ◌*◌, ◌/◌, ◌<◌, ◌^◌, List, [], ◌∷◌, ◌++◌, length, take}
-use Rattle.std.proofs.Common.{refl, sym, ap, ◌∙◌, subst, arith, append_assoc, length-append}
+use Rattle.std.proofs.Common.{◌≡◌, ℕ, ◌+◌, ◌-◌, ◌*◌, ◌/◌, ◌<◌, ◌^◌, List, [], ◌∷◌, ◌++◌, length, take, drop}
+use Rattle.std.proofs.Common.{refl, sym, ap, ◌∙◌, subst, arith, append_assoc, length-append, replicate}
 use lib.Seq.{take-append-le}
 use Rattle.std.specs.List.{flat_map, AllByRecursion}
 use Rattle.std.specs.Int.{w32, from_le_bytes}
 use Rattle.std.proofs.lemmas.Nat.{from_le_bytes-to_le_bytes_4}
+use Rattle.std.proofs.lemmas.List.{drop_at, length-replicate}
 use Rattle.capnp_frame.specs.SplittingLaws.{same_front}
-use Rattle.capnp_frame.specs.SegmentTable.{field, FitsField, table_text, IsTable}
+use Rattle.capnp_frame.specs.declared.serialize.segment_table.Padding.{Padding}
+use Rattle.capnp_frame.specs.declared.serialize.segment_table.Padding.TheVariants.{Any, Zero}
+use Rattle.capnp_frame.specs.SegmentTable.{field, FitsField, table_text, zero_padded_table, KeepsPadding, IsTable}
 use Rattle.capnp_frame.specs.Source.{Giving}
 use Rattle.capnp_frame.specs.Requests.{TableStands}
 
@@ -30,7 +33,7 @@ fields_once (n ∷ ns) (m ∷ ms) p q e =
     ap (λ k. k ∷ ns) (field-once n m p.0 q.0 parts.0) ∙ ap (λ l. m ∷ l) (fields_once ns ms p.1 q.1 parts.1)
 
 -- the first field of a table is the number of its lengths less one
-pub count_told : (first others ns : List ℕ) (n : ℕ) → IsTable (first ++ others) ns → length first ≡ 8 → field n ≡ take 4 first → n < 2 ^ 32 → n + 1 ≡ length ns
+pub count_told : {rule : Padding} (first others ns : List ℕ) (n : ℕ) → IsTable rule (first ++ others) ns → length first ≡ 8 → field n ≡ take 4 first → n < 2 ^ 32 → n + 1 ≡ length ns
 count_told first others ns n table word read fits =
     let front : take 4 (first ++ others) ≡ take 4 first = take-append-le 4 first others (omega arith) in
     let told : field (length ns - 1) ≡ take 4 (first ++ others) = ap (take 4) (sym table.spelled) in
@@ -40,7 +43,7 @@ count_told first others ns n table word read fits =
     omega arith
 
 -- a text is a table of one list of lengths alone
-pub IsTable-once : (text ns ms : List ℕ) → IsTable text ns → IsTable text ms → ns ≡ ms
+pub IsTable-once : {rule other : Padding} (text ns ms : List ℕ) → IsTable rule text ns → IsTable other text ms → ns ≡ ms
 IsTable-once text ns ms p q =
     let whole : table_text ns p.padding ≡ table_text ms q.padding = sym p.spelled ∙ q.spelled in
     let some = p.can.some in
@@ -54,11 +57,32 @@ IsTable-once text ns ms p q =
     let fields = same_front (flat_map field ns) (flat_map field ms) p.padding q.padding (omega (arith, length-fields ns, length-fields ms)) counts.1 in
     fields_once ns ms p.can.each q.can.each fields.0
 
+-- the padding stands behind the fields
+pub padding_at : {rule : Padding} (text ns : List ℕ) (count : ℕ) → (table : IsTable rule text ns) → count ≡ length ns → drop (4 * (count + 1)) text ≡ table.padding
+padding_at text ns count table many =
+    let front = field (length ns - 1) ++ flat_map field ns in
+    let some = table.can.some in
+    let long : length front ≡ 4 * (count + 1) = omega (arith, length-append (field (length ns - 1)) (flat_map field ns), length-fields ns) in
+    ap (drop (4 * (count + 1))) table.spelled ∙ drop_at front table.padding (4 * (count + 1)) long
+
+-- a table by a rule is one of any padding
+pub any_table : {rule : Padding} (text ns : List ℕ) → IsTable rule text ns → IsTable Any text ns
+any_table text ns table = record { can = table.can; padding = table.padding; padded = table.padded; kept = tt; spelled = table.spelled }
+
+-- zeros are taken by each rule
+pub zeros_kept : (rule : Padding) (count : ℕ) → KeepsPadding rule (replicate count 0)
+zeros_kept Any count = tt
+zeros_kept Zero count = ap (λ k. replicate k 0) (sym (length-replicate count 0))
+
+-- and a table of zero padding is the one that is written
+pub zero_table : (text ns : List ℕ) → IsTable Zero text ns → text ≡ zero_padded_table ns
+zero_table text ns table = table.spelled ∙ ap (table_text ns) (table.kept ∙ ap (λ k. replicate k 0) table.padded)
+
 -- the number in the first field
 abbrev number : List ℕ → ℕ
 number first = from_le_bytes w32 (take 4 first)
 
-told : (ns first others : List ℕ) → IsTable (first ++ others) ns → length first ≡ 8 → number first + 1 ≡ length ns
+told : {rule : Padding} (ns first others : List ℕ) → IsTable rule (first ++ others) ns → length first ≡ 8 → number first + 1 ≡ length ns
 told ns first others table size =
     let front : take 4 (first ++ others) ≡ take 4 first = take-append-le 4 first others (omega arith) in
     let spelled : field (length ns - 1) ≡ take 4 (first ++ others) = ap (take 4) (sym table.spelled) in
@@ -68,11 +92,11 @@ told ns first others table size =
     omega arith
 
 -- one table stands at a front
-pub TableStands-once : (gives : Giving) (raw ns rest ms left : List ℕ)
+pub TableStands-once : {rule other : Padding} (gives : Giving) (raw ns rest ms left : List ℕ)
     → ((raw : List ℕ) (n : ℕ) (bytes rest others left : List ℕ) → gives raw n bytes rest → gives raw n others left
     → (bytes ≡ others) × (rest ≡ left)) → ((raw : List ℕ) (n : ℕ) (bytes rest : List ℕ) → gives raw n bytes rest
-    → length bytes ≡ n) → TableStands gives ns raw rest → TableStands gives ms raw left → (ns ≡ ms) × (rest ≡ left)
-TableStands-once gives raw ns rest ms left unique all p q =
+    → length bytes ≡ n) → TableStands rule gives ns raw rest → TableStands other gives ms raw left → (ns ≡ ms) × (rest ≡ left)
+TableStands-once {rule} gives raw ns rest ms left unique all p q =
     let first = unique raw 8 p.first p.between q.first q.between p.first_given q.first_given in
     let lens : length ns ≡ length ms = sym (told ns p.first p.others p.table
     (all raw 8 p.first p.between p.first_given)) ∙ ap (λ l. number l + 1) first.0
@@ -81,4 +105,4 @@ TableStands-once gives raw ns rest ms left unique all p q =
     (subst (λ k. gives q.between (8 * (k / 2)) p.others rest) lens
     (subst (λ l. gives l (8 * (length ns / 2)) p.others rest) first.1 p.others_given)) q.others_given in
     let texts : p.first ++ p.others ≡ q.first ++ q.others = ap (λ l. l ++ p.others) first.0 ∙ ap (λ l. q.first ++ l) rests.0 in
-    (IsTable-once (q.first ++ q.others) ns ms (subst (λ l. IsTable l ns) texts p.table) q.table, rests.1)
+    (IsTable-once (q.first ++ q.others) ns ms (subst (λ l. IsTable rule l ns) texts p.table) q.table, rests.1)

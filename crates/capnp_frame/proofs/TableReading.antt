@@ -3,13 +3,14 @@ use Rattle.std.proofs.Common.{◌≡◌, ℕ, ◌+◌, ◌-◌, ◌*◌, ◌/◌
 use Rattle.std.proofs.lemmas.List.{take-append-drop, take_all, take_at, drop_at, length-take-le}
 use lib.Seq.{take-append-le}
 use borrow.Rule.Slice.PartMut.{put_mid}
-use Rattle.capnp_frame.specs.SegmentTable.{table_size, IsTable}
+use Rattle.capnp_frame.specs.declared.serialize.segment_table.Padding.{Padding}
+use Rattle.capnp_frame.specs.SegmentTable.{table_size, KeepsPadding, IsTable}
 use Rattle.capnp_frame.specs.Source.{Giving, IfKnown}
 use Rattle.capnp_frame.specs.Requests.{RestStands, TableStands}
 use Rattle.capnp_frame.specs.Refusals.{TellsAccepted}
-use Rattle.capnp_frame.specs.Front.{told_lengths, SpellsLengths, TellsTable}
+use Rattle.capnp_frame.specs.Front.{told_lengths, told_padding, SpellsLengths, TellsTable}
 use Rattle.capnp_frame.proofs.SourceLemmas.{IfKnown-join, IfKnown-weaker, length-put_mid, put_mid_front}
-use Rattle.capnp_frame.proofs.FrontLemmas.{length-told, table_is}
+use Rattle.capnp_frame.proofs.FrontLemmas.{length-told, table_is, padding_told}
 
 take_within : (m n : ℕ) (xs : List ℕ) → m ≤ n → n ≤ length xs → take m (take n xs) ≡ take m xs
 take_within m n xs less there = sym (take-append-le m (take n xs) (drop n xs) (omega (arith, length-take-le n xs there))) ∙ ap (take m) (take-append-drop n xs)
@@ -44,28 +45,45 @@ tells_completed word table count front long accepted spells = record {
   room = omega arith;
 }
 
+-- the first word and the others are a table
+pub whole_table : (rule : Padding) (word table : List ℕ) (count : ℕ) → take 8 table ≡ word → length table ≡ table_size count
+    → TellsTable table count → KeepsPadding rule (told_padding count table)
+    → IsTable rule (word ++ drop 8 table) (told_lengths count table)
+whole_table rule word table count front long tells kept =
+    let ns = told_lengths count table in
+    let parts : table ≡ word ++ drop 8 table = sym (take-append-drop 8 table) ∙ ap (λ l. l ++ drop 8 table) front in
+    let whole : IsTable rule table ns = subst (λ l. IsTable rule l ns) (take_all (table_size count) table (omega arith)) (table_is rule table count tells kept) in
+    subst (λ l. IsTable rule l ns) parts whole
+
+-- of another padding they are none
+pub broken_table : (rule : Padding) (word table : List ℕ) (count : ℕ) → take 8 table ≡ word → length table ≡ table_size count
+    → (KeepsPadding rule (told_padding count table) → ⊥) → IsTable rule (word ++ drop 8 table) (told_lengths count table) → ⊥
+broken_table rule word table count front long broken is =
+    let parts : word ++ drop 8 table ≡ table = ap (λ l. l ++ drop 8 table) (sym front) ∙ take-append-drop 8 table in
+    let many = length-told count table in
+    let whole = subst (λ l. IsTable rule l (told_lengths count table)) (parts ∙ sym (take_all (table_size count) table (omega arith))) is in
+    broken (padding_told rule table count whole)
+
 -- and its other words are what the second request gave
-pub rest_stands : (gives : Giving) (word table : List ℕ) (count : ℕ) (old new : Option (List ℕ)) → take 8 table ≡ word
-    → length table ≡ table_size count → TellsTable table count
+pub rest_stands : (rule : Padding) (gives : Giving) (word table : List ℕ) (count : ℕ) (old new : Option (List ℕ)) → take 8 table ≡ word
+    → length table ≡ table_size count → TellsTable table count → KeepsPadding rule (told_padding count table)
     → IfKnown old new (λ raw rest. gives raw (length table - 8) (drop 8 table) rest)
-    → IfKnown old new (RestStands gives word (told_lengths count table))
-rest_stands gives word table count old new front long tells =
+    → IfKnown old new (RestStands rule gives word (told_lengths count table))
+rest_stands rule gives word table count old new front long tells kept =
     let ns = told_lengths count table in
     let many = length-told count table in
     let size : length table - 8 ≡ 8 * (length ns / 2) = omega arith in
-    let parts : table ≡ word ++ drop 8 table = sym (take-append-drop 8 table) ∙ ap (λ l. l ++ drop 8 table) front in
-    let whole : IsTable table ns = subst (λ l. IsTable l ns) (take_all (table_size count) table (omega arith)) (table_is table count tells) in
     IfKnown-weaker old new (λ raw rest given. record {
       others = drop 8 table;
       given = subst (λ k. gives raw k (drop 8 table) rest) size given;
-      table = subst (λ l. IsTable l ns) parts whole;
+      table = whole_table rule word table count front long tells kept;
     })
 
 -- the first word and then the others are a table
-pub table_stands : (gives : Giving) (word ns : List ℕ) (old mid new : Option (List ℕ))
-    → IfKnown old mid (λ raw rest. gives raw 8 word rest) → IfKnown mid new (RestStands gives word ns)
-    → IfKnown old new (TableStands gives ns)
-table_stands gives word ns old mid new = IfKnown-join old mid new (λ raw between rest first others. record {
+pub table_stands : (rule : Padding) (gives : Giving) (word ns : List ℕ) (old mid new : Option (List ℕ))
+    → IfKnown old mid (λ raw rest. gives raw 8 word rest) → IfKnown mid new (RestStands rule gives word ns)
+    → IfKnown old new (TableStands rule gives ns)
+table_stands rule gives word ns old mid new = IfKnown-join old mid new (λ raw between rest first others. record {
   first = word;
   others = others.others;
   between = between;

@@ -3,45 +3,46 @@ use Rattle.std.proofs.Common.{◌≡◌, ℕ, ◌≤◌, Option, Some, None, Lis
 use Rattle.std.proofs.lemmas.List.{append-nil}
 use Rattle.std.specs.List.{concat}
 use Rattle.capnp_frame.specs.declared.error.ErrorKind.{ErrorKind}
-use Rattle.capnp_frame.specs.Limits.{IsWithin}
+use Rattle.capnp_frame.specs.declared.serialize.segment_table.Padding.{Padding}
+use Rattle.capnp_frame.specs.declared.serialize.segment_table.Padding.TheVariants.{Any}
 use Rattle.capnp_frame.specs.Source.{Giving, Refusing, IsSource}
 use Rattle.capnp_frame.specs.Requests.{MessageStands}
 use Rattle.capnp_frame.specs.Sink.{AppendsSame, AppendsAll}
 use Rattle.capnp_frame.specs.Texts.{Grammar, BeginsWith, AreTexts, Ends}
 use Rattle.capnp_frame.specs.Frame.{IsFrame}
 use Rattle.capnp_frame.specs.SplittingLaws.{same_front, splitting}
-use Rattle.capnp_frame.proofs.FrameLemmas.{plain_requests}
+use Rattle.capnp_frame.proofs.FrameLemmas.{plain_requests, any_frame}
 use Rattle.capnp_frame.proofs.RequestLemmas.{MessageStands-once}
 use Rattle.capnp_frame.proofs.RefusalLemmas.{given_some, RefusesStream-apart, RefusesStream-once, RefusesStream-some}
 
 -- What a grammar's texts have with its source's requests: one message begins a stream, and none does where it ends.
-pub record PartsStreams (IsText : Grammar) (gives : Giving) (refuses : Refusing) (limit : Option ℕ) : Type 0 where
+pub record PartsStreams (IsText : Grammar) (rule : Padding) (gives : Giving) (refuses : Refusing) (limit : Option ℕ) : Type 0 where
   pub begins_once : (m n : List (List ℕ)) (raw rest left : List ℕ) → BeginsWith IsText limit m raw rest → BeginsWith IsText limit n raw left → (m ≡ n) × (rest ≡ left)
-  pub ends_apart : (ending : Option ErrorKind) (m : List (List ℕ)) (raw rest : List ℕ) → Ends gives refuses limit ending raw → BeginsWith IsText limit m raw rest → ⊥
+  pub ends_apart : (ending : Option ErrorKind) (m : List (List ℕ)) (raw rest : List ℕ) → Ends rule gives refuses limit ending raw → BeginsWith IsText limit m raw rest → ⊥
 
 -- more texts are none behind an end
-pub AreTexts-most : {IsText : Grammar} {gives : Giving} {refuses : Refusing} {limit : Option ℕ}
-    (parts : PartsStreams IsText gives refuses limit) (ending : Option ErrorKind) (ms ns : List (List (List ℕ)))
-    (raw rest left : List ℕ) → AreTexts IsText limit ms raw rest → Ends gives refuses limit ending rest
+pub AreTexts-most : {IsText : Grammar} {rule : Padding} {gives : Giving} {refuses : Refusing} {limit : Option ℕ}
+    (parts : PartsStreams IsText rule gives refuses limit) (ending : Option ErrorKind) (ms ns : List (List (List ℕ)))
+    (raw rest left : List ℕ) → AreTexts IsText limit ms raw rest → Ends rule gives refuses limit ending rest
     → AreTexts IsText limit ns raw left → length ns ≤ length ms
 AreTexts-most parts ending ms [] raw rest left texts ends others = omega arith
-AreTexts-most {gives = gives} {refuses = refuses} {limit = limit} parts ending [] (n ∷ ns) raw rest left texts ends others =
-    absurd (parts.ends_apart ending n raw others.0 (subst (λ l. Ends gives refuses limit ending l) texts ends) others.1)
+AreTexts-most {rule = rule} {gives = gives} {refuses = refuses} {limit = limit} parts ending [] (n ∷ ns) raw rest left texts ends others =
+    absurd (parts.ends_apart ending n raw others.0 (subst (λ l. Ends rule gives refuses limit ending l) texts ends) others.1)
 AreTexts-most {IsText} {limit = limit} parts ending (m ∷ ms) (n ∷ ns) raw rest left texts ends others =
     let same = parts.begins_once n m raw others.0 texts.0 others.1 texts.1 in
     let inner = AreTexts-most parts ending ms ns texts.0 rest left texts.2 ends (subst (λ l. AreTexts IsText limit ns l left) same.1 others.2) in
     omega arith
 
 -- up to an end there is one list of messages
-pub AreTexts-once : {IsText : Grammar} {gives : Giving} {refuses : Refusing} {limit : Option ℕ}
-    (parts : PartsStreams IsText gives refuses limit) (ending other : Option ErrorKind) (ms ns : List (List (List ℕ)))
-    (raw rest left : List ℕ) → AreTexts IsText limit ms raw rest → Ends gives refuses limit ending rest
-    → AreTexts IsText limit ns raw left → Ends gives refuses limit other left → (ms ≡ ns) × (rest ≡ left)
+pub AreTexts-once : {IsText : Grammar} {rule : Padding} {gives : Giving} {refuses : Refusing} {limit : Option ℕ}
+    (parts : PartsStreams IsText rule gives refuses limit) (ending other : Option ErrorKind) (ms ns : List (List (List ℕ)))
+    (raw rest left : List ℕ) → AreTexts IsText limit ms raw rest → Ends rule gives refuses limit ending rest
+    → AreTexts IsText limit ns raw left → Ends rule gives refuses limit other left → (ms ≡ ns) × (rest ≡ left)
 AreTexts-once parts ending other [] [] raw rest left texts ends others also = (refl, texts ∙ sym others)
-AreTexts-once {gives = gives} {refuses = refuses} {limit = limit} parts ending other [] (n ∷ ns) raw rest left texts ends others also =
-    absurd (parts.ends_apart ending n raw others.0 (subst (λ l. Ends gives refuses limit ending l) texts ends) others.1)
-AreTexts-once {gives = gives} {refuses = refuses} {limit = limit} parts ending other (m ∷ ms) [] raw rest left texts ends others also =
-    absurd (parts.ends_apart other m raw texts.0 (subst (λ l. Ends gives refuses limit other l) others also) texts.1)
+AreTexts-once {rule = rule} {gives = gives} {refuses = refuses} {limit = limit} parts ending other [] (n ∷ ns) raw rest left texts ends others also =
+    absurd (parts.ends_apart ending n raw others.0 (subst (λ l. Ends rule gives refuses limit ending l) texts ends) others.1)
+AreTexts-once {rule = rule} {gives = gives} {refuses = refuses} {limit = limit} parts ending other (m ∷ ms) [] raw rest left texts ends others also =
+    absurd (parts.ends_apart other m raw texts.0 (subst (λ l. Ends rule gives refuses limit other l) others also) texts.1)
 AreTexts-once {IsText} {limit = limit} parts ending other (m ∷ ms) (n ∷ ns) raw rest left texts ends others also =
     let same = parts.begins_once n m raw others.0 texts.0 others.1 texts.1 in
     let inner = AreTexts-once parts ending other ms ns texts.0 rest left texts.2 ends (subst (λ l. AreTexts IsText limit ns l left) same.1 others.2) also in
@@ -55,35 +56,35 @@ AreTexts-push IsText limit [] m raw between rest texts begins = (rest, subst (λ
 AreTexts-push IsText limit (n ∷ ns) m raw between rest texts begins = (texts.0, texts.1, AreTexts-push IsText limit ns m texts.0 between rest texts.2 begins)
 
 -- a grammar's texts are what three requests of a source take
-abbrev pub AreRequested : Grammar → Giving → Type 0
-AreRequested IsText gives = (segments : List (List ℕ)) (raw rest : List ℕ) → MessageStands gives segments raw rest ↔ ((text : List ℕ) × IsText text segments × (raw ≡ text ++ rest))
+abbrev pub AreRequested : Grammar → Padding → Giving → Type 0
+AreRequested IsText rule gives = (segments : List (List ℕ)) (raw rest : List ℕ) → MessageStands rule gives segments raw rest ↔ ((text : List ℕ) × IsText text segments × (raw ≡ text ++ rest))
 
-requested : {IsText : Grammar} {gives : Giving} {limit : Option ℕ} (texts : AreRequested IsText gives)
-    (m : List (List ℕ)) (raw rest : List ℕ) → BeginsWith IsText limit m raw rest → MessageStands gives m raw rest
-requested texts m raw rest begins = (texts m raw rest).1 (begins.text, begins.is_text, begins.spelled)
+requested : {IsText : Grammar} {gives : Giving} {limit : Option ℕ} (rule : Padding) (texts : AreRequested IsText rule gives)
+    (m : List (List ℕ)) (raw rest : List ℕ) → BeginsWith IsText limit m raw rest → MessageStands rule gives m raw rest
+requested rule texts m raw rest begins = (texts m raw rest).1 (begins.text, begins.is_text, begins.spelled)
 
-nothing_at_end : {IsText : Grammar} {gives : Giving} {refuses : Refusing} (laws : IsSource gives refuses)
-    (texts : AreRequested IsText gives) (limit : Option ℕ) (ending : Option ErrorKind) (m : List (List ℕ))
-    (raw rest : List ℕ) → Ends gives refuses limit ending raw → BeginsWith IsText limit m raw rest → ⊥
-nothing_at_end laws texts limit None m raw rest ends begins =
-    let stands = requested texts m raw rest begins in
+nothing_at_end : {IsText : Grammar} {gives : Giving} {refuses : Refusing} (rule : Padding) (laws : IsSource gives refuses)
+    (texts : AreRequested IsText rule gives) (limit : Option ℕ) (ending : Option ErrorKind) (m : List (List ℕ))
+    (raw rest : List ℕ) → Ends rule gives refuses limit ending raw → BeginsWith IsText limit m raw rest → ⊥
+nothing_at_end rule laws texts limit None m raw rest ends begins =
+    let stands = requested rule texts m raw rest begins in
     given_some laws raw 8 stands.table.first stands.table.between stands.table.first_given (lit< tt) ends
-nothing_at_end laws texts limit (Some kind) m raw rest ends begins =
-    RefusesStream-apart laws limit None kind raw ends.0 rest m (requested texts m raw rest begins) begins.within (λ x. x) ends.1
+nothing_at_end rule laws texts limit (Some kind) m raw rest ends begins =
+    RefusesStream-apart rule laws limit None kind raw ends.0 rest m (requested rule texts m raw rest begins) begins.within (λ x. x) ends.1
 
-pub parts_streams : {IsText : Grammar} {gives : Giving} {refuses : Refusing} (laws : IsSource gives refuses)
-    (texts : AreRequested IsText gives) (limit : Option ℕ) → PartsStreams IsText gives refuses limit
-parts_streams {gives = gives} laws texts limit = record {
-  begins_once = λ m n raw rest left p q. MessageStands-once gives raw rest left m n laws.unique laws.gives_all (requested texts m raw rest p) (requested texts n raw left q);
-  ends_apart = nothing_at_end laws texts limit;
+pub parts_streams : {IsText : Grammar} {gives : Giving} {refuses : Refusing} (rule : Padding) (laws : IsSource gives refuses)
+    (texts : AreRequested IsText rule gives) (limit : Option ℕ) → PartsStreams IsText rule gives refuses limit
+parts_streams {gives = gives} rule laws texts limit = record {
+  begins_once = λ m n raw rest left p q. MessageStands-once gives raw rest left m n laws.unique laws.gives_all (requested rule texts m raw rest p) (requested rule texts n raw left q);
+  ends_apart = nothing_at_end rule laws texts limit;
 }
 
 -- no text begins a different one
-pub texts_part : {IsText : Grammar} {gives : Giving} {refuses : Refusing} (laws : IsSource gives refuses)
-    (texts : AreRequested IsText gives) (text other rest left : List ℕ) (segments others : List (List ℕ))
+pub texts_part : {IsText : Grammar} {gives : Giving} {refuses : Refusing} (rule : Padding) (laws : IsSource gives refuses)
+    (texts : AreRequested IsText rule gives) (text other rest left : List ℕ) (segments others : List (List ℕ))
     → IsText text segments → IsText other others → text ++ rest ≡ other ++ left → (text ≡ other) × (segments ≡ others)
     × (rest ≡ left)
-texts_part {gives = gives} laws texts text other rest left segments others is also e =
+texts_part {gives = gives} rule laws texts text other rest left segments others is also e =
     let same = MessageStands-once gives (text ++ rest) rest left segments others laws.unique laws.gives_all
     ((texts segments (text ++ rest) rest).1 (text, is, refl))
     ((texts others (text ++ rest) left).1 (other, also, e)) in
@@ -91,9 +92,9 @@ texts_part {gives = gives} laws texts text other rest left segments others is al
     ((same_front text other rest left long e).0, same.0, same.1)
 
 -- no frame begins a different one
-pub frames_part : (text other rest left : List ℕ) (segments others : List (List ℕ)) → IsFrame text segments
-    → IsFrame other others → text ++ rest ≡ other ++ left → (text ≡ other) × (segments ≡ others) × (rest ≡ left)
-frames_part text other rest left segments others = texts_part splitting plain_requests text other rest left segments others
+pub frames_part : {rule also : Padding} (text other rest left : List ℕ) (segments others : List (List ℕ)) → IsFrame rule text segments
+    → IsFrame also other others → text ++ rest ≡ other ++ left → (text ≡ other) × (segments ≡ others) × (rest ≡ left)
+frames_part text other rest left segments others is so = texts_part Any splitting (plain_requests Any) text other rest left segments others (any_frame text segments is) (any_frame other others so)
 
 -- pieces behind one another
 pub AppendsAll-push : (appends : List ℕ → List ℕ → Type 0) (pieces : List (List ℕ)) (piece text more : List ℕ)
@@ -110,18 +111,10 @@ pieces_joined (p ∷ ps) text = (
 )
 
 -- a stream ends in one way
-pub Ends-once : {gives : Giving} {refuses : Refusing} (laws : IsSource gives refuses) (limit : Option ℕ)
-    (ending other : Option ErrorKind) (rest : List ℕ) → Ends gives refuses limit ending rest
-    → Ends gives refuses limit other rest → ending ≡ other
-Ends-once laws limit None None rest p q = refl
-Ends-once {gives} {refuses} laws limit None (Some kind) rest p q = absurd (RefusesStream-some gives refuses limit None kind rest q.0 q.1 (λ x. x) p)
-Ends-once {gives} {refuses} laws limit (Some kind) None rest p q = absurd (RefusesStream-some gives refuses limit None kind rest p.0 p.1 (λ x. x) q)
-Ends-once laws limit (Some kind) (Some other) rest p q = ap Some (RefusesStream-once laws limit None kind other rest p.0 q.0 p.1 q.1)
-
--- a message that stands by its requests begins the stream
-pub begins_from_requests : {IsText : Grammar} {gives : Giving} (texts : AreRequested IsText gives) (limit : Option ℕ)
-    (segments : List (List ℕ)) (raw rest : List ℕ) → IsWithin segments limit → MessageStands gives segments raw rest
-    → BeginsWith IsText limit segments raw rest
-begins_from_requests texts limit segments raw rest within stands =
-    let text = (texts segments raw rest).0 stands in
-    record { text = text.0; is_text = text.1; within = within; spelled = text.2 }
+pub Ends-once : {gives : Giving} {refuses : Refusing} (rule : Padding) (laws : IsSource gives refuses) (limit : Option ℕ)
+    (ending other : Option ErrorKind) (rest : List ℕ) → Ends rule gives refuses limit ending rest
+    → Ends rule gives refuses limit other rest → ending ≡ other
+Ends-once rule laws limit None None rest p q = refl
+Ends-once {gives} {refuses} rule laws limit None (Some kind) rest p q = absurd (RefusesStream-some rule gives refuses limit None kind rest q.0 q.1 (λ x. x) p)
+Ends-once {gives} {refuses} rule laws limit (Some kind) None rest p q = absurd (RefusesStream-some rule gives refuses limit None kind rest p.0 p.1 (λ x. x) q)
+Ends-once rule laws limit (Some kind) (Some other) rest p q = ap Some (RefusesStream-once rule laws limit None kind other rest p.0 q.0 p.1 q.1)

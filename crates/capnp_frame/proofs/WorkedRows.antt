@@ -2,6 +2,7 @@
 use Rattle.std.proofs.Common.{Some, None, inl, inr, ◌≡◌, ℕ, List, [], ◌∷◌, ◌++◌, length, refl, replicate, lit<, lit≤}
 use Rattle.std.specs.List.{concat}
 use Rattle.capnp_frame.specs.Message.{lengths}
+use Rattle.capnp_frame.specs.declared.serialize.segment_table.Padding.TheVariants.{Any, Zero}
 use Rattle.capnp_frame.specs.SegmentTable.{zero_padded_table}
 use Rattle.capnp_frame.specs.Frame.{IsFrame, frame_text}
 use Rattle.capnp_frame.specs.Source.{Splits, RunsShort}
@@ -12,14 +13,15 @@ use Rattle.capnp_frame.specs.declared.error.ErrorKind.TheVariants.{FailedToFillT
 abbrev eight : List ℕ
 eight = 1 ∷ 2 ∷ 3 ∷ 4 ∷ 5 ∷ 6 ∷ 7 ∷ 8 ∷ []
 
--- padding may hold anything
-pub padded_frame : IsFrame (1 ∷ 0 ∷ 0 ∷ 0 ∷ 0 ∷ 0 ∷ 0 ∷ 0 ∷ 1 ∷ 0 ∷ 0 ∷ 0 ∷ 9 ∷ 9 ∷ 9 ∷ 9 ∷ eight) ([] ∷ eight ∷ [])
+-- by the rule of any padding it may hold anything
+pub padded_frame : IsFrame Any (1 ∷ 0 ∷ 0 ∷ 0 ∷ 0 ∷ 0 ∷ 0 ∷ 0 ∷ 1 ∷ 0 ∷ 0 ∷ 0 ∷ 9 ∷ 9 ∷ 9 ∷ 9 ∷ eight) ([] ∷ eight ∷ [])
 padded_frame = record {
   table = 1 ∷ 0 ∷ 0 ∷ 0 ∷ 0 ∷ 0 ∷ 0 ∷ 0 ∷ 1 ∷ 0 ∷ 0 ∷ 0 ∷ 9 ∷ 9 ∷ 9 ∷ 9 ∷ [];
   lengths_told = record {
     can = record { some = lit< tt; count = lit≤ tt; each = (lit< tt, (lit< tt, tt)) };
     padding = 9 ∷ 9 ∷ 9 ∷ 9 ∷ [];
     padded = refl;
+    kept = tt;
     spelled = refl;
   };
   whole = (refl, (refl, tt));
@@ -42,15 +44,15 @@ pub four_lengths : zero_padded_table (lengths
 four_lengths = refl
 
 -- the refusal table: a cut first word
-pub cut_word : RefusesStream Splits RunsShort (Some 8) None FailedToFillTheWholeBuffer (0 ∷ 0 ∷ 0 ∷ 0 ∷ []) []
+pub cut_word : RefusesStream Zero Splits RunsShort (Some 8) None FailedToFillTheWholeBuffer (0 ∷ 0 ∷ 0 ∷ 0 ∷ []) []
 cut_word = inr (λ x. x, ((λ e. cc), inl (lit< tt, refl)))
 
 -- a count field of 4294967295 tells no segment
-pub wrapped_count : RefusesStream Splits RunsShort (Some 8) None (InvalidNumberOfSegments 0) (255 ∷ 255 ∷ 255 ∷ 255 ∷ 0 ∷ 0 ∷ 0 ∷ 0 ∷ []) []
+pub wrapped_count : RefusesStream Zero Splits RunsShort (Some 8) None (InvalidNumberOfSegments 0) (255 ∷ 255 ∷ 255 ∷ 255 ∷ 0 ∷ 0 ∷ 0 ∷ 0 ∷ []) []
 wrapped_count = inr (λ x. x, ((λ e. cc), inr (255 ∷ 255 ∷ 255 ∷ 255 ∷ 0 ∷ 0 ∷ 0 ∷ 0 ∷ [], [], (refl, refl), (0, (4294967295, lit< tt, refl, refl), inl (inl refl, (refl, refl))))))
 
 -- three words pass a limit of 2, though none of them is there
-pub three_words : RefusesStream Splits RunsShort (Some 2) None (MessageTooLarge 3) (0 ∷ 0 ∷ 0 ∷ 0 ∷ 3 ∷ 0 ∷ 0 ∷ 0 ∷ []) []
+pub three_words : RefusesStream Zero Splits RunsShort (Some 2) None (MessageTooLarge 3) (0 ∷ 0 ∷ 0 ∷ 0 ∷ 3 ∷ 0 ∷ 0 ∷ 0 ∷ []) []
 three_words = inr (
   λ x. x,
   (
@@ -72,7 +74,7 @@ three_words = inr (
               (refl, refl),
               (
                 3 ∷ [],
-                record { can = record { some = lit< tt; count = lit≤ tt; each = (lit< tt, tt) }; padding = []; padded = refl; spelled = refl },
+                record { can = record { some = lit< tt; count = lit≤ tt; each = (lit< tt, tt) }; padding = []; padded = refl; kept = tt; spelled = refl },
                 inl (lit< tt, (refl, refl)),
               ),
             ),

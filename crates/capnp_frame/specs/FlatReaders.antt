@@ -4,33 +4,35 @@ use Rattle.std.specs.Result.{IsErrAnd}
 use Rattle.capnp_frame.specs.declared.error.Error.{Error}
 use Rattle.capnp_frame.specs.declared.error.ErrorKind.{ErrorKind}
 use Rattle.capnp_frame.specs.declared.error.ErrorKind.TheVariants.{EmptySlice, EmptyBuffer, OutOfMemory}
+use Rattle.capnp_frame.specs.declared.serialize.segment_table.Padding.{Padding}
 use Rattle.capnp_frame.specs.Frame.{IsFrame}
 use Rattle.capnp_frame.specs.Texts.{BeginsWith}
 use Rattle.capnp_frame.specs.FlatRefusals.{FlatForm, by_words, by_fields, AcceptsCount, RefusesFlat}
 
--- The rules by which a message is read: how its table is taken, and the limit of words.
+-- The rules by which a message is read: how its table is taken, the rule of padding, and the limit of words.
 pub record FlatRules : Type 0 where
   pub form : FlatForm
+  pub padding : Padding
   pub limit : Option ℕ
 
 -- the rules of readers that take memory for the lengths, from a slice and from a buffer
-abbrev pub slice_rules : Option ℕ → FlatRules
-slice_rules limit = record { form = by_words EmptySlice; limit = limit }
+abbrev pub slice_rules : Padding → Option ℕ → FlatRules
+slice_rules rule limit = record { form = by_words EmptySlice; padding = rule; limit = limit }
 
-abbrev pub buffer_rules : Option ℕ → FlatRules
-buffer_rules limit = record { form = by_words EmptyBuffer; limit = limit }
+abbrev pub buffer_rules : Padding → Option ℕ → FlatRules
+buffer_rules rule limit = record { form = by_words EmptyBuffer; padding = rule; limit = limit }
 
 -- and of those that take none, from either
-abbrev pub no_alloc_rules : Option ℕ → FlatRules
-no_alloc_rules limit = record { form = by_fields; limit = limit }
+abbrev pub no_alloc_rules : Padding → Option ℕ → FlatRules
+no_alloc_rules rule limit = record { form = by_fields; padding = rule; limit = limit }
 
 -- By these rules a text of the message stands at the front of the bytes, and `rest` after it.
 abbrev pub StandsBy : FlatRules → List (List ℕ) → List ℕ → List ℕ → Type 0
-StandsBy rules message bytes rest = BeginsWith IsFrame rules.limit message bytes rest
+StandsBy rules message bytes rest = BeginsWith (IsFrame rules.padding) rules.limit message bytes rest
 
 -- by these rules this line of the table of refusals is the first to hold
 abbrev pub RefusesBy : FlatRules → ErrorKind → List ℕ → Type 0
-RefusesBy rules kind bytes = RefusesFlat rules.form rules.limit kind bytes
+RefusesBy rules kind bytes = RefusesFlat rules.form rules.padding rules.limit kind bytes
 
 -- What is left after a message: of a slice what it holds then, of a buffer some bytes.
 abbrev pub Leaves : Option (List ℕ) → (List ℕ → Type 0) → Type 0

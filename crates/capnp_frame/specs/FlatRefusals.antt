@@ -1,10 +1,11 @@
 -- Which refusal a reader of a slice or a buffer answers: the lines of its table in their order (docs/REFUSALS.md).
 use Rattle.std.specs.Prelude.{◌≡◌, ℕ, ◌+◌, ◌-◌, ◌*◌, ◌/◌, ◌%◌, ◌^◌, ◌<◌, ◌≤◌, List, [], length, sum, Option}
 use Rattle.capnp_frame.specs.declared.error.ErrorKind.{ErrorKind}
-use Rattle.capnp_frame.specs.declared.error.ErrorKind.TheVariants.{FailedToFillTheWholeBuffer, InvalidNumberOfSegments, MessageEndsPrematurely, MessageTooLarge}
-use Rattle.capnp_frame.specs.SegmentTable.{table_size}
+use Rattle.capnp_frame.specs.declared.error.ErrorKind.TheVariants.{FailedToFillTheWholeBuffer, InvalidNumberOfSegments, MessageEndsPrematurely, MessageTooLarge, NonZeroPadding}
+use Rattle.capnp_frame.specs.declared.serialize.segment_table.Padding.{Padding}
+use Rattle.capnp_frame.specs.SegmentTable.{table_size, KeepsPadding}
 use Rattle.capnp_frame.specs.Refusals.{Unless, IsOutOfRange, IsTooLarge}
-use Rattle.capnp_frame.specs.Front.{number, told_lengths}
+use Rattle.capnp_frame.specs.Front.{number, told_lengths, told_padding}
 
 -- How a table is taken.
 pub data FlatForm : Type 0 where
@@ -49,23 +50,24 @@ abbrev pub CutsSegments : ErrorKind → List ℕ → ℕ → ℕ → Type 0
 CutsSegments kind bytes count total = (length bytes < table_size count + 8 * total)
     × (kind ≡ MessageEndsPrematurely total ((length bytes - table_size count) / 8))
 
--- the lines once the lengths `ns` are read: the limit of words, the padding, the segments
-abbrev pub RefusesLengths : FlatForm → Option ℕ → ErrorKind → List ℕ → ℕ → List ℕ → Type 0
-RefusesLengths form limit kind bytes count ns =
+-- the lines once the lengths `ns` are read: the limit of words, the padding's bytes, their values, the segments
+abbrev pub RefusesLengths : FlatForm → Padding → Option ℕ → ErrorKind → List ℕ → ℕ → List ℕ → Type 0
+RefusesLengths form rule limit kind bytes count ns =
     Unless (IsTooLarge ns limit) (kind ≡ MessageTooLarge (sum ns)) (
     Unless (length bytes < table_size count) (kind ≡ cut_kind form (length bytes)) (
-    CutsSegments kind bytes count (sum ns)))
+    Unless (KeepsPadding rule (told_padding count bytes) → ⊥) (kind ≡ NonZeroPadding) (
+    CutsSegments kind bytes count (sum ns))))
 
 -- the lines once the number of segments is read: its range, the lengths, and what comes after them
-abbrev pub RefusesCount : FlatForm → Option ℕ → ErrorKind → List ℕ → ℕ → Type 0
-RefusesCount form limit kind bytes count =
+abbrev pub RefusesCount : FlatForm → Padding → Option ℕ → ErrorKind → List ℕ → ℕ → Type 0
+RefusesCount form rule limit kind bytes count =
     Unless (IsOutOfRange count) (kind ≡ InvalidNumberOfSegments count) (
     Unless (length bytes < lengths_end form count) (kind ≡ cut_kind form (length bytes)) (
-    RefusesLengths form limit kind bytes count (told_lengths count bytes)))
+    RefusesLengths form rule limit kind bytes count (told_lengths count bytes)))
 
--- All lines: a reader that takes the table in this form refuses the bytes by this kind.
-abbrev pub RefusesFlat : FlatForm → Option ℕ → ErrorKind → List ℕ → Type 0
-RefusesFlat form limit kind bytes =
+-- All lines: a reader that takes the table in this form, its padding by the rule, refuses the bytes by this kind.
+abbrev pub RefusesFlat : FlatForm → Padding → Option ℕ → ErrorKind → List ℕ → Type 0
+RefusesFlat form rule limit kind bytes =
     Unless (bytes ≡ []) (kind ≡ empty_kind form) (
     Unless (length bytes < count_end form) (kind ≡ cut_kind form (length bytes)) (
-    RefusesCount form limit kind bytes (count_of form (number bytes))))
+    RefusesCount form rule limit kind bytes (count_of form (number bytes))))

@@ -2,12 +2,13 @@
 use Rattle.std.specs.Prelude.{◌≡◌, List, ◌++◌, ℕ}
 use Rattle.std.specs.List.{concat, AllByRecursion}
 use Rattle.capnp_frame.specs.Message.{IsWholeWords, lengths}
+use Rattle.capnp_frame.specs.declared.serialize.segment_table.Padding.{Padding}
 use Rattle.capnp_frame.specs.SegmentTable.{IsTable, zero_padded_table}
 
--- The text is a segment table, then the bytes of the segments in order.
-pub record IsFrame (text : List ℕ) (segments : List (List ℕ)) : Type 0 where
+-- The text is a segment table with a padding that the rule takes, then the bytes of the segments in order.
+pub record IsFrame (rule : Padding) (text : List ℕ) (segments : List (List ℕ)) : Type 0 where
   pub table : List ℕ
-  pub lengths_told : IsTable table (lengths segments)
+  pub lengths_told : IsTable rule table (lengths segments)
   pub whole : AllByRecursion IsWholeWords segments
   pub spelled : text ≡ table ++ concat segments
 

@@ -5,19 +5,21 @@ use Rattle.std.specs.Int.{w32, from_le_bytes}
 use Rattle.capnp_frame.specs.Message.{size_in_words}
 use Rattle.capnp_frame.specs.SegmentTable.{field, FitsField, table_size}
 use Rattle.capnp_frame.specs.SegmentLengths.{cut}
+use Rattle.capnp_frame.specs.declared.serialize.segment_table.Padding.{Padding}
+use Rattle.capnp_frame.specs.declared.serialize.segment_table.Padding.TheVariants.{Any}
 use Rattle.capnp_frame.specs.Frame.{IsFrame}
 use Rattle.capnp_frame.specs.Limits.{IsWithin}
 use Rattle.capnp_frame.specs.declared.serialize.segment_table_info.NoAllocSegmentTableInfo.{NoAllocSegmentTableInfo}
 
--- a frame of the message stands at the front, and `rest` behind it
-abbrev pub HasFrame : List ℕ → List (List ℕ) → List ℕ → Type 0
-HasFrame bytes segments rest = (text : List ℕ) × IsFrame text segments × (bytes ≡ text ++ rest)
+-- a frame of the message stands at the front, its padding by the rule, and `rest` after it
+abbrev pub HasFrame : Padding → List ℕ → List (List ℕ) → List ℕ → Type 0
+HasFrame rule bytes segments rest = (text : List ℕ) × IsFrame rule text segments × (bytes ≡ text ++ rest)
 
--- The bytes begin with a message of 1 to 511 segments, and these are the numbers of its table.
+-- The bytes begin with a message of 1 to 511 segments and any padding, and these are the numbers of its table.
 pub record IsDescribed (bytes : List ℕ) (info : NoAllocSegmentTableInfo) : Type 0 where
   pub segments : List (List ℕ)
   pub rest : List ℕ
-  pub begins : HasFrame bytes segments rest
+  pub begins : HasFrame Any bytes segments rest
   pub within : IsWithin segments None
   pub count : info.segments_count ≡ length segments
   pub table : info.segment_table_length_bytes ≡ table_size (length segments)
@@ -41,6 +43,10 @@ numbers (suc count) bytes = number bytes ∷ numbers count (drop 4 bytes)
 -- the lengths of so many segments, as the fields behind the first tell them
 abbrev pub told_lengths : ℕ → List ℕ → List ℕ
 told_lengths count bytes = numbers count (drop 4 bytes)
+
+-- the padding behind so many fields
+abbrev pub told_padding : ℕ → List ℕ → List ℕ
+told_padding count bytes = drop (4 * (count + 1)) (take (table_size count) bytes)
 
 -- the segments of these lengths, cut from the bytes behind the table
 abbrev pub told_segments : ℕ → List ℕ → List (List ℕ)

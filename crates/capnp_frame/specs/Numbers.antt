@@ -7,7 +7,7 @@ use Rattle.capnp_frame.specs.declared.error.ErrorKind.TheVariants.{MessageTooLar
 use Rattle.capnp_frame.specs.declared.error.ErrorKind.TheVariants.{PackedInputDidNotEndCleanlyOnASegmentBoundary, OutOfMemory, DeviceFailed}
 use Rattle.capnp_frame.specs.declared.error.ErrorKind.TheVariants.{NotWholeWords, AllocationTooLarge, SegmentTaken, PointerOutOfBounds}
 use Rattle.capnp_frame.specs.declared.error.ErrorKind.TheVariants.{InvalidSegmentId, NestingLimitExceeded, ReadLimitExceeded, CapabilityRefused}
-use Rattle.capnp_frame.specs.declared.error.ErrorKind.TheVariants.{WrongPointerKind, TextNotTerminated, CanonicalTooLarge, NotOneSegment}
+use Rattle.capnp_frame.specs.declared.error.ErrorKind.TheVariants.{WrongPointerKind, TextNotTerminated, CanonicalTooLarge, NotOneSegment, NonZeroPadding}
 
 abbrev pub number_of : ErrorKind → ℕ
 number_of FailedToFillTheWholeBuffer = 1
@@ -35,3 +35,4 @@ number_of WrongPointerKind = 22
 number_of TextNotTerminated = 23
 number_of CanonicalTooLarge = 24
 number_of NotOneSegment = 25
+number_of NonZeroPadding = 26

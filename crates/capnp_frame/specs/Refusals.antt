@@ -1,7 +1,9 @@
 -- Which refusal a stream reader answers: the lines of its table in their order (docs/REFUSALS.md).
 use Rattle.std.specs.Prelude.{◌≡◌, ◌≢◌, ℕ, ◌+◌, ◌-◌, ◌*◌, ◌/◌, ◌%◌, ◌^◌, ◌<◌, ◌≤◌, ◌⊎◌, List, [], ◌++◌, length, take, sum, Option, IsSomeAnd}
 use Rattle.capnp_frame.specs.declared.error.ErrorKind.{ErrorKind}
-use Rattle.capnp_frame.specs.declared.error.ErrorKind.TheVariants.{DeviceFailed, OutOfMemory, BufferNotLargeEnough, InvalidNumberOfSegments, MessageTooLarge}
+use Rattle.capnp_frame.specs.declared.error.ErrorKind.TheVariants.{DeviceFailed, OutOfMemory, BufferNotLargeEnough, InvalidNumberOfSegments, MessageTooLarge, NonZeroPadding}
+use Rattle.capnp_frame.specs.declared.serialize.segment_table.Padding.{Padding}
+use Rattle.capnp_frame.specs.declared.serialize.segment_table.Padding.TheVariants.{Any, Zero}
 use Rattle.capnp_frame.specs.SegmentTable.{field, FitsField, IsTable, table_size}
 use Rattle.capnp_frame.specs.Source.{Giving, Refusing}
 use Rattle.capnp_frame.specs.Limits.{AreWithin}
@@ -41,35 +43,45 @@ LacksRoom room n = IsSomeAnd room (λ len. len < n)
 abbrev pub StopsBy : ErrorKind → ErrorKind → List ℕ → List ℕ → Type 0
 StopsBy own kind here left = (kind ≡ own) × (left ≡ here)
 
+-- the text is no table by the rule, though it is one with another padding
+abbrev pub BreaksPadding : Padding → List ℕ → List ℕ → Type 0
+BreaksPadding rule text ns = IsTable rule text ns → ⊥
+
 -- Below, a reader stops by `kind` and leaves `left` unread, or goes on to `after`, the lines behind a table of these
 -- lengths. Where the source refuses, what it leaves is open.
 
--- the limit's line: both parts of the table are read, `word` and `others`
-abbrev pub RefusesAtLimit : Option ℕ → ErrorKind → (List ℕ → List ℕ → Type 0) → List ℕ → List ℕ → List ℕ → List ℕ → Type 0
-RefusesAtLimit limit kind after left word others behind = (ns : List ℕ) × IsTable (word ++ others) ns
-    × Unless (IsTooLarge ns limit) (StopsBy (MessageTooLarge (sum ns)) kind behind left) (after ns behind)
+-- the lines of the limit and of the padding: both parts of the table are read, `word` and `others`
+abbrev pub RefusesAtLimit : Padding → Option ℕ → ErrorKind → (List ℕ → List ℕ → Type 0) → List ℕ → List ℕ → List ℕ → List ℕ → Type 0
+RefusesAtLimit rule limit kind after left word others behind = (ns : List ℕ) × IsTable Any (word ++ others) ns
+    × Unless (IsTooLarge ns limit) (StopsBy (MessageTooLarge (sum ns)) kind behind left) (
+    Unless (BreaksPadding rule (word ++ others) ns) (StopsBy NonZeroPadding kind behind left) (after ns behind))
+
+-- the lines once a table of so many segments is to be completed: the request of its other words, and what comes after
+abbrev pub RefusesRest : Padding → Giving → Refusing → Option ℕ → ErrorKind → (List ℕ → List ℕ → Type 0) → List ℕ → List ℕ → ℕ → List ℕ → Type 0
+RefusesRest rule gives refuses limit kind after left word count between =
+    Asks gives refuses kind between (8 * (count / 2)) (RefusesAtLimit rule limit kind after left word)
 
 -- the lines once the table's first word is read: the number of segments, the room, the table's other words
-abbrev pub RefusesAtCount : Giving → Refusing → Option ℕ → Option ℕ → ErrorKind → (List ℕ → List ℕ → Type 0) → List ℕ → List ℕ → List ℕ → Type 0
-RefusesAtCount gives refuses limit room kind after left word between = (count : ℕ) × Tells word count
+abbrev pub RefusesAtCount : Padding → Giving → Refusing → Option ℕ → Option ℕ → ErrorKind → (List ℕ → List ℕ → Type 0) → List ℕ → List ℕ → List ℕ → Type 0
+RefusesAtCount rule gives refuses limit room kind after left word between = (count : ℕ) × Tells word count
     × Unless (IsOutOfRange count) (StopsBy (InvalidNumberOfSegments count) kind between left) (
     Unless (LacksRoom room (table_size count)) (StopsBy BufferNotLargeEnough kind between left) (
-    Asks gives refuses kind between (8 * (count / 2)) (RefusesAtLimit limit kind after left word)))
+    RefusesRest rule gives refuses limit kind after left word count between))
 
 -- the lines from the start on: the room for a word, the first word, and what comes after it
-abbrev pub RefusesAtStart : Giving → Refusing → Option ℕ → Option ℕ → ErrorKind → (List ℕ → List ℕ → Type 0) → List ℕ → List ℕ → Type 0
-RefusesAtStart gives refuses limit room kind after raw left =
+abbrev pub RefusesAtStart : Padding → Giving → Refusing → Option ℕ → Option ℕ → ErrorKind → (List ℕ → List ℕ → Type 0) → List ℕ → List ℕ → Type 0
+RefusesAtStart rule gives refuses limit room kind after raw left =
     Unless (LacksRoom room 8) (StopsBy BufferNotLargeEnough kind raw left) (
-    (raw ≢ []) × Asks gives refuses kind raw 8 (RefusesAtCount gives refuses limit room kind after left))
+    (raw ≢ []) × Asks gives refuses kind raw 8 (RefusesAtCount rule gives refuses limit room kind after left))
 
--- A reader of a table alone refuses by this kind: it ends behind the limit's line.
-abbrev pub RefusesTable : Giving → Refusing → Option ℕ → Option ℕ → ErrorKind → List ℕ → List ℕ → Type 0
-RefusesTable gives refuses limit room kind raw left = RefusesAtStart gives refuses limit room kind (λ ns behind. ⊥) raw left
+-- A reader of a table alone refuses by this kind: it ends behind the padding's line.
+abbrev pub RefusesTable : Padding → Giving → Refusing → Option ℕ → Option ℕ → ErrorKind → List ℕ → List ℕ → Type 0
+RefusesTable rule gives refuses limit room kind raw left = RefusesAtStart rule gives refuses limit room kind (λ ns behind. ⊥) raw left
 
 -- All lines: a reader of a message refuses by this kind. Behind the table come the room for the segments and their
 -- request.
-abbrev pub RefusesStream : Giving → Refusing → Option ℕ → Option ℕ → ErrorKind → List ℕ → List ℕ → Type 0
-RefusesStream gives refuses limit room kind raw left = RefusesAtStart gives refuses limit room kind (λ ns behind.
+abbrev pub RefusesStream : Padding → Giving → Refusing → Option ℕ → Option ℕ → ErrorKind → List ℕ → List ℕ → Type 0
+RefusesStream rule gives refuses limit room kind raw left = RefusesAtStart rule gives refuses limit room kind (λ ns behind.
     Unless (LacksRoom room (table_size (length ns) + 8 * sum ns)) (StopsBy BufferNotLargeEnough kind behind left) (
     refuses behind (8 * sum ns) kind)) raw left
 
@@ -82,21 +94,34 @@ pub record CountStands (gives : Giving) (raw rest : List ℕ) : Type 0 where
   pub accepted : IsOutOfRange count → ⊥
 
 -- Where a reader that grows takes memory: for the lengths once their number is accepted, and for the segments once
--- their table is, with the limit. What it has asked for till then is consumed, and no more.
-abbrev pub TakesMemory : Giving → Option ℕ → List ℕ → List ℕ → Type 0
-TakesMemory gives limit raw left = CountStands gives raw left
-    ⊎ ((lengths : List ℕ) × TableStands gives lengths raw left × AreWithin lengths limit)
+-- their table is, with the limit and the padding. What it has asked for till then is consumed, and no more.
+abbrev pub TakesMemory : Padding → Giving → Option ℕ → List ℕ → List ℕ → Type 0
+TakesMemory rule gives limit raw left = CountStands gives raw left
+    ⊎ ((lengths : List ℕ) × TableStands rule gives lengths raw left × AreWithin lengths limit)
+
+-- the kind of a padding that the rule refuses
+abbrev pub IsPaddingKind : Padding → ErrorKind → Type 0
+IsPaddingKind rule kind = (rule ≡ Zero) × (kind ≡ NonZeroPadding)
+
+-- the kinds met while a table is completed, also where the unread bytes aren't known
+abbrev pub IsTableKind : Padding → Refusing → ErrorKind → Type 0
+IsTableKind rule refuses kind = (kind ≡ DeviceFailed)
+    ⊎ ((total : ℕ) × (kind ≡ MessageTooLarge total))
+    ⊎ IsPaddingKind rule kind
+    ⊎ ((raw : List ℕ) × (n : ℕ) × refuses raw n kind)
 
 -- the kinds of a reader into a lent buffer, also where the unread bytes aren't known
-abbrev pub IsLentReaderKind : Refusing → ErrorKind → Type 0
-IsLentReaderKind refuses kind = (kind ≡ DeviceFailed) ⊎ (kind ≡ BufferNotLargeEnough)
+abbrev pub IsLentReaderKind : Padding → Refusing → ErrorKind → Type 0
+IsLentReaderKind rule refuses kind = (kind ≡ DeviceFailed) ⊎ (kind ≡ BufferNotLargeEnough)
     ⊎ ((count : ℕ) × IsOutOfRange count × (kind ≡ InvalidNumberOfSegments count))
     ⊎ ((total : ℕ) × (kind ≡ MessageTooLarge total))
+    ⊎ IsPaddingKind rule kind
     ⊎ ((raw : List ℕ) × (n : ℕ) × refuses raw n kind)
 
 -- the kinds of a reader that grows, also where the unread bytes aren't known: the device's, want of memory, its own, or one of the source
-abbrev pub IsReaderKind : Refusing → ErrorKind → Type 0
-IsReaderKind refuses kind = (kind ≡ DeviceFailed) ⊎ (kind ≡ OutOfMemory)
+abbrev pub IsReaderKind : Padding → Refusing → ErrorKind → Type 0
+IsReaderKind rule refuses kind = (kind ≡ DeviceFailed) ⊎ (kind ≡ OutOfMemory)
     ⊎ ((count : ℕ) × IsOutOfRange count × (kind ≡ InvalidNumberOfSegments count))
     ⊎ ((total : ℕ) × (kind ≡ MessageTooLarge total))
+    ⊎ IsPaddingKind rule kind
     ⊎ ((raw : List ℕ) × (n : ℕ) × refuses raw n kind)

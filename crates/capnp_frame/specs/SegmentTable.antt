@@ -1,8 +1,10 @@
 -- The segment table at the front of a framed message.
 -- Encoding document, "Serialization Over a Stream".
-use Rattle.std.specs.Prelude.{◌≡◌, ℕ, ◌+◌, ◌-◌, ◌*◌, ◌/◌, ◌%◌, ◌^◌, ◌<◌, ◌≤◌, List, ◌++◌, length, replicate}
+use Rattle.std.specs.Prelude.{⊤, ◌≡◌, ℕ, ◌+◌, ◌-◌, ◌*◌, ◌/◌, ◌%◌, ◌^◌, ◌<◌, ◌≤◌, List, ◌++◌, length, replicate}
 use Rattle.std.specs.List.{flat_map, AllByRecursion}
 use Rattle.std.specs.Int.{w32, to_le_bytes}
+use Rattle.capnp_frame.specs.declared.serialize.segment_table.Padding.{Padding}
+use Rattle.capnp_frame.specs.declared.serialize.segment_table.Padding.TheVariants.{Any, Zero}
 
 -- a number in four bytes, least significant first
 abbrev pub field : ℕ → List ℕ
@@ -15,6 +17,11 @@ FitsField n = n < 2 ^ 32
 -- four bytes exactly where the number of segments is even
 abbrev pub padding_len : List ℕ → ℕ
 padding_len lengths = 4 * ((length lengths + 1) % 2)
+
+-- padding that the rule takes: any bytes, or zeros
+abbrev pub KeepsPadding : Padding → List ℕ → Type 0
+KeepsPadding Any padding = ⊤
+KeepsPadding Zero padding = padding ≡ replicate (length padding) 0
 
 -- the number of segments less one, the length of each, and padding
 abbrev pub table_text : List ℕ → List ℕ → List ℕ
@@ -34,9 +41,10 @@ pub record HasTable (lengths : List ℕ) : Type 0 where
   pub count : length lengths ≤ 2 ^ 32
   pub each : AllByRecursion FitsField lengths
 
--- The text is a segment table of these lengths, in words. Its padding may hold anything.
-pub record IsTable (text lengths : List ℕ) : Type 0 where
+-- The text is a segment table of these lengths, in words, with a padding that the rule takes.
+pub record IsTable (rule : Padding) (text lengths : List ℕ) : Type 0 where
   pub can : HasTable lengths
   pub padding : List ℕ
   pub padded : length padding ≡ padding_len lengths
+  pub kept : KeepsPadding rule padding
   pub spelled : text ≡ table_text lengths padding

@@ -6,6 +6,7 @@ use Rattle.std.specs.Result.{IsErrAnd, result_map_both}
 use Rattle.capnp_frame.specs.declared.error.Error.{Error}
 use Rattle.capnp_frame.specs.declared.error.ErrorKind.{ErrorKind}
 use Rattle.capnp_frame.specs.declared.error.ErrorKind.TheVariants.{DeviceFailed, OutOfMemory, BufferNotLargeEnough}
+use Rattle.capnp_frame.specs.declared.serialize.segment_table.Padding.{Padding}
 use Rattle.capnp_frame.specs.declared.io.Read.{Ghosts}
 use Rattle.capnp_frame.specs.Message.{IsWholeWords, size_in_words}
 use Rattle.capnp_frame.specs.SegmentTable.{table_size}
@@ -40,14 +41,14 @@ pub record StreamRules : Type 1 where
   -- and those of a reader into a caller-provided buffer
   pub provided_kinds : ErrorKind → Type 0
 
--- Framed messages over a source whose requests take and fail so, of any padding.
-abbrev pub framed_rules : Giving → Refusing → StreamRules
-framed_rules gives refuses = record {
-  stands = MessageStands gives;
-  takes_memory = TakesMemory gives;
-  refuses = RefusesStream gives refuses;
-  kinds = IsReaderKind refuses;
-  provided_kinds = IsLentReaderKind refuses;
+-- Framed messages, their padding by the rule, over a source whose requests take and fail so.
+abbrev pub framed_rules : Padding → Giving → Refusing → StreamRules
+framed_rules rule gives refuses = record {
+  stands = MessageStands rule gives;
+  takes_memory = TakesMemory rule gives;
+  refuses = RefusesStream rule gives refuses;
+  kinds = IsReaderKind rule refuses;
+  provided_kinds = IsLentReaderKind rule refuses;
 }
 
 -- What each reader of a stream that grows returns. `source` is what is seen of the source (the members of the trait Read),

@@ -1,6 +1,7 @@
 -- Texts of messages behind one another, as a stream has them.
 use Rattle.std.specs.Prelude.{◌≡◌, ℕ, List, [], ◌∷◌, ◌++◌, Option, Some, None}
 use Rattle.capnp_frame.specs.declared.error.ErrorKind.{ErrorKind}
+use Rattle.capnp_frame.specs.declared.serialize.segment_table.Padding.{Padding}
 use Rattle.capnp_frame.specs.Limits.{IsWithin}
 use Rattle.capnp_frame.specs.Source.{Giving, Refusing}
 use Rattle.capnp_frame.specs.Refusals.{RefusesStream}
@@ -21,7 +22,7 @@ abbrev pub AreTexts : Grammar → Option ℕ → List (List (List ℕ)) → List
 AreTexts IsText limit [] raw rest = rest ≡ raw
 AreTexts IsText limit (m ∷ ms) raw rest = (between : List ℕ) × BeginsWith IsText limit m raw between × AreTexts IsText limit ms between rest
 
--- why no text of a message stands there: nothing is left, or a reader refuses by this kind
-abbrev pub Ends : Giving → Refusing → Option ℕ → Option ErrorKind → List ℕ → Type 0
-Ends gives refuses limit None rest = rest ≡ []
-Ends gives refuses limit (Some kind) rest = (left : List ℕ) × RefusesStream gives refuses limit None kind rest left
+-- why no text of a message stands there: nothing is left, or a reader by the rule of padding refuses by this kind
+abbrev pub Ends : Padding → Giving → Refusing → Option ℕ → Option ErrorKind → List ℕ → Type 0
+Ends rule gives refuses limit None rest = rest ≡ []
+Ends rule gives refuses limit (Some kind) rest = (left : List ℕ) × RefusesStream rule gives refuses limit None kind rest left

@@ -89,10 +89,13 @@ pub enum ErrorKind {
     /// What was to be canonical does not stand in one segment.
     #[error("NotOneSegment")]
     NotOneSegment,
+    /// A segment table's padding is not zero.
+    #[error("NonZeroPadding")]
+    NonZeroPadding,
 }
 
 impl ErrorKind {
-    /// The number of this kind, from 1 to 25, under which it is listed in docs/REFUSALS.md.
+    /// The number of this kind, from 1 to 26, under which it is listed in docs/REFUSALS.md.
     pub fn number(&self) -> u8
         ensures { result ≡ number_of self.now }
     {
@@ -122,6 +125,7 @@ impl ErrorKind {
             ErrorKind::TextNotTerminated => 23,
             ErrorKind::CanonicalTooLarge => 24,
             ErrorKind::NotOneSegment => 25,
+            ErrorKind::NonZeroPadding => 26,
         }
     }
 }

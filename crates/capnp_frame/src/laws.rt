@@ -2,7 +2,7 @@
 ghost use Rattle.std.specs.Prelude.{◌≡◌, ◌≢◌, ◌⊎◌, ℕ, ◌*◌, ◌<◌, ◌≤◌, List, ◌++◌, ◌↔◌, Option, length, slice_get, IsSome};
 ghost use Rattle.std.specs.List.{AllByRecursion, concat};
 ghost use Rattle.capnp_frame.specs.Message.{IsWholeWords, lengths};
-ghost use Rattle.capnp_frame.specs.SegmentTable.{HasTable};
+ghost use Rattle.capnp_frame.specs.SegmentTable.{zero_padded_table, HasTable, IsTable};
 ghost use Rattle.capnp_frame.specs.Frame.{IsFrame, frame_text};
 ghost use Rattle.capnp_frame.specs.Source.{Splits, Fails};
 ghost use Rattle.capnp_frame.specs.Sink.{AppendsSame, AppendsAll, ByKind, DeclinesSome};
@@ -11,25 +11,49 @@ ghost use Rattle.capnp_frame.specs.Writing.{IsWritable, pieces, serialized_words
 ghost use Rattle.capnp_frame.specs.Front.{HasFrame};
 ghost use Rattle.capnp_frame.specs.FlatRefusals.{FlatForm, RefusesFlat};
 ghost use Rattle.capnp_frame.specs.declared.error.ErrorKind.{ErrorKind};
+ghost use Rattle.capnp_frame.specs.declared.serialize.segment_table.Padding.{Padding};
+
+use crate::io::Read;
+use crate::serialize::Padding;
 
 /// A message has a framed text: the one that is written.
 pub fn message_has_a_frame()
-    ensures { (segments : List (List ℕ)) → HasTable (lengths segments) →
-        AllByRecursion IsWholeWords segments → IsFrame (frame_text segments) segments }
+    ensures { (rule : Padding) (segments : List (List ℕ)) → HasTable (lengths segments) →
+        AllByRecursion IsWholeWords segments → IsFrame rule (frame_text segments) segments }
 {}
 
-/// No framed text begins a different one, and each is the text of one message alone. So texts that
+/// By the rule of zero padding the text that is written is the only frame of a message.
+pub fn zero_padding_leaves_one_frame()
+    ensures { (text : List ℕ) (segments : List (List ℕ)) →
+        IsFrame Padding.Zero text segments → text ≡ frame_text segments }
+{}
+
+/// What has zero padding has some: a table, and a message by its requests of any source, stands by the
+/// rule of zero padding exactly where it stands with any padding, and its table is the one that is
+/// written, whose padding is zero.
+pub fn zero_padding_is_some_padding<R: Read>()
+    ensures table { (text ns : List ℕ) → IsTable Padding.Zero text ns
+        ↔ (IsTable Padding.Any text ns × (text ≡ zero_padded_table ns)) }
+    ensures stands { (m : List (List ℕ)) (raw rest : List ℕ) →
+        MessageStands Padding.Zero R.gives m raw rest
+        ↔ ((any : MessageStands Padding.Any R.gives m raw rest)
+        × (any.table.first ++ any.table.others ≡ zero_padded_table (lengths m))) }
+{}
+
+/// No framed text begins a different one, also of another rule of padding, and each is the text of one message alone. So texts that
 /// are joined part in one way.
 pub fn frames_part_in_one_way()
-    ensures { (text other rest left : List ℕ) (segments others : List (List ℕ)) →
-        IsFrame text segments → IsFrame other others → text ++ rest ≡ other ++ left →
+    ensures { (rule also : Padding) (text other rest left : List ℕ)
+        (segments others : List (List ℕ)) →
+        IsFrame rule text segments → IsFrame also other others → text ++ rest ≡ other ++ left →
         (text ≡ other) × (segments ≡ others) × (rest ≡ left) }
 {}
 
 /// The three requests of a plain source take just a framed text of the message.
 pub fn plain_requests_take_a_frame()
-    ensures { (segments : List (List ℕ)) (raw rest : List ℕ) → MessageStands Splits segments raw rest
-        ↔ ((text : List ℕ) × IsFrame text segments × (raw ≡ text ++ rest)) }
+    ensures { (rule : Padding) (segments : List (List ℕ)) (raw rest : List ℕ) →
+        MessageStands rule Splits segments raw rest
+        ↔ ((text : List ℕ) × IsFrame rule text segments × (raw ≡ text ++ rest)) }
 {}
 
 /// Pieces that a plain sink takes are joined there.
@@ -49,12 +73,13 @@ pub fn pieces_are_the_frame()
 /// The readers of slices and buffers accept the same bytes with the same segments: what one form
 /// refuses the other refuses, and one message alone stands at a front.
 pub fn flat_readers_agree()
-    ensures refused { (form other : FlatForm) (limit : Option ℕ) (kind : ErrorKind)
+    ensures refused { (form other : FlatForm) (rule : Padding) (limit : Option ℕ) (kind : ErrorKind)
         (bytes : List ℕ) → AllByRecursion (λ byte. byte < 256) bytes →
-        RefusesFlat form limit kind bytes →
-        (own : ErrorKind) × RefusesFlat other limit own bytes }
-    ensures found { (bytes rest left : List ℕ) (segments others : List (List ℕ)) →
-        HasFrame bytes segments rest → HasFrame bytes others left →
+        RefusesFlat form rule limit kind bytes →
+        (own : ErrorKind) × RefusesFlat other rule limit own bytes }
+    ensures found { (rule also : Padding) (bytes rest left : List ℕ)
+        (segments others : List (List ℕ)) →
+        HasFrame rule bytes segments rest → HasFrame also bytes others left →
         (segments ≡ others) × (rest ≡ left) }
 {}
 

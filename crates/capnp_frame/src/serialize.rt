@@ -14,12 +14,15 @@ mod segment_table_info;
 mod stream;
 mod writing;
 
-pub use buffer_segments::{BufferSegments, take_segments};
-pub use lent_stream::try_read_segments_into;
+pub use buffer_segments::{BufferSegments, take_segments, take_segments_lenient};
+pub use lent_stream::{try_read_segments_into, try_read_segments_into_lenient};
 pub use no_alloc_buffer_segments::{NoAllocBufferSegments, NoAllocSliceSegments};
 pub use owned_segments::OwnedSegments;
 pub use segment_lengths::SegmentLengthsBuilder;
-pub use segment_table::SEGMENTS_COUNT_LIMIT;
+pub use segment_table::{Padding, SEGMENTS_COUNT_LIMIT};
 pub use segment_table_info::{NoAllocSegmentTableInfo, describes};
-pub use stream::{try_read_segments, try_read_segments_reusing};
+pub use stream::{
+    try_read_segments, try_read_segments_lenient, try_read_segments_reusing,
+    try_read_segments_reusing_lenient,
+};
 pub use writing::{segments_to_words, serialized_size_in_words, write_segments};

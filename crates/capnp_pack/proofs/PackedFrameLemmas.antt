@@ -5,11 +5,13 @@ use Rattle.std.proofs.lemmas.List.Concat.{flat_map-append}
 use Rattle.std.proofs.lemmas.List.Folds.{concat-append}
 use Rattle.std.specs.List.{concat, flat_map, AllByRecursion}
 use Rattle.capnp_frame.specs.Message.{IsWholeWords, lengths}
+use Rattle.capnp_frame.specs.declared.serialize.segment_table.Padding.{Padding}
+use Rattle.capnp_frame.specs.declared.serialize.segment_table.Padding.TheVariants.{Zero}
 use Rattle.capnp_frame.specs.SegmentTable.{field, padding_len, zero_padded_table, HasTable, IsTable}
 use Rattle.capnp_frame.specs.Requests.{MessageStands}
 use Rattle.capnp_frame.specs.Sink.{AppendsAll}
-use Rattle.capnp_frame.proofs.TableLemmas.{length-fields}
-use Rattle.capnp_frame.proofs.FrameLemmas.{length-table, length-segments}
+use Rattle.capnp_frame.proofs.TableLemmas.{length-fields, zero_table}
+use Rattle.capnp_frame.proofs.FrameLemmas.{zero_padded_is, length-table, length-segments}
 use Rattle.capnp_pack.specs.Group.{IsGroup, group_text, group_words}
 use Rattle.capnp_pack.specs.Piece.{IsPiece, text_of, words_of_groups}
 use Rattle.capnp_pack.specs.Packed.{Packs}
@@ -20,7 +22,7 @@ use Rattle.capnp_pack.proofs.PackerLemmas.{Packs-some, Packs-whole}
 
 -- the three requests of a packed source are the three pieces
 
-frame_from_requests : (raw rest : List ℕ) (segments : List (List ℕ)) → MessageStands Unpacks segments raw rest → (text : List ℕ) × IsPackedFrame text segments × (raw ≡ text ++ rest)
+frame_from_requests : {rule : Padding} (raw rest : List ℕ) (segments : List (List ℕ)) → MessageStands rule Unpacks segments raw rest → (text : List ℕ) × IsPackedFrame rule text segments × (raw ≡ text ++ rest)
 frame_from_requests raw rest segments stands =
     let first = stands.table.first_given in
     let others = stands.table.others_given in
@@ -44,7 +46,7 @@ frame_from_requests raw rest segments stands =
           ∙ sym (append_assoc first.0 others.0 (all.0 ++ rest)) ∙ sym (append_assoc (first.0 ++ others.0) all.0 rest),
     )
 
-pub MessageStands-from_packed : (text rest : List ℕ) (segments : List (List ℕ)) → IsPackedFrame text segments → MessageStands Unpacks segments (text ++ rest) rest
+pub MessageStands-from_packed : {rule : Padding} (text rest : List ℕ) (segments : List (List ℕ)) → IsPackedFrame rule text segments → MessageStands rule Unpacks segments (text ++ rest) rest
 MessageStands-from_packed text rest segments frame =
     let long = length-table (frame.first ++ frame.others) (lengths segments) frame.table in
     let one = frame.one_word in
@@ -65,10 +67,10 @@ MessageStands-from_packed text rest segments frame =
       whole = frame.whole;
     }
 
-pub packed_requests : (segments : List (List ℕ)) (raw rest : List ℕ) → MessageStands Unpacks segments raw rest ↔ ((text : List ℕ) × IsPackedFrame text segments × (raw ≡ text ++ rest))
-packed_requests segments raw rest = (
+pub packed_requests : (rule : Padding) (segments : List (List ℕ)) (raw rest : List ℕ) → MessageStands rule Unpacks segments raw rest ↔ ((text : List ℕ) × IsPackedFrame rule text segments × (raw ≡ text ++ rest))
+packed_requests rule segments raw rest = (
   frame_from_requests raw rest segments,
-  λ (text, frame, e). subst (λ l. MessageStands Unpacks segments l rest) (sym e) (MessageStands-from_packed text rest segments frame),
+  λ (text, frame, e). subst (λ l. MessageStands rule Unpacks segments l rest) (sym e) (MessageStands-from_packed text rest segments frame),
 )
 
 -- what is written is a packed text of the message
@@ -91,11 +93,10 @@ pieces_join (s ∷ ss) text (first, others, packed, more, e) =
     let rest = pieces_join ss others more in
     (subst (λ l. IsPiece l (s ++ concat ss)) (sym e) (IsPiece-join first others s (concat ss) (packed_piece s first packed) rest.0), (Packs-whole s first packed, rest.1))
 
-pub packed_text_is : (text : List ℕ) (segments : List (List ℕ)) → HasTable (lengths segments) → IsPackedText text segments → IsPackedFrame text segments
-packed_text_is text segments can packed =
+pub packed_text_is : (rule : Padding) (text : List ℕ) (segments : List (List ℕ)) → HasTable (lengths segments) → IsPackedText text segments → IsPackedFrame rule text segments
+packed_text_is rule text segments can packed =
     let head = zero_padded_table (lengths segments) in
-    let table : IsTable head (lengths segments) =
-    record { can = can; padding = replicate (padding_len (lengths segments)) 0; padded = length-replicate (padding_len (lengths segments)) 0; spelled = refl } in
+    let table = zero_padded_is rule (lengths segments) can in
     let long = length-table head (lengths segments) table in
     let whole : take 8 head ++ drop 8 head ≡ head = take-append-drop 8 head in
     let body = pieces_join segments packed.segments_text packed.each_packed in
@@ -103,7 +104,7 @@ packed_text_is text segments can packed =
       first = take 8 head;
       others = drop 8 head;
       one_word = length-take-le 8 head (omega arith);
-      table = subst (λ l. IsTable l (lengths segments)) (sym whole) table;
+      table = subst (λ l. IsTable rule l (lengths segments)) (sym whole) table;
       whole = body.1;
       first_text = packed.first_text;
       others_text = packed.others_text;
@@ -113,6 +114,11 @@ packed_text_is text segments can packed =
       segments_packed = body.0;
       spelled = packed.spelled;
     }
+
+-- by the rule of zero padding its table is the one that is written
+pub zero_packed_table : (text : List ℕ) (segments : List (List ℕ)) (frame : IsPackedFrame Zero text segments)
+    → frame.first ++ frame.others ≡ zero_padded_table (lengths segments)
+zero_packed_table text segments frame = zero_table (frame.first ++ frame.others) (lengths segments) frame.table
 
 -- and there is one
 

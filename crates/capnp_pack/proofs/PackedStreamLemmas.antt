@@ -2,6 +2,7 @@
 use Rattle.std.proofs.Common.{◌≡◌, ◌⊎◌, ℕ, ◌+◌, ◌*◌, ◌≤◌, ap, Option, Result, IfErr, List, length}
 use Rattle.capnp_frame.specs.declared.error.Error.{Error}
 use Rattle.capnp_frame.specs.declared.error.ErrorKind.TheVariants.{DeviceFailed, OutOfMemory}
+use Rattle.capnp_frame.specs.declared.serialize.segment_table.Padding.{Padding}
 use Rattle.capnp_frame.specs.declared.io.Read.{Ghosts}
 use Rattle.capnp_frame.specs.Message.{size_in_words}
 use Rattle.capnp_frame.specs.SegmentTable.{table_size}
@@ -20,16 +21,16 @@ unpacked behind source same = record {
   same = same;
 }
 
-pub packed_reads : {S T : Type 0} (behind : T → S) (source : Ghosts S) (same : T → T → Type 0) (old new : T)
+pub packed_reads : {S T : Type 0} (rule : Padding) (behind : T → S) (source : Ghosts S) (same : T → T → Type 0) (old new : T)
     (limit : Option ℕ) (r : Result (Option (List (List ℕ))) Error) → source.same (behind old) (behind new)
-    → ReadsStream (unpacked behind source same) old new (framed_rules Unpacks RefusesPiece) limit r
-    → ReadsStream source (behind old) (behind new) packed_rules limit r
-packed_reads behind source same old new limit r same_source told = record {
-  found = found_packed r _ _ told.found;
+    → ReadsStream (unpacked behind source same) old new (framed_rules rule Unpacks RefusesPiece) limit r
+    → ReadsStream source (behind old) (behind new) (packed_rules rule) limit r
+packed_reads rule behind source same old new limit r same_source told = record {
+  found = found_packed rule r _ _ told.found;
   within = told.within;
   whole = told.whole;
   none = told.none;
-  accepted = accepted_packed limit (λ m. IfErr r (λ error. (error.kind ≡ DeviceFailed) ⊎ (error.kind ≡ OutOfMemory))) _ told.accepted;
+  accepted = accepted_packed rule limit (λ m. IfErr r (λ error. (error.kind ≡ DeviceFailed) ⊎ (error.kind ≡ OutOfMemory))) _ told.accepted;
   end = told.end;
   refused = told.refused;
   exact = told.exact;
@@ -38,16 +39,16 @@ packed_reads behind source same old new limit r same_source told = record {
   advances = record { tail = told.advances.tail; counted = told.advances.counted; same_source = same_source };
 }
 
-pub packed_reads_into : {S T : Type 0} (behind : T → S) (source : Ghosts S) (same : T → T → Type 0) (old new : T)
+pub packed_reads_into : {S T : Type 0} (rule : Padding) (behind : T → S) (source : Ghosts S) (same : T → T → Type 0) (old new : T)
     (limit : Option ℕ) (room : ℕ) (r : Result (Option (List (List ℕ))) Error) → source.same (behind old) (behind new)
-    → ReadsStreamInto (unpacked behind source same) old new (framed_rules Unpacks RefusesPiece) limit room r
-    → ReadsStreamInto source (behind old) (behind new) packed_rules limit room r
-packed_reads_into behind source same old new limit room r same_source told = record {
-  found = found_packed r _ _ told.found;
+    → ReadsStreamInto (unpacked behind source same) old new (framed_rules rule Unpacks RefusesPiece) limit room r
+    → ReadsStreamInto source (behind old) (behind new) (packed_rules rule) limit room r
+packed_reads_into rule behind source same old new limit room r same_source told = record {
+  found = found_packed rule r _ _ told.found;
   within = told.within;
   whole = told.whole;
   none = told.none;
-  accepted = accepted_packed limit (λ m. table_size (length m) + 8 * size_in_words m ≤ room
+  accepted = accepted_packed rule limit (λ m. table_size (length m) + 8 * size_in_words m ≤ room
       → IfErr r (λ error. error.kind ≡ DeviceFailed)) _ told.accepted;
   end = told.end;
   short = λ few. (ap behind (told.short few).0, (told.short few).1);

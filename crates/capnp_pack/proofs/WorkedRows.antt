@@ -5,6 +5,7 @@ use Rattle.capnp_frame.specs.declared.error.ErrorKind.TheVariants.{FailedToFillT
 use Rattle.capnp_pack.specs.Group.{Group, tagged, zeros, literal, zero_word}
 use Rattle.capnp_pack.specs.Piece.{IsPiece}
 use Rattle.capnp_pack.specs.Packed.{Packs}
+use Rattle.capnp_frame.specs.declared.serialize.segment_table.Padding.TheVariants.{Zero}
 use Rattle.capnp_pack.specs.PackedFrame.{IsPackedFrame}
 use Rattle.capnp_pack.specs.PackedSource.{IsFault, RefusesPiece}
 use Rattle.capnp_pack.specs.UnpackingLaws.{zero_words}
@@ -51,12 +52,12 @@ marked_zero = record { groups = tagged 1 zero_word ∷ []; each = ((lit< tt, lit
 abbrev five : List (List ℕ)
 five = replicate 8 0 ∷ [] ∷ [] ∷ [] ∷ [] ∷ []
 
-pub five_packed : IsPackedFrame (0x11 ∷ 4 ∷ 1 ∷ 0 ∷ 1 ∷ 0 ∷ 0 ∷ []) five
+pub five_packed : IsPackedFrame Zero (0x11 ∷ 4 ∷ 1 ∷ 0 ∷ 1 ∷ 0 ∷ 0 ∷ []) five
 five_packed = record {
   first = 4 ∷ 0 ∷ 0 ∷ 0 ∷ 1 ∷ 0 ∷ 0 ∷ 0 ∷ [];
   others = replicate 16 0;
   one_word = refl;
-  table = record { can = record { some = lit< tt; count = lit≤ tt; each = (lit< tt, (lit< tt, (lit< tt, (lit< tt, (lit< tt, tt))))) }; padding = []; padded = refl; spelled = refl };
+  table = record { can = record { some = lit< tt; count = lit≤ tt; each = (lit< tt, (lit< tt, (lit< tt, (lit< tt, (lit< tt, tt))))) }; padding = []; padded = refl; kept = refl; spelled = refl };
   whole = (refl, (refl, (refl, (refl, (refl, tt)))));
   first_text = 0x11 ∷ 4 ∷ 1 ∷ [];
   others_text = 0 ∷ 1 ∷ [];

@@ -3,17 +3,19 @@
 use Rattle.std.specs.Prelude.{◌≡◌, ℕ, List, ◌++◌, length, take, drop}
 use Rattle.std.specs.List.{concat, AllByRecursion}
 use Rattle.capnp_frame.specs.Message.{IsWholeWords, lengths}
+use Rattle.capnp_frame.specs.declared.serialize.segment_table.Padding.{Padding}
 use Rattle.capnp_frame.specs.SegmentTable.{IsTable, zero_padded_table}
 use Rattle.capnp_frame.specs.Sink.{AppendsAll}
 use Rattle.capnp_pack.specs.Piece.{IsPiece}
 use Rattle.capnp_pack.specs.Packed.{Packs}
 
--- The text is three pieces joined: of the table's first word, of its other words, of all segments joined.
-pub record IsPackedFrame (text : List ℕ) (segments : List (List ℕ)) : Type 0 where
+-- The text is three pieces joined: of the table's first word, of its other words, of all segments joined. The table's
+-- padding is one that the rule takes.
+pub record IsPackedFrame (rule : Padding) (text : List ℕ) (segments : List (List ℕ)) : Type 0 where
   pub first : List ℕ
   pub others : List ℕ
   pub one_word : length first ≡ 8
-  pub table : IsTable (first ++ others) (lengths segments)
+  pub table : IsTable rule (first ++ others) (lengths segments)
   pub whole : AllByRecursion IsWholeWords segments
   pub first_text : List ℕ
   pub others_text : List ℕ
@@ -41,5 +43,5 @@ pub record IsPackedText (text : List ℕ) (segments : List (List ℕ)) : Type 0 
   pub spelled : text ≡ first_text ++ others_text ++ segments_text
 
 -- a packed text of the message stands at the front
-abbrev pub PackedStands : List (List ℕ) → List ℕ → List ℕ → Type 0
-PackedStands segments raw rest = (text : List ℕ) × IsPackedFrame text segments × (raw ≡ text ++ rest)
+abbrev pub PackedStands : Padding → List (List ℕ) → List ℕ → List ℕ → Type 0
+PackedStands rule segments raw rest = (text : List ℕ) × IsPackedFrame rule text segments × (raw ≡ text ++ rest)

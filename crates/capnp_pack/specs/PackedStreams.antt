@@ -1,8 +1,9 @@
 -- Streams of packed messages (src/stream.rt).
+use Rattle.capnp_frame.specs.declared.serialize.segment_table.Padding.{Padding}
 use Rattle.capnp_frame.specs.Streams.{StreamRules, framed_rules}
 use Rattle.capnp_pack.specs.PackedFrame.{PackedStands}
 use Rattle.capnp_pack.specs.PackedSource.{Unpacks, RefusesPiece}
 
--- Packed messages, of any padding: each request is a packed piece.
-abbrev pub packed_rules : StreamRules
-packed_rules = record (framed_rules Unpacks RefusesPiece) { stands = PackedStands }
+-- Packed messages, their padding by the rule: each request is a packed piece.
+abbrev pub packed_rules : Padding → StreamRules
+packed_rules rule = record (framed_rules rule Unpacks RefusesPiece) { stands = PackedStands rule }

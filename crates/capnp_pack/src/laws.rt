@@ -2,7 +2,8 @@
 ghost use Rattle.std.specs.Prelude.{◌≡◌, ℕ, ◌+◌, ◌*◌, ◌/◌, ◌<◌, ◌≤◌, List, [], ◌∷◌, ◌++◌, length, ◌↔◌};
 ghost use Rattle.std.specs.List.{AllByRecursion};
 ghost use Rattle.capnp_frame.specs.Message.{IsWholeWords, lengths};
-ghost use Rattle.capnp_frame.specs.SegmentTable.{HasTable};
+ghost use Rattle.capnp_frame.specs.declared.serialize.segment_table.Padding.{Padding};
+ghost use Rattle.capnp_frame.specs.SegmentTable.{zero_padded_table, HasTable};
 ghost use Rattle.capnp_frame.specs.Requests.{MessageStands};
 ghost use Rattle.capnp_frame.specs.Sink.{AppendsAll, AppendsSame};
 ghost use Rattle.capnp_frame.specs.Writing.{pieces};
@@ -10,6 +11,8 @@ ghost use Rattle.capnp_pack.specs.Packed.{Packs};
 ghost use Rattle.capnp_pack.specs.PackedFrame.{IsPackedFrame, IsPackedText, PackedStands};
 ghost use Rattle.capnp_pack.specs.PackedSource.{Unpacks};
 ghost use Rattle.capnp_pack.specs.PackedSink.{AppendsPacked};
+
+use capnp_frame::serialize::Padding;
 
 /// A packed request has one answer at most, and leaves one rest.
 pub fn packed_request_has_one_answer()
@@ -19,22 +22,31 @@ pub fn packed_request_has_one_answer()
 
 /// The three requests of a packed source take just a packed text of the message.
 pub fn packed_requests_take_a_packed_frame()
-    ensures { (segments : List (List ℕ)) (raw rest : List ℕ) →
-        MessageStands Unpacks segments raw rest ↔ PackedStands segments raw rest }
+    ensures { (rule : Padding) (segments : List (List ℕ)) (raw rest : List ℕ) →
+        MessageStands rule Unpacks segments raw rest ↔ PackedStands rule segments raw rest }
 {}
 
-/// No packed text of a message begins a different one, and each is the text of one message alone.
+/// No packed text of a message begins a different one, also of another rule of padding, and each is the text of one message alone.
 /// So texts that are joined part in one way.
 pub fn packed_frames_part_in_one_way()
-    ensures { (text other rest left : List ℕ) (segments others : List (List ℕ)) →
-        IsPackedFrame text segments → IsPackedFrame other others → text ++ rest ≡ other ++ left →
+    ensures { (rule also : Padding) (text other rest left : List ℕ)
+        (segments others : List (List ℕ)) →
+        IsPackedFrame rule text segments → IsPackedFrame also other others → text ++ rest ≡ other ++ left →
         (text ≡ other) × (segments ≡ others) × (rest ≡ left) }
 {}
 
 /// What is written of a message is a packed text of it.
 pub fn packed_text_is_a_packed_frame()
-    ensures { (text : List ℕ) (segments : List (List ℕ)) → HasTable (lengths segments) →
-        IsPackedText text segments → IsPackedFrame text segments }
+    ensures { (rule : Padding) (text : List ℕ) (segments : List (List ℕ)) →
+        HasTable (lengths segments) → IsPackedText text segments → IsPackedFrame rule text segments }
+{}
+
+/// By the rule of zero padding the table that a packed text holds is the one that is written. Its
+/// pieces may still be packed in more ways than the one that a writer takes.
+pub fn zero_padding_leaves_one_table()
+    ensures { (text : List ℕ) (segments : List (List ℕ)) →
+        (frame : IsPackedFrame Padding.Zero text segments) →
+        frame.first ++ frame.others ≡ zero_padded_table (lengths segments) }
 {}
 
 /// And there is such a text of each message.

@@ -8,35 +8,65 @@ use crate::packed_read::PackedRead;
 use capnp_frame::Result;
 use capnp_frame::io::BufRead;
 use capnp_frame::message::ReaderOptions;
-use capnp_frame::serialize::{OwnedSegments, try_read_segments, try_read_segments_reusing};
-pub use lent::try_read_packed_segments_into;
+use capnp_frame::serialize::{
+    OwnedSegments, Padding, try_read_segments, try_read_segments_lenient,
+    try_read_segments_reusing, try_read_segments_reusing_lenient,
+};
+pub use lent::{try_read_packed_segments_into, try_read_packed_segments_into_lenient};
 use std::alloc::Global;
 
 /// Reads the next packed message of a source, or answers `None` where nothing is unread.
 ///
-/// Just the message's text is consumed, however the source cuts its bytes. Memory is taken as by
-/// `try_read_segments`.
+/// Just the message's text is consumed, however the source cuts its bytes. Memory is taken, and a
+/// padding that isn't zero refused, as by `try_read_segments`.
 pub fn try_read_packed_segments<R: BufRead>(
     alloc: Global,
     source: &mut R,
     options: ReaderOptions,
 ) -> Result<Option<OwnedSegments>>
-    ensures { ReadsStream R.Read source.old source.new packed_rules
+    ensures { ReadsStream R.Read source.old source.new (packed_rules Padding.Zero)
         options.traversal_limit_in_words result }
 {
     let mut packed = PackedRead::new(source);
     try_read_segments(alloc, &mut packed, options)
 }
 
-/// The same into the memory of a message before, as `try_read_segments_reusing` does it.
+/// The same of any padding.
+pub fn try_read_packed_segments_lenient<R: BufRead>(
+    alloc: Global,
+    source: &mut R,
+    options: ReaderOptions,
+) -> Result<Option<OwnedSegments>>
+    ensures { ReadsStream R.Read source.old source.new (packed_rules Padding.Any)
+        options.traversal_limit_in_words result }
+{
+    let mut packed = PackedRead::new(source);
+    try_read_segments_lenient(alloc, &mut packed, options)
+}
+
+/// Reads the next packed message as `try_read_packed_segments` does, into the memory of a message
+/// before, as `try_read_segments_reusing` does it.
 pub fn try_read_packed_segments_reusing<R: BufRead>(
     source: &mut R,
     options: ReaderOptions,
     spare: OwnedSegments,
 ) -> Result<Option<OwnedSegments>>
-    ensures { ReadsStream R.Read source.old source.new packed_rules
+    ensures { ReadsStream R.Read source.old source.new (packed_rules Padding.Zero)
         options.traversal_limit_in_words result }
 {
     let mut packed = PackedRead::new(source);
     try_read_segments_reusing(&mut packed, options, spare)
+}
+
+/// Reads the next packed message as `try_read_packed_segments_reusing` does, of any padding.
+pub fn try_read_packed_segments_reusing_lenient<R: BufRead>(
+    source: &mut R,
+    options: ReaderOptions,
+    spare: OwnedSegments,
+) -> Result<Option<OwnedSegments>>
+    ensures { ReadsStream R.Read source.old source.new (packed_rules Padding.Any)
+        options.traversal_limit_in_words result }
+{
+    let mut packed = PackedRead::new(source);
+    try_read_segments_reusing_lenient(&mut packed, options, spare)
 }

@@ -5,7 +5,8 @@ ghost use Rattle.capnp_frame.specs.FlatReaders.{slice_rules, no_alloc_rules, Rea
 use capnp_frame::Result;
 use capnp_frame::message::ReaderOptions;
 use capnp_frame::serialize::{
-    BufferSegments, NoAllocBufferSegments, NoAllocSliceSegments, take_segments,
+    BufferSegments, NoAllocBufferSegments, NoAllocSliceSegments, Padding, take_segments,
+    take_segments_lenient,
 };
 use capnp_message::Reader;
 use std::alloc::Global;
@@ -20,11 +21,38 @@ pub fn read_message_from_flat_slice<'a>(
     slice: &mut &'a [u8],
     options: ReaderOptions,
 ) -> Result<Reader<BufferSegments<&'a [u8]>>>
-    ensures reads { ReadsFlat (slice_rules options.traversal_limit_in_words) slice.old.now
-        (Some slice.new.now) (λ reader. reader.segments.segments) result }
+    ensures reads { ReadsFlat (slice_rules Padding.Zero options.traversal_limit_in_words)
+        slice.old.now (Some slice.new.now) (λ reader. reader.segments.segments) result }
     ensures options { IfOk result (λ reader. reader.options ≡ options) }
 {
-    let segments = take_segments(alloc, slice, options)?;
+    take_message(alloc, slice, Padding::Zero, options)
+}
+
+/// Reads the message at the front of a slice as `read_message_from_flat_slice` does, of any padding.
+pub fn read_message_from_flat_slice_lenient<'a>(
+    alloc: Global,
+    slice: &mut &'a [u8],
+    options: ReaderOptions,
+) -> Result<Reader<BufferSegments<&'a [u8]>>>
+    ensures reads { ReadsFlat (slice_rules Padding.Any options.traversal_limit_in_words)
+        slice.old.now (Some slice.new.now) (λ reader. reader.segments.segments) result }
+    ensures options { IfOk result (λ reader. reader.options ≡ options) }
+{
+    take_message(alloc, slice, Padding::Any, options)
+}
+
+// The message at the front of a slice, its padding by the rule.
+fn take_message<'a>(
+    alloc: Global,
+    slice: &mut &'a [u8],
+    padding: Padding,
+    options: ReaderOptions,
+) -> Result<Reader<BufferSegments<&'a [u8]>>>
+    ensures reads { ReadsFlat (slice_rules padding options.traversal_limit_in_words)
+        slice.old.now (Some slice.new.now) (λ reader. reader.segments.segments) result }
+    ensures options { IfOk result (λ reader. reader.options ≡ options) }
+{
+    let segments = take_front(alloc, slice, padding, options)?;
     Ok(Reader::new(segments, options))
 }
 
@@ -42,10 +70,66 @@ pub fn read_message_from_flat_slice_no_alloc<'a>(
     slice: &mut &'a [u8],
     options: ReaderOptions,
 ) -> Result<Reader<NoAllocSliceSegments<'a>>>
-    ensures reads { ReadsFlat (no_alloc_rules options.traversal_limit_in_words) slice.old.now
-        (Some slice.new.now) (λ reader. reader.segments.segments) result }
+    ensures reads { ReadsFlat (no_alloc_rules Padding.Zero options.traversal_limit_in_words)
+        slice.old.now (Some slice.new.now) (λ reader. reader.segments.segments) result }
     ensures options { IfOk result (λ reader. reader.options ≡ options) }
 {
-    let segments = NoAllocBufferSegments::from_slice(slice, options)?;
+    take_message_no_alloc(slice, Padding::Zero, options)
+}
+
+/// Reads the message at the front of a slice as `read_message_from_flat_slice_no_alloc` does, of any padding.
+pub fn read_message_from_flat_slice_no_alloc_lenient<'a>(
+    slice: &mut &'a [u8],
+    options: ReaderOptions,
+) -> Result<Reader<NoAllocSliceSegments<'a>>>
+    ensures reads { ReadsFlat (no_alloc_rules Padding.Any options.traversal_limit_in_words)
+        slice.old.now (Some slice.new.now) (λ reader. reader.segments.segments) result }
+    ensures options { IfOk result (λ reader. reader.options ≡ options) }
+{
+    take_message_no_alloc(slice, Padding::Any, options)
+}
+
+// The message at the front of a slice, its padding by the rule.
+fn take_message_no_alloc<'a>(
+    slice: &mut &'a [u8],
+    padding: Padding,
+    options: ReaderOptions,
+) -> Result<Reader<NoAllocSliceSegments<'a>>>
+    ensures reads { ReadsFlat (no_alloc_rules padding options.traversal_limit_in_words)
+        slice.old.now (Some slice.new.now) (λ reader. reader.segments.segments) result }
+    ensures options { IfOk result (λ reader. reader.options ≡ options) }
+{
+    let segments = take_front_no_alloc(slice, padding, options)?;
     Ok(Reader::new(segments, options))
+}
+
+// The segments at the front of a slice.
+fn take_front<'a>(
+    alloc: Global,
+    slice: &mut &'a [u8],
+    padding: Padding,
+    options: ReaderOptions,
+) -> Result<BufferSegments<&'a [u8]>>
+    ensures { ReadsFlat (slice_rules padding options.traversal_limit_in_words) slice.old.now
+        (Some slice.new.now) (λ found. found.segments) result }
+{
+    match padding {
+        Padding::Zero => take_segments(alloc, slice, options),
+        Padding::Any => take_segments_lenient(alloc, slice, options),
+    }
+}
+
+// The same, found without memory.
+fn take_front_no_alloc<'a>(
+    slice: &mut &'a [u8],
+    padding: Padding,
+    options: ReaderOptions,
+) -> Result<NoAllocSliceSegments<'a>>
+    ensures { ReadsFlat (no_alloc_rules padding options.traversal_limit_in_words) slice.old.now
+        (Some slice.new.now) (λ found. found.segments) result }
+{
+    match padding {
+        Padding::Zero => NoAllocBufferSegments::from_slice(slice, options),
+        Padding::Any => NoAllocBufferSegments::from_slice_lenient(slice, options),
+    }
 }

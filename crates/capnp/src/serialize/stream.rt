@@ -5,12 +5,11 @@ ghost use Rattle.capnp_frame.specs.Frame.{IsFrame};
 ghost use Rattle.capnp.specs.Streams.{IsPlainSource};
 ghost use Rattle.capnp.specs.Headline.{ReturnsTexts, ReturnsTextsInto, OrFailsAtEnd};
 
+use super::reading;
+use capnp_frame::Result;
 use capnp_frame::io::Read;
 use capnp_frame::message::ReaderOptions;
-use capnp_frame::serialize::{
-    NoAllocBufferSegments, OwnedSegments, try_read_segments, try_read_segments_into,
-};
-use capnp_frame::{Error, ErrorKind, Result};
+use capnp_frame::serialize::{NoAllocBufferSegments, OwnedSegments, Padding};
 use capnp_message::Reader;
 use std::alloc::Global;
 
@@ -33,18 +32,15 @@ pub fn try_read_message<R: Read>(
     options: ReaderOptions,
 ) -> Result<Option<Reader<OwnedSegments>>>
     // Over a source of plain bytes: the framed text of the message stands there.
-    ensures texts { IsPlainSource R.gives R.refuses → ReturnsTexts IsFrame
+    ensures texts { IsPlainSource R.gives R.refuses → ReturnsTexts (IsFrame Padding.Zero)
         options.traversal_limit_in_words (R.unread source.old) (R.unread source.new)
         (next_in (λ reader. reader.segments) result) }
-    ensures reads { ReadsStream R.Read source.old source.new (framed_rules R.gives R.refuses)
+    ensures reads { ReadsStream R.Read source.old source.new (framed_rules Padding.Zero R.gives R.refuses)
         options.traversal_limit_in_words (next_in (λ reader. reader.segments) result) }
     ensures options { IfOk result (λ found. IfSome found (λ reader.
         reader.options ≡ options)) }
 {
-    match try_read_segments(alloc, source, options)? {
-        Some(segments) => Ok(Some(Reader::new(segments, options))),
-        None => Ok(None),
-    }
+    reading::try_read_message(alloc, source, Padding::Zero, options)
 }
 
 /// Reads the next message of a source. Where nothing is unread it is refused by
@@ -55,18 +51,15 @@ pub fn read_message<R: Read>(
     options: ReaderOptions,
 ) -> Result<Reader<OwnedSegments>>
     // Over a source of plain bytes: the framed text of the message stands there.
-    ensures texts { IsPlainSource R.gives R.refuses → ReturnsTexts IsFrame
+    ensures texts { IsPlainSource R.gives R.refuses → ReturnsTexts (IsFrame Padding.Zero)
         options.traversal_limit_in_words (R.unread source.old) (R.unread source.new)
         (message_in (λ reader. reader.segments) result) }
     ensures reads { OrFailsAtEnd (ReadsStream R.Read source.old source.new
-        (framed_rules R.gives R.refuses) options.traversal_limit_in_words)
+        (framed_rules Padding.Zero R.gives R.refuses) options.traversal_limit_in_words)
         (message_in (λ reader. reader.segments) result) }
     ensures options { IfOk result (λ reader. reader.options ≡ options) }
 {
-    match try_read_message(alloc, source, options)? {
-        Some(reader) => Ok(reader),
-        None => Err(Error::from_kind(ErrorKind::PrematureEndOfFile)),
-    }
+    reading::read_message(alloc, source, Padding::Zero, options)
 }
 
 /// Reads the next message of a source into a lent buffer, or answers `None` where nothing is
@@ -80,18 +73,15 @@ pub fn try_read_message_no_alloc<'b, R: Read>(
     options: ReaderOptions,
 ) -> Result<Option<Reader<NoAllocBufferSegments<&'b [u8]>>>>
     // Over a source of plain bytes: the framed text of the message stands there.
-    ensures texts { IsPlainSource R.gives R.refuses → ReturnsTextsInto IsFrame
+    ensures texts { IsPlainSource R.gives R.refuses → ReturnsTextsInto (IsFrame Padding.Zero)
         options.traversal_limit_in_words (length buffer.old) (R.unread source.old) (R.unread source.new)
         (next_in (λ reader. reader.segments.segments) result) }
-    ensures reads { ReadsStreamInto R.Read source.old source.new (framed_rules R.gives R.refuses)
+    ensures reads { ReadsStreamInto R.Read source.old source.new (framed_rules Padding.Zero R.gives R.refuses)
         options.traversal_limit_in_words (length buffer.old) (next_in (λ reader. reader.segments.segments) result) }
     ensures options { IfOk result (λ found. IfSome found (λ reader.
         reader.options ≡ options)) }
 {
-    match try_read_segments_into(source, buffer, options)? {
-        Some(segments) => Ok(Some(Reader::new(segments, options))),
-        None => Ok(None),
-    }
+    reading::try_read_message_no_alloc(source, buffer, Padding::Zero, options)
 }
 
 /// Reads the next message of a source into a lent buffer. Where nothing is unread it is refused by
@@ -102,16 +92,13 @@ pub fn read_message_no_alloc<'b, R: Read>(
     options: ReaderOptions,
 ) -> Result<Reader<NoAllocBufferSegments<&'b [u8]>>>
     // Over a source of plain bytes: the framed text of the message stands there.
-    ensures texts { IsPlainSource R.gives R.refuses → ReturnsTextsInto IsFrame
+    ensures texts { IsPlainSource R.gives R.refuses → ReturnsTextsInto (IsFrame Padding.Zero)
         options.traversal_limit_in_words (length buffer.old) (R.unread source.old) (R.unread source.new)
         (message_in (λ reader. reader.segments.segments) result) }
     ensures reads { OrFailsAtEnd (ReadsStreamInto R.Read source.old source.new
-        (framed_rules R.gives R.refuses) options.traversal_limit_in_words (length buffer.old))
+        (framed_rules Padding.Zero R.gives R.refuses) options.traversal_limit_in_words (length buffer.old))
         (message_in (λ reader. reader.segments.segments) result) }
     ensures options { IfOk result (λ reader. reader.options ≡ options) }
 {
-    match try_read_message_no_alloc(source, buffer, options)? {
-        Some(reader) => Ok(reader),
-        None => Err(Error::from_kind(ErrorKind::PrematureEndOfFile)),
-    }
+    reading::read_message_no_alloc(source, buffer, Padding::Zero, options)
 }

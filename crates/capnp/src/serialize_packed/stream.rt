@@ -5,12 +5,12 @@ ghost use Rattle.capnp_pack.specs.PackedFrame.{IsPackedFrame};
 ghost use Rattle.capnp_pack.specs.PackedStreams.{packed_rules};
 ghost use Rattle.capnp.specs.Headline.{ReturnsTexts, ReturnsTextsInto, OrFailsAtEnd};
 
+use super::reading;
+use capnp_frame::Result;
 use capnp_frame::io::BufRead;
 use capnp_frame::message::ReaderOptions;
-use capnp_frame::serialize::{NoAllocBufferSegments, OwnedSegments};
-use capnp_frame::{Error, ErrorKind, Result};
+use capnp_frame::serialize::{NoAllocBufferSegments, OwnedSegments, Padding};
 use capnp_message::Reader;
-use capnp_pack::stream::{try_read_packed_segments, try_read_packed_segments_into};
 use std::alloc::Global;
 
 /// Reads the next packed message of a source, or answers `None` where nothing is unread.
@@ -32,18 +32,15 @@ pub fn try_read_message<R: BufRead>(
     options: ReaderOptions,
 ) -> Result<Option<Reader<OwnedSegments>>>
     // The packed text of the message stands there.
-    ensures texts { ReturnsTexts IsPackedFrame
+    ensures texts { ReturnsTexts (IsPackedFrame Padding.Zero)
         options.traversal_limit_in_words (R.unread source.old) (R.unread source.new)
         (next_in (λ reader. reader.segments) result) }
-    ensures reads { ReadsStream R.Read source.old source.new packed_rules
+    ensures reads { ReadsStream R.Read source.old source.new (packed_rules Padding.Zero)
         options.traversal_limit_in_words (next_in (λ reader. reader.segments) result) }
     ensures options { IfOk result (λ found. IfSome found (λ reader.
         reader.options ≡ options)) }
 {
-    match try_read_packed_segments(alloc, source, options)? {
-        Some(segments) => Ok(Some(Reader::new(segments, options))),
-        None => Ok(None),
-    }
+    reading::try_read_message(alloc, source, Padding::Zero, options)
 }
 
 /// Reads the next packed message of a source. Where nothing is unread it is refused
@@ -54,18 +51,15 @@ pub fn read_message<R: BufRead>(
     options: ReaderOptions,
 ) -> Result<Reader<OwnedSegments>>
     // The packed text of the message stands there.
-    ensures texts { ReturnsTexts IsPackedFrame
+    ensures texts { ReturnsTexts (IsPackedFrame Padding.Zero)
         options.traversal_limit_in_words (R.unread source.old) (R.unread source.new)
         (message_in (λ reader. reader.segments) result) }
     ensures reads { OrFailsAtEnd (ReadsStream R.Read source.old source.new
-        packed_rules options.traversal_limit_in_words)
+        (packed_rules Padding.Zero) options.traversal_limit_in_words)
         (message_in (λ reader. reader.segments) result) }
     ensures options { IfOk result (λ reader. reader.options ≡ options) }
 {
-    match try_read_message(alloc, source, options)? {
-        Some(reader) => Ok(reader),
-        None => Err(Error::from_kind(ErrorKind::PrematureEndOfFile)),
-    }
+    reading::read_message(alloc, source, Padding::Zero, options)
 }
 
 /// Reads the next packed message of a source into a lent buffer, or answers `None` where
@@ -79,18 +73,15 @@ pub fn try_read_message_no_alloc<'b, R: BufRead>(
     options: ReaderOptions,
 ) -> Result<Option<Reader<NoAllocBufferSegments<&'b [u8]>>>>
     // The packed text of the message stands there.
-    ensures texts { ReturnsTextsInto IsPackedFrame
+    ensures texts { ReturnsTextsInto (IsPackedFrame Padding.Zero)
         options.traversal_limit_in_words (length buffer.old) (R.unread source.old) (R.unread source.new)
         (next_in (λ reader. reader.segments.segments) result) }
-    ensures reads { ReadsStreamInto R.Read source.old source.new packed_rules
+    ensures reads { ReadsStreamInto R.Read source.old source.new (packed_rules Padding.Zero)
         options.traversal_limit_in_words (length buffer.old) (next_in (λ reader. reader.segments.segments) result) }
     ensures options { IfOk result (λ found. IfSome found (λ reader.
         reader.options ≡ options)) }
 {
-    match try_read_packed_segments_into(source, buffer, options)? {
-        Some(segments) => Ok(Some(Reader::new(segments, options))),
-        None => Ok(None),
-    }
+    reading::try_read_message_no_alloc(source, buffer, Padding::Zero, options)
 }
 
 /// Reads the next packed message of a source into a lent buffer. Where nothing is unread it
@@ -101,16 +92,13 @@ pub fn read_message_no_alloc<'b, R: BufRead>(
     options: ReaderOptions,
 ) -> Result<Reader<NoAllocBufferSegments<&'b [u8]>>>
     // The packed text of the message stands there.
-    ensures texts { ReturnsTextsInto IsPackedFrame
+    ensures texts { ReturnsTextsInto (IsPackedFrame Padding.Zero)
         options.traversal_limit_in_words (length buffer.old) (R.unread source.old) (R.unread source.new)
         (message_in (λ reader. reader.segments.segments) result) }
     ensures reads { OrFailsAtEnd (ReadsStreamInto R.Read source.old source.new
-        packed_rules options.traversal_limit_in_words (length buffer.old))
+        (packed_rules Padding.Zero) options.traversal_limit_in_words (length buffer.old))
         (message_in (λ reader. reader.segments.segments) result) }
     ensures options { IfOk result (λ reader. reader.options ≡ options) }
 {
-    match try_read_message_no_alloc(source, buffer, options)? {
-        Some(reader) => Ok(reader),
-        None => Err(Error::from_kind(ErrorKind::PrematureEndOfFile)),
-    }
+    reading::read_message_no_alloc(source, buffer, Padding::Zero, options)
 }

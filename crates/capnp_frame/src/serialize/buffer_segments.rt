@@ -2,8 +2,8 @@
 ghost use Rattle.std.specs.Prelude.{◌≡◌, ◌+◌, ◌*◌, ◌≤◌, length, map, drop, sum, ◌⊎◌, IfOk, IfErr, Some, None};
 ghost use Rattle.capnp_frame.specs.SegmentLengths.{ranges, range_len, cut};
 ghost use Rattle.capnp_frame.specs.Limits.{AreWithin};
-ghost use Rattle.capnp_frame.specs.SegmentTable.{table_size};
-ghost use Rattle.capnp_frame.specs.Front.{HoldsMessage, told_lengths};
+ghost use Rattle.capnp_frame.specs.SegmentTable.{table_size, KeepsPadding};
+ghost use Rattle.capnp_frame.specs.Front.{HoldsMessage, told_lengths, told_padding};
 ghost use Rattle.capnp_frame.specs.FlatRefusals.{by_words, AcceptsCount, RefusesFlat};
 ghost use Rattle.capnp_frame.specs.FlatReaders.{buffer_rules, slice_rules, ReadsFlat};
 ghost use Rattle.capnp_frame.specs.declared.error.ErrorKind.{ErrorKind};
@@ -11,6 +11,7 @@ ghost use Rattle.capnp_frame.specs.declared.error.ErrorKind.{ErrorKind};
 use crate::error::{Error, ErrorKind, Result};
 use crate::message::{AsBytes, ReaderOptions, ReaderSegments};
 use crate::serialize::segment_lengths::{SegmentLengthsBuilder, part};
+use crate::serialize::segment_table::Padding;
 use crate::serialize::stream::read_table;
 use std::alloc::Global;
 use std::marker::Model;
@@ -77,16 +78,55 @@ impl<T: AsBytes> BufferSegments<T> {
 impl<T: AsBytes + Drop> BufferSegments<T> {
     /// Finds the message at the front of a buffer. Behind it anything may stand.
     ///
-    /// Memory is taken for the lengths of the segments alone, once their number is accepted.
+    /// Memory is taken for the lengths of the segments alone, once their number is accepted. A
+    /// padding that isn't zero is refused by `NonZeroPadding`, once the limit of words is tested.
     pub fn new(alloc: Global, buffer: T, options: ReaderOptions) -> Result<BufferSegments<T>>
         ensures buffer { IfOk result (λ found. found.buffer ≡ buffer) }
-        ensures reads { ReadsFlat (buffer_rules options.traversal_limit_in_words) (T.bytes buffer)
-            None (λ found. found.segments) result }
+        ensures reads { ReadsFlat (buffer_rules Padding.Zero options.traversal_limit_in_words)
+            (T.bytes buffer) None (λ found. found.segments) result }
+    {
+        BufferSegments::find(
+            alloc,
+            buffer,
+            options.traversal_limit_in_words,
+            Padding::Zero,
+        )
+    }
+
+    /// Finds the message at the front of a buffer as `new` does, of any padding.
+    pub fn new_lenient(
+        alloc: Global,
+        buffer: T,
+        options: ReaderOptions,
+    ) -> Result<BufferSegments<T>>
+        ensures buffer { IfOk result (λ found. found.buffer ≡ buffer) }
+        ensures reads { ReadsFlat (buffer_rules Padding.Any options.traversal_limit_in_words)
+            (T.bytes buffer) None (λ found. found.segments) result }
+    {
+        BufferSegments::find(
+            alloc,
+            buffer,
+            options.traversal_limit_in_words,
+            Padding::Any,
+        )
+    }
+
+    // The message at the front of a buffer.
+    fn find(
+        alloc: Global,
+        buffer: T,
+        limit: Option<usize>,
+        rule: Padding,
+    ) -> Result<BufferSegments<T>>
+        ensures buffer { IfOk result (λ found. found.buffer ≡ buffer) }
+        ensures reads { ReadsFlat (buffer_rules rule limit) (T.bytes buffer) None
+            (λ found. found.segments) result }
     {
         let (lengths, table_len) = find_message(
             alloc,
             buffer.as_bytes(),
-            options.traversal_limit_in_words,
+            limit,
+            rule,
             ErrorKind::EmptyBuffer,
         )?;
         Ok(BufferSegments::from_parts(buffer, table_len, lengths.to_segment_indices()))
@@ -115,23 +155,51 @@ impl<T: AsBytes> ReaderSegments for BufferSegments<T> {
 /// stays as it was.
 ///
 /// No segment is copied. Memory is taken for the lengths of the segments, once their number is
-/// accepted.
+/// accepted. A padding that isn't zero is refused by `NonZeroPadding`, once the limit of words is
+/// tested.
 pub fn take_segments<'a>(
     alloc: Global,
     slice: &mut &'a [u8],
     options: ReaderOptions,
 ) -> Result<BufferSegments<&'a [u8]>>
     ensures buffer { IfOk result (λ found. found.buffer.now ≡ slice.old.now) }
-    ensures reads { ReadsFlat (slice_rules options.traversal_limit_in_words) slice.old.now
-        (Some slice.new.now) (λ found. found.segments) result }
+    ensures reads { ReadsFlat (slice_rules Padding.Zero options.traversal_limit_in_words)
+        slice.old.now (Some slice.new.now) (λ found. found.segments) result }
+{
+    take_front(
+        alloc,
+        slice,
+        options.traversal_limit_in_words,
+        Padding::Zero,
+    )
+}
+
+/// Finds the message at the front of a slice as `take_segments` does, of any padding.
+pub fn take_segments_lenient<'a>(
+    alloc: Global,
+    slice: &mut &'a [u8],
+    options: ReaderOptions,
+) -> Result<BufferSegments<&'a [u8]>>
+    ensures buffer { IfOk result (λ found. found.buffer.now ≡ slice.old.now) }
+    ensures reads { ReadsFlat (slice_rules Padding.Any options.traversal_limit_in_words)
+        slice.old.now (Some slice.new.now) (λ found. found.segments) result }
+{
+    take_front(alloc, slice, options.traversal_limit_in_words, Padding::Any)
+}
+
+// The message at the front of a slice, which moves behind it.
+fn take_front<'a>(
+    alloc: Global,
+    slice: &mut &'a [u8],
+    limit: Option<usize>,
+    rule: Padding,
+) -> Result<BufferSegments<&'a [u8]>>
+    ensures buffer { IfOk result (λ found. found.buffer.now ≡ slice.old.now) }
+    ensures reads { ReadsFlat (slice_rules rule limit) slice.old.now (Some slice.new.now)
+        (λ found. found.segments) result }
 {
     let all: &'a [u8] = *slice;
-    let (lengths, table_len) = find_message(
-        alloc,
-        all,
-        options.traversal_limit_in_words,
-        ErrorKind::EmptySlice,
-    )?;
+    let (lengths, table_len) = find_message(alloc, all, limit, rule, ErrorKind::EmptySlice)?;
     *slice = &all[table_len + 8 * lengths.total_words()..];
     Ok(lengths.into_slice_segments(all, table_len))
 }
@@ -142,18 +210,21 @@ fn find_message(
     alloc: Global,
     bytes: &[u8],
     limit: Option<usize>,
+    rule: Padding,
     empty: ErrorKind,
 ) -> Result<(SegmentLengthsBuilder, usize)>
     ensures holds { IfOk result (λ found. HoldsMessage bytes.now (length found.0)) }
     ensures lengths { IfOk result (λ found. told_lengths (length found.0) bytes.now ≡ found.0) }
     ensures table { IfOk result (λ found. found.1 ≡ table_size (length found.0)) }
     ensures within { IfOk result (λ found. AreWithin found.0 limit) }
+    ensures padding { IfOk result (λ found.
+        KeepsPadding rule (told_padding (length found.0) bytes.now)) }
     ensures refused { IfErr result (λ error. ((error.kind ≡ ErrorKind.OutOfMemory)
         × AcceptsCount (by_words empty) bytes.now)
-        ⊎ RefusesFlat (by_words empty) limit error.kind bytes.now) }
+        ⊎ RefusesFlat (by_words empty) rule limit error.kind bytes.now) }
 {
     let mut rest = bytes;
-    let Some(lengths) = read_table(Vec::new(alloc), &mut rest, limit)? else {
+    let Some(lengths) = read_table(Vec::new(alloc), &mut rest, limit, rule)? else {
         return Err(Error::from_kind(empty));
     };
     let total = lengths.total_words();

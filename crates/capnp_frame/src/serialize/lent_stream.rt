@@ -1,22 +1,24 @@
 //! Reading messages from a source into a lent buffer.
-ghost use Rattle.std.specs.Prelude.{◌≡◌, ◌+◌, ◌*◌, ◌/◌, ◌<◌, ◌≤◌, ◌^◌, [], length, sum, IfOk, IfErr, OnOk, IfSome, IfNone, Option, Some, None};
+ghost use Rattle.std.specs.Prelude.{◌≡◌, ◌+◌, ◌*◌, ◌<◌, ◌≤◌, ◌^◌, [], length, sum, IfOk, IfErr, OnOk, IfSome, IfNone, Option, Some, None};
 ghost use Rattle.capnp_frame.specs.SegmentTable.{table_size};
 ghost use Rattle.capnp_frame.specs.Limits.{KeepsLimit};
 ghost use Rattle.capnp_frame.specs.Front.{told_lengths, told_segments, TellsTable, HoldsMessage};
-ghost use Rattle.capnp_frame.specs.Source.{IfKnown, IsRefused};
+ghost use Rattle.capnp_frame.specs.Source.{IfKnown};
 ghost use Rattle.capnp_frame.specs.Asking.{Asked, FailsOr};
 ghost use Rattle.capnp_frame.specs.Errors.{IsRefusedBy};
 ghost use Rattle.capnp_frame.specs.Streams.{next_in, framed_rules, ReadsStreamInto};
-ghost use Rattle.capnp_frame.specs.Steps.{AsksNextInto};
+ghost use Rattle.capnp_frame.specs.Steps.{AsksNextInto, StopsAtTable};
 ghost use Rattle.capnp_frame.specs.Requests.{RestStands, TableStands, MessageStands};
-ghost use Rattle.capnp_frame.specs.Refusals.{TellsAccepted, RefusesTable, RefusesStream, IsLentReaderKind};
+ghost use Rattle.capnp_frame.specs.Refusals.{TellsAccepted, RefusesTable, RefusesStream, IsTableKind, IsLentReaderKind};
 ghost use Rattle.capnp_frame.specs.declared.error.ErrorKind.{ErrorKind};
 
 use crate::error::{Error, ErrorKind, Result};
 use crate::io::Read;
 use crate::message::ReaderOptions;
 use crate::serialize::no_alloc_buffer_segments::NoAllocBufferSegments;
-use crate::serialize::segment_table::{accepted_count, keep_limit, lengths_total, table_len};
+use crate::serialize::segment_table::{
+    Padding, accepted_count, keep_limit, keep_padding, lengths_total, table_len,
+};
 use crate::serialize::segment_table_info::NoAllocSegmentTableInfo;
 use crate::serialize::stream::{complete_table, read_first, read_piece};
 
@@ -24,18 +26,55 @@ use crate::serialize::stream::{complete_table, read_first, read_piece};
 ///
 /// The message is the same three pieces as to `try_read_segments`, and just these are consumed. The
 /// buffer is tested before each: a buffer of fewer than 8 bytes, one that is shorter than the table,
-/// and one that is shorter than table and segments is refused by `BufferNotLargeEnough`. No memory is
-/// taken.
+/// and one that is shorter than table and segments is refused by `BufferNotLargeEnough`. Before the
+/// last test a padding that isn't zero is refused by `NonZeroPadding`, with the table consumed. No
+/// memory is taken.
 pub fn try_read_segments_into<'b, R: Read>(
     source: &mut R,
     buffer: &'b mut [u8],
     options: ReaderOptions,
 ) -> Result<Option<NoAllocBufferSegments<&'b [u8]>>>
-    ensures { ReadsStreamInto R.Read source.old source.new (framed_rules R.gives R.refuses)
-        options.traversal_limit_in_words (length buffer.old)
-        (next_in (λ held. held.segments) result) }
+    ensures { ReadsStreamInto R.Read source.old source.new
+        (framed_rules Padding.Zero R.gives R.refuses) options.traversal_limit_in_words
+        (length buffer.old) (next_in (λ held. held.segments) result) }
 {
-    let Some(info) = read_into(source, buffer, options.traversal_limit_in_words)? else {
+    next_into(
+        source,
+        buffer,
+        options.traversal_limit_in_words,
+        Padding::Zero,
+    )
+}
+
+/// Reads the next message as `try_read_segments_into` does, of any padding.
+pub fn try_read_segments_into_lenient<'b, R: Read>(
+    source: &mut R,
+    buffer: &'b mut [u8],
+    options: ReaderOptions,
+) -> Result<Option<NoAllocBufferSegments<&'b [u8]>>>
+    ensures { ReadsStreamInto R.Read source.old source.new
+        (framed_rules Padding.Any R.gives R.refuses) options.traversal_limit_in_words
+        (length buffer.old) (next_in (λ held. held.segments) result) }
+{
+    next_into(
+        source,
+        buffer,
+        options.traversal_limit_in_words,
+        Padding::Any,
+    )
+}
+
+// The next message of a source in a buffer, or none at the source's end.
+fn next_into<'b, R: Read>(
+    source: &mut R,
+    buffer: &'b mut [u8],
+    limit: Option<usize>,
+    rule: Padding,
+) -> Result<Option<NoAllocBufferSegments<&'b [u8]>>>
+    ensures { ReadsStreamInto R.Read source.old source.new (framed_rules rule R.gives R.refuses)
+        limit (length buffer.old) (next_in (λ held. held.segments) result) }
+{
+    let Some(info) = read_into(source, buffer, limit, rule)? else {
         return Ok(None);
     };
     Ok(Some(NoAllocBufferSegments::of_held(buffer, info.segments_count)))
@@ -46,10 +85,11 @@ fn read_into<R: Read>(
     source: &mut R,
     buffer: &mut [u8],
     limit: Option<usize>,
+    rule: Padding,
 ) -> Result<Option<NoAllocSegmentTableInfo>>
     ensures found { IfOk result (λ found. IfSome found (λ info.
         IfKnown (R.unread source.old) (R.unread source.new)
-        (MessageStands R.gives (told_segments info.segments_count buffer.new)))) }
+        (MessageStands rule R.gives (told_segments info.segments_count buffer.new)))) }
     ensures holds { IfOk result (λ found. IfSome found (λ info.
         HoldsMessage buffer.new info.segments_count)) }
     ensures total { IfOk result (λ found. IfSome found (λ info.
@@ -57,10 +97,10 @@ fn read_into<R: Read>(
         ≡ 8 * sum (told_lengths info.segments_count buffer.new))) }
     ensures within { IfOk result (λ found. IfSome found (λ info.
         KeepsLimit (told_lengths info.segments_count buffer.new) limit)) }
-    ensures asks { AsksNextInto R.Read source.old source.new (length buffer.old)
-        (RefusesStream R.gives R.refuses limit (Some (length buffer.old))) result }
+    ensures asks { AsksNextInto R.Read source.old source.new rule (length buffer.old)
+        (RefusesStream rule R.gives R.refuses limit (Some (length buffer.old))) result }
 {
-    let Some((segments_count, total)) = read_table_into(source, buffer, limit)? else {
+    let Some((segments_count, total)) = read_table_into(source, buffer, limit, rule)? else {
         return Ok(None);
     };
     let start = table_len(segments_count);
@@ -82,18 +122,19 @@ fn read_table_into<R: Read>(
     source: &mut R,
     buffer: &mut [u8],
     limit: Option<usize>,
+    rule: Padding,
 ) -> Result<Option<(usize, usize)>>
     ensures found { IfOk result (λ found. IfSome found (λ table.
         IfKnown (R.unread source.old) (R.unread source.new)
-        (TableStands R.gives (told_lengths table.0 buffer.new)))) }
+        (TableStands rule R.gives (told_lengths table.0 buffer.new)))) }
     ensures tells { IfOk result (λ found. IfSome found (λ table. TellsTable buffer.new table.0)) }
     ensures total { IfOk result (λ found. IfSome found (λ table.
         table.1 ≡ sum (told_lengths table.0 buffer.new))) }
     ensures bound { IfOk result (λ found. IfSome found (λ table. table.1 < 2 ^ 42)) }
     ensures within { IfOk result (λ found. IfSome found (λ table.
         KeepsLimit (told_lengths table.0 buffer.new) limit)) }
-    ensures asks { AsksNextInto R.Read source.old source.new (length buffer.old)
-        (RefusesTable R.gives R.refuses limit (Some (length buffer.old))) result }
+    ensures asks { AsksNextInto R.Read source.old source.new rule (length buffer.old)
+        (RefusesTable rule R.gives R.refuses limit (Some (length buffer.old))) result }
 {
     if buffer.len() < 8 {
         return Err(Error::from_kind(ErrorKind::BufferNotLargeEnough));
@@ -106,29 +147,36 @@ fn read_table_into<R: Read>(
     if buffer.len() < size {
         return Err(Error::from_kind(ErrorKind::BufferNotLargeEnough));
     }
-    let total = read_total(source, &first, count, &mut buffer[..size])?;
-    keep_limit(total, limit)?;
+    let total = read_total(source, &first, count, &mut buffer[..size], limit, rule)?;
     Ok(Some((count, total)))
 }
 
-// Completes a table whose first word this is, and answers the sum of its lengths.
+// Completes a table whose first word this is, tests the limit and the padding, and answers the sum of
+// its lengths.
 fn read_total<R: Read>(
     source: &mut R,
     first: &[u8; 8],
     count: usize,
     table: &mut [u8],
+    limit: Option<usize>,
+    rule: Padding,
 ) -> Result<usize>
     requires accepted { TellsAccepted first.now count }
     requires size { length table.old ≡ table_size count }
     ensures found { OnOk result (IfKnown (R.unread source.old) (R.unread source.new)
-        (RestStands R.gives first.now (told_lengths count table.new))) }
+        (RestStands rule R.gives first.now (told_lengths count table.new))) }
     ensures tells { OnOk result (TellsTable table.new count) }
     ensures total { IfOk result (λ total. total ≡ sum (told_lengths count table.new)) }
     ensures bound { IfOk result (λ total. total < 2 ^ 42) }
-    ensures refused { FailsOr result
-        (IsRefused R.refuses (8 * (count / 2)) (R.unread source.old)) }
+    ensures within { OnOk result (KeepsLimit (told_lengths count table.new) limit) }
+    ensures refused { FailsOr result (λ kind. IfKnown (R.unread source.old) (R.unread source.new)
+        (StopsAtTable rule R.gives R.refuses limit kind first.now count)) }
+    ensures kinds { IfErr result (λ error. IsTableKind rule R.refuses error.kind) }
     ensures asked { Asked R.unread R.failures R.same source.old source.new result }
 {
     complete_table(source, first, table)?;
-    Ok(lengths_total(table, count))
+    let total = lengths_total(table, count);
+    keep_limit(total, limit)?;
+    keep_padding(table, count, rule)?;
+    Ok(total)
 }

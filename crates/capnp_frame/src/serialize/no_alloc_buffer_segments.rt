@@ -6,7 +6,7 @@ ghost use Rattle.capnp_frame.specs.FlatReaders.{no_alloc_rules, ReadsFlat};
 
 use crate::error::Result;
 use crate::message::{AsBytes, ReaderOptions, ReaderSegments};
-use crate::serialize::segment_table::{field_at, table_len};
+use crate::serialize::segment_table::{Padding, field_at, table_len};
 use crate::serialize::segment_table_info::{NoAllocSegmentTableInfo, read_table_info};
 use std::marker::Model;
 
@@ -54,7 +54,7 @@ impl<T: AsBytes> NoAllocBufferSegments<T> {
     ) -> NoAllocBufferSegments<T>
         requires { IsDescribed (T.bytes buffer) info }
         ensures buffer { result.buffer ≡ buffer }
-        ensures found { (rest : List ℕ) × HasFrame (T.bytes buffer) result.segments rest }
+        ensures found { (rest : List ℕ) × HasFrame Padding.Any (T.bytes buffer) result.segments rest }
     {
         NoAllocBufferSegments::of_held(buffer, info.segments_count)
     }
@@ -77,29 +77,75 @@ impl<T: AsBytes> NoAllocBufferSegments<T> {
 }
 
 impl<T: AsBytes + Drop> NoAllocBufferSegments<T> {
-    /// Finds the message at the front of a buffer. Behind it anything may stand.
+    /// Finds the message at the front of a buffer. Behind it anything may stand. A padding that
+    /// isn't zero is refused by `NonZeroPadding`, once the table is whole.
     pub fn from_buffer(buffer: T, options: ReaderOptions) -> Result<NoAllocBufferSegments<T>>
         ensures buffer { IfOk result (λ found. found.buffer ≡ buffer) }
-        ensures reads { ReadsFlat (no_alloc_rules options.traversal_limit_in_words)
+        ensures reads { ReadsFlat (no_alloc_rules Padding.Zero options.traversal_limit_in_words)
             (T.bytes buffer) None (λ found. found.segments) result }
     {
-        let info = read_table_info(buffer.as_bytes(), options.traversal_limit_in_words)?;
+        NoAllocBufferSegments::find(buffer, options.traversal_limit_in_words, Padding::Zero)
+    }
+
+    /// Finds the message at the front of a buffer as `from_buffer` does, of any padding.
+    pub fn from_buffer_lenient(
+        buffer: T,
+        options: ReaderOptions,
+    ) -> Result<NoAllocBufferSegments<T>>
+        ensures buffer { IfOk result (λ found. found.buffer ≡ buffer) }
+        ensures reads { ReadsFlat (no_alloc_rules Padding.Any options.traversal_limit_in_words)
+            (T.bytes buffer) None (λ found. found.segments) result }
+    {
+        NoAllocBufferSegments::find(buffer, options.traversal_limit_in_words, Padding::Any)
+    }
+
+    // The message at the front of a buffer.
+    fn find(buffer: T, limit: Option<usize>, rule: Padding) -> Result<NoAllocBufferSegments<T>>
+        ensures buffer { IfOk result (λ found. found.buffer ≡ buffer) }
+        ensures reads { ReadsFlat (no_alloc_rules rule limit) (T.bytes buffer) None
+            (λ found. found.segments) result }
+    {
+        let info = read_table_info(buffer.as_bytes(), limit, rule)?;
         Ok(NoAllocBufferSegments::of_held(buffer, info.segments_count))
     }
 }
 
 impl<'b> NoAllocBufferSegments<&'b [u8]> {
     /// Finds the message at the front of a slice, and moves the slice behind it. A slice that is
-    /// refused stays as it was.
+    /// refused stays as it was. A padding that isn't zero is refused by `NonZeroPadding`, once the
+    /// table is whole.
     pub fn from_slice(
         slice: &mut &'b [u8],
         options: ReaderOptions,
     ) -> Result<NoAllocBufferSegments<&'b [u8]>>
-        ensures { ReadsFlat (no_alloc_rules options.traversal_limit_in_words) slice.old.now
-            (Some slice.new.now) (λ found. found.segments) result }
+        ensures { ReadsFlat (no_alloc_rules Padding.Zero options.traversal_limit_in_words)
+            slice.old.now (Some slice.new.now) (λ found. found.segments) result }
+    {
+        NoAllocBufferSegments::take_front(slice, options.traversal_limit_in_words, Padding::Zero)
+    }
+
+    /// Finds the message at the front of a slice as `from_slice` does, of any padding.
+    pub fn from_slice_lenient(
+        slice: &mut &'b [u8],
+        options: ReaderOptions,
+    ) -> Result<NoAllocBufferSegments<&'b [u8]>>
+        ensures { ReadsFlat (no_alloc_rules Padding.Any options.traversal_limit_in_words)
+            slice.old.now (Some slice.new.now) (λ found. found.segments) result }
+    {
+        NoAllocBufferSegments::take_front(slice, options.traversal_limit_in_words, Padding::Any)
+    }
+
+    // The message at the front of a slice, which moves behind it.
+    fn take_front(
+        slice: &mut &'b [u8],
+        limit: Option<usize>,
+        rule: Padding,
+    ) -> Result<NoAllocBufferSegments<&'b [u8]>>
+        ensures { ReadsFlat (no_alloc_rules rule limit) slice.old.now (Some slice.new.now)
+            (λ found. found.segments) result }
     {
         let all: &'b [u8] = *slice;
-        let info = read_table_info(all, options.traversal_limit_in_words)?;
+        let info = read_table_info(all, limit, rule)?;
         let end = info.segment_table_length_bytes + info.total_segments_length_bytes;
         *slice = &all[end..];
         Ok(NoAllocBufferSegments::of_held(all, info.segments_count))

@@ -1,9 +1,9 @@
 //! The segment table at the front of a framed message: its fields, and the lengths that they tell.
 ghost use Rattle.std.specs.Prelude.{◌≡◌, ◌+◌, ◌*◌, ◌<◌, ◌≤◌, ◌^◌, length, map, take, drop, sum, ℕ, OnOk, IfOk, IfErr, IfSome, IsSomeAnd};
-ghost use Rattle.capnp_frame.specs.SegmentTable.{field, table_size};
+ghost use Rattle.capnp_frame.specs.SegmentTable.{field, table_size, KeepsPadding};
 ghost use Rattle.capnp_frame.specs.SegmentLengths.{range_len, AreRanges};
 ghost use Rattle.capnp_frame.specs.Refusals.{Tells, TellsAccepted, IsOutOfRange};
-ghost use Rattle.capnp_frame.specs.Front.{told_lengths, SpellsLengths};
+ghost use Rattle.capnp_frame.specs.Front.{told_lengths, told_padding, SpellsLengths};
 
 use crate::error::{Error, ErrorKind, Result};
 
@@ -14,6 +14,16 @@ pub const SEGMENTS_COUNT_LIMIT: usize = 512;
 
 /// The bytes of the longest table that is read.
 pub(crate) const LONGEST_TABLE: usize = 2048;
+
+/// What a reader accepts as the padding of a segment table: the four bytes after an even number of
+/// lengths. Encoding document, "Serialization Over a Stream".
+#[derive(Clone, Copy, Debug, PartialEq, Eq)]
+pub enum Padding {
+    /// Any bytes.
+    Any,
+    /// Zeros alone, as writers put there.
+    Zero,
+}
 
 /// The bytes of a table of so many segments.
 pub(crate) fn table_len(count: usize) -> usize
@@ -55,6 +65,40 @@ pub(crate) fn keep_limit(total: usize, limit: Option<usize>) -> Result<()>
         && total > most
     {
         return Err(Error::from_kind(ErrorKind::MessageTooLarge(total)));
+    }
+    Ok(())
+}
+
+/// Fails with `NonZeroPadding` where the padding of a table of so many segments isn't one that the
+/// rule accepts.
+pub(crate) fn keep_padding(table: &[u8], count: usize, rule: Padding) -> Result<()>
+    requires few { count < SEGMENTS_COUNT_LIMIT }
+    requires room { table_size count ≤ length table.now }
+    ensures kept { OnOk result (KeepsPadding rule (told_padding count table.now)) }
+    ensures refused { IfErr result (λ error. (rule ≡ Padding.Zero)
+        × (KeepsPadding rule (told_padding count table.now) → ⊥)
+        × (error.kind ≡ ErrorKind.NonZeroPadding)) }
+{
+    match rule {
+        Padding::Any => Ok(()),
+        Padding::Zero => keep_zeros(table, count),
+    }
+}
+
+// Fails where there is a padding that isn't zero.
+fn keep_zeros(table: &[u8], count: usize) -> Result<()>
+    requires few { count < SEGMENTS_COUNT_LIMIT }
+    requires room { table_size count ≤ length table.now }
+    ensures kept { OnOk result (KeepsPadding Padding.Zero (told_padding count table.now)) }
+    ensures refused { IfErr result (λ error.
+        (KeepsPadding Padding.Zero (told_padding count table.now) → ⊥)
+        × (error.kind ≡ ErrorKind.NonZeroPadding)) }
+{
+    if count % 2 == 1 {
+        return Ok(());
+    }
+    if field_at(table, 4 * (count + 1)) != 0 {
+        return Err(Error::from_kind(ErrorKind::NonZeroPadding));
     }
     Ok(())
 }

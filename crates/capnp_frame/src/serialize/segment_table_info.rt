@@ -1,13 +1,15 @@
 //! What is known of a message from its segment table, found without memory.
 ghost use Rattle.std.specs.Prelude.{◌≡◌, ◌*◌, ◌↔◌, length, sum, IfOk, IfErr, IsTrue};
-ghost use Rattle.capnp_frame.specs.SegmentTable.{table_size};
+ghost use Rattle.capnp_frame.specs.SegmentTable.{table_size, KeepsPadding};
 ghost use Rattle.capnp_frame.specs.Limits.{KeepsLimit};
-ghost use Rattle.capnp_frame.specs.Front.{IsDescribed, HaveSameNumbers, HoldsMessage, told_lengths};
+ghost use Rattle.capnp_frame.specs.Front.{IsDescribed, HaveSameNumbers, HoldsMessage, told_lengths, told_padding};
 ghost use Rattle.capnp_frame.specs.FlatRefusals.{by_fields, cut_kind, RefusesFlat};
 
 use crate::error::{Error, ErrorKind, Result};
 use crate::message::AsBytes;
-use crate::serialize::segment_table::{SEGMENTS_COUNT_LIMIT, field_at, lengths_total, table_len};
+use crate::serialize::segment_table::{
+    Padding, SEGMENTS_COUNT_LIMIT, field_at, keep_padding, lengths_total, table_len,
+};
 
 /// What is known of a message from its segment table.
 #[derive(Clone, Copy, Debug)]
@@ -22,11 +24,12 @@ pub struct NoAllocSegmentTableInfo {
     pub total_segments_length_bytes: usize,
 }
 
-/// Whether a buffer begins with a message of 1 to 511 segments whose table has these numbers.
+/// Whether a buffer begins with a message of 1 to 511 segments whose table has these numbers, and any
+/// padding.
 pub fn describes<T: AsBytes>(buffer: &T, info: &NoAllocSegmentTableInfo) -> bool
     ensures { IsTrue result ↔ IsDescribed (T.bytes buffer.now) info.now }
 {
-    match read_table_info(buffer.as_bytes(), None) {
+    match read_table_info(buffer.as_bytes(), None, Padding::Any) {
         Ok(found) => has_same_numbers(&found, info),
         Err(_) => false,
     }
@@ -42,7 +45,11 @@ fn has_same_numbers(found: &NoAllocSegmentTableInfo, info: &NoAllocSegmentTableI
 }
 
 /// Reads the table at the front of these bytes field by field, and looks that the segments are there.
-pub(crate) fn read_table_info(bytes: &[u8], limit: Option<usize>) -> Result<NoAllocSegmentTableInfo>
+pub(crate) fn read_table_info(
+    bytes: &[u8],
+    limit: Option<usize>,
+    rule: Padding,
+) -> Result<NoAllocSegmentTableInfo>
     ensures holds { IfOk result (λ info. HoldsMessage bytes.now info.segments_count) }
     ensures table { IfOk result (λ info.
         info.segment_table_length_bytes ≡ table_size info.segments_count) }
@@ -50,7 +57,9 @@ pub(crate) fn read_table_info(bytes: &[u8], limit: Option<usize>) -> Result<NoAl
         ≡ 8 * sum (told_lengths info.segments_count bytes.now)) }
     ensures within { IfOk result (λ info.
         KeepsLimit (told_lengths info.segments_count bytes.now) limit) }
-    ensures refused { IfErr result (λ error. RefusesFlat by_fields limit error.kind bytes.now) }
+    ensures padding { IfOk result (λ info.
+        KeepsPadding rule (told_padding info.segments_count bytes.now)) }
+    ensures refused { IfErr result (λ error. RefusesFlat by_fields rule limit error.kind bytes.now) }
 {
     let length = bytes.len();
     if length < 4 {
@@ -73,6 +82,7 @@ pub(crate) fn read_table_info(bytes: &[u8], limit: Option<usize>) -> Result<NoAl
     if length < table_length {
         return Err(cut_field(bytes));
     }
+    keep_padding(bytes, segments_count, rule)?;
     let there = length - table_length;
     if there < 8 * total {
         return Err(Error::from_kind(ErrorKind::MessageEndsPrematurely(total, there / 8)));

@@ -1,5 +1,5 @@
 //! Reading messages from a source.
-ghost use Rattle.std.specs.Prelude.{◌≡◌, ◌-◌, ◌*◌, ◌/◌, ◌<◌, ◌≤◌, ◌^◌, [], length, take, drop, map, sum, IfOk, IfErr, OnOk, IfSome, IfNone, IsOk, ◌⊎◌, Option, Some, None};
+ghost use Rattle.std.specs.Prelude.{◌≡◌, ◌-◌, ◌*◌, ◌<◌, ◌≤◌, ◌^◌, [], length, take, drop, map, sum, IfOk, IfErr, OnOk, IfSome, IfNone, IsOk, ◌⊎◌, Option, Some, None};
 ghost use Rattle.std.specs.List.{AllByRecursion};
 ghost use Rattle.capnp_frame.specs.Message.{IsWholeWords};
 ghost use Rattle.capnp_frame.specs.SegmentTable.{table_size};
@@ -18,7 +18,8 @@ use crate::message::ReaderOptions;
 use crate::serialize::owned_segments::OwnedSegments;
 use crate::serialize::segment_lengths::SegmentLengthsBuilder;
 use crate::serialize::segment_table::{
-    LONGEST_TABLE, SEGMENTS_COUNT_LIMIT, accepted_count, fill_indices, keep_limit, table_len,
+    LONGEST_TABLE, Padding, SEGMENTS_COUNT_LIMIT, accepted_count, fill_indices, keep_limit,
+    keep_padding, table_len,
 };
 use std::alloc::Global;
 
@@ -27,18 +28,38 @@ use std::alloc::Global;
 /// The message is three pieces to the source: the first word of its table, the table's other words,
 /// and all segments together; a piece of no bytes is not asked for. Just these bytes are consumed,
 /// so the next message stands unread behind them. Memory is taken for the lengths once the number
-/// of segments is accepted, and for the segments once the limit of words is tested.
+/// of segments is accepted, and for the segments once the limit of words and the padding are tested:
+/// a padding that isn't zero is refused by `NonZeroPadding`, with the table consumed.
 pub fn try_read_segments<R: Read>(
     alloc: Global,
     source: &mut R,
     options: ReaderOptions,
 ) -> Result<Option<OwnedSegments>>
-    ensures { ReadsStream R.Read source.old source.new (framed_rules R.gives R.refuses)
-        options.traversal_limit_in_words result }
+    ensures { ReadsStream R.Read source.old source.new
+        (framed_rules Padding.Zero R.gives R.refuses) options.traversal_limit_in_words result }
 {
     next_segments(
         source,
         options.traversal_limit_in_words,
+        Padding::Zero,
+        Vec::new(alloc),
+        Vec::new(alloc),
+    )
+}
+
+/// Reads the next message as `try_read_segments` does, of any padding.
+pub fn try_read_segments_lenient<R: Read>(
+    alloc: Global,
+    source: &mut R,
+    options: ReaderOptions,
+) -> Result<Option<OwnedSegments>>
+    ensures { ReadsStream R.Read source.old source.new
+        (framed_rules Padding.Any R.gives R.refuses) options.traversal_limit_in_words result }
+{
+    next_segments(
+        source,
+        options.traversal_limit_in_words,
+        Padding::Any,
         Vec::new(alloc),
         Vec::new(alloc),
     )
@@ -51,41 +72,68 @@ pub fn try_read_segments_reusing<R: Read>(
     options: ReaderOptions,
     spare: OwnedSegments,
 ) -> Result<Option<OwnedSegments>>
-    ensures { ReadsStream R.Read source.old source.new (framed_rules R.gives R.refuses)
-        options.traversal_limit_in_words result }
+    ensures { ReadsStream R.Read source.old source.new
+        (framed_rules Padding.Zero R.gives R.refuses) options.traversal_limit_in_words result }
 {
     let (memory, bytes) = spare.into_parts();
-    next_segments(source, options.traversal_limit_in_words, memory, bytes)
+    next_segments(
+        source,
+        options.traversal_limit_in_words,
+        Padding::Zero,
+        memory,
+        bytes,
+    )
+}
+
+/// Reads the next message as `try_read_segments_reusing` does, of any padding.
+pub fn try_read_segments_reusing_lenient<R: Read>(
+    source: &mut R,
+    options: ReaderOptions,
+    spare: OwnedSegments,
+) -> Result<Option<OwnedSegments>>
+    ensures { ReadsStream R.Read source.old source.new
+        (framed_rules Padding.Any R.gives R.refuses) options.traversal_limit_in_words result }
+{
+    let (memory, bytes) = spare.into_parts();
+    next_segments(
+        source,
+        options.traversal_limit_in_words,
+        Padding::Any,
+        memory,
+        bytes,
+    )
 }
 
 // The next message of a source, or none at its end.
 fn next_segments<R: Read>(
     source: &mut R,
     limit: Option<usize>,
+    rule: Padding,
     memory: Vec<(usize, usize)>,
     spare: Vec<u8>,
 ) -> Result<Option<OwnedSegments>>
-    ensures { ReadsStream R.Read source.old source.new (framed_rules R.gives R.refuses) limit
+    ensures { ReadsStream R.Read source.old source.new (framed_rules rule R.gives R.refuses) limit
         result }
 {
-    read_segments(source, limit, memory, spare)
+    read_segments(source, limit, rule, memory, spare)
 }
 
 // Reads the table and the segments.
 fn read_segments<R: Read>(
     source: &mut R,
     limit: Option<usize>,
+    rule: Padding,
     memory: Vec<(usize, usize)>,
     spare: Vec<u8>,
 ) -> Result<Option<OwnedSegments>>
     ensures found { IfOk result (λ found. IfSome found (λ segments.
-        IfKnown (R.unread source.old) (R.unread source.new) (MessageStands R.gives segments))) }
+        IfKnown (R.unread source.old) (R.unread source.new) (MessageStands rule R.gives segments))) }
     ensures within { IfOk result (λ found. IfSome found (λ segments. IsWithin segments limit)) }
     ensures whole { IfOk result (λ found. IfSome found (AllByRecursion IsWholeWords)) }
-    ensures asks { AsksNext R.Read source.old source.new (TakesMemory R.gives limit)
-        (RefusesStream R.gives R.refuses limit None) result }
+    ensures asks { AsksNext R.Read source.old source.new rule (TakesMemory rule R.gives limit)
+        (RefusesStream rule R.gives R.refuses limit None) result }
 {
-    let Some(lengths) = read_table(memory, source, limit)? else {
+    let Some(lengths) = read_table(memory, source, limit, rule)? else {
         return Ok(None);
     };
     let mut bytes = spare;
@@ -99,13 +147,14 @@ pub(crate) fn read_table<R: Read>(
     memory: Vec<(usize, usize)>,
     source: &mut R,
     limit: Option<usize>,
+    rule: Padding,
 ) -> Result<Option<SegmentLengthsBuilder>>
     ensures found { IfOk result (λ found. IfSome found (λ ns.
-        IfKnown (R.unread source.old) (R.unread source.new) (TableStands R.gives ns))) }
+        IfKnown (R.unread source.old) (R.unread source.new) (TableStands rule R.gives ns))) }
     ensures within { IfOk result (λ found. IfSome found (λ ns. AreWithin ns limit)) }
     ensures bound { IfOk result (λ found. IfSome found (λ ns. sum ns < 2 ^ 42)) }
-    ensures asks { AsksNext R.Read source.old source.new (CountStands R.gives)
-        (RefusesTable R.gives R.refuses limit None) result }
+    ensures asks { AsksNext R.Read source.old source.new rule (CountStands R.gives)
+        (RefusesTable rule R.gives R.refuses limit None) result }
 {
     let Some(first) = read_first(source)? else {
         return Ok(None);
@@ -113,28 +162,29 @@ pub(crate) fn read_table<R: Read>(
     let count = accepted_count(&first)?;
     let mut indices = memory;
     indices.resize(count, (0, 0))?;
-    let total = read_lengths(source, &first, &mut indices)?;
-    keep_limit(total, limit)?;
+    let total = read_lengths(source, &first, &mut indices, limit, rule)?;
     Ok(Some(SegmentLengthsBuilder::from_indices(indices, total)))
 }
 
-// Reads the table's other words, fills in where each segment begins and ends, and answers the sum of
-// the lengths. Only a long table takes the long buffer, since each buffer is filled with zeros first.
+// Reads the table's other words, tests the limit and the padding, fills in where each segment begins
+// and ends, and answers the sum of the lengths. Only a long table takes the long buffer, since each buffer is filled with zeros first.
 fn read_lengths<R: Read>(
     source: &mut R,
     first: &[u8; 8],
     indices: &mut [(usize, usize)],
+    limit: Option<usize>,
+    rule: Padding,
 ) -> Result<usize>
     requires accepted { TellsAccepted first.now (length indices.old) }
-    ensures { ReadsLengths R.Read source.old source.new first.now indices.new result }
+    ensures { ReadsLengths R.Read source.old source.new rule limit first.now indices.new result }
 {
     let size = table_len(indices.len());
     if size <= 16 {
         let mut table = [0; 16];
-        return read_lengths_by(source, first, indices, &mut table[..size]);
+        return read_lengths_by(source, first, indices, &mut table[..size], limit, rule);
     }
     let mut table = [0; LONGEST_TABLE];
-    read_lengths_by(source, first, indices, &mut table[..size])
+    read_lengths_by(source, first, indices, &mut table[..size], limit, rule)
 }
 
 // The same by a buffer of the table's size.
@@ -143,13 +193,18 @@ fn read_lengths_by<R: Read>(
     first: &[u8; 8],
     indices: &mut [(usize, usize)],
     table: &mut [u8],
+    limit: Option<usize>,
+    rule: Padding,
 ) -> Result<usize>
     requires accepted { TellsAccepted first.now (length indices.old) }
     requires size { length table.old ≡ table_size (length indices.old) }
-    ensures { ReadsLengths R.Read source.old source.new first.now indices.new result }
+    ensures { ReadsLengths R.Read source.old source.new rule limit first.now indices.new result }
 {
     complete_table(source, first, table)?;
-    Ok(fill_indices(indices, table))
+    let total = fill_indices(indices, table);
+    keep_limit(total, limit)?;
+    keep_padding(table, indices.len(), rule)?;
+    Ok(total)
 }
 
 // Puts a table's first word into its place, and reads the other words behind it.

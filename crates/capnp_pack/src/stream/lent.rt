@@ -7,7 +7,9 @@ use crate::packed_read::PackedRead;
 use capnp_frame::Result;
 use capnp_frame::io::BufRead;
 use capnp_frame::message::ReaderOptions;
-use capnp_frame::serialize::{NoAllocBufferSegments, try_read_segments_into};
+use capnp_frame::serialize::{
+    NoAllocBufferSegments, Padding, try_read_segments_into, try_read_segments_into_lenient,
+};
 
 /// Reads the next packed message of a source into a lent buffer, or answers `None` where nothing is
 /// unread.
@@ -19,10 +21,24 @@ pub fn try_read_packed_segments_into<'b, R: BufRead>(
     buffer: &'b mut [u8],
     options: ReaderOptions,
 ) -> Result<Option<NoAllocBufferSegments<&'b [u8]>>>
-    ensures { ReadsStreamInto R.Read source.old source.new packed_rules
+    ensures { ReadsStreamInto R.Read source.old source.new (packed_rules Padding.Zero)
         options.traversal_limit_in_words (length buffer.old)
         (next_in (λ held. held.segments) result) }
 {
     let mut packed = PackedRead::new(source);
     try_read_segments_into(&mut packed, buffer, options)
+}
+
+/// The same of any padding.
+pub fn try_read_packed_segments_into_lenient<'b, R: BufRead>(
+    source: &mut R,
+    buffer: &'b mut [u8],
+    options: ReaderOptions,
+) -> Result<Option<NoAllocBufferSegments<&'b [u8]>>>
+    ensures { ReadsStreamInto R.Read source.old source.new (packed_rules Padding.Any)
+        options.traversal_limit_in_words (length buffer.old)
+        (next_in (λ held. held.segments) result) }
+{
+    let mut packed = PackedRead::new(source);
+    try_read_segments_into_lenient(&mut packed, buffer, options)
 }

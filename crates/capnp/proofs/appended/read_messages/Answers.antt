@@ -4,6 +4,7 @@ use Rattle.std.proofs.lemmas.List.{length-map, length_push}
 use Rattle.std.proofs.lemmas.Result.{err_from_is_err_and}
 use Rattle.capnp_frame.proofs.SourceLemmas.{Advances-join}
 use Rattle.capnp.specs.Headline.{IsFault}
+use Rattle.capnp_frame.specs.declared.serialize.segment_table.Padding.TheVariants.{Zero}
 use Rattle.capnp.proofs.AppendedLemmas.{texts_next, accepted_later}
 use Rattle.capnp.proofs.FormatLemmas.{or_fails_advances}
 use Rattle.capnp.proofs.appended.read_messages.Goals as goal
@@ -11,7 +12,7 @@ use Rattle.capnp.proofs.appended.read_messages.Goals as goal
 pub returns-in_err-reader-clause-accepted : goal.returns-in_err-reader-clause-accepted
 returns-in_err-reader-clause-accepted g c =
     let p = err_from_is_err_and c.from_residual.result c.from_residual.ensures.1 in
-    rw (p.1, p.2) (accepted_later c.args.format c.args.options.traversal_limit_in_words (IsFault c.in_err-reader.field-0.0.kind)
+    rw (p.1, p.2) (accepted_later Zero c.args.format c.args.options.traversal_limit_in_words (IsFault c.in_err-reader.field-0.0.kind)
     (map (λ reader. reader.segments) c.loop-index.readers.items) c.args.count _ _
     (omega (arith, length-map c.loop-index.readers.items (λ reader. reader.segments), c.loop-index.invariant.counted, c.loop-index-test.true))
     c.loop-index.invariant.texts c.in_err-reader.ensures.texts.accepted)
@@ -27,7 +28,7 @@ returns-in_err-push-clause-advances g c = Advances-join _ _ _ (g.met.R.Read.keep
 pub loop-index-preserved : goal.loop-index-preserved
 loop-index-preserved g c = record {
   counted = ap length c.in_ok-push.ensures.items ∙ length_push c.loop-index.readers.items c.in_ok-reader.reader ∙ ap (λ k. k + 1) c.loop-index.invariant.counted;
-  texts = texts_next c.args.format c.args.options.traversal_limit_in_words (λ reader. reader.segments) c.loop-index.readers.items
+  texts = texts_next Zero c.args.format c.args.options.traversal_limit_in_words (λ reader. reader.segments) c.loop-index.readers.items
       c.push.new.self.items c.in_ok-reader.reader _ _ _ c.in_ok-push.ensures.items c.loop-index.invariant.texts
       c.in_ok-reader.ensures.texts.found;
   advances = Advances-join _ _ _ (g.met.R.Read.keeps.transitive _ _ _) c.loop-index.invariant.advances

@@ -3,4 +3,4 @@ use Rattle.capnp.proofs.RunLemmas.{format_parts}
 use Rattle.capnp.proofs.laws.no_message_begins_an_end.Goals as goal
 
 pub returns : goal.returns
-returns c = λ format limit ending message raw rest. (format_parts format limit).ends_apart ending message raw rest
+returns c = λ rule format limit ending message raw rest. (format_parts rule format limit).ends_apart ending message raw rest

@@ -7,22 +7,22 @@ use Rattle.capnp.proofs.RunLemmas.{HasWritten-next, written_next, all_written, m
 use Rattle.capnp.proofs.streams.write_all.Goals as goal
 
 pub returns-in-Ok-None-clause-written : goal.returns-in-Ok-None-clause-written
-returns-in-Ok-None-clause-written g c = all_written c.args.format c.args.options.traversal_limit_in_words
+returns-in-Ok-None-clause-written g c = all_written c.args.padding c.args.format c.args.options.traversal_limit_in_words
     (g.M.MessageWriter.writes c.args.writer.now g.W.Write.appends) (g.M.MessageWriter.declines c.args.writer.now g.W.Write.refuses) c.loop-message.message _ _ _ _ _ _
     c.loop-message.invariant.written (rw c.in-Ok-None.field-0-is at c.in-Ok-None.ensures.none) c.read_next.ensures.advances.tail refl
 
 pub returns-in-Err-clause-written : goal.returns-in-Err-clause-written
-returns-in-Err-clause-written g c = stopped_reading c.args.format c.args.options.traversal_limit_in_words
+returns-in-Err-clause-written g c = stopped_reading c.args.padding c.args.format c.args.options.traversal_limit_in_words
     (g.M.MessageWriter.writes c.args.writer.now g.W.Write.appends) (g.M.MessageWriter.declines c.args.writer.now g.W.Write.refuses)
     (record { message = c.loop-message.message; error = c.in-Err.error }) _ _ _ _ _ _
     c.loop-message.invariant.written
-    (reading_fault c.args.format c.args.options.traversal_limit_in_words c.in-Err.error.kind _ _ c.in-Err.ensures.refused) refl
+    (reading_fault c.args.padding c.args.format c.args.options.traversal_limit_in_words c.in-Err.error.kind _ _ c.in-Err.ensures.refused) refl
 
 pub returns-in-Err-clause-advances : goal.returns-in-Err-clause-advances
 returns-in-Err-clause-advances g c = Advances-join _ _ _ (g.met.R.Read.keeps.transitive _ _ _) c.loop-message.invariant.advances c.read_next.ensures.advances
 
 pub returns-in-Err-write_message-clause-written : goal.returns-in-Err-write_message-clause-written
-returns-in-Err-write_message-clause-written g c = stopped_at_message c.args.format c.args.options.traversal_limit_in_words
+returns-in-Err-write_message-clause-written g c = stopped_at_message c.args.padding c.args.format c.args.options.traversal_limit_in_words
     (g.M.MessageWriter.writes c.args.writer.now g.W.Write.appends) (g.M.MessageWriter.declines c.args.writer.now g.W.Write.refuses)
     (record { message = c.loop-message.message; error = c.in-Err-write_message.error }) c.in-Ok-Some.segments _ _ _ _ _ _
     (rw c.in-Ok-Some.field-0-is at c.in-Ok-Some.ensures.within) (rw c.in-Ok-Some.field-0-is at c.in-Ok-Some.ensures.whole)
@@ -43,10 +43,10 @@ returns-in-Err-write_message-clause-grows g c = Grows-join _ _ _ (g.met.W.Write.
 
 pub loop-message-preserved : goal.loop-message-preserved
 loop-message-preserved g c = record {
-  written = IfKnown-join _ _ _ (HasWritten-next c.args.format c.args.options.traversal_limit_in_words
+  written = IfKnown-join _ _ _ (HasWritten-next c.args.padding c.args.format c.args.options.traversal_limit_in_words
       (g.M.MessageWriter.writes c.args.writer.now g.W.Write.appends) c.loop-message.message _ _ _)
       c.loop-message.invariant.written
-      (written_next c.args.format c.args.options.traversal_limit_in_words
+      (written_next c.args.padding c.args.format c.args.options.traversal_limit_in_words
       (g.M.MessageWriter.writes c.args.writer.now g.W.Write.appends) c.loop-message.message c.in-Ok-Some.segments _ _ _ _
       (rw c.in-Ok-Some.field-0-is at c.in-Ok-Some.ensures.within) (rw c.in-Ok-Some.field-0-is at c.in-Ok-Some.ensures.found) c.in-Ok.ensures.written);
   advances = Advances-join _ _ _ (g.met.R.Read.keeps.transitive _ _ _) c.loop-message.invariant.advances c.read_next.ensures.advances;
@@ -56,5 +56,5 @@ loop-message-preserved g c = record {
 pub returns-clause-written : goal.returns-clause-written
 returns-clause-written g c =
     let all : c.loop-message.message ≡ most_messages = search rules in
-    most_written c.args.format c.args.options.traversal_limit_in_words
+    most_written c.args.padding c.args.format c.args.options.traversal_limit_in_words
     (g.M.MessageWriter.writes c.args.writer.now g.W.Write.appends) (g.M.MessageWriter.declines c.args.writer.now g.W.Write.refuses) _ _ _ _ _ c.loop-message.invariant.written all

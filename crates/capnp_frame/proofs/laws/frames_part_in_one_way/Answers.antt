@@ -3,4 +3,4 @@ use Rattle.capnp_frame.proofs.TextLemmas.{frames_part}
 use Rattle.capnp_frame.proofs.laws.frames_part_in_one_way.Goals as goal
 
 pub returns : goal.returns
-returns c = frames_part
+returns c = λ rule also. frames_part

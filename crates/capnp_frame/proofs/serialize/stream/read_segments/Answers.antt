@@ -10,15 +10,15 @@ use Rattle.capnp_frame.proofs.StepLemmas.{asks_found, asks_passed}
 use Rattle.capnp_frame.proofs.SourceLemmas.{IfErr-vacuous}
 use Rattle.capnp_frame.proofs.Ranges.{widths}
 use Rattle.capnp_frame.proofs.RequestLemmas.{lengths-cut, MessageStands-cut, IsWithin-cut, table_not_empty}
-use Rattle.capnp_frame.proofs.AnswerLemmas.{source_kind}
+use Rattle.capnp_frame.proofs.MetRefusals.{reader_kind, source_kind}
 use Rattle.capnp_frame.proofs.MetRefusals.{or_memory, table_met_growing, segments_met}
 use Rattle.capnp_frame.proofs.serialize.stream.read_segments.Given as given
 use Rattle.capnp_frame.proofs.serialize.stream.read_segments.Goals as goal
 
 pub returns-in_err-lengths-clause-asks : goal.returns-in_err-lengths-clause-asks
 returns-in_err-lengths-clause-asks g c =
-    asks_passed g.R.Read _ _ _ _ _ _ _ _ c.from_residual.ensures.1
-    (table_met_growing _ _ g.R.Read.gives g.R.Read.refuses _ _ _ _) c.in_err-lengths.ensures.asks
+    asks_passed g.R.Read _ _ c.args.rule _ _ _ _ _ _ c.from_residual.ensures.1
+    (table_met_growing c.args.rule _ _ g.R.Read.gives g.R.Read.refuses _ _ _ _) c.in_err-lengths.ensures.asks
 
 pub returns-in_err-read_piece-clause-asks : goal.returns-in_err-read_piece-clause-asks
 returns-in_err-read_piece-clause-asks g c =
@@ -29,11 +29,11 @@ returns-in_err-read_piece-clause-asks g c =
     let told = c.in_err-read_piece.ensures in
     record {
       none = search rules;
-      refused = passed_on _ _ is (or_memory (segments_met g.met.R.Read.lawful _ c.args.limit None _ _ _ _ c.in-Some.lengths
+      refused = passed_on _ _ is (or_memory (segments_met c.args.rule g.met.R.Read.lawful _ c.args.limit None _ _ _ _ c.in-Some.lengths
           (length c.read_piece.new.piece) (λ x. x) table accepts c.read_piece.ensures.asked.advances.tail (search rules) told.refused));
-      kinds = passed_on _ _ is (source_kind g.R.Read.refuses _ _ _ told.refused);
+      kinds = passed_on _ _ is (reader_kind c.args.rule g.R.Read.refuses _ (source_kind c.args.rule g.R.Read.refuses _ _ _ told.refused));
       end = IfErr-vacuous (λ (error : Error). error.kind ≡ DeviceFailed) _
-          (table_not_empty g.R.Read.gives _ _ c.in-Some.lengths g.met.R.Read.lawful.none_from_nothing table);
+          (table_not_empty c.args.rule g.R.Read.gives _ _ c.in-Some.lengths g.met.R.Read.lawful.none_from_nothing table);
       asked = Asked-err (g.met.R.Read.keeps.transitive _ _ _) is advances told.asked;
     }
 
@@ -44,7 +44,7 @@ parts g c = (search rules, rw (c.from_parts.ensures, c.to_segment_indices.ensure
 pub returns-clause-found : goal.returns-clause-found
 returns-clause-found g c =
     let table = rw c.in-Some.is at c.in_ok-lengths.ensures.found in
-    rw (parts g c).1 (MessageStands-cut g.R.Read.gives c.in-Some.lengths c.read_piece.new.piece _ _ _ (parts g c).0 table c.in_ok-read_piece.ensures.given)
+    rw (parts g c).1 (MessageStands-cut c.args.rule g.R.Read.gives c.in-Some.lengths c.read_piece.new.piece _ _ _ (parts g c).0 table c.in_ok-read_piece.ensures.given)
 
 pub returns-clause-within : goal.returns-clause-within
 returns-clause-within g c =
@@ -55,5 +55,5 @@ pub returns-clause-whole : goal.returns-clause-whole
 returns-clause-whole g c = rw (parts g c).1 (lengths-cut c.in-Some.lengths c.read_piece.new.piece (parts g c).0).1
 
 pub returns-clause-asks : goal.returns-clause-asks
-returns-clause-asks g c = asks_found g.R.Read _ _ _ _ _ _ (g.met.R.Read.keeps.transitive _ _ _)
+returns-clause-asks g c = asks_found g.R.Read c.args.rule _ _ _ _ _ _ (g.met.R.Read.keeps.transitive _ _ _)
     c.read_table.ensures.asks.asked.advances c.read_piece.ensures.asked.advances

@@ -1,5 +1,6 @@
 -- What is described is held.
 use Rattle.std.proofs.Common.{ap}
+use Rattle.capnp_frame.specs.declared.serialize.segment_table.Padding.TheVariants.{Any}
 use Rattle.capnp_frame.proofs.HeldLemmas.{described_held, begins_held}
 use Rattle.capnp_frame.proofs.serialize.no_alloc_buffer_segments.NoAllocBufferSegments.from_segment_table_info.Goals as goal
 
@@ -9,4 +10,4 @@ of_held-requires g c = described_held (g.T.AsBytes.bytes c.args.buffer) c.args.i
 pub returns-clause-found : goal.returns-clause-found
 returns-clause-found g c =
     let bytes = g.T.AsBytes.bytes c.args.buffer in
-    begins_held bytes c.args.info.segments_count c.of_held.result.segments (described_held bytes c.args.info c.requires) (ap (λ held. held.segments) c.of_held.ensures)
+    begins_held Any bytes c.args.info.segments_count c.of_held.result.segments (described_held bytes c.args.info c.requires) tt (ap (λ held. held.segments) c.of_held.ensures)

@@ -1,0 +1,137 @@
+//! The readers of messages from a source, of both rules of padding.
+ghost use Rattle.std.specs.Prelude.{◌≡◌, length, IfSome, IfOk};
+ghost use Rattle.capnp_frame.specs.Streams.{message_in, next_in, framed_rules, ReadsStream, ReadsStreamInto};
+ghost use Rattle.capnp_frame.specs.Frame.{IsFrame};
+ghost use Rattle.capnp.specs.Streams.{IsPlainSource};
+ghost use Rattle.capnp.specs.Headline.{ReturnsTexts, ReturnsTextsInto, OrFailsAtEnd};
+
+use capnp_frame::io::Read;
+use capnp_frame::message::ReaderOptions;
+use capnp_frame::serialize::{
+    NoAllocBufferSegments, OwnedSegments, Padding, try_read_segments, try_read_segments_into,
+    try_read_segments_into_lenient, try_read_segments_lenient,
+};
+use capnp_frame::{Error, ErrorKind, Result};
+use capnp_message::Reader;
+use std::alloc::Global;
+
+// Reads the next message of a source, its padding by the rule, or none where nothing is unread.
+pub(crate) fn try_read_message<R: Read>(
+    alloc: Global,
+    source: &mut R,
+    padding: Padding,
+    options: ReaderOptions,
+) -> Result<Option<Reader<OwnedSegments>>>
+    // Over a source of plain bytes: the framed text of the message stands there.
+    ensures texts { IsPlainSource R.gives R.refuses → ReturnsTexts (IsFrame padding)
+        options.traversal_limit_in_words (R.unread source.old) (R.unread source.new)
+        (next_in (λ reader. reader.segments) result) }
+    ensures reads { ReadsStream R.Read source.old source.new (framed_rules padding R.gives R.refuses)
+        options.traversal_limit_in_words (next_in (λ reader. reader.segments) result) }
+    ensures options { IfOk result (λ found. IfSome found (λ reader.
+        reader.options ≡ options)) }
+{
+    match next_segments(alloc, source, padding, options)? {
+        Some(segments) => Ok(Some(Reader::new(segments, options))),
+        None => Ok(None),
+    }
+}
+
+// The same, or a failure where nothing is unread.
+pub(crate) fn read_message<R: Read>(
+    alloc: Global,
+    source: &mut R,
+    padding: Padding,
+    options: ReaderOptions,
+) -> Result<Reader<OwnedSegments>>
+    // Over a source of plain bytes: the framed text of the message stands there.
+    ensures texts { IsPlainSource R.gives R.refuses → ReturnsTexts (IsFrame padding)
+        options.traversal_limit_in_words (R.unread source.old) (R.unread source.new)
+        (message_in (λ reader. reader.segments) result) }
+    ensures reads { OrFailsAtEnd (ReadsStream R.Read source.old source.new
+        (framed_rules padding R.gives R.refuses) options.traversal_limit_in_words)
+        (message_in (λ reader. reader.segments) result) }
+    ensures options { IfOk result (λ reader. reader.options ≡ options) }
+{
+    match try_read_message(alloc, source, padding, options)? {
+        Some(reader) => Ok(reader),
+        None => Err(Error::from_kind(ErrorKind::PrematureEndOfFile)),
+    }
+}
+
+// Reads the next message of a source into a caller-provided buffer, or none where nothing is unread.
+pub(crate) fn try_read_message_no_alloc<'b, R: Read>(
+    source: &mut R,
+    buffer: &'b mut [u8],
+    padding: Padding,
+    options: ReaderOptions,
+) -> Result<Option<Reader<NoAllocBufferSegments<&'b [u8]>>>>
+    // Over a source of plain bytes: the framed text of the message stands there.
+    ensures texts { IsPlainSource R.gives R.refuses → ReturnsTextsInto (IsFrame padding)
+        options.traversal_limit_in_words (length buffer.old) (R.unread source.old) (R.unread source.new)
+        (next_in (λ reader. reader.segments.segments) result) }
+    ensures reads { ReadsStreamInto R.Read source.old source.new (framed_rules padding R.gives R.refuses)
+        options.traversal_limit_in_words (length buffer.old) (next_in (λ reader. reader.segments.segments) result) }
+    ensures options { IfOk result (λ found. IfSome found (λ reader.
+        reader.options ≡ options)) }
+{
+    match next_segments_into(source, buffer, padding, options)? {
+        Some(segments) => Ok(Some(Reader::new(segments, options))),
+        None => Ok(None),
+    }
+}
+
+// The same, or a failure where nothing is unread.
+pub(crate) fn read_message_no_alloc<'b, R: Read>(
+    source: &mut R,
+    buffer: &'b mut [u8],
+    padding: Padding,
+    options: ReaderOptions,
+) -> Result<Reader<NoAllocBufferSegments<&'b [u8]>>>
+    // Over a source of plain bytes: the framed text of the message stands there.
+    ensures texts { IsPlainSource R.gives R.refuses → ReturnsTextsInto (IsFrame padding)
+        options.traversal_limit_in_words (length buffer.old) (R.unread source.old) (R.unread source.new)
+        (message_in (λ reader. reader.segments.segments) result) }
+    ensures reads { OrFailsAtEnd (ReadsStreamInto R.Read source.old source.new
+        (framed_rules padding R.gives R.refuses) options.traversal_limit_in_words (length buffer.old))
+        (message_in (λ reader. reader.segments.segments) result) }
+    ensures options { IfOk result (λ reader. reader.options ≡ options) }
+{
+    match try_read_message_no_alloc(source, buffer, padding, options)? {
+        Some(reader) => Ok(reader),
+        None => Err(Error::from_kind(ErrorKind::PrematureEndOfFile)),
+    }
+}
+
+// The segments of the next message.
+fn next_segments<R: Read>(
+    alloc: Global,
+    source: &mut R,
+    padding: Padding,
+    options: ReaderOptions,
+) -> Result<Option<OwnedSegments>>
+    ensures { ReadsStream R.Read source.old source.new (framed_rules padding R.gives R.refuses)
+        options.traversal_limit_in_words result }
+{
+    match padding {
+        Padding::Zero => try_read_segments(alloc, source, options),
+        Padding::Any => try_read_segments_lenient(alloc, source, options),
+    }
+}
+
+// The same in a caller-provided buffer.
+fn next_segments_into<'b, R: Read>(
+    source: &mut R,
+    buffer: &'b mut [u8],
+    padding: Padding,
+    options: ReaderOptions,
+) -> Result<Option<NoAllocBufferSegments<&'b [u8]>>>
+    ensures { ReadsStreamInto R.Read source.old source.new (framed_rules padding R.gives R.refuses)
+        options.traversal_limit_in_words (length buffer.old)
+        (next_in (λ held. held.segments) result) }
+{
+    match padding {
+        Padding::Zero => try_read_segments_into(source, buffer, options),
+        Padding::Any => try_read_segments_into_lenient(source, buffer, options),
+    }
+}

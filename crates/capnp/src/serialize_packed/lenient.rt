@@ -1,0 +1,86 @@
+//! Reading packed messages of any padding from a source.
+ghost use Rattle.std.specs.Prelude.{◌≡◌, length, IfSome, IfOk};
+ghost use Rattle.capnp_frame.specs.Streams.{message_in, next_in, ReadsStream, ReadsStreamInto};
+ghost use Rattle.capnp_pack.specs.PackedFrame.{IsPackedFrame};
+ghost use Rattle.capnp_pack.specs.PackedStreams.{packed_rules};
+ghost use Rattle.capnp.specs.Headline.{ReturnsTexts, ReturnsTextsInto, OrFailsAtEnd};
+
+use super::reading;
+use capnp_frame::Result;
+use capnp_frame::io::BufRead;
+use capnp_frame::message::ReaderOptions;
+use capnp_frame::serialize::{NoAllocBufferSegments, OwnedSegments, Padding};
+use capnp_message::Reader;
+use std::alloc::Global;
+
+/// Reads the next packed message as `try_read_message` does, of any padding.
+pub fn try_read_message_lenient<R: BufRead>(
+    alloc: Global,
+    source: &mut R,
+    options: ReaderOptions,
+) -> Result<Option<Reader<OwnedSegments>>>
+    // The packed text of the message stands there.
+    ensures texts { ReturnsTexts (IsPackedFrame Padding.Any)
+        options.traversal_limit_in_words (R.unread source.old) (R.unread source.new)
+        (next_in (λ reader. reader.segments) result) }
+    ensures reads { ReadsStream R.Read source.old source.new (packed_rules Padding.Any)
+        options.traversal_limit_in_words (next_in (λ reader. reader.segments) result) }
+    ensures options { IfOk result (λ found. IfSome found (λ reader.
+        reader.options ≡ options)) }
+{
+    reading::try_read_message(alloc, source, Padding::Any, options)
+}
+
+/// Reads the next packed message as `read_message` does, of any padding.
+pub fn read_message_lenient<R: BufRead>(
+    alloc: Global,
+    source: &mut R,
+    options: ReaderOptions,
+) -> Result<Reader<OwnedSegments>>
+    // The packed text of the message stands there.
+    ensures texts { ReturnsTexts (IsPackedFrame Padding.Any)
+        options.traversal_limit_in_words (R.unread source.old) (R.unread source.new)
+        (message_in (λ reader. reader.segments) result) }
+    ensures reads { OrFailsAtEnd (ReadsStream R.Read source.old source.new
+        (packed_rules Padding.Any) options.traversal_limit_in_words)
+        (message_in (λ reader. reader.segments) result) }
+    ensures options { IfOk result (λ reader. reader.options ≡ options) }
+{
+    reading::read_message(alloc, source, Padding::Any, options)
+}
+
+/// Reads the next packed message as `try_read_message_no_alloc` does, of any padding.
+pub fn try_read_message_no_alloc_lenient<'b, R: BufRead>(
+    source: &mut R,
+    buffer: &'b mut [u8],
+    options: ReaderOptions,
+) -> Result<Option<Reader<NoAllocBufferSegments<&'b [u8]>>>>
+    // The packed text of the message stands there.
+    ensures texts { ReturnsTextsInto (IsPackedFrame Padding.Any)
+        options.traversal_limit_in_words (length buffer.old) (R.unread source.old) (R.unread source.new)
+        (next_in (λ reader. reader.segments.segments) result) }
+    ensures reads { ReadsStreamInto R.Read source.old source.new (packed_rules Padding.Any)
+        options.traversal_limit_in_words (length buffer.old) (next_in (λ reader. reader.segments.segments) result) }
+    ensures options { IfOk result (λ found. IfSome found (λ reader.
+        reader.options ≡ options)) }
+{
+    reading::try_read_message_no_alloc(source, buffer, Padding::Any, options)
+}
+
+/// Reads the next packed message as `read_message_no_alloc` does, of any padding.
+pub fn read_message_no_alloc_lenient<'b, R: BufRead>(
+    source: &mut R,
+    buffer: &'b mut [u8],
+    options: ReaderOptions,
+) -> Result<Reader<NoAllocBufferSegments<&'b [u8]>>>
+    // The packed text of the message stands there.
+    ensures texts { ReturnsTextsInto (IsPackedFrame Padding.Any)
+        options.traversal_limit_in_words (length buffer.old) (R.unread source.old) (R.unread source.new)
+        (message_in (λ reader. reader.segments.segments) result) }
+    ensures reads { OrFailsAtEnd (ReadsStreamInto R.Read source.old source.new
+        (packed_rules Padding.Any) options.traversal_limit_in_words (length buffer.old))
+        (message_in (λ reader. reader.segments.segments) result) }
+    ensures options { IfOk result (λ reader. reader.options ≡ options) }
+{
+    reading::read_message_no_alloc(source, buffer, Padding::Any, options)
+}
