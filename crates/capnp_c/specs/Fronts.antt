@@ -2,6 +2,7 @@
 use Rattle.std.specs.Prelude.{◌≡◌, ◌+◌, ◌*◌, ◌<◌, ℕ, true, List, Option, Some}
 use Rattle.capnp_frame.specs.declared.error.ErrorKind.{ErrorKind}
 use Rattle.capnp_frame.specs.declared.error.ErrorKind.TheVariants.{BufferNotLargeEnough}
+use Rattle.capnp_frame.specs.declared.serialize.segment_table.Padding.TheVariants.{Zero}
 use Rattle.capnp_frame.specs.Frame.{IsFrame}
 use Rattle.capnp_frame.specs.Texts.{BeginsWith}
 use Rattle.capnp_wire.specs.Object.{message_of}
@@ -15,7 +16,7 @@ default_limit = Some 8388608
 
 -- a framed text of the message stands there, and the message is within that limit
 abbrev pub IsAtFront : List ℕ → List (List ℕ) → List ℕ → Type 0
-IsAtFront bytes segments rest = BeginsWith IsFrame default_limit segments bytes rest
+IsAtFront bytes segments rest = BeginsWith (IsFrame Zero) default_limit segments bytes rest
 
 -- its root pointer, within the default limits
 abbrev pub root_pointer : List (List ℕ) → Pointer

@@ -1,5 +1,6 @@
 //! Framed messages that are checked and listed.
 ghost use Rattle.std.specs.Prelude.{◌≡◌, ◌+◌, ◌*◌, ◌<◌, ◌≤◌, ℕ, List, length, slice_get, Some};
+ghost use Rattle.capnp_frame.specs.declared.serialize.segment_table.Padding.TheVariants.{Zero};
 ghost use Rattle.capnp_frame.specs.FlatRefusals.{by_fields, RefusesFlat};
 ghost use Rattle.capnp_frame.specs.Message.{lengths};
 ghost use Rattle.capnp_frame.specs.Numbers.{number_of};
@@ -32,7 +33,7 @@ pub extern "C" fn linsjoar_message(bytes: &[u8], message: &mut LinsjoarMessage) 
         × (message.new.end + length rest ≡ length bytes.now) }
     ensures accepted { (segments : List (List ℕ)) (rest : List ℕ) →
         IsAtFront bytes.now segments rest → result ≡ 0 }
-    ensures refused { (kind : ErrorKind) → RefusesFlat by_fields default_limit kind bytes.now →
+    ensures refused { (kind : ErrorKind) → RefusesFlat by_fields Zero default_limit kind bytes.now →
         result ≡ number_of kind }
 {
     *message = LinsjoarMessage {
@@ -67,7 +68,7 @@ pub extern "C" fn linsjoar_segment(bytes: &[u8], id: u32, words: &mut usize) -> 
         IsAtFront bytes.now segments rest → id < length segments → result ≡ 0 }
     ensures none { (segments : List (List ℕ)) (rest : List ℕ) →
         IsAtFront bytes.now segments rest → length segments ≤ id → result ≡ 18 }
-    ensures refused { (kind : ErrorKind) → RefusesFlat by_fields default_limit kind bytes.now →
+    ensures refused { (kind : ErrorKind) → RefusesFlat by_fields Zero default_limit kind bytes.now →
         result ≡ number_of kind }
 {
     *words = 0;

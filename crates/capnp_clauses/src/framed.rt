@@ -2,6 +2,7 @@
 ghost use Rattle.std.specs.Prelude.{◌≡◌, ◌⊎◌, ◌<◌, ◌≤◌, ℕ, List, [], length, Some, IfSome, IfNone, IfOk, IfErr};
 ghost use Rattle.std.specs.List.{AllByRecursion};
 ghost use Rattle.std.specs.Result.{IsErrAnd};
+ghost use Rattle.capnp_frame.specs.declared.serialize.segment_table.Padding.TheVariants.{Any};
 ghost use Rattle.capnp_frame.specs.declared.error.ErrorKind.{ErrorKind};
 ghost use Rattle.capnp_frame.specs.Errors.{IsRefusedBy};
 ghost use Rattle.capnp_frame.specs.Limits.{IsWithin};
@@ -21,8 +22,8 @@ use capnp_frame::{ErrorKind, Result};
 use capnp_message::Reader;
 use std::alloc::Global;
 
-/// `capnp::serialize::try_read_message`.
-pub fn try_read_message<R: Read>(
+/// `capnp::serialize::try_read_message_lenient`.
+pub fn try_read_message_lenient<R: Read>(
     alloc: Global,
     source: &mut R,
     options: ReaderOptions,
@@ -30,10 +31,10 @@ pub fn try_read_message<R: Read>(
     ensures found { IsPlainSource R.gives R.refuses →
         IfOk result (λ found. IfSome found (λ reader.
         IfKnown (R.unread source.old) (R.unread source.new)
-        (BeginsFramed options.traversal_limit_in_words reader.segments))) }
+        (BeginsFramed Any options.traversal_limit_in_words reader.segments))) }
     ensures accepted { IsPlainSource R.gives R.refuses → IfSome (R.unread source.old) (λ raw.
         (message : List (List ℕ)) (rest : List ℕ) →
-        BeginsFramed options.traversal_limit_in_words message raw rest →
+        BeginsFramed Any options.traversal_limit_in_words message raw rest →
         IfErr result (λ error. IsFault error.kind)) }
     ensures none { IfOk result (λ found. IfNone found
         (IfSome (R.unread source.old) (λ raw. raw ≡ []))) }
@@ -45,37 +46,37 @@ pub fn try_read_message<R: Read>(
     // Of every source, also where its bytes aren't known.
     ensures given { IfOk result (λ found. IfSome found (λ reader.
         IfKnown (R.unread source.old) (R.unread source.new)
-        (MessageStands R.gives reader.segments))) }
+        (MessageStands Any R.gives reader.segments))) }
     ensures within { IfOk result (λ found. IfSome found (λ reader.
         IsWithin reader.segments options.traversal_limit_in_words)) }
     ensures whole { IfOk result (λ found. IfSome found (λ reader.
         AllByRecursion IsWholeWords reader.segments)) }
     ensures refused { RefusesGrowing R.gives R.refuses
         options.traversal_limit_in_words result (R.unread source.old) (R.unread source.new) }
-    ensures kinds { IfErr result (λ error. IsReaderKind R.refuses error.kind) }
+    ensures kinds { IfErr result (λ error. IsReaderKind Any R.refuses error.kind) }
     ensures failed { IfErr result (λ error. error.kind ≡ ErrorKind.DeviceFailed →
         Fails (R.failures source.old) (R.failures source.new)) }
     ensures advances { Advances R.unread R.failures R.same source.old source.new }
 {
-    match serialize::try_read_message(alloc, source, options) {
+    match serialize::try_read_message_lenient(alloc, source, options) {
         Ok(Some(found)) => Ok(Some(found)),
         Ok(None) => Ok(None),
         Err(error) => Err(error),
     }
 }
 
-/// `capnp::serialize::read_message`.
-pub fn read_message<R: Read>(
+/// `capnp::serialize::read_message_lenient`.
+pub fn read_message_lenient<R: Read>(
     alloc: Global,
     source: &mut R,
     options: ReaderOptions,
 ) -> Result<Reader<OwnedSegments>>
     ensures found { IsPlainSource R.gives R.refuses → IfOk result (λ reader.
         IfKnown (R.unread source.old) (R.unread source.new)
-        (BeginsFramed options.traversal_limit_in_words reader.segments)) }
+        (BeginsFramed Any options.traversal_limit_in_words reader.segments)) }
     ensures accepted { IsPlainSource R.gives R.refuses → IfSome (R.unread source.old) (λ raw.
         (message : List (List ℕ)) (rest : List ℕ) →
-        BeginsFramed options.traversal_limit_in_words message raw rest →
+        BeginsFramed Any options.traversal_limit_in_words message raw rest →
         IfErr result (λ error. IsFault error.kind)) }
     ensures end { R.unread source.old ≡ Some [] → IsErrAnd result (λ error.
         (error.kind ≡ ErrorKind.PrematureEndOfFile) ⊎ (error.kind ≡ ErrorKind.DeviceFailed)) }
@@ -85,7 +86,7 @@ pub fn read_message<R: Read>(
     // Of every source, also where its bytes aren't known.
     ensures given { IfOk result (λ reader.
         IfKnown (R.unread source.old) (R.unread source.new)
-        (MessageStands R.gives reader.segments)) }
+        (MessageStands Any R.gives reader.segments)) }
     ensures within { IfOk result (λ reader.
         IsWithin reader.segments options.traversal_limit_in_words) }
     ensures whole { IfOk result (λ reader.
@@ -93,19 +94,19 @@ pub fn read_message<R: Read>(
     ensures refused { RefusesGrowingOrEnds R.gives R.refuses
         options.traversal_limit_in_words result (R.unread source.old) (R.unread source.new) }
     ensures kinds { IfErr result (λ error. (error.kind ≡ ErrorKind.PrematureEndOfFile)
-        ⊎ IsReaderKind R.refuses error.kind) }
+        ⊎ IsReaderKind Any R.refuses error.kind) }
     ensures failed { IfErr result (λ error. error.kind ≡ ErrorKind.DeviceFailed →
         Fails (R.failures source.old) (R.failures source.new)) }
     ensures advances { Advances R.unread R.failures R.same source.old source.new }
 {
-    match serialize::read_message(alloc, source, options) {
+    match serialize::read_message_lenient(alloc, source, options) {
         Ok(found) => Ok(found),
         Err(error) => Err(error),
     }
 }
 
-/// `capnp::serialize::try_read_message_no_alloc`.
-pub fn try_read_message_no_alloc<'b, R: Read>(
+/// `capnp::serialize::try_read_message_no_alloc_lenient`.
+pub fn try_read_message_no_alloc_lenient<'b, R: Read>(
     source: &mut R,
     buffer: &'b mut [u8],
     options: ReaderOptions,
@@ -113,10 +114,10 @@ pub fn try_read_message_no_alloc<'b, R: Read>(
     ensures found { IsPlainSource R.gives R.refuses →
         IfOk result (λ found. IfSome found (λ reader.
         IfKnown (R.unread source.old) (R.unread source.new)
-        (BeginsFramed options.traversal_limit_in_words reader.segments.segments))) }
+        (BeginsFramed Any options.traversal_limit_in_words reader.segments.segments))) }
     ensures accepted { IsPlainSource R.gives R.refuses → IfSome (R.unread source.old) (λ raw.
         (message : List (List ℕ)) (rest : List ℕ) →
-        BeginsFramed options.traversal_limit_in_words message raw rest →
+        BeginsFramed Any options.traversal_limit_in_words message raw rest →
         HasRoom (length buffer.old) message →
         IfErr result (λ error. error.kind ≡ ErrorKind.DeviceFailed)) }
     ensures none { IfOk result (λ found. IfNone found
@@ -129,7 +130,7 @@ pub fn try_read_message_no_alloc<'b, R: Read>(
     // Of every source, also where its bytes aren't known.
     ensures given { IfOk result (λ found. IfSome found (λ reader.
         IfKnown (R.unread source.old) (R.unread source.new)
-        (MessageStands R.gives reader.segments.segments))) }
+        (MessageStands Any R.gives reader.segments.segments))) }
     ensures within { IfOk result (λ found. IfSome found (λ reader.
         IsWithin reader.segments.segments options.traversal_limit_in_words)) }
     ensures whole { IfOk result (λ found. IfSome found (λ reader.
@@ -140,30 +141,30 @@ pub fn try_read_message_no_alloc<'b, R: Read>(
     // Under 8 bytes of room nothing is asked for.
     ensures short { length buffer.old < 8 →
         (source.new ≡ source.old) × IsRefusedBy result ErrorKind.BufferNotLargeEnough }
-    ensures kinds { IfErr result (λ error. IsLentReaderKind R.refuses error.kind) }
+    ensures kinds { IfErr result (λ error. IsLentReaderKind Any R.refuses error.kind) }
     ensures failed { IfErr result (λ error. error.kind ≡ ErrorKind.DeviceFailed →
         Fails (R.failures source.old) (R.failures source.new)) }
     ensures advances { Advances R.unread R.failures R.same source.old source.new }
 {
-    match serialize::try_read_message_no_alloc(source, buffer, options) {
+    match serialize::try_read_message_no_alloc_lenient(source, buffer, options) {
         Ok(Some(found)) => Ok(Some(found)),
         Ok(None) => Ok(None),
         Err(error) => Err(error),
     }
 }
 
-/// `capnp::serialize::read_message_no_alloc`.
-pub fn read_message_no_alloc<'b, R: Read>(
+/// `capnp::serialize::read_message_no_alloc_lenient`.
+pub fn read_message_no_alloc_lenient<'b, R: Read>(
     source: &mut R,
     buffer: &'b mut [u8],
     options: ReaderOptions,
 ) -> Result<Reader<NoAllocBufferSegments<&'b [u8]>>>
     ensures found { IsPlainSource R.gives R.refuses → IfOk result (λ reader.
         IfKnown (R.unread source.old) (R.unread source.new)
-        (BeginsFramed options.traversal_limit_in_words reader.segments.segments)) }
+        (BeginsFramed Any options.traversal_limit_in_words reader.segments.segments)) }
     ensures accepted { IsPlainSource R.gives R.refuses → IfSome (R.unread source.old) (λ raw.
         (message : List (List ℕ)) (rest : List ℕ) →
-        BeginsFramed options.traversal_limit_in_words message raw rest →
+        BeginsFramed Any options.traversal_limit_in_words message raw rest →
         HasRoom (length buffer.old) message →
         IfErr result (λ error. error.kind ≡ ErrorKind.DeviceFailed)) }
     ensures end { R.unread source.old ≡ Some [] → 8 ≤ length buffer.old →
@@ -175,7 +176,7 @@ pub fn read_message_no_alloc<'b, R: Read>(
     // Of every source, also where its bytes aren't known.
     ensures given { IfOk result (λ reader.
         IfKnown (R.unread source.old) (R.unread source.new)
-        (MessageStands R.gives reader.segments.segments)) }
+        (MessageStands Any R.gives reader.segments.segments)) }
     ensures within { IfOk result (λ reader.
         IsWithin reader.segments.segments options.traversal_limit_in_words) }
     ensures whole { IfOk result (λ reader.
@@ -187,12 +188,12 @@ pub fn read_message_no_alloc<'b, R: Read>(
     ensures short { length buffer.old < 8 →
         (source.new ≡ source.old) × IsRefusedBy result ErrorKind.BufferNotLargeEnough }
     ensures kinds { IfErr result (λ error. (error.kind ≡ ErrorKind.PrematureEndOfFile)
-        ⊎ IsLentReaderKind R.refuses error.kind) }
+        ⊎ IsLentReaderKind Any R.refuses error.kind) }
     ensures failed { IfErr result (λ error. error.kind ≡ ErrorKind.DeviceFailed →
         Fails (R.failures source.old) (R.failures source.new)) }
     ensures advances { Advances R.unread R.failures R.same source.old source.new }
 {
-    match serialize::read_message_no_alloc(source, buffer, options) {
+    match serialize::read_message_no_alloc_lenient(source, buffer, options) {
         Ok(found) => Ok(found),
         Err(error) => Err(error),
     }

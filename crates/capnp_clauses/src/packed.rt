@@ -2,6 +2,7 @@
 ghost use Rattle.std.specs.Prelude.{◌≡◌, ◌⊎◌, ◌<◌, ◌≤◌, ℕ, List, [], length, Some, IfSome, IfNone, IfOk, IfErr};
 ghost use Rattle.std.specs.List.{AllByRecursion};
 ghost use Rattle.std.specs.Result.{IsErrAnd};
+ghost use Rattle.capnp_frame.specs.declared.serialize.segment_table.Padding.TheVariants.{Any};
 ghost use Rattle.capnp_frame.specs.declared.error.ErrorKind.{ErrorKind};
 ghost use Rattle.capnp_frame.specs.Errors.{IsRefusedBy};
 ghost use Rattle.capnp_frame.specs.Limits.{IsWithin};
@@ -21,18 +22,18 @@ use capnp_frame::{ErrorKind, Result};
 use capnp_message::Reader;
 use std::alloc::Global;
 
-/// `capnp::serialize_packed::try_read_message`.
-pub fn try_read_message<R: BufRead>(
+/// `capnp::serialize_packed::try_read_message_lenient`.
+pub fn try_read_message_lenient<R: BufRead>(
     alloc: Global,
     source: &mut R,
     options: ReaderOptions,
 ) -> Result<Option<Reader<OwnedSegments>>>
     ensures found { IfOk result (λ found. IfSome found (λ reader.
         IfKnown (R.unread source.old) (R.unread source.new)
-        (BeginsPacked options.traversal_limit_in_words reader.segments))) }
+        (BeginsPacked Any options.traversal_limit_in_words reader.segments))) }
     ensures accepted { IfSome (R.unread source.old) (λ raw.
         (message : List (List ℕ)) (rest : List ℕ) →
-        BeginsPacked options.traversal_limit_in_words message raw rest →
+        BeginsPacked Any options.traversal_limit_in_words message raw rest →
         IfErr result (λ error. IsFault error.kind)) }
     ensures none { IfOk result (λ found. IfNone found
         (IfSome (R.unread source.old) (λ raw. raw ≡ []))) }
@@ -48,30 +49,30 @@ pub fn try_read_message<R: BufRead>(
         AllByRecursion IsWholeWords reader.segments)) }
     ensures refused { RefusesGrowing Unpacks RefusesPiece
         options.traversal_limit_in_words result (R.unread source.old) (R.unread source.new) }
-    ensures kinds { IfErr result (λ error. IsReaderKind RefusesPiece error.kind) }
+    ensures kinds { IfErr result (λ error. IsReaderKind Any RefusesPiece error.kind) }
     ensures failed { IfErr result (λ error. error.kind ≡ ErrorKind.DeviceFailed →
         Fails (R.failures source.old) (R.failures source.new)) }
     ensures advances { Advances R.unread R.failures R.same source.old source.new }
 {
-    match serialize_packed::try_read_message(alloc, source, options) {
+    match serialize_packed::try_read_message_lenient(alloc, source, options) {
         Ok(Some(found)) => Ok(Some(found)),
         Ok(None) => Ok(None),
         Err(error) => Err(error),
     }
 }
 
-/// `capnp::serialize_packed::read_message`.
-pub fn read_message<R: BufRead>(
+/// `capnp::serialize_packed::read_message_lenient`.
+pub fn read_message_lenient<R: BufRead>(
     alloc: Global,
     source: &mut R,
     options: ReaderOptions,
 ) -> Result<Reader<OwnedSegments>>
     ensures found { IfOk result (λ reader.
         IfKnown (R.unread source.old) (R.unread source.new)
-        (BeginsPacked options.traversal_limit_in_words reader.segments)) }
+        (BeginsPacked Any options.traversal_limit_in_words reader.segments)) }
     ensures accepted { IfSome (R.unread source.old) (λ raw.
         (message : List (List ℕ)) (rest : List ℕ) →
-        BeginsPacked options.traversal_limit_in_words message raw rest →
+        BeginsPacked Any options.traversal_limit_in_words message raw rest →
         IfErr result (λ error. IsFault error.kind)) }
     ensures end { R.unread source.old ≡ Some [] → IsErrAnd result (λ error.
         (error.kind ≡ ErrorKind.PrematureEndOfFile) ⊎ (error.kind ≡ ErrorKind.DeviceFailed)) }
@@ -86,29 +87,29 @@ pub fn read_message<R: BufRead>(
     ensures refused { RefusesGrowingOrEnds Unpacks RefusesPiece
         options.traversal_limit_in_words result (R.unread source.old) (R.unread source.new) }
     ensures kinds { IfErr result (λ error. (error.kind ≡ ErrorKind.PrematureEndOfFile)
-        ⊎ IsReaderKind RefusesPiece error.kind) }
+        ⊎ IsReaderKind Any RefusesPiece error.kind) }
     ensures failed { IfErr result (λ error. error.kind ≡ ErrorKind.DeviceFailed →
         Fails (R.failures source.old) (R.failures source.new)) }
     ensures advances { Advances R.unread R.failures R.same source.old source.new }
 {
-    match serialize_packed::read_message(alloc, source, options) {
+    match serialize_packed::read_message_lenient(alloc, source, options) {
         Ok(found) => Ok(found),
         Err(error) => Err(error),
     }
 }
 
-/// `capnp::serialize_packed::try_read_message_no_alloc`.
-pub fn try_read_message_no_alloc<'b, R: BufRead>(
+/// `capnp::serialize_packed::try_read_message_no_alloc_lenient`.
+pub fn try_read_message_no_alloc_lenient<'b, R: BufRead>(
     source: &mut R,
     buffer: &'b mut [u8],
     options: ReaderOptions,
 ) -> Result<Option<Reader<NoAllocBufferSegments<&'b [u8]>>>>
     ensures found { IfOk result (λ found. IfSome found (λ reader.
         IfKnown (R.unread source.old) (R.unread source.new)
-        (BeginsPacked options.traversal_limit_in_words reader.segments.segments))) }
+        (BeginsPacked Any options.traversal_limit_in_words reader.segments.segments))) }
     ensures accepted { IfSome (R.unread source.old) (λ raw.
         (message : List (List ℕ)) (rest : List ℕ) →
-        BeginsPacked options.traversal_limit_in_words message raw rest →
+        BeginsPacked Any options.traversal_limit_in_words message raw rest →
         HasRoom (length buffer.old) message →
         IfErr result (λ error. error.kind ≡ ErrorKind.DeviceFailed)) }
     ensures none { IfOk result (λ found. IfNone found
@@ -129,30 +130,30 @@ pub fn try_read_message_no_alloc<'b, R: BufRead>(
     // Under 8 bytes of room nothing is asked for.
     ensures short { length buffer.old < 8 →
         (source.new ≡ source.old) × IsRefusedBy result ErrorKind.BufferNotLargeEnough }
-    ensures kinds { IfErr result (λ error. IsLentReaderKind RefusesPiece error.kind) }
+    ensures kinds { IfErr result (λ error. IsLentReaderKind Any RefusesPiece error.kind) }
     ensures failed { IfErr result (λ error. error.kind ≡ ErrorKind.DeviceFailed →
         Fails (R.failures source.old) (R.failures source.new)) }
     ensures advances { Advances R.unread R.failures R.same source.old source.new }
 {
-    match serialize_packed::try_read_message_no_alloc(source, buffer, options) {
+    match serialize_packed::try_read_message_no_alloc_lenient(source, buffer, options) {
         Ok(Some(found)) => Ok(Some(found)),
         Ok(None) => Ok(None),
         Err(error) => Err(error),
     }
 }
 
-/// `capnp::serialize_packed::read_message_no_alloc`.
-pub fn read_message_no_alloc<'b, R: BufRead>(
+/// `capnp::serialize_packed::read_message_no_alloc_lenient`.
+pub fn read_message_no_alloc_lenient<'b, R: BufRead>(
     source: &mut R,
     buffer: &'b mut [u8],
     options: ReaderOptions,
 ) -> Result<Reader<NoAllocBufferSegments<&'b [u8]>>>
     ensures found { IfOk result (λ reader.
         IfKnown (R.unread source.old) (R.unread source.new)
-        (BeginsPacked options.traversal_limit_in_words reader.segments.segments)) }
+        (BeginsPacked Any options.traversal_limit_in_words reader.segments.segments)) }
     ensures accepted { IfSome (R.unread source.old) (λ raw.
         (message : List (List ℕ)) (rest : List ℕ) →
-        BeginsPacked options.traversal_limit_in_words message raw rest →
+        BeginsPacked Any options.traversal_limit_in_words message raw rest →
         HasRoom (length buffer.old) message →
         IfErr result (λ error. error.kind ≡ ErrorKind.DeviceFailed)) }
     ensures end { R.unread source.old ≡ Some [] → 8 ≤ length buffer.old →
@@ -173,12 +174,12 @@ pub fn read_message_no_alloc<'b, R: BufRead>(
     ensures short { length buffer.old < 8 →
         (source.new ≡ source.old) × IsRefusedBy result ErrorKind.BufferNotLargeEnough }
     ensures kinds { IfErr result (λ error. (error.kind ≡ ErrorKind.PrematureEndOfFile)
-        ⊎ IsLentReaderKind RefusesPiece error.kind) }
+        ⊎ IsLentReaderKind Any RefusesPiece error.kind) }
     ensures failed { IfErr result (λ error. error.kind ≡ ErrorKind.DeviceFailed →
         Fails (R.failures source.old) (R.failures source.new)) }
     ensures advances { Advances R.unread R.failures R.same source.old source.new }
 {
-    match serialize_packed::read_message_no_alloc(source, buffer, options) {
+    match serialize_packed::read_message_no_alloc_lenient(source, buffer, options) {
         Ok(found) => Ok(found),
         Err(error) => Err(error),
     }

@@ -2,6 +2,7 @@
 ghost use Rattle.std.specs.Prelude.{◌≡◌, ℕ, List, [], IfOk, IfErr, IfSome, IfNone, ◌⊎◌, Some, None, ◌+◌, ◌*◌, ◌<◌, ◌≤◌, length};
 ghost use Rattle.std.specs.List.{AllByRecursion};
 ghost use Rattle.std.specs.Result.{IsErrAnd};
+ghost use Rattle.capnp_frame.specs.declared.serialize.segment_table.Padding.TheVariants.{Any};
 ghost use Rattle.capnp_frame.specs.declared.error.ErrorKind.{ErrorKind};
 ghost use Rattle.capnp_frame.specs.Limits.{IsWithin};
 ghost use Rattle.capnp_frame.specs.Source.{IfKnown, Advances, Fails};
@@ -19,14 +20,14 @@ use capnp_frame::{ErrorKind, Result};
 use capnp_pack::stream;
 use std::alloc::Global;
 
-/// `capnp_pack::stream::try_read_packed_segments`.
-pub fn try_read_packed_segments<R: BufRead>(
+/// `capnp_pack::stream::try_read_packed_segments_lenient`.
+pub fn try_read_packed_segments_lenient<R: BufRead>(
     alloc: Global,
     source: &mut R,
     options: ReaderOptions,
 ) -> Result<Option<OwnedSegments>>
     ensures found { IfOk result (λ found. IfSome found (λ segments.
-        IfKnown (R.unread source.old) (R.unread source.new) (PackedStands segments))) }
+        IfKnown (R.unread source.old) (R.unread source.new) (PackedStands Any segments))) }
     ensures within { IfOk result (λ found. IfSome found (λ segments.
         IsWithin segments options.traversal_limit_in_words)) }
     ensures whole { IfOk result (λ found. IfSome found (AllByRecursion IsWholeWords)) }
@@ -35,7 +36,7 @@ pub fn try_read_packed_segments<R: BufRead>(
 
     // A message that stands there is refused only by these two.
     ensures accepted { IfSome (R.unread source.old) (λ raw.
-        (segments : List (List ℕ)) (rest : List ℕ) → PackedStands segments raw rest →
+        (segments : List (List ℕ)) (rest : List ℕ) → PackedStands Any segments raw rest →
         IsWithin segments options.traversal_limit_in_words → IfErr result (λ error.
         (error.kind ≡ ErrorKind.DeviceFailed) ⊎ (error.kind ≡ ErrorKind.OutOfMemory))) }
     ensures end { IfErr result (λ error. R.unread source.old ≡ Some [] →
@@ -46,31 +47,31 @@ pub fn try_read_packed_segments<R: BufRead>(
     ensures refused { IfErr result (λ error. (error.kind ≡ ErrorKind.DeviceFailed)
         ⊎ ((error.kind ≡ ErrorKind.OutOfMemory)
         × IfKnown (R.unread source.old) (R.unread source.new)
-        (TakesMemory Unpacks options.traversal_limit_in_words))
+        (TakesMemory Any Unpacks options.traversal_limit_in_words))
         ⊎ IfKnown (R.unread source.old) (R.unread source.new)
-        (RefusesStream Unpacks RefusesPiece options.traversal_limit_in_words None error.kind)) }
+        (RefusesStream Any Unpacks RefusesPiece options.traversal_limit_in_words None error.kind)) }
     // A line that is the first to hold is answered, but for these two.
     ensures exact { IfSome (R.unread source.old) (λ raw. (kind : ErrorKind) (left : List ℕ) →
-        RefusesStream Unpacks RefusesPiece options.traversal_limit_in_words None kind raw left →
+        RefusesStream Any Unpacks RefusesPiece options.traversal_limit_in_words None kind raw left →
         IsErrAnd result (λ error. (error.kind ≡ ErrorKind.DeviceFailed)
         ⊎ (error.kind ≡ ErrorKind.OutOfMemory) ⊎ (error.kind ≡ kind))) }
-    ensures kinds { IfErr result (λ error. IsReaderKind RefusesPiece error.kind) }
+    ensures kinds { IfErr result (λ error. IsReaderKind Any RefusesPiece error.kind) }
     ensures failed { IfErr result (λ error. error.kind ≡ ErrorKind.DeviceFailed →
         Fails (R.failures source.old) (R.failures source.new)) }
 
     ensures advances { Advances R.unread R.failures R.same source.old source.new }
 {
-    stream::try_read_packed_segments(alloc, source, options)
+    stream::try_read_packed_segments_lenient(alloc, source, options)
 }
 
-/// `capnp_pack::stream::try_read_packed_segments_reusing`.
-pub fn try_read_packed_segments_reusing<R: BufRead>(
+/// `capnp_pack::stream::try_read_packed_segments_reusing_lenient`.
+pub fn try_read_packed_segments_reusing_lenient<R: BufRead>(
     source: &mut R,
     options: ReaderOptions,
     spare: OwnedSegments,
 ) -> Result<Option<OwnedSegments>>
     ensures found { IfOk result (λ found. IfSome found (λ segments.
-        IfKnown (R.unread source.old) (R.unread source.new) (PackedStands segments))) }
+        IfKnown (R.unread source.old) (R.unread source.new) (PackedStands Any segments))) }
     ensures within { IfOk result (λ found. IfSome found (λ segments.
         IsWithin segments options.traversal_limit_in_words)) }
     ensures whole { IfOk result (λ found. IfSome found (AllByRecursion IsWholeWords)) }
@@ -79,7 +80,7 @@ pub fn try_read_packed_segments_reusing<R: BufRead>(
 
     // A message that stands there is refused only by these two.
     ensures accepted { IfSome (R.unread source.old) (λ raw.
-        (segments : List (List ℕ)) (rest : List ℕ) → PackedStands segments raw rest →
+        (segments : List (List ℕ)) (rest : List ℕ) → PackedStands Any segments raw rest →
         IsWithin segments options.traversal_limit_in_words → IfErr result (λ error.
         (error.kind ≡ ErrorKind.DeviceFailed) ⊎ (error.kind ≡ ErrorKind.OutOfMemory))) }
     ensures end { IfErr result (λ error. R.unread source.old ≡ Some [] →
@@ -90,31 +91,31 @@ pub fn try_read_packed_segments_reusing<R: BufRead>(
     ensures refused { IfErr result (λ error. (error.kind ≡ ErrorKind.DeviceFailed)
         ⊎ ((error.kind ≡ ErrorKind.OutOfMemory)
         × IfKnown (R.unread source.old) (R.unread source.new)
-        (TakesMemory Unpacks options.traversal_limit_in_words))
+        (TakesMemory Any Unpacks options.traversal_limit_in_words))
         ⊎ IfKnown (R.unread source.old) (R.unread source.new)
-        (RefusesStream Unpacks RefusesPiece options.traversal_limit_in_words None error.kind)) }
+        (RefusesStream Any Unpacks RefusesPiece options.traversal_limit_in_words None error.kind)) }
     // A line that is the first to hold is answered, but for these two.
     ensures exact { IfSome (R.unread source.old) (λ raw. (kind : ErrorKind) (left : List ℕ) →
-        RefusesStream Unpacks RefusesPiece options.traversal_limit_in_words None kind raw left →
+        RefusesStream Any Unpacks RefusesPiece options.traversal_limit_in_words None kind raw left →
         IsErrAnd result (λ error. (error.kind ≡ ErrorKind.DeviceFailed)
         ⊎ (error.kind ≡ ErrorKind.OutOfMemory) ⊎ (error.kind ≡ kind))) }
-    ensures kinds { IfErr result (λ error. IsReaderKind RefusesPiece error.kind) }
+    ensures kinds { IfErr result (λ error. IsReaderKind Any RefusesPiece error.kind) }
     ensures failed { IfErr result (λ error. error.kind ≡ ErrorKind.DeviceFailed →
         Fails (R.failures source.old) (R.failures source.new)) }
 
     ensures advances { Advances R.unread R.failures R.same source.old source.new }
 {
-    stream::try_read_packed_segments_reusing(source, options, spare)
+    stream::try_read_packed_segments_reusing_lenient(source, options, spare)
 }
 
-/// `capnp_pack::stream::try_read_packed_segments_into`.
-pub fn try_read_packed_segments_into<'b, R: BufRead>(
+/// `capnp_pack::stream::try_read_packed_segments_into_lenient`.
+pub fn try_read_packed_segments_into_lenient<'b, R: BufRead>(
     source: &mut R,
     buffer: &'b mut [u8],
     options: ReaderOptions,
 ) -> Result<Option<NoAllocBufferSegments<&'b [u8]>>>
     ensures found { IfOk result (λ found. IfSome found (λ held.
-        IfKnown (R.unread source.old) (R.unread source.new) (PackedStands held.segments))) }
+        IfKnown (R.unread source.old) (R.unread source.new) (PackedStands Any held.segments))) }
     ensures within { IfOk result (λ found. IfSome found (λ held.
         IsWithin held.segments options.traversal_limit_in_words)) }
     ensures whole { IfOk result (λ found. IfSome found (λ held.
@@ -124,7 +125,7 @@ pub fn try_read_packed_segments_into<'b, R: BufRead>(
 
     // A message that stands there and fits the buffer is refused only by the device.
     ensures accepted { IfSome (R.unread source.old) (λ raw.
-        (segments : List (List ℕ)) (rest : List ℕ) → PackedStands segments raw rest →
+        (segments : List (List ℕ)) (rest : List ℕ) → PackedStands Any segments raw rest →
         IsWithin segments options.traversal_limit_in_words →
         table_size (length segments) + 8 * size_in_words segments ≤ length buffer.old →
         IfErr result (λ error. error.kind ≡ ErrorKind.DeviceFailed)) }
@@ -138,20 +139,20 @@ pub fn try_read_packed_segments_into<'b, R: BufRead>(
     // A refusal is the device's, or a line of the table of refusals.
     ensures refused { IfErr result (λ error. (error.kind ≡ ErrorKind.DeviceFailed)
         ⊎ IfKnown (R.unread source.old) (R.unread source.new)
-        (RefusesStream Unpacks RefusesPiece options.traversal_limit_in_words
+        (RefusesStream Any Unpacks RefusesPiece options.traversal_limit_in_words
         (Some (length buffer.old)) error.kind)) }
     // A line that is the first to hold is answered, but for the device's refusal.
     ensures exact { IfSome (R.unread source.old) (λ raw. (kind : ErrorKind) (left : List ℕ) →
-        RefusesStream Unpacks RefusesPiece options.traversal_limit_in_words
+        RefusesStream Any Unpacks RefusesPiece options.traversal_limit_in_words
         (Some (length buffer.old)) kind raw left →
         IsErrAnd result (λ error. (error.kind ≡ ErrorKind.DeviceFailed) ⊎ (error.kind ≡ kind))) }
-    ensures kinds { IfErr result (λ error. IsLentReaderKind RefusesPiece error.kind) }
+    ensures kinds { IfErr result (λ error. IsLentReaderKind Any RefusesPiece error.kind) }
     ensures failed { IfErr result (λ error. error.kind ≡ ErrorKind.DeviceFailed →
         Fails (R.failures source.old) (R.failures source.new)) }
 
     ensures advances { Advances R.unread R.failures R.same source.old source.new }
 {
-    match stream::try_read_packed_segments_into(source, buffer, options) {
+    match stream::try_read_packed_segments_into_lenient(source, buffer, options) {
         Ok(Some(found)) => Ok(Some(found)),
         Ok(None) => Ok(None),
         Err(error) => Err(error),

@@ -2,6 +2,7 @@
 ghost use Rattle.std.specs.Prelude.{◌≡◌, ℕ, ◌*◌, ◌<◌, ◌≤◌, List, [], length, IfOk, IfErr, IfSome, IfNone, ◌⊎◌, Option, Some, None, ◌+◌};
 ghost use Rattle.std.specs.List.{AllByRecursion};
 ghost use Rattle.std.specs.Result.{IsErrAnd};
+ghost use Rattle.capnp_frame.specs.declared.serialize.segment_table.Padding.TheVariants.{Any};
 ghost use Rattle.capnp_frame.specs.Message.{IsWholeWords, size_in_words};
 ghost use Rattle.capnp_frame.specs.SegmentTable.{table_size};
 ghost use Rattle.capnp_frame.specs.Limits.{IsWithin};
@@ -17,14 +18,14 @@ use capnp_frame::serialize::{self, NoAllocBufferSegments, OwnedSegments};
 use capnp_frame::{ErrorKind, Result};
 use std::alloc::Global;
 
-/// `capnp_frame::serialize::try_read_segments`.
-pub fn try_read_segments<R: Read>(
+/// `capnp_frame::serialize::try_read_segments_lenient`.
+pub fn try_read_segments_lenient<R: Read>(
     alloc: Global,
     source: &mut R,
     options: ReaderOptions,
 ) -> Result<Option<OwnedSegments>>
     ensures found { IfOk result (λ found. IfSome found (λ segments.
-        IfKnown (R.unread source.old) (R.unread source.new) (MessageStands R.gives segments))) }
+        IfKnown (R.unread source.old) (R.unread source.new) (MessageStands Any R.gives segments))) }
     ensures within { IfOk result (λ found. IfSome found (λ segments.
         IsWithin segments options.traversal_limit_in_words)) }
     ensures whole { IfOk result (λ found. IfSome found (AllByRecursion IsWholeWords)) }
@@ -33,7 +34,7 @@ pub fn try_read_segments<R: Read>(
 
     // A message that stands there is refused only by these two.
     ensures accepted { IfSome (R.unread source.old) (λ raw.
-        (segments : List (List ℕ)) (rest : List ℕ) → MessageStands R.gives segments raw rest →
+        (segments : List (List ℕ)) (rest : List ℕ) → MessageStands Any R.gives segments raw rest →
         IsWithin segments options.traversal_limit_in_words → IfErr result (λ error.
         (error.kind ≡ ErrorKind.DeviceFailed) ⊎ (error.kind ≡ ErrorKind.OutOfMemory))) }
     ensures end { IfErr result (λ error. R.unread source.old ≡ Some [] →
@@ -44,31 +45,31 @@ pub fn try_read_segments<R: Read>(
     ensures refused { IfErr result (λ error. (error.kind ≡ ErrorKind.DeviceFailed)
         ⊎ ((error.kind ≡ ErrorKind.OutOfMemory)
         × IfKnown (R.unread source.old) (R.unread source.new)
-        (TakesMemory R.gives options.traversal_limit_in_words))
+        (TakesMemory Any R.gives options.traversal_limit_in_words))
         ⊎ IfKnown (R.unread source.old) (R.unread source.new)
-        (RefusesStream R.gives R.refuses options.traversal_limit_in_words None error.kind)) }
+        (RefusesStream Any R.gives R.refuses options.traversal_limit_in_words None error.kind)) }
     // A line that is the first to hold is answered, but for these two.
     ensures exact { IfSome (R.unread source.old) (λ raw. (kind : ErrorKind) (left : List ℕ) →
-        RefusesStream R.gives R.refuses options.traversal_limit_in_words None kind raw left →
+        RefusesStream Any R.gives R.refuses options.traversal_limit_in_words None kind raw left →
         IsErrAnd result (λ error. (error.kind ≡ ErrorKind.DeviceFailed)
         ⊎ (error.kind ≡ ErrorKind.OutOfMemory) ⊎ (error.kind ≡ kind))) }
-    ensures kinds { IfErr result (λ error. IsReaderKind R.refuses error.kind) }
+    ensures kinds { IfErr result (λ error. IsReaderKind Any R.refuses error.kind) }
     ensures failed { IfErr result (λ error. error.kind ≡ ErrorKind.DeviceFailed →
         Fails (R.failures source.old) (R.failures source.new)) }
 
     ensures advances { Advances R.unread R.failures R.same source.old source.new }
 {
-    serialize::try_read_segments(alloc, source, options)
+    serialize::try_read_segments_lenient(alloc, source, options)
 }
 
-/// `capnp_frame::serialize::try_read_segments_reusing`.
-pub fn try_read_segments_reusing<R: Read>(
+/// `capnp_frame::serialize::try_read_segments_reusing_lenient`.
+pub fn try_read_segments_reusing_lenient<R: Read>(
     source: &mut R,
     options: ReaderOptions,
     spare: OwnedSegments,
 ) -> Result<Option<OwnedSegments>>
     ensures found { IfOk result (λ found. IfSome found (λ segments.
-        IfKnown (R.unread source.old) (R.unread source.new) (MessageStands R.gives segments))) }
+        IfKnown (R.unread source.old) (R.unread source.new) (MessageStands Any R.gives segments))) }
     ensures within { IfOk result (λ found. IfSome found (λ segments.
         IsWithin segments options.traversal_limit_in_words)) }
     ensures whole { IfOk result (λ found. IfSome found (AllByRecursion IsWholeWords)) }
@@ -77,7 +78,7 @@ pub fn try_read_segments_reusing<R: Read>(
 
     // A message that stands there is refused only by these two.
     ensures accepted { IfSome (R.unread source.old) (λ raw.
-        (segments : List (List ℕ)) (rest : List ℕ) → MessageStands R.gives segments raw rest →
+        (segments : List (List ℕ)) (rest : List ℕ) → MessageStands Any R.gives segments raw rest →
         IsWithin segments options.traversal_limit_in_words → IfErr result (λ error.
         (error.kind ≡ ErrorKind.DeviceFailed) ⊎ (error.kind ≡ ErrorKind.OutOfMemory))) }
     ensures end { IfErr result (λ error. R.unread source.old ≡ Some [] →
@@ -88,31 +89,31 @@ pub fn try_read_segments_reusing<R: Read>(
     ensures refused { IfErr result (λ error. (error.kind ≡ ErrorKind.DeviceFailed)
         ⊎ ((error.kind ≡ ErrorKind.OutOfMemory)
         × IfKnown (R.unread source.old) (R.unread source.new)
-        (TakesMemory R.gives options.traversal_limit_in_words))
+        (TakesMemory Any R.gives options.traversal_limit_in_words))
         ⊎ IfKnown (R.unread source.old) (R.unread source.new)
-        (RefusesStream R.gives R.refuses options.traversal_limit_in_words None error.kind)) }
+        (RefusesStream Any R.gives R.refuses options.traversal_limit_in_words None error.kind)) }
     // A line that is the first to hold is answered, but for these two.
     ensures exact { IfSome (R.unread source.old) (λ raw. (kind : ErrorKind) (left : List ℕ) →
-        RefusesStream R.gives R.refuses options.traversal_limit_in_words None kind raw left →
+        RefusesStream Any R.gives R.refuses options.traversal_limit_in_words None kind raw left →
         IsErrAnd result (λ error. (error.kind ≡ ErrorKind.DeviceFailed)
         ⊎ (error.kind ≡ ErrorKind.OutOfMemory) ⊎ (error.kind ≡ kind))) }
-    ensures kinds { IfErr result (λ error. IsReaderKind R.refuses error.kind) }
+    ensures kinds { IfErr result (λ error. IsReaderKind Any R.refuses error.kind) }
     ensures failed { IfErr result (λ error. error.kind ≡ ErrorKind.DeviceFailed →
         Fails (R.failures source.old) (R.failures source.new)) }
 
     ensures advances { Advances R.unread R.failures R.same source.old source.new }
 {
-    serialize::try_read_segments_reusing(source, options, spare)
+    serialize::try_read_segments_reusing_lenient(source, options, spare)
 }
 
-/// `capnp_frame::serialize::try_read_segments_into`.
-pub fn try_read_segments_into<'b, R: Read>(
+/// `capnp_frame::serialize::try_read_segments_into_lenient`.
+pub fn try_read_segments_into_lenient<'b, R: Read>(
     source: &mut R,
     buffer: &'b mut [u8],
     options: ReaderOptions,
 ) -> Result<Option<NoAllocBufferSegments<&'b [u8]>>>
     ensures found { IfOk result (λ found. IfSome found (λ held.
-        IfKnown (R.unread source.old) (R.unread source.new) (MessageStands R.gives held.segments))) }
+        IfKnown (R.unread source.old) (R.unread source.new) (MessageStands Any R.gives held.segments))) }
     ensures within { IfOk result (λ found. IfSome found (λ held.
         IsWithin held.segments options.traversal_limit_in_words)) }
     ensures whole { IfOk result (λ found. IfSome found (λ held.
@@ -122,7 +123,7 @@ pub fn try_read_segments_into<'b, R: Read>(
 
     // A message that stands there and fits the buffer is refused only by the device.
     ensures accepted { IfSome (R.unread source.old) (λ raw.
-        (segments : List (List ℕ)) (rest : List ℕ) → MessageStands R.gives segments raw rest →
+        (segments : List (List ℕ)) (rest : List ℕ) → MessageStands Any R.gives segments raw rest →
         IsWithin segments options.traversal_limit_in_words →
         table_size (length segments) + 8 * size_in_words segments ≤ length buffer.old →
         IfErr result (λ error. error.kind ≡ ErrorKind.DeviceFailed)) }
@@ -136,20 +137,20 @@ pub fn try_read_segments_into<'b, R: Read>(
     // A refusal is the device's, or a line of the table of refusals.
     ensures refused { IfErr result (λ error. (error.kind ≡ ErrorKind.DeviceFailed)
         ⊎ IfKnown (R.unread source.old) (R.unread source.new)
-        (RefusesStream R.gives R.refuses options.traversal_limit_in_words
+        (RefusesStream Any R.gives R.refuses options.traversal_limit_in_words
         (Some (length buffer.old)) error.kind)) }
     // A line that is the first to hold is answered, but for the device's refusal.
     ensures exact { IfSome (R.unread source.old) (λ raw. (kind : ErrorKind) (left : List ℕ) →
-        RefusesStream R.gives R.refuses options.traversal_limit_in_words
+        RefusesStream Any R.gives R.refuses options.traversal_limit_in_words
         (Some (length buffer.old)) kind raw left →
         IsErrAnd result (λ error. (error.kind ≡ ErrorKind.DeviceFailed) ⊎ (error.kind ≡ kind))) }
-    ensures kinds { IfErr result (λ error. IsLentReaderKind R.refuses error.kind) }
+    ensures kinds { IfErr result (λ error. IsLentReaderKind Any R.refuses error.kind) }
     ensures failed { IfErr result (λ error. error.kind ≡ ErrorKind.DeviceFailed →
         Fails (R.failures source.old) (R.failures source.new)) }
 
     ensures advances { Advances R.unread R.failures R.same source.old source.new }
 {
-    match serialize::try_read_segments_into(source, buffer, options) {
+    match serialize::try_read_segments_into_lenient(source, buffer, options) {
         Ok(Some(found)) => Ok(Some(found)),
         Ok(None) => Ok(None),
         Err(error) => Err(error),

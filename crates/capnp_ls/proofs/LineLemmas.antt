@@ -81,3 +81,10 @@ pub two_words : {X : Type 0} (f : X → List ℕ) (xs : List X) (x y : X) (a b :
     → f x ≡ a → f y ≡ b → map f xs ≡ a ∷ b ∷ []
 two_words f xs x y a b some few first second p q =
     ap (map f) (two_items xs x y some few first second) ∙ ap (λ word. word ∷ f y ∷ []) p ∙ ap (λ word. a ∷ word ∷ []) q
+
+-- and of three
+pub three_words : {X : Type 0} (f : X → List ℕ) (xs : List X) (x y z : X) (a b c : List ℕ) → 3 ≤ length xs → length xs < 4 → x ≡ get_or xs 0 x
+    → y ≡ get_or xs 1 y → z ≡ get_or xs 2 z → f x ≡ a → f y ≡ b → f z ≡ c → map f xs ≡ a ∷ b ∷ c ∷ []
+three_words f [] x y z a b c some few first second third p q r = absurd (omega arith)
+three_words f (s ∷ xs) x y z a b c some few first second third p q r =
+    ap (λ word. word ∷ map f xs) (ap f (sym first) ∙ p) ∙ ap (λ words. a ∷ words) (two_words f xs y z b c (omega arith) (omega arith) second third q r)

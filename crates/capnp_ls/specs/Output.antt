@@ -27,14 +27,14 @@ root_of segments = record { message = message_of segments; place = Some root; le
 
 -- What a sink adds for the message of this index: its line; its pieces, packed or as they are; or the pieces of its canonical form.
 abbrev pub Prints : Command → Appending → Writing
-Prints (Listing format) appends index segments text = appends (line index segments) text
+Prints (Listing format padding) appends index segments text = appends (line index segments) text
 Prints Pack appends index segments text = Transcodes ToPacked appends index segments text
 Prints Unpack appends index segments text = Transcodes ToFramed appends index segments text
 Prints (Canonical format) appends index segments text = AppendsForm (root_of segments) appends text
 
 -- and by which kinds it refuses this message
 abbrev pub DeclinesPrinted : Command → Declining → DecliningWriting
-DeclinesPrinted (Listing format) refuses index segments kind = refuses (line index segments) kind
+DeclinesPrinted (Listing format padding) refuses index segments kind = refuses (line index segments) kind
 DeclinesPrinted Pack refuses index segments kind = DeclinesTranscoded ToPacked refuses index segments kind
 DeclinesPrinted Unpack refuses index segments kind = DeclinesTranscoded ToFramed refuses index segments kind
 DeclinesPrinted (Canonical format) refuses index segments kind = DeclinesForm (root_of segments) refuses kind

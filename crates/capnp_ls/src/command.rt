@@ -1,12 +1,12 @@
 //! The words that the program takes.
 ghost use Rattle.std.specs.Prelude.{◌≡◌, map, string_bytes, IfSome, IfNone};
 ghost use Rattle.capnp_ls.specs.declared.command.Command.{Command};
-ghost use Rattle.capnp_ls.specs.Commands.{command_words, input_of};
+ghost use Rattle.capnp_ls.specs.Commands.{command_words, input_of, padding_of};
 
 use crate::listing::write_line;
 use capnp::io::Write;
 use capnp::message::{DEFAULT_READER_OPTIONS, Reader};
-use capnp::serialize::OwnedSegments;
+use capnp::serialize::{OwnedSegments, Padding};
 use capnp::streams::{Format, MessageWriter};
 use capnp::{Result, serialize, serialize_packed};
 use std::alloc::Global;
@@ -14,8 +14,8 @@ use std::alloc::Global;
 /// What the program is told to do.
 #[derive(Clone, Copy, Debug, PartialEq, Eq)]
 pub enum Command {
-    /// `list`, and `list --packed`: print a line for each message.
-    Listing(Format),
+    /// `list`, `list --packed`, and each with `--lenient` behind it: print a line for each message.
+    Listing(Format, Padding),
     /// `pack`: write each framed message packed.
     Pack,
     /// `unpack`: write each packed message framed.
@@ -33,17 +33,26 @@ impl Command {
     {
         match words {
             [word] => match word.as_str() {
-                "list" => Some(Command::Listing(Format::Framed)),
+                "list" => Some(Command::Listing(Format::Framed, Padding::Zero)),
                 "pack" => Some(Command::Pack),
                 "unpack" => Some(Command::Unpack),
                 "canon" => Some(Command::Canonical(Format::Framed)),
                 _ => None,
             },
             [word, option] if word.as_str() == "list" && option.as_str() == "--packed" => {
-                Some(Command::Listing(Format::Packed))
+                Some(Command::Listing(Format::Packed, Padding::Zero))
+            }
+            [word, option] if word.as_str() == "list" && option.as_str() == "--lenient" => {
+                Some(Command::Listing(Format::Framed, Padding::Any))
             }
             [word, option] if word.as_str() == "canon" && option.as_str() == "--packed" => {
                 Some(Command::Canonical(Format::Packed))
+            }
+            [word, option, last]
+                if word.as_str() == "list"
+                    && option.as_str() == "--packed"
+                    && last.as_str() == "--lenient" => {
+                Some(Command::Listing(Format::Packed, Padding::Any))
             }
             _ => None,
         }
@@ -54,10 +63,22 @@ impl Command {
         ensures { result ≡ input_of self }
     {
         match self {
-            Command::Listing(format) => format,
+            Command::Listing(format, _) => format,
             Command::Pack => Format::Framed,
             Command::Unpack => Format::Packed,
             Command::Canonical(format) => format,
+        }
+    }
+
+    /// Of which padding they may be.
+    pub fn padding(self) -> Padding
+        ensures { result ≡ padding_of self }
+    {
+        match self {
+            Command::Listing(_, padding) => padding,
+            Command::Pack => Padding::Zero,
+            Command::Unpack => Padding::Zero,
+            Command::Canonical(_) => Padding::Zero,
         }
     }
 }
@@ -79,7 +100,7 @@ impl MessageWriter for Command {
         sink: &mut W,
     ) -> Result<()> {
         match self {
-            Command::Listing(_) => {
+            Command::Listing(_, _) => {
                 write_line(memory, index, message)?;
                 sink.write_all(memory)
             }

@@ -8,7 +8,8 @@ use capnp::io::Write;
 use capnp::{Error, ErrorKind, Result};
 use std::alloc::{AllocError, Global};
 
-const USAGE: &str = "usage: capnp_ls list [--packed] | pack | unpack | canon [--packed]\n";
+const USAGE: &str =
+    "usage: capnp_ls list [--packed] [--lenient] | pack | unpack | canon [--packed]\n";
 
 /// Why the program stops before the end of its input.
 #[derive(Debug, Drop)]

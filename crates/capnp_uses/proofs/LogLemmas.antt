@@ -2,6 +2,7 @@
 use Rattle.std.proofs.Common.{◌≡◌, ◌⊎◌, inl, inr, ℕ, ◌<◌, ◌≤◌, Option, Some, None, List, [], ◌∷◌, ◌++◌, length, take, drop, refl, sym, ap, ◌∙◌, subst, arith, append_assoc, length-append, length-drop}
 use Rattle.std.proofs.Math.Seq.{take-append_seam}
 use Rattle.std.proofs.lemmas.List.{append-nil}
+use Rattle.capnp_frame.specs.declared.serialize.segment_table.Padding.TheVariants.{Zero}
 use Rattle.capnp_frame.specs.declared.error.Error.{Error}
 use Rattle.capnp_frame.specs.declared.error.ErrorKind.{ErrorKind}
 use Rattle.capnp_frame.specs.declared.error.ErrorKind.TheVariants.{DeviceFailed, OutOfMemory}
@@ -49,18 +50,18 @@ none_of : (refusal : Option Error) → kind_of refusal ≡ None → refusal ≡ 
 none_of None none = refl
 none_of (Some error) none = cc
 
-whole_end : (limit : Option ℕ) (refusal : Option Error) (log : List ℕ) (end : ℕ) → end ≤ length log → kind_of refusal ≡ None → EndsBy Packed limit (kind_of refusal) (drop end log) → end ≡ length log
+whole_end : (limit : Option ℕ) (refusal : Option Error) (log : List ℕ) (end : ℕ) → end ≤ length log → kind_of refusal ≡ None → EndsBy Zero Packed limit (kind_of refusal) (drop end log) → end ≡ length log
 whole_end limit refusal log end within none ends =
-    let nothing : drop end log ≡ [] = subst (λ ending. EndsBy Packed limit ending (drop end log)) none ends in
+    let nothing : drop end log ≡ [] = subst (λ ending. EndsBy Zero Packed limit ending (drop end log)) none ends in
     omega (arith, ap length nothing, length-drop end log)
 
 pub log_is_read : (limit : Option ℕ) (ms : List (List (List ℕ))) (refusal : Option Error) (log : List ℕ) (end : ℕ) → end ≤ length log
-    → LacksMemory refusal ⊎ EndsBy Packed limit (kind_of refusal) (drop end log)
-    → ((messages : List (List (List ℕ))) (ending : Option ErrorKind) → IsStream Packed limit messages ending log → LacksMemory refusal ⊎ (ms ≡ messages) × (kind_of refusal ≡ ending))
+    → LacksMemory refusal ⊎ EndsBy Zero Packed limit (kind_of refusal) (drop end log)
+    → ((messages : List (List (List ℕ))) (ending : Option ErrorKind) → IsStream Zero Packed limit messages ending log → LacksMemory refusal ⊎ (ms ≡ messages) × (kind_of refusal ≡ ending))
     → (records : List (List (List ℕ))) → IsLog limit records log → LacksMemory refusal ⊎ (ms ≡ records) × (refusal ≡ None) × (end ≡ length log)
 log_is_read limit ms refusal log end within (inl memory) exact records is = inl memory
 log_is_read limit ms refusal log end within (inr ends) exact records is =
-    elim (exact records None (appended_stream Packed limit records log is.writable is.within is.appended)) [
+    elim (exact records None (appended_stream Zero Packed limit records log is.writable is.within is.appended)) [
       | inl memory ↦ inl memory
       | inr same ↦ inr (same.0, none_of refusal same.1, whole_end limit refusal log end within same.1 ends)
     ]
@@ -78,41 +79,41 @@ texts_behind IsText limit (m ∷ ms) raw rest part (between, begins, texts) = (
 
 -- no record is read of a part of another one
 part_is_none : (limit : Option ℕ) (next other : List (List ℕ)) (part missing left : List ℕ) → IsWritable next → IsPackedTextOf next (part ++ missing) → 0 < length missing
-    → BeginsWith IsPackedFrame limit other part left → ⊥
+    → BeginsWith (IsPackedFrame Zero) limit other part left → ⊥
 part_is_none limit next other part missing left writable packed some begins =
-    let whole = packed_text_is (part ++ missing) next (HasTable-writable next writable) packed in
+    let whole = packed_text_is Zero (part ++ missing) next (HasTable-writable next writable) packed in
     let joined : begins.text ++ (left ++ missing) ≡ (part ++ missing) ++ [] =
     sym (append_assoc begins.text left missing) ∙ ap (λ l. l ++ missing) (sym begins.spelled) ∙ sym (append-nil (part ++ missing)) in
-    let same = texts_part unpacking packed_requests begins.text (part ++ missing) (left ++ missing) [] other next begins.is_text whole joined in
+    let same = texts_part Zero unpacking (packed_requests Zero) begins.text (part ++ missing) (left ++ missing) [] other next begins.is_text whole joined in
     omega (arith, ap length same.2, length-append left missing)
 
 -- up to such a part there is one list of records
 cut_once : (limit : Option ℕ) (ending : Option ErrorKind) (ms ns : List (List (List ℕ))) (raw rest part : List ℕ)
-    → AreTexts IsPackedFrame limit ms raw rest → EndsBy Packed limit ending rest → AreTexts IsPackedFrame limit ns raw part
-    → ((other : List (List ℕ)) (left : List ℕ) → BeginsWith IsPackedFrame limit other part left → ⊥) → (ms ≡ ns) × (rest ≡ part)
+    → AreTexts (IsPackedFrame Zero) limit ms raw rest → EndsBy Zero Packed limit ending rest → AreTexts (IsPackedFrame Zero) limit ns raw part
+    → ((other : List (List ℕ)) (left : List ℕ) → BeginsWith (IsPackedFrame Zero) limit other part left → ⊥) → (ms ≡ ns) × (rest ≡ part)
 cut_once limit ending [] [] raw rest part texts ends others none = (refl, texts ∙ sym others)
 cut_once limit ending [] (n ∷ ns) raw rest part texts ends others none =
-    absurd ((format_parts Packed limit).ends_apart ending n raw others.0 (subst (λ l. EndsBy Packed limit ending l) texts ends) others.1)
+    absurd ((format_parts Zero Packed limit).ends_apart ending n raw others.0 (subst (λ l. EndsBy Zero Packed limit ending l) texts ends) others.1)
 cut_once limit ending (m ∷ ms) [] raw rest part texts ends others none =
-    absurd (none m texts.0 (subst (λ l. BeginsWith IsPackedFrame limit m l texts.0) (sym others) texts.1))
+    absurd (none m texts.0 (subst (λ l. BeginsWith (IsPackedFrame Zero) limit m l texts.0) (sym others) texts.1))
 cut_once limit ending (m ∷ ms) (n ∷ ns) raw rest part texts ends others none =
-    let same = (format_parts Packed limit).begins_once m n raw texts.0 others.0 texts.1 others.1 in
-    let inner = cut_once limit ending ms ns others.0 rest part (subst (λ l. AreTexts IsPackedFrame limit ms l rest) same.1 texts.2) ends others.2 none in
+    let same = (format_parts Zero Packed limit).begins_once m n raw texts.0 others.0 texts.1 others.1 in
+    let inner = cut_once limit ending ms ns others.0 rest part (subst (λ l. AreTexts (IsPackedFrame Zero) limit ms l rest) same.1 texts.2) ends others.2 none in
     (ap (λ x. x ∷ ms) same.0 ∙ ap (λ l. n ∷ l) inner.0, inner.1)
 
 cut_end : (log whole part : List ℕ) (end : ℕ) → end ≤ length log → log ≡ whole ++ part → drop end log ≡ part → end ≡ length whole
 cut_end log whole part end within is left = omega (arith, ap length is, length-append whole part, ap length left, length-drop end log)
 
 pub cut_is_told : (limit : Option ℕ) (ms : List (List (List ℕ))) (refusal : Option Error) (log : List ℕ) (end : ℕ) → end ≤ length log
-    → AreTexts IsPackedFrame limit ms log (drop end log) → LacksMemory refusal ⊎ EndsBy Packed limit (kind_of refusal) (drop end log)
+    → AreTexts (IsPackedFrame Zero) limit ms log (drop end log) → LacksMemory refusal ⊎ EndsBy Zero Packed limit (kind_of refusal) (drop end log)
     → (records : List (List (List ℕ))) (whole part missing : List ℕ) (next : List (List ℕ)) → IsLog limit records whole → IsWritable next → IsPackedTextOf next (part ++ missing)
     → 0 < length missing → log ≡ whole ++ part → LacksMemory refusal ⊎ (ms ≡ records) × (end ≡ length whole)
 cut_is_told limit ms refusal log end within texts (inl memory) records whole part missing next is writable packed some spelled = inl memory
 cut_is_told limit ms refusal log end within texts (inr ends) records whole part missing next is writable packed some spelled =
-    let stream = appended_stream Packed limit records whole is.writable is.within is.appended in
+    let stream = appended_stream Zero Packed limit records whole is.writable is.within is.appended in
     let nothing : stream.rest ≡ [] = stream.ends in
-    let behind = texts_behind IsPackedFrame limit records whole stream.rest part stream.texts in
-    let there : AreTexts IsPackedFrame limit records log part =
-    subst (λ l. AreTexts IsPackedFrame limit records l part) (sym spelled) (subst (λ l. AreTexts IsPackedFrame limit records (whole ++ part) (l ++ part)) nothing behind) in
+    let behind = texts_behind (IsPackedFrame Zero) limit records whole stream.rest part stream.texts in
+    let there : AreTexts (IsPackedFrame Zero) limit records log part =
+    subst (λ l. AreTexts (IsPackedFrame Zero) limit records l part) (sym spelled) (subst (λ l. AreTexts (IsPackedFrame Zero) limit records (whole ++ part) (l ++ part)) nothing behind) in
     let same = cut_once limit (kind_of refusal) ms records log (drop end log) part texts ends there (λ other left. part_is_none limit next other part missing left writable packed some) in
     inr (same.0, cut_end log whole part end within spelled same.1)

@@ -1,6 +1,7 @@
 -- A message that is written packed is read back.
 use Rattle.std.proofs.Common.{◌≡◌, ℕ, Option, List, [], ◌++◌, sym, ap, ◌∙◌, subst}
 use Rattle.std.proofs.lemmas.List.{append-nil}
+use Rattle.capnp_frame.specs.declared.serialize.segment_table.Padding.TheVariants.{Zero}
 use Rattle.capnp_frame.specs.Sink.{Adds}
 use Rattle.capnp_frame.specs.Limits.{IsWithin}
 use Rattle.capnp_frame.specs.Writing.{IsWritable}
@@ -11,10 +12,10 @@ use Rattle.capnp_pack.proofs.PackedFrameLemmas.{packed_requests, packed_text_is}
 use Rattle.capnp.specs.Streams.{BeginsPacked}
 use Rattle.capnp.specs.Written.{IsPackedTextOf}
 
-pub packed_read : (limit : Option ℕ) (read message : List (List ℕ)) (text left : List ℕ) → BeginsPacked limit read text left → IsWritable message → IsPackedTextOf message text → read ≡ message
+pub packed_read : (limit : Option ℕ) (read message : List (List ℕ)) (text left : List ℕ) → BeginsPacked Zero limit read text left → IsWritable message → IsPackedTextOf message text → read ≡ message
 packed_read limit read message text left begins writable packed =
-    let whole = packed_text_is text message (HasTable-writable message writable) packed in
-    (texts_part unpacking packed_requests begins.text text left [] read message begins.is_text whole (sym begins.spelled ∙ sym (append-nil text))).1
+    let whole = packed_text_is Zero text message (HasTable-writable message writable) packed in
+    (texts_part Zero unpacking (packed_requests Zero) begins.text text left [] read message begins.is_text whole (sym begins.spelled ∙ sym (append-nil text))).1
 
 -- what is added to nothing
 pub added_text : (message : List (List ℕ)) (old new : List ℕ) → old ≡ [] → Adds (IsPackedTextOf message) old new → IsPackedTextOf message new
@@ -24,6 +25,6 @@ pub shown_text : (message : List (List ℕ)) (text shown : List ℕ) → shown �
 shown_text message text shown same packed = subst (λ l. IsPackedTextOf message l) (sym same) packed
 
 -- and stands at the front of its text
-pub begins_packed : (limit : Option ℕ) (message : List (List ℕ)) (text : List ℕ) → IsWritable message → IsWithin message limit → IsPackedTextOf message text → BeginsPacked limit message text []
+pub begins_packed : (limit : Option ℕ) (message : List (List ℕ)) (text : List ℕ) → IsWritable message → IsWithin message limit → IsPackedTextOf message text → BeginsPacked Zero limit message text []
 begins_packed limit message text writable within packed =
-    record { text = text; is_text = packed_text_is text message (HasTable-writable message writable) packed; within = within; spelled = sym (append-nil text) }
+    record { text = text; is_text = packed_text_is Zero text message (HasTable-writable message writable) packed; within = within; spelled = sym (append-nil text) }

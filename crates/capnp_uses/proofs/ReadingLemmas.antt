@@ -1,6 +1,7 @@
 -- Readers of bytes at hand answer the one message that stands there.
 use Rattle.std.proofs.Common.{◌≡◌, ◌<◌, ℕ, List, [], Option, Some, None, IfSome, Result, Ok, Err, IsOk, IfOk, IfErr, MatchResult, sym, ap, subst, arith}
 use Rattle.std.specs.Prelude.{IfNone, IsSomeAnd, IsOkAnd}
+use Rattle.capnp_frame.specs.declared.serialize.segment_table.Padding.TheVariants.{Zero}
 use Rattle.capnp_frame.specs.declared.error.Error.{Error}
 use Rattle.capnp_frame.specs.declared.error.ErrorKind.TheVariants.{DeviceFailed, OutOfMemory}
 use Rattle.capnp_frame.specs.declared.message.options.ReaderOptions.{ReaderOptions}
@@ -25,26 +26,26 @@ slices_are_plain = record { given = λ raw n bytes rest. (λ p. p, λ p. p); ref
 
 -- a reader that asks for memory, or answers that there is nothing
 pub exactly : {X : Type 0} (segments : X → List (List ℕ)) (format : Format) (limit : Option ℕ) (bytes left : List ℕ) (r : Result (Option X) Error)
-    → ReturnsTexts (grammar_of format) limit (Some bytes) (Some left) (next_in segments r)
+    → ReturnsTexts (grammar_of Zero format) limit (Some bytes) (Some left) (next_in segments r)
     → IfOk (next_in segments r) (λ found. IfNone found (bytes ≡ []))
     → IfErr (next_in segments r) (λ e. e.kind ≡ DeviceFailed → Fails 0 0)
-    → (message : List (List ℕ)) (rest : List ℕ) → StandsNext format limit message bytes rest
+    → (message : List (List ℕ)) (rest : List ℕ) → StandsNext Zero format limit message bytes rest
     → MatchResult r (λ found. IsSomeAnd found (λ x. segments x ≡ message)) (λ e. e.kind ≡ OutOfMemory)
 exactly segments format limit bytes left (Ok None) texts none failed message rest begins =
-    absurd (nothing_begins (format_lawful format) (format_requested format) limit (λ m. ⊥) (Some bytes) none message rest begins)
+    absurd (nothing_begins Zero (format_lawful format) (format_requested Zero format) limit (λ m. ⊥) (Some bytes) none message rest begins)
 exactly segments format limit bytes left (Ok (Some x)) texts none failed message rest begins =
-    ((format_parts format limit).begins_once (segments x) message bytes left rest texts.found begins).0
+    ((format_parts Zero format limit).begins_once (segments x) message bytes left rest texts.found begins).0
 exactly segments format limit bytes left (Err e) texts none failed message rest begins =
     memory_only e.kind (texts.accepted message rest begins) failed
 
 -- and one that asks for none
 pub exactly_lent : {X : Type 0} (segments : X → List (List ℕ)) (format : Format) (limit : Option ℕ) (bytes left : List ℕ) (r : Result X Error)
-    → IfOk r (λ x. StandsNext format limit (segments x) bytes left)
-    → ((message : List (List ℕ)) (rest : List ℕ) → StandsNext format limit message bytes rest → IsOk r)
-    → (message : List (List ℕ)) (rest : List ℕ) → StandsNext format limit message bytes rest
+    → IfOk r (λ x. StandsNext Zero format limit (segments x) bytes left)
+    → ((message : List (List ℕ)) (rest : List ℕ) → StandsNext Zero format limit message bytes rest → IsOk r)
+    → (message : List (List ℕ)) (rest : List ℕ) → StandsNext Zero format limit message bytes rest
     → IsOkAnd r (λ x. segments x ≡ message)
 exactly_lent segments format limit bytes left (Ok x) found accepted message rest begins =
-    ((format_parts format limit).begins_once (segments x) message bytes left rest found begins).0
+    ((format_parts Zero format limit).begins_once (segments x) message bytes left rest found begins).0
 exactly_lent {X} segments format limit bytes left (Err e) found accepted message rest begins = let is_ok : IsOk {T = X} {E = Error} (Err e) = accepted message rest begins in cc
 
 -- The root that a reader of the default options follows

@@ -1,6 +1,7 @@
 -- Messages of a stream that lies in memory, one after another.
 use Rattle.std.proofs.Common.{◌≡◌, ◌⊎◌, inl, inr, ℕ, ◌-◌, ◌≤◌, Option, Some, None, Result, Ok, Err, IfErr, List, [], ◌∷◌, ◌++◌, length, drop, sym, ap, ◌∙◌, subst, arith, append_assoc, length-append}
 use Rattle.std.proofs.Math.Seq.{drop-append_seam}
+use Rattle.capnp_frame.specs.declared.serialize.segment_table.Padding.TheVariants.{Zero}
 use Rattle.capnp_frame.specs.declared.error.Error.{Error}
 use Rattle.capnp_frame.specs.declared.error.ErrorKind.{ErrorKind}
 use Rattle.capnp_frame.specs.declared.error.ErrorKind.TheVariants.{DeviceFailed, OutOfMemory}
@@ -15,8 +16,8 @@ use Rattle.capnp_uses.specs.Streaming.{kind_of, LacksMemory}
 
 -- a slice never fails, so its reader fails for want of memory or by what stands there
 pub slice_refused : (format : Format) (limit : Option ℕ) (kind : ErrorKind) (old new : List ℕ) (T : Type 0) → (kind ≡ DeviceFailed → Fails 0 0)
-    → (kind ≡ DeviceFailed) ⊎ ((kind ≡ OutOfMemory) × T) ⊎ RefusesNext format limit kind old new
-    → (kind ≡ OutOfMemory) ⊎ EndsBy format limit (Some kind) old
+    → (kind ≡ DeviceFailed) ⊎ ((kind ≡ OutOfMemory) × T) ⊎ RefusesNext Zero format limit kind old new
+    → (kind ≡ OutOfMemory) ⊎ EndsBy Zero format limit (Some kind) old
 slice_refused format limit kind old new T failed (inl device) = absurd (never_fails kind failed device)
 slice_refused format limit kind old new T failed (inr (inl memory)) = inl memory.0
 slice_refused format limit kind old new T failed (inr (inr line)) = inr (new, line)
@@ -45,11 +46,11 @@ texts_end IsText limit ms raw rest end texts at =
 
 -- one list of messages, unless memory ran out
 pub stream_is_one : (format : Format) (limit : Option ℕ) (ms ns : List (List (List ℕ))) (refusal : Option Error) (raw rest : List ℕ)
-    → AreTexts (grammar_of format) limit ms raw rest → LacksMemory refusal ⊎ EndsBy format limit (kind_of refusal) rest
-    → (ending : Option ErrorKind) → IsStream format limit ns ending raw → LacksMemory refusal ⊎ (ms ≡ ns) × (kind_of refusal ≡ ending)
+    → AreTexts (grammar_of Zero format) limit ms raw rest → LacksMemory refusal ⊎ EndsBy Zero format limit (kind_of refusal) rest
+    → (ending : Option ErrorKind) → IsStream Zero format limit ns ending raw → LacksMemory refusal ⊎ (ms ≡ ns) × (kind_of refusal ≡ ending)
 stream_is_one format limit ms ns refusal raw rest texts (inl memory) ending stream = inl memory
 stream_is_one format limit ms ns refusal raw rest texts (inr ends) ending stream =
-    inr (stream_once format limit ms ns (kind_of refusal) ending raw (record { rest = rest; texts = texts; ends = ends }) stream)
+    inr (stream_once Zero format limit ms ns (kind_of refusal) ending raw (record { rest = rest; texts = texts; ends = ends }) stream)
 
 pub texts_within : (IsText : Grammar) (limit : Option ℕ) (ms : List (List (List ℕ))) (raw rest : List ℕ) → AreTexts IsText limit ms raw rest → length rest ≤ length raw
 texts_within IsText limit ms raw rest texts =
@@ -57,10 +58,10 @@ texts_within IsText limit ms raw rest texts =
     omega (arith, ap length front.1, length-append front.0 rest)
 
 -- one message more
-pub next_texts : (format : Format) (limit : Option ℕ) (ms ns : List (List (List ℕ))) (raw rest left : List ℕ) → AreTexts (grammar_of format) limit ms raw rest
-    → (message : List (List ℕ)) × StandsNext format limit message rest left × (ns ≡ ms ++ message ∷ []) → AreTexts (grammar_of format) limit ns raw left
+pub next_texts : (format : Format) (limit : Option ℕ) (ms ns : List (List (List ℕ))) (raw rest left : List ℕ) → AreTexts (grammar_of Zero format) limit ms raw rest
+    → (message : List (List ℕ)) × StandsNext Zero format limit message rest left × (ns ≡ ms ++ message ∷ []) → AreTexts (grammar_of Zero format) limit ns raw left
 next_texts format limit ms ns raw rest left texts (message, stands, more) =
-    subst (λ l. AreTexts (grammar_of format) limit l raw left) (sym more) (AreTexts-push (grammar_of format) limit ms message raw rest left texts stands)
+    subst (λ l. AreTexts (grammar_of Zero format) limit l raw left) (sym more) (AreTexts-push (grammar_of Zero format) limit ms message raw rest left texts stands)
 
 pub refused_ends : (error : Error) (Q : Type 0) → (error.kind ≡ OutOfMemory) ⊎ Q → LacksMemory (Some error) ⊎ Q
 refused_ends error Q (inl memory) = inl (ap Some memory)
@@ -68,14 +69,14 @@ refused_ends error Q (inr ends) = inr ends
 
 -- What is answered where the reading stops.
 pub stopped : (format : Format) (limit : Option ℕ) (ms ns : List (List (List ℕ))) (refusal : Option Error) (raw rest : List ℕ) (end : ℕ)
-    → ns ≡ ms → AreTexts (grammar_of format) limit ms raw rest → end ≡ length raw - length rest → LacksMemory refusal ⊎ EndsBy format limit (kind_of refusal) rest
-    → (end ≤ length raw) × AreTexts (grammar_of format) limit ns raw (drop end raw) × (LacksMemory refusal ⊎ EndsBy format limit (kind_of refusal) (drop end raw))
-    × ((messages : List (List (List ℕ))) (ending : Option ErrorKind) → IsStream format limit messages ending raw → LacksMemory refusal ⊎ (ns ≡ messages) × (kind_of refusal ≡ ending))
+    → ns ≡ ms → AreTexts (grammar_of Zero format) limit ms raw rest → end ≡ length raw - length rest → LacksMemory refusal ⊎ EndsBy Zero format limit (kind_of refusal) rest
+    → (end ≤ length raw) × AreTexts (grammar_of Zero format) limit ns raw (drop end raw) × (LacksMemory refusal ⊎ EndsBy Zero format limit (kind_of refusal) (drop end raw))
+    × ((messages : List (List (List ℕ))) (ending : Option ErrorKind) → IsStream Zero format limit messages ending raw → LacksMemory refusal ⊎ (ns ≡ messages) × (kind_of refusal ≡ ending))
 stopped format limit ms ns refusal raw rest end same texts at ends =
-    let left : drop end raw ≡ rest = texts_end (grammar_of format) limit ms raw rest end texts at in
-    let told = subst (λ l. AreTexts (grammar_of format) limit l raw rest) (sym same) texts in (
+    let left : drop end raw ≡ rest = texts_end (grammar_of Zero format) limit ms raw rest end texts at in
+    let told = subst (λ l. AreTexts (grammar_of Zero format) limit l raw rest) (sym same) texts in (
       omega (arith, at),
-      subst (λ l. AreTexts (grammar_of format) limit ns raw l) (sym left) told,
-      subst (λ l. LacksMemory refusal ⊎ EndsBy format limit (kind_of refusal) l) (sym left) ends,
+      subst (λ l. AreTexts (grammar_of Zero format) limit ns raw l) (sym left) told,
+      subst (λ l. LacksMemory refusal ⊎ EndsBy Zero format limit (kind_of refusal) l) (sym left) ends,
       λ messages ending stream. stream_is_one format limit ns messages refusal raw rest told ends ending stream,
     )

@@ -1,5 +1,6 @@
 //! The canonical words of a message.
 ghost use Rattle.std.specs.Prelude.{◌≡◌, ℕ, List, IfOk, IfErr};
+ghost use Rattle.capnp_frame.specs.declared.serialize.segment_table.Padding.TheVariants.{Zero};
 ghost use Rattle.capnp_frame.specs.declared.error.ErrorKind.{ErrorKind};
 ghost use Rattle.capnp_wire.specs.Values.{IsCanonicalForm};
 ghost use Rattle.capnp_wire.specs.Block.{numbers_of};
@@ -14,11 +15,11 @@ use std::alloc::Global;
 /// The canonical words of the message that these bytes begin with. Only the words take memory.
 pub fn canonical_words(alloc: Global, bytes: &[u8]) -> Result<Vec<Word>>
     ensures form { (message : List (List ℕ)) (rest : List ℕ) →
-        BeginsFramed default_limit message bytes.now rest →
+        BeginsFramed Zero default_limit message bytes.now rest →
         IfOk result (λ words. IsCanonicalForm (default_root message) (numbers_of words.items)) }
     // They are answered wherever there are such words, memory aside.
     ensures found { (message : List (List ℕ)) (rest : List ℕ) →
-        BeginsFramed default_limit message bytes.now rest → HasForm (default_root message) →
+        BeginsFramed Zero default_limit message bytes.now rest → HasForm (default_root message) →
         IfErr result (λ error. error.kind ≡ ErrorKind.OutOfMemory) }
 {
     let message = borrowed_message(bytes)?;

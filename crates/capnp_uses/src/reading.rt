@@ -1,5 +1,6 @@
 //! Messages that are read from bytes at hand.
 ghost use Rattle.std.specs.Prelude.{◌≡◌, ◌<◌, ◌++◌, ◌∷◌, [], ℕ, List, IfOk, IfErr, IfSome, IfNone, MatchResult, IsSomeAnd, IsOkAnd};
+ghost use Rattle.capnp_frame.specs.declared.serialize.segment_table.Padding.TheVariants.{Zero};
 ghost use Rattle.capnp_frame.specs.declared.error.ErrorKind.{ErrorKind};
 ghost use Rattle.capnp_frame.specs.declared.message.options.TheConstants.{DEFAULT_READER_OPTIONS};
 ghost use Rattle.capnp_wire.specs.Tree.{numbers};
@@ -17,11 +18,11 @@ use std::alloc::Global;
 /// The first message of these bytes, or `None` where there are none.
 pub fn first_message(alloc: Global, bytes: &[u8]) -> Result<Option<Reader<OwnedSegments>>>
     ensures found { IfOk result (λ found. IfSome found (λ reader.
-        (rest : List ℕ) × BeginsFramed default_limit reader.segments bytes.now rest)) }
+        (rest : List ℕ) × BeginsFramed Zero default_limit reader.segments bytes.now rest)) }
     ensures none { IfOk result (λ found. IfNone found (bytes.now ≡ [])) }
     // A message that stands there is answered, memory aside.
     ensures exact { (message : List (List ℕ)) (rest : List ℕ) →
-        BeginsFramed default_limit message bytes.now rest → MatchResult result
+        BeginsFramed Zero default_limit message bytes.now rest → MatchResult result
         (λ found. IsSomeAnd found (λ reader. reader.segments ≡ message))
         (λ error. error.kind ≡ ErrorKind.OutOfMemory) }
 {
@@ -32,9 +33,9 @@ pub fn first_message(alloc: Global, bytes: &[u8]) -> Result<Option<Reader<OwnedS
 /// The message that a lent buffer begins with, in place. No memory is taken.
 pub fn borrowed_message<'a>(bytes: &'a [u8]) -> Result<Reader<NoAllocSliceSegments<'a>>>
     ensures found { IfOk result (λ reader. (rest : List ℕ)
-        × BeginsFramed default_limit reader.segments.segments bytes.now rest) }
+        × BeginsFramed Zero default_limit reader.segments.segments bytes.now rest) }
     ensures exact { (message : List (List ℕ)) (rest : List ℕ) →
-        BeginsFramed default_limit message bytes.now rest →
+        BeginsFramed Zero default_limit message bytes.now rest →
         IsOkAnd result (λ reader. reader.segments.segments ≡ message) }
     ensures options { IfOk result (λ reader. reader.options ≡ DEFAULT_READER_OPTIONS) }
 {

@@ -1,5 +1,6 @@
 //! Streams whose messages are all read.
 ghost use Rattle.std.specs.Prelude.{◌≡◌, ◌≤◌, ◌++◌, ◌∷◌, [], ◌⊎◌, ℕ, List, Option, Some, drop, length, map, IsTrue, IsFalse, IfOk, IfErr, OnErr};
+ghost use Rattle.capnp_frame.specs.declared.serialize.segment_table.Padding.TheVariants.{Zero};
 ghost use Rattle.capnp_frame.specs.declared.error.ErrorKind.{ErrorKind};
 ghost use Rattle.capnp_frame.specs.Source.{IfKnown, IsTail};
 ghost use Rattle.capnp_frame.specs.Streams.{next_in, ReadsStream};
@@ -25,10 +26,10 @@ pub fn next_message<R: BufRead>(
     source: &mut R,
     options: ReaderOptions,
 ) -> Result<Option<Reader<OwnedSegments>>>
-    ensures texts { ReturnsTexts (grammar_of format) options.traversal_limit_in_words
+    ensures texts { ReturnsTexts (grammar_of Zero format) options.traversal_limit_in_words
         (R.unread source.old) (R.unread source.new)
         (next_in (λ reader. reader.segments) result) }
-    ensures reads { ReadsStream R.Read source.old source.new (rules_of format)
+    ensures reads { ReadsStream R.Read source.old source.new (rules_of Zero format)
         options.traversal_limit_in_words (next_in (λ reader. reader.segments) result) }
 {
     match format {
@@ -74,16 +75,16 @@ pub fn every_message(
 ) -> StreamRead
     // The messages are the first `end` bytes.
     ensures within { result.end ≤ length stream.now }
-    ensures texts { AreTexts (grammar_of format) options.traversal_limit_in_words
+    ensures texts { AreTexts (grammar_of Zero format) options.traversal_limit_in_words
         (map (λ reader. reader.segments) result.messages.items)
         stream.now (drop result.end stream.now) }
     // And there the stream ends, or is refused so.
     ensures ends { LacksMemory result.refusal
-        ⊎ EndsBy format options.traversal_limit_in_words (kind_of result.refusal)
+        ⊎ EndsBy Zero format options.traversal_limit_in_words (kind_of result.refusal)
         (drop result.end stream.now) }
     // So it is the one list of messages that the stream is, memory aside.
     ensures exact { (messages : List (List (List ℕ))) (ending : Option ErrorKind) →
-        IsStream format options.traversal_limit_in_words messages ending stream.now →
+        IsStream Zero format options.traversal_limit_in_words messages ending stream.now →
         LacksMemory result.refusal
         ⊎ (map (λ reader. reader.segments) result.messages.items ≡ messages)
         × (kind_of result.refusal ≡ ending) }
@@ -126,13 +127,13 @@ fn add_next(
     messages: &mut Vec<Reader<OwnedSegments>>,
 ) -> Result<bool>
     ensures added { IfOk result (λ more. IsTrue more → (message : List (List ℕ))
-        × StandsNext format options.traversal_limit_in_words message rest.old.now rest.new.now
+        × StandsNext Zero format options.traversal_limit_in_words message rest.old.now rest.new.now
         × (map (λ reader. reader.segments) messages.new.items
         ≡ map (λ reader. reader.segments) messages.old.items ++ message ∷ [])) }
     ensures ended { IfOk result (λ more. IsFalse more →
         (rest.old.now ≡ []) × (messages.new.items ≡ messages.old.items)) }
     ensures refused { IfErr result (λ error. (error.kind ≡ ErrorKind.OutOfMemory)
-        ⊎ EndsBy format options.traversal_limit_in_words (Some error.kind) rest.old.now) }
+        ⊎ EndsBy Zero format options.traversal_limit_in_words (Some error.kind) rest.old.now) }
     ensures kept { OnErr result (messages.new.items ≡ messages.old.items) }
 {
     match next_message(alloc, format, rest, options)? {

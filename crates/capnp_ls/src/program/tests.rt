@@ -9,7 +9,7 @@ use std::test::*;
 
 // Three messages: segments [] and [1, 2, 3, 4, 5, 6, 7, 8]; one empty segment; one of two words.
 const STREAM: [u8; 56] = [
-    1, 0, 0, 0, 0, 0, 0, 0, 1, 0, 0, 0, 9, 9, 9, 9, 1, 2, 3, 4, 5, 6, 7, 8, 0, 0, 0, 0, 0, 0, 0, 0,
+    1, 0, 0, 0, 0, 0, 0, 0, 1, 0, 0, 0, 0, 0, 0, 0, 1, 2, 3, 4, 5, 6, 7, 8, 0, 0, 0, 0, 0, 0, 0, 0,
     0, 0, 0, 0, 2, 0, 0, 0, 1, 1, 1, 1, 1, 1, 1, 1, 2, 2, 2, 2, 2, 2, 2, 2,
 ];
 
@@ -55,15 +55,17 @@ fn messages_are_listed(rt: HostRuntime) -> Result<(), Fail> {
     Ok(())
 }
 
-// What stands after the first message stops the run: cut, of too many segments, or too large.
+// What stands after the first message stops the run: cut, of too many segments, too large, or of a
+// padding that isn't zero.
 #[test]
 fn lines_before_a_refusal_stay(rt: HostRuntime) -> Result<(), Fail> {
     let words = words(rt.alloc(), &["list"])?;
-    let refused: [(&[u8], u8, usize); 4] = [
+    let refused: [(&[u8], u8, usize); 5] = [
         (&[0, 0, 0, 0], 1, 0),
         (&[0, 0, 0, 0, 1, 0, 0, 0, 1], 1, 0),
         (&[255, 1, 0, 0, 7, 7, 7, 7, 5], 5, 1),
         (&[0, 0, 0, 0, 1, 0, 128, 0, 5], 8, 1),
+        (&[1, 0, 0, 0, 0, 0, 0, 0, 0, 0, 0, 0, 0, 0, 0, 1, 5], 26, 1),
     ];
     for (others, number, unread) in refused {
         let mut bytes = STREAM[..24].to_vec(rt.alloc())?;
@@ -80,12 +82,17 @@ fn lines_before_a_refusal_stay(rt: HostRuntime) -> Result<(), Fail> {
 
 #[test]
 fn other_words_read_nothing(rt: HostRuntime) -> Result<(), Fail> {
-    let others: [&[&str]; 11] = [
+    let others: [&[&str]; 16] = [
         &[],
         &["lists"],
         &["list", "list"],
         &["list", ""],
         &["list", "--packed", "--packed"],
+        &["list", "--lenient", "--packed"],
+        &["list", "--lenient", "--lenient"],
+        &["list", "--packed", "--lenient", "--lenient"],
+        &["--lenient", "list"],
+        &["pack", "--lenient"],
         &["--packed", "list"],
         &["pack", "--packed"],
         &["canon", "canon"],
@@ -110,9 +117,6 @@ const PACKED: [u8; 14] = [1, 1, 1, 1, 255, 1, 2, 3, 4, 5, 6, 7, 8, 0];
 
 #[test]
 fn each_command_prints_its_output(rt: HostRuntime) -> Result<(), Fail> {
-    let mut zero_padding = [0; 24];
-    zero_padding.copy_from_slice(&STREAM[..24]);
-    zero_padding[12..16].copy_from_slice(&[0; 4]);
     let rows: [(&[&str], &[u8], &[u8]); 7] = [
         (&["list", "--packed"], &PACKED, b"0 2 1 0 1\n"),
         (
@@ -123,7 +127,7 @@ fn each_command_prints_its_output(rt: HostRuntime) -> Result<(), Fail> {
         (&["list", "--packed"], &[], &[]),
         (&["pack"], &STREAM[..24], &PACKED),
         (&["pack"], &[], &[]),
-        (&["unpack"], &PACKED, &zero_padding),
+        (&["unpack"], &PACKED, &STREAM[..24]),
         (&["unpack"], &[], &[]),
     ];
     for (texts, input, output) in rows {
@@ -136,6 +140,60 @@ fn each_command_prints_its_output(rt: HostRuntime) -> Result<(), Fail> {
         );
         assert_eq!(rt; sink.as_slice(), output, "{texts:?}");
         assert!(rt; source.is_empty(), "{texts:?}");
+    }
+    Ok(())
+}
+
+// The same message, its padding four nines, framed and packed.
+const PADDED: [u8; 24] = [
+    1, 0, 0, 0, 0, 0, 0, 0, 1, 0, 0, 0, 9, 9, 9, 9, 1, 2, 3, 4, 5, 6, 7, 8,
+];
+
+const PACKED_PADDED: [u8; 18] = [1, 1, 0xf1, 1, 9, 9, 9, 9, 255, 1, 2, 3, 4, 5, 6, 7, 8, 0];
+
+#[test]
+fn messages_of_any_padding_are_listed(rt: HostRuntime) -> Result<(), Fail> {
+    let rows: [(&[&str], &[u8], &str); 6] = [
+        (&["list", "--lenient"], &PADDED, LINES[1]),
+        (&["list", "--lenient"], &STREAM, LINES[3]),
+        (&["list", "--lenient"], &[], LINES[0]),
+        (&["list", "--packed", "--lenient"], &PACKED_PADDED, LINES[1]),
+        (&["list", "--packed", "--lenient"], &PACKED, LINES[1]),
+        (&["list", "--packed", "--lenient"], &[], LINES[0]),
+    ];
+    for (texts, input, lines) in rows {
+        let words = words(rt.alloc(), texts)?;
+        let mut source = input;
+        let mut sink = Vec::new(rt.alloc());
+        assert!(rt;
+            run(rt.alloc(), &words, &mut source, &mut sink).is_ok(),
+            "{texts:?}"
+        );
+        assert_eq!(rt; sink.as_slice(), lines.as_bytes(), "{texts:?}");
+        assert!(rt; source.is_empty(), "{texts:?}");
+    }
+    Ok(())
+}
+
+// Nothing is printed of the message, and the source stands right behind its table.
+#[test]
+fn other_paddings_stop_a_run(rt: HostRuntime) -> Result<(), Fail> {
+    let rows: [(&[&str], &[u8], usize); 6] = [
+        (&["list"], &PADDED, 8),
+        (&["list", "--packed"], &PACKED_PADDED, 10),
+        (&["pack"], &PADDED, 8),
+        (&["unpack"], &PACKED_PADDED, 10),
+        (&["canon"], &PADDED, 8),
+        (&["canon", "--packed"], &PACKED_PADDED, 10),
+    ];
+    for (texts, input, unread) in rows {
+        let words = words(rt.alloc(), texts)?;
+        let mut source = input;
+        let mut sink = Vec::new(rt.alloc());
+        let answer = run(rt.alloc(), &words, &mut source, &mut sink);
+        assert_eq!(rt; refusal(answer), Some((0, 26)), "{texts:?}");
+        assert!(rt; sink.is_empty(), "{texts:?}");
+        assert_eq!(rt; source.len(), unread, "{texts:?}");
     }
     Ok(())
 }

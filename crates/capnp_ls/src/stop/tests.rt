@@ -15,12 +15,17 @@ fn stops_are_reported_by_one_line(rt: HostRuntime) -> Result<(), Fail> {
         (
             Stop::Usage,
             2,
-            "usage: capnp_ls list [--packed] | pack | unpack | canon [--packed]\n",
+            "usage: capnp_ls list [--packed] [--lenient] | pack | unpack | canon [--packed]\n",
         ),
         (
             refused(0, ErrorKind::OutOfMemory),
             1,
             "capnp_ls: message 0: error 12 OutOfMemory\n",
+        ),
+        (
+            refused(0, ErrorKind::NonZeroPadding),
+            1,
+            "capnp_ls: message 0: error 26 NonZeroPadding\n",
         ),
         (
             refused(2, ErrorKind::InvalidSegmentId(7)),

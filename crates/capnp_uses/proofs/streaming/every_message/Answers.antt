@@ -1,11 +1,12 @@
 -- Each turn reads one more message, and where the reading stops the stream ends, or memory does.
 use Rattle.std.proofs.Common.{refl, ap, map, inl, inr, None, Some}
 use Rattle.capnp.specs.Streams.{grammar_of}
+use Rattle.capnp_frame.specs.declared.serialize.segment_table.Padding.TheVariants.{Zero}
 use Rattle.capnp_uses.proofs.StreamLemmas.{texts_within, next_texts, refused_ends, stopped}
 use Rattle.capnp_uses.proofs.streaming.every_message.Goals as goal
 
 pub overflow_sub-end : goal.overflow_sub-end
-overflow_sub-end c = texts_within (grammar_of c.args.format) c.args.options.traversal_limit_in_words _ c.args.stream.now c.add_next.new.rest.now
+overflow_sub-end c = texts_within (grammar_of Zero c.args.format) c.args.options.traversal_limit_in_words _ c.args.stream.now c.add_next.new.rest.now
     (next_texts c.args.format c.args.options.traversal_limit_in_words _ _ c.args.stream.now c.loop-count.rest.now c.add_next.new.rest.now
     c.loop-count.invariant.texts (c.in-Ok-true.ensures.added c.in-Ok-true.field-0-test))
 

@@ -1,5 +1,6 @@
 -- Either format's reader.
 use Rattle.capnp.specs.Streams.{IsPlainSource}
+use Rattle.capnp_frame.specs.declared.serialize.segment_table.Padding.TheVariants.{Zero}
 use Rattle.capnp.proofs.FormatLemmas.{plain_reads}
 use Rattle.capnp_uses.proofs.streaming.next_message.Goals as goal
 
@@ -9,7 +10,7 @@ returns-in-Framed-clause-texts g c = rw c.in-Framed.is (c.try_read_message.ensur
 pub returns-in-Framed-clause-reads : goal.returns-in-Framed-clause-reads
 returns-in-Framed-clause-reads g c =
     let plain : IsPlainSource g.R.Read.gives g.R.Read.refuses = record { given = g.met.R.BufRead.plain; refused = g.met.R.BufRead.plain_refusals } in
-    rw c.in-Framed.is (plain_reads g.R.Read plain c.args.options.traversal_limit_in_words _ _ _ c.try_read_message.ensures.reads)
+    rw c.in-Framed.is (plain_reads Zero g.R.Read plain c.args.options.traversal_limit_in_words _ _ _ c.try_read_message.ensures.reads)
 
 pub returns-in-Packed-clause-texts : goal.returns-in-Packed-clause-texts
 returns-in-Packed-clause-texts g c = rw c.in-Packed.is c.try_read_message-in-Packed.ensures.texts
