@@ -3,8 +3,9 @@ use capnp_frame::io::Write;
 use capnp_frame::message::{ReaderOptions, ReaderSegments, SegmentArray};
 use capnp_frame::serialize::{
     BufferSegments, NoAllocBufferSegments, NoAllocSegmentTableInfo, NoAllocSliceSegments,
-    describes, segments_to_words, serialized_size_in_words, take_segments, try_read_segments_into,
-    write_segments,
+    OwnedSegments, describes, segments_to_words, serialized_size_in_words, take_segments,
+    take_segments_lenient, try_read_segments_into, try_read_segments_into_lenient,
+    try_read_segments_lenient, try_read_segments_reusing_lenient, write_segments,
 };
 use capnp_frame::{Word, word};
 use std::test::Fail;
@@ -19,6 +20,11 @@ const FRAME_AND_MORE: [u8; 56] = [
 ];
 
 const SECOND: [u8; 16] = [4, 0, 0, 0, 0, 0, 0, 0, 5, 0, 0, 0, 0, 0, 0, 0];
+
+// Segments [] and SECOND, and a padding that isn't zero.
+const PADDED: [u8; 32] = [
+    1, 0, 0, 0, 0, 0, 0, 0, 2, 0, 0, 0, 9, 9, 9, 9, 4, 0, 0, 0, 0, 0, 0, 0, 5, 0, 0, 0, 0, 0, 0, 0,
+];
 
 // Whether segment `id` has these bytes.
 fn shows<S: ReaderSegments>(segments: &S, id: u32, bytes: &[u8]) -> bool {
@@ -65,6 +71,41 @@ fn finds_without_memory(rt: HostRuntime) -> Result<(), Fail> {
     assert_eq!(rt; source.len(), 16);
     let read = read.ok_or("a message")?;
     assert!(rt; shows(&read, 1, &SECOND));
+    Ok(())
+}
+
+#[test]
+fn takes_any_padding(rt: HostRuntime) -> Result<(), Fail> {
+    let options = ReaderOptions::new();
+    let mut rest = PADDED.as_slice();
+    let segments = take_segments_lenient(rt.alloc(), &mut rest, options)?;
+    assert!(rt; rest.is_empty() && shows(&segments, 1, &SECOND));
+    let mut rest = PADDED.as_slice();
+    let segments = NoAllocSliceSegments::from_slice_lenient(&mut rest, options)?;
+    assert!(rt; rest.is_empty() && shows(&segments, 1, &SECOND));
+    let kept = PADDED.to_vec(rt.alloc())?;
+    let segments = BufferSegments::new_lenient(rt.alloc(), kept, options)?;
+    assert!(rt; shows(&segments, 1, &SECOND));
+    let found = NoAllocBufferSegments::from_buffer_lenient(segments.into_buffer(), options)?;
+    assert!(rt; shows(&found, 1, &SECOND));
+    Ok(())
+}
+
+#[test]
+fn reads_any_padding(rt: HostRuntime) -> Result<(), Fail> {
+    let options = ReaderOptions::new();
+    let mut source = PADDED.as_slice();
+    let read = try_read_segments_lenient(rt.alloc(), &mut source, options)?.ok_or("a message")?;
+    assert!(rt; source.is_empty() && shows(&read, 1, &SECOND));
+    let mut source = PADDED.as_slice();
+    let spare = OwnedSegments::empty(rt.alloc());
+    let read = try_read_segments_reusing_lenient(&mut source, options, spare)?;
+    assert!(rt; source.is_empty() && shows(&read.ok_or("a message")?, 1, &SECOND));
+    let mut source = PADDED.as_slice();
+    let mut room = [0; 32];
+    let read = try_read_segments_into_lenient(&mut source, &mut room, options)?;
+    assert!(rt; shows(&read.ok_or("a message")?, 1, &SECOND));
+    assert!(rt; source.is_empty());
     Ok(())
 }
 

@@ -1,9 +1,13 @@
 //! Packed messages of a slice, and a piece that isn't packed. Rows of bytes are tests of `capnp_rows`.
 use capnp_frame::io::Write;
 use capnp_frame::message::{DEFAULT_READER_OPTIONS, ReaderSegments};
+use capnp_frame::serialize::OwnedSegments;
 use capnp_frame::{ErrorKind, Result};
 use capnp_pack::PackedWrite;
-use capnp_pack::stream::{try_read_packed_segments, try_read_packed_segments_into};
+use capnp_pack::stream::{
+    try_read_packed_segments, try_read_packed_segments_into, try_read_packed_segments_into_lenient,
+    try_read_packed_segments_lenient, try_read_packed_segments_reusing_lenient,
+};
 
 #[test]
 fn a_part_of_a_word_is_not_written(rt: HostRuntime) {
@@ -53,5 +57,44 @@ fn a_message_into_a_lent_buffer(rt: HostRuntime) -> Result<()> {
     let mut source: &[u8] = &[];
     let none = try_read_packed_segments_into(&mut source, &mut buffer, DEFAULT_READER_OPTIONS)?;
     assert!(rt; none.is_none());
+    Ok(())
+}
+
+// Segments [] and [1, 2, 3, 4, 5, 6, 7, 8], a padding of nines, and a byte behind them.
+#[test]
+fn messages_of_any_padding(rt: HostRuntime) -> Result<()> {
+    let packed = [
+        1, 1, 0xf1, 1, 9, 9, 9, 9, 0xff, 1, 2, 3, 4, 5, 6, 7, 8, 0, 7,
+    ];
+    let wanted = Some([1, 2, 3, 4, 5, 6, 7, 8].as_slice());
+    let mut source: &[u8] = &packed;
+    let found = try_read_packed_segments_lenient(rt.alloc(), &mut source, DEFAULT_READER_OPTIONS)?;
+    assert!(rt; found.is_some_and(|held| held.get_segment(1) == wanted));
+    assert_eq!(rt; source, [7].as_slice());
+    let mut source: &[u8] = &packed;
+    let spare = OwnedSegments::empty(rt.alloc());
+    let found = try_read_packed_segments_reusing_lenient(
+        &mut source,
+        DEFAULT_READER_OPTIONS,
+        spare,
+    )?;
+    assert!(rt; found.is_some_and(|held| held.get_segment(1) == wanted));
+    assert_eq!(rt; source, [7].as_slice());
+    let mut buffer = [0; 24];
+    let mut source: &[u8] = &packed;
+    let found = try_read_packed_segments_into_lenient(
+        &mut source,
+        &mut buffer,
+        DEFAULT_READER_OPTIONS,
+    )?;
+    assert!(rt; found.is_some_and(|held| held.get_segment(1) == wanted));
+    assert_eq!(rt; source, [7].as_slice());
+    let mut source: &[u8] = &packed;
+    let refused = try_read_packed_segments(rt.alloc(), &mut source, DEFAULT_READER_OPTIONS);
+    assert_eq!(rt;
+        refused.err().map(|error| error.kind),
+        Some(ErrorKind::NonZeroPadding)
+    );
+    assert_eq!(rt; source, &packed[8..]);
     Ok(())
 }

@@ -4,12 +4,19 @@ use capnp::{Result, Way, data, serialize, serialize_packed, text, transcode};
 use capnp_calls::refusals::refusal;
 use std::test::Fail;
 
-// Segments [] and [1, 2, 3, 4, 5, 6, 7, 8], framed with some padding, and packed.
+// Segments [] and [1, 2, 3, 4, 5, 6, 7, 8], framed, and packed.
 const FRAMED: [u8; 24] = [
-    1, 0, 0, 0, 0, 0, 0, 0, 1, 0, 0, 0, 9, 9, 9, 9, 1, 2, 3, 4, 5, 6, 7, 8,
+    1, 0, 0, 0, 0, 0, 0, 0, 1, 0, 0, 0, 0, 0, 0, 0, 1, 2, 3, 4, 5, 6, 7, 8,
 ];
 
 const PACKED: [u8; 14] = [1, 1, 1, 1, 255, 1, 2, 3, 4, 5, 6, 7, 8, 0];
+
+// The same, and a padding of nines.
+const PADDED: [u8; 24] = [
+    1, 0, 0, 0, 0, 0, 0, 0, 1, 0, 0, 0, 9, 9, 9, 9, 1, 2, 3, 4, 5, 6, 7, 8,
+];
+
+const PACKED_PADDED: [u8; 18] = [1, 1, 0xf1, 1, 9, 9, 9, 9, 255, 1, 2, 3, 4, 5, 6, 7, 8, 0];
 
 // A message of three words whose root is the text "Hello, World!".
 pub const HELLO: [u8; 32] = [
@@ -80,6 +87,54 @@ fn a_message_and_then_the_end_lent(rt: HostRuntime) -> std::result::Result<(), F
 }
 
 #[test]
+fn a_message_of_any_padding(rt: HostRuntime) -> std::result::Result<(), Fail> {
+    let options = DEFAULT_READER_OPTIONS;
+    let mut source = PADDED.as_slice();
+    let reader = serialize::read_message_lenient(rt.alloc(), &mut source, options)?;
+    assert!(rt; holds_both(&reader));
+    let end = serialize::try_read_message_lenient(rt.alloc(), &mut source, options)?;
+    assert!(rt; end.is_none());
+    let end = serialize::read_message_lenient(rt.alloc(), &mut source, options);
+    assert_eq!(rt; refusal(end), 9);
+    let mut source = PACKED_PADDED.as_slice();
+    let reader = serialize_packed::read_message_lenient(rt.alloc(), &mut source, options)?;
+    assert!(rt; holds_both(&reader));
+    let end = serialize_packed::try_read_message_lenient(rt.alloc(), &mut source, options)?;
+    assert!(rt; end.is_none());
+    let mut source = PADDED.as_slice();
+    let refused = serialize::read_message(rt.alloc(), &mut source, options);
+    assert_eq!(rt; refusal(refused), 26);
+    let mut source = PACKED_PADDED.as_slice();
+    let refused = serialize_packed::read_message(rt.alloc(), &mut source, options);
+    assert_eq!(rt; refusal(refused), 26);
+    Ok(())
+}
+
+// In a caller-provided buffer, and in a slice.
+#[test]
+fn a_message_of_any_padding_in_place(rt: HostRuntime) -> std::result::Result<(), Fail> {
+    let options = DEFAULT_READER_OPTIONS;
+    let mut room = [0; 24];
+    let mut source = PADDED.as_slice();
+    let read = serialize::read_message_no_alloc_lenient(&mut source, &mut room, options)?;
+    assert!(rt; holds_both(&read));
+    let end = serialize::try_read_message_no_alloc_lenient(&mut source, &mut room, options)?;
+    assert!(rt; end.is_none());
+    let mut source = PACKED_PADDED.as_slice();
+    let read = serialize_packed::read_message_no_alloc_lenient(&mut source, &mut room, options)?;
+    assert!(rt; holds_both(&read));
+    let end = serialize_packed::try_read_message_no_alloc_lenient(&mut source, &mut room, options)?;
+    assert!(rt; end.is_none());
+    let mut slice = PADDED.as_slice();
+    let read = serialize::read_message_from_flat_slice_lenient(rt.alloc(), &mut slice, options)?;
+    assert!(rt; slice.is_empty() && holds_both(&read));
+    let mut slice = PADDED.as_slice();
+    let read = serialize::read_message_from_flat_slice_no_alloc_lenient(&mut slice, options)?;
+    assert!(rt; slice.is_empty() && holds_both(&read));
+    Ok(())
+}
+
+#[test]
 fn both_ways(rt: HostRuntime) -> std::result::Result<(), Fail> {
     let mut packed: Vec<u8> = Vec::new(rt.alloc());
     let mut source = FRAMED.as_slice();
@@ -100,10 +155,7 @@ fn both_ways(rt: HostRuntime) -> std::result::Result<(), Fail> {
         &mut framed,
         DEFAULT_READER_OPTIONS,
     )?;
-    assert_eq!(rt; framed.len(), 24);
-    assert_eq!(rt; &framed[..12], &FRAMED[..12]);
-    assert_eq!(rt; &framed[12..16], [0; 4].as_slice());
-    assert_eq!(rt; &framed[16..], &FRAMED[16..]);
+    assert_eq!(rt; framed.as_slice(), FRAMED.as_slice());
     Ok(())
 }
 
@@ -126,6 +178,30 @@ fn transcoded_up_to_a_refusal(rt: HostRuntime) -> std::result::Result<(), Fail> 
     assert_eq!(rt; packed.len(), 28);
     assert_eq!(rt; &packed[..14], PACKED.as_slice());
     assert_eq!(rt; &packed[14..], PACKED.as_slice());
+    Ok(())
+}
+
+// A padding that isn't zero is refused by both ways, and nothing is written.
+#[test]
+fn not_transcoded(rt: HostRuntime) -> std::result::Result<(), Fail> {
+    let rows: [(Way, &[u8], usize); 2] = [
+        (Way::Pack, &PADDED, 8),
+        (Way::Unpack, &PACKED_PADDED, 10),
+    ];
+    for (way, text, unread) in rows {
+        let mut source = text;
+        let mut sink: Vec<u8> = Vec::new(rt.alloc());
+        let stopped = transcode(
+            rt.alloc(),
+            way,
+            &mut source,
+            &mut sink,
+            DEFAULT_READER_OPTIONS,
+        );
+        assert_eq!(rt; refusal(stopped), 26, "{way:?}");
+        assert_eq!(rt; source.len(), unread, "{way:?}");
+        assert!(rt; sink.is_empty(), "{way:?}");
+    }
     Ok(())
 }
 

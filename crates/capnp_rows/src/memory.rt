@@ -7,7 +7,9 @@ use crate::growths::lacks_memory;
 use crate::retried;
 use capnp_frame::io::Write;
 use capnp_frame::message::{DEFAULT_READER_OPTIONS, ReaderOptions};
-use capnp_frame::serialize::{SegmentLengthsBuilder, try_read_segments};
+use capnp_frame::serialize::{
+    Padding, SegmentLengthsBuilder, try_read_segments, try_read_segments_lenient,
+};
 use capnp_frame::{ErrorKind, Result};
 use std::process::Abort;
 
@@ -123,20 +125,35 @@ fn make_segments(rt: &(impl Abort + AllocGlobal)) -> Result<()> {
 
 // Segments [] and [1, 2, 3, 4, 5, 6, 7, 8].
 const MESSAGE: [u8; 24] = [
+    1, 0, 0, 0, 0, 0, 0, 0, 1, 0, 0, 0, 0, 0, 0, 0, 1, 2, 3, 4, 5, 6, 7, 8,
+];
+
+// The same, and a padding of nines.
+const PADDED: [u8; 24] = [
     1, 0, 0, 0, 0, 0, 0, 0, 1, 0, 0, 0, 9, 9, 9, 9, 1, 2, 3, 4, 5, 6, 7, 8,
 ];
 
 #[test]
 fn a_message_without_memory(rt: HostRuntime) -> Result<()> {
-    retried!(read_message(&rt))
+    retried!(read_message(&rt, &MESSAGE, Padding::Zero))?;
+    retried!(read_message(&rt, &MESSAGE, Padding::Any))?;
+    retried!(read_message(&rt, &PADDED, Padding::Any))
 }
 
 // Memory is asked for behind the first word, for the lengths, and behind the table, for the segments.
-fn read_message(rt: &(impl Abort + AllocGlobal)) -> Result<()> {
-    let mut source = MESSAGE.as_slice();
-    match try_read_segments(rt.alloc(), &mut source, DEFAULT_READER_OPTIONS) {
+fn read_message(
+    rt: &(impl Abort + AllocGlobal),
+    message: &[u8; 24],
+    padding: Padding,
+) -> Result<()> {
+    let mut source = message.as_slice();
+    let answer = match padding {
+        Padding::Zero => try_read_segments(rt.alloc(), &mut source, DEFAULT_READER_OPTIONS),
+        Padding::Any => try_read_segments_lenient(rt.alloc(), &mut source, DEFAULT_READER_OPTIONS),
+    };
+    match answer {
         Ok(Some(segments)) => {
-            assert_eq!(rt; segments.as_bytes(), &MESSAGE[16..]);
+            assert_eq!(rt; segments.as_bytes(), &message[16..]);
             assert!(rt; source.is_empty());
         }
         Ok(None) => panic!(rt; "no message"),
@@ -165,6 +182,24 @@ fn read_past_the_limit(rt: &(impl Abort + AllocGlobal)) -> Result<()> {
         return answer.map(|_| ());
     }
     assert!(rt; answer.is_err_and(|error| error.kind == ErrorKind::MessageTooLarge(1)));
+    assert_eq!(rt; source.len(), 8);
+    Ok(())
+}
+
+// A padding that isn't zero: the segments aren't asked for.
+#[test]
+fn a_message_of_another_padding(rt: HostRuntime) -> Result<()> {
+    retried!(read_another_padding(&rt))
+}
+
+fn read_another_padding(rt: &(impl Abort + AllocGlobal)) -> Result<()> {
+    let mut source = PADDED.as_slice();
+    let answer = try_read_segments(rt.alloc(), &mut source, DEFAULT_READER_OPTIONS);
+    if lacks_memory(&answer) {
+        assert_eq!(rt; source.len(), 16);
+        return answer.map(|_| ());
+    }
+    assert!(rt; answer.is_err_and(|error| error.kind == ErrorKind::NonZeroPadding));
     assert_eq!(rt; source.len(), 8);
     Ok(())
 }

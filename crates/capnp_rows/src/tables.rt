@@ -69,6 +69,20 @@ fn segments_by_a_known_table(rt: HostRuntime) {
     assert_eq!(rt; found.len(), 1);
 }
 
+// The numbers of a table are known whatever its padding is.
+#[test]
+fn a_table_of_any_padding(rt: HostRuntime) {
+    let bytes = [
+        1, 0, 0, 0, 0, 0, 0, 0, 1, 0, 0, 0, 9, 9, 9, 9, 1, 2, 3, 4, 5, 6, 7, 8,
+    ]
+    .as_slice();
+    let info = info_of(2, 16, 8);
+    assert!(rt; describes(&bytes, &info));
+    let found = NoAllocBufferSegments::from_segment_table_info(bytes, info);
+    assert!(rt; has_segments(&found, &[&[], &[1, 2, 3, 4, 5, 6, 7, 8]]));
+    assert!(rt; !describes(&bytes, &info_of(2, 16, 16)));
+}
+
 #[test]
 fn segments_of_known_lengths(rt: HostRuntime) -> Result<()> {
     retried!(cut_by_lengths(&rt))

@@ -4,7 +4,7 @@ use capnp_frame::{Error, ErrorKind, Result};
 use std::process::Abort;
 
 #[rattlefmt::skip]
-const TEXTS: [(u8, ErrorKind, &[u8]); 25] = [
+const TEXTS: [(u8, ErrorKind, &[u8]); 26] = [
     (1, ErrorKind::FailedToFillTheWholeBuffer, b"FailedToFillTheWholeBuffer"),
     (2, ErrorKind::BufferNotLargeEnough, b"BufferNotLargeEnough"),
     (3, ErrorKind::EmptyBuffer, b"EmptyBuffer"),
@@ -34,6 +34,7 @@ const TEXTS: [(u8, ErrorKind, &[u8]); 25] = [
     (23, ErrorKind::TextNotTerminated, b"TextNotTerminated"),
     (24, ErrorKind::CanonicalTooLarge, b"CanonicalTooLarge"),
     (25, ErrorKind::NotOneSegment, b"NotOneSegment"),
+    (26, ErrorKind::NonZeroPadding, b"NonZeroPadding"),
 ];
 
 #[test]

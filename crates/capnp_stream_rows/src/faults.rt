@@ -1,9 +1,10 @@
 //! Sources that fail at their nth call.
+use crate::flat::RULES;
 use crate::samples::{SAMPLES, Sample};
-use crate::streams::{Format, READERS, Reader, Wanted, is_answered};
+use crate::streams::{Call, Format, READERS, Wanted, is_answered};
 use capnp_frame::io::Read;
 use capnp_frame::message::DEFAULT_READER_OPTIONS;
-use capnp_frame::serialize::try_read_segments;
+use capnp_frame::serialize::{Padding, try_read_segments};
 use capnp_frame::{ErrorKind, Result};
 use capnp_pack::PackedRead;
 use capnp_rows::limits::DEFAULT_LIMIT;
@@ -31,7 +32,7 @@ fn a_failed_call_is_no_answer(rt: HostRuntime) -> Result<()> {
         for reader in READERS {
             for sample in SAMPLES {
                 for most in CUTS {
-                    let call = (format, reader);
+                    let call = (format, Padding::Zero, reader);
                     let ended = retried!(fail_each(&rt, call, &sample, most))?;
                     assert!(rt; ended, "{call:?}, {most} bytes");
                 }
@@ -41,10 +42,24 @@ fn a_failed_call_is_no_answer(rt: HostRuntime) -> Result<()> {
     Ok(())
 }
 
+#[test]
+fn a_failed_call_of_the_lenient_ones(rt: HostRuntime) -> Result<()> {
+    for format in FORMATS {
+        for reader in READERS {
+            for sample in SAMPLES {
+                let call = (format, Padding::Any, reader);
+                let ended = retried!(fail_each(&rt, call, &sample, 7))?;
+                assert!(rt; ended, "{call:?}");
+            }
+        }
+    }
+    Ok(())
+}
+
 // Whether a run meets no fault, once each call before has failed in turn.
 fn fail_each(
     rt: &(impl Abort + AllocGlobal),
-    call: (Format, Reader),
+    call: Call,
     sample: &Sample,
     most: usize,
 ) -> Result<bool> {
@@ -59,7 +74,7 @@ fn fail_each(
 // Whether the run meets no fault. One that does answers neither a message nor the end.
 fn read_to(
     rt: &(impl Abort + AllocGlobal),
-    call: (Format, Reader),
+    call: Call,
     sample: &Sample,
     most: usize,
     fails_at: u64,
@@ -118,12 +133,15 @@ fn a_call_after_a_failed_first_one(rt: HostRuntime) -> Result<()> {
 
 fn read_again(rt: &(impl Abort + AllocGlobal)) -> Result<()> {
     for format in FORMATS {
-        for reader in READERS {
-            for sample in SAMPLES {
-                let wanted = Wanted::Segments(sample.segments);
-                fail_first(rt, (format, reader), text_of(&sample, format), wanted)?;
+        for rule in RULES {
+            for reader in READERS {
+                let call = (format, rule, reader);
+                for sample in SAMPLES {
+                    let wanted = Wanted::Segments(sample.segments);
+                    fail_first(rt, call, text_of(&sample, format), wanted)?;
+                }
+                fail_first(rt, call, &[], Wanted::End)?;
             }
-            fail_first(rt, (format, reader), &[], Wanted::End)?;
         }
     }
     Ok(())
@@ -131,7 +149,7 @@ fn read_again(rt: &(impl Abort + AllocGlobal)) -> Result<()> {
 
 fn fail_first(
     rt: &(impl Abort + AllocGlobal),
-    call: (Format, Reader),
+    call: Call,
     text: &[u8],
     wanted: Wanted<'_>,
 ) -> Result<()> {

@@ -1,12 +1,12 @@
 //! Messages in a slice, by each call that finds them there.
+use crate::flat_calls::{
+    hold, hold_without_memory, take, take_message, take_message_without_memory, take_without_memory,
+};
 use crate::flat_rows::{FLAT_ROWS, FlatAnswer, FlatRow};
 use crate::packed_rows::NO_WORDS;
 use capnp::message::Reader;
-use capnp::serialize::{read_message_from_flat_slice, read_message_from_flat_slice_no_alloc};
 use capnp_frame::message::{ReaderOptions, ReaderSegments};
-use capnp_frame::serialize::{
-    BufferSegments, NoAllocBufferSegments, NoAllocSliceSegments, take_segments,
-};
+use capnp_frame::serialize::Padding;
 use capnp_frame::{ErrorKind, Result};
 use capnp_rows::limits::{DEFAULT_LIMIT, NO_LIMIT};
 use capnp_rows::messages::has_segments;
@@ -36,6 +36,9 @@ pub const FORMS: [Form; 8] = [
     Form::Message,
     Form::MessageNoAlloc,
 ];
+
+/// Both rules of padding.
+pub const RULES: [Padding; 2] = [Padding::Zero, Padding::Any];
 
 impl Form {
     // Whether the form takes the table word by word.
@@ -82,10 +85,11 @@ fn segments_of<S: ReaderSegments + Drop>(answer: Result<Reader<S>>) -> Result<S>
     Ok(answer?.into_segments())
 }
 
-/// Whether the form answers what is wanted of these bytes, and how many of them it leaves.
+/// Whether the form, of this padding, answers what is wanted of these bytes, and how many of them it
+/// leaves.
 pub fn find(
     rt: &(impl Abort + AllocGlobal),
-    form: Form,
+    (form, rule): (Form, Padding),
     bytes: &[u8],
     options: ReaderOptions,
     wanted: Wanted<'_>,
@@ -93,29 +97,24 @@ pub fn find(
     let alloc = rt.alloc();
     let mut slice = bytes;
     let answered = match form {
-        Form::Take => is_wanted(take_segments(alloc, &mut slice, options), wanted)?,
-        Form::New => is_wanted(BufferSegments::new(alloc, bytes, options), wanted)?,
+        Form::Take => is_wanted(take(alloc, rule, &mut slice, options), wanted)?,
+        Form::New => is_wanted(hold(alloc, rule, bytes, options), wanted)?,
         Form::NewOfVector => {
             let vector = bytes.to_vec(alloc)?;
-            is_wanted(BufferSegments::new(alloc, vector, options), wanted)?
+            is_wanted(hold(alloc, rule, vector, options), wanted)?
         }
-        Form::FromSlice => {
-            is_wanted(
-                NoAllocSliceSegments::from_slice(&mut slice, options),
-                wanted,
-            )?
-        }
-        Form::FromBuffer => is_wanted(NoAllocBufferSegments::from_buffer(bytes, options), wanted)?,
+        Form::FromSlice => is_wanted(take_without_memory(rule, &mut slice, options), wanted)?,
+        Form::FromBuffer => is_wanted(hold_without_memory(rule, bytes, options), wanted)?,
         Form::FromVector => {
             let vector = bytes.to_vec(alloc)?;
-            is_wanted(NoAllocBufferSegments::from_buffer(vector, options), wanted)?
+            is_wanted(hold_without_memory(rule, vector, options), wanted)?
         }
         Form::Message => {
-            let read = read_message_from_flat_slice(alloc, &mut slice, options);
+            let read = take_message(alloc, rule, &mut slice, options);
             is_wanted(segments_of(read), wanted)?
         }
         Form::MessageNoAlloc => {
-            let read = read_message_from_flat_slice_no_alloc(&mut slice, options);
+            let read = take_message_without_memory(rule, &mut slice, options);
             is_wanted(segments_of(read), wanted)?
         }
     };
@@ -131,30 +130,36 @@ pub fn left_by(form: Form, whole: usize, behind: usize) -> usize {
     }
 }
 
+// No row has a padding that isn't zero, so both rules answer the same.
 #[test]
 fn rows_in_each_form(rt: HostRuntime) -> Result<()> {
-    for form in FORMS {
-        for row in FLAT_ROWS {
-            retried!(find_row(&rt, form, &row))?;
+    for rule in RULES {
+        for form in FORMS {
+            for row in FLAT_ROWS {
+                retried!(find_row(&rt, (form, rule), &row))?;
+            }
         }
     }
     Ok(())
 }
 
-fn find_row(rt: &(impl Abort + AllocGlobal), form: Form, row: &FlatRow) -> Result<()> {
+/// Looks for a row's message.
+pub fn find_row(
+    rt: &(impl Abort + AllocGlobal),
+    call: (Form, Padding),
+    row: &FlatRow,
+) -> Result<()> {
     let name = row.name;
+    let whole = row.bytes.len();
+    let (form, _) = call;
     let (wanted, behind) = match row.answer {
         FlatAnswer::Segments(segments, behind) => (Ok(segments), behind),
-        FlatAnswer::Refused(kind, _) if form.is_by_words() => (Err(kind), row.bytes.len()),
-        FlatAnswer::Refused(_, kind) => (Err(kind), row.bytes.len()),
+        FlatAnswer::Refused(kind, _) if form.is_by_words() => (Err(kind), whole),
+        FlatAnswer::Refused(_, kind) => (Err(kind), whole),
     };
-    let (answered, left) = find(rt, form, row.bytes, with_limit(row.limit), wanted)?;
-    assert!(rt; answered, "{name}, {form:?}");
-    assert_eq!(rt;
-        left,
-        left_by(form, row.bytes.len(), behind),
-        "{name}, {form:?}"
-    );
+    let (answered, left) = find(rt, call, row.bytes, with_limit(row.limit), wanted)?;
+    assert!(rt; answered, "{name}, {call:?}");
+    assert_eq!(rt; left, left_by(form, whole, behind), "{name}, {call:?}");
     Ok(())
 }
 
@@ -170,10 +175,13 @@ const TABLES: [(u8, u8, Option<usize>, ErrorKind); 3] = [
 // lengths that come to more words than the limit, or than are there.
 #[test]
 fn the_longest_tables(rt: HostRuntime) -> Result<()> {
-    for form in FORMS {
-        retried!(find_table(&rt, form, 254, 0, DEFAULT_LIMIT, Ok(&NO_WORDS)))?;
-        for (count, lengths, limit, kind) in TABLES {
-            retried!(find_table(&rt, form, count, lengths, limit, Err(kind)))?;
+    for rule in RULES {
+        for form in FORMS {
+            let call = (form, rule);
+            retried!(find_table(&rt, call, 254, 0, DEFAULT_LIMIT, Ok(&NO_WORDS)))?;
+            for (count, lengths, limit, kind) in TABLES {
+                retried!(find_table(&rt, call, count, lengths, limit, Err(kind)))?;
+            }
         }
     }
     Ok(())
@@ -181,7 +189,7 @@ fn the_longest_tables(rt: HostRuntime) -> Result<()> {
 
 fn find_table(
     rt: &(impl Abort + AllocGlobal),
-    form: Form,
+    call: (Form, Padding),
     count: u8,
     lengths: u8,
     limit: Option<usize>,
@@ -193,15 +201,15 @@ fn find_table(
     bytes[2] = 0;
     bytes[3] = 0;
     let wanted_left = match wanted {
-        Ok(_) => left_by(form, 2051, 3),
+        Ok(_) => left_by(call.0, 2051, 3),
         Err(_) => 2051,
     };
-    let (answered, left) = find(rt, form, &bytes, with_limit(limit), wanted)?;
-    assert!(rt; answered, "{form:?}, count {count}, lengths {lengths}");
+    let (answered, left) = find(rt, call, &bytes, with_limit(limit), wanted)?;
+    assert!(rt; answered, "{call:?}, count {count}, lengths {lengths}");
     assert_eq!(rt;
         left,
         wanted_left,
-        "{form:?}, count {count}, lengths {lengths}"
+        "{call:?}, count {count}, lengths {lengths}"
     );
     Ok(())
 }

@@ -21,7 +21,8 @@ pub struct FlatRow {
     pub answer: FlatAnswer,
 }
 
-const CUT: ErrorKind = ErrorKind::FailedToFillTheWholeBuffer;
+/// A piece of which not all bytes are there.
+pub const CUT: ErrorKind = ErrorKind::FailedToFillTheWholeBuffer;
 
 const HELLO: &[u8] = &[
     0, 0, 0, 0, 3, 0, 0, 0, 1, 0, 0, 0, 0x72, 0, 0, 0, 0x48, 0x65, 0x6c, 0x6c, 0x6f, 0x2c, 0x20,
@@ -46,7 +47,7 @@ const LENGTHS_TABLE: &[u8] = &[
 const NO_PADDING: &[u8] = &[1, 0, 0, 0, 2, 0, 0, 0, 3, 0, 0, 0];
 
 #[rattlefmt::skip]
-pub const FLAT_ROWS: [FlatRow; 18] = [
+pub const FLAT_ROWS: [FlatRow; 17] = [
     FlatRow {
         name: "short-front",
         bytes: &[0, 0, 0, 0],
@@ -88,12 +89,6 @@ pub const FLAT_ROWS: [FlatRow; 18] = [
         bytes: &[255, 1, 0, 0],
         limit: DEFAULT_LIMIT,
         answer: FlatAnswer::Refused(CUT, ErrorKind::InvalidNumberOfSegments(512)),
-    },
-    FlatRow {
-        name: "two-segments",
-        bytes: &[1, 0, 0, 0, 0, 0, 0, 0, 1, 0, 0, 0, 9, 9, 9, 9, 1, 2, 3, 4, 5, 6, 7, 8],
-        limit: DEFAULT_LIMIT,
-        answer: FlatAnswer::Segments(&[&[], &[1, 2, 3, 4, 5, 6, 7, 8]], 0),
     },
     FlatRow {
         name: "flatten",

@@ -3,7 +3,8 @@ use crate::streams::{END, Stream, Wanted};
 use capnp_frame::ErrorKind;
 use capnp_rows::limits::{DEFAULT_LIMIT, NO_LIMIT};
 
-const CUT: Wanted<'static> = Wanted::Refused(ErrorKind::FailedToFillTheWholeBuffer);
+/// A piece of which not all bytes are there.
+pub const CUT: Wanted<'static> = Wanted::Refused(ErrorKind::FailedToFillTheWholeBuffer);
 
 // A message of three words: the text "Hello, World!".
 const HELLO: &[u8] = &[
@@ -39,7 +40,7 @@ pub const HELLO_FAR_SEGMENTS: &[&[u8]] = &[
 ];
 
 #[rattlefmt::skip]
-pub const FRAMED: [Stream; 21] = [
+pub const FRAMED: [Stream; 20] = [
     Stream { name: "nothing", bytes: &[], limit: DEFAULT_LIMIT, answers: &[END, END] },
     Stream {
         name: "short-front",
@@ -70,12 +71,6 @@ pub const FRAMED: [Stream; 21] = [
         bytes: &[255, 1, 0, 0, 0, 0, 0, 0, 1, 2, 3, 4, 5],
         limit: DEFAULT_LIMIT,
         answers: &[(Wanted::Refused(ErrorKind::InvalidNumberOfSegments(512)), Some(5))],
-    },
-    Stream {
-        name: "two-segments",
-        bytes: &[1, 0, 0, 0, 0, 0, 0, 0, 1, 0, 0, 0, 9, 9, 9, 9, 1, 2, 3, 4, 5, 6, 7, 8],
-        limit: DEFAULT_LIMIT,
-        answers: &[(Wanted::Segments(&[&[], &[1, 2, 3, 4, 5, 6, 7, 8]]), Some(0))],
     },
     Stream {
         name: "flatten",

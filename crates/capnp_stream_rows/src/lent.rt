@@ -1,27 +1,29 @@
-//! Messages that are read into lent buffers of each length.
+//! Messages that are read into caller-provided buffers of each length.
+use crate::flat::RULES;
+use crate::framed_rows::CUT;
 use crate::packed_rows::NO_WORDS;
-use crate::streams::{Format, READERS, Reader, Wanted, is_answered};
+use crate::streams::{Call, Format, READERS, Reader, Wanted, is_answered};
+use capnp_frame::serialize::Padding;
 use capnp_frame::{ErrorKind, Result};
 use capnp_rows::limits::{DEFAULT_LIMIT, NO_LIMIT};
 use capnp_rows::retried;
 use capnp_rows::sources::Trickle;
 use std::process::Abort;
 
-const TOO_SMALL: Wanted<'static> = Wanted::Refused(ErrorKind::BufferNotLargeEnough);
+/// A caller-provided buffer without room.
+pub const TOO_SMALL: Wanted<'static> = Wanted::Refused(ErrorKind::BufferNotLargeEnough);
 
-const CUT: Wanted<'static> = Wanted::Refused(ErrorKind::FailedToFillTheWholeBuffer);
-
-// A buffer's length, the bytes that are unread, a limit, the answer, and how many bytes stay unread.
-type Row = (usize, &'static [u8], Option<usize>, Wanted<'static>, usize);
+/// A buffer's length, the bytes that are unread, a limit, the answer, and how many bytes stay unread.
+pub type Row = (usize, &'static [u8], Option<usize>, Wanted<'static>, usize);
 
 const TWO_SEGMENTS: &[u8] = &[
-    1, 0, 0, 0, 0, 0, 0, 0, 1, 0, 0, 0, 9, 9, 9, 9, 1, 2, 3, 4, 5, 6, 7, 8,
+    1, 0, 0, 0, 0, 0, 0, 0, 1, 0, 0, 0, 0, 0, 0, 0, 1, 2, 3, 4, 5, 6, 7, 8,
 ];
 
 const TWO: Wanted<'static> = Wanted::Segments(&[&[], &[1, 2, 3, 4, 5, 6, 7, 8]]);
 
 // The order of refusals: a buffer under a word, then the end, a cut word, the count, the table's
-// room, the cut table, the limit, the room of all.
+// room, the cut table, the limit, and behind a padding, the room of all.
 #[rattlefmt::skip]
 const FRAMED: [Row; 18] = [
     (0, TWO_SEGMENTS, NO_LIMIT, TOO_SMALL, 24),
@@ -41,7 +43,7 @@ const FRAMED: [Row; 18] = [
     (8, &[0, 0, 0, 0, 3, 0, 0, 0], Some(2), Wanted::Refused(ErrorKind::MessageTooLarge(3)), 0),
     (31, &[0, 0, 0, 0, 3, 0, 0, 0], Some(3), TOO_SMALL, 0),
     (8, &[0, 0, 0, 0, 0, 0, 0, 0, 5], Some(0), Wanted::Segments(&[&[]]), 1),
-    (16, &[1, 0, 0, 0, 0, 0, 0, 0, 0, 0, 0, 0, 7, 7, 7, 7], Some(0), Wanted::Segments(&[&[], &[]]), 0),
+    (16, &[1, 0, 0, 0, 0, 0, 0, 0, 0, 0, 0, 0, 0, 0, 0, 0], Some(0), Wanted::Segments(&[&[], &[]]), 0),
 ];
 
 const FIVE: &[u8] = &[0x11, 4, 1, 0, 1, 0, 0];
@@ -64,11 +66,14 @@ const PACKED: [Row; 12] = [
 
 #[test]
 fn buffers_of_each_length(rt: HostRuntime) -> Result<()> {
-    read_into_each(&rt, Format::Framed, &FRAMED)?;
-    read_into_each(&rt, Format::Packed, &PACKED)
+    for rule in RULES {
+        read_into_each(&rt, (Format::Framed, rule), &FRAMED)?;
+        read_into_each(&rt, (Format::Packed, rule), &PACKED)?;
+    }
+    Ok(())
 }
 
-// The calls that read into a lent buffer.
+// The calls that read into a caller-provided buffer.
 fn lending(room: usize) -> [Reader; 3] {
     [
         Reader::Lending(room),
@@ -77,12 +82,17 @@ fn lending(room: usize) -> [Reader; 3] {
     ]
 }
 
-fn read_into_each(rt: &(impl Abort + AllocGlobal), format: Format, rows: &[Row]) -> Result<()> {
+/// Reads into a buffer of each row's length.
+pub fn read_into_each(
+    rt: &(impl Abort + AllocGlobal),
+    (format, rule): (Format, Padding),
+    rows: &[Row],
+) -> Result<()> {
     for most in 1..=24 {
         for (room, bytes, limit, wanted, unread) in rows {
             for reader in lending(*room) {
                 let mut source = Trickle::new(*bytes, most);
-                let call = (format, reader);
+                let call = (format, rule, reader);
                 let answered = is_answered(rt.alloc(), call, &mut source, *limit, *wanted)?;
                 assert!(rt; answered, "{bytes:?}, {call:?}, {most} bytes");
                 assert_eq!(rt;
@@ -160,12 +170,13 @@ fn the_longest_tables(rt: HostRuntime) -> Result<()> {
     for most in 1..=17 {
         for table in TABLES {
             for reader in READERS {
-                retried!(read_table(&rt, reader, &table, most))?;
+                let call = (Format::Framed, Padding::Zero, reader);
+                retried!(read_table(&rt, call, &table, most))?;
             }
         }
         for (room, table) in LENT_TABLES {
             for reader in lending(room) {
-                read_table(&rt, reader, &table, most)?;
+                read_table(&rt, (Format::Framed, Padding::Zero, reader), &table, most)?;
             }
         }
     }
@@ -174,7 +185,7 @@ fn the_longest_tables(rt: HostRuntime) -> Result<()> {
 
 fn read_table(
     rt: &(impl Abort + AllocGlobal),
-    reader: Reader,
+    call: Call,
     table: &Table,
     most: usize,
 ) -> Result<()> {
@@ -184,13 +195,8 @@ fn read_table(
     bytes[2] = 0;
     bytes[3] = 0;
     let mut source = Trickle::new(&bytes, if most > 16 { 2051 } else { most });
-    let call = (Format::Framed, reader);
     let answered = is_answered(rt.alloc(), call, &mut source, table.limit, table.wanted)?;
-    assert!(rt; answered, "{reader:?}, {most} bytes");
-    assert_eq!(rt;
-        source.bytes.len(),
-        table.unread,
-        "{reader:?}, {most} bytes"
-    );
+    assert!(rt; answered, "{call:?}, {most} bytes");
+    assert_eq!(rt; source.bytes.len(), table.unread, "{call:?}, {most} bytes");
     Ok(())
 }

@@ -3,11 +3,19 @@
 #![tactic(auto)]
 
 #[cfg(test)]
+mod each_message;
+#[cfg(test)]
 mod faults;
 #[cfg(test)]
 mod flat;
 #[cfg(test)]
+mod flat_calls;
+#[cfg(test)]
+mod flat_paddings;
+#[cfg(test)]
 mod flat_rows;
+#[cfg(test)]
+mod framed;
 #[cfg(test)]
 mod framed_rows;
 #[cfg(test)]
@@ -15,7 +23,13 @@ mod lent;
 #[cfg(test)]
 mod lent_roots;
 #[cfg(test)]
+mod packed;
+#[cfg(test)]
 mod packed_rows;
+#[cfg(test)]
+mod padding;
+#[cfg(test)]
+mod padding_rows;
 #[cfg(test)]
 mod prefixes;
 #[cfg(test)]

@@ -1,8 +1,9 @@
 //! Messages that are cut: no prefix of a text is a message, and each is refused by one kind.
-use crate::flat::{FORMS, Form, find};
+use crate::flat::{FORMS, Form, RULES, find};
 use crate::samples::{SAMPLES, Sample};
 use crate::streams::{Format, READERS, Reader, Wanted, is_answered};
 use capnp_frame::message::ReaderOptions;
+use capnp_frame::serialize::Padding;
 use capnp_frame::{ErrorKind, Result};
 use capnp_rows::limits::DEFAULT_LIMIT;
 use capnp_rows::retried;
@@ -14,8 +15,18 @@ fn prefixes_of_streams(rt: HostRuntime) -> Result<()> {
     for most in 1..=16 {
         for reader in READERS {
             for sample in SAMPLES {
-                retried!(read_prefixes(&rt, reader, &sample, most))?;
+                retried!(read_prefixes(&rt, (Padding::Zero, reader), &sample, most))?;
             }
+        }
+    }
+    Ok(())
+}
+
+#[test]
+fn prefixes_by_the_lenient_calls(rt: HostRuntime) -> Result<()> {
+    for reader in READERS {
+        for sample in SAMPLES {
+            retried!(read_prefixes(&rt, (Padding::Any, reader), &sample, 3))?;
         }
     }
     Ok(())
@@ -25,7 +36,7 @@ fn prefixes_of_streams(rt: HostRuntime) -> Result<()> {
 // a part of a group.
 fn read_prefixes(
     rt: &(impl Abort + AllocGlobal),
-    reader: Reader,
+    (rule, reader): (Padding, Reader),
     sample: &Sample,
     most: usize,
 ) -> Result<()> {
@@ -36,7 +47,7 @@ fn read_prefixes(
             _ => Wanted::Refused(ErrorKind::FailedToFillTheWholeBuffer),
         };
         let mut source = Trickle::new(&sample.framed[..length], most);
-        let call = (Format::Framed, reader);
+        let call = (Format::Framed, rule, reader);
         let answered = is_answered(rt.alloc(), call, &mut source, DEFAULT_LIMIT, wanted)?;
         assert!(rt;
             answered,
@@ -53,7 +64,7 @@ fn read_prefixes(
             _ => Wanted::Refused(ErrorKind::PrematureEndOfPackedInput),
         };
         let mut source = Trickle::new(&sample.packed[..length], most);
-        let call = (Format::Packed, reader);
+        let call = (Format::Packed, rule, reader);
         let answered = is_answered(rt.alloc(), call, &mut source, DEFAULT_LIMIT, wanted)?;
         assert!(rt;
             answered,
@@ -65,28 +76,34 @@ fn read_prefixes(
 
 #[test]
 fn prefixes_of_slices(rt: HostRuntime) -> Result<()> {
-    for form in FORMS {
-        for sample in SAMPLES {
-            retried!(find_prefixes(&rt, form, &sample))?;
+    for rule in RULES {
+        for form in FORMS {
+            for sample in SAMPLES {
+                retried!(find_prefixes(&rt, (form, rule), &sample))?;
+            }
         }
     }
     Ok(())
 }
 
 // A slice is left as it was. Behind the table the kind tells how many words are there.
-fn find_prefixes(rt: &(impl Abort + AllocGlobal), form: Form, sample: &Sample) -> Result<()> {
+fn find_prefixes(
+    rt: &(impl Abort + AllocGlobal),
+    call: (Form, Padding),
+    sample: &Sample,
+) -> Result<()> {
     let name = sample.name;
     for length in 0..sample.framed.len() {
         let kind = if length >= sample.table {
             let there = (length - sample.table) / 8;
             ErrorKind::MessageEndsPrematurely(sample.words, there)
         } else {
-            form.refusal_of_a_cut_table(length)
+            call.0.refusal_of_a_cut_table(length)
         };
         let front = &sample.framed[..length];
-        let (answered, left) = find(rt, form, front, ReaderOptions::new(), Err(kind))?;
-        assert!(rt; answered, "{name}, {length} bytes, {form:?}");
-        assert_eq!(rt; left, length, "{name}, {form:?}");
+        let (answered, left) = find(rt, call, front, ReaderOptions::new(), Err(kind))?;
+        assert!(rt; answered, "{name}, {length} bytes, {call:?}");
+        assert_eq!(rt; left, length, "{name}, {call:?}");
     }
     Ok(())
 }

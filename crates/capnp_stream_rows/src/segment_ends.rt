@@ -1,9 +1,9 @@
 //! As many segments as a reader accepts, of 0, 1 and 2 words in turn: each is where it begins.
-use crate::flat::{FORMS, Form, find, left_by};
-use crate::streams::{Format, Reader, Wanted, is_answered};
+use crate::flat::{FORMS, Form, RULES, find, left_by};
+use crate::streams::{Call, Format, Reader, Wanted, is_answered};
 use capnp_frame::Result;
 use capnp_frame::message::ReaderOptions;
-use capnp_frame::serialize::{NoAllocBufferSegments, NoAllocSegmentTableInfo, describes};
+use capnp_frame::serialize::{NoAllocBufferSegments, NoAllocSegmentTableInfo, Padding, describes};
 use capnp_rows::limits::DEFAULT_LIMIT;
 use capnp_rows::messages::has_segments;
 use capnp_rows::retried;
@@ -47,8 +47,10 @@ fn segments_of<'a>(rt: &impl Abort, text: &'a [u8; 6128]) -> [&'a [u8]; 511] {
 fn segments_in_a_slice(rt: HostRuntime) -> Result<()> {
     let text = text();
     let segments = segments_of(&rt, &text);
-    for form in FORMS {
-        retried!(find_all(&rt, form, &text, &segments))?;
+    for rule in RULES {
+        for form in FORMS {
+            retried!(find_all(&rt, (form, rule), &text, &segments))?;
+        }
     }
     let info = NoAllocSegmentTableInfo {
         segments_count: 511,
@@ -64,13 +66,13 @@ fn segments_in_a_slice(rt: HostRuntime) -> Result<()> {
 
 fn find_all(
     rt: &(impl Abort + AllocGlobal),
-    form: Form,
+    call: (Form, Padding),
     text: &[u8],
     segments: &[&[u8]],
 ) -> Result<()> {
-    let (answered, left) = find(rt, form, text, ReaderOptions::new(), Ok(segments))?;
-    assert!(rt; answered, "{form:?}");
-    assert_eq!(rt; left, left_by(form, text.len(), 0), "{form:?}");
+    let (answered, left) = find(rt, call, text, ReaderOptions::new(), Ok(segments))?;
+    assert!(rt; answered, "{call:?}");
+    assert_eq!(rt; left, left_by(call.0, text.len(), 0), "{call:?}");
     Ok(())
 }
 
@@ -100,13 +102,25 @@ fn read_all(
     most: usize,
 ) -> Result<()> {
     let packed = packed_text(rt.alloc(), text)?;
-    read_text(rt, (Format::Framed, reader), text, segments, most)?;
-    read_text(rt, (Format::Packed, reader), &packed, segments, most)
+    read_text(
+        rt,
+        (Format::Framed, Padding::Zero, reader),
+        text,
+        segments,
+        most,
+    )?;
+    read_text(
+        rt,
+        (Format::Packed, Padding::Zero, reader),
+        &packed,
+        segments,
+        most,
+    )
 }
 
 fn read_text(
     rt: &(impl Abort + AllocGlobal),
-    call: (Format, Reader),
+    call: Call,
     text: &[u8],
     segments: &[&[u8]],
     most: usize,

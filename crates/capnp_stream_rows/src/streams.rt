@@ -1,15 +1,12 @@
 //! Messages behind one another, by each call that reads the next one of a stream.
 use crate::framed_rows::FRAMED;
 use crate::packed_rows::PACKED;
-use capnp::{message, serialize, serialize_packed};
+use crate::{framed, packed};
+use capnp::message;
 use capnp_frame::io::{BufRead, Read};
 use capnp_frame::message::{ReaderOptions, ReaderSegments};
-use capnp_frame::serialize::{
-    OwnedSegments, try_read_segments, try_read_segments_into, try_read_segments_reusing,
-};
+use capnp_frame::serialize::Padding;
 use capnp_frame::{ErrorKind, Result};
-use capnp_pack::PackedRead;
-use capnp_pack::stream::{try_read_packed_segments, try_read_packed_segments_reusing};
 use capnp_rows::messages::has_segments;
 use capnp_rows::retried;
 use capnp_rows::sources::Trickle;
@@ -53,19 +50,20 @@ pub enum Reader {
     Copying,
     /// Into the memory of a message before, here of none.
     Reusing,
-    /// Into a lent buffer of so many bytes, at most 8,192.
+    /// Into a caller-provided buffer of so many bytes, at most 8,192.
     Lending(usize),
     /// As a message, into memory that grows.
     Message,
-    /// As a message, into a lent buffer of so many bytes, at most 8,192.
+    /// As a message, into a caller-provided buffer of so many bytes, at most 8,192.
     LentMessage(usize),
     /// As a message that has to be there, into memory that grows.
     Needed,
-    /// As a message that has to be there, into a lent buffer of so many bytes, at most 8,192.
+    /// As a message that has to be there, into a caller-provided buffer of so many bytes, at most
+    /// 8,192.
     LentNeeded(usize),
 }
 
-/// Each call, the lent buffer being larger than each message of a row.
+/// Each call, the caller-provided buffer being larger than each message of a row.
 pub const READERS: [Reader; 7] = [
     Reader::Copying,
     Reader::Reusing,
@@ -82,58 +80,66 @@ fn with_limit(limit: Option<usize>) -> ReaderOptions {
     options
 }
 
+/// A call: the format that it reads, of which padding, and how.
+pub type Call = (Format, Padding, Reader);
+
 /// Whether the call answers what is wanted. An answer for want of memory is handed back.
 pub fn is_answered<R: BufRead>(
     alloc: Global,
-    (format, reader): (Format, Reader),
+    (format, padding, reader): Call,
     source: &mut R,
     limit: Option<usize>,
     wanted: Wanted<'_>,
 ) -> Result<bool> {
     match format {
-        Format::Framed => is_read(alloc, reader, source, limit, wanted),
-        Format::Packed => is_unpacked(alloc, reader, source, limit, wanted),
+        Format::Framed => is_read(alloc, (padding, reader), source, limit, wanted),
+        Format::Packed => is_unpacked(alloc, (padding, reader), source, limit, wanted),
+    }
+}
+
+// How many bytes the caller-provided buffer has, where the call takes one.
+fn room_of(reader: Reader) -> usize {
+    match reader {
+        Reader::Lending(room) | Reader::LentMessage(room) | Reader::LentNeeded(room) => room,
+        Reader::Copying | Reader::Reusing | Reader::Message | Reader::Needed => 0,
     }
 }
 
 /// The same of a source that need not show bytes, by the framed calls.
 pub fn is_read<R: Read>(
     alloc: Global,
-    reader: Reader,
+    (rule, reader): (Padding, Reader),
     source: &mut R,
     limit: Option<usize>,
     wanted: Wanted<'_>,
 ) -> Result<bool> {
     let options = with_limit(limit);
+    let mut space = [0xaa; 8192];
+    let buffer = &mut space[..room_of(reader).min(8192)];
     match reader {
-        Reader::Copying => is_wanted(try_read_segments(alloc, source, options), wanted),
+        Reader::Copying => is_wanted(framed::next_segments(alloc, rule, source, options), wanted),
         Reader::Reusing => {
-            let spare = OwnedSegments::empty(alloc);
-            is_wanted(try_read_segments_reusing(source, options, spare), wanted)
+            let read = framed::next_segments_reusing(alloc, rule, source, options);
+            is_wanted(read, wanted)
         }
-        Reader::Lending(room) => {
-            let mut space = [0xaa; 8192];
-            let buffer = &mut space[..room.min(8192)];
-            is_wanted(try_read_segments_into(source, buffer, options), wanted)
+        Reader::Lending(_) => {
+            let read = framed::next_segments_into(rule, source, buffer, options);
+            is_wanted(read, wanted)
         }
         Reader::Message => {
-            let read = serialize::try_read_message(alloc, source, options);
+            let read = framed::next_message(alloc, rule, source, options);
             is_wanted(segments_of(read), wanted)
         }
-        Reader::LentMessage(room) => {
-            let mut space = [0xaa; 8192];
-            let buffer = &mut space[..room.min(8192)];
-            let read = serialize::try_read_message_no_alloc(source, buffer, options);
+        Reader::LentMessage(_) => {
+            let read = framed::next_message_into(rule, source, buffer, options);
             is_wanted(segments_of(read), wanted)
         }
         Reader::Needed => {
-            let read = serialize::read_message(alloc, source, options);
+            let read = framed::needed_message(alloc, rule, source, options);
             is_wanted(needed_segments_of(read), needed(wanted))
         }
-        Reader::LentNeeded(room) => {
-            let mut space = [0xaa; 8192];
-            let buffer = &mut space[..room.min(8192)];
-            let read = serialize::read_message_no_alloc(source, buffer, options);
+        Reader::LentNeeded(_) => {
+            let read = framed::needed_message_into(rule, source, buffer, options);
             is_wanted(needed_segments_of(read), needed(wanted))
         }
     }
@@ -141,40 +147,38 @@ pub fn is_read<R: Read>(
 
 fn is_unpacked<R: BufRead>(
     alloc: Global,
-    reader: Reader,
+    (rule, reader): (Padding, Reader),
     source: &mut R,
     limit: Option<usize>,
     wanted: Wanted<'_>,
 ) -> Result<bool> {
     let options = with_limit(limit);
+    let mut space = [0xaa; 8192];
+    let buffer = &mut space[..room_of(reader).min(8192)];
     match reader {
-        Reader::Copying => is_wanted(try_read_packed_segments(alloc, source, options), wanted),
+        Reader::Copying => is_wanted(packed::next_segments(alloc, rule, source, options), wanted),
         Reader::Reusing => {
-            let spare = OwnedSegments::empty(alloc);
-            is_wanted(
-                try_read_packed_segments_reusing(source, options, spare),
-                wanted,
-            )
+            let read = packed::next_segments_reusing(alloc, rule, source, options);
+            is_wanted(read, wanted)
         }
-        Reader::Lending(_) => is_read(alloc, reader, &mut PackedRead::new(source), limit, wanted),
+        Reader::Lending(_) => {
+            let read = packed::next_segments_into(rule, source, buffer, options);
+            is_wanted(read, wanted)
+        }
         Reader::Message => {
-            let read = serialize_packed::try_read_message(alloc, source, options);
+            let read = packed::next_message(alloc, rule, source, options);
             is_wanted(segments_of(read), wanted)
         }
-        Reader::LentMessage(room) => {
-            let mut space = [0xaa; 8192];
-            let buffer = &mut space[..room.min(8192)];
-            let read = serialize_packed::try_read_message_no_alloc(source, buffer, options);
+        Reader::LentMessage(_) => {
+            let read = packed::next_message_into(rule, source, buffer, options);
             is_wanted(segments_of(read), wanted)
         }
         Reader::Needed => {
-            let read = serialize_packed::read_message(alloc, source, options);
+            let read = packed::needed_message(alloc, rule, source, options);
             is_wanted(needed_segments_of(read), needed(wanted))
         }
-        Reader::LentNeeded(room) => {
-            let mut space = [0xaa; 8192];
-            let buffer = &mut space[..room.min(8192)];
-            let read = serialize_packed::read_message_no_alloc(source, buffer, options);
+        Reader::LentNeeded(_) => {
+            let read = packed::needed_message_into(rule, source, buffer, options);
             is_wanted(needed_segments_of(read), needed(wanted))
         }
     }
@@ -226,26 +230,40 @@ fn is_wanted<S: ReaderSegments + Drop>(
 // However little a source shows or answers, each call answers the same.
 #[test]
 fn framed_streams(rt: HostRuntime) -> Result<()> {
-    read_each(&rt, Format::Framed, &FRAMED, 16)
+    for most in 1..=16 {
+        read_each(&rt, (Format::Framed, Padding::Zero), &FRAMED, most)?;
+    }
+    Ok(())
 }
 
 #[test]
 fn packed_streams(rt: HostRuntime) -> Result<()> {
-    read_each(&rt, Format::Packed, &PACKED, 24)
+    for most in 1..=24 {
+        read_each(&rt, (Format::Packed, Padding::Zero), &PACKED, most)?;
+    }
+    Ok(())
+}
+
+// No row has a padding that isn't zero, so the lenient calls answer the same.
+#[test]
+fn streams_by_the_lenient_calls(rt: HostRuntime) -> Result<()> {
+    for most in [1, 7, 24] {
+        read_each(&rt, (Format::Framed, Padding::Any), &FRAMED, most)?;
+        read_each(&rt, (Format::Packed, Padding::Any), &PACKED, most)?;
+    }
+    Ok(())
 }
 
 fn read_each(
     rt: &(impl Abort + AllocGlobal),
-    format: Format,
+    (format, padding): (Format, Padding),
     streams: &[Stream],
-    largest: usize,
+    most: usize,
 ) -> Result<()> {
-    for most in 1..=largest {
-        for reader in READERS {
-            for stream in streams {
-                let call = (format, reader);
-                retried!(read_stream(rt, call, stream, most))?;
-            }
+    for reader in READERS {
+        for stream in streams {
+            let call = (format, padding, reader);
+            retried!(read_stream(rt, call, stream, most))?;
         }
     }
     Ok(())
@@ -254,7 +272,7 @@ fn read_each(
 /// Asks for one message after another, of a source that shows or answers at most so many bytes.
 pub fn read_stream(
     rt: &(impl Abort + AllocGlobal),
-    call: (Format, Reader),
+    call: Call,
     stream: &Stream,
     most: usize,
 ) -> Result<()> {

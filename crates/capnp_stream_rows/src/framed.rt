@@ -1,0 +1,98 @@
+//! The calls that read the next framed message of a stream, by the rule of padding.
+use capnp::message::Reader;
+use capnp::serialize;
+use capnp_frame::Result;
+use capnp_frame::io::Read;
+use capnp_frame::message::ReaderOptions;
+use capnp_frame::serialize::{
+    NoAllocSliceSegments, OwnedSegments, Padding, try_read_segments, try_read_segments_into,
+    try_read_segments_into_lenient, try_read_segments_lenient, try_read_segments_reusing,
+    try_read_segments_reusing_lenient,
+};
+use std::alloc::Global;
+
+pub fn next_segments<R: Read>(
+    alloc: Global,
+    padding: Padding,
+    source: &mut R,
+    options: ReaderOptions,
+) -> Result<Option<OwnedSegments>> {
+    match padding {
+        Padding::Zero => try_read_segments(alloc, source, options),
+        Padding::Any => try_read_segments_lenient(alloc, source, options),
+    }
+}
+
+// Into the memory of a message before, here of none.
+pub fn next_segments_reusing<R: Read>(
+    alloc: Global,
+    padding: Padding,
+    source: &mut R,
+    options: ReaderOptions,
+) -> Result<Option<OwnedSegments>> {
+    let spare = OwnedSegments::empty(alloc);
+    match padding {
+        Padding::Zero => try_read_segments_reusing(source, options, spare),
+        Padding::Any => try_read_segments_reusing_lenient(source, options, spare),
+    }
+}
+
+pub fn next_segments_into<'b, R: Read>(
+    padding: Padding,
+    source: &mut R,
+    buffer: &'b mut [u8],
+    options: ReaderOptions,
+) -> Result<Option<NoAllocSliceSegments<'b>>> {
+    match padding {
+        Padding::Zero => try_read_segments_into(source, buffer, options),
+        Padding::Any => try_read_segments_into_lenient(source, buffer, options),
+    }
+}
+
+pub fn next_message<R: Read>(
+    alloc: Global,
+    padding: Padding,
+    source: &mut R,
+    options: ReaderOptions,
+) -> Result<Option<Reader<OwnedSegments>>> {
+    match padding {
+        Padding::Zero => serialize::try_read_message(alloc, source, options),
+        Padding::Any => serialize::try_read_message_lenient(alloc, source, options),
+    }
+}
+
+pub fn next_message_into<'b, R: Read>(
+    padding: Padding,
+    source: &mut R,
+    buffer: &'b mut [u8],
+    options: ReaderOptions,
+) -> Result<Option<Reader<NoAllocSliceSegments<'b>>>> {
+    match padding {
+        Padding::Zero => serialize::try_read_message_no_alloc(source, buffer, options),
+        Padding::Any => serialize::try_read_message_no_alloc_lenient(source, buffer, options),
+    }
+}
+
+pub fn needed_message<R: Read>(
+    alloc: Global,
+    padding: Padding,
+    source: &mut R,
+    options: ReaderOptions,
+) -> Result<Reader<OwnedSegments>> {
+    match padding {
+        Padding::Zero => serialize::read_message(alloc, source, options),
+        Padding::Any => serialize::read_message_lenient(alloc, source, options),
+    }
+}
+
+pub fn needed_message_into<'b, R: Read>(
+    padding: Padding,
+    source: &mut R,
+    buffer: &'b mut [u8],
+    options: ReaderOptions,
+) -> Result<Reader<NoAllocSliceSegments<'b>>> {
+    match padding {
+        Padding::Zero => serialize::read_message_no_alloc(source, buffer, options),
+        Padding::Any => serialize::read_message_no_alloc_lenient(source, buffer, options),
+    }
+}
