@@ -2,8 +2,9 @@
 // rules of rules.h and objects.h, and with the C++ library where it is installed.
 //
 //   driver make SEED COUNT            writes the inputs to standard output
-//   driver compare SEED COUNT [PEER]  reads the answers from standard input; with PEER each PEERth
-//                                     input goes to the C++ library, too
+//   driver compare SEED COUNT [PEER [SUMS]]
+//                                     reads the answers from standard input; with PEER each PEERth
+//                                     input goes to the C++ library, too; adds a line of counts to SUMS
 //   driver texts SEED COUNT FOLDER    writes each text, and what each command has to answer
 #include "texts.h"
 #include "peer.h"
@@ -12,14 +13,17 @@
 #include <fstream>
 #include <iostream>
 
-enum { LIST, LIST_PACKED, PACK, UNPACK, CANON, CANON_PACKED, LENT, LENT_PACKED, FLAT, FLAT_FIELDS, ROOTS, CALLS };
-const char *const NAMES[CALLS] = {"list", "list --packed", "pack", "unpack", "canon", "canon --packed", "lent buffer",
-    "lent buffer, packed", "flat slice", "flat slice without memory", "roots"};
-#ifdef STRICT_PADDING
-const bool STRICT = true; // whether padding has to be zero
-#else
-const bool STRICT = false;
-#endif
+// Of each reader the lenient form, which takes any padding, stands behind the strict one.
+enum { LIST, LIST_LENIENT, LIST_PACKED, LIST_PACKED_LENIENT, PACK, UNPACK, CANON, CANON_PACKED, LENT, LENT_LENIENT,
+    LENT_PACKED, LENT_PACKED_LENIENT, FLAT, FLAT_LENIENT, FLAT_FIELDS, FLAT_FIELDS_LENIENT, ROOTS, ROOTS_LENIENT, CALLS };
+const char *const NAMES[CALLS] = {"list", "list --lenient", "list --packed", "list --packed --lenient", "pack", "unpack",
+    "canon", "canon --packed", "lent buffer", "lent buffer, lenient", "lent buffer, packed", "lent buffer, packed, lenient",
+    "flat slice", "flat slice, lenient", "flat slice without memory", "flat slice without memory, lenient", "roots",
+    "roots, lenient"};
+const unsigned PACKED = 1 << LIST_PACKED | 1 << LIST_PACKED_LENIENT | 1 << UNPACK | 1 << CANON_PACKED | 1 << LENT_PACKED
+    | 1 << LENT_PACKED_LENIENT;
+const unsigned LENIENT = 1 << LIST_LENIENT | 1 << LIST_PACKED_LENIENT | 1 << LENT_LENIENT | 1 << LENT_PACKED_LENIENT
+    | 1 << FLAT_LENIENT | 1 << FLAT_FIELDS_LENIENT | 1 << ROOTS_LENIENT;
 
 struct Input {
     Text text;
@@ -32,13 +36,11 @@ struct Input {
 Input some_input(Random &random, uint64_t seed, uint64_t index) {
     static const std::vector<Text> fixed = fixed_texts();
     Input input{seed ? some_text(random) : fixed[index % fixed.size()]};
-    unsigned framed = 1 << LIST | 1 << PACK | 1 << CANON | 1 << LENT | 1 << FLAT | 1 << FLAT_FIELDS | 1 << ROOTS;
-    unsigned packed = 1 << LIST_PACKED | 1 << UNPACK | 1 << CANON_PACKED | 1 << LENT_PACKED;
-    bool both = random.one_in(10);
-    input.calls = (both || !input.text.packed ? framed : 0) | (both || input.text.packed ? packed : 0);
+    const unsigned all = (1 << CALLS) - 1;
+    input.calls = random.one_in(10) ? all : input.text.packed ? PACKED : all & ~PACKED;
     input.most = random.one_in(3) ? 5000 : 1 + random.below(random.one_in(2) ? 24 : 300);
     input.room = random.one_in(2) ? 4096 : random.below(random.one_in(2) ? 64 : 1000);
-    input.seed = random.next() >> 16;
+    input.seed = random.next() >> 24;
     return input;
 }
 
@@ -52,87 +54,95 @@ void show(Bytes &answer, const Message &message) {
     for (const Words &segment : message) add(answer, bytes_of(segment));
 }
 
+// What a call has to answer, and the number of the refusal where it stops, or 0.
+struct Answer {
+    Bytes bytes;
+    int stop = 0;
+};
+
 // What a command prints of a message, or a refusal.
 std::optional<Refusal> print(int call, uint64_t index, const Message &message, Bytes &answer) {
     if (call == PACK) return answer += packed(message), std::nullopt;
     if (call == UNPACK) return answer += framed(message), std::nullopt;
-    if (call == LIST || call == LIST_PACKED) return answer += line(index, message), std::nullopt;
+    if (call < PACK) return answer += line(index, message), std::nullopt;
     Words form;
     if (auto no = canonical(message, form)) return no;
     answer += framed(Message{form});
     return {};
 }
 
-Bytes answer_of_command(int call, const Bytes &text, uint64_t *done = nullptr) {
-    Stream stream{text, call == LIST_PACKED || call == UNPACK || call == CANON_PACKED};
-    Bytes answer;
-    uint64_t index = 0;
-    for (;; index++) {
+Answer answer_of_command(int call, const Bytes &text, bool packed, bool strict) {
+    Stream stream{text, packed};
+    Answer answer;
+    for (uint64_t index = 0;; index++) {
         Message message;
         Refusal why;
-        Found found = next_message(stream, {}, STRICT, message, why);
-        if (found == Found::END) break;
+        Found found = next_message(stream, {}, strict, message, why);
+        if (found == Found::END) return answer;
         if (found == Found::MESSAGE) {
-            auto no = print(call, index, message, answer);
+            auto no = print(call, index, message, answer.bytes);
             if (!no) continue;
             why = *no;
         }
-        answer += "capnp_ls: message " + std::to_string(index) + ": error " + std::to_string(why.number) + " " + why.text + "\n";
-        break;
+        answer.bytes += "capnp_ls: message " + std::to_string(index) + ": error " + std::to_string(why.number) + " " + why.text + "\n";
+        answer.stop = why.number;
+        return answer;
     }
-    if (done) *done = index;
-    return answer;
 }
 
-Bytes answer_of_lent(const Bytes &text, bool packed, size_t room) {
+Answer answer_of_lent(const Bytes &text, bool packed, bool strict, size_t room) {
     Stream stream{text, packed};
-    Bytes answer;
+    Answer answer;
     for (;;) {
         Message message;
         Refusal why;
-        Found found = next_message(stream, room, STRICT, message, why);
-        if (found == Found::REFUSED) answer += "r" + why.text;
+        Found found = next_message(stream, room, strict, message, why);
+        if (found == Found::REFUSED) answer.bytes += "r" + why.text, answer.stop = why.number;
         if (found != Found::MESSAGE) return answer;
-        show(answer, message);
+        show(answer.bytes, message);
     }
 }
 
-Bytes answer_of_flat(const Bytes &text, bool by_fields) {
-    Bytes answer;
+Answer answer_of_flat(const Bytes &text, bool by_fields, bool strict) {
+    Answer answer;
     size_t at = 0;
     for (;;) {
         Message message;
         Refusal why;
-        if (!flat_message(text, at, by_fields, STRICT, message, why)) {
-            answer += "r" + why.text;
-            add(answer, text.substr(at));
+        if (!flat_message(text, at, by_fields, strict, message, why)) {
+            answer.bytes += "r" + why.text;
+            answer.stop = why.number;
+            add(answer.bytes, text.substr(at));
             return answer;
         }
-        show(answer, message);
+        show(answer.bytes, message);
     }
 }
 
-Bytes answer_of_roots(const Bytes &text) {
+Answer answer_of_roots(const Bytes &text, bool strict) {
     Stream stream{text, false};
-    Bytes answer;
+    Answer answer;
     for (;;) {
         Message message;
         Refusal why;
-        if (next_message(stream, {}, STRICT, message, why) != Found::MESSAGE) return answer;
+        Found found = next_message(stream, {}, strict, message, why);
+        if (found != Found::MESSAGE) return answer.stop = why.number, answer;
         bool canonical_now;
-        if (auto no = is_canonical(message, canonical_now)) answer += "r" + no->text;
-        else answer += canonical_now ? "c" : "n";
+        if (auto no = is_canonical(message, canonical_now)) answer.bytes += "r" + no->text;
+        else answer.bytes += canonical_now ? "c" : "n";
         Words form;
         auto no = canonical(message, form);
-        for (int i = 0; i < 2; i++) answer += no ? "r" + no->text : "w" + bytes_of(form);
+        for (int i = 0; i < 2; i++) answer.bytes += no ? "r" + no->text : "w" + bytes_of(form);
     }
 }
 
-Bytes answer_of(int call, const Input &input) {
+Answer answer_of(int call, const Input &input) {
     const Bytes &text = input.text.bytes;
-    if (call < LENT) return answer_of_command(call, text);
-    if (call < FLAT) return answer_of_lent(text, call == LENT_PACKED, input.room);
-    return call == ROOTS ? answer_of_roots(text) : answer_of_flat(text, call == FLAT_FIELDS);
+    bool packed = PACKED >> call & 1, strict = !(LENIENT >> call & 1);
+    if (call < LENT) return answer_of_command(call, text, packed, strict);
+    if (call < FLAT) return answer_of_lent(text, packed, strict, input.room);
+    if (call >= ROOTS) return answer_of_roots(text, strict);
+    return answer_of_flat(text, call >= FLAT_FIELDS, strict);
 }
 
 Bytes hex(const Bytes &bytes) {
@@ -148,53 +158,77 @@ int make(uint64_t seed, uint64_t count) {
         Input input = some_input(random, seed, i);
         Bytes head;
         put(head, input.text.bytes.size(), 4);
-        put(head, input.calls, 2);
+        put(head, input.calls, 3);
         put(head, input.most, 2);
         put(head, input.room, 2);
-        put(head, input.seed, 6);
+        put(head, input.seed, 5);
         std::cout << head << input.text.bytes;
     }
     return std::cout.flush() ? 0 : 1;
 }
 
-int compare(uint64_t seed, uint64_t count, uint64_t peer) {
-    Random random{seed};
-    uint64_t runs = 0, differences = 0, messages = 0, bytes = 0, refused = 0, peers = 0;
+// Counts over the inputs of a seed.
+struct Counts {
+    uint64_t bytes = 0, runs = 0, stops = 0, padded_runs = 0, padded = 0, lenient = 0, peers = 0, messages = 0, differences = 0;
     Allowed allowed;
+};
+
+// Compares what stands on standard input with what a call has to answer; false where nothing stands there.
+bool compare_call(uint64_t seed, uint64_t index, int call, const Input &input, const Answer &wanted, Counts &counts) {
+    char head[8];
+    Bytes text = hex(input.text.bytes);
+    counts.runs++;
+    if (!std::cin.read(head, 8)) {
+        printf("difference: seed %lu input %lu %s: no answer\ntext %s\n", seed, index, NAMES[call], text.c_str());
+        return false;
+    }
+    Bytes answer(field(Bytes(head, 8), 0, 8), 0);
+    std::cin.read(answer.data(), answer.size());
+    if (answer == wanted.bytes) return true;
+    counts.differences++;
+    printf("difference: seed %lu input %lu %s, pieces of at most %u, room %u\ntext %s\nwanted %s\nanswer %s\n", seed, index,
+        NAMES[call], input.most, input.room, text.c_str(), hex(wanted.bytes).c_str(), hex(answer).c_str());
+    return true;
+}
+
+// The C++ library takes any padding, as the lenient readers do.
+void compare_peer(uint64_t seed, uint64_t index, const Input &input, Counts &counts) {
+    counts.peers += WITH_PEER;
+    Bytes said = compare_with_peer(input.text.bytes, input.text.packed, counts.allowed, counts.messages);
+    if (said.empty()) return;
+    counts.differences++;
+    printf("difference from C++: seed %lu input %lu %s: %s\ntext %s\n", seed, index, input.text.packed ? "packed" : "framed",
+        said.c_str(), hex(input.text.bytes).c_str());
+}
+
+int compare(uint64_t seed, uint64_t count, uint64_t peer, const char *sums) {
+    Random random{seed};
+    Counts counts;
     for (uint64_t i = 0; i < count; i++) {
         Input input = some_input(random, seed, i);
-        bytes += input.text.bytes.size();
+        counts.bytes += input.text.bytes.size();
+        bool padded = false;
         for (int call = 0; call < CALLS; call++) {
             if (!(input.calls >> call & 1)) continue;
-            runs++;
-            char head[8];
-            if (!std::cin.read(head, 8)) {
-                printf("difference: seed %lu input %lu %s: no answer\ntext %s\n", seed, i, NAMES[call], hex(input.text.bytes).c_str());
-                return 1;
-            }
-            Bytes answer(field(Bytes(head, 8), 0, 8), 0);
-            std::cin.read(answer.data(), answer.size());
-            Bytes wanted = answer_of(call, input);
-            if (call < LENT) refused += wanted.find("capnp_ls: ") != Bytes::npos;
-            if (answer == wanted) continue;
-            differences++;
-            printf("difference: seed %lu input %lu %s, pieces of at most %u, room %u\ntext %s\nwanted %s\nanswer %s\n",
-                seed, i, NAMES[call], input.most, input.room, hex(input.text.bytes).c_str(), hex(wanted).c_str(), hex(answer).c_str());
+            Answer wanted = answer_of(call, input);
+            counts.stops += wanted.stop != 0;
+            counts.padded_runs += wanted.stop == 26;
+            counts.lenient += LENIENT >> call & 1;
+            padded |= wanted.stop == 26;
+            if (!compare_call(seed, i, call, input, wanted, counts)) return 1;
         }
-        if (peer && i % peer == 0) {
-            peers++;
-            Bytes said = compare_with_peer(input.text.bytes, input.text.packed, STRICT, allowed, messages);
-            if (said.empty()) continue;
-            differences++;
-            printf("difference from C++: seed %lu input %lu %s: %s\ntext %s\n", seed, i, input.text.packed ? "packed" : "framed",
-                said.c_str(), hex(input.text.bytes).c_str());
-        }
+        counts.padded += padded;
+        if (peer && i % peer == 0) compare_peer(seed, i, input, counts);
     }
-    printf("seed %lu: %lu inputs, %lu bytes, %lu runs, %lu commands refused, %lu inputs and %lu messages to C++; %lu differences",
-        seed, count, bytes, runs, refused, peers, messages, differences);
-    for (auto &[why, times] : allowed) printf("; allowed: %s %lu", why.c_str(), times);
+    printf("seed %lu: %lu inputs, %lu bytes, %lu runs, %lu of them lenient, %lu stopped; %lu inputs refused by 26, in %lu runs; "
+        "%lu inputs and %lu messages to C++; %lu differences", seed, count, counts.bytes, counts.runs, counts.lenient,
+        counts.stops, counts.padded, counts.padded_runs, counts.peers, counts.messages, counts.differences);
+    for (auto &[why, times] : counts.allowed) printf("; allowed: %s %lu", why.c_str(), times);
     printf("\n");
-    return differences > 0;
+    if (sums)
+        std::ofstream(sums, std::ios::app) << count << ' ' << counts.runs << ' ' << counts.lenient << ' ' << counts.padded << ' '
+            << counts.padded_runs << ' ' << counts.peers << ' ' << counts.differences << '\n';
+    return counts.differences > 0;
 }
 
 int texts(uint64_t seed, uint64_t count, const Bytes &folder) {
@@ -204,7 +238,7 @@ int texts(uint64_t seed, uint64_t count, const Bytes &folder) {
         std::ofstream(folder + "/" + std::to_string(i), std::ios::binary) << input.text.bytes;
         for (int call = 0; call < LENT; call++)
             if (input.calls >> call & 1)
-                std::ofstream(folder + "/" + std::to_string(i) + "." + NAMES[call], std::ios::binary) << answer_of(call, input);
+                std::ofstream(folder + "/" + std::to_string(i) + "." + NAMES[call], std::ios::binary) << answer_of(call, input).bytes;
     }
     return 0;
 }
@@ -213,8 +247,9 @@ int main(int count, char **words) {
     Bytes word = count > 3 ? words[1] : "";
     uint64_t seed = count > 2 ? strtoull(words[2], nullptr, 10) : 0, inputs = count > 3 ? strtoull(words[3], nullptr, 10) : 0;
     if (word == "make") return make(seed, inputs);
-    if (word == "compare") return compare(seed, inputs, count > 4 ? strtoull(words[4], nullptr, 10) : 0);
+    if (word == "compare") return compare(seed, inputs, count > 4 ? strtoull(words[4], nullptr, 10) : 0,
+        count > 5 ? words[5] : nullptr);
     if (word == "texts" && count > 4) return texts(seed, inputs, words[4]);
-    fprintf(stderr, "usage: driver make SEED COUNT | compare SEED COUNT [PEER] | texts SEED COUNT FOLDER\n");
+    fprintf(stderr, "usage: driver make SEED COUNT | compare SEED COUNT [PEER [SUMS]] | texts SEED COUNT FOLDER\n");
     return 2;
 }

@@ -7,6 +7,7 @@
 using Allowed = std::map<Bytes, uint64_t>;
 
 #if __has_include(<capnp/serialize-packed.h>) && !defined(WITHOUT_PEER)
+const bool WITH_PEER = true;
 #include <capnp/any.h>
 #include <capnp/message.h>
 #include <capnp/serialize-packed.h>
@@ -115,7 +116,8 @@ template <typename Reader, typename Source> std::optional<Message> next_by_peer(
     return found;
 }
 
-inline Bytes compare_with_peer(const Bytes &text, bool packed, bool strict, Allowed &allowed, uint64_t &messages) {
+// The library takes any padding.
+inline Bytes compare_with_peer(const Bytes &text, bool packed, Allowed &allowed, uint64_t &messages) {
     Quiet quiet;
     kj::ArrayInputStream source(kj::arrayPtr(reinterpret_cast<const kj::byte *>(text.data()), text.size()));
     Stream stream{text, packed};
@@ -123,7 +125,7 @@ inline Bytes compare_with_peer(const Bytes &text, bool packed, bool strict, Allo
         size_t from = stream.at;
         Message message;
         Refusal why;
-        Found ours = next_message(stream, {}, strict, message, why);
+        Found ours = next_message(stream, {}, false, message, why);
         bool ended = source.tryGetReadBuffer().size() == 0;
         Bytes where = "message " + std::to_string(index) + ": ";
         if (ended != (ours == Found::END)) return where + (ended ? "C++ is at the end" : "C++ has bytes left");
@@ -134,7 +136,6 @@ inline Bytes compare_with_peer(const Bytes &text, bool packed, bool strict, Allo
         if (ours == Found::REFUSED) {
             if (!theirs) return "";
             if (why.number == 5 && why.text == "InvalidNumberOfSegments(0)") return allowed["C++ reads a count of 0 segments"]++, "";
-            if (why.number == 26) return allowed["C++ reads any padding"]++, "";
             return where + "C++ reads what is refused by " + why.text + " at byte " + std::to_string(from);
         }
         if (!theirs) return where + "C++ refuses what is read";
@@ -145,5 +146,6 @@ inline Bytes compare_with_peer(const Bytes &text, bool packed, bool strict, Allo
     }
 }
 #else
-inline Bytes compare_with_peer(const Bytes &, bool, bool, Allowed &, uint64_t &) { return ""; }
+const bool WITH_PEER = false;
+inline Bytes compare_with_peer(const Bytes &, bool, Allowed &, uint64_t &) { return ""; }
 #endif

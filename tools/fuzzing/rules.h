@@ -103,8 +103,8 @@ inline Message cut(const Bytes &bytes, const std::vector<uint64_t> &lengths) {
 
 enum class Found { MESSAGE, END, REFUSED };
 
-// The next message of a stream; `room` bounds a lent buffer. Whether padding has to be zero is a
-// switch, since both grammars have been read.
+// The next message of a stream; `room` bounds a lent buffer. By the strict grammar padding has to be zero,
+// by the other it may be any.
 inline Found next_message(Stream &stream, std::optional<size_t> room, bool strict, Message &message, Refusal &why) {
     if (room && *room < 8) return why = refusal(2), Found::REFUSED;
     if (stream.ended()) return Found::END;

@@ -221,6 +221,15 @@ inline Bytes packed_otherwise(Random &random, const Message &message, const Byte
         + pack_otherwise(random, whole.substr(table));
 }
 
+// In one of three texts with a padding, not all of its bytes are zero: one, some or all four.
+inline void spoil_padding(Random &random, size_t segments, Bytes &whole) {
+    if (segments % 2 == 1 || !random.one_in(3)) return;
+    size_t padding = 8 * (segments / 2 + 1) - 4;
+    unsigned some = random.one_in(3) ? 15 : random.one_in(2) ? 1 << random.below(4) : 1 + random.below(15);
+    for (int i = 0; i < 4; i++)
+        if (some >> i & 1) whole[padding + i] = random.one_in(3) ? "\1\x7f\x80\xff"[random.below(4)] : 1 + random.below(255);
+}
+
 struct Text {
     Bytes bytes;
     bool packed;
@@ -233,7 +242,7 @@ inline Text some_text(Random &random) {
         Message message = some_message(random);
         if (spoils && random.one_in(2)) spoil(random, message);
         Bytes whole = framed(message);
-        if (message.size() % 2 == 0 && random.one_in(3)) whole[8 * (message.size() / 2 + 1) - 1 - random.below(4)] = random.next();
+        spoil_padding(random, message.size(), whole);
         if (!text.packed) text.bytes += whole;
         else text.bytes += random.one_in(3) ? packed(message) : packed_otherwise(random, message, whole);
     }
