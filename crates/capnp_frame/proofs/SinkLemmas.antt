@@ -1,15 +1,16 @@
 -- Pieces that are written to a sink, one call after another.
-use Rattle.std.proofs.Common.{◌≡◌, ℕ, ◌⊎◌, inl, inr, List, [], ◌∷◌, ◌++◌, Result, Ok, Err, OnOk, IfErr, Some}
+use Rattle.std.proofs.Common.{◌≡◌, ℕ, ◌⊎◌, inl, inr, List, [], ◌∷◌, ◌++◌, length, Result, Ok, Err, OnOk, IfErr, Some, refl, sym, ◌∙◌, arith}
 use Rattle.std.specs.Prelude.{slice_get}
 use Rattle.capnp_frame.specs.declared.error.Error.{Error}
 use Rattle.capnp_frame.specs.declared.error.ErrorKind.{ErrorKind}
 use Rattle.capnp_frame.specs.declared.io.Write.{Ghosts}
-use Rattle.capnp_frame.specs.declared.error.ErrorKind.TheVariants.{DeviceFailed}
+use Rattle.capnp_frame.specs.declared.error.ErrorKind.TheVariants.{DeviceFailed, InvalidNumberOfSegments}
 use Rattle.capnp_frame.specs.Asking.{FailsOr}
 use Rattle.capnp_frame.specs.Source.{IfKnown, IsPreorder, Fails}
 use Rattle.capnp_frame.specs.Sink.{Adds, AppendsAll, DeclinesSome, Grows}
-use Rattle.capnp_frame.specs.Writers.{WritesTo, WritesPieces}
-use Rattle.capnp_frame.proofs.SourceLemmas.{Grows-join, Fails-join}
+use Rattle.capnp_frame.specs.Writers.{WritesTo, WritesPieces, WritesSegments, KeepsCount, RefusesUnwritten}
+use Rattle.capnp_frame.specs.Writing.{HasFew, RefusesMany, pieces}
+use Rattle.capnp_frame.proofs.SourceLemmas.{Grows-join, Grows-refl, Fails-join}
 use Rattle.capnp_frame.proofs.WritingLemmas.{written_more, written_one, DeclinesSome-front, DeclinesSome-back, refused_at}
 
 -- what is refused for one reason is refused for either
@@ -24,20 +25,20 @@ writes_pieces sink old new xs lacks (Ok x) told = record { written = told.writte
 writes_pieces sink old new xs lacks (Err e) told = record { written = tt; refused = declined told.refused; untouched = declined told.refused; failed = told.failed; grows = told.grows }
 
 -- the first pieces are not all written
-pub front_refused : {S X : Type 0} (sink : Ghosts S) (old new : S) (xs ys : List (List ℕ)) (lacks : ErrorKind → Type 0) (e : Error)
-    → WritesPieces {X = X} sink old new xs lacks (Err e) → WritesPieces {X = X} sink old new (xs ++ ys) lacks (Err e)
-front_refused {X} sink old new xs ys lacks e told = record {
+pub front_refused : {S X : Type 0} (sink : Ghosts S) (old new : S) (xs ys : List (List ℕ)) (lacks other : ErrorKind → Type 0) (e : Error)
+    → (lacks e.kind → other e.kind) → WritesPieces {X = X} sink old new xs lacks (Err e) → WritesPieces {X = X} sink old new (xs ++ ys) other (Err e)
+front_refused {X} sink old new xs ys lacks other e wider told = record {
   written = tt;
-  refused = more told.refused;
-  untouched = more told.untouched;
+  refused = more wider told.refused;
+  untouched = more (λ same. same) told.untouched;
   failed = told.failed;
   grows = told.grows;
 }
   where
-    more : {F Q : Type 0} → F ⊎ (DeclinesSome sink.refuses xs e.kind ⊎ Q) → F ⊎ (DeclinesSome sink.refuses (xs ++ ys) e.kind ⊎ Q)
-    more (inl failed) = inl failed
-    more (inr (inl refused)) = inr (inl (DeclinesSome-front sink.refuses xs ys e.kind refused))
-    more (inr (inr other)) = inr (inr other)
+    more : {F P Q : Type 0} → (P → Q) → F ⊎ (DeclinesSome sink.refuses xs e.kind ⊎ P) → F ⊎ (DeclinesSome sink.refuses (xs ++ ys) e.kind ⊎ Q)
+    more wider (inl failed) = inl failed
+    more wider (inr (inl refused)) = inr (inl (DeclinesSome-front sink.refuses xs ys e.kind refused))
+    more wider (inr (inr p)) = inr (inr (wider p))
 
 -- pieces after those that are written
 pub writes_after : {S X : Type 0} (sink : Ghosts S) (keeps : IsPreorder sink.same) (a b c : S) (xs ys : List (List ℕ)) (r : Result X Error)
@@ -80,4 +81,29 @@ stopped_at sink keeps a b c segments index segment e here before refused failed 
   refused = refused_at sink.refuses segments index segment e.kind here refused;
   failed = λ device. Fails-join (sink.failures a) (sink.failures b) (sink.failures c) before.counted (failed device);
   grows = Grows-join a b c (keeps.transitive a b c) before grows;
+}
+
+-- a message with no more segments than a reader accepts is never refused by their number
+pub count_kept : {X : Type 0} (segments : List (List ℕ)) (r : Result X Error) → HasFew segments → KeepsCount segments r
+count_kept segments (Ok x) few = record { few = few; many = λ many. absurd (omega arith) }
+count_kept segments (Err e) few = record { few = tt; many = λ many. absurd (omega arith) }
+
+-- so only its pieces stop it
+pub few_written : {S X : Type 0} (sink : Ghosts S) (old new : S) (segments : List (List ℕ)) (r : Result X Error) → HasFew segments
+    → WritesPieces sink old new (pieces segments) (RefusesUnwritten segments) r → WritesSegments sink old new segments r
+few_written sink old new segments r few told = record { count = count_kept segments r few; unwritten = λ many. absurd (omega arith); parts = told }
+
+-- and one with more is refused before the sink is asked
+pub many_refused : {S X : Type 0} (sink : Ghosts S) (keeps : IsPreorder sink.same) (same : S) (segments : List (List ℕ)) (e : Error)
+    → RefusesMany segments e.kind → WritesSegments {X = X} sink same same segments (Err e)
+many_refused sink keeps same segments e many = record {
+  count = record { few = tt; many = λ _. many.1 };
+  unwritten = λ _. refl;
+  parts = record {
+    written = tt;
+    refused = inr (inr (inl many));
+    untouched = inr (inr refl);
+    failed = λ device. let never : InvalidNumberOfSegments (length segments) ≡ DeviceFailed = sym many.1 ∙ device in cc;
+    grows = Grows-refl same (keeps.reflexive same);
+  };
 }

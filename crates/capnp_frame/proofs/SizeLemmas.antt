@@ -1,18 +1,20 @@
 -- What is written of a message: its text and its size.
-use Rattle.std.proofs.Common.{◌≡◌, ℕ, ◌+◌, ◌*◌, ◌/◌, ◌<◌, ◌≤◌, ◌^◌, ◌⊎◌, ◌↔◌, inl, inr, List, [], ◌∷◌, ◌++◌, length, take, drop, sym, ap, ◌∙◌, arith, length-append}
+use Rattle.std.proofs.Common.{◌≡◌, ℕ, ◌+◌, ◌*◌, ◌/◌, ◌<◌, ◌≤◌, ◌^◌, ◌⊎◌, inl, inr, List, [], ◌∷◌, ◌++◌, length, take, drop, sym, ap, ◌∙◌, arith, length-append}
 use Rattle.std.proofs.lemmas.List.{append-nil, take_all, take-append-drop}
 use Rattle.std.proofs.lemmas.List.Folds.{concat-append}
+use Rattle.std.proofs.lemmas.List.Sums.{sum_by-cons}
 use Rattle.std.proofs.lemmas.Bool.{cases_lt}
-use Rattle.std.specs.Prelude.{Some}
-use Rattle.std.specs.List.{concat}
+use Rattle.std.specs.Prelude.{Some, sum}
+use Rattle.std.specs.List.{concat, AllByRecursion}
 use Rattle.capnp_frame.specs.declared.error.ErrorKind.{ErrorKind}
-use Rattle.capnp_frame.specs.declared.error.ErrorKind.TheVariants.{DeviceFailed, OutOfMemory, MessageSizeOverflow}
+use Rattle.capnp_frame.specs.declared.error.ErrorKind.TheVariants.{DeviceFailed, OutOfMemory}
 use Rattle.capnp_frame.specs.Message.{lengths, size_in_words}
-use Rattle.capnp_frame.specs.SegmentTable.{zero_padded_table, HasTable}
+use Rattle.capnp_frame.specs.SegmentTable.{FitsField, zero_padded_table, HasTable}
 use Rattle.capnp_frame.specs.Frame.{frame_text}
 use Rattle.capnp_frame.specs.Source.{IfKnown, Fails}
 use Rattle.capnp_frame.specs.Sink.{Adds, AppendsAll, AppendsSame, ByKind, DeclinesSome}
-use Rattle.capnp_frame.specs.Writing.{IsWritable, word_and_rest, pieces, serialized_words}
+use Rattle.capnp_frame.specs.Writers.{RefusesUnwritten}
+use Rattle.capnp_frame.specs.Writing.{IsWritable, HasFew, RefusesMany, word_and_rest, pieces, serialized_words}
 use Rattle.capnp_frame.specs.declared.serialize.segment_table.Padding.TheVariants.{Zero}
 use Rattle.capnp_frame.proofs.FrameLemmas.{zero_padded_is, length-table, length-segments}
 use Rattle.capnp_frame.proofs.AskLemmas.{never_fails}
@@ -62,15 +64,24 @@ declines_memory [] kind p = absurd p
 declines_memory (x ∷ xs) kind (inl p) = p
 declines_memory (x ∷ xs) kind (inr p) = declines_memory xs kind p
 
--- a vector refuses pieces for want of memory alone
-pub lacks_memory_alone : {F : Type 0} (xs : List (List ℕ)) (kind : ErrorKind) → (kind ≡ DeviceFailed → Fails 0 0)
-    → (kind ≡ DeviceFailed) ⊎ DeclinesSome (ByKind OutOfMemory) xs kind ⊎ (F × (kind ≡ OutOfMemory)) → kind ≡ OutOfMemory
-lacks_memory_alone xs kind failed (inl device) = absurd (never_fails kind failed device)
-lacks_memory_alone xs kind failed (inr (inl declined)) = declines_memory xs kind declined
-lacks_memory_alone xs kind failed (inr (inr memory)) = memory.1
+-- a vector refuses a message for too many segments, or for want of memory
+pub lacks_memory_alone : (segments : List (List ℕ)) (kind : ErrorKind) → (kind ≡ DeviceFailed → Fails 0 0)
+    → (kind ≡ DeviceFailed) ⊎ DeclinesSome (ByKind OutOfMemory) (pieces segments) kind ⊎ RefusesUnwritten segments kind
+    → RefusesMany segments kind ⊎ (kind ≡ OutOfMemory)
+lacks_memory_alone segments kind failed (inl device) = absurd (never_fails kind failed device)
+lacks_memory_alone segments kind failed (inr (inl declined)) = inr (declines_memory (pieces segments) kind declined)
+lacks_memory_alone segments kind failed (inr (inr (inl many))) = inl many
+lacks_memory_alone segments kind failed (inr (inr (inr memory))) = inr memory.1
 
-pub overflown : (kind : ErrorKind) (total : ℕ) → kind ≡ MessageSizeOverflow → 2 ^ 64 ≤ total → (kind ≡ MessageSizeOverflow) ↔ (2 ^ 64 ≤ total)
-overflown kind total is over = (λ _. over, λ _. is)
+-- numbers that fit a field, added up
+pub sum_below : (ns : List ℕ) → AllByRecursion FitsField ns → sum ns ≤ length ns * 2 ^ 32
+sum_below [] each = omega arith
+sum_below (n ∷ ns) each =
+    let total : sum (n ∷ ns) ≡ n + sum ns = sum_by-cons (λ x. x) n ns in
+    let others = sum_below ns each.1 in
+    let first : n < 2 ^ 32 = each.0 in
+    omega (arith, total, others, first)
 
-pub not_overflown : (kind : ErrorKind) (total : ℕ) → kind ≡ OutOfMemory → total < 2 ^ 64 → (kind ≡ MessageSizeOverflow) ↔ (2 ^ 64 ≤ total)
-not_overflown kind total memory fits = (λ is. let never : OutOfMemory ≡ MessageSizeOverflow = sym memory ∙ is in cc, λ over. absurd (omega arith))
+-- as many segments as a reader accepts have fewer than 2 ^ 64 bytes, with the table
+pub few_fit : (segments : List (List ℕ)) → IsWritable segments → HasFew segments → 8 * serialized_words segments < 2 ^ 64
+few_fit segments writable few = omega (arith, sum_below (lengths segments) writable.each, length-lengths segments)

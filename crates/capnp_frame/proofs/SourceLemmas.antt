@@ -222,6 +222,14 @@ AnswersPart-given gives refuses n got raw left takes_nothing gives_nothing uniqu
 pub IsFront-join : (x y z : List ℕ) → IsFront x y → IsFront y z → IsFront x z
 IsFront-join x y z (a, p) (b, q) = (a ++ b, q ∙ ap (λ l. l ++ b) p ∙ append_assoc x a b)
 
+-- a sink that isn't asked
+pub Grows-refl : {S : Type 0} {written : S → Option (List ℕ)} {failures : S → ℕ} {same : S → S → Type 0} (a : S) → same a a → Grows written failures same a a
+Grows-refl {written} a self_same = record {
+  front = IfKnown-refl IsFront (written a) (λ x. ([], sym (append-nil x)));
+  counted = omega arith;
+  same_sink = self_same;
+}
+
 pub Grows-join : {S : Type 0} {written : S → Option (List ℕ)} {failures : S → ℕ} {same : S → S → Type 0} (a b c : S)
     → (same a b → same b c → same a c) → Grows written failures same a b → Grows written failures same b c
     → Grows written failures same a c

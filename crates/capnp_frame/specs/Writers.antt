@@ -1,15 +1,15 @@
 -- What the functions that write keep (src/serialize/writing.rt).
-use Rattle.std.specs.Prelude.{◌≡◌, ℕ, ◌*◌, ◌^◌, ◌≤◌, ◌⊎◌, ◌↔◌, List, length, Result, IfOk, OnOk, IfErr}
+use Rattle.std.specs.Prelude.{◌≡◌, ℕ, ◌^◌, ◌≤◌, ◌⊎◌, ◌↔◌, List, length, Result, IfOk, OnOk, IfErr}
 use Rattle.capnp_frame.specs.declared.error.Error.{Error}
 use Rattle.capnp_frame.specs.declared.error.ErrorKind.{ErrorKind}
-use Rattle.capnp_frame.specs.declared.error.ErrorKind.TheVariants.{DeviceFailed, OutOfMemory, MessageSizeOverflow}
+use Rattle.capnp_frame.specs.declared.error.ErrorKind.TheVariants.{DeviceFailed, OutOfMemory, MessageSizeOverflow, InvalidNumberOfSegments}
 use Rattle.capnp_frame.specs.declared.io.Write.{Ghosts}
 use Rattle.capnp_frame.specs.Asking.{FailsOr}
 use Rattle.capnp_frame.specs.Errors.{IsRefusedBy}
 use Rattle.capnp_frame.specs.Frame.{frame_text}
 use Rattle.capnp_frame.specs.Sink.{Adds, AppendsAll, DeclinesSome, Grows}
 use Rattle.capnp_frame.specs.Source.{IfKnown, Fails}
-use Rattle.capnp_frame.specs.Writing.{serialized_words}
+use Rattle.capnp_frame.specs.Writing.{HasFew, HasMany, RefusesMany, pieces, serialized_words}
 
 -- What each function that writes does to its sink. `sink` is what is seen of the sink (the members of the trait Write),
 -- `old` and `new` are the sink before the call and after it. `adds` holds of what is added, and `declines` of the kinds
@@ -43,12 +43,32 @@ pub record WritesPieces {S X : Type 0} (sink : Ghosts S) (old new : S) (pieces :
 abbrev pub LacksTable : List (List ℕ) → ErrorKind → Type 0
 LacksTable segments kind = (4 ≤ length segments) × (kind ≡ OutOfMemory)
 
+-- why a message is refused before anything of it is written: by the number of its segments, or for want of memory for its table
+abbrev pub RefusesUnwritten : List (List ℕ) → ErrorKind → Type 0
+RefusesUnwritten segments kind = RefusesMany segments kind ⊎ LacksTable segments kind
+
+-- What each function that writes a message keeps of the number of its segments.
+pub record KeepsCount {X : Type 0} (segments : List (List ℕ)) (result : Result X Error) : Type 0 where
+  -- what is written has no more segments than a reader accepts
+  pub few : OnOk result (HasFew segments)
+  -- where there are more the call fails with their number, before all else
+  pub many : HasMany segments → IsRefusedBy result (InvalidNumberOfSegments (length segments))
+
+-- What each function that writes a message does to its sink.
+pub record WritesSegments {S X : Type 0} (sink : Ghosts S) (old new : S) (segments : List (List ℕ)) (result : Result X Error) : Type 0 where
+  -- it fails by the number of segments exactly where there are more than a reader accepts, and then the sink stays as it was
+  pub count : KeepsCount segments result
+  pub unwritten : HasMany segments → new ≡ old
+  -- else the pieces of the message are written, one after the other
+  pub parts : WritesPieces sink old new (pieces segments) (RefusesUnwritten segments) result
+
 -- What each function that returns the framed text of a message keeps, `bytes` being the text that is seen of it.
 pub record ReturnsText {X : Type 0} (segments : List (List ℕ)) (bytes : X → List ℕ) (result : Result X Error) : Type 0 where
   pub text : IfOk result (λ text. bytes text ≡ frame_text segments)
-  -- the call fails with this kind exactly where the number of bytes does not fit
-  pub overflow : IsRefusedBy result MessageSizeOverflow ↔ (2 ^ 64 ≤ 8 * serialized_words segments)
-  pub kinds : IfErr result (λ error. (error.kind ≡ OutOfMemory) ⊎ (error.kind ≡ MessageSizeOverflow))
+  -- the call fails by the number of segments exactly where there are more than a reader accepts
+  pub count : KeepsCount segments result
+  -- and else for want of memory alone
+  pub kinds : IfErr result (λ error. RefusesMany segments error.kind ⊎ (error.kind ≡ OutOfMemory))
 
 -- What each function that counts the words of a framed text keeps.
 pub record CountsWords (segments : List (List ℕ)) (result : Result ℕ Error) : Type 0 where

@@ -1,16 +1,30 @@
 -- What is written of a message, and in which pieces (src/serialize/writing.rt).
 -- Encoding document, "Serialization Over a Stream".
-use Rattle.std.specs.Prelude.{ℕ, ◌+◌, ◌/◌, ◌^◌, ◌<◌, List, [], ◌∷◌, ◌++◌, length, take, drop, nat_lt, if◌then◌else◌}
+use Rattle.std.specs.Prelude.{◌≡◌, ℕ, ◌+◌, ◌/◌, ◌^◌, ◌<◌, ◌≤◌, List, [], ◌∷◌, ◌++◌, length, take, drop, nat_lt, if◌then◌else◌}
 use Rattle.std.specs.List.{AllByRecursion}
+use Rattle.capnp_frame.specs.declared.error.ErrorKind.{ErrorKind}
+use Rattle.capnp_frame.specs.declared.error.ErrorKind.TheVariants.{InvalidNumberOfSegments}
 use Rattle.capnp_frame.specs.Message.{IsWholeWords, lengths, size_in_words}
 use Rattle.capnp_frame.specs.SegmentTable.{FitsField, zero_padded_table}
 
--- what a writer takes: 1 to 2 ^ 32 - 1 segments, each of whole words and fewer than 2 ^ 32 of them
+-- what a writer asks of a message: 1 to 2 ^ 32 - 1 segments, each of whole words and fewer than 2 ^ 32 of them
 pub record IsWritable (segments : List (List ℕ)) : Type 0 where
   pub some : 0 < length segments
   pub few : length segments < 2 ^ 32
   pub whole : AllByRecursion IsWholeWords segments
   pub each : AllByRecursion FitsField (lengths segments)
+
+-- no more segments than a reader accepts
+abbrev pub HasFew : List (List ℕ) → Type 0
+HasFew segments = length segments < 512
+
+-- more than that
+abbrev pub HasMany : List (List ℕ) → Type 0
+HasMany segments = 512 ≤ length segments
+
+-- there are more, and the failure tells their number
+abbrev pub RefusesMany : List (List ℕ) → ErrorKind → Type 0
+RefusesMany segments kind = HasMany segments × (kind ≡ InvalidNumberOfSegments (length segments))
 
 -- the first word, and where there are more the other words
 abbrev pub word_and_rest : List ℕ → List (List ℕ)

@@ -25,7 +25,7 @@ pub enum ErrorKind {
     /// A slice that was to begin with a message has no bytes.
     #[error("EmptySlice")]
     EmptySlice,
-    /// A segment table has this number of segments, which is not from 1 to 511.
+    /// A segment table has, or is to have, this number of segments, which is not from 1 to 511.
     #[error("InvalidNumberOfSegments({0})")]
     InvalidNumberOfSegments(usize),
     /// The segments have this many words, and the input only so many behind the table. Where the

@@ -7,7 +7,8 @@ ghost use Rattle.capnp_frame.specs.Frame.{IsFrame, frame_text};
 ghost use Rattle.capnp_frame.specs.Source.{Splits, Fails};
 ghost use Rattle.capnp_frame.specs.Sink.{AppendsSame, AppendsAll, ByKind, DeclinesSome};
 ghost use Rattle.capnp_frame.specs.Requests.{MessageStands};
-ghost use Rattle.capnp_frame.specs.Writing.{IsWritable, pieces, serialized_words};
+ghost use Rattle.capnp_frame.specs.Writers.{RefusesUnwritten};
+ghost use Rattle.capnp_frame.specs.Writing.{IsWritable, RefusesMany, pieces, serialized_words};
 ghost use Rattle.capnp_frame.specs.Front.{HasFrame};
 ghost use Rattle.capnp_frame.specs.FlatRefusals.{FlatForm, RefusesFlat};
 ghost use Rattle.capnp_frame.specs.declared.error.ErrorKind.{ErrorKind};
@@ -96,12 +97,12 @@ pub fn slices_never_fail()
         kind ≢ ErrorKind.DeviceFailed }
 {}
 
-/// A vector as a sink refuses a message for want of memory alone.
+/// A vector as a sink refuses a message for want of memory alone, but for too many segments.
 pub fn vectors_lack_memory_alone()
     ensures { (kind : ErrorKind) (segments : List (List ℕ)) →
         (kind ≡ ErrorKind.DeviceFailed → Fails 0 0) →
         (kind ≡ ErrorKind.DeviceFailed)
         ⊎ DeclinesSome (ByKind ErrorKind.OutOfMemory) (pieces segments) kind
-        ⊎ (4 ≤ length segments) × (kind ≡ ErrorKind.OutOfMemory) →
-        kind ≡ ErrorKind.OutOfMemory }
+        ⊎ RefusesUnwritten segments kind →
+        RefusesMany segments kind ⊎ (kind ≡ ErrorKind.OutOfMemory) }
 {}

@@ -1,46 +1,47 @@
 //! Writing messages to a sink.
-ghost use Rattle.std.specs.Prelude.{◌≡◌, ◌+◌, ◌<◌, ◌≤◌, ◌^◌, length, take, drop, replicate, ◌++◌, slice_get, Some, IfSome, IfNone};
+ghost use Rattle.std.specs.Prelude.{◌≡◌, ◌+◌, ◌<◌, ◌≤◌, ◌^◌, length, take, drop, replicate, ◌++◌, slice_get, Some, IfSome, IfNone, IfErr};
 ghost use Rattle.std.specs.List.{AllByRecursion};
 ghost use Rattle.capnp_frame.specs.Message.{IsWholeWords, lengths};
 ghost use Rattle.capnp_frame.specs.SegmentTable.{field, zero_padded_table, table_size};
-ghost use Rattle.capnp_frame.specs.Writing.{IsWritable, word_and_rest, table_pieces, pieces};
+ghost use Rattle.capnp_frame.specs.Writing.{IsWritable, RefusesMany, word_and_rest, table_pieces};
 ghost use Rattle.capnp_frame.specs.Sink.{AppendsAll, DeclinesSome};
-ghost use Rattle.capnp_frame.specs.Writers.{WritesTo, WritesPieces, LacksTable, ReturnsText, CountsWords};
+ghost use Rattle.capnp_frame.specs.Writers.{WritesTo, WritesPieces, WritesSegments, LacksTable, KeepsCount, ReturnsText, CountsWords};
 
 use crate::error::{Error, ErrorKind, Result};
 use crate::io::Write;
 use crate::message::ReaderSegments;
-use crate::serialize::segment_table::table_len;
+use crate::serialize::segment_table::{SEGMENTS_COUNT_LIMIT, table_len};
 use std::alloc::Global;
 
 /// Writes a message: the first word of its table, with two segments or more the table's other words
-/// as one piece, and then each segment as a piece.
+/// as one piece, and then each segment as a piece ("Serialization Over a Stream").
 ///
-/// Memory is taken for a table of four segments or more, before anything is written.
+/// More than 511 segments, which no reader accepts, fail with `InvalidNumberOfSegments` before all
+/// else. Memory is taken for a table of four segments or more, before anything is written.
 pub fn write_segments<W: Write, S: ReaderSegments>(
     alloc: Global,
     sink: &mut W,
     segments: &S,
 ) -> Result<()>
     requires { IsWritable (S.segments segments.now) }
-    ensures { WritesPieces W.Write sink.old sink.new (pieces (S.segments segments.now))
-        (LacksTable (S.segments segments.now)) result }
+    ensures { WritesSegments W.Write sink.old sink.new (S.segments segments.now) result }
 {
+    keep_count(segments)?; // before anything is written
     write_table(alloc, sink, segments)?;
     write_each(sink, segments)
 }
 
-/// The framed text of a message. It is refused by `MessageSizeOverflow` only where the number of
-/// its bytes does not fit `usize`.
+/// The framed text of a message, in bytes.
+///
+/// More than 511 segments, which no reader accepts, fail with `InvalidNumberOfSegments` before memory
+/// is taken. The number of bytes of fewer always fits `usize`.
 pub fn segments_to_words<S: ReaderSegments>(alloc: Global, segments: &S) -> Result<Vec<u8>>
     requires { IsWritable (S.segments segments.now) }
     ensures { ReturnsText (S.segments segments.now) (λ text. text.items) result }
 {
+    keep_count(segments)?; // before memory is taken
     let words = serialized_size_in_words(segments)?;
-    let Some(length) = words.checked_mul(8) else {
-        return Err(Error::from_kind(ErrorKind::MessageSizeOverflow));
-    };
-    let mut text = Vec::with_capacity(alloc, length)?;
+    let mut text = Vec::with_capacity(alloc, 8 * words)?;
     write_segments(alloc, &mut text, segments)?;
     Ok(text)
 }
@@ -61,6 +62,19 @@ pub fn serialized_size_in_words<S: ReaderSegments>(segments: &S) -> Result<usize
         index += 1;
     }
     Ok(words)
+}
+
+// Refuses more segments than a reader accepts.
+fn keep_count<S: ReaderSegments>(segments: &S) -> Result<()>
+    requires { length (S.segments segments.now) < 2 ^ 32 }
+    ensures count { KeepsCount (S.segments segments.now) result }
+    ensures refused { IfErr result (λ error. RefusesMany (S.segments segments.now) error.kind) }
+{
+    let count = segments.len();
+    if count >= SEGMENTS_COUNT_LIMIT {
+        return Err(Error::from_kind(ErrorKind::InvalidNumberOfSegments(count)));
+    }
+    Ok(())
 }
 
 // Writes the table, with memory for it from four segments on.

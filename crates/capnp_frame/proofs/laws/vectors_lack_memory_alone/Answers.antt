@@ -1,7 +1,6 @@
 -- No piece is refused otherwise.
 use Rattle.capnp_frame.proofs.SizeLemmas.{lacks_memory_alone}
-use Rattle.capnp_frame.specs.Writing.{pieces}
 use Rattle.capnp_frame.proofs.laws.vectors_lack_memory_alone.Goals as goal
 
 pub returns : goal.returns
-returns c = λ kind segments failed refused. lacks_memory_alone (pieces segments) kind failed refused
+returns c = λ kind segments failed refused. lacks_memory_alone segments kind failed refused
