@@ -13,17 +13,19 @@
 #include <fstream>
 #include <iostream>
 
-// Of each reader the lenient form, which takes any padding, stands behind the strict one.
-enum { LIST, LIST_LENIENT, LIST_PACKED, LIST_PACKED_LENIENT, PACK, UNPACK, CANON, CANON_PACKED, LENT, LENT_LENIENT,
-    LENT_PACKED, LENT_PACKED_LENIENT, FLAT, FLAT_LENIENT, FLAT_FIELDS, FLAT_FIELDS_LENIENT, ROOTS, ROOTS_LENIENT, CALLS };
-const char *const NAMES[CALLS] = {"list", "list --lenient", "list --packed", "list --packed --lenient", "pack", "unpack",
-    "canon", "canon --packed", "lent buffer", "lent buffer, lenient", "lent buffer, packed", "lent buffer, packed, lenient",
-    "flat slice", "flat slice, lenient", "flat slice without memory", "flat slice without memory, lenient", "roots",
-    "roots, lenient"};
-const unsigned PACKED = 1 << LIST_PACKED | 1 << LIST_PACKED_LENIENT | 1 << UNPACK | 1 << CANON_PACKED | 1 << LENT_PACKED
-    | 1 << LENT_PACKED_LENIENT;
-const unsigned LENIENT = 1 << LIST_LENIENT | 1 << LIST_PACKED_LENIENT | 1 << LENT_LENIENT | 1 << LENT_PACKED_LENIENT
-    | 1 << FLAT_LENIENT | 1 << FLAT_FIELDS_LENIENT | 1 << ROOTS_LENIENT;
+// Of each reader the lenient form, which takes any padding, stands behind the strict one. The last two are `transcode_lenient`.
+enum { LIST, LIST_LENIENT, LIST_PACKED, LIST_PACKED_LENIENT, PACK, PACK_LENIENT, UNPACK, UNPACK_LENIENT, CANON, CANON_PACKED,
+    LENT, LENT_LENIENT, LENT_PACKED, LENT_PACKED_LENIENT, FLAT, FLAT_LENIENT, FLAT_FIELDS, FLAT_FIELDS_LENIENT, ROOTS,
+    ROOTS_LENIENT, TO_PACKED, TO_FRAMED, CALLS };
+const char *const NAMES[CALLS] = {"list", "list --lenient", "list --packed", "list --packed --lenient", "pack",
+    "pack --lenient", "unpack", "unpack --lenient", "canon", "canon --packed", "lent buffer", "lent buffer, lenient",
+    "lent buffer, packed", "lent buffer, packed, lenient", "flat slice", "flat slice, lenient", "flat slice without memory",
+    "flat slice without memory, lenient", "roots", "roots, lenient", "to packed, lenient", "to framed, lenient"};
+const unsigned PACKED = 1 << LIST_PACKED | 1 << LIST_PACKED_LENIENT | 1 << UNPACK | 1 << UNPACK_LENIENT | 1 << CANON_PACKED
+    | 1 << LENT_PACKED | 1 << LENT_PACKED_LENIENT | 1 << TO_FRAMED;
+const unsigned LENIENT = 1 << LIST_LENIENT | 1 << LIST_PACKED_LENIENT | 1 << PACK_LENIENT | 1 << UNPACK_LENIENT
+    | 1 << LENT_LENIENT | 1 << LENT_PACKED_LENIENT | 1 << FLAT_LENIENT | 1 << FLAT_FIELDS_LENIENT | 1 << ROOTS_LENIENT
+    | 1 << TO_PACKED | 1 << TO_FRAMED;
 
 struct Input {
     Text text;
@@ -60,10 +62,10 @@ struct Answer {
     int stop = 0;
 };
 
-// What a command prints of a message, or a refusal.
+// What a command prints of a message, or `transcode_lenient` writes of it; or a refusal.
 std::optional<Refusal> print(int call, uint64_t index, const Message &message, Bytes &answer) {
-    if (call == PACK) return answer += packed(message), std::nullopt;
-    if (call == UNPACK) return answer += framed(message), std::nullopt;
+    if (call == PACK || call == PACK_LENIENT || call == TO_PACKED) return answer += packed(message), std::nullopt;
+    if (call == UNPACK || call == UNPACK_LENIENT || call == TO_FRAMED) return answer += framed(message), std::nullopt;
     if (call < PACK) return answer += line(index, message), std::nullopt;
     Words form;
     if (auto no = canonical(message, form)) return no;
@@ -84,7 +86,8 @@ Answer answer_of_command(int call, const Bytes &text, bool packed, bool strict) 
             if (!no) continue;
             why = *no;
         }
-        answer.bytes += "capnp_ls: message " + std::to_string(index) + ": error " + std::to_string(why.number) + " " + why.text + "\n";
+        if (call >= TO_PACKED) answer.bytes += "r" + why.text;
+        else answer.bytes += "capnp_ls: message " + std::to_string(index) + ": error " + std::to_string(why.number) + " " + why.text + "\n";
         answer.stop = why.number;
         return answer;
     }
@@ -139,7 +142,7 @@ Answer answer_of_roots(const Bytes &text, bool strict) {
 Answer answer_of(int call, const Input &input) {
     const Bytes &text = input.text.bytes;
     bool packed = PACKED >> call & 1, strict = !(LENIENT >> call & 1);
-    if (call < LENT) return answer_of_command(call, text, packed, strict);
+    if (call < LENT || call >= TO_PACKED) return answer_of_command(call, text, packed, strict);
     if (call < FLAT) return answer_of_lent(text, packed, strict, input.room);
     if (call >= ROOTS) return answer_of_roots(text, strict);
     return answer_of_flat(text, call >= FLAT_FIELDS, strict);

@@ -9,21 +9,24 @@ use Rattle.capnp_frame.specs.declared.error.ErrorKind.{ErrorKind}
 use Rattle.capnp_frame.specs.declared.error.ErrorKind.TheVariants.{DeviceFailed, OutOfMemory}
 use Rattle.capnp_frame.specs.Sink.{Adds}
 use Rattle.capnp_frame.specs.Frame.{IsFrame}
-use Rattle.capnp_frame.specs.Limits.{IsWithin}
+use Rattle.capnp_frame.specs.Limits.{KeepsLimit}
+use Rattle.capnp_frame.specs.Message.{lengths}
 use Rattle.capnp_frame.specs.Source.{Giving, Refusing, IfKnown}
 use Rattle.capnp_frame.specs.Texts.{Grammar, BeginsWith, AreTexts}
-use Rattle.capnp_frame.specs.Writing.{IsWritable}
+use Rattle.capnp_frame.specs.Writing.{IsWritable, HasFew, RefusesMany}
 use Rattle.capnp_frame.proofs.SourceLemmas.{IfKnown-join, IfKnown-refl}
 use Rattle.capnp_frame.proofs.FrameLemmas.{frame_text_is}
 use Rattle.capnp_frame.proofs.SizeLemmas.{HasTable-writable}
 use Rattle.capnp_frame.proofs.TextLemmas.{PartsStreams, AreTexts-push}
+use Rattle.capnp_pack.proofs.AllLemmas.{AllByRecursion-append}
 use Rattle.capnp_pack.proofs.PackedFrameLemmas.{packed_text_is}
 use Rattle.capnp.specs.declared.streams.Format.{Format}
 use Rattle.capnp.specs.declared.streams.Format.TheVariants.{Framed, Packed}
 use Rattle.capnp.specs.Streams.{grammar_of, StandsNext, IsStream}
-use Rattle.capnp.specs.Written.{IsTextOf, AppendsEach}
+use Rattle.capnp.specs.Written.{IsTextOf, AppendsEach, RefusesManyOf}
 use Rattle.capnp.proofs.RunLemmas.{format_lawful, format_requested, format_parts}
 use Rattle.capnp.proofs.ReaderLemmas.{nothing_begins_known}
+use Rattle.capnp.proofs.WriterLemmas.{IsWithin-written}
 
 -- one more message is read
 pub texts_next : {X : Type 0} (rule : Padding) (format : Format) (limit : Option ℕ) (segments : X → List (List ℕ)) (xs ys : List X)
@@ -80,19 +83,20 @@ text_is rule Packed m text writable p = packed_text_is rule text m (HasTable-wri
 
 -- so what is written of messages is their texts
 appended_texts : (rule : Padding) (format : Format) (limit : Option ℕ) (ms : List (List (List ℕ))) (text : List ℕ)
-    → AllByRecursion IsWritable ms → AllByRecursion (λ m. IsWithin m limit) ms → AppendsEach (IsTextOf format) ms text
-    → AreTexts (grammar_of rule format) limit ms text []
-appended_texts rule format limit [] text writable within all = sym all
-appended_texts rule format limit (m ∷ ms) text writable within (first, others, here, more, e) = (
+    → AllByRecursion IsWritable ms → AllByRecursion HasFew ms → AllByRecursion (λ m. KeepsLimit (lengths m) limit) ms
+    → AppendsEach (IsTextOf format) ms text → AreTexts (grammar_of rule format) limit ms text []
+appended_texts rule format limit [] text writable few size all = sym all
+appended_texts rule format limit (m ∷ ms) text writable few size (first, others, here, more, e) = (
   others,
-  record { text = first; is_text = text_is rule format m first writable.0 here; within = within.0; spelled = e },
-  appended_texts rule format limit ms others writable.1 within.1 more,
+  record { text = first; is_text = text_is rule format m first writable.0 here; within = IsWithin-written m limit writable.0 few.0 size.0; spelled = e },
+  appended_texts rule format limit ms others writable.1 few.1 size.1 more,
 )
 
 pub appended_stream : (rule : Padding) (format : Format) (limit : Option ℕ) (ms : List (List (List ℕ))) (text : List ℕ)
-    → AllByRecursion IsWritable ms → AllByRecursion (λ m. IsWithin m limit) ms → AppendsEach (IsTextOf format) ms text
-    → IsStream rule format limit ms None text
-appended_stream rule format limit ms text writable within all = record { rest = []; texts = appended_texts rule format limit ms text writable within all; ends = refl }
+    → AllByRecursion IsWritable ms → AllByRecursion HasFew ms → AllByRecursion (λ m. KeepsLimit (lengths m) limit) ms
+    → AppendsEach (IsTextOf format) ms text → IsStream rule format limit ms None text
+appended_stream rule format limit ms text writable few size all =
+    record { rest = []; texts = appended_texts rule format limit ms text writable few size all; ends = refl }
 
 -- one more message is written
 pub AppendsEach-push : (Writes : List (List ℕ) → List ℕ → Type 0) (ms : List (List (List ℕ))) (m : List (List ℕ))
@@ -101,15 +105,19 @@ AppendsEach-push Writes [] m text more all here = (more, [], here, refl, ap (λ 
 AppendsEach-push Writes (n ∷ ns) m text more (first, others, this, all, e) here =
     (first, others ++ more, this, AppendsEach-push Writes ns m others more all here, ap (λ l. l ++ more) e ∙ append_assoc first others more)
 
+-- the messages up to the next one, with it
+map-next : {S : Type 0} (segments : S → List (List ℕ)) (xs : List S) (index : ℕ) (x : S) → index < length xs → x ≡ get_or xs index x
+    → map segments (take (index + 1) xs) ≡ map segments (take index xs) ++ segments x ∷ []
+map-next segments xs index x here is =
+    ap (map segments) (take_more xs index x here ∙ ap (λ y. take index xs ++ y ∷ []) (sym is)) ∙ map-append segments (take index xs) (x ∷ [])
+
 pub appended_next : {S : Type 0} (segments : S → List (List ℕ)) (Writes : List (List ℕ) → List ℕ → Type 0)
     (xs : List S) (index : ℕ) (x : S) (old mid new : Option (List ℕ)) → index < length xs → x ≡ get_or xs index x
     → IfKnown old mid (Adds (AppendsEach Writes (map segments (take index xs))))
     → IfKnown mid new (Adds (Writes (segments x)))
     → IfKnown old new (Adds (AppendsEach Writes (map segments (take (index + 1) xs))))
 appended_next segments Writes xs index x old mid new here is before next =
-    let more : take (index + 1) xs ≡ take index xs ++ x ∷ [] = take_more xs index x here ∙ ap (λ y. take index xs ++ y ∷ []) (sym is) in
-    let both : map segments (take (index + 1) xs) ≡ map segments (take index xs) ++ segments x ∷ [] = ap (map segments) more ∙ map-append segments (take index xs) (x ∷ []) in
-    subst (λ ms. IfKnown old new (Adds (AppendsEach Writes ms))) (sym both)
+    subst (λ ms. IfKnown old new (Adds (AppendsEach Writes ms))) (sym (map-next segments xs index x here is))
     (IfKnown-join old mid new (λ a b c (text, all, e) (last, this, f). (text ++ last, AppendsEach-push Writes (map segments (take index xs)) (segments x) text last all this, f ∙ ap (λ l. l ++ last) e ∙ append_assoc a text last)) before next)
 
 pub appended_none : (Writes : List (List ℕ) → List ℕ → Type 0) (written : Option (List ℕ)) → IfKnown written written (Adds (AppendsEach Writes []))
@@ -121,13 +129,27 @@ writable_at segments [] index x here is all = absurd (omega arith)
 writable_at segments (y ∷ ys) zero x here is all = subst (λ z. IsWritable (segments z)) (sym is) all.0
 writable_at segments (y ∷ ys) (suc index) x here is all = writable_at segments ys index x (omega arith) is all.1
 
+-- none of those that were written has too many segments
+pub few_next : {S : Type 0} (segments : S → List (List ℕ)) (xs : List S) (index : ℕ) (x : S) → index < length xs → x ≡ get_or xs index x
+    → AllByRecursion HasFew (map segments (take index xs)) → HasFew (segments x) → AllByRecursion HasFew (map segments (take (index + 1) xs))
+few_next segments xs index x here is before few = subst (AllByRecursion HasFew) (sym (map-next segments xs index x here is))
+    (AllByRecursion-append HasFew (map segments (take index xs)) (segments x ∷ []) before (few, tt))
+
+-- the one that has is one of them
+pub many_at : {S : Type 0} (segments : S → List (List ℕ)) (xs : List S) (index : ℕ) (x : S) (kind : ErrorKind) → index < length xs → x ≡ get_or xs index x
+    → RefusesMany (segments x) kind → RefusesManyOf (map segments xs) kind
+many_at segments [] index x kind here is many = absurd (omega arith)
+many_at segments (y ∷ ys) zero x kind here is many = inl (subst (λ z. RefusesMany (segments z) kind) is many)
+many_at segments (y ∷ ys) (suc index) x kind here is many = inr (many_at segments ys index x kind (omega arith) is many)
+
 -- what was appended to nothing is texts
 pub read_texts : (rule : Padding) (format : Format) (limit : Option ℕ) (ms : List (List (List ℕ))) (start new shown : List ℕ)
-    → start ≡ [] → shown ≡ new → AllByRecursion IsWritable ms → AllByRecursion (λ m. IsWithin m limit) ms
-    → Adds (AppendsEach (IsTextOf format) ms) start new → AreTexts (grammar_of rule format) limit ms shown []
-read_texts rule format limit ms start new shown none same writable within (text, all, e) =
+    → start ≡ [] → shown ≡ new → AllByRecursion IsWritable ms → AllByRecursion HasFew ms
+    → AllByRecursion (λ m. KeepsLimit (lengths m) limit) ms → Adds (AppendsEach (IsTextOf format) ms) start new
+    → AreTexts (grammar_of rule format) limit ms shown []
+read_texts rule format limit ms start new shown none same writable few size (text, all, e) =
     subst (λ l. AreTexts (grammar_of rule format) limit ms l []) (ap (λ l. l ++ text) (sym none) ∙ sym e ∙ sym same)
-    (appended_texts rule format limit ms text writable within all)
+    (appended_texts rule format limit ms text writable few size all)
 
 -- and just these are read of it
 pub read_same : {X S : Type 0} (rule : Padding) (format : Format) (limit : Option ℕ) (segments : X → List (List ℕ))

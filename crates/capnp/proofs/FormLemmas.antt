@@ -1,17 +1,16 @@
 -- The one segment of a canonical form can be written.
 use Rattle.std.proofs.Common.{◌≡◌, ◌⊎◌, ℕ, suc, ◌≤◌, ◌/◌, ◌^◌, ◌<◌, List, [], ◌∷◌, length, Result, Ok, Err, true, inl, inr, sym, ap, subst, arith}
-use Rattle.std.proofs.lemmas.List.{append-nil}
 use Rattle.std.specs.Result.{IsErrAnd}
 use Rattle.capnp_frame.specs.declared.error.Error.{Error}
 use Rattle.capnp_frame.specs.declared.error.ErrorKind.{ErrorKind}
 use Rattle.capnp_frame.specs.declared.error.ErrorKind.TheVariants.{DeviceFailed, OutOfMemory}
 use Rattle.capnp_frame.specs.declared.io.Write.{Ghosts}
 use Rattle.capnp_frame.specs.Sink.{Declining, AppendsAll, DeclinesSome}
-use Rattle.capnp_frame.specs.Source.{IsPreorder, IsFront, Fails}
-use Rattle.capnp_frame.specs.Writers.{WritesTo, WritesPieces, LacksTable}
+use Rattle.capnp_frame.specs.Source.{IsPreorder, Fails}
+use Rattle.capnp_frame.specs.Writers.{WritesTo, WritesSegments}
 use Rattle.capnp_frame.specs.Writing.{IsWritable, pieces}
 use Rattle.capnp_frame.proofs.AskLemmas.{passed_on}
-use Rattle.capnp_frame.proofs.SourceLemmas.{IfKnown-refl, IfKnown-weaker}
+use Rattle.capnp_frame.proofs.SourceLemmas.{Grows-refl, IfKnown-weaker}
 use Rattle.capnp_wire.specs.Pointer.{words_of}
 use Rattle.capnp_wire.specs.Tree.{total_words}
 use Rattle.capnp_wire.specs.Trim.{trim}
@@ -23,6 +22,7 @@ use Rattle.capnp_wire.proofs.OpenLemmas.{room_formed}
 use Rattle.capnp_wire.proofs.WordLemmas.{length-words_of}
 use Rattle.capnp_message.specs.Canonical.{LacksForm}
 use Rattle.capnp.specs.Canonical.{IsForm, AppendsForm, DeclinesForm}
+use Rattle.capnp.specs.Written.{RefusesWriter}
 use Rattle.capnp.proofs.BlameLemmas.{answer_blames_none}
 
 -- a form has fewer words than a segment may
@@ -53,12 +53,12 @@ refused_on P (Err e) is p = subst P (sym is) p
 
 -- the engine's refusal is one of the form's
 declines_writing : (pointer : Pointer) (refuses : Declining) (form : List ℕ) (segments : List (List ℕ)) (kind : ErrorKind) → IsForm pointer form → segments ≡ form ∷ []
-    → (kind ≡ DeviceFailed) ⊎ DeclinesSome refuses (pieces segments) kind ⊎ (4 ≤ length segments) × (kind ≡ OutOfMemory)
-    → (kind ≡ DeviceFailed) ⊎ (kind ≡ OutOfMemory) ⊎ DeclinesForm pointer refuses kind
+    → RefusesWriter refuses segments kind → (kind ≡ DeviceFailed) ⊎ (kind ≡ OutOfMemory) ⊎ DeclinesForm pointer refuses kind
 declines_writing pointer refuses form segments kind stands is (inl failed) = inl failed
 declines_writing pointer refuses form segments kind stands is (inr (inl declined)) =
     inr (inr (inr (form, stands, subst (λ (s : List (List ℕ)). DeclinesSome refuses (pieces s) kind) is declined)))
-declines_writing pointer refuses form segments kind stands is (inr (inr memory)) = inr (inl memory.1)
+declines_writing pointer refuses form segments kind stands is (inr (inr (inl many))) = absurd (omega (arith, many.0, ap length is))
+declines_writing pointer refuses form segments kind stands is (inr (inr (inr memory))) = inr (inl memory.1)
 
 -- so where there is no form, nothing is written
 pub form_lacking : {S X : Type 0} (sink : Ghosts S) (keeps : IsPreorder sink.same) (s : S) (pointer : Pointer) (e : Error) (r : Result X Error)
@@ -71,23 +71,23 @@ form_lacking {X = X} sink keeps s pointer e (Err o) is lacks = record {
       (Err o) is (declines_reading pointer sink.refuses e.kind lacks);
   failed = passed_on {Y = X} {error = e} (λ (y : Error). y.kind ≡ DeviceFailed → Fails (sink.failures s) (sink.failures s)) (Err o) is
       (λ device. absurd (answer_blames_none pointer e.kind lacks device));
-  grows = record { front = IfKnown-refl IsFront (sink.written s) (λ x. ([], sym (append-nil x))); counted = omega arith; same_sink = keeps.reflexive s };
+  grows = Grows-refl s (keeps.reflexive s);
 }
 
 -- and the form is written as the message of one segment
 pub form_written : {S X : Type 0} (sink : Ghosts S) (old new : S) (pointer : Pointer) (form : List ℕ) (segments : List (List ℕ)) (r : Result X Error)
-    → IsForm pointer form → segments ≡ form ∷ [] → WritesPieces sink old new (pieces segments) (LacksTable segments) r
+    → IsForm pointer form → segments ≡ form ∷ [] → WritesSegments sink old new segments r
     → WritesTo sink old new (AppendsForm pointer sink.appends) (λ kind. (kind ≡ OutOfMemory) ⊎ DeclinesForm pointer sink.refuses kind) r
 form_written sink old new pointer form segments (Ok x) stands is told = record {
   written = IfKnown-weaker (sink.written old) (sink.written new) (λ before after (text, p, e).
-      (text, (form, stands, subst (λ (s : List (List ℕ)). AppendsAll sink.appends (pieces s) text) is p), e)) told.written;
+      (text, (form, stands, subst (λ (s : List (List ℕ)). AppendsAll sink.appends (pieces s) text) is p), e)) told.parts.written;
   refused = tt;
   failed = tt;
-  grows = told.grows;
+  grows = told.parts.grows;
 }
 form_written sink old new pointer form segments (Err e) stands is told = record {
   written = tt;
-  refused = declines_writing pointer sink.refuses form segments e.kind stands is told.refused;
-  failed = told.failed;
-  grows = told.grows;
+  refused = declines_writing pointer sink.refuses form segments e.kind stands is told.parts.refused;
+  failed = told.parts.failed;
+  grows = told.parts.grows;
 }

@@ -1,5 +1,5 @@
 -- The pieces of a message are whole words, and a sink that refuses one of them refuses some piece.
-use Rattle.std.proofs.Common.{◌≡◌, inl, inr, ℕ, ◌+◌, ◌*◌, ◌/◌, Result, Ok, Err, IfErr, List, [], ◌∷◌, length, take, drop, arith}
+use Rattle.std.proofs.Common.{◌≡◌, ◌⊎◌, inl, inr, ℕ, ◌+◌, ◌*◌, ◌/◌, Result, Ok, Err, IfErr, List, [], ◌∷◌, length, take, drop, arith}
 use Rattle.std.proofs.lemmas.List.{length-take-le, length-drop}
 use Rattle.std.specs.List.{AllByRecursion}
 use Rattle.std.specs.Prelude.{nat_lt, Bool, true, false, cond}
@@ -7,7 +7,7 @@ use Rattle.capnp_frame.specs.declared.error.Error.{Error}
 use Rattle.capnp_frame.specs.declared.error.ErrorKind.{ErrorKind}
 use Rattle.capnp_frame.specs.Message.{IsWholeWords, lengths}
 use Rattle.capnp_frame.specs.SegmentTable.{zero_padded_table}
-use Rattle.capnp_frame.specs.Writing.{IsWritable, pieces, table_pieces}
+use Rattle.capnp_frame.specs.Writing.{IsWritable, RefusesMany, pieces, table_pieces}
 use Rattle.capnp_frame.specs.Sink.{Declining, DeclinesAny, DeclinesSome}
 use Rattle.capnp_frame.specs.declared.serialize.segment_table.Padding.TheVariants.{Zero}
 use Rattle.capnp_frame.proofs.FrameLemmas.{zero_padded_is, length-table}
@@ -41,15 +41,20 @@ pieces_whole segments writable =
     let long = length-table table (lengths segments) (zero_padded_is Zero (lengths segments) (HasTable-writable segments writable)) in
     AllByRecursion-append IsWholeWords (table_pieces (lengths segments)) segments (table_whole table (length (lengths segments) / 2) (nat_lt 8 (length table)) long) writable.whole
 
--- a writer's refusal, of either format, as one of messages one after the other
-pub framed_appending : {X : Type 0} (refuses : Declining) (message : List (List ℕ)) (r : Result X Error) → IfErr r (λ e. RefusesWriter refuses message e.kind) → IfErr r (λ e. RefusesAppending refuses e.kind)
+-- a writer's failure, of either format, as one of messages one after the other
+pub framed_appending : {X : Type 0} (refuses : Declining) (message : List (List ℕ)) (r : Result X Error) → IfErr r (λ e. RefusesWriter refuses message e.kind)
+    → IfErr r (λ e. RefusesMany message e.kind ⊎ RefusesAppending refuses e.kind)
 framed_appending refuses message (Ok x) refused = tt
-framed_appending refuses message (Err e) (inl device) = inl device
-framed_appending refuses message (Err e) (inr (inl declined)) = inr (inr (some_declined refuses (pieces message) e.kind declined))
-framed_appending refuses message (Err e) (inr (inr memory)) = inr (inl memory.1)
+framed_appending refuses message (Err e) (inl device) = inr (inl device)
+framed_appending refuses message (Err e) (inr (inl declined)) = inr (inr (inr (some_declined refuses (pieces message) e.kind declined)))
+framed_appending refuses message (Err e) (inr (inr (inl many))) = inl many
+framed_appending refuses message (Err e) (inr (inr (inr memory))) = inr (inr (inl memory.1))
 
-pub packed_appending : {X : Type 0} (refuses : Declining) (message : List (List ℕ)) (r : Result X Error) → IsWritable message → IfErr r (λ e. RefusesWriter (DeclinesPacked refuses) message e.kind) → IfErr r (λ e. RefusesAppending refuses e.kind)
+pub packed_appending : {X : Type 0} (refuses : Declining) (message : List (List ℕ)) (r : Result X Error) → IsWritable message
+    → IfErr r (λ e. RefusesWriter (DeclinesPacked refuses) message e.kind) → IfErr r (λ e. RefusesMany message e.kind ⊎ RefusesAppending refuses e.kind)
 packed_appending refuses message (Ok x) writable refused = tt
-packed_appending refuses message (Err e) writable (inl device) = inl device
-packed_appending refuses message (Err e) writable (inr (inl declined)) = inr (inr (packed_declined refuses (pieces message) e.kind (pieces_whole message writable) declined))
-packed_appending refuses message (Err e) writable (inr (inr memory)) = inr (inl memory.1)
+packed_appending refuses message (Err e) writable (inl device) = inr (inl device)
+packed_appending refuses message (Err e) writable (inr (inl declined)) =
+    inr (inr (inr (packed_declined refuses (pieces message) e.kind (pieces_whole message writable) declined)))
+packed_appending refuses message (Err e) writable (inr (inr (inl many))) = inl many
+packed_appending refuses message (Err e) writable (inr (inr (inr memory))) = inr (inr (inl memory.1))

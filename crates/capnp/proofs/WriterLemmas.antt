@@ -1,21 +1,21 @@
 -- What writers add to a plain sink, and what a reader's message is to a writer.
 use Rattle.std.proofs.Common.{◌≡◌, ◌⊎◌, inl, inr, ℕ, Option, None, Result, Ok, Err, OnOk, IfOk, IfErr, List, [], ◌∷◌, length, ◌*◌, ap, sym, ◌∙◌, arith}
-use Rattle.std.proofs.lemmas.List.{length-map}
 use Rattle.std.specs.List.{AllByRecursion}
 use Rattle.capnp_frame.specs.declared.error.Error.{Error}
 use Rattle.capnp_frame.specs.declared.error.ErrorKind.{ErrorKind}
 use Rattle.capnp_frame.specs.declared.error.ErrorKind.TheVariants.{DeviceFailed, OutOfMemory}
-use Rattle.capnp_frame.specs.Limits.{IsWithin}
-use Rattle.capnp_frame.specs.Message.{IsWholeWords, word_count}
+use Rattle.capnp_frame.specs.Limits.{KeepsLimit, IsWithin}
+use Rattle.capnp_frame.specs.Message.{IsWholeWords, lengths}
 use Rattle.capnp_frame.specs.declared.io.Write.{Ghosts}
 use Rattle.capnp_frame.specs.Asking.{FailsOr}
 use Rattle.capnp_frame.specs.Source.{IfKnown, Fails}
 use Rattle.capnp_frame.specs.Sink.{Appending, Declining, DeclinesSome, Adds, AppendsAll, AppendsSame, Grows}
-use Rattle.capnp_frame.specs.Writers.{WritesPieces, LacksTable}
-use Rattle.capnp_frame.specs.Writing.{IsWritable, pieces, serialized_words}
+use Rattle.capnp_frame.specs.Writers.{KeepsCount, WritesSegments}
+use Rattle.capnp_frame.specs.Writing.{IsWritable, HasFew, HasMany, pieces, serialized_words}
 use Rattle.capnp_frame.proofs.SourceLemmas.{IfKnown-weaker}
 use Rattle.capnp_frame.proofs.SizeLemmas.{concat-pieces, length-frame_text}
 use Rattle.capnp_frame.proofs.TextLemmas.{pieces_joined}
+use Rattle.capnp_frame.proofs.WritingLemmas.{length-lengths}
 use Rattle.capnp_pack.specs.PackedSink.{AppendsPacked, DeclinesPacked}
 use Rattle.capnp_pack.proofs.PackedTextLemmas.{packed_pieces}
 use Rattle.capnp.specs.declared.streams.Format.TheVariants.{Framed, Packed}
@@ -49,8 +49,8 @@ IsWritable-within message limit within whole =
     let some = within.some in
     let few = within.few in
     record {
-      some = omega (arith, length-map message word_count);
-      few = omega (arith, length-map message word_count);
+      some = omega (arith, length-lengths message);
+      few = omega (arith, length-lengths message);
       whole = whole;
       each = within.each;
     }
@@ -58,15 +58,23 @@ IsWritable-within message limit within whole =
 pub IsWithin-any : (message : List (List ℕ)) (limit : Option ℕ) → IsWithin message limit → IsWithin message None
 IsWithin-any message limit within = record { some = within.some; few = within.few; each = within.each; size = tt }
 
--- a writer's refusal is a fault of the run
-pub writer_fault : {X : Type 0} (refuses : Declining) (message : List (List ℕ)) (Declines : ErrorKind → Type 0) (r : Result X Error)
-    → ((kind : ErrorKind) → DeclinesSome refuses (pieces message) kind → Declines kind)
+-- a message that keeps the limit of words, and that a writer took, is one that a reader accepts
+pub IsWithin-written : (message : List (List ℕ)) (limit : Option ℕ) → IsWritable message → HasFew message → KeepsLimit (lengths message) limit → IsWithin message limit
+IsWithin-written message limit writable few size =
+    let count = length-lengths message in
+    let some = writable.some in
+    record { some = omega arith; few = omega arith; each = writable.each; size = size }
+
+-- where a message was read, a writer's failure is a fault of the run: it has not too many segments
+pub writer_fault : {X : Type 0} (refuses : Declining) (message : List (List ℕ)) (limit : Option ℕ) (r : Result X Error) → IsWithin message limit
     → IfErr r (λ e. RefusesWriter refuses message e.kind)
-    → IfErr r (λ e. (e.kind ≡ DeviceFailed) ⊎ (e.kind ≡ OutOfMemory) ⊎ Declines e.kind)
-writer_fault refuses message Declines (Ok x) declined refused = tt
-writer_fault refuses message Declines (Err e) declined (inl device) = inl device
-writer_fault refuses message Declines (Err e) declined (inr (inl some)) = inr (inr (declined e.kind some))
-writer_fault refuses message Declines (Err e) declined (inr (inr memory)) = inr (inl memory.1)
+    → IfErr r (λ e. (e.kind ≡ DeviceFailed) ⊎ (e.kind ≡ OutOfMemory) ⊎ DeclinesSome refuses (pieces message) e.kind)
+writer_fault refuses message limit (Ok x) within refused = tt
+writer_fault refuses message limit (Err e) within (inl device) = inl device
+writer_fault refuses message limit (Err e) within (inr (inl declined)) = inr (inr declined)
+writer_fault refuses message limit (Err e) within (inr (inr (inl many))) =
+    let some = many.0 in let few = within.few in absurd (omega (arith, length-lengths message))
+writer_fault refuses message limit (Err e) within (inr (inr (inr memory))) = inr (inl memory.1)
 
 -- the size of a text that was written
 pub text_size : (r : Result ℕ Error) (message : List (List ℕ)) → IsWritable message → IfOk r (λ words. words ≡ serialized_words message)
@@ -76,14 +84,16 @@ text_size (Ok words) message writable size = λ text is. ap length is ∙ length
 
 -- what the engine writes of a message, framed
 pub frame_written : {S X : Type 0} (sink : Ghosts S) (old new : S) (message : List (List ℕ)) (r : Result X Error)
-    → WritesPieces sink old new (pieces message) (LacksTable message) r → WritesMessage Framed sink old new message r
+    → WritesSegments sink old new message r → WritesMessage Framed sink old new message r
 frame_written sink old new message r told = record {
-  text = λ plain. Adds-weaker r _ _ (frame_text_added sink.appends plain message) told.written;
-  written = told.written;
-  refused = told.refused;
-  untouched = told.untouched;
-  failed = told.failed;
-  grows = told.grows;
+  count = told.count;
+  unwritten = told.unwritten;
+  text = λ plain. Adds-weaker r _ _ (frame_text_added sink.appends plain message) told.parts.written;
+  written = told.parts.written;
+  refused = told.parts.refused;
+  untouched = told.parts.untouched;
+  failed = told.parts.failed;
+  grows = told.parts.grows;
 }
 
 -- what stays of a packer stays of its sink
@@ -96,12 +106,14 @@ kept_below see Declines old new (Err e) (inr (inr same)) = inr (inr (ap see same
 
 -- and packed, by a packer in which the sink is seen
 pub packed_written : {S P X : Type 0} (sink : Ghosts S) (see : P → S) (old new : P) (message : List (List ℕ)) (r : Result X Error)
-    → OnOk r (IfKnown (sink.written (see old)) (sink.written (see new)) (Adds (AppendsAll (AppendsPacked sink.appends) (pieces message))))
+    → KeepsCount message r → (HasMany message → new ≡ old) → OnOk r (IfKnown (sink.written (see old)) (sink.written (see new)) (Adds (AppendsAll (AppendsPacked sink.appends) (pieces message))))
     → IfErr r (λ e. RefusesWriter (DeclinesPacked sink.refuses) message e.kind)
     → FailsOr r (λ kind. DeclinesSome (DeclinesPacked sink.refuses) (pieces message) kind ⊎ (new ≡ old))
     → IfErr r (λ e. e.kind ≡ DeviceFailed → Fails (sink.failures (see old)) (sink.failures (see new)))
     → Grows sink.written sink.failures sink.same (see old) (see new) → WritesMessage Packed sink (see old) (see new) message r
-packed_written sink see old new message r written refused untouched failed grows = record {
+packed_written sink see old new message r count unwritten written refused untouched failed grows = record {
+  count = count;
+  unwritten = λ many. ap see (unwritten many);
   text = λ plain. Adds-weaker r _ _ (packed_text_added sink.appends plain message) written;
   written = written;
   refused = refused;

@@ -1,4 +1,9 @@
 -- Both ways of transcoding (src/transcoding.rt).
+use Rattle.std.specs.Prelude.{ℕ, Option, Result}
+use Rattle.capnp_frame.specs.declared.error.Error.{Error}
+use Rattle.capnp_frame.specs.declared.io.Read.{Ghosts}
+use Rattle.capnp_frame.specs.declared.io.Write.{Ghosts as SinkGhosts}
+use Rattle.capnp_frame.specs.declared.serialize.segment_table.Padding.{Padding}
 use Rattle.capnp_frame.specs.Sink.{Appending, AppendsAll, Declining, DeclinesSome}
 use Rattle.capnp_frame.specs.Writing.{pieces}
 use Rattle.capnp_pack.specs.PackedSink.{AppendsPacked, DeclinesPacked}
@@ -6,8 +11,8 @@ use Rattle.capnp.specs.declared.streams.Format.{Format}
 use Rattle.capnp.specs.declared.streams.Format.TheVariants.{Framed, Packed}
 use Rattle.capnp.specs.declared.transcoding.Way.{Way}
 use Rattle.capnp.specs.declared.transcoding.Way.TheVariants.{Pack, Unpack}
-use Rattle.capnp.specs.Written.{IsFrameText, IsPackedTextOf}
-use Rattle.capnp.specs.Runs.{Writing, DecliningWriting}
+use Rattle.capnp.specs.Written.{IsPlainSink, IsFrameText, IsPackedTextOf}
+use Rattle.capnp.specs.Runs.{Writing, DecliningWriting, WritesEach, WithoutCount}
 
 -- the format that is read
 abbrev pub input_of : Way → Format
@@ -28,3 +33,15 @@ DeclinesTranscoded Unpack refuses index message kind = DeclinesSome refuses (pie
 abbrev pub IsOtherText : Way → Writing
 IsOtherText Pack index message text = IsPackedTextOf message text
 IsOtherText Unpack index message text = IsFrameText message text
+
+-- What a call does that writes each message of a stream, its padding by the rule, in the other format. `source` and `sink` are what is
+-- seen of them (the members of the traits Read and Write); the source is `old` before the call and `new` after it, the sink `before`
+-- and `after`.
+pub record TranscodesEach {S T : Type 0} (source : Ghosts S) (old new : S) (sink : SinkGhosts T) (before after : T)
+    (rule : Padding) (way : Way) (limit : Option ℕ) (result : Result (Unit {0}) Error) : Type 0 where
+  -- a plain sink gets the texts in the other format
+  pub texts : IsPlainSink sink.appends → WithoutCount (WritesEach source old new sink before after rule (input_of way) limit
+      (IsOtherText way) (DeclinesTranscoded way sink.refuses)) result
+  -- and every sink what the pieces of the messages add
+  pub runs : WithoutCount (WritesEach source old new sink before after rule (input_of way) limit
+      (Transcodes way sink.appends) (DeclinesTranscoded way sink.refuses)) result

@@ -1,5 +1,5 @@
 -- What writers add to sinks.
-use Rattle.std.specs.Prelude.{◌≡◌, ◌⊎◌, ◌≤◌, ℕ, List, [], ◌∷◌, ◌++◌, length, map, Result, OnOk, IfErr}
+use Rattle.std.specs.Prelude.{◌≡◌, ◌⊎◌, ℕ, List, [], ◌∷◌, ◌++◌, map, Result, OnOk, IfErr}
 use Rattle.capnp_frame.specs.declared.error.Error.{Error}
 use Rattle.capnp_frame.specs.declared.error.ErrorKind.{ErrorKind}
 use Rattle.capnp_frame.specs.declared.error.ErrorKind.TheVariants.{DeviceFailed, OutOfMemory}
@@ -8,7 +8,8 @@ use Rattle.capnp_frame.specs.Asking.{FailsOr}
 use Rattle.capnp_frame.specs.Frame.{frame_text}
 use Rattle.capnp_frame.specs.Sink.{Appending, Declining, DeclinesAny, DeclinesSome, Adds, AppendsAll, Grows}
 use Rattle.capnp_frame.specs.Source.{IfKnown, Fails}
-use Rattle.capnp_frame.specs.Writing.{pieces}
+use Rattle.capnp_frame.specs.Writers.{KeepsCount, RefusesUnwritten}
+use Rattle.capnp_frame.specs.Writing.{HasMany, RefusesMany, pieces}
 use Rattle.capnp_build.specs.Built.{Built}
 use Rattle.capnp_build.specs.Held.{used_of}
 use Rattle.capnp_pack.specs.PackedFrame.{IsPackedText}
@@ -35,11 +36,10 @@ IsTextOf Packed = IsPackedTextOf
 abbrev pub output_of : {A : Type 0} → Built A → List (List ℕ)
 output_of built = map used_of built.spaces
 
--- why a writer is refused: by the device, as its sink refuses one of the pieces, or from four segments on for want of memory
+-- why a writer fails: by the device, as its sink refuses one of the pieces, or before it writes, for more segments than a reader
+-- accepts or, from four on, for want of memory
 abbrev pub RefusesWriter : Declining → List (List ℕ) → ErrorKind → Type 0
-RefusesWriter refuses message kind = (kind ≡ DeviceFailed)
-    ⊎ DeclinesSome refuses (pieces message) kind
-    ⊎ (4 ≤ length message) × (kind ≡ OutOfMemory)
+RefusesWriter refuses message kind = (kind ≡ DeviceFailed) ⊎ DeclinesSome refuses (pieces message) kind ⊎ RefusesUnwritten message kind
 
 -- what a piece adds to a sink in this format, and by which kinds it may be refused
 abbrev pub AppendsAs : Format → Appending → Appending
@@ -54,6 +54,9 @@ DeclinesAs Packed refuses = DeclinesPacked refuses
 -- trait Write), `old` and `new` are the sink before the call and after it.
 pub record WritesMessage {S X : Type 0} (format : Format) (sink : Ghosts S) (old new : S) (message : List (List ℕ))
     (result : Result X Error) : Type 0 where
+  -- it fails by the number of segments exactly where there are more than a reader accepts, and then the sink stays as it was
+  pub count : KeepsCount message result
+  pub unwritten : HasMany message → new ≡ old
   -- to a plain sink the text of the message is added
   pub text : IsPlainSink sink.appends → OnOk result (IfKnown (sink.written old) (sink.written new) (Adds (IsTextOf format message)))
   -- and to every sink what its pieces add, one after the other
@@ -67,7 +70,12 @@ pub record WritesMessage {S X : Type 0} (format : Format) (sink : Ghosts S) (old
   -- what was written before stays at the front, also where the call fails
   pub grows : Grows sink.written sink.failures sink.same old new
 
--- the same of messages one after the other: by the device, for want of memory, or as the sink refuses some piece
+-- one of these messages has more segments than a reader accepts, and the failure tells their number
+abbrev pub RefusesManyOf : List (List (List ℕ)) → ErrorKind → Type 0
+RefusesManyOf [] kind = ⊥
+RefusesManyOf (m ∷ ms) kind = RefusesMany m kind ⊎ RefusesManyOf ms kind
+
+-- why messages are not written one after the other beside that: by the device, for want of memory, or as the sink refuses some piece
 abbrev pub RefusesAppending : Declining → ErrorKind → Type 0
 RefusesAppending refuses kind = (kind ≡ DeviceFailed) ⊎ (kind ≡ OutOfMemory) ⊎ DeclinesAny refuses kind
 

@@ -2,15 +2,16 @@
 ghost use Rattle.std.specs.Prelude.{◌≡◌, ◌⊎◌, ℕ, List, [], map, length, Some, None, IfSome, IfNone, IfOk, OnOk, IfErr};
 ghost use Rattle.std.specs.List.{AllByRecursion};
 ghost use Rattle.capnp_frame.specs.declared.error.ErrorKind.{ErrorKind};
-ghost use Rattle.capnp_frame.specs.Limits.{IsWithin};
+ghost use Rattle.capnp_frame.specs.Limits.{KeepsLimit};
+ghost use Rattle.capnp_frame.specs.Message.{lengths};
 ghost use Rattle.capnp_frame.specs.Source.{IfKnown, Advances, Fails};
 ghost use Rattle.capnp_frame.specs.Sink.{Adds, Grows};
 ghost use Rattle.capnp_frame.specs.Texts.{AreTexts};
-ghost use Rattle.capnp_frame.specs.Writing.{IsWritable};
+ghost use Rattle.capnp_frame.specs.Writing.{IsWritable, HasFew, RefusesMany};
 ghost use Rattle.capnp_frame.specs.Streams.{next_in, message_in, ReadsStream};
 ghost use Rattle.capnp.specs.Headline.{IsFault, ReturnsTexts, OrFailsAtEnd};
 ghost use Rattle.capnp.specs.Streams.{grammar_of, rules_of};
-ghost use Rattle.capnp.specs.Written.{IsPlainSink, IsTextOf, AppendsEach, RefusesAppending};
+ghost use Rattle.capnp.specs.Written.{IsPlainSink, IsTextOf, AppendsEach, RefusesManyOf, RefusesAppending};
 
 use crate::streams::Format;
 use crate::{serialize, serialize_packed};
@@ -30,13 +31,16 @@ pub fn write_and_read_back<S: ReaderSegments>(
     options: ReaderOptions,
 ) -> Result<(Vec<Reader<OwnedSegments>>, Option<Reader<OwnedSegments>>)>
     requires writable { AllByRecursion IsWritable (map S.segments messages.now) }
-    requires within { AllByRecursion (λ m. IsWithin m options.traversal_limit_in_words)
+    requires size { AllByRecursion (λ m. KeepsLimit (lengths m) options.traversal_limit_in_words)
         (map S.segments messages.now) }
     // They are what was written, and behind them is none.
     ensures back { IfOk result (λ read.
         map (λ reader. reader.segments) read.0.items ≡ map S.segments messages.now) }
     ensures end { IfOk result (λ read. read.1 ≡ None) }
-    ensures memory { IfErr result (λ error. error.kind ≡ ErrorKind.OutOfMemory) }
+    // One with more segments than a reader accepts is not written.
+    ensures few { OnOk result (AllByRecursion HasFew (map S.segments messages.now)) }
+    ensures refused { IfErr result (λ error. RefusesManyOf (map S.segments messages.now) error.kind
+        ⊎ (error.kind ≡ ErrorKind.OutOfMemory)) }
 {
     let mut text: Vec<u8> = Vec::new(alloc);
     write_messages(alloc, format, &mut text, messages)?;
@@ -46,7 +50,8 @@ pub fn write_and_read_back<S: ReaderSegments>(
     Ok((readers, end))
 }
 
-/// Writes messages one after the other. What is written before a refusal stays.
+/// Writes messages one after the other. What is written before a failure stays. One of more than 511
+/// segments fails with `InvalidNumberOfSegments`.
 pub fn write_messages<W: Write, S: ReaderSegments>(
     alloc: Global,
     format: Format,
@@ -57,7 +62,9 @@ pub fn write_messages<W: Write, S: ReaderSegments>(
     ensures text { IsPlainSink W.appends → OnOk result
         (IfKnown (W.written sink.old) (W.written sink.new)
         (Adds (AppendsEach (IsTextOf format) (map S.segments messages.now)))) }
-    ensures refused { IfErr result (λ error. RefusesAppending W.refuses error.kind) }
+    ensures few { OnOk result (AllByRecursion HasFew (map S.segments messages.now)) }
+    ensures refused { IfErr result (λ error. RefusesManyOf (map S.segments messages.now) error.kind
+        ⊎ RefusesAppending W.refuses error.kind) }
     ensures failed { IfErr result (λ error. error.kind ≡ ErrorKind.DeviceFailed →
         Fails (W.failures sink.old) (W.failures sink.new)) }
     ensures grows { Grows W.written W.failures W.same sink.old sink.new }
@@ -109,7 +116,9 @@ pub(crate) fn write_message<W: Write, S: ReaderSegments>(
     ensures text { IsPlainSink W.appends → OnOk result
         (IfKnown (W.written sink.old) (W.written sink.new)
         (Adds (IsTextOf format (S.segments message.now)))) }
-    ensures refused { IfErr result (λ error. RefusesAppending W.refuses error.kind) }
+    ensures few { OnOk result (HasFew (S.segments message.now)) }
+    ensures refused { IfErr result (λ error. RefusesMany (S.segments message.now) error.kind
+        ⊎ RefusesAppending W.refuses error.kind) }
     ensures failed { IfErr result (λ error. error.kind ≡ ErrorKind.DeviceFailed →
         Fails (W.failures sink.old) (W.failures sink.new)) }
     ensures grows { Grows W.written W.failures W.same sink.old sink.new }

@@ -3,9 +3,10 @@ ghost use Rattle.std.specs.Prelude.{◌≡◌, ◌++◌, ℕ, List, [], Option, 
 ghost use Rattle.std.specs.List.{AllByRecursion};
 ghost use Rattle.capnp_frame.specs.declared.error.ErrorKind.{ErrorKind};
 ghost use Rattle.capnp_frame.specs.declared.serialize.segment_table.Padding.{Padding};
-ghost use Rattle.capnp_frame.specs.Limits.{IsWithin};
+ghost use Rattle.capnp_frame.specs.Limits.{KeepsLimit};
+ghost use Rattle.capnp_frame.specs.Message.{lengths};
 ghost use Rattle.capnp_frame.specs.Texts.{AreTexts};
-ghost use Rattle.capnp_frame.specs.Writing.{IsWritable};
+ghost use Rattle.capnp_frame.specs.Writing.{IsWritable, HasFew};
 ghost use Rattle.capnp_wire.specs.Tree.{Trees};
 ghost use Rattle.capnp_build.specs.Bytes.{Space};
 ghost use Rattle.capnp_build.specs.Held.{used_of};
@@ -39,22 +40,23 @@ pub fn a_stream_is_one_list()
         (messages ≡ others) × (ending ≡ other) }
 {}
 
-/// What is written of messages one after the other is a stream of just these, within any limit that
-/// they keep.
+/// What is written of messages one after the other, none of more segments than a writer takes, is a
+/// stream of just these, within any limit of words that they keep.
 pub fn what_is_written_is_a_stream()
     ensures { (rule : Padding) (format : Format) (limit : Option ℕ) (messages : List (List (List ℕ)))
-        (text : List ℕ) → AllByRecursion IsWritable messages →
-        AllByRecursion (λ message. IsWithin message limit) messages →
+        (text : List ℕ) → AllByRecursion IsWritable messages → AllByRecursion HasFew messages →
+        AllByRecursion (λ message. KeepsLimit (lengths message) limit) messages →
         AppendsEach (IsTextOf format) messages text → IsStream rule format limit messages None text }
 {}
 
 /// A tree that stands at the root of a message that is built is the root tree of what is read of its
-/// text, in both formats, for at most 511 segments within the limit of words. What follows the text
-/// is left.
+/// text, in both formats, for no more segments than a writer takes, within the limit of words. What
+/// follows the text is left.
 pub fn a_root_is_read_back()
     ensures { (rule : Padding) (format : Format) (limit : Option ℕ) (spaces : List Space) (trees : Trees)
         (text rest left : List ℕ) (read : List (List ℕ)) → HasRootTree (map used_of spaces) trees →
-        IsWritable (map used_of spaces) → IsWithin (map used_of spaces) limit →
+        IsWritable (map used_of spaces) → HasFew (map used_of spaces) →
+        KeepsLimit (lengths (map used_of spaces)) limit →
         IsTextOf format (map used_of spaces) text →
         StandsNext rule format limit read (text ++ rest) left →
         HasRootTree read trees × (left ≡ rest) }

@@ -20,7 +20,7 @@ pub mod text;
 pub mod traits;
 mod transcoding;
 
-pub use crate::transcoding::{Way, transcode};
+pub use crate::transcoding::{Way, transcode, transcode_lenient};
 pub use capnp_frame::{Error, ErrorKind, Result, Word, io, word};
 pub use capnp_message::OutputSegments;
 pub use capnp_wire::MessageSize;

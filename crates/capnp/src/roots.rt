@@ -1,7 +1,9 @@
 //! Roots that are set, written, and read back.
-ghost use Rattle.std.specs.Prelude.{◌≡◌, ◌<◌, ◌⊎◌, false, length, IfOk, IfErr};
+ghost use Rattle.std.specs.Prelude.{◌≡◌, ◌<◌, ◌⊎◌, false, length, IfOk, OnOk, IfErr};
 ghost use Rattle.capnp_frame.specs.declared.error.ErrorKind.{ErrorKind};
-ghost use Rattle.capnp_frame.specs.Limits.{IsWithin};
+ghost use Rattle.capnp_frame.specs.Limits.{KeepsLimit};
+ghost use Rattle.capnp_frame.specs.Message.{lengths};
+ghost use Rattle.capnp_frame.specs.Writing.{HasFew, RefusesMany};
 ghost use Rattle.capnp_wire.specs.Values.{HasWords, LacksWords};
 ghost use Rattle.capnp_build.specs.Built.{IsCrowded};
 ghost use Rattle.capnp_build.specs.Out.{MayRefuse};
@@ -21,8 +23,8 @@ use std::alloc::Global;
 /// Sets the root of a message to a value, writes the message to a vector and reads it from there: the
 /// root of what is read is the value's tree.
 ///
-/// A message of at most 511 segments and within the limit of words is refused only as `set_root` is,
-/// or for want of memory.
+/// A message within the limit of words fails only as `set_root` does, for more than 511 segments, or
+/// for want of memory.
 pub fn set_and_read_back<T, V: SetterInput<T> + Drop, A: Allocator>(
     alloc: Global,
     format: Format,
@@ -30,10 +32,12 @@ pub fn set_and_read_back<T, V: SetterInput<T> + Drop, A: Allocator>(
     value: V,
     options: ReaderOptions,
 ) -> Result<Reader<OwnedSegments>>
-    ensures tree { IsWithin (output_of message.new) options.traversal_limit_in_words →
+    ensures tree { KeepsLimit (lengths (output_of message.new)) options.traversal_limit_in_words →
         IfOk result (λ reader. HasRootOf (V.has_tree value) reader.segments) }
-    ensures refused { IsWithin (output_of message.new) options.traversal_limit_in_words →
-        IfErr result (λ error. (error.kind ≡ ErrorKind.OutOfMemory)
+    ensures few { OnOk result (HasFew (output_of message.new)) }
+    ensures refused { KeepsLimit (lengths (output_of message.new)) options.traversal_limit_in_words →
+        IfErr result (λ error. RefusesMany (output_of message.new) error.kind
+        ⊎ (error.kind ≡ ErrorKind.OutOfMemory)
         ⊎ LacksWords (V.has_tree value) (V.refuses value) false error.kind
         ⊎ ((length message.old.spaces ≡ 0) × MayRefuse 1 error.kind)
         ⊎ IsCrowded (HasWords (V.has_tree value) false) message.new.spaces error.kind) }
@@ -51,10 +55,12 @@ pub fn write_and_read_back<A: Allocator>(
     options: ReaderOptions,
 ) -> Result<Reader<OwnedSegments>>
     requires { 0 < length message.now.spaces }
-    ensures back { IsWithin (output_of message.now) options.traversal_limit_in_words →
+    ensures back { KeepsLimit (lengths (output_of message.now)) options.traversal_limit_in_words →
         IfOk result (λ reader. reader.segments ≡ output_of message.now) }
-    ensures memory { IsWithin (output_of message.now) options.traversal_limit_in_words →
-        IfErr result (λ error. error.kind ≡ ErrorKind.OutOfMemory) }
+    ensures few { OnOk result (HasFew (output_of message.now)) }
+    ensures refused { KeepsLimit (lengths (output_of message.now)) options.traversal_limit_in_words →
+        IfErr result (λ error. RefusesMany (output_of message.now) error.kind
+        ⊎ (error.kind ≡ ErrorKind.OutOfMemory)) }
 {
     let output = message.get_segments_for_output();
     let mut text: Vec<u8> = Vec::new(alloc);

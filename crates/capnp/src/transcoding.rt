@@ -1,8 +1,6 @@
 //! From one format to the other.
 ghost use Rattle.std.specs.Prelude.{◌≡◌};
-ghost use Rattle.capnp.specs.Written.{IsPlainSink};
-ghost use Rattle.capnp.specs.Runs.{WritesEach, WithoutCount};
-ghost use Rattle.capnp.specs.Transcoding.{input_of, Transcodes, DeclinesTranscoded, IsOtherText};
+ghost use Rattle.capnp.specs.Transcoding.{input_of, Transcodes, DeclinesTranscoded, TranscodesEach};
 
 use crate::streams::{Format, MessageWriter, write_each_message};
 use crate::{serialize, serialize_packed};
@@ -57,8 +55,8 @@ impl MessageWriter for Way {
 
 /// Writes each message of a source in the other format, until none is left.
 ///
-/// It takes at most 2^64 - 1 messages, and leaves the rest unread. After a reader's refusal the
-/// texts of the messages before it are written.
+/// It takes at most 2^64 - 1 messages, and leaves the rest unread. After a reader's failure the texts
+/// of the messages before it are written. Padding that isn't zero fails with `NonZeroPadding`.
 ///
 /// ```
 /// let mut packed = Vec::new(alloc);
@@ -72,24 +70,40 @@ pub fn transcode<R: BufRead, W: Write>(
     sink: &mut W,
     options: ReaderOptions,
 ) -> Result<()>
-    // A plain sink gets the texts in the other format.
-    ensures texts { IsPlainSink W.appends → WithoutCount (WritesEach R.Read source.old source.new
-        W.Write sink.old sink.new Padding.Zero (input_of way) options.traversal_limit_in_words
-        (IsOtherText way) (DeclinesTranscoded way W.refuses)) result }
-    // Of every sink.
-    ensures runs { WithoutCount (WritesEach R.Read source.old source.new
-        W.Write sink.old sink.new Padding.Zero (input_of way) options.traversal_limit_in_words
-        (Transcodes way W.appends) (DeclinesTranscoded way W.refuses)) result }
+    ensures { TranscodesEach R.Read source.old source.new W.Write sink.old sink.new
+        Padding.Zero way options.traversal_limit_in_words result }
 {
-    match write_each_message(
-        alloc,
-        way.input(),
-        Padding::Zero,
-        options,
-        &way,
-        source,
-        sink,
-    ) {
+    transcode_by(alloc, Padding::Zero, way, source, sink, options)
+}
+
+/// As `transcode`, of messages whose padding may be anything, as older writers left it. What is
+/// written has zero padding.
+pub fn transcode_lenient<R: BufRead, W: Write>(
+    alloc: Global,
+    way: Way,
+    source: &mut R,
+    sink: &mut W,
+    options: ReaderOptions,
+) -> Result<()>
+    ensures { TranscodesEach R.Read source.old source.new W.Write sink.old sink.new
+        Padding.Any way options.traversal_limit_in_words result }
+{
+    transcode_by(alloc, Padding::Any, way, source, sink, options)
+}
+
+// By a rule of padding.
+fn transcode_by<R: BufRead, W: Write>(
+    alloc: Global,
+    padding: Padding,
+    way: Way,
+    source: &mut R,
+    sink: &mut W,
+    options: ReaderOptions,
+) -> Result<()>
+    ensures { TranscodesEach R.Read source.old source.new W.Write sink.old sink.new
+        padding way options.traversal_limit_in_words result }
+{
+    match write_each_message(alloc, way.input(), padding, options, &way, source, sink) {
         Ok(()) => Ok(()),
         Err(stop) => Err(stop.error),
     }

@@ -3,30 +3,33 @@ use Rattle.std.specs.Prelude.{ℕ, List, [], ◌∷◌, codes}
 use Rattle.capnp.specs.Passed.{Padding, Any, Zero}
 use Rattle.capnp.specs.declared.streams.Format.{Format}
 use Rattle.capnp.specs.declared.streams.Format.TheVariants.{Framed, Packed}
+use Rattle.capnp.specs.declared.transcoding.Way.TheVariants.{Pack, Unpack}
+use Rattle.capnp.specs.Transcoding.{input_of as way_input}
 use Rattle.capnp_ls.specs.declared.command.Command.{Command}
-use Rattle.capnp_ls.specs.declared.command.Command.TheVariants.{Listing, Pack, Unpack, Canonical}
+use Rattle.capnp_ls.specs.declared.command.Command.TheVariants.{Listing, Transcoding, Canonical}
 
--- the words of a command, each its bytes
+-- the options of a format and a rule of padding, each its bytes
+abbrev pub option_words : Format → Padding → List (List ℕ)
+option_words Framed Zero = []
+option_words Packed Zero = codes "--packed" ∷ []
+option_words Framed Any = codes "--lenient" ∷ []
+option_words Packed Any = codes "--packed" ∷ codes "--lenient" ∷ []
+
+-- the words of a command: its name, and the options that it has
 abbrev pub command_words : Command → List (List ℕ)
-command_words (Listing Framed Zero) = codes "list" ∷ []
-command_words (Listing Packed Zero) = codes "list" ∷ codes "--packed" ∷ []
-command_words (Listing Framed Any) = codes "list" ∷ codes "--lenient" ∷ []
-command_words (Listing Packed Any) = codes "list" ∷ codes "--packed" ∷ codes "--lenient" ∷ []
-command_words Pack = codes "pack" ∷ []
-command_words Unpack = codes "unpack" ∷ []
-command_words (Canonical Framed) = codes "canon" ∷ []
-command_words (Canonical Packed) = codes "canon" ∷ codes "--packed" ∷ []
+command_words (Listing format padding) = codes "list" ∷ option_words format padding
+command_words (Transcoding Pack padding) = codes "pack" ∷ option_words Framed padding
+command_words (Transcoding Unpack padding) = codes "unpack" ∷ option_words Framed padding
+command_words (Canonical format) = codes "canon" ∷ option_words format Zero
 
 -- what a command reads
 abbrev pub input_of : Command → Format
 input_of (Listing format padding) = format
-input_of Pack = Framed
-input_of Unpack = Packed
+input_of (Transcoding way padding) = way_input way
 input_of (Canonical format) = format
 
 -- and of which padding
 abbrev pub padding_of : Command → Padding
 padding_of (Listing format padding) = padding
-padding_of Pack = Zero
-padding_of Unpack = Zero
+padding_of (Transcoding way padding) = padding
 padding_of (Canonical format) = Zero

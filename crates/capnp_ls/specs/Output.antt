@@ -5,9 +5,8 @@ use Rattle.capnp.specs.Passed.{Appending, Declining, lengths, size_in_words, mes
 use Rattle.capnp.specs.Canonical.{AppendsForm, DeclinesForm}
 use Rattle.capnp.specs.Runs.{Writing, DecliningWriting}
 use Rattle.capnp.specs.Transcoding.{Transcodes, DeclinesTranscoded}
-use Rattle.capnp.specs.declared.transcoding.Way.TheVariants.{Pack as ToPacked, Unpack as ToFramed}
 use Rattle.capnp_ls.specs.declared.command.Command.{Command}
-use Rattle.capnp_ls.specs.declared.command.Command.TheVariants.{Listing, Pack, Unpack, Canonical}
+use Rattle.capnp_ls.specs.declared.command.Command.TheVariants.{Listing, Transcoding, Canonical}
 
 -- a space and a number
 abbrev pub spaced : ℕ → List ℕ
@@ -28,13 +27,11 @@ root_of segments = record { message = message_of segments; place = Some root; le
 -- What a sink adds for the message of this index: its line; its pieces, packed or as they are; or the pieces of its canonical form.
 abbrev pub Prints : Command → Appending → Writing
 Prints (Listing format padding) appends index segments text = appends (line index segments) text
-Prints Pack appends index segments text = Transcodes ToPacked appends index segments text
-Prints Unpack appends index segments text = Transcodes ToFramed appends index segments text
+Prints (Transcoding way padding) appends index segments text = Transcodes way appends index segments text
 Prints (Canonical format) appends index segments text = AppendsForm (root_of segments) appends text
 
 -- and by which kinds it refuses this message
 abbrev pub DeclinesPrinted : Command → Declining → DecliningWriting
 DeclinesPrinted (Listing format padding) refuses index segments kind = refuses (line index segments) kind
-DeclinesPrinted Pack refuses index segments kind = DeclinesTranscoded ToPacked refuses index segments kind
-DeclinesPrinted Unpack refuses index segments kind = DeclinesTranscoded ToFramed refuses index segments kind
+DeclinesPrinted (Transcoding way padding) refuses index segments kind = DeclinesTranscoded way refuses index segments kind
 DeclinesPrinted (Canonical format) refuses index segments kind = DeclinesForm (root_of segments) refuses kind

@@ -11,7 +11,7 @@ abbrev pub newline : List ℕ
 newline = 10 ∷ []
 
 abbrev pub usage_line : List ℕ
-usage_line = codes "usage: capnp_ls list [--packed] [--lenient] | pack | unpack | canon [--packed]" ++ newline
+usage_line = codes "usage: capnp_ls list [--packed] [--lenient] | pack [--lenient] | unpack [--lenient] | canon [--packed]" ++ newline
 
 -- how the line of a refusal begins: the message's index and the number of the kind
 abbrev pub refusal_front : ℕ → ErrorKind → List ℕ

@@ -1,25 +1,26 @@
 //! The words that the program takes.
 ghost use Rattle.std.specs.Prelude.{◌≡◌, map, string_bytes, IfSome, IfNone};
+ghost use Rattle.capnp.specs.Passed.{Padding};
+ghost use Rattle.capnp.specs.declared.streams.Format.{Format};
 ghost use Rattle.capnp_ls.specs.declared.command.Command.{Command};
-ghost use Rattle.capnp_ls.specs.Commands.{command_words, input_of, padding_of};
+ghost use Rattle.capnp_ls.specs.Commands.{command_words, option_words, input_of, padding_of};
 
 use crate::listing::write_line;
 use capnp::io::Write;
 use capnp::message::{DEFAULT_READER_OPTIONS, Reader};
 use capnp::serialize::{OwnedSegments, Padding};
 use capnp::streams::{Format, MessageWriter};
-use capnp::{Result, serialize, serialize_packed};
+use capnp::{Result, Way, serialize};
 use std::alloc::Global;
 
 /// What the program is told to do.
 #[derive(Clone, Copy, Debug, PartialEq, Eq)]
 pub enum Command {
-    /// `list`, `list --packed`, and each with `--lenient` behind it: print a line for each message.
+    /// `list`, with `--packed`, `--lenient` or both behind it: print a line for each message.
     Listing(Format, Padding),
-    /// `pack`: write each framed message packed.
-    Pack,
-    /// `unpack`: write each packed message framed.
-    Unpack,
+    /// `pack` and `unpack`, each with `--lenient` behind it or not: write each message in the other
+    /// format.
+    Transcoding(Way, Padding),
     /// `canon`, and `canon --packed`: write the canonical form of each message, framed.
     Canonical(Format),
 }
@@ -31,29 +32,15 @@ impl Command {
         ensures none { IfNone result
             ((command : Command) → map string_bytes words.now ≡ command_words command → ⊥) }
     {
-        match words {
-            [word] => match word.as_str() {
-                "list" => Some(Command::Listing(Format::Framed, Padding::Zero)),
-                "pack" => Some(Command::Pack),
-                "unpack" => Some(Command::Unpack),
-                "canon" => Some(Command::Canonical(Format::Framed)),
-                _ => None,
-            },
-            [word, option] if word.as_str() == "list" && option.as_str() == "--packed" => {
-                Some(Command::Listing(Format::Packed, Padding::Zero))
+        let (name, options) = words.split_first()?;
+        let (format, padding) = options_of(options)?;
+        match name.as_str() {
+            "list" => Some(Command::Listing(format, padding)),
+            "pack" if format == Format::Framed => Some(Command::Transcoding(Way::Pack, padding)),
+            "unpack" if format == Format::Framed => {
+                Some(Command::Transcoding(Way::Unpack, padding))
             }
-            [word, option] if word.as_str() == "list" && option.as_str() == "--lenient" => {
-                Some(Command::Listing(Format::Framed, Padding::Any))
-            }
-            [word, option] if word.as_str() == "canon" && option.as_str() == "--packed" => {
-                Some(Command::Canonical(Format::Packed))
-            }
-            [word, option, last]
-                if word.as_str() == "list"
-                    && option.as_str() == "--packed"
-                    && last.as_str() == "--lenient" => {
-                Some(Command::Listing(Format::Packed, Padding::Any))
-            }
+            "canon" if padding == Padding::Zero => Some(Command::Canonical(format)),
             _ => None,
         }
     }
@@ -64,8 +51,7 @@ impl Command {
     {
         match self {
             Command::Listing(format, _) => format,
-            Command::Pack => Format::Framed,
-            Command::Unpack => Format::Packed,
+            Command::Transcoding(way, _) => way.input(),
             Command::Canonical(format) => format,
         }
     }
@@ -76,10 +62,30 @@ impl Command {
     {
         match self {
             Command::Listing(_, padding) => padding,
-            Command::Pack => Padding::Zero,
-            Command::Unpack => Padding::Zero,
+            Command::Transcoding(_, padding) => padding,
             Command::Canonical(_) => Padding::Zero,
         }
+    }
+}
+
+// The format and the rule of padding that options stand for.
+fn options_of(words: &[String]) -> Option<(Format, Padding)>
+    ensures some { IfSome result (λ options.
+        map string_bytes words.now ≡ option_words options.0 options.1) }
+    ensures none { IfNone result ((format : Format) (padding : Padding) →
+        map string_bytes words.now ≡ option_words format padding → ⊥) }
+{
+    match words {
+        [] => Some((Format::Framed, Padding::Zero)),
+        [option] => match option.as_str() {
+            "--packed" => Some((Format::Packed, Padding::Zero)),
+            "--lenient" => Some((Format::Framed, Padding::Any)),
+            _ => None,
+        },
+        [option, last] if option.as_str() == "--packed" && last.as_str() == "--lenient" => {
+            Some((Format::Packed, Padding::Any))
+        }
+        _ => None,
     }
 }
 
@@ -104,8 +110,7 @@ impl MessageWriter for Command {
                 write_line(memory, index, message)?;
                 sink.write_all(memory)
             }
-            Command::Pack => serialize_packed::write_message_segments(alloc, sink, message),
-            Command::Unpack => serialize::write_message_segments(alloc, sink, message),
+            Command::Transcoding(way, _) => way.write_message(alloc, index, message, memory, sink),
             Command::Canonical(_) => {
                 let reader = Reader::new(message, DEFAULT_READER_OPTIONS);
                 serialize::write_canonical_message(alloc, sink, &reader)

@@ -16,8 +16,9 @@ use std::alloc::Global;
 /// Runs the command of these words: reads the messages of `source`, and writes what the command
 /// prints of each to `sink`.
 ///
-/// `list` writes a line for each message, also of any padding with `--lenient`, `pack` and `unpack` its text in the other format, `canon` its
-/// canonical form, framed. A run takes at most 2^64 - 1 messages, and leaves the rest unread.
+/// `list` writes a line for each message, `pack` and `unpack` its text in the other format, `canon` its
+/// canonical form, framed. All want zero padding but `list`, `pack` and `unpack` with `--lenient`, which
+/// read any. A run takes at most 2^64 - 1 messages, and leaves the rest unread.
 pub fn run<R: BufRead, W: Write>(
     alloc: Global,
     words: &[String],
@@ -73,5 +74,7 @@ fn print_all<R: BufRead, W: Write>(
 
 #[cfg(test)]
 mod canon_tests;
+#[cfg(test)]
+mod padding_tests;
 #[cfg(test)]
 mod tests;

@@ -9,7 +9,7 @@ use capnp::{Error, ErrorKind, Result};
 use std::alloc::{AllocError, Global};
 
 const USAGE: &str =
-    "usage: capnp_ls list [--packed] [--lenient] | pack | unpack | canon [--packed]\n";
+    "usage: capnp_ls list [--packed] [--lenient] | pack [--lenient] | unpack [--lenient] | canon [--packed]\n";
 
 /// Why the program stops before the end of its input.
 #[derive(Debug, Drop)]

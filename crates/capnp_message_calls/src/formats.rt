@@ -1,6 +1,6 @@
 //! Worked rows through both formats.
 use capnp::message::{DEFAULT_READER_OPTIONS, Reader, ReaderOptions, ReaderSegments};
-use capnp::{Result, Way, data, serialize, serialize_packed, text, transcode};
+use capnp::{Result, Way, data, serialize, serialize_packed, text, transcode, transcode_lenient};
 use capnp_calls::refusals::refusal;
 use std::test::Fail;
 
@@ -181,14 +181,15 @@ fn transcoded_up_to_a_refusal(rt: HostRuntime) -> std::result::Result<(), Fail> 
     Ok(())
 }
 
-// A padding that isn't zero is refused by both ways, and nothing is written.
+// A padding that isn't zero is refused by both ways, and nothing is written. Their lenient forms write
+// the text of zero padding.
 #[test]
-fn not_transcoded(rt: HostRuntime) -> std::result::Result<(), Fail> {
-    let rows: [(Way, &[u8], usize); 2] = [
-        (Way::Pack, &PADDED, 8),
-        (Way::Unpack, &PACKED_PADDED, 10),
+fn padding_is_transcoded_leniently(rt: HostRuntime) -> std::result::Result<(), Fail> {
+    let rows: [(Way, &[u8], usize, &[u8]); 2] = [
+        (Way::Pack, &PADDED, 8, &PACKED),
+        (Way::Unpack, &PACKED_PADDED, 10, &FRAMED),
     ];
-    for (way, text, unread) in rows {
+    for (way, text, unread, other) in rows {
         let mut source = text;
         let mut sink: Vec<u8> = Vec::new(rt.alloc());
         let stopped = transcode(
@@ -201,6 +202,16 @@ fn not_transcoded(rt: HostRuntime) -> std::result::Result<(), Fail> {
         assert_eq!(rt; refusal(stopped), 26, "{way:?}");
         assert_eq!(rt; source.len(), unread, "{way:?}");
         assert!(rt; sink.is_empty(), "{way:?}");
+        let mut source = text;
+        transcode_lenient(
+            rt.alloc(),
+            way,
+            &mut source,
+            &mut sink,
+            DEFAULT_READER_OPTIONS,
+        )?;
+        assert!(rt; source.is_empty(), "{way:?}");
+        assert_eq!(rt; sink.as_slice(), other, "{way:?}");
     }
     Ok(())
 }

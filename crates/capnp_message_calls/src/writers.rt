@@ -2,8 +2,8 @@
 use crate::formats::HELLO;
 use capnp::any_struct::{self, StructBuilder, StructReader};
 use capnp::message::{
-    Allocator, Builder, DEFAULT_READER_OPTIONS, HeapAllocator, ReaderSegments, TypedBuilder,
-    TypedReader,
+    AllocationStrategy, Allocator, Builder, DEFAULT_READER_OPTIONS, HeapAllocator, ReaderSegments,
+    TypedBuilder, TypedReader,
 };
 use capnp::roots::{set_and_read_back, write_and_read_back};
 use capnp::streams::Format;
@@ -120,6 +120,42 @@ fn a_sink_without_room(rt: HostRuntime) -> std::result::Result<(), Fail> {
         }
         assert_eq!(rt; sink.len(), left, "{length}");
     }
+    Ok(())
+}
+
+// A segment of one word for the root, and one more for each text that is set: 511 are written and read
+// back, 512 are refused by their number.
+#[test]
+fn more_segments_than_a_reader_accepts(rt: HostRuntime) -> std::result::Result<(), Fail> {
+    let allocator = HeapAllocator::new(rt.alloc())
+        .first_segment_words(1)
+        .allocation_strategy(AllocationStrategy::FixedSize);
+    let mut message = Builder::new(rt.alloc(), allocator);
+    for _ in 0..510 {
+        message.set_root::<text::Owned, &str>("hello world!")?;
+    }
+    assert!(rt; !message.is_empty());
+    let mut sink: Vec<u8> = Vec::new(rt.alloc());
+    serialize::write_message(rt.alloc(), &mut sink, &message)?;
+    assert_eq!(rt; sink.len(), 2048 + 8 * (1 + 510 * 3));
+    write_and_read_back(rt.alloc(), Format::Packed, &message, DEFAULT_READER_OPTIONS)?;
+    message.set_root::<text::Owned, &str>("hello world!")?;
+    assert!(rt; !message.is_empty());
+    let size = serialize::compute_serialized_size_in_words(&message)?;
+    assert_eq!(rt; size, 257 + 1 + 511 * 3);
+    sink.truncate(1);
+    let back = write_and_read_back(rt.alloc(), Format::Framed, &message, DEFAULT_READER_OPTIONS);
+    let answers = [
+        serialize::write_message(rt.alloc(), &mut sink, &message),
+        serialize_packed::write_message(rt.alloc(), &mut sink, &message),
+        serialize::write_message_to_words(rt.alloc(), &message).map(|_| ()),
+        back.map(|_| ()),
+    ];
+    for answer in answers {
+        let kind = answer.map_err(|error| error.kind);
+        assert_eq!(rt; kind, Err(ErrorKind::InvalidNumberOfSegments(512)));
+    }
+    assert_eq!(rt; sink.len(), 1);
     Ok(())
 }
 

@@ -2,7 +2,7 @@
 use crate::padding_rows::{PACKED_TWO, TWO};
 use capnp::message::DEFAULT_READER_OPTIONS;
 use capnp::streams::{StoppedAt, write_each_message};
-use capnp::{Way, transcode};
+use capnp::{Way, transcode, transcode_lenient};
 use capnp_frame::serialize::Padding;
 use capnp_frame::{ErrorKind, Result};
 use capnp_rows::retried;
@@ -37,6 +37,7 @@ fn both_rules(rt: HostRuntime) -> Result<()> {
         retried!(write_strictly(&rt, &row))?;
         retried!(write_leniently(&rt, &row))?;
         retried!(transcode_strictly(&rt, &row))?;
+        retried!(transcode_leniently(&rt, &row))?;
     }
     Ok(())
 }
@@ -119,5 +120,22 @@ fn transcode_strictly(rt: &(impl Abort + AllocGlobal), row: &Row) -> Result<()> 
     }
     assert_eq!(rt; source.len(), unread, "{way:?}");
     assert_eq!(rt; sink.as_slice(), front, "{way:?}");
+    Ok(())
+}
+
+fn transcode_leniently(rt: &(impl Abort + AllocGlobal), row: &Row) -> Result<()> {
+    let (way, texts, _, _, both) = *row;
+    let input = joined(rt.alloc(), texts)?;
+    let mut source = input.as_slice();
+    let mut sink: Vec<u8> = Vec::new(rt.alloc());
+    transcode_lenient(
+        rt.alloc(),
+        way,
+        &mut source,
+        &mut sink,
+        DEFAULT_READER_OPTIONS,
+    )?;
+    assert!(rt; source.is_empty(), "{way:?}");
+    assert_eq!(rt; sink.as_slice(), both, "{way:?}");
     Ok(())
 }

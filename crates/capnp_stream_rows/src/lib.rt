@@ -37,6 +37,8 @@ mod requests;
 #[cfg(test)]
 mod samples;
 #[cfg(test)]
+mod segment_counts;
+#[cfg(test)]
 mod segment_ends;
 #[cfg(test)]
 mod streams;

@@ -6,11 +6,12 @@ use Rattle.capnp_frame.specs.declared.serialize.segment_table.Padding.TheVariant
 use Rattle.capnp_frame.specs.declared.error.Error.{Error}
 use Rattle.capnp_frame.specs.declared.error.ErrorKind.{ErrorKind}
 use Rattle.capnp_frame.specs.declared.error.ErrorKind.TheVariants.{DeviceFailed, OutOfMemory}
-use Rattle.capnp_frame.specs.Limits.{IsWithin}
+use Rattle.capnp_frame.specs.Limits.{KeepsLimit}
+use Rattle.capnp_frame.specs.Message.{lengths}
 use Rattle.capnp_frame.specs.Source.{IfKnown, IsFront, Fails}
 use Rattle.capnp_frame.specs.Sink.{Adds, ByKind}
 use Rattle.capnp_frame.specs.Texts.{Grammar, BeginsWith, AreTexts}
-use Rattle.capnp_frame.specs.Writing.{IsWritable}
+use Rattle.capnp_frame.specs.Writing.{IsWritable, HasFew}
 use Rattle.capnp_frame.proofs.AskLemmas.{never_fails}
 use Rattle.capnp_frame.proofs.SizeLemmas.{HasTable-writable}
 use Rattle.capnp_frame.proofs.TextLemmas.{texts_part}
@@ -27,11 +28,12 @@ use Rattle.capnp_uses.specs.Streaming.{kind_of, LacksMemory, IsLog}
 
 -- Appending
 
-pub appended_log : (m : List (List ℕ)) (old new : List ℕ) → IsWritable m → IfKnown (Some old) (Some new) (Adds (IsPackedTextOf m))
-    → (limit : Option ℕ) (records : List (List (List ℕ))) → IsLog limit records old → IsWithin m limit → IsLog limit (records ++ m ∷ []) new
-appended_log m old new writable (text, packed, spelled) limit records log within = record {
+pub appended_log : (m : List (List ℕ)) (old new : List ℕ) → IsWritable m → HasFew m → IfKnown (Some old) (Some new) (Adds (IsPackedTextOf m))
+    → (limit : Option ℕ) (records : List (List (List ℕ))) → IsLog limit records old → KeepsLimit (lengths m) limit → IsLog limit (records ++ m ∷ []) new
+appended_log m old new writable few (text, packed, spelled) limit records log size = record {
   writable = AllByRecursion-append _ records (m ∷ []) log.writable (writable, tt);
-  within = AllByRecursion-append _ records (m ∷ []) log.within (within, tt);
+  few = AllByRecursion-append _ records (m ∷ []) log.few (few, tt);
+  size = AllByRecursion-append _ records (m ∷ []) log.size (size, tt);
   appended = subst (λ l. AppendsEach (IsTextOf Packed) (records ++ m ∷ []) l) (sym spelled) (AppendsEach-push (IsTextOf Packed) records m old text log.appended packed);
 }
 
@@ -39,10 +41,11 @@ appended_log m old new writable (text, packed, spelled) limit records log within
 pub cut_back : (old new kept : List ℕ) (end : ℕ) → IfKnown (Some old) (Some new) IsFront → end ≡ length old → kept ≡ take end new → kept ≡ old
 cut_back old new kept end (tail, spelled) at is = is ∙ ap (λ k. take k new) at ∙ ap (λ l. take (length old) l) spelled ∙ take-append_seam old tail
 
-pub log_memory : (kind : ErrorKind) → RefusesAppending (ByKind OutOfMemory) kind → (kind ≡ DeviceFailed → Fails 0 0) → kind ≡ OutOfMemory
-log_memory kind (inl device) failed = absurd (never_fails kind failed device)
-log_memory kind (inr (inl memory)) failed = memory
-log_memory kind (inr (inr (piece, memory))) failed = memory
+pub log_memory : {M : Type 0} (kind : ErrorKind) → M ⊎ RefusesAppending (ByKind OutOfMemory) kind → (kind ≡ DeviceFailed → Fails 0 0) → M ⊎ (kind ≡ OutOfMemory)
+log_memory kind (inl many) failed = inl many
+log_memory kind (inr (inl device)) failed = absurd (never_fails kind failed device)
+log_memory kind (inr (inr (inl memory))) failed = inr memory
+log_memory kind (inr (inr (inr (piece, memory)))) failed = inr memory
 
 -- Reading
 
@@ -61,7 +64,7 @@ pub log_is_read : (limit : Option ℕ) (ms : List (List (List ℕ))) (refusal : 
     → (records : List (List (List ℕ))) → IsLog limit records log → LacksMemory refusal ⊎ (ms ≡ records) × (refusal ≡ None) × (end ≡ length log)
 log_is_read limit ms refusal log end within (inl memory) exact records is = inl memory
 log_is_read limit ms refusal log end within (inr ends) exact records is =
-    elim (exact records None (appended_stream Zero Packed limit records log is.writable is.within is.appended)) [
+    elim (exact records None (appended_stream Zero Packed limit records log is.writable is.few is.size is.appended)) [
       | inl memory ↦ inl memory
       | inr same ↦ inr (same.0, none_of refusal same.1, whole_end limit refusal log end within same.1 ends)
     ]
@@ -110,7 +113,7 @@ pub cut_is_told : (limit : Option ℕ) (ms : List (List (List ℕ))) (refusal : 
     → 0 < length missing → log ≡ whole ++ part → LacksMemory refusal ⊎ (ms ≡ records) × (end ≡ length whole)
 cut_is_told limit ms refusal log end within texts (inl memory) records whole part missing next is writable packed some spelled = inl memory
 cut_is_told limit ms refusal log end within texts (inr ends) records whole part missing next is writable packed some spelled =
-    let stream = appended_stream Zero Packed limit records whole is.writable is.within is.appended in
+    let stream = appended_stream Zero Packed limit records whole is.writable is.few is.size is.appended in
     let nothing : stream.rest ≡ [] = stream.ends in
     let behind = texts_behind (IsPackedFrame Zero) limit records whole stream.rest part stream.texts in
     let there : AreTexts (IsPackedFrame Zero) limit records log part =

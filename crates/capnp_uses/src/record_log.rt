@@ -1,8 +1,10 @@
 //! A log of packed records: one is appended, and all are read back.
 ghost use Rattle.std.specs.Prelude.{◌≡◌, ◌≤◌, ◌<◌, ◌++◌, ◌∷◌, [], ◌⊎◌, ℕ, List, Option, None, length, map, OnOk, OnErr, IfOk, IfErr};
 ghost use Rattle.capnp_frame.specs.declared.error.ErrorKind.{ErrorKind};
-ghost use Rattle.capnp_frame.specs.Limits.{IsWithin};
-ghost use Rattle.capnp_frame.specs.Writing.{IsWritable};
+ghost use Rattle.capnp_frame.specs.Limits.{KeepsLimit};
+ghost use Rattle.capnp_frame.specs.Message.{lengths};
+ghost use Rattle.capnp_frame.specs.Writers.{KeepsCount};
+ghost use Rattle.capnp_frame.specs.Writing.{IsWritable, RefusesMany};
 ghost use Rattle.capnp.specs.Written.{IsPackedTextOf};
 ghost use Rattle.capnp_uses.specs.Streaming.{IsLog, LacksMemory};
 
@@ -12,14 +14,17 @@ use capnp::streams::Format;
 use capnp::{Result, serialize_packed};
 use std::alloc::Global;
 
-/// Appends a record to a log. A log that is refused memory stays as it was.
+/// Appends a record to a log. The log stays as it was where memory lacks, and where the record has more
+/// than 511 segments.
 pub fn append<S: ReaderSegments>(alloc: Global, log: &mut Vec<u8>, message: &S) -> Result<()>
     requires { IsWritable (S.segments message.now) }
     ensures appended { (limit : Option ℕ) (records : List (List (List ℕ))) →
-        IsLog limit records log.old.items → IsWithin (S.segments message.now) limit →
+        IsLog limit records log.old.items → KeepsLimit (lengths (S.segments message.now)) limit →
         OnOk result (IsLog limit (records ++ S.segments message.now ∷ []) log.new.items) }
     ensures unchanged { OnErr result (log.new.items ≡ log.old.items) }
-    ensures memory { IfErr result (λ error. error.kind ≡ ErrorKind.OutOfMemory) }
+    ensures count { KeepsCount (S.segments message.now) result }
+    ensures refused { IfErr result (λ error. RefusesMany (S.segments message.now) error.kind
+        ⊎ (error.kind ≡ ErrorKind.OutOfMemory)) }
 {
     let end = log.len();
     match serialize_packed::write_message_segments(alloc, log, message) {
@@ -61,12 +66,16 @@ pub fn two_records_are_read_back<S: ReaderSegments, T: ReaderSegments>(
 ) -> Result<StreamRead>
     requires first { IsWritable (S.segments first.now) }
     requires second { IsWritable (T.segments second.now) }
-    requires first_within { IsWithin (S.segments first.now) options.traversal_limit_in_words }
-    requires second_within { IsWithin (T.segments second.now) options.traversal_limit_in_words }
+    requires first_size { KeepsLimit (lengths (S.segments first.now))
+        options.traversal_limit_in_words }
+    requires second_size { KeepsLimit (lengths (T.segments second.now))
+        options.traversal_limit_in_words }
     ensures back { IfOk result (λ read. LacksMemory read.refusal
         ⊎ (map (λ reader. reader.segments) read.messages.items
         ≡ S.segments first.now ∷ T.segments second.now ∷ []) × (read.refusal ≡ None)) }
-    ensures memory { IfErr result (λ error. error.kind ≡ ErrorKind.OutOfMemory) }
+    ensures refused { IfErr result (λ error. RefusesMany (S.segments first.now) error.kind
+        ⊎ RefusesMany (T.segments second.now) error.kind
+        ⊎ (error.kind ≡ ErrorKind.OutOfMemory)) }
 {
     let mut log = Vec::new(alloc);
     append(alloc, &mut log, first)?;

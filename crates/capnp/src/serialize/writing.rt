@@ -16,7 +16,8 @@ use std::alloc::Global;
 /// Writes a message that is built, each segment as far as it is used. It must have a segment, which
 /// `is_empty` tells.
 ///
-/// Memory is taken for a table of four segments or more, before anything is written.
+/// More than 511 segments, which no reader accepts, fail with `InvalidNumberOfSegments`. Memory is
+/// taken for a table of four segments or more, before anything is written.
 pub fn write_message<W: Write, A: Allocator>(
     alloc: Global,
     sink: &mut W,
@@ -28,9 +29,11 @@ pub fn write_message<W: Write, A: Allocator>(
     write_message_segments(alloc, sink, &message.get_segments_for_output())
 }
 
-/// Writes a message of 1 to 2^32 - 1 segments, each of whole words and fewer than 2^32 of them.
+/// Writes a message ("Serialization Over a Stream"). It needs 1 to 2^32 - 1 segments, each of whole
+/// words and fewer than 2^32 of them.
 ///
-/// Memory is taken for a table of four segments or more, before anything is written.
+/// More than 511 segments, which no reader accepts, fail with `InvalidNumberOfSegments`. Memory is
+/// taken for a table of four segments or more, before anything is written.
 ///
 /// ```
 /// let segments = [[0; 8].as_slice()];
@@ -51,8 +54,8 @@ pub fn write_message_segments<W: Write, S: ReaderSegments>(
     write_segments(alloc, sink, segments)
 }
 
-/// The framed text of a message. It is refused by `MessageSizeOverflow` only where the number of
-/// its bytes does not fit `usize`.
+/// The framed text of a message, in bytes. It fails with `InvalidNumberOfSegments` exactly where there
+/// are more than 511 segments, before memory is taken.
 pub fn write_message_segments_to_words<S: ReaderSegments>(
     alloc: Global,
     segments: &S,
@@ -63,8 +66,8 @@ pub fn write_message_segments_to_words<S: ReaderSegments>(
     segments_to_words(alloc, segments)
 }
 
-/// The framed text of a message that is built, of one segment at least. It is refused by
-/// `MessageSizeOverflow` only where the number of its bytes does not fit `usize`.
+/// The framed text of a message that is built, in bytes; the message has one segment at least. It fails
+/// with `InvalidNumberOfSegments` exactly where there are more than 511, before memory is taken.
 pub fn write_message_to_words<A: Allocator>(alloc: Global, message: &Builder<A>) -> Result<Vec<u8>>
     requires { 0 < length message.now.spaces }
     ensures { ReturnsText (output_of message.now) (λ text. text.items) result }

@@ -14,7 +14,7 @@ use capnp_pack::PackedWrite;
 use std::alloc::Global;
 
 /// Writes a message that is built, packed, each segment as far as it is used. It must have a segment,
-/// which `is_empty` tells.
+/// which `is_empty` tells. More than 511 segments fail with `InvalidNumberOfSegments`.
 pub fn write_message<W: Write, A: Allocator>(
     alloc: Global,
     sink: &mut W,
@@ -27,7 +27,8 @@ pub fn write_message<W: Write, A: Allocator>(
 }
 
 /// Writes a message, packed: the first word of its table, the table's other words, and each segment
-/// are packed one by one. The segments are as for the framed writer.
+/// are packed one by one ("Packing"). What it needs of the segments, and that more than 511 of them fail
+/// with `InvalidNumberOfSegments`, is as for the framed writer.
 ///
 /// ```
 /// let segments = [[0; 8].as_slice()];

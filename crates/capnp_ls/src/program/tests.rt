@@ -8,13 +8,13 @@ use std::process::Abort;
 use std::test::*;
 
 // Three messages: segments [] and [1, 2, 3, 4, 5, 6, 7, 8]; one empty segment; one of two words.
-const STREAM: [u8; 56] = [
+pub(crate) const STREAM: [u8; 56] = [
     1, 0, 0, 0, 0, 0, 0, 0, 1, 0, 0, 0, 0, 0, 0, 0, 1, 2, 3, 4, 5, 6, 7, 8, 0, 0, 0, 0, 0, 0, 0, 0,
     0, 0, 0, 0, 2, 0, 0, 0, 1, 1, 1, 1, 1, 1, 1, 1, 2, 2, 2, 2, 2, 2, 2, 2,
 ];
 
 // Their lines, and the lines before each message.
-const LINES: [&str; 4] = [
+pub(crate) const LINES: [&str; 4] = [
     "",
     "0 2 1 0 1\n",
     "0 2 1 0 1\n1 1 0 0\n",
@@ -82,7 +82,7 @@ fn lines_before_a_refusal_stay(rt: HostRuntime) -> Result<(), Fail> {
 
 #[test]
 fn other_words_read_nothing(rt: HostRuntime) -> Result<(), Fail> {
-    let others: [&[&str]; 16] = [
+    let others: [&[&str]; 21] = [
         &[],
         &["lists"],
         &["list", "list"],
@@ -92,9 +92,14 @@ fn other_words_read_nothing(rt: HostRuntime) -> Result<(), Fail> {
         &["list", "--lenient", "--lenient"],
         &["list", "--packed", "--lenient", "--lenient"],
         &["--lenient", "list"],
-        &["pack", "--lenient"],
+        &["--lenient", "pack"],
         &["--packed", "list"],
         &["pack", "--packed"],
+        &["pack", "--packed", "--lenient"],
+        &["unpack", "--packed"],
+        &["unpack", "--lenient", "--lenient"],
+        &["canon", "--lenient"],
+        &["canon", "--packed", "--lenient"],
         &["canon", "canon"],
         &["canon", "--packed", "--packed"],
         &["canonical"],
@@ -113,7 +118,7 @@ fn other_words_read_nothing(rt: HostRuntime) -> Result<(), Fail> {
 }
 
 // Segments [] and [1, 2, 3, 4, 5, 6, 7, 8], packed.
-const PACKED: [u8; 14] = [1, 1, 1, 1, 255, 1, 2, 3, 4, 5, 6, 7, 8, 0];
+pub(crate) const PACKED: [u8; 14] = [1, 1, 1, 1, 255, 1, 2, 3, 4, 5, 6, 7, 8, 0];
 
 #[test]
 fn each_command_prints_its_output(rt: HostRuntime) -> Result<(), Fail> {
@@ -140,60 +145,6 @@ fn each_command_prints_its_output(rt: HostRuntime) -> Result<(), Fail> {
         );
         assert_eq!(rt; sink.as_slice(), output, "{texts:?}");
         assert!(rt; source.is_empty(), "{texts:?}");
-    }
-    Ok(())
-}
-
-// The same message, its padding four nines, framed and packed.
-const PADDED: [u8; 24] = [
-    1, 0, 0, 0, 0, 0, 0, 0, 1, 0, 0, 0, 9, 9, 9, 9, 1, 2, 3, 4, 5, 6, 7, 8,
-];
-
-const PACKED_PADDED: [u8; 18] = [1, 1, 0xf1, 1, 9, 9, 9, 9, 255, 1, 2, 3, 4, 5, 6, 7, 8, 0];
-
-#[test]
-fn messages_of_any_padding_are_listed(rt: HostRuntime) -> Result<(), Fail> {
-    let rows: [(&[&str], &[u8], &str); 6] = [
-        (&["list", "--lenient"], &PADDED, LINES[1]),
-        (&["list", "--lenient"], &STREAM, LINES[3]),
-        (&["list", "--lenient"], &[], LINES[0]),
-        (&["list", "--packed", "--lenient"], &PACKED_PADDED, LINES[1]),
-        (&["list", "--packed", "--lenient"], &PACKED, LINES[1]),
-        (&["list", "--packed", "--lenient"], &[], LINES[0]),
-    ];
-    for (texts, input, lines) in rows {
-        let words = words(rt.alloc(), texts)?;
-        let mut source = input;
-        let mut sink = Vec::new(rt.alloc());
-        assert!(rt;
-            run(rt.alloc(), &words, &mut source, &mut sink).is_ok(),
-            "{texts:?}"
-        );
-        assert_eq!(rt; sink.as_slice(), lines.as_bytes(), "{texts:?}");
-        assert!(rt; source.is_empty(), "{texts:?}");
-    }
-    Ok(())
-}
-
-// Nothing is printed of the message, and the source stands right behind its table.
-#[test]
-fn other_paddings_stop_a_run(rt: HostRuntime) -> Result<(), Fail> {
-    let rows: [(&[&str], &[u8], usize); 6] = [
-        (&["list"], &PADDED, 8),
-        (&["list", "--packed"], &PACKED_PADDED, 10),
-        (&["pack"], &PADDED, 8),
-        (&["unpack"], &PACKED_PADDED, 10),
-        (&["canon"], &PADDED, 8),
-        (&["canon", "--packed"], &PACKED_PADDED, 10),
-    ];
-    for (texts, input, unread) in rows {
-        let words = words(rt.alloc(), texts)?;
-        let mut source = input;
-        let mut sink = Vec::new(rt.alloc());
-        let answer = run(rt.alloc(), &words, &mut source, &mut sink);
-        assert_eq!(rt; refusal(answer), Some((0, 26)), "{texts:?}");
-        assert!(rt; sink.is_empty(), "{texts:?}");
-        assert_eq!(rt; source.len(), unread, "{texts:?}");
     }
     Ok(())
 }

@@ -15,7 +15,7 @@ fn stops_are_reported_by_one_line(rt: HostRuntime) -> Result<(), Fail> {
         (
             Stop::Usage,
             2,
-            "usage: capnp_ls list [--packed] [--lenient] | pack | unpack | canon [--packed]\n",
+            "usage: capnp_ls list [--packed] [--lenient] | pack [--lenient] | unpack [--lenient] | canon [--packed]\n",
         ),
         (
             refused(0, ErrorKind::OutOfMemory),

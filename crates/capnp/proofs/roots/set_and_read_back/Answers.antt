@@ -1,13 +1,18 @@
 -- The tree that was set stands where the message is read.
+use Rattle.std.proofs.Common.{inr}
+use Rattle.capnp_frame.proofs.AskLemmas.{passed_on}
 use Rattle.capnp.proofs.RootLemmas.{has_segment, tree_again}
 use Rattle.capnp.proofs.roots.set_and_read_back.Goals as goal
+
+pub returns-in_err-set_root-clause-refused : goal.returns-in_err-set_root-clause-refused
+returns-in_err-set_root-clause-refused g c = λ size. passed_on _ _ c.from_residual.ensures.1 (inr (inr c.in_err-set_root.ensures.kind))
 
 pub write_and_read_back-requires : goal.write_and_read_back-requires
 write_and_read_back-requires g c =
     let set = c.in_ok-set_root.ensures.set in has_segment _ _ _ set.stands
 
 pub returns-clause-tree : goal.returns-clause-tree
-returns-clause-tree g c = λ within.
+returns-clause-tree g c = λ size.
     let set = c.in_ok-set_root.ensures.set in
     tree_again (g.V.SetterInput.has_tree c.args.value) (λ reader. reader.segments) c.write_and_read_back.result _ (set.trees, set.tree_is, (set.charge, set.stands))
-    (c.write_and_read_back.ensures.back within)
+    (c.write_and_read_back.ensures.back size)

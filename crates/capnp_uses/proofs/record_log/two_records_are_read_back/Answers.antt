@@ -8,8 +8,8 @@ returns-clause-back g c =
     let limit = c.args.options.traversal_limit_in_words in
     let first = g.S.ReaderSegments.segments c.args.first.now in
     let second = g.T.ReaderSegments.segments c.args.second.now in
-    let one = c.in_ok-append.ensures.appended limit [] (record { writable = tt; within = tt; appended = c.new-log.ensures.items }) c.requires.first_within in
-    let two = c.in_ok-append-2.ensures.appended limit (first ∷ []) one c.requires.second_within in
+    let one = c.in_ok-append.ensures.appended limit [] (record { writable = tt; few = tt; size = tt; appended = c.new-log.ensures.items }) c.requires.first_size in
+    let two = c.in_ok-append-2.ensures.appended limit (first ∷ []) one c.requires.second_size in
     let shown = subst (λ log. IsLog limit (first ∷ second ∷ []) log) (sym c.deref.ensures.value) two in
     elim (c.read_log.ensures.back (first ∷ second ∷ []) shown) [
       | inl memory ↦ inl memory

@@ -38,7 +38,7 @@ returns-clause-text g c = λ plain. Adds-weaker c.write_segments.result _ _
       form g c,
       subst (λ (s : List (List ℕ)). IsFrameText s text) (segment g c) (frame_text_added g.W.Write.appends plain _ text p),
     ))
-    c.write_segments.ensures.written
+    c.write_segments.ensures.parts.written
 
 pub returns-clause-lacks : goal.returns-clause-lacks
 returns-clause-lacks g c = λ kind lacks. absurd (c.in_ok-form.ensures.exact kind lacks)

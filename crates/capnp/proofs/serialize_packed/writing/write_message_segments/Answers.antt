@@ -5,10 +5,11 @@ use Rattle.capnp.proofs.serialize_packed.writing.write_message_segments.Goals as
 
 pub returns : goal.returns
 returns g c =
-    let told = c.write_segments.ensures in
+    let all = c.write_segments.ensures in
+    let told = all.parts in
     let kept = told.grows in
-    let all = packed_written g.W.Write (λ p. p.sink.now) c.new-packed.result c.write_segments.new.sink
-    (g.S.ReaderSegments.segments c.args.segments.now) c.write_segments.result
+    let packed = packed_written g.W.Write (λ p. p.sink.now) c.new-packed.result c.write_segments.new.sink
+    (g.S.ReaderSegments.segments c.args.segments.now) c.write_segments.result all.count all.unwritten
     told.written told.refused told.untouched told.failed (record { front = kept.front; counted = kept.counted; same_sink = kept.same_sink.1 }) in
     let behind : c.sink-1.given.0 ≡ c.write_segments.new.sink.sink.now = search rules in
-    rw behind (rw c.new-packed.ensures.sink at all)
+    rw behind (rw c.new-packed.ensures.sink at packed)

@@ -1,0 +1,27 @@
+-- What was written is the texts.
+use Rattle.capnp.specs.Transcoding.{input_of, Transcodes, DeclinesTranscoded, IsOtherText}
+use Rattle.capnp.proofs.TranscodingLemmas.{WritesEach-weaker, other_text_added}
+use Rattle.capnp.proofs.transcoding.transcode_by.Goals as goal
+
+pub returns-in-Ok : goal.returns-in-Ok
+returns-in-Ok g c =
+    let runs = rw c.input.ensures at c.in-Ok.ensures in
+    record {
+      texts = λ plain. WritesEach-weaker g.R.Read _ _ g.W.Write _ _ c.args.padding (input_of c.args.way)
+          c.args.options.traversal_limit_in_words (Transcodes c.args.way g.W.Write.appends) (IsOtherText c.args.way)
+          (DeclinesTranscoded c.args.way g.W.Write.refuses) (other_text_added c.args.way g.W.Write.appends plain) _ runs;
+      runs = runs;
+    }
+
+pub returns-in-Err : goal.returns-in-Err
+returns-in-Err g c =
+    let runs = rw c.input.ensures at c.in-Err.ensures in
+    record {
+      texts = λ plain. (
+        c.in-Err.stop.message,
+        WritesEach-weaker g.R.Read _ _ g.W.Write _ _ c.args.padding (input_of c.args.way)
+            c.args.options.traversal_limit_in_words (Transcodes c.args.way g.W.Write.appends) (IsOtherText c.args.way)
+            (DeclinesTranscoded c.args.way g.W.Write.refuses) (other_text_added c.args.way g.W.Write.appends plain) _ runs,
+      );
+      runs = (c.in-Err.stop.message, runs);
+    }
