@@ -1,5 +1,5 @@
 -- The one segment of a canonical form can be written.
-use Rattle.std.proofs.Common.{◌≡◌, ◌⊎◌, ℕ, suc, ◌≤◌, ◌/◌, ◌^◌, ◌<◌, List, [], ◌∷◌, length, Result, Ok, Err, true, inl, inr, sym, ap, subst, arith}
+use Rattle.std.proofs.Common.{◌≡◌, ◌⊎◌, ℕ, suc, ◌/◌, ◌^◌, ◌<◌, List, [], ◌∷◌, length, Result, Ok, Err, true, inl, inr, sym, ap, subst, arith}
 use Rattle.std.specs.Result.{IsErrAnd}
 use Rattle.capnp_frame.specs.declared.error.Error.{Error}
 use Rattle.capnp_frame.specs.declared.error.ErrorKind.{ErrorKind}

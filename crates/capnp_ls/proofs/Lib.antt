@@ -1,3 +1,4 @@
+pub mod CommandLemmas
 pub mod DigitLemmas
 pub mod LineLemmas
 pub mod MessageLemmas
