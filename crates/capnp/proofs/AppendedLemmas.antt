@@ -28,6 +28,10 @@ use Rattle.capnp.proofs.RunLemmas.{format_lawful, format_requested, format_parts
 use Rattle.capnp.proofs.ReaderLemmas.{nothing_begins_known}
 use Rattle.capnp.proofs.WriterLemmas.{IsWithin-written}
 
+-- what holds of each holds with one more
+pub AllByRecursion-push : {X : Type 0} (P : X → Type 0) (xs ys : List X) (x : X) → ys ≡ xs ++ x ∷ [] → AllByRecursion P xs → P x → AllByRecursion P ys
+AllByRecursion-push P xs ys x e all here = subst (AllByRecursion P) (sym e) (AllByRecursion-append P xs (x ∷ []) all (here, tt))
+
 -- one more message is read
 pub texts_next : {X : Type 0} (rule : Padding) (format : Format) (limit : Option ℕ) (segments : X → List (List ℕ)) (xs ys : List X)
     (x : X) (old mid new : Option (List ℕ)) → ys ≡ xs ++ x ∷ []
@@ -141,6 +145,10 @@ pub many_at : {S : Type 0} (segments : S → List (List ℕ)) (xs : List S) (ind
 many_at segments [] index x kind here is many = absurd (omega arith)
 many_at segments (y ∷ ys) zero x kind here is many = inl (subst (λ z. RefusesMany (segments z) kind) is many)
 many_at segments (y ∷ ys) (suc index) x kind here is many = inr (many_at segments ys index x kind (omega arith) is many)
+
+-- what was appended to nothing is what was written
+pub appended_alone : (P : List ℕ → Type 0) (start new : List ℕ) → start ≡ [] → Adds P start new → P new
+appended_alone P start new none (text, holds, e) = subst P (sym (e ∙ ap (λ l. l ++ text) none)) holds
 
 -- what was appended to nothing is texts
 pub read_texts : (rule : Padding) (format : Format) (limit : Option ℕ) (ms : List (List (List ℕ))) (start new shown : List ℕ)

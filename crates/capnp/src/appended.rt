@@ -22,21 +22,39 @@ use capnp_frame::serialize::{OwnedSegments, Padding};
 use capnp_message::Reader;
 use std::alloc::Global;
 
-/// Writes messages to a vector, one after the other, and reads them back: as many as were written,
-/// and what is read behind them.
+/// What was written of messages, and what was read of it.
+#[derive(Drop)]
+pub struct ReadBack {
+    /// The texts of the messages, one after the other, in bytes.
+    pub text: Vec<u8>,
+    /// As many messages as were written, read of that text.
+    pub readers: Vec<Reader<OwnedSegments>>,
+    /// What was read after them.
+    pub end: Option<Reader<OwnedSegments>>,
+}
+
+/// Writes messages to a vector, one after the other, and reads them back of it: as many as were
+/// written, and what stands after them.
 pub fn write_and_read_back<S: ReaderSegments>(
     alloc: Global,
     format: Format,
     messages: &[S],
     options: ReaderOptions,
-) -> Result<(Vec<Reader<OwnedSegments>>, Option<Reader<OwnedSegments>>)>
+) -> Result<ReadBack>
     requires writable { AllByRecursion IsWritable (map S.segments messages.now) }
     requires size { AllByRecursion (λ m. KeepsLimit (lengths m) options.traversal_limit_in_words)
         (map S.segments messages.now) }
-    // They are what was written, and behind them is none.
-    ensures back { IfOk result (λ read.
-        map (λ reader. reader.segments) read.0.items ≡ map S.segments messages.now) }
-    ensures end { IfOk result (λ read. read.1 ≡ None) }
+    // The text is that of the messages; what is read of it are these, and after them is none.
+    ensures written { IfOk result (λ done.
+        AppendsEach (IsTextOf format) (map S.segments messages.now) done.text.items) }
+    ensures read { IfOk result (λ done.
+        AreTexts (grammar_of Padding.Zero format) options.traversal_limit_in_words
+        (map (λ reader. reader.segments) done.readers.items) done.text.items []) }
+    ensures back { IfOk result (λ done.
+        map (λ reader. reader.segments) done.readers.items ≡ map S.segments messages.now) }
+    ensures options { IfOk result (λ done.
+        AllByRecursion (λ reader. reader.options ≡ options) done.readers.items) }
+    ensures end { IfOk result (λ done. done.end ≡ None) }
     // One with more segments than a reader accepts is not written.
     ensures few { OnOk result (AllByRecursion HasFew (map S.segments messages.now)) }
     ensures refused { IfErr result (λ error. RefusesManyOf (map S.segments messages.now) error.kind
@@ -47,7 +65,7 @@ pub fn write_and_read_back<S: ReaderSegments>(
     let mut source: &[u8] = &text;
     let readers = read_messages(alloc, format, &mut source, messages.len(), options)?;
     let end = try_read_message(alloc, format, &mut source, options)?;
-    Ok((readers, end))
+    Ok(ReadBack { text, readers, end })
 }
 
 /// Writes messages one after the other. What is written before a failure stays. One of more than 511
@@ -75,7 +93,7 @@ pub fn write_messages<W: Write, S: ReaderSegments>(
     Ok(())
 }
 
-/// Reads so many messages, one after the other.
+/// Reads `count` messages, one after the other.
 pub fn read_messages<R: BufRead>(
     alloc: Global,
     format: Format,
@@ -88,7 +106,9 @@ pub fn read_messages<R: BufRead>(
         IfKnown (R.unread source.old) (R.unread source.new)
         (AreTexts (grammar_of Padding.Zero format) options.traversal_limit_in_words
         (map (λ reader. reader.segments) readers.items))) }
-    // Where so many stand, a refusal is a fault.
+    ensures options { IfOk result (λ readers.
+        AllByRecursion (λ reader. reader.options ≡ options) readers.items) }
+    // Where as many stand, a failure is a fault.
     ensures accepted { IfErr result (λ error. IfSome (R.unread source.old) (λ raw.
         (messages : List (List (List ℕ))) (rest : List ℕ) →
         AreTexts (grammar_of Padding.Zero format) options.traversal_limit_in_words messages raw rest →
@@ -142,6 +162,7 @@ pub(crate) fn read_message<R: BufRead>(
     ensures reads { OrFailsAtEnd (ReadsStream R.Read source.old source.new
         (rules_of Padding.Zero format) options.traversal_limit_in_words)
         (message_in (λ reader. reader.segments) result) }
+    ensures options { IfOk result (λ reader. reader.options ≡ options) }
 {
     match format {
         Format::Framed => serialize::read_message(alloc, source, options),

@@ -68,11 +68,11 @@ fn read_back(rt: &(impl Abort + AllocGlobal), format: Format) -> Result<()> {
     let many = SegmentArray::new(&segments);
     let one = SegmentArray::new(&[EMPTY]);
     assert!(rt; is_writable(&many) && is_writable(&one));
-    let (readers, end) = write_and_read_back(rt.alloc(), format, &[many, one], OPTIONS)?;
-    assert!(rt; end.is_none(), "{format:?}");
-    assert_eq!(rt; readers.len(), 2, "{format:?}");
-    assert!(rt; holds(readers.first(), &segments), "{format:?}");
-    assert!(rt; holds(readers.get(1), &[EMPTY]), "{format:?}");
+    let done = write_and_read_back(rt.alloc(), format, &[many, one], OPTIONS)?;
+    assert!(rt; done.end.is_none(), "{format:?}");
+    assert_eq!(rt; done.readers.len(), 2, "{format:?}");
+    assert!(rt; holds(done.readers.first(), &segments), "{format:?}");
+    assert!(rt; holds(done.readers.get(1), &[EMPTY]), "{format:?}");
     Ok(())
 }
 

@@ -1,11 +1,11 @@
 -- Each turn reads one more message.
-use Rattle.std.proofs.Common.{◌+◌, length, map, arith, ap, ◌∙◌}
+use Rattle.std.proofs.Common.{◌≡◌, ◌+◌, length, map, arith, ap, ◌∙◌}
 use Rattle.std.proofs.lemmas.List.{length-map, length_push}
 use Rattle.std.proofs.lemmas.Result.{err_from_is_err_and}
 use Rattle.capnp_frame.proofs.SourceLemmas.{Advances-join}
 use Rattle.capnp.specs.Headline.{IsFault}
 use Rattle.capnp_frame.specs.declared.serialize.segment_table.Padding.TheVariants.{Zero}
-use Rattle.capnp.proofs.AppendedLemmas.{texts_next, accepted_later}
+use Rattle.capnp.proofs.AppendedLemmas.{texts_next, accepted_later, AllByRecursion-push}
 use Rattle.capnp.proofs.FormatLemmas.{or_fails_advances}
 use Rattle.capnp.proofs.appended.read_messages.Goals as goal
 
@@ -31,6 +31,8 @@ loop-index-preserved g c = record {
   texts = texts_next Zero c.args.format c.args.options.traversal_limit_in_words (λ reader. reader.segments) c.loop-index.readers.items
       c.push.new.self.items c.in_ok-reader.reader _ _ _ c.in_ok-push.ensures.items c.loop-index.invariant.texts
       c.in_ok-reader.ensures.texts.found;
+  options = AllByRecursion-push (λ reader. reader.options ≡ c.args.options) c.loop-index.readers.items c.push.new.self.items c.in_ok-reader.reader
+      c.in_ok-push.ensures.items c.loop-index.invariant.options c.in_ok-reader.ensures.options;
   advances = Advances-join _ _ _ (g.met.R.Read.keeps.transitive _ _ _) c.loop-index.invariant.advances
       (or_fails_advances g.R.Read _ _ _ _ _ c.read_message.ensures.reads);
 }
