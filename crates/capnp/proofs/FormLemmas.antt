@@ -6,6 +6,7 @@ use Rattle.capnp_frame.specs.declared.error.ErrorKind.{ErrorKind}
 use Rattle.capnp_frame.specs.declared.error.ErrorKind.TheVariants.{DeviceFailed, OutOfMemory}
 use Rattle.capnp_frame.specs.declared.io.Write.{Ghosts}
 use Rattle.capnp_frame.specs.Sink.{Declining, AppendsAll, DeclinesSome}
+use Rattle.capnp_frame.specs.Asking.{FailsOr}
 use Rattle.capnp_frame.specs.Source.{IsPreorder, Fails}
 use Rattle.capnp_frame.specs.Writers.{WritesTo, WritesSegments}
 use Rattle.capnp_frame.specs.Writing.{IsWritable, pieces}
@@ -21,7 +22,7 @@ use Rattle.capnp_wire.proofs.SizeLemmas.{length-body}
 use Rattle.capnp_wire.proofs.OpenLemmas.{room_formed}
 use Rattle.capnp_wire.proofs.WordLemmas.{length-words_of}
 use Rattle.capnp_message.specs.Canonical.{LacksForm}
-use Rattle.capnp.specs.Canonical.{IsForm, AppendsForm, DeclinesForm}
+use Rattle.capnp.specs.Canonical.{IsForm, AppendsForm, BreaksForm, DeclinesForm}
 use Rattle.capnp.specs.Written.{RefusesWriter}
 use Rattle.capnp.proofs.BlameLemmas.{answer_blames_none}
 
@@ -91,3 +92,13 @@ form_written sink old new pointer form segments (Err e) stands is told = record 
   failed = told.parts.failed;
   grows = told.parts.grows;
 }
+
+-- nothing of it is written unless the sink refuses a piece
+pub form_untouched : {S X : Type 0} (sink : Ghosts S) (old new : S) (pointer : Pointer) (form : List ℕ) (segments : List (List ℕ)) (r : Result X Error)
+    → IsForm pointer form → segments ≡ form ∷ [] → WritesSegments sink old new segments r → FailsOr r (λ kind. BreaksForm pointer sink.refuses kind ⊎ (new ≡ old))
+form_untouched sink old new pointer form segments (Ok x) stands is told = tt
+form_untouched sink old new pointer form segments (Err e) stands is told = elim told.parts.untouched [
+  | inl failed ↦ inl failed
+  | inr (inl declined) ↦ inr (inl (form, stands, subst (λ (s : List (List ℕ)). DeclinesSome sink.refuses (pieces s) e.kind) is declined))
+  | inr (inr same) ↦ inr (inr same)
+]

@@ -78,5 +78,5 @@ memory_alone m source old new rules limit segments (Err e) fault reads none stil
 -- the root of what is read is that of what was built
 pub tree_again : {X : Type 0} (has_tree : Trees → Type 0) (segments : X → List (List ℕ)) (r : Result X Error) (m : List (List ℕ)) → HasRootOf has_tree m
     → IfOk r (λ x. segments x ≡ m) → IfOk r (λ x. HasRootOf has_tree (segments x))
-tree_again has_tree segments (Err e) m root back = tt
-tree_again has_tree segments (Ok x) m root back = subst (HasRootOf has_tree) (sym back) root
+tree_again has_tree segments (Err e) m stands back = tt
+tree_again has_tree segments (Ok x) m stands back = subst (HasRootOf has_tree) (sym back) stands

@@ -19,7 +19,7 @@ use Rattle.capnp.specs.declared.streams.Format.{Format}
 use Rattle.capnp.specs.declared.streams.Format.TheVariants.{Framed, Packed}
 use Rattle.capnp.specs.declared.streams.StoppedAt.{StoppedAt}
 use Rattle.capnp.specs.Streams.{grammar_of, gives_of, refuses_of, rules_of, StandsNext}
-use Rattle.capnp.specs.Runs.{Writing, DecliningWriting, WritesFrom, WritesAll, HasWrittenNext, HasWritten, IsReadingFault, IsWritingFault, IsRunFault, LacksWriting, most_messages, HasRun}
+use Rattle.capnp.specs.Runs.{Writing, DecliningWriting, WritesFrom, WritesAll, HasWrittenNext, HasWritten, IsReadingFault, IsWritingFault, BreaksOffOr, IsRunFault, LacksWriting, most_messages, HasRun}
 use Rattle.capnp.proofs.FormatLemmas.{stands_next}
 use Rattle.capnp.proofs.WriterLemmas.{IsWritable-within}
 
@@ -153,11 +153,19 @@ stopped_writing : (rule : Padding) (format : Format) (limit : Option ℕ) (Write
     (stop : StoppedAt) (old mid left before between after : Option (List ℕ))
     → IfKnown old mid (HasWritten rule format limit Writes stop.message before between)
     → IfKnown mid left (LacksWriting rule format limit Declines stop.message stop.error.kind) → IfKnown between after IsFront
+    → (message : List (List ℕ)) × BreaksOffOr Declines stop.message message (after ≡ between) stop.error.kind
     → IfSome old (HasRun rule format limit Writes Declines (Err stop) left before after)
-stopped_writing rule format limit Writes Declines stop None mid left before between after written lacks front = tt
-stopped_writing rule format limit Writes Declines stop (Some raw) None left before between after written lacks front = absurd written
-stopped_writing rule format limit Writes Declines stop (Some raw) (Some rest) left before between after written lacks front =
-    inr (record { rest = rest; between = between; written = written; lacks = lacks; front = front })
+stopped_writing rule format limit Writes Declines stop None mid left before between after written lacks front untouched = tt
+stopped_writing rule format limit Writes Declines stop (Some raw) None left before between after written lacks front untouched = absurd written
+stopped_writing rule format limit Writes Declines stop (Some raw) (Some rest) left before between after written lacks front untouched =
+    inr (record { rest = rest; between = between; written = written; lacks = lacks; front = front; untouched = untouched })
+
+-- what a sink was left as is what was written to it
+pub left_as_written : {S : Type 0} (written : S → Option (List ℕ)) (Declines : DecliningWriting) (index : ℕ) (message : List (List ℕ)) (kind : ErrorKind)
+    (old new : S) → BreaksOffOr Declines index message (new ≡ old) kind → BreaksOffOr Declines index message (written new ≡ written old) kind
+left_as_written written Declines index message kind old new (inl failed) = inl failed
+left_as_written written Declines index message kind old new (inr (inl broken)) = inr (inl broken)
+left_as_written written Declines index message kind old new (inr (inr same)) = inr (inr (ap written same))
 
 -- the next message was read, and not written as a whole
 pub stopped_at_message : (rule : Padding) (format : Format) (limit : Option ℕ) (Writes : Writing) (Declines : DecliningWriting)
@@ -166,8 +174,9 @@ pub stopped_at_message : (rule : Padding) (format : Format) (limit : Option ℕ)
     → IfKnown old mid (HasWritten rule format limit Writes stop.message before between)
     → IfKnown mid left ((rules_of rule format).stands message)
     → IsWritingFault Declines stop.message message stop.error.kind → IfKnown between after IsFront
+    → BreaksOffOr Declines stop.message message (after ≡ between) stop.error.kind
     → IfSome old (HasRun rule format limit Writes Declines (Err stop) left before after)
-stopped_at_message rule format limit Writes Declines stop message old mid left before between after within whole written stands fault front =
+stopped_at_message rule format limit Writes Declines stop message old mid left before between after within whole written stands fault front untouched =
     stopped_writing rule format limit Writes Declines stop old mid left before between after written
     (lacks_writing rule format limit Declines stop.message message stop.error.kind mid left
-    (IsWritable-within message limit within whole) fault (stands_next rule format limit message mid left within stands)) front
+    (IsWritable-within message limit within whole) fault (stands_next rule format limit message mid left within stands)) front (message, untouched)

@@ -60,6 +60,7 @@ HasStopped-weaker rule format limit P Q Declines weaker count kind left before a
   written = HasWritten-weaker rule format limit P Q weaker count before stopped.between raw stopped.rest stopped.written;
   lacks = stopped.lacks;
   front = stopped.front;
+  untouched = stopped.untouched;
 })
 
 -- a plain sink gets the text of a message in the other format

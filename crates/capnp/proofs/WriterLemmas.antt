@@ -66,15 +66,15 @@ IsWithin-written message limit writable few size =
     record { some = omega arith; few = omega arith; each = writable.each; size = size }
 
 -- where a message was read, a writer's failure is a fault of the run: it has not too many segments
-pub writer_fault : {X : Type 0} (refuses : Declining) (message : List (List ℕ)) (limit : Option ℕ) (r : Result X Error) → IsWithin message limit
+pub writer_fault : {X : Type 0} (L : Type 0) (refuses : Declining) (message : List (List ℕ)) (limit : Option ℕ) (r : Result X Error) → IsWithin message limit
     → IfErr r (λ e. RefusesWriter refuses message e.kind)
-    → IfErr r (λ e. (e.kind ≡ DeviceFailed) ⊎ (e.kind ≡ OutOfMemory) ⊎ DeclinesSome refuses (pieces message) e.kind)
-writer_fault refuses message limit (Ok x) within refused = tt
-writer_fault refuses message limit (Err e) within (inl device) = inl device
-writer_fault refuses message limit (Err e) within (inr (inl declined)) = inr (inr declined)
-writer_fault refuses message limit (Err e) within (inr (inr (inl many))) =
+    → IfErr r (λ e. (e.kind ≡ DeviceFailed) ⊎ (e.kind ≡ OutOfMemory) ⊎ L ⊎ DeclinesSome refuses (pieces message) e.kind)
+writer_fault L refuses message limit (Ok x) within refused = tt
+writer_fault L refuses message limit (Err e) within (inl device) = inl device
+writer_fault L refuses message limit (Err e) within (inr (inl declined)) = inr (inr (inr declined))
+writer_fault L refuses message limit (Err e) within (inr (inr (inl many))) =
     let some = many.0 in let few = within.few in absurd (omega (arith, length-lengths message))
-writer_fault refuses message limit (Err e) within (inr (inr (inr memory))) = inr (inl memory.1)
+writer_fault L refuses message limit (Err e) within (inr (inr (inr memory))) = inr (inl memory.1)
 
 -- the size of a text that was written
 pub text_size : (r : Result ℕ Error) (message : List (List ℕ)) → IsWritable message → IfOk r (λ words. words ≡ serialized_words message)

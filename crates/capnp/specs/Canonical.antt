@@ -23,7 +23,10 @@ IsCanonicalText pointer text = (form : List ℕ) × IsForm pointer form × IsFra
 abbrev pub AppendsForm : Pointer → Appending → List ℕ → Type 0
 AppendsForm pointer appends text = (form : List ℕ) × IsForm pointer form × AppendsAll appends (pieces (form ∷ [])) text
 
+-- the sink refuses a piece of it
+abbrev pub BreaksForm : Pointer → Declining → ErrorKind → Type 0
+BreaksForm pointer refuses kind = (form : List ℕ) × IsForm pointer form × DeclinesSome refuses (pieces (form ∷ [])) kind
+
 -- why it is not written, beside the device and want of memory: there is no such form, or the sink refuses a piece of it
 abbrev pub DeclinesForm : Pointer → Declining → ErrorKind → Type 0
-DeclinesForm pointer refuses kind =
-    LacksForm pointer kind ⊎ ((form : List ℕ) × IsForm pointer form × DeclinesSome refuses (pieces (form ∷ [])) kind)
+DeclinesForm pointer refuses kind = LacksForm pointer kind ⊎ BreaksForm pointer refuses kind

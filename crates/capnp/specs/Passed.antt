@@ -15,3 +15,4 @@ pub use Rattle.capnp_frame.specs.Writing.{IsWritable, pieces}
 pub use Rattle.capnp_wire.specs.Object.{message_of}
 pub use Rattle.capnp_wire.specs.Reached.{root}
 pub use Rattle.capnp_wire.specs.Views.{Pointer}
+pub use Rattle.capnp_message.specs.Canonical.{LacksForm}

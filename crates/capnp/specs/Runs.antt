@@ -19,9 +19,12 @@ use Rattle.capnp.specs.Streams.{grammar_of, refuses_of, StandsNext, RefusesNext,
 abbrev pub Writing : Type 1
 Writing = ℕ → List (List ℕ) → List ℕ → Type 0
 
--- By which kinds that may be refused, beside the device's and want of memory: Declines index message kind.
-abbrev pub DecliningWriting : Type 1
-DecliningWriting = ℕ → List (List ℕ) → ErrorKind → Type 0
+-- Why a message of an index may fail to be written, beside the device's failure and want of memory.
+pub record DecliningWriting : Type 1 where
+  -- it lacks what is to be written of it, by this kind
+  pub lacks : ℕ → List (List ℕ) → ErrorKind → Type 0
+  -- the sink breaks off what is written of it, by this kind
+  pub breaks : ℕ → List (List ℕ) → ErrorKind → Type 0
 
 -- of messages, the first of this index
 abbrev pub WritesFrom : Writing → ℕ → List (List (List ℕ)) → List ℕ → Type 0
@@ -48,14 +51,22 @@ pub record HasWritten (rule : Padding) (format : Format) (limit : Option ℕ) (W
 abbrev pub IsReadingFault : Padding → Format → Option ℕ → ErrorKind → Option (List ℕ) → Option (List ℕ) → Type 0
 IsReadingFault rule format limit kind old new = (kind ≡ DeviceFailed) ⊎ (kind ≡ OutOfMemory) ⊎ IfKnown old new (RefusesNext rule format limit kind)
 
--- why a message was not written: the device's fault, want of memory, or that the sink refuses some of it
+-- a message is not written for what it is, or by its sink
+abbrev pub Declined : DecliningWriting → ℕ → List (List ℕ) → ErrorKind → Type 0
+Declined Declines index message kind = Declines.lacks index message kind ⊎ Declines.breaks index message kind
+
+-- why a message was not written: the device's fault, want of memory, what it lacks, or that the sink refuses some of it
 abbrev pub IsWritingFault : DecliningWriting → ℕ → List (List ℕ) → ErrorKind → Type 0
-IsWritingFault Declines index message kind = (kind ≡ DeviceFailed) ⊎ (kind ≡ OutOfMemory) ⊎ Declines index message kind
+IsWritingFault Declines index message kind = (kind ≡ DeviceFailed) ⊎ (kind ≡ OutOfMemory) ⊎ Declined Declines index message kind
+
+-- the sink failed or refused some of a message, so that a front of it may be written; else `same` holds
+abbrev pub BreaksOffOr : DecliningWriting → ℕ → List (List ℕ) → Type 0 → ErrorKind → Type 0
+BreaksOffOr Declines index message same kind = (kind ≡ DeviceFailed) ⊎ Declines.breaks index message kind ⊎ same
 
 -- a refusal that the unread bytes give no cause for: the same, of some message that can be written
 abbrev pub IsRunFault : DecliningWriting → ℕ → ErrorKind → Type 0
 IsRunFault Declines index kind = (kind ≡ DeviceFailed) ⊎ (kind ≡ OutOfMemory)
-    ⊎ ((message : List (List ℕ)) × IsWritable message × Declines index message kind)
+    ⊎ ((message : List (List ℕ)) × IsWritable message × Declined Declines index message kind)
 
 -- the next message was read, and not written as a whole
 pub record LacksWriting (rule : Padding) (format : Format) (limit : Option ℕ) (Declines : DecliningWriting) (index : ℕ) (kind : ErrorKind) (raw rest : List ℕ) : Type 0 where
@@ -84,13 +95,15 @@ pub record StoppedReading (rule : Padding) (format : Format) (limit : Option ℕ
   pub written : HasWritten rule format limit Writes count before after raw rest
   pub fault : IsReadingFault rule format limit kind (Some rest) left
 
--- So many messages are written, and the next one was read and not written as a whole. What was written of it is open.
+-- So many messages are written, and the next one was read and not written as a whole. Nothing of it is written unless the sink
+-- broke it off.
 pub record StoppedWriting (rule : Padding) (format : Format) (limit : Option ℕ) (Writes : Writing) (Declines : DecliningWriting) (count : ℕ) (kind : ErrorKind) (left before after : Option (List ℕ)) (raw : List ℕ) : Type 0 where
   pub rest : List ℕ
   pub between : Option (List ℕ)
   pub written : HasWritten rule format limit Writes count before between raw rest
   pub lacks : IfKnown (Some rest) left (LacksWriting rule format limit Declines count kind)
   pub front : IfKnown between after IsFront
+  pub untouched : (message : List (List ℕ)) × BreaksOffOr Declines count message (after ≡ between) kind
 
 -- it stopped by this kind after so many messages
 abbrev pub HasStopped : Padding → Format → Option ℕ → Writing → DecliningWriting → ℕ → ErrorKind → Option (List ℕ) → Option (List ℕ) → Option (List ℕ) → List ℕ → Type 0

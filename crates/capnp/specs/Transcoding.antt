@@ -26,8 +26,8 @@ Transcodes Unpack appends index message text = AppendsAll appends (pieces messag
 
 -- and by which kinds it refuses this message
 abbrev pub DeclinesTranscoded : Way → Declining → DecliningWriting
-DeclinesTranscoded Pack refuses index message kind = DeclinesSome (DeclinesPacked refuses) (pieces message) kind
-DeclinesTranscoded Unpack refuses index message kind = DeclinesSome refuses (pieces message) kind
+DeclinesTranscoded Pack refuses = record { lacks = λ index message kind. ⊥; breaks = λ index message. DeclinesSome (DeclinesPacked refuses) (pieces message) }
+DeclinesTranscoded Unpack refuses = record { lacks = λ index message kind. ⊥; breaks = λ index message. DeclinesSome refuses (pieces message) }
 
 -- the text of a message in the other format
 abbrev pub IsOtherText : Way → Writing

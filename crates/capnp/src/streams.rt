@@ -10,7 +10,7 @@ ghost use Rattle.capnp_frame.specs.Sink.{Appending, Declining, Adds, Grows};
 ghost use Rattle.capnp_frame.specs.Streams.{framed_rules, ReadsStream};
 ghost use Rattle.capnp_pack.specs.PackedStreams.{packed_rules};
 ghost use Rattle.capnp.specs.Streams.{refuses_of, rules_of};
-ghost use Rattle.capnp.specs.Runs.{Writing, DecliningWriting, IsWritingFault, IsRunFault, HasRun, WritesEach};
+ghost use Rattle.capnp.specs.Runs.{Writing, DecliningWriting, IsWritingFault, BreaksOffOr, IsRunFault, HasRun, WritesEach};
 
 use capnp_frame::io::{BufRead, Write};
 use capnp_frame::message::ReaderOptions;
@@ -44,7 +44,7 @@ pub trait MessageWriter {
     /// What a sink that appends so adds for a message, by its index.
     ghost writes: { Self → Appending → Writing };
 
-    /// By which kinds a sink that declines so may refuse that.
+    /// By which kinds it is not written: for what the message lacks, and by a sink that declines so.
     ghost declines: { Self → Declining → DecliningWriting };
 
     /// Writes what there is to write of a message of this index.
@@ -65,6 +65,8 @@ pub trait MessageWriter {
             (Adds (writes self.now W.appends index message.now))) }
         ensures refused { IfErr result (λ error.
             IsWritingFault (declines self.now W.refuses) index message.now error.kind) }
+        ensures untouched { IfErr result (λ error. BreaksOffOr (declines self.now W.refuses)
+            index message.now (sink.new ≡ sink.old) error.kind) }
         ensures failed { IfErr result (λ error. error.kind ≡ ErrorKind.DeviceFailed →
             Fails (W.failures sink.old) (W.failures sink.new)) }
         ensures grows { Grows W.written W.failures W.same sink.old sink.new };

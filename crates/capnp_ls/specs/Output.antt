@@ -1,8 +1,8 @@
 -- What the program prints of messages.
 use Rattle.std.specs.Prelude.{ℕ, List, [], ◌∷◌, ◌++◌, length, Option, Some, decimal}
 use Rattle.std.specs.List.{flat_map}
-use Rattle.capnp.specs.Passed.{Appending, Declining, lengths, size_in_words, message_of, root, Pointer}
-use Rattle.capnp.specs.Canonical.{AppendsForm, DeclinesForm}
+use Rattle.capnp.specs.Passed.{Appending, Declining, lengths, size_in_words, message_of, root, Pointer, LacksForm}
+use Rattle.capnp.specs.Canonical.{AppendsForm, BreaksForm}
 use Rattle.capnp.specs.Runs.{Writing, DecliningWriting}
 use Rattle.capnp.specs.Transcoding.{Transcodes, DeclinesTranscoded}
 use Rattle.capnp_ls.specs.declared.command.Command.{Command}
@@ -30,8 +30,11 @@ Prints (Listing format padding) appends index segments text = appends (line inde
 Prints (Transcoding way padding) appends index segments text = Transcodes way appends index segments text
 Prints (Canonical format) appends index segments text = AppendsForm (root_of segments) appends text
 
--- and by which kinds it refuses this message
+-- and why this message is not printed: it has no canonical form, or the sink refuses a piece of what is printed
 abbrev pub DeclinesPrinted : Command → Declining → DecliningWriting
-DeclinesPrinted (Listing format padding) refuses index segments kind = refuses (line index segments) kind
-DeclinesPrinted (Transcoding way padding) refuses index segments kind = DeclinesTranscoded way refuses index segments kind
-DeclinesPrinted (Canonical format) refuses index segments kind = DeclinesForm (root_of segments) refuses kind
+DeclinesPrinted (Listing format padding) refuses = record { lacks = λ index segments kind. ⊥; breaks = λ index segments. refuses (line index segments) }
+DeclinesPrinted (Transcoding way padding) refuses = DeclinesTranscoded way refuses
+DeclinesPrinted (Canonical format) refuses = record {
+  lacks = λ index segments. LacksForm (root_of segments);
+  breaks = λ index segments. BreaksForm (root_of segments) refuses;
+}

@@ -2,13 +2,14 @@
 ghost use Rattle.std.specs.Prelude.{◌≡◌, ◌⊎◌, OnOk};
 ghost use Rattle.std.specs.Result.{IsErrAnd};
 ghost use Rattle.capnp_frame.specs.declared.error.ErrorKind.{ErrorKind};
+ghost use Rattle.capnp_frame.specs.Asking.{FailsOr};
 ghost use Rattle.capnp_frame.specs.Source.{IfKnown};
 ghost use Rattle.capnp_frame.specs.Sink.{Adds};
 ghost use Rattle.capnp_frame.specs.Writers.{WritesTo};
 ghost use Rattle.capnp_message.specs.Seen.{root_of};
 ghost use Rattle.capnp_message.specs.Canonical.{LacksForm};
 ghost use Rattle.capnp.specs.Written.{IsPlainSink};
-ghost use Rattle.capnp.specs.Canonical.{IsCanonicalText, AppendsForm, DeclinesForm};
+ghost use Rattle.capnp.specs.Canonical.{IsCanonicalText, AppendsForm, BreaksForm, DeclinesForm};
 
 use capnp_frame::Result;
 use capnp_frame::io::Write;
@@ -37,6 +38,9 @@ pub fn write_canonical_message<W: Write, S: ReaderSegments>(
         (AppendsForm (root_of S.segments reader.now) W.appends)
         (λ kind. (kind ≡ ErrorKind.OutOfMemory)
         ⊎ DeclinesForm (root_of S.segments reader.now) W.refuses kind) result }
+    // A failure that isn't the sink's leaves the sink as it was.
+    ensures untouched { FailsOr result (λ kind.
+        BreaksForm (root_of S.segments reader.now) W.refuses kind ⊎ (sink.new ≡ sink.old)) }
 {
     let form = reader.canonical_segment(alloc)?;
     let segments = [form.as_slice()];

@@ -3,7 +3,7 @@ use Rattle.std.proofs.Common.{rules, ◌≡◌, refl, inr}
 use Rattle.capnp_frame.proofs.SourceLemmas.{IfKnown-join, Advances-join, Grows-join}
 use Rattle.capnp.specs.Runs.{most_messages}
 use Rattle.capnp.proofs.FormatLemmas.{reading_fault}
-use Rattle.capnp.proofs.RunLemmas.{HasWritten-next, written_next, all_written, most_written, stopped_reading, stopped_at_message, message_faulted}
+use Rattle.capnp.proofs.RunLemmas.{HasWritten-next, written_next, all_written, most_written, stopped_reading, stopped_at_message, left_as_written, message_faulted}
 use Rattle.capnp.proofs.streams.write_all.Goals as goal
 
 pub returns-in-Ok-None-clause-written : goal.returns-in-Ok-None-clause-written
@@ -28,6 +28,8 @@ returns-in-Err-write_message-clause-written g c = stopped_at_message c.args.padd
     (rw c.in-Ok-Some.field-0-is at c.in-Ok-Some.ensures.within) (rw c.in-Ok-Some.field-0-is at c.in-Ok-Some.ensures.whole)
     c.loop-message.invariant.written (rw c.in-Ok-Some.field-0-is at c.in-Ok-Some.ensures.found)
     c.in-Err-write_message.ensures.refused c.write_message.ensures.grows.front
+    (left_as_written g.W.Write.written (g.M.MessageWriter.declines c.args.writer.now g.W.Write.refuses) c.loop-message.message c.in-Ok-Some.segments
+    c.in-Err-write_message.error.kind _ _ c.in-Err-write_message.ensures.untouched)
 
 pub returns-in-Err-write_message-clause-kinds : goal.returns-in-Err-write_message-clause-kinds
 returns-in-Err-write_message-clause-kinds g c = inr (message_faulted c.args.options.traversal_limit_in_words

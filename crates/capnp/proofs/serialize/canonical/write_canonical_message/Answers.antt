@@ -5,7 +5,7 @@ use Rattle.capnp_message.specs.Seen.{root_of}
 use Rattle.capnp.specs.Written.{IsFrameText}
 use Rattle.capnp.specs.Canonical.{IsForm}
 use Rattle.capnp.proofs.WriterLemmas.{frame_text_added, Adds-weaker}
-use Rattle.capnp.proofs.FormLemmas.{one_writable, form_lacking, form_written, refused_on}
+use Rattle.capnp.proofs.FormLemmas.{one_writable, form_lacking, form_written, form_untouched, refused_on}
 use Rattle.capnp.proofs.serialize.canonical.write_canonical_message.Given as given
 use Rattle.capnp.proofs.serialize.canonical.write_canonical_message.Goals as goal
 
@@ -45,3 +45,6 @@ returns-clause-lacks g c = λ kind lacks. absurd (c.in_ok-form.ensures.exact kin
 
 pub returns-clause-writes : goal.returns-clause-writes
 returns-clause-writes g c = form_written g.W.Write _ _ _ _ _ c.write_segments.result (form g c) (segment g c) c.write_segments.ensures
+
+pub returns-clause-untouched : goal.returns-clause-untouched
+returns-clause-untouched g c = form_untouched g.W.Write _ _ _ _ _ c.write_segments.result (form g c) (segment g c) c.write_segments.ensures

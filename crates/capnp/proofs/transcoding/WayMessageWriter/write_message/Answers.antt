@@ -4,7 +4,13 @@ use Rattle.capnp.proofs.WriterLemmas.{writer_fault}
 use Rattle.capnp.proofs.transcoding.WayMessageWriter.write_message.Goals as goal
 
 pub returns-in-Pack-clause-refused : goal.returns-in-Pack-clause-refused
-returns-in-Pack-clause-refused g c = rw c.in-Pack.is (writer_fault _ _ None _ c.requires.accepted c.write_message_segments.ensures.refused)
+returns-in-Pack-clause-refused g c = rw c.in-Pack.is (writer_fault ⊥ _ _ None _ c.requires.accepted c.write_message_segments.ensures.refused)
 
 pub returns-in-Unpack-clause-refused : goal.returns-in-Unpack-clause-refused
-returns-in-Unpack-clause-refused g c = rw c.in-Unpack.is (writer_fault _ _ None _ c.requires.accepted c.write_message_segments-in-Unpack.ensures.refused)
+returns-in-Unpack-clause-refused g c = rw c.in-Unpack.is (writer_fault ⊥ _ _ None _ c.requires.accepted c.write_message_segments-in-Unpack.ensures.refused)
+
+pub returns-in-Pack-clause-untouched : goal.returns-in-Pack-clause-untouched
+returns-in-Pack-clause-untouched g c = rw c.in-Pack.is c.write_message_segments.ensures.untouched
+
+pub returns-in-Unpack-clause-untouched : goal.returns-in-Unpack-clause-untouched
+returns-in-Unpack-clause-untouched g c = rw c.in-Unpack.is c.write_message_segments-in-Unpack.ensures.untouched
