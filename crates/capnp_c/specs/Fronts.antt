@@ -3,7 +3,9 @@ use Rattle.std.specs.Prelude.{◌≡◌, ◌+◌, ◌*◌, ◌<◌, ℕ, true, L
 use Rattle.capnp_frame.specs.declared.error.ErrorKind.{ErrorKind}
 use Rattle.capnp_frame.specs.declared.error.ErrorKind.TheVariants.{BufferNotLargeEnough}
 use Rattle.capnp_frame.specs.declared.serialize.segment_table.Padding.TheVariants.{Zero}
+use Rattle.capnp_frame.specs.FlatRefusals.{by_fields, RefusesFlat}
 use Rattle.capnp_frame.specs.Frame.{IsFrame}
+use Rattle.capnp_frame.specs.Numbers.{number_of}
 use Rattle.capnp_frame.specs.Texts.{BeginsWith}
 use Rattle.capnp_wire.specs.Object.{message_of}
 use Rattle.capnp_wire.specs.Reached.{root}
@@ -33,3 +35,15 @@ LacksForm segments kind = LacksWords (LeadsToTree (root_pointer segments)) (Stop
 -- it has one, and a block of so many bytes has no room for it
 abbrev pub IsShort : List (List ℕ) → ℕ → ErrorKind → Type 0
 IsShort segments room kind = (size : ℕ) × HasForm segments size × (room < 8 * size) × (kind ≡ BufferNotLargeEnough)
+
+-- Which number an export returns that measures or writes the canonical form of the message at the front of these bytes.
+-- `has_room` says whether there is room for a form of so many words.
+pub record AnswersForm (bytes : List ℕ) (has_room : ℕ → Type 0) (result : ℕ) : Type 0 where
+  -- 0 where there is a message that has a form, and room for it
+  pub accepted : (segments : List (List ℕ)) (rest : List ℕ) (size : ℕ) → IsAtFront bytes segments rest → HasForm segments size
+      → has_room size → result ≡ 0
+  -- where the message has no form the number of the reason
+  pub refused : (segments : List (List ℕ)) (rest : List ℕ) (kind : ErrorKind) → IsAtFront bytes segments rest → LacksForm segments kind
+      → result ≡ number_of kind
+  -- and where no message stands there, that of the first line of the table of refusals that holds
+  pub unreadable : (kind : ErrorKind) → RefusesFlat by_fields Zero default_limit kind bytes → result ≡ number_of kind

@@ -1,11 +1,13 @@
 //! Canonical words that are written into a lent block.
-ghost use Rattle.std.specs.Prelude.{◌≡◌, ◌⊎◌, ◌*◌, ◌<◌, ◌≤◌, ℕ, List, length, take, IfOk, IfErr, IsOk, pos};
-ghost use Rattle.capnp_frame.specs.Numbers.{number_of};
+ghost use Rattle.std.specs.Prelude.{⊤, ◌≡◌, ◌⊎◌, ◌*◌, ◌<◌, ◌≤◌, ℕ, List, length, take, IfOk, IfErr, IsOk, pos};
+ghost use Rattle.std.specs.Result.{IsErrAnd};
+ghost use Rattle.capnp_frame.specs.FlatRefusals.{by_fields, RefusesFlat};
+ghost use Rattle.capnp_frame.specs.declared.serialize.segment_table.Padding.TheVariants.{Zero};
 ghost use Rattle.capnp_frame.specs.declared.error.ErrorKind.{ErrorKind};
 ghost use Rattle.capnp_wire.specs.Pointer.{words_of};
 ghost use Rattle.capnp_wire.specs.Readers.{pointer_of};
 ghost use Rattle.capnp_wire.specs.Values.{IsCanonicalForm};
-ghost use Rattle.capnp_c.specs.Fronts.{IsAtFront, HasForm, LacksForm, IsShort, default_limit, root_pointer};
+ghost use Rattle.capnp_c.specs.Fronts.{IsAtFront, HasForm, LacksForm, IsShort, AnswersForm, default_limit, root_pointer};
 
 use capnp_frame::message::{DEFAULT_READER_OPTIONS, ReaderSegments};
 use capnp_frame::serialize::{NoAllocBufferSegments, NoAllocSliceSegments};
@@ -19,10 +21,7 @@ use capnp_wire::canonical::{canonical_size, write_form};
 pub extern "C" fn linsjoar_canonical_size(bytes: &[u8], words: &mut usize) -> u8
     ensures size { (segments : List (List ℕ)) (rest : List ℕ) →
         IsAtFront bytes.now segments rest → result ≡ 0 → HasForm segments words.new }
-    ensures accepted { (segments : List (List ℕ)) (rest : List ℕ) (size : ℕ) →
-        IsAtFront bytes.now segments rest → HasForm segments size → result ≡ 0 }
-    ensures refused { (segments : List (List ℕ)) (rest : List ℕ) (kind : ErrorKind) →
-        IsAtFront bytes.now segments rest → LacksForm segments kind → result ≡ number_of kind }
+    ensures answers { AnswersForm bytes.now (λ size. ⊤) result }
 {
     *words = 0;
     match measured(bytes) {
@@ -41,14 +40,10 @@ pub extern "C" fn linsjoar_canonical(bytes: &[u8], block: &mut [u8], words: &mut
     ensures form { (segments : List (List ℕ)) (rest : List ℕ) →
         IsAtFront bytes.now segments rest → result ≡ 0 → (8 * words.new ≤ length block.new)
         × IsCanonicalForm (root_pointer segments) (words_of (take (8 * words.new) block.new)) }
-    ensures accepted { (segments : List (List ℕ)) (rest : List ℕ) (size : ℕ) →
-        IsAtFront bytes.now segments rest → HasForm segments size →
-        8 * size ≤ length block.new → result ≡ 0 }
     ensures short { (segments : List (List ℕ)) (rest : List ℕ) (size : ℕ) →
         IsAtFront bytes.now segments rest → HasForm segments size →
         length block.new < 8 * size → result ≡ 2 }
-    ensures refused { (segments : List (List ℕ)) (rest : List ℕ) (kind : ErrorKind) →
-        IsAtFront bytes.now segments rest → LacksForm segments kind → result ≡ number_of kind }
+    ensures answers { AnswersForm bytes.now (λ size. 8 * size ≤ length block.new) result }
 {
     *words = 0;
     match written(bytes, block) {
@@ -67,6 +62,8 @@ fn opened<'a>(bytes: &'a [u8]) -> Result<ReaderArena<NoAllocSliceSegments<'a>>>
         IfOk result (λ arena. arena.segments.segments ≡ segments) }
     ensures accepted { (segments : List (List ℕ)) (rest : List ℕ) →
         IsAtFront bytes.now segments rest → IsOk result }
+    ensures exact { (kind : ErrorKind) → RefusesFlat by_fields Zero default_limit kind bytes.now →
+        IsErrAnd result (λ error. error.kind ≡ kind) }
     ensures nesting { IfOk result (λ arena. arena.nesting_limit ≡ pos 64) }
     ensures limit { IfOk result (λ arena. arena.limiter.limit ≡ default_limit) }
 {
@@ -95,6 +92,8 @@ fn measured(bytes: &[u8]) -> Result<usize>
         IsAtFront bytes.now segments rest → IfOk result (λ words. HasForm segments words) }
     ensures lacks { (segments : List (List ℕ)) (rest : List ℕ) →
         IsAtFront bytes.now segments rest → IfErr result (λ error. LacksForm segments error.kind) }
+    ensures exact { (kind : ErrorKind) → RefusesFlat by_fields Zero default_limit kind bytes.now →
+        IsErrAnd result (λ error. error.kind ≡ kind) }
 {
     let arena = opened(bytes)?;
     let (_, size) = measured_root(&arena)?;
@@ -110,6 +109,8 @@ fn written(bytes: &[u8], block: &mut [u8]) -> Result<usize>
     ensures lacks { (segments : List (List ℕ)) (rest : List ℕ) →
         IsAtFront bytes.now segments rest → IfErr result (λ error. LacksForm segments error.kind
         ⊎ IsShort segments (length block.new) error.kind) }
+    ensures exact { (kind : ErrorKind) → RefusesFlat by_fields Zero default_limit kind bytes.now →
+        IsErrAnd result (λ error. error.kind ≡ kind) }
 {
     let arena = opened(bytes)?;
     let (root, words) = measured_root(&arena)?;

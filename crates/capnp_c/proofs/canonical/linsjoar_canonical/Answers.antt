@@ -1,5 +1,5 @@
 -- What was written, or why it was not.
-use Rattle.std.proofs.Common.{ap, ◌∙◌, arith}
+use Rattle.std.proofs.Common.{refl, ap, ◌∙◌, arith}
 use Rattle.capnp_frame.specs.Numbers.{number_of}
 use Rattle.capnp_c.proofs.FrontLemmas.{has_or_lacks, one_size, form_fits, form_is_short, form_is_lacked}
 use Rattle.capnp_c.proofs.canonical.linsjoar_canonical.Goals as goal
@@ -11,16 +11,20 @@ pub returns-in-Ok-clause-short : goal.returns-in-Ok-clause-short
 returns-in-Ok-clause-short c segments rest size front has short =
     absurd (omega (arith, short, (c.in-Ok.ensures.form segments rest front).0, one_size segments c.in-Ok.size size (c.in-Ok.ensures.size segments rest front) has))
 
-pub returns-in-Ok-clause-refused : goal.returns-in-Ok-clause-refused
-returns-in-Ok-clause-refused c segments rest kind front lacks = absurd (has_or_lacks segments c.in-Ok.size kind (c.in-Ok.ensures.size segments rest front) lacks)
-
-pub returns-in-Err-clause-accepted : goal.returns-in-Err-clause-accepted
-returns-in-Err-clause-accepted c segments rest size front has fits = absurd (form_fits segments _ size _ (c.in-Err.ensures.lacks segments rest front) has fits)
+pub returns-in-Ok-clause-answers : goal.returns-in-Ok-clause-answers
+returns-in-Ok-clause-answers c = record {
+  accepted = λ segments rest size front has room. refl;
+  refused = λ segments rest kind front lacks. absurd (has_or_lacks segments c.in-Ok.size kind (c.in-Ok.ensures.size segments rest front) lacks);
+  unreadable = λ kind refused. absurd (c.in-Ok.ensures.exact kind refused);
+}
 
 pub returns-in-Err-clause-short : goal.returns-in-Err-clause-short
 returns-in-Err-clause-short c segments rest size front has short =
     c.number.ensures ∙ ap number_of (form_is_short segments _ size _ (c.in-Err.ensures.lacks segments rest front) has)
 
-pub returns-in-Err-clause-refused : goal.returns-in-Err-clause-refused
-returns-in-Err-clause-refused c segments rest kind front lacks =
-    c.number.ensures ∙ ap number_of (form_is_lacked segments _ _ kind (c.in-Err.ensures.lacks segments rest front) lacks)
+pub returns-in-Err-clause-answers : goal.returns-in-Err-clause-answers
+returns-in-Err-clause-answers c = record {
+  accepted = λ segments rest size front has room. absurd (form_fits segments _ size _ (c.in-Err.ensures.lacks segments rest front) has room);
+  refused = λ segments rest kind front lacks. c.number.ensures ∙ ap number_of (form_is_lacked segments _ _ kind (c.in-Err.ensures.lacks segments rest front) lacks);
+  unreadable = λ kind refused. c.number.ensures ∙ ap number_of (c.in-Err.ensures.exact kind refused);
+}

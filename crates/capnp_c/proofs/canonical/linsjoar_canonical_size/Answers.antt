@@ -1,5 +1,5 @@
 -- What was measured, or why it was not.
-use Rattle.std.proofs.Common.{ap, ◌∙◌}
+use Rattle.std.proofs.Common.{refl, ap, ◌∙◌}
 use Rattle.capnp_frame.specs.Numbers.{number_of}
 use Rattle.capnp_c.proofs.FrontLemmas.{has_or_lacks, one_reason}
 use Rattle.capnp_c.proofs.canonical.linsjoar_canonical_size.Goals as goal
@@ -7,12 +7,16 @@ use Rattle.capnp_c.proofs.canonical.linsjoar_canonical_size.Goals as goal
 pub returns-in-Ok-clause-size : goal.returns-in-Ok-clause-size
 returns-in-Ok-clause-size c segments rest front done = c.in-Ok.ensures.size segments rest front
 
-pub returns-in-Ok-clause-refused : goal.returns-in-Ok-clause-refused
-returns-in-Ok-clause-refused c segments rest kind front lacks = absurd (has_or_lacks segments c.in-Ok.size kind (c.in-Ok.ensures.size segments rest front) lacks)
+pub returns-in-Ok-clause-answers : goal.returns-in-Ok-clause-answers
+returns-in-Ok-clause-answers c = record {
+  accepted = λ segments rest size front has room. refl;
+  refused = λ segments rest kind front lacks. absurd (has_or_lacks segments c.in-Ok.size kind (c.in-Ok.ensures.size segments rest front) lacks);
+  unreadable = λ kind refused. absurd (c.in-Ok.ensures.exact kind refused);
+}
 
-pub returns-in-Err-clause-accepted : goal.returns-in-Err-clause-accepted
-returns-in-Err-clause-accepted c segments rest size front has = absurd (has_or_lacks segments size _ has (c.in-Err.ensures.lacks segments rest front))
-
-pub returns-in-Err-clause-refused : goal.returns-in-Err-clause-refused
-returns-in-Err-clause-refused c segments rest kind front lacks =
-    c.number.ensures ∙ ap number_of (one_reason segments _ kind (c.in-Err.ensures.lacks segments rest front) lacks)
+pub returns-in-Err-clause-answers : goal.returns-in-Err-clause-answers
+returns-in-Err-clause-answers c = record {
+  accepted = λ segments rest size front has room. absurd (has_or_lacks segments size _ has (c.in-Err.ensures.lacks segments rest front));
+  refused = λ segments rest kind front lacks. c.number.ensures ∙ ap number_of (one_reason segments _ kind (c.in-Err.ensures.lacks segments rest front) lacks);
+  unreadable = λ kind refused. c.number.ensures ∙ ap number_of (c.in-Err.ensures.exact kind refused);
+}

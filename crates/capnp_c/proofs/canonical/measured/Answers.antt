@@ -14,3 +14,14 @@ returns-in_err-size-clause-lacks c segments rest front =
 
 pub returns-clause-size : goal.returns-clause-size
 returns-clause-size c segments rest front = subst (λ s. HasForm s c.in_ok-size.size) (c.in_ok-arena.ensures.front segments rest front) c.in_ok-size.ensures.size
+
+pub returns-in_err-arena-clause-exact : goal.returns-in_err-arena-clause-exact
+returns-in_err-arena-clause-exact c kind refused =
+    let p = err_from_is_err_and c.from_residual.result c.from_residual.ensures.1 in
+    rw (p.1, p.2) (c.in_err-arena.ensures.exact kind refused)
+
+pub returns-in_err-size-clause-exact : goal.returns-in_err-size-clause-exact
+returns-in_err-size-clause-exact c kind refused = absurd (c.in_ok-arena.ensures.exact kind refused)
+
+pub returns-clause-exact : goal.returns-clause-exact
+returns-clause-exact c kind refused = absurd (c.in_ok-arena.ensures.exact kind refused)

@@ -1,5 +1,6 @@
 -- The arena is over the message that stands there.
 use Rattle.std.proofs.Common.{ap, ◌∙◌}
+use Rattle.std.proofs.lemmas.Result.{err_from_is_err_and}
 use Rattle.capnp_c.proofs.FrontLemmas.{one_front}
 use Rattle.capnp_c.proofs.canonical.opened.Goals as goal
 
@@ -11,3 +12,11 @@ returns-clause-front c segments rest front =
 pub returns-in_err-segments-clause-accepted : goal.returns-in_err-segments-clause-accepted
 returns-in_err-segments-clause-accepted c segments rest front =
     let never = c.in_err-segments.ensures.reads.accepted segments rest front in absurd (cc)
+
+pub returns-in_err-segments-clause-exact : goal.returns-in_err-segments-clause-exact
+returns-in_err-segments-clause-exact c kind refused =
+    let p = err_from_is_err_and c.from_residual.result c.from_residual.ensures.1 in
+    rw (p.1, p.2) (c.in_err-segments.ensures.reads.exact kind refused)
+
+pub returns-clause-exact : goal.returns-clause-exact
+returns-clause-exact c kind refused = absurd (c.in_ok-segments.ensures.reads.exact kind refused)

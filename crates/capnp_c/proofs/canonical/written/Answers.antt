@@ -33,3 +33,17 @@ returns-clause-form c segments rest front =
 
 pub returns-clause-size : goal.returns-clause-size
 returns-clause-size c segments rest front = subst (λ s. HasForm s c.in_ok-root.words) (c.in_ok-arena.ensures.front segments rest front) c.in_ok-root.ensures.size
+
+pub returns-in_err-arena-clause-exact : goal.returns-in_err-arena-clause-exact
+returns-in_err-arena-clause-exact c kind refused =
+    let p = err_from_is_err_and c.from_residual.result c.from_residual.ensures.1 in
+    rw (p.1, p.2) (c.in_err-arena.ensures.exact kind refused)
+
+pub returns-in_err-root-clause-exact : goal.returns-in_err-root-clause-exact
+returns-in_err-root-clause-exact c kind refused = absurd (c.in_ok-arena.ensures.exact kind refused)
+
+pub returns-then-block-words-clause-exact : goal.returns-then-block-words-clause-exact
+returns-then-block-words-clause-exact c kind refused = absurd (c.in_ok-arena.ensures.exact kind refused)
+
+pub returns-clause-exact : goal.returns-clause-exact
+returns-clause-exact c kind refused = absurd (c.in_ok-arena.ensures.exact kind refused)
