@@ -2,6 +2,7 @@
 pub mod Streams
 pub mod Headline
 pub mod Written
+pub mod Appended
 pub mod Runs
 pub mod Transcoding
 pub mod Passed

@@ -9,6 +9,7 @@ ghost use Rattle.capnp_frame.specs.Sink.{Adds, Grows};
 ghost use Rattle.capnp_frame.specs.Texts.{AreTexts};
 ghost use Rattle.capnp_frame.specs.Writing.{IsWritable, HasFew, RefusesMany};
 ghost use Rattle.capnp_frame.specs.Streams.{next_in, message_in, ReadsStream};
+ghost use Rattle.capnp.specs.Appended.{StopsWithin};
 ghost use Rattle.capnp.specs.Headline.{IsFault, ReturnsTexts, OrFailsAtEnd};
 ghost use Rattle.capnp.specs.Streams.{grammar_of, rules_of};
 ghost use Rattle.capnp.specs.Written.{IsPlainSink, IsTextOf, AppendsEach, RefusesManyOf, RefusesAppending};
@@ -113,6 +114,10 @@ pub fn read_messages<R: BufRead>(
         (messages : List (List (List ℕ))) (rest : List ℕ) →
         AreTexts (grammar_of Padding.Zero format) options.traversal_limit_in_words messages raw rest →
         length messages ≡ count → IsFault error.kind)) }
+    // It fails where the reader of one message does, or for want of memory for the list.
+    ensures stops { IfErr result (λ error. (error.kind ≡ ErrorKind.OutOfMemory)
+        ⊎ StopsWithin R.Read source.old source.new Padding.Zero format
+        options.traversal_limit_in_words count error) }
     ensures failed { IfErr result (λ error. error.kind ≡ ErrorKind.DeviceFailed →
         Fails (R.failures source.old) (R.failures source.new)) }
     ensures advances { Advances R.unread R.failures R.same source.old source.new }

@@ -34,6 +34,7 @@ pub fn set_and_read_back<T, V: SetterInput<T> + Drop, A: Allocator>(
 ) -> Result<Reader<OwnedSegments>>
     ensures tree { KeepsLimit (lengths (output_of message.new)) options.traversal_limit_in_words →
         IfOk result (λ reader. HasRootOf (V.has_tree value) reader.segments) }
+    ensures options { IfOk result (λ reader. reader.options ≡ options) }
     ensures few { OnOk result (HasFew (output_of message.new)) }
     ensures refused { KeepsLimit (lengths (output_of message.new)) options.traversal_limit_in_words →
         IfErr result (λ error. RefusesMany (output_of message.new) error.kind
@@ -57,6 +58,7 @@ pub fn write_and_read_back<A: Allocator>(
     requires { 0 < length message.now.spaces }
     ensures back { KeepsLimit (lengths (output_of message.now)) options.traversal_limit_in_words →
         IfOk result (λ reader. reader.segments ≡ output_of message.now) }
+    ensures options { IfOk result (λ reader. reader.options ≡ options) }
     ensures few { OnOk result (HasFew (output_of message.now)) }
     ensures refused { KeepsLimit (lengths (output_of message.now)) options.traversal_limit_in_words →
         IfErr result (λ error. RefusesMany (output_of message.now) error.kind

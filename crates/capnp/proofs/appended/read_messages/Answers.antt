@@ -1,5 +1,5 @@
 -- Each turn reads one more message.
-use Rattle.std.proofs.Common.{◌≡◌, ◌+◌, length, map, arith, ap, ◌∙◌}
+use Rattle.std.proofs.Common.{◌≡◌, ◌+◌, inr, length, map, arith, ap, ◌∙◌}
 use Rattle.std.proofs.lemmas.List.{length-map, length_push}
 use Rattle.std.proofs.lemmas.Result.{err_from_is_err_and}
 use Rattle.capnp_frame.proofs.SourceLemmas.{Advances-join}
@@ -16,6 +16,17 @@ returns-in_err-reader-clause-accepted g c =
     (map (λ reader. reader.segments) c.loop-index.readers.items) c.args.count _ _
     (omega (arith, length-map c.loop-index.readers.items (λ reader. reader.segments), c.loop-index.invariant.counted, c.loop-index-test.true))
     c.loop-index.invariant.texts c.in_err-reader.ensures.texts.accepted)
+
+pub returns-in_err-reader-clause-stops : goal.returns-in_err-reader-clause-stops
+returns-in_err-reader-clause-stops g c =
+    let p = err_from_is_err_and c.from_residual.result c.from_residual.ensures.1 in
+    rw (p.1, p.2) (inr (record {
+      between = c.loop-index.source;
+      messages = map (λ reader. reader.segments) c.loop-index.readers.items;
+      fewer = omega (arith, length-map c.loop-index.readers.items (λ reader. reader.segments), c.loop-index.invariant.counted, c.loop-index-test.true);
+      texts = c.loop-index.invariant.texts;
+      next = c.in_err-reader.ensures.reads;
+    }))
 
 pub returns-in_err-reader-clause-advances : goal.returns-in_err-reader-clause-advances
 returns-in_err-reader-clause-advances g c = Advances-join _ _ _ (g.met.R.Read.keeps.transitive _ _ _) c.loop-index.invariant.advances
