@@ -73,6 +73,8 @@ impl Allocator for SecondRefused {
 
     ghost same = { λ old new. ⊤ };
 
+    ghost grants = { λ allocator asked words. ⊥ };
+
     fn allocate_segment(&mut self, minimum_size: u32) -> Result<Vec<u8>> {
         self.requests = self.requests.saturating_add(1);
         if self.requests == 2 {
