@@ -13,7 +13,7 @@ use Rattle.capnp_build.proofs.NullLemmas.{null_root}
 use Rattle.capnp_build.proofs.PlaceLemmas.{still_cleared}
 use Rattle.capnp_build.proofs.FirstLemmas.{first_put}
 use Rattle.capnp_build.proofs.KeptLemmas.{zero_stays}
-use Rattle.capnp_build.proofs.OutcomeLemmas.{cleared_root, home_alone}
+use Rattle.capnp_build.proofs.OutcomeLemmas.{cleared_root, home_alone, still_granted}
 
 -- a new object's block is placed once the root is cleared
 pub inits_root : {A S K : Type 0} (alloc : allocator.Ghosts A S) (schema : owned_builder.Ghosts K) (n : ℕ) (form : Form) (old cleared new : Built A)
@@ -27,6 +27,7 @@ inits_root alloc schema n form old cleared new (Ok done) keeps clear inits told 
         cleared = cleared;
         is_cleared = cleared_root alloc old cleared clear;
         block = inr (told.0, (form, inits, told.1), told.2.placed, λ empty. first_put cleared new told.0 (clear.fresh empty) told.2.placed (told.2.sizes 0 clear.there));
+        granted = still_granted alloc old cleared new.spaces clear (told.2.sizes 0 clear.there);
         zero = zero_stays old.spot cleared.spaces new.spaces clear.behind clear.zero told.2.bytes;
       };
       nulled = tt;
@@ -54,7 +55,7 @@ inits_null alloc schema n old new clear inits =
     record {
       inits = (null, t.0, inits, t.1);
       there = clear.there;
-      placed = record { cleared = new; is_cleared = cleared_root alloc old new clear; block = inl refl; zero = clear.zero };
+      placed = record { cleared = new; is_cleared = cleared_root alloc old new clear; block = inl refl; granted = still_granted alloc old new new.spaces clear refl; zero = clear.zero };
       nulled = tt;
       kind = tt;
       home = λ empty out. tt;

@@ -1,5 +1,5 @@
 -- What the calls on the root keep, from what their steps keep.
-use Rattle.std.proofs.Common.{◌≡◌, inl, inr, ℕ, ◌<◌, ◌≤◌, false, List, [], length, Result, Ok, Err, IfErr, OnOk, refl, ap, subst, sym, ◌+◌, ◌^◌, ◌∷◌, ◌∙◌, arith}
+use Rattle.std.proofs.Common.{◌≡◌, ◌/◌, inl, inr, ℕ, ◌<◌, ◌≤◌, false, List, [], length, Result, Ok, Err, IfErr, OnOk, refl, ap, subst, sym, ◌+◌, ◌^◌, ◌∷◌, ◌∙◌, arith}
 use Rattle.capnp_frame.specs.declared.error.Error.{Error}
 use Rattle.capnp_frame.specs.declared.error.ErrorKind.{ErrorKind}
 use Rattle.capnp_wire.specs.Tree.{Form, null, Trees, none}
@@ -10,7 +10,7 @@ use Rattle.capnp_build.specs.declared.shown.Shown.{Shown}
 use Rattle.capnp_build.specs.Bytes.{Space}
 use Rattle.capnp_build.specs.Out.{Out, IsPreorder, HasLarge}
 use Rattle.capnp_build.specs.Held.{pairs, space_at, room_of}
-use Rattle.capnp_build.specs.Built.{Built, HasNullRoot, ForRoot, DeclinesRoot, HasNoRoom, IsSet, IsPut, IsCleared}
+use Rattle.capnp_build.specs.Built.{Built, HasNullRoot, ForRoot, DeclinesRoot, HasNoRoom, IsSet, IsPut, IsGranted, IsCleared}
 use Rattle.capnp_build.specs.Blocks.{PutsBlock}
 use Rattle.capnp_build.specs.Outcomes.{SetsRoot, ClearsRoot, EnsuresRoot, LooksAtRoot, HasRoomFirst}
 use Rattle.capnp_build.specs.Shown.{Shows, HoldsForm}
@@ -64,6 +64,11 @@ home_alone alloc old cleared words clear few full taken empty out =
     no_large cleared.spaces words (clear.fresh empty) full few
     (taken [] (clear.others [] (subst (λ (l : List Space). alloc.out old.allocator (pairs l [])) (sym empty) out)))
 
+-- the first segment stays the granted one
+pub still_granted : {A S : Type 0} (alloc : allocator.Ghosts A S) (old cleared : Built A) (spaces : List Space) {done : Unit {0}} → ClearsRoot alloc old cleared (Ok done)
+    → (space_at spaces 0).size ≡ (space_at cleared.spaces 0).size → IsGranted alloc old spaces
+still_granted alloc old cleared spaces clear same = λ empty most grants. ap (λ (n : ℕ). n / 8) same ∙ (clear.granted empty most grants).1
+
 -- a block that is placed once the root is cleared
 pub is_put : {A S : Type 0} (alloc : allocator.Ghosts A S) (stands : List Space → Type 0) (measured : ℕ → Type 0) (old cleared new : Built A) (words : ℕ) {done over : Unit {0}}
     → ClearsRoot alloc old cleared (Ok done) → measured words → PutsBlock alloc stands words cleared new (Ok over) → IsPut alloc measured old new
@@ -74,6 +79,7 @@ is_put alloc stands measured old cleared new words clear has told = record {
   words_are = has;
   placed = told.placed;
   first = λ empty. first_put cleared new words (clear.fresh empty) told.placed (told.sizes 0 clear.there);
+  granted = still_granted alloc old cleared new.spaces clear (told.sizes 0 clear.there);
   zero = zero_stays old.spot cleared.spaces new.spaces clear.behind clear.zero told.bytes;
 }
 

@@ -223,6 +223,10 @@ pub record IsFirst {A : Type 0} (new : Built A) (words : ℕ) : Type 0 where
   pub near : words < most_words (space_at new.spaces 0) → StandsAt new.spot 0 1 words × (length new.spaces ≡ 1) × (size_in_words new.spaces ≡ 1 + words)
   pub far : most_words (space_at new.spaces 0) ≤ words → StandsAt new.spot 1 1 words × (length new.spaces ≡ 2) × (size_in_words new.spaces ≡ 2 + words)
 
+-- where the first segment has to be granted, it is the granted one, of so many words
+abbrev pub IsGranted : {A S : Type 0} → Ghosts A S → Built A → List Space → Type 0
+IsGranted alloc old spaces = old.spaces ≡ [] → (most : ℕ) → alloc.grants old.allocator 1 most → (space_at spaces 0).size / 8 ≡ most
+
 -- a block of such words is placed once the old root is cleared
 pub record IsPut {A S : Type 0} (alloc : Ghosts A S) (measured : ℕ → Type 0) (old new : Built A) : Type 0 where
   pub cleared : Built A
@@ -231,6 +235,7 @@ pub record IsPut {A S : Type 0} (alloc : Ghosts A S) (measured : ℕ → Type 0)
   pub words_are : measured words
   pub placed : IsPlaced cleared.spaces new words
   pub first : old.spaces ≡ [] → IsFirst new words
+  pub granted : IsGranted alloc old new.spaces
   -- the old block stays zero
   pub zero : MatchOption old.spot ⊤ (IsZeroAt new.spaces)
 
@@ -239,6 +244,7 @@ pub record IsInit {A S : Type 0} (alloc : Ghosts A S) (measured : ℕ → Type 0
   pub cleared : Built A
   pub is_cleared : IsCleared alloc old cleared
   pub block : (new ≡ cleared) ⊎ ((words : ℕ) × measured words × IsPlaced cleared.spaces new words × (old.spaces ≡ [] → IsFirst new words))
+  pub granted : IsGranted alloc old new.spaces
   -- the old block stays zero
   pub zero : MatchOption old.spot ⊤ (IsZeroAt new.spaces)
 

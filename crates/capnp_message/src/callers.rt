@@ -1,9 +1,10 @@
 //! What is set is read back, and what is built over a region.
-ghost use Rattle.std.specs.Prelude.{◌≡◌, ◌⊎◌, ℕ, ◌/◌, ◌^◌, ◌<◌, false, true, length, IfOk, IsOk, OnOk, OnErr};
-ghost use Rattle.capnp_wire.specs.Values.{HasWords, LeadsToTree, IsTextOf};
+ghost use Rattle.std.specs.Prelude.{◌≡◌, ◌⊎◌, ℕ, ◌/◌, ◌^◌, ◌<◌, false, true, length, IfOk, IfErr, IsOk, OnOk, OnErr};
+ghost use Rattle.capnp_frame.specs.declared.error.ErrorKind.TheVariants.{SegmentTaken};
+ghost use Rattle.capnp_wire.specs.Values.{HasWords, LacksWords, LeadsToTree, IsTextOf};
 ghost use Rattle.capnp_build.specs.Built.{IsSet, IsCleared};
 ghost use Rattle.capnp_message.specs.Seen.{root_of};
-ghost use Rattle.capnp_message.specs.Region.{IsHome};
+ghost use Rattle.capnp_message.specs.Region.{IsHome, StandsAlone};
 
 use crate::builder::Builder;
 use crate::laws::a_single_region_comes_home;
@@ -40,7 +41,7 @@ pub fn text_is_read_back<A: Allocator>(message: &mut Builder<A>, text: &str) -> 
 }
 
 /// Sets the root of a new message over a region: a value that has room there behind the root's word is
-/// set.
+/// set, and stands just behind it. Where it is refused, that is not for a region that is out.
 pub fn set_in_region<'a, T, V: SetterInput<T> + Drop>(
     alloc: Global,
     region: &'a mut [u8],
@@ -50,6 +51,10 @@ pub fn set_in_region<'a, T, V: SetterInput<T> + Drop>(
     ensures fits { (words : ℕ) → HasWords (V.has_tree value) false words →
         words < length region.old / 8 → IsOk result }
     ensures set { IfOk result (λ message. IsSet (V.has_tree value) false message.spaces) }
+    ensures stands { IfOk result (λ message. (words : ℕ) × HasWords (V.has_tree value) false words
+        × (words < length region.old / 8 → StandsAlone message words)) }
+    ensures home { IfErr result (λ error. error.kind ≡ SegmentTaken →
+        LacksWords (V.has_tree value) (V.refuses value) false error.kind) }
 {
     let mut message = Builder::new(alloc, SingleSegmentAllocator::new(region));
     message.set_root::<T, V>(value)?;

@@ -168,8 +168,11 @@ fn in_a_region(rt: HostRuntime) -> std::result::Result<(), Fail> {
     let full = set_in_region::<capnp_wire::text::Owned, &str>(rt.alloc(), &mut region, "hello");
     assert_eq!(rt; allocation_refusal(full), (15, 2));
     let mut region = [7; 16];
-    let mut home =
-        region_comes_home::<capnp_wire::text::Owned, &str>(rt.alloc(), &mut region, "hello");
+    let mut home = region_comes_home::<capnp_wire::text::Owned, &str>(
+        rt.alloc(),
+        &mut region,
+        "hello",
+    );
     assert_eq!(rt; &home.allocate_segment(2)?[..], [0; 16].as_slice());
     Ok(())
 }

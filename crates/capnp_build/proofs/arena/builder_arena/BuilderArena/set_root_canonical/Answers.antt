@@ -3,7 +3,7 @@ use Rattle.std.proofs.Common.{rules, length, ap, arith, refl}
 use Rattle.std.proofs.lemmas.Result.{err_from_is_err_and}
 use Rattle.capnp_build.specs.Held.{space_at, room_of}
 use Rattle.capnp_build.specs.Built.{Built}
-use Rattle.capnp_build.proofs.OutcomeLemmas.{cleared_root}
+use Rattle.capnp_build.proofs.OutcomeLemmas.{cleared_root, still_granted}
 use Rattle.capnp_build.proofs.CanonicalLemmas.{canonical_unmeasured, canonical_full, none_refused}
 use Rattle.capnp_build.proofs.FirstLemmas.{first_put}
 use Rattle.capnp_build.proofs.KeptLemmas.{zero_stays}
@@ -25,6 +25,7 @@ returns g c =
         words_are = c.in_ok-words.ensures.answer;
         placed = placed;
         first = λ none. first_put c.clear_root.new.self c.put_near.new.self c.in_ok-words.words (clear.fresh none) placed (near.sizes 0);
+        granted = still_granted g.A.Allocator _ c.clear_root.new.self c.put_near.new.self.spaces clear (near.sizes 0);
         zero = zero_stays _ c.clear_root.new.self.spaces c.put_near.new.self.spaces clear.behind clear.zero near.bytes;
       };
       one = omega (arith, near.count, alone, c.if-len-gt1.false, c.len.ensures, clear.there);
