@@ -58,7 +58,7 @@ part_here at xs w fits = ap (take (length w)) (drop_front at xs (w ++ drop (at +
 pub eight_here : (at : ℕ) (xs w : List ℕ) → at ≤ length xs → length w ≡ 8 → take 8 (drop at (written xs at w)) ≡ w
 eight_here at xs w fits eight = subst (λ (n : ℕ). take n (drop at (written xs at w)) ≡ w) eight (part_here at xs w fits)
 
-front_same : (n at : ℕ) (xs ys : List ℕ) → n ≤ at → at ≤ length xs → take n (take at xs ++ ys) ≡ take n xs
+pub front_same : (n at : ℕ) (xs ys : List ℕ) → n ≤ at → at ≤ length xs → take n (take at xs ++ ys) ≡ take n xs
 front_same zero at xs ys le fits = refl
 front_same (suc n) zero xs ys le fits = absurd (omega (arith, le))
 front_same (suc n) (suc at) [] ys le fits = absurd (omega (arith, fits))

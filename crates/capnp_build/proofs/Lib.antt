@@ -6,6 +6,7 @@ pub mod ByteLemmas
 pub mod HeldLemmas
 pub mod SpaceLemmas
 pub mod NullLemmas
+pub mod KeptLemmas
 pub mod LaidLemmas
 pub mod PointLemmas
 pub mod ReadyLemmas
@@ -13,7 +14,10 @@ pub mod FieldLemmas
 pub mod RewriteLemmas
 pub mod ReadLemmas
 pub mod PlaceLemmas
+pub mod FirstLemmas
 pub mod OutcomeLemmas
+pub mod CanonicalLemmas
+pub mod InitLemmas
 pub mod WriteLemmas
 pub mod FreshLemmas
 pub mod OutputLemmas

@@ -1,86 +1,120 @@
 -- What the calls on the root keep, from what their steps keep.
-use Rattle.std.proofs.Common.{◌≡◌, inl, inr, ℕ, ◌<◌, false, List, [], ◌∷◌, length, Result, Ok, Err, IfErr, OnOk, refl, ap, subst, sym, arith}
+use Rattle.std.proofs.Common.{◌≡◌, ◌/◌, inl, inr, ℕ, ◌<◌, ◌≤◌, false, List, [], length, Result, Ok, Err, IfErr, OnOk, refl, ap, subst, sym, ◌+◌, ◌^◌, ◌∷◌, ◌∙◌, arith}
 use Rattle.capnp_frame.specs.declared.error.Error.{Error}
 use Rattle.capnp_frame.specs.declared.error.ErrorKind.{ErrorKind}
 use Rattle.capnp_wire.specs.Tree.{Form, null, Trees, none}
-use Rattle.capnp_wire.specs.Values.{HasWords}
+use Rattle.capnp_wire.specs.Values.{HasWords, LacksWords}
 use Rattle.capnp_build.specs.declared.allocator.Allocator as allocator
 use Rattle.capnp_build.specs.declared.owned_builder.OwnedBuilder as owned_builder
 use Rattle.capnp_build.specs.declared.shown.Shown.{Shown}
 use Rattle.capnp_build.specs.Bytes.{Space}
-use Rattle.capnp_build.specs.Out.{IsPreorder}
-use Rattle.capnp_build.specs.Built.{Built, HasNullRoot, ForRoot, DeclinesRoot, HasNoRoom, IsSet, IsCleared, NewWords}
-use Rattle.capnp_build.specs.Blocks.{IsNew, PutsBlock}
-use Rattle.capnp_build.specs.Outcomes.{SetsRoot, InitsRoot, ClearsRoot, EnsuresRoot, LooksAtRoot}
+use Rattle.capnp_build.specs.Out.{Out, IsPreorder, HasLarge}
+use Rattle.capnp_build.specs.Held.{pairs, space_at, room_of}
+use Rattle.capnp_build.specs.Built.{Built, HasNullRoot, ForRoot, DeclinesRoot, HasNoRoom, IsSet, IsPut, IsGranted, IsCleared}
+use Rattle.capnp_build.specs.Blocks.{PutsBlock}
+use Rattle.capnp_build.specs.Outcomes.{SetsRoot, ClearsRoot, EnsuresRoot, LooksAtRoot, HasRoomFirst}
 use Rattle.capnp_build.specs.Shown.{Shows, HoldsForm}
 use Rattle.capnp_build.proofs.NullLemmas.{null_root}
 use Rattle.capnp_build.proofs.PlaceLemmas.{still_cleared}
+use Rattle.capnp_build.proofs.FirstLemmas.{first_put, no_large}
+use Rattle.capnp_build.proofs.KeptLemmas.{zero_stays}
 
-pub cleared_root : {A S : Type 0} (alloc : allocator.Ghosts A S) (old last : Built A) {done : Unit {0}} → ClearsRoot alloc old last (Ok done) → IsCleared alloc.same old last
+pub cleared_root : {A S : Type 0} (alloc : allocator.Ghosts A S) (old last : Built A) {done : Unit {0}} → ClearsRoot alloc old last (Ok done) → IsCleared alloc old last
 cleared_root alloc old last told = record {
   null = told.null;
   null_word = told.null_word;
   zero = told.zero;
   size = omega (arith, told.size);
   rooms = told.rooms;
+  fresh = λ empty. inr (told.fresh empty);
   same_allocator = told.same;
+  others = told.others;
+}
+
+-- a block finds the room that the first segment has
+pub room_first : {A S : Type 0} (alloc : allocator.Ghosts A S) (old cleared : Built A) (words : ℕ) {done : Unit {0}} → ClearsRoot alloc old cleared (Ok done) → words < 2 ^ 29
+    → HasRoomFirst alloc old words → words ≤ room_of (space_at cleared.spaces 0)
+room_first alloc old cleared words told few room = elim room [
+  | inl there ↦ (let same = (told.rooms there.0).1 0 in omega (arith, there.1, same))
+  | inr fresh ↦ (let size = (told.granted fresh.0 fresh.1.0 fresh.1.1).1 in let alone = told.fresh fresh.0 in omega (arith, size, alone.1, fresh.1.2, few))
+]
+
+pub sets_root_unmeasured : {A S : Type 0} (alloc : allocator.Ghosts A S) (has_tree : Trees → Type 0) (refuses : ErrorKind → Type 0) (old new : Built A) (error : Error)
+    {done : Unit {0}} → ClearsRoot alloc old new (Ok done) → LacksWords has_tree refuses false error.kind → ((kind : ErrorKind) → LacksWords has_tree refuses false kind → error.kind ≡ kind)
+    → ((words : ℕ) → HasWords has_tree false words → ⊥) → SetsRoot alloc has_tree refuses old new (Err error)
+sets_root_unmeasured alloc has_tree refuses old new error clear lacks exact found = record {
+  set = tt;
+  there = tt;
+  placed = tt;
+  nulled = cleared_root alloc old new clear;
+  kind = inl lacks;
+  none = λ empty. let l : length new.spaces ≡ 0 = ap length empty in absurd (omega (arith, l, clear.there));
+  exact = λ kind is. inl (exact kind is);
+  fits = λ words has room. absurd (found words has);
+  home = λ empty out taken. lacks;
+  same = clear.same;
+  others = clear.others;
+}
+
+-- a refusal of the block's segment is not for one that is out, where none was
+pub home_alone : {A S : Type 0} (alloc : allocator.Ghosts A S) (old cleared : Built A) (words : ℕ) {done : Unit {0}} → ClearsRoot alloc old cleared (Ok done) → words < 2 ^ 29
+    → HasNoRoom cleared.spaces words → ((others : List Out) → alloc.out cleared.allocator (pairs cleared.spaces others) → HasLarge (words + 1) (pairs cleared.spaces others))
+    → old.spaces ≡ [] → alloc.out old.allocator [] → ⊥
+home_alone alloc old cleared words clear few full taken empty out =
+    no_large cleared.spaces words (clear.fresh empty) full few
+    (taken [] (clear.others [] (subst (λ (l : List Space). alloc.out old.allocator (pairs l [])) (sym empty) out)))
+
+-- the first segment stays the granted one
+pub still_granted : {A S : Type 0} (alloc : allocator.Ghosts A S) (old cleared : Built A) (spaces : List Space) {done : Unit {0}} → ClearsRoot alloc old cleared (Ok done)
+    → (space_at spaces 0).size ≡ (space_at cleared.spaces 0).size → IsGranted alloc old spaces
+still_granted alloc old cleared spaces clear same = λ empty most grants. ap (λ (n : ℕ). n / 8) same ∙ (clear.granted empty most grants).1
+
+-- a block that is placed once the root is cleared
+pub is_put : {A S : Type 0} (alloc : allocator.Ghosts A S) (stands : List Space → Type 0) (measured : ℕ → Type 0) (old cleared new : Built A) (words : ℕ) {done over : Unit {0}}
+    → ClearsRoot alloc old cleared (Ok done) → measured words → PutsBlock alloc stands words cleared new (Ok over) → IsPut alloc measured old new
+is_put alloc stands measured old cleared new words clear has told = record {
+  cleared = cleared;
+  words = words;
+  is_cleared = cleared_root alloc old cleared clear;
+  words_are = has;
+  placed = told.placed;
+  first = λ empty. first_put cleared new words (clear.fresh empty) told.placed (told.sizes 0 clear.there);
+  granted = still_granted alloc old cleared new.spaces clear (told.sizes 0 clear.there);
+  zero = zero_stays old.spot cleared.spaces new.spaces clear.behind clear.zero told.bytes;
 }
 
 -- a value's block is placed once the root is cleared
 pub sets_root : {A S : Type 0} (alloc : allocator.Ghosts A S) (has_tree : Trees → Type 0) (refuses : ErrorKind → Type 0) (old cleared new : Built A) (words : ℕ)
     {done : Unit {0}} (r : Result (Unit {0}) Error) → IsPreorder alloc.same → ClearsRoot alloc old cleared (Ok done) → HasWords has_tree false words
+    → ((kind : ErrorKind) → LacksWords has_tree refuses false kind → ⊥) → ((other : ℕ) → HasWords has_tree false other → other ≡ words)
     → PutsBlock alloc (IsSet has_tree false) words cleared new r → SetsRoot alloc has_tree refuses old new r
-sets_root alloc has_tree refuses old cleared new words (Ok done) keeps clear has told = record {
+sets_root alloc has_tree refuses old cleared new words (Ok done) keeps clear has exact found told = record {
   set = told.set;
-  placed = record { cleared = cleared; words = words; is_cleared = cleared_root alloc old cleared clear; words_are = has; placed = told.placed };
+  there = told.there;
+  placed = is_put alloc (IsSet has_tree false) (HasWords has_tree false) old cleared new words clear has told;
   nulled = tt;
   kind = tt;
+  none = λ empty. tt;
+  exact = λ kind lacks. absurd (exact kind lacks);
+  fits = λ other also room. refl;
+  home = λ empty out. tt;
   same = keeps.transitive _ _ _ clear.same told.same;
   others = λ others is. told.others others (clear.others others is);
 }
-sets_root alloc has_tree refuses old cleared new words (Err error) keeps clear has told = record {
+sets_root alloc has_tree refuses old cleared new words (Err error) keeps clear has exact found told = record {
   set = tt;
+  there = tt;
   placed = tt;
-  nulled = still_cleared alloc.same old cleared new (Err error) keeps (cleared_root alloc old cleared clear) told.refused told.kept told.same;
+  nulled = still_cleared alloc old cleared new (Err error) keeps (cleared_root alloc old cleared clear) told.refused told.kept told.same told.others;
   kind = inr (inr (words, has, subst (λ (l : List Space). HasNoRoom l words) (sym told.kept) told.kind.0, told.kind.1));
+  none = λ empty. let l : length cleared.spaces ≡ 0 = ap length (sym told.kept ∙ empty) in absurd (omega (arith, l, clear.there));
+  exact = λ kind lacks. absurd (exact kind lacks);
+  fits = λ other also room.
+      let fit = room_first alloc old cleared other clear also.few room in let full = told.kind.0.first in absurd (omega (arith, fit, full, found other also));
+  home = λ empty out taken. absurd (home_alone alloc old cleared words clear has.few told.kind.0 (told.taken taken) empty out);
   same = keeps.transitive _ _ _ clear.same told.same;
   others = λ others is. told.others others (clear.others others is);
 }
-
--- a new object's block is placed once the root is cleared
-pub inits_root : {A S K : Type 0} (alloc : allocator.Ghosts A S) (schema : owned_builder.Ghosts K) (n : ℕ) (form : Form) (old cleared new : Built A)
-    {done : Unit {0}} (r : Result (Unit {0}) Error) → IsPreorder alloc.same → ClearsRoot alloc old cleared (Ok done) → schema.inits n form
-    → ((words : ℕ) × NewWords form words × PutsBlock alloc (IsNew form) words cleared new r) → InitsRoot alloc schema n old new r
-inits_root alloc schema n form old cleared new (Ok done) keeps clear inits told = record {
-  inits = (form, told.2.set.0, inits, told.2.set.1);
-  placed = record { cleared = cleared; is_cleared = cleared_root alloc old cleared clear; block = inr (told.0, (form, inits, told.1), told.2.placed) };
-  nulled = tt;
-  kind = tt;
-  same = keeps.transitive _ _ _ clear.same told.2.same;
-  others = λ others is. told.2.others others (clear.others others is);
-}
-inits_root alloc schema n form old cleared new (Err error) keeps clear inits told = record {
-  inits = tt;
-  placed = tt;
-  nulled = still_cleared alloc.same old cleared new (Err error) keeps (cleared_root alloc old cleared clear) told.2.refused told.2.kept told.2.same;
-  kind = inr (inr (told.0, (form, inits, told.1), subst (λ (l : List Space). HasNoRoom l told.0) (sym told.2.kept) told.2.kind.0, told.2.kind.1));
-  same = keeps.transitive _ _ _ clear.same told.2.same;
-  others = λ others is. told.2.others others (clear.others others is);
-}
-
--- the null that is left is the new object
-pub inits_null : {A S K : Type 0} (alloc : allocator.Ghosts A S) (schema : owned_builder.Ghosts K) (n : ℕ) (old new : Built A) {done : Unit {0}}
-    → ClearsRoot alloc old new (Ok done) → schema.inits n null → InitsRoot alloc schema n old new (Ok done)
-inits_null alloc schema n old new clear inits =
-    let t = null_root new.spaces clear.there clear.null_word in
-    record {
-      inits = (null, t.0, inits, t.1);
-      placed = record { cleared = new; is_cleared = cleared_root alloc old new clear; block = inl refl };
-      nulled = tt;
-      kind = tt;
-      same = clear.same;
-      others = clear.others;
-    }
 
 -- what is declined where there is a root, null where there was no segment
 declined : (old last : List Space) (declines : Form → ErrorKind → Type 0) (kind : ErrorKind) → (0 < length old → last ≡ old) → (old ≡ [] → HasNullRoot last) → 0 < length last
@@ -98,13 +132,17 @@ looks_at_root alloc schema old last shown bytes (Ok done) told shows holds takes
   there = told.there;
   looked = told.looked;
   kind = tt;
+  home = λ empty out. tt;
   others = told.others;
 }
-looks_at_root {A} alloc schema old last shown bytes (Err error) told shows holds takes declines = record {
-  taken = tt;
-  there = tt;
-  looked = told.looked;
-  kind = inr (declined old.spaces last.spaces schema.declines error.kind (λ some. ap (λ (v : Built A). v.spaces) (told.looked.stays some)) told.looked.null_word told.there
-      (λ form held charge root_is. declines form (shows form held charge root_is) (holds form held charge root_is)));
-  others = told.others;
-}
+looks_at_root {A} alloc schema old last shown bytes (Err error) told shows holds takes declines =
+    let is = declined old.spaces last.spaces schema.declines error.kind (λ some. ap (λ (v : Built A). v.spaces) (told.looked.stays some)) told.looked.null_word told.there
+    (λ form held charge root_is. declines form (shows form held charge root_is) (holds form held charge root_is)) in
+    record {
+      taken = tt;
+      there = tt;
+      looked = told.looked;
+      kind = inr is;
+      home = λ empty out taken. is;
+      others = told.others;
+    }

@@ -5,8 +5,9 @@ use Rattle.std.proofs.lemmas.Bool.{cases_lt}
 use Rattle.capnp_frame.specs.declared.error.Error.{Error}
 use Rattle.capnp_frame.specs.declared.error.ErrorKind.{ErrorKind}
 use Rattle.capnp_build.specs.Bytes.{Space}
-use Rattle.capnp_build.specs.Held.{space_at, room_of}
-use Rattle.capnp_build.specs.Built.{Built, size_in_words, HasNullRoot, IsAdded, IsAtEnd, IsPlaced, IsZeroAt, IsCleared, IsCrowded, WasCrowded, KeepsRooms}
+use Rattle.capnp_build.specs.Held.{space_at, room_of, KeepsOthers}
+use Rattle.capnp_build.specs.declared.allocator.Allocator.{Ghosts}
+use Rattle.capnp_build.specs.Built.{Built, size_in_words, HasNullRoot, IsAdded, IsAtEnd, IsPlaced, IsZeroAt, IsCleared, IsCrowded, WasCrowded, KeepsRooms, HasRootAlone, held_of}
 use Rattle.capnp_build.specs.Out.{IsPreorder}
 use Rattle.capnp_build.proofs.SpaceLemmas.{size_added, past_all, added_there}
 
@@ -58,16 +59,18 @@ on_err (Ok a) P Q step p = tt
 on_err (Err e) P Q step p = step p
 
 -- what is refused later leaves the root cleared
-pub still_cleared : {A : Type 0} (same : A → A → Type 0) (old cleared last : Built A) (r : Result (Unit {0}) Error) → IsPreorder same → IsCleared same old cleared → OnErr r (last.spot ≡ None)
-    → OnErr r (last.spaces ≡ cleared.spaces) → same cleared.allocator last.allocator → OnErr r (IsCleared same old last)
-still_cleared same old cleared last (Ok done) keeps c null kept alike = tt
-still_cleared same old cleared last (Err error) keeps c null kept alike = record {
+pub still_cleared : {A S : Type 0} (alloc : Ghosts A S) (old cleared last : Built A) (r : Result (Unit {0}) Error) → IsPreorder alloc.same → IsCleared alloc old cleared → OnErr r (last.spot ≡ None)
+    → OnErr r (last.spaces ≡ cleared.spaces) → alloc.same cleared.allocator last.allocator → KeepsOthers alloc.out (held_of cleared) (held_of last) → OnErr r (IsCleared alloc old last)
+still_cleared alloc old cleared last (Ok done) keeps c null kept alike others = tt
+still_cleared alloc old cleared last (Err error) keeps c null kept alike others = record {
   null = null;
   null_word = subst HasNullRoot (sym kept) c.null_word;
   zero = subst (λ (l : List Space). MatchOption old.spot ⊤ (IsZeroAt l)) (sym kept) c.zero;
   size = subst (λ (l : List Space). size_in_words l ≤ max 1 (size_in_words old.spaces)) (sym kept) c.size;
   rooms = subst (λ (l : List Space). KeepsRooms old.spaces l) (sym kept) c.rooms;
+  fresh = λ none. subst (λ (l : List Space). (l ≡ []) ⊎ HasRootAlone l) (sym kept) (c.fresh none);
   same_allocator = keeps.transitive old.allocator cleared.allocator last.allocator c.same_allocator alike;
+  others = λ rest is. others rest (c.others rest is);
 }
 
 -- a block in the first segment
@@ -76,10 +79,10 @@ pub placed_near : {A : Type 0} (old : List Space) (new : Built A) (words : ℕ) 
 placed_near old new words room at_end count size = record { near = λ _. (at_end, count, size); far = λ full. absurd (omega (arith, room, full)) }
 
 -- what finds no room found none once the root was cleared
-pub was_crowded : {A : Type 0} (same : A → A → Type 0) (measured : ℕ → Type 0) (R E : ErrorKind → Type 0) (old new : Built A) (r : Result (Unit {0}) Error) → OnErr r (IsCleared same old new)
-    → IfErr r (λ error. R error.kind ⊎ E error.kind ⊎ IsCrowded measured new.spaces error.kind) → IfErr r (λ error. R error.kind ⊎ E error.kind ⊎ WasCrowded same measured old error.kind)
-was_crowded same measured R E old new (Ok done) nulled kind = tt
-was_crowded same measured R E old new (Err error) nulled kind = elim kind [
+pub was_crowded : {A S : Type 0} (alloc : Ghosts A S) (measured : ℕ → Type 0) (R E : ErrorKind → Type 0) (old new : Built A) (r : Result (Unit {0}) Error) → OnErr r (IsCleared alloc old new)
+    → IfErr r (λ error. R error.kind ⊎ E error.kind ⊎ IsCrowded measured new.spaces error.kind) → IfErr r (λ error. R error.kind ⊎ E error.kind ⊎ WasCrowded alloc measured old error.kind)
+was_crowded alloc measured R E old new (Ok done) nulled kind = tt
+was_crowded alloc measured R E old new (Err error) nulled kind = elim kind [
   | inl refuses ↦ inl refuses
   | inr rest ↦ elim rest [
     | inl first ↦ inr (inl first)

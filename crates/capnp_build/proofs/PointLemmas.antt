@@ -17,6 +17,7 @@ use Rattle.capnp_build.proofs.WordLemmas.{part_words}
 use Rattle.capnp_build.proofs.UsedLemmas.{written_length, written_zero}
 use Rattle.capnp_build.proofs.ByteLemmas.{word_there, eight_here, word_back}
 use Rattle.capnp_build.proofs.HeldLemmas.{pairs_set}
+use Rattle.capnp_build.proofs.KeptLemmas.{set_part, set_size, set_longer, part_behind}
 use Rattle.capnp_build.proofs.SpaceLemmas.{set_used, set_apart, set_room, size_set, size_longer}
 use Rattle.capnp_build.proofs.LaidLemmas.{pointer_small, laid_behind, far_root_is}
 
@@ -180,6 +181,11 @@ longer_by {A = A} old new i n block within long e =
       size = ap size_in_words there ∙ size_longer old.spaces i n s within more;
       used = ap (λ (x : Space). length x.used) u.1 ∙ more;
       first = λ p. ap (λ (l : List Space). space_at l 0) there ∙ set_apart old.spaces i 0 s (λ q. absurd (omega (arith, q, p)));
+      each = λ j. subst (λ (l : List Space). length (space_at old.spaces j).used ≤ length (space_at l j).used) (sym there) (set_longer old.spaces i j s (omega (arith, more)));
+      bytes = λ j from m root fits. ap (λ (l : List Space). take m (drop from (space_at l j).used)) there
+          ∙ set_part old.spaces i j from m s (λ q. part_behind from m (space_at old.spaces i).used block
+          (subst (λ (k : ℕ). from + m ≤ length (space_at old.spaces k).used) (sym q) fits));
+      sizes = λ j. ap (λ (l : List Space). (space_at l j).size) there ∙ set_size old.spaces i j s refl;
       allocator = ap (λ (h : Held A). h.allocator) e;
       pairs = λ others. ap (λ (h : Held A). pairs h.spaces others) e ∙ pairs_set old.spaces i s others refl;
     }
@@ -194,6 +200,7 @@ rewritten_by {A = A} old new i at w room e =
       count = ap length there ∙ length-set old.spaces i s;
       size = ap size_in_words there ∙ size_set old.spaces i s long;
       used = λ j. ap (λ (l : List Space). length (space_at l j).used) there ∙ set_room old.spaces i j s long;
+      sizes = λ j. ap (λ (l : List Space). (space_at l j).size) there ∙ set_size old.spaces i j s refl;
       allocator = ap (λ (h : Held A). h.allocator) e;
       pairs = λ others. ap (λ (h : Held A). pairs h.spaces others) e ∙ pairs_set old.spaces i s others refl;
     }
@@ -203,6 +210,7 @@ rewritten_twice old mid new a b = record {
   count = b.count ∙ a.count;
   size = b.size ∙ a.size;
   used = λ i. b.used i ∙ a.used i;
+  sizes = λ i. b.sizes i ∙ a.sizes i;
   allocator = b.allocator ∙ a.allocator;
   pairs = λ others. b.pairs others ∙ a.pairs others;
 }

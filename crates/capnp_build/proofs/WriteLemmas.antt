@@ -1,5 +1,5 @@
 -- What a write into the object at the root keeps, and what it sets.
-use Rattle.std.proofs.Common.{refl, ◌≡◌, ℕ, ◌+◌, ◌*◌, ◌^◌, ◌<◌, ◌≤◌, List, length, Option, Some, slice_set, w64, ap, arith, ◌∙◌, slice_index_or}
+use Rattle.std.proofs.Common.{refl, ◌≡◌, ℕ, ◌+◌, ◌*◌, ◌^◌, ◌<◌, ◌≤◌, List, length, Option, Some, slice_set, w64, ap, arith, ◌∙◌, slice_index_or, length-set}
 use Rattle.std.specs.Int.{to_le_bytes}
 use Rattle.capnp_wire.specs.Tree.{null, numbers, none, struct}
 use Rattle.capnp_build.proofs.FieldLemmas.{field_laid, same_fields}
@@ -25,6 +25,7 @@ written_by : {A : Type 0} (held last : Held A) (spot : Option Spot) (i : ℕ) (s
     } in IsWritten old new)
 written_by {A = A} held last spot i s e same long = record {
   spot = refl;
+  count = ap (λ (h : Held A). length h.spaces) e ∙ length-set held.spaces i s;
   size = ap (λ (h : Held A). size_in_words h.spaces) e ∙ size_set held.spaces i s long;
   allocator = ap (λ (h : Held A). h.allocator) e;
   pairs = λ others. ap (λ (h : Held A). pairs h.spaces others) e ∙ pairs_set held.spaces i s others same;
@@ -42,7 +43,7 @@ written_at held last spot i from w e room =
     written_by held last spot i (with_bytes (space_at held.spaces i) from w) e refl (written_length from (space_at held.spaces i).used w room)
 
 pub unwritten : {A : Type 0} (old : Built A) → IsWritten old old
-unwritten old = record { spot = refl; size = refl; allocator = refl; pairs = λ others. refl }
+unwritten old = record { spot = refl; count = refl; size = refl; allocator = refl; pairs = λ others. refl }
 
 -- a data word of the struct at the root
 pub field_known : (spaces : List Space) (spot : Spot) (index : ℕ) (f : HasField spaces index) → IsBuilt spaces (Some spot) → IsLaid spaces spot (struct f.words) f.held

@@ -1,18 +1,23 @@
 -- What an allocator keeps that hands out a segment, or takes one back (src/allocator.rt). `out` says which segments may be out,
--- and `keeps` what each call keeps, as the members `out` and `same` of the trait Allocator.
-use Rattle.std.specs.Prelude.{ℕ, ◌/◌, ◌^◌, ◌<◌, ◌≤◌, Bool, List, length, Result, IfOk, IfErr, OnErr}
+-- `keeps` what each call keeps, and `grants` which requests have to be granted, as the members of the trait Allocator.
+use Rattle.std.specs.Prelude.{ℕ, ◌/◌, ◌^◌, ◌<◌, ◌≤◌, ◌≡◌, Bool, List, length, Result, IfOk, IfErr, IsOkAnd, OnErr}
 use Rattle.capnp_frame.specs.declared.error.Error.{Error}
+use Rattle.capnp_frame.specs.declared.error.ErrorKind.TheVariants.{SegmentTaken}
 use Rattle.capnp_build.specs.Bytes.{ZeroFrom}
-use Rattle.capnp_build.specs.Out.{Out, Adds, TakesOff, MayRefuse}
+use Rattle.capnp_build.specs.Out.{Out, Adds, TakesOff, HasLarge, MayRefuse}
 
 -- A segment of at least so many words is handed out, all zero; `content` is its bytes.
-pub record HandsOut {A S : Type 0} (out : A → List Out → Type 0) (keeps : A → A → Type 0) (content : S → List ℕ) (is_lent : S → Bool)
+pub record HandsOut {A S : Type 0} (out : A → List Out → Type 0) (keeps : A → A → Type 0) (grants : A → ℕ → ℕ → Type 0) (content : S → List ℕ) (is_lent : S → Bool)
     (asked : ℕ) (old new : A) (result : Result S Error) : Type 0 where
   pub room : IfOk result (λ s. asked ≤ length (content s) / 8)
   pub field : IfOk result (λ s. length (content s) / 8 < 2 ^ 32)
   pub zero : IfOk result (λ s. ZeroFrom 0 (content s))
   pub adds : IfOk result (λ s. Adds (out old) (out new) (record { length = length (content s); is_lent = is_lent s }))
+  -- where it has to be granted, it is, by a segment of so many words
+  pub granted : (words : ℕ) → grants old asked words → IsOkAnd result (λ s. length (content s) / 8 ≡ words)
   pub refusal : IfErr result (λ error. MayRefuse asked error.kind)
+  -- by SegmentTaken only while a segment that is large enough is out
+  pub taken : IfErr result (λ error. error.kind ≡ SegmentTaken → (list : List Out) → out old list → HasLarge asked list)
   -- after a failure no more segments are out
   pub refused : OnErr result ((list : List Out) → out old list → out new list)
   pub same : keeps old new

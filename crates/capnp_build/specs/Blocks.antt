@@ -1,14 +1,15 @@
 -- What the steps keep by which a value is placed at a null root (src/arena/placing.rt, src/pointing.rt).
-use Rattle.std.specs.Prelude.{◌≡◌, ℕ, ◌+◌, Bool, List, length, None, Result, IfErr, OnOk, OnErr}
+use Rattle.std.specs.Prelude.{◌≡◌, ℕ, ◌+◌, ◌*◌, Bool, ◌<◌, ◌≤◌, take, drop, List, length, None, Result, IfErr, OnOk, OnErr}
 use Rattle.capnp_frame.specs.declared.error.Error.{Error}
+use Rattle.capnp_frame.specs.declared.error.ErrorKind.TheVariants.{SegmentTaken}
 use Rattle.capnp_wire.specs.Tree.{Form, Trees, none}
 use Rattle.capnp_wire.specs.Reached.{Root}
 use Rattle.capnp_build.specs.declared.allocator.Allocator.{Ghosts}
 use Rattle.capnp_build.specs.declared.arena.spot.Spot.{Spot}
 use Rattle.capnp_build.specs.Bytes.{Space}
-use Rattle.capnp_build.specs.Out.{MayRefuse}
-use Rattle.capnp_build.specs.Held.{Held, KeepsOthers}
-use Rattle.capnp_build.specs.Built.{Built, held_of, message, size_in_words, IsSet, IsAtEnd, IsPlaced, HasNoRoom, HasBody, IsLaid, IsRewritten}
+use Rattle.capnp_build.specs.Out.{Out, HasLarge, MayRefuse}
+use Rattle.capnp_build.specs.Held.{Held, space_at, pairs, KeepsOthers}
+use Rattle.capnp_build.specs.Built.{Built, held_of, message, size_in_words, IsSet, IsAtEnd, IsPlaced, HasNoRoom, HasBody, IsLaid, IsRewritten, KeepsBytes}
 
 -- a new object stands at the root
 abbrev pub IsNew : Form → List Space → Type 0
@@ -19,9 +20,14 @@ pub record PutsBlock {A S : Type 0} (alloc : Ghosts A S) (stands : List Space �
     (result : Result (Unit {0}) Error) : Type 0 where
   pub set : OnOk result (stands new.spaces)
   pub placed : OnOk result (IsPlaced old.spaces new words)
+  pub there : OnOk result (0 < length new.spaces)
+  pub bytes : OnOk result (KeepsBytes old.spaces new.spaces)
+  pub sizes : OnOk result ((i : ℕ) → i < length old.spaces → (space_at new.spaces i).size ≡ (space_at old.spaces i).size)
   pub refused : OnErr result (new.spot ≡ None)
   pub kept : OnErr result (new.spaces ≡ old.spaces)
   pub kind : IfErr result (λ error. HasNoRoom old.spaces words × MayRefuse (words + 1) error.kind)
+  pub taken : IfErr result (λ error. error.kind ≡ SegmentTaken → (others : List Out) → alloc.out old.allocator (pairs old.spaces others)
+      → HasLarge (words + 1) (pairs old.spaces others))
   pub same : alloc.same old.allocator new.allocator
   -- what else the allocator has out stays out
   pub others : KeepsOthers alloc.out (held_of old) (held_of new)
@@ -33,6 +39,8 @@ pub record PlacesBlock {A S : Type 0} (alloc : Ghosts A S) (has_tree : Trees →
   pub count : length new.spaces ≡ length old.spaces
   pub spot : IsAtEnd old.spaces new.spot segment pad words
   pub size : size_in_words new.spaces ≡ size_in_words old.spaces + words + pad
+  pub bytes : KeepsBytes old.spaces new.spaces
+  pub sizes : (i : ℕ) → (space_at new.spaces i).size ≡ (space_at old.spaces i).size
   pub same : new.allocator ≡ old.allocator
   -- what else the allocator has out stays out
   pub others : KeepsOthers alloc.out (held_of old) (held_of new)
@@ -41,6 +49,9 @@ pub record PlacesBlock {A S : Type 0} (alloc : Ghosts A S) (has_tree : Trees →
 pub record PointsRoot {A : Type 0} (spot : Spot) (old new : Held A) : Type 0 where
   pub stands : (form : Form) (held : Trees) → HasBody old.spaces spot form held → IsLaid new.spaces spot form held
   pub rewritten : IsRewritten old new
+  -- the used bytes before the body and its pad stay, but for the root's word
+  pub bytes : (i from n : ℕ) → (i ≡ 0 → 8 ≤ from) → (0 < i → i ≡ spot.segment → from + n + 8 ≤ 8 * spot.start) → from + n ≤ length (space_at old.spaces i).used
+      → take n (drop from (space_at new.spaces i).used) ≡ take n (drop from (space_at old.spaces i).used)
 
 -- A step leaves the root null.
 pub record LeavesNull {A S : Type 0} (alloc : Ghosts A S) (old new : Built A) : Type 0 where

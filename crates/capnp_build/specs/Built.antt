@@ -1,5 +1,5 @@
 -- A message that is built, whose root is a tree.
-use Rattle.std.specs.Prelude.{⊤, ◌≡◌, ◌⊎◌, ℕ, ◌+◌, ◌-◌, ◌*◌, ◌/◌, ◌^◌, ◌<◌, ◌≤◌, max, Bool, false, List, zero, suc, [], ◌∷◌, ◌++◌, length, map, Option, Some, None, MatchOption}
+use Rattle.std.specs.Prelude.{⊤, ◌≡◌, ◌⊎◌, ℕ, ◌+◌, ◌-◌, ◌*◌, ◌/◌, ◌^◌, ◌<◌, ◌≤◌, min, max, Bool, false, List, zero, suc, [], ◌∷◌, ◌++◌, length, map, Option, Some, None, MatchOption}
 use Rattle.std.specs.Prelude.{take, drop, replicate}
 use Rattle.capnp_frame.specs.declared.error.ErrorKind.{ErrorKind}
 use Rattle.capnp_wire.specs.Pointer.{words_of}
@@ -11,7 +11,8 @@ use Rattle.capnp_wire.specs.Values.{HasWords}
 use Rattle.capnp_wire.specs.declared.layout.place.Place.{Place}
 use Rattle.capnp_build.specs.Bytes.{Space}
 use Rattle.capnp_build.specs.Out.{Out, MayRefuse}
-use Rattle.capnp_build.specs.Held.{Held, pairs as pairs_of, used_of, space_at, room_of}
+use Rattle.capnp_build.specs.Held.{Held, pairs as pairs_of, used_of, space_at, room_of, KeepsOthers}
+use Rattle.capnp_build.specs.declared.allocator.Allocator.{Ghosts}
 use Rattle.capnp_build.specs.declared.arena.spot.Spot.{Spot}
 use Rattle.capnp_build.specs.declared.shown.Shown.{Shown}
 use Rattle.capnp_build.specs.declared.shown.Shown.TheVariants.{Null, Bytes, Words, Struct, Other}
@@ -98,11 +99,17 @@ pub record IsLaid (spaces : List Space) (spot : Spot) (form : Form) (held : Tree
   pub root_is : word_at (message spaces) root ≡ Some (root_word spot.segment spot.start form held)
   pub pad_is : 0 < spot.segment → (0 < spot.words) × (word_at (message spaces) (pad_of spot) ≡ Some spot.tag)
 
+-- the used bytes of these segments stay, but for the root's word
+abbrev pub KeepsBytes : List Space → List Space → Type 0
+KeepsBytes old new = (i from n : ℕ) → (i ≡ 0 → 8 ≤ from) → from + n ≤ length (space_at old i).used
+    → take n (drop from (space_at new i).used) ≡ take n (drop from (space_at old i).used)
+
 -- the same segments, of which some used bytes may be others
 pub record IsRewritten {A : Type 0} (old new : Held A) : Type 0 where
   pub count : length new.spaces ≡ length old.spaces
   pub size : size_in_words new.spaces ≡ size_in_words old.spaces
   pub used : (i : ℕ) → length (space_at new.spaces i).used ≡ length (space_at old.spaces i).used
+  pub sizes : (i : ℕ) → (space_at new.spaces i).size ≡ (space_at old.spaces i).size
   pub allocator : new.allocator ≡ old.allocator
   pub pairs : (others : List Out) → pairs_of new.spaces others ≡ pairs_of old.spaces others
 
@@ -112,6 +119,9 @@ pub record IsLonger {A : Type 0} (old new : Held A) (segment words : ℕ) : Type
   pub size : size_in_words new.spaces ≡ size_in_words old.spaces + words
   pub used : length (space_at new.spaces segment).used ≡ length (space_at old.spaces segment).used + 8 * words
   pub first : 0 < segment → space_at new.spaces 0 ≡ space_at old.spaces 0
+  pub each : (i : ℕ) → length (space_at old.spaces i).used ≤ length (space_at new.spaces i).used
+  pub bytes : KeepsBytes old.spaces new.spaces
+  pub sizes : (i : ℕ) → (space_at new.spaces i).size ≡ (space_at old.spaces i).size
   pub allocator : new.allocator ≡ old.allocator
   pub pairs : (others : List Out) → pairs_of new.spaces others ≡ pairs_of old.spaces others
 
@@ -132,10 +142,6 @@ pub record IsWhole (has_tree : Trees → Type 0) (canonical : Bool) (spaces : Li
   pub trees : Trees
   pub tree_is : has_tree trees
   pub words_are : message spaces ≡ layout (formed canonical trees) ∷ []
-
--- so many words do not stand in one segment
-abbrev pub NotInOne : (ℕ → Type 0) → List Space → Type 0
-NotInOne measured spaces = (1 < length spaces) ⊎ ((words : ℕ) × measured words × (room_of (space_at spaces 0) < words))
 
 -- no segment has room for a block of so many words, nor one behind the first for it and its pad
 pub record HasNoRoom (spaces : List Space) (words : ℕ) : Type 0 where
@@ -182,41 +188,80 @@ KeepsRooms old last = 0 < length old → (length last ≡ length old) × ((i : �
 abbrev pub IsZeroAt : List Space → Spot → Type 0
 IsZeroAt spaces spot = take (8 * spot.words) (drop (8 * spot.start) (space_at spaces spot.segment).used) ≡ replicate (8 * spot.words) 0
 
+-- one segment, of which the root's word alone is used
+abbrev pub HasRootAlone : List Space → Type 0
+HasRootAlone spaces = (length spaces ≡ 1) × (length (space_at spaces 0).used ≡ 8) × (8 ≤ (space_at spaces 0).size)
+
 -- after a refusal: a null root, the old block zero, and no words taken but the root's own
-pub record IsCleared {A : Type 0} (same : A → A → Type 0) (old last : Built A) : Type 0 where
+pub record IsCleared {A S : Type 0} (alloc : Ghosts A S) (old last : Built A) : Type 0 where
   pub null : last.spot ≡ None
   pub null_word : HasNullRoot last.spaces
   pub zero : MatchOption old.spot ⊤ (IsZeroAt last.spaces)
   pub size : size_in_words last.spaces ≤ max 1 (size_in_words old.spaces)
   pub rooms : KeepsRooms old.spaces last.spaces
-  pub same_allocator : same old.allocator last.allocator
+  -- where there was no segment, there is none yet, or one with the root's word alone
+  pub fresh : old.spaces ≡ [] → (last.spaces ≡ []) ⊎ HasRootAlone last.spaces
+  pub same_allocator : alloc.same old.allocator last.allocator
+  -- what else the allocator has out stays out
+  pub others : KeepsOthers alloc.out (held_of old) (held_of last)
+
+-- a block of so many words stands in a segment from a word on
+pub record StandsAt (spot : Option Spot) (segment start words : ℕ) : Type 0 where
+  pub place : Spot
+  pub place_is : spot ≡ Some place
+  pub segment_is : place.segment ≡ segment
+  pub start_is : place.start ≡ start
+  pub words_are : place.words ≡ words
+
+-- the words of a segment that may be used
+abbrev pub most_words : Space → ℕ
+most_words space = min (space.size / 8) (2 ^ 29)
+
+-- a block of so many words as the first one: just behind the root's word where the first segment has room, else behind
+-- its pad at the front of a second one; no other words are used
+pub record IsFirst {A : Type 0} (new : Built A) (words : ℕ) : Type 0 where
+  pub near : words < most_words (space_at new.spaces 0) → StandsAt new.spot 0 1 words × (length new.spaces ≡ 1) × (size_in_words new.spaces ≡ 1 + words)
+  pub far : most_words (space_at new.spaces 0) ≤ words → StandsAt new.spot 1 1 words × (length new.spaces ≡ 2) × (size_in_words new.spaces ≡ 2 + words)
+
+-- where the first segment has to be granted, it is the granted one, of so many words
+abbrev pub IsGranted : {A S : Type 0} → Ghosts A S → Built A → List Space → Type 0
+IsGranted alloc old spaces = old.spaces ≡ [] → (most : ℕ) → alloc.grants old.allocator 1 most → (space_at spaces 0).size / 8 ≡ most
 
 -- a block of such words is placed once the old root is cleared
-pub record IsPut {A : Type 0} (same : A → A → Type 0) (measured : ℕ → Type 0) (old new : Built A) : Type 0 where
+pub record IsPut {A S : Type 0} (alloc : Ghosts A S) (measured : ℕ → Type 0) (old new : Built A) : Type 0 where
   pub cleared : Built A
   pub words : ℕ
-  pub is_cleared : IsCleared same old cleared
+  pub is_cleared : IsCleared alloc old cleared
   pub words_are : measured words
   pub placed : IsPlaced cleared.spaces new words
+  pub first : old.spaces ≡ [] → IsFirst new words
+  pub granted : IsGranted alloc old new.spaces
+  -- the old block stays zero
+  pub zero : MatchOption old.spot ⊤ (IsZeroAt new.spaces)
 
 -- a new object of such words is placed once the old root is cleared, or the root is the null that this leaves
-pub record IsInit {A : Type 0} (same : A → A → Type 0) (measured : ℕ → Type 0) (old new : Built A) : Type 0 where
+pub record IsInit {A S : Type 0} (alloc : Ghosts A S) (measured : ℕ → Type 0) (old new : Built A) : Type 0 where
   pub cleared : Built A
-  pub is_cleared : IsCleared same old cleared
-  pub block : (new ≡ cleared) ⊎ ((words : ℕ) × measured words × IsPlaced cleared.spaces new words)
+  pub is_cleared : IsCleared alloc old cleared
+  pub block : (new ≡ cleared) ⊎ ((words : ℕ) × measured words × IsPlaced cleared.spaces new words × (old.spaces ≡ [] → IsFirst new words))
+  pub granted : IsGranted alloc old new.spaces
+  -- the old block stays zero
+  pub zero : MatchOption old.spot ⊤ (IsZeroAt new.spaces)
 
 -- want of room: once the old root is cleared, no segment has room for a block of such words
-pub record WasCrowded {A : Type 0} (same : A → A → Type 0) (measured : ℕ → Type 0) (old : Built A) (kind : ErrorKind) : Type 0 where
+pub record WasCrowded {A S : Type 0} (alloc : Ghosts A S) (measured : ℕ → Type 0) (old : Built A) (kind : ErrorKind) : Type 0 where
   pub cleared : Built A
-  pub is_cleared : IsCleared same old cleared
+  pub is_cleared : IsCleared alloc old cleared
   pub crowded : IsCrowded measured cleared.spaces kind
 
 -- after a look at the root: all is as it was, but that there is a null root where there was no segment
-pub record IsLookedAt {A : Type 0} (same : A → A → Type 0) (old last : Built A) : Type 0 where
+pub record IsLookedAt {A S : Type 0} (alloc : Ghosts A S) (old last : Built A) : Type 0 where
   pub stays : 0 < length old.spaces → last ≡ old
   pub null_word : old.spaces ≡ [] → HasNullRoot last.spaces
   pub size : size_in_words last.spaces ≤ max 1 (size_in_words old.spaces)
-  pub same_allocator : same old.allocator last.allocator
+  pub same_allocator : alloc.same old.allocator last.allocator
+  -- what else the allocator has out stays out
+  pub others : KeepsOthers alloc.out (held_of old) (held_of last)
 
 -- the root is declined, null where there is no segment
 abbrev pub DeclinesRoot : (Form → ErrorKind → Type 0) → List Space → ErrorKind → Type 0

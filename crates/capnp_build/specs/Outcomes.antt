@@ -1,10 +1,11 @@
 -- What the calls on the root of a message keep (src/arena, src/view.rt, src/any_pointer.rt). In each record `alloc` is what
 -- is seen of the message's allocator (the members of the trait Allocator), and `old` and `new` are the message before the
 -- call and after it.
-use Rattle.std.specs.Prelude.{⊤, ◌≡◌, ◌⊎◌, ℕ, ◌<◌, max, true, false, List, [], length, MatchOption, None, Result, IfErr, OnOk, OnErr}
+use Rattle.std.specs.Prelude.{⊤, ◌≡◌, ◌⊎◌, ℕ, ◌/◌, ◌<◌, ◌≤◌, max, true, false, List, [], length, MatchOption, None, Result, IfErr, IsOk, OnOk, OnErr}
+use Rattle.std.specs.Result.{IsErrAnd}
 use Rattle.capnp_frame.specs.declared.error.Error.{Error}
 use Rattle.capnp_frame.specs.declared.error.ErrorKind.{ErrorKind}
-use Rattle.capnp_frame.specs.declared.error.ErrorKind.TheVariants.{NotOneSegment}
+use Rattle.capnp_frame.specs.declared.error.ErrorKind.TheVariants.{NotOneSegment, SegmentTaken}
 use Rattle.capnp_wire.specs.Tree.{Form, Trees, none}
 use Rattle.capnp_wire.specs.Reached.{Root}
 use Rattle.capnp_wire.specs.Values.{HasWords, LacksWords}
@@ -12,25 +13,51 @@ use Rattle.capnp_build.specs.declared.allocator.Allocator as allocator
 use Rattle.capnp_build.specs.declared.owned_builder.OwnedBuilder as owned_builder
 use Rattle.capnp_build.specs.Bytes.{Space}
 use Rattle.capnp_build.specs.Out.{MayRefuse}
-use Rattle.capnp_build.specs.Held.{space_at, Held, KeepsOthers, BringsHome}
+use Rattle.capnp_build.specs.Held.{space_at, room_of, Held, KeepsOthers, BringsHome}
 use Rattle.capnp_build.specs.Built.{Built, held_of, message, size_in_words, HasNullRoot, ForRoot, DeclinesRoot, IsSet, IsWhole, IsPut, IsInit}
-use Rattle.capnp_build.specs.Built.{InitWords, IsCrowded, NotInOne, IsCleared, IsZeroAt, KeepsRooms, IsLookedAt}
+use Rattle.capnp_build.specs.Built.{InitWords, IsCrowded, IsCleared, IsZeroAt, KeepsRooms, HasRootAlone, IsLookedAt}
 
 -- there is no segment yet, and the allocator fails to hand out the first one
 abbrev pub LacksFirst : List Space → ErrorKind → Type 0
 LacksFirst spaces kind = (length spaces ≡ 0) × MayRefuse 1 kind
 
+-- the first segment has room for a block of so many words, or has to be granted with that room
+abbrev pub HasRoomFirst : {A S : Type 0} → allocator.Ghosts A S → Built A → ℕ → Type 0
+HasRoomFirst alloc old words = ((0 < length old.spaces) × (words ≤ room_of (space_at old.spaces 0)))
+    ⊎ ((old.spaces ≡ []) × ((most : ℕ) × alloc.grants old.allocator 1 most × (words < most)))
+
+-- as the first action, over an allocator that has nothing out, a call is not refused by SegmentTaken, but for another cause
+abbrev pub IsAtHome : {A S : Type 0} → allocator.Ghosts A S → (ErrorKind → Type 0) → Built A → Result (Unit {0}) Error → Type 0
+IsAtHome alloc refuses old result = old.spaces ≡ [] → alloc.out old.allocator [] → IfErr result (λ error. error.kind ≡ SegmentTaken → refuses error.kind)
+
+-- which refusal of a value in canonical form comes once the old root is cleared: the lines are tested in this order
+abbrev pub RefusesCanonical : (Trees → Type 0) → (ErrorKind → Type 0) → List Space → ErrorKind → Type 0
+RefusesCanonical has_tree refuses spaces kind =
+    -- there are more segments
+    ((1 < length spaces) × (kind ≡ NotOneSegment))
+    -- `measure` fails
+    ⊎ ((length spaces ≡ 1) × LacksWords has_tree refuses true kind)
+    -- the segment has no room
+    ⊎ ((length spaces ≡ 1) × (kind ≡ NotOneSegment) × ((words : ℕ) × HasWords has_tree true words × (room_of (space_at spaces 0) < words)))
+
 -- What setting the root to a value keeps: to a value that is such a tree, and of which `measure` fails so.
 pub record SetsRoot {A S : Type 0} (alloc : allocator.Ghosts A S) (has_tree : Trees → Type 0) (refuses : ErrorKind → Type 0)
     (old new : Built A) (result : Result (Unit {0}) Error) : Type 0 where
   pub set : OnOk result (IsSet has_tree false new.spaces)
+  -- there is a segment, so the message can be written
+  pub there : OnOk result (0 < length new.spaces)
   -- which words it takes, once the old root is cleared
-  pub placed : OnOk result (IsPut alloc.same (HasWords has_tree false) old new)
+  pub placed : OnOk result (IsPut alloc (HasWords has_tree false) old new)
   -- after a failure the root is null
-  pub nulled : OnErr result (IsCleared alloc.same old new)
+  pub nulled : OnErr result (IsCleared alloc old new)
   -- it fails as `measure` does, as the allocator fails to hand out the first segment, or where no segment has room
   pub kind : IfErr result (λ error. LacksWords has_tree refuses false error.kind ⊎ LacksFirst old.spaces error.kind
       ⊎ IsCrowded (HasWords has_tree false) new.spaces error.kind)
+  -- the first segment is asked for before the value is measured
+  pub none : new.spaces ≡ [] → IfErr result (λ error. LacksFirst old.spaces error.kind)
+  pub exact : (kind : ErrorKind) → LacksWords has_tree refuses false kind → IsErrAnd result (λ error. (error.kind ≡ kind) ⊎ LacksFirst old.spaces error.kind)
+  pub fits : (words : ℕ) → HasWords has_tree false words → HasRoomFirst alloc old words → IsOk result
+  pub home : IsAtHome alloc (LacksWords has_tree refuses false) old result
   pub same : alloc.same old.allocator new.allocator
   -- what else the allocator has out stays out
   pub others : KeepsOthers alloc.out (held_of old) (held_of new)
@@ -40,16 +67,19 @@ pub record SetsRootCanonical {A S : Type 0} (alloc : allocator.Ghosts A S) (has_
     (old new : Built A) (result : Result (Unit {0}) Error) : Type 0 where
   pub set : OnOk result (IsSet has_tree true new.spaces)
   -- which words it takes, once the old root is cleared
-  pub placed : OnOk result (IsPut alloc.same (HasWords has_tree true) old new)
+  pub placed : OnOk result (IsPut alloc (HasWords has_tree true) old new)
+  -- there is one segment, so the message can be written
   pub one : OnOk result (length new.spaces ≡ 1)
   -- as the first action on the message it makes the one segment the canonical form
   pub whole : old.spaces ≡ [] → OnOk result (IsWhole has_tree true new.spaces)
   -- after a failure the root is null
-  pub nulled : OnErr result (IsCleared alloc.same old new)
-  -- it fails as `measure` does, as the allocator fails to hand out the first segment, or where that has no room or is
-  -- not the only one
-  pub kind : IfErr result (λ error. LacksWords has_tree refuses true error.kind ⊎ LacksFirst old.spaces error.kind
-      ⊎ ((error.kind ≡ NotOneSegment) × NotInOne (HasWords has_tree true) new.spaces))
+  pub nulled : OnErr result (IsCleared alloc old new)
+  -- it fails as the allocator fails to hand out the first segment, and then by the first line that holds
+  pub kind : IfErr result (λ error. ((new.spaces ≡ []) × LacksFirst old.spaces error.kind) ⊎ RefusesCanonical has_tree refuses new.spaces error.kind)
+  pub exact : (kind : ErrorKind) → RefusesCanonical has_tree refuses old.spaces kind → IsErrAnd result (λ error. error.kind ≡ kind)
+  pub lacks : old.spaces ≡ [] → (kind : ErrorKind) → LacksWords has_tree refuses true kind → IsErrAnd result (λ error. (error.kind ≡ kind) ⊎ LacksFirst old.spaces error.kind)
+  pub fits : length old.spaces ≤ 1 → (words : ℕ) → HasWords has_tree true words → HasRoomFirst alloc old words → IsOk result
+  pub home : IsAtHome alloc (LacksWords has_tree refuses true) old result
   pub same : alloc.same old.allocator new.allocator
   -- what else the allocator has out stays out
   pub others : KeepsOthers alloc.out (held_of old) (held_of new)
@@ -59,14 +89,17 @@ pub record SetsRootCanonical {A S : Type 0} (alloc : allocator.Ghosts A S) (has_
 pub record InitsRoot {A S K : Type 0} (alloc : allocator.Ghosts A S) (schema : owned_builder.Ghosts K) (n : ℕ) (old new : Built A)
     (result : Result (Unit {0}) Error) : Type 0 where
   pub inits : OnOk result ((form : Form) × (charge : ℕ) × schema.inits n form × Root (message new.spaces) form none charge)
+  -- there is a segment, so the message can be written
+  pub there : OnOk result (0 < length new.spaces)
   -- which words it takes, once the old root is cleared
-  pub placed : OnOk result (IsInit alloc.same (InitWords schema.inits n) old new)
+  pub placed : OnOk result (IsInit alloc (InitWords schema.inits n) old new)
   -- after a failure the root is null
-  pub nulled : OnErr result (IsCleared alloc.same old new)
+  pub nulled : OnErr result (IsCleared alloc old new)
   -- it fails as the type has no such object, as the allocator fails to hand out the first segment, or where no segment
   -- has room
   pub kind : IfErr result (λ error. schema.refuses n error.kind ⊎ LacksFirst old.spaces error.kind
       ⊎ IsCrowded (InitWords schema.inits n) new.spaces error.kind)
+  pub home : IsAtHome alloc (schema.refuses n) old result
   pub same : alloc.same old.allocator new.allocator
   -- what else the allocator has out stays out
   pub others : KeepsOthers alloc.out (held_of old) (held_of new)
@@ -76,6 +109,7 @@ pub record ClearsRoot {A S : Type 0} (alloc : allocator.Ghosts A S) (old new : B
   pub null : new.spot ≡ None
   pub null_word : HasNullRoot new.spaces
   pub zero : MatchOption old.spot ⊤ (IsZeroAt new.spaces)
+  pub behind : MatchOption old.spot ⊤ (λ spot. 0 < spot.start)
   pub there : OnOk result (0 < length new.spaces)
   pub none : OnErr result (new.spaces ≡ [])
   -- it fails as the allocator fails to hand out the first segment
@@ -86,15 +120,19 @@ pub record ClearsRoot {A S : Type 0} (alloc : allocator.Ghosts A S) (old new : B
   pub size : OnOk result (size_in_words new.spaces ≡ max 1 (size_in_words old.spaces))
   -- no room is lost
   pub rooms : KeepsRooms old.spaces new.spaces
-  pub fresh : old.spaces ≡ [] → OnOk result ((length new.spaces ≡ 1) × (length (space_at new.spaces 0).used ≡ 8))
+  pub fresh : old.spaces ≡ [] → OnOk result (HasRootAlone new.spaces)
+  -- where it has to be granted, the first segment is, with so many words
+  pub granted : old.spaces ≡ [] → (most : ℕ) → alloc.grants old.allocator 1 most → IsOk result × ((space_at new.spaces 0).size / 8 ≡ most)
+  pub home : IsAtHome alloc (λ kind. ⊥) old result
 
 -- What making sure of a root keeps: where there is no segment, a null one stands in a new segment afterwards.
 pub record EnsuresRoot {A S : Type 0} (alloc : allocator.Ghosts A S) (old new : Built A) (result : Result (Unit {0}) Error) : Type 0 where
   pub there : OnOk result (0 < length new.spaces)
   pub none : OnErr result (new.spaces ≡ [])
-  pub looked : IsLookedAt alloc.same old new
+  pub looked : IsLookedAt alloc old new
   -- it fails as the allocator fails to hand out the first segment
   pub kind : IfErr result (λ error. LacksFirst old.spaces error.kind)
+  pub home : IsAtHome alloc (λ kind. ⊥) old result
   -- what else the allocator has out stays out
   pub others : KeepsOthers alloc.out (held_of old) (held_of new)
 
@@ -103,9 +141,10 @@ pub record LooksAtRoot {A S K : Type 0} (alloc : allocator.Ghosts A S) (schema :
     (result : Result (Unit {0}) Error) : Type 0 where
   pub taken : OnOk result (ForRoot new.spaces schema.takes)
   pub there : OnOk result (0 < length new.spaces)
-  pub looked : IsLookedAt alloc.same old new
+  pub looked : IsLookedAt alloc old new
   -- it fails as the allocator fails to hand out the first segment, or as the type declines the root
   pub kind : IfErr result (λ error. LacksFirst old.spaces error.kind ⊎ DeclinesRoot schema.declines old.spaces error.kind)
+  pub home : IsAtHome alloc (DeclinesRoot schema.declines old.spaces) old result
   -- what else the allocator has out stays out
   pub others : KeepsOthers alloc.out (held_of old) (held_of new)
 

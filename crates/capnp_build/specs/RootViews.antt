@@ -1,6 +1,6 @@
 -- What the calls keep that return a view of the root's object, or write through one (src/arena/root.rt, src/any_pointer.rt
 -- and the views). `message` is the reference that a view holds, and `built` what is seen of the message behind it.
-use Rattle.std.specs.Prelude.{◌≡◌, ◌⊎◌, ℕ, ◌^◌, ◌<◌, List, map, Result, IfOk, IfErr, IsOk, MatchResult}
+use Rattle.std.specs.Prelude.{◌≡◌, ◌⊎◌, ℕ, ◌^◌, ◌<◌, List, length, map, Result, IfOk, IfErr, IsOk, MatchResult}
 use Rattle.std.specs.Borrow.{MutBor}
 use Rattle.std.specs.Result.{IsErrAnd}
 use Rattle.capnp_frame.specs.declared.error.Error.{Error}
@@ -25,12 +25,14 @@ pub record InitsView {A S K M V : Type 0} (alloc : allocator.Ghosts A S) (schema
   pub same : IfOk result (λ view. (message view).ghost_name ≡ old.ghost_name)
   pub inits : IfOk result (λ view. (form : Form) × (charge : ℕ) × schema.inits n form
       × Root (words_of_message (built (message view).now).spaces) form none charge)
+  -- there is a segment, so the message can be written
+  pub there : IfOk result (λ view. 0 < length (built (message view).now).spaces)
   -- which words it takes, once the old root is cleared
-  pub placed : IfOk result (λ view. IsInit alloc.same (InitWords schema.inits n) (built old.now) (built (message view).now))
+  pub placed : IfOk result (λ view. IsInit alloc (InitWords schema.inits n) (built old.now) (built (message view).now))
   -- it fails as the type has no such object, as the allocator fails to hand out the first segment, or where no segment
   -- had room once the old root was cleared
   pub kind : IfErr result (λ error. schema.refuses n error.kind ⊎ LacksFirst (built old.now).spaces error.kind
-      ⊎ WasCrowded alloc.same (InitWords schema.inits n) (built old.now) error.kind)
+      ⊎ WasCrowded alloc (InitWords schema.inits n) (built old.now) error.kind)
   pub allocator : IfOk result (λ view. alloc.same (built old.now).allocator (built (message view).now).allocator)
   -- what else the allocator has out stays out
   pub others : IfOk result (λ view. KeepsOthers alloc.out (held_of (built old.now)) (held_of (built (message view).now)))
@@ -41,7 +43,9 @@ pub record GetsView {A S K M V : Type 0} (alloc : allocator.Ghosts A S) (schema 
   -- the view writes the message that was borrowed
   pub same : IfOk result (λ view. (message view).ghost_name ≡ old.ghost_name)
   pub taken : IfOk result (λ view. ForRoot (built (message view).now).spaces schema.takes)
-  pub looked : IfOk result (λ view. IsLookedAt alloc.same (built old.now) (built (message view).now))
+  -- there is a segment, so the message can be written
+  pub there : IfOk result (λ view. 0 < length (built (message view).now).spaces)
+  pub looked : IfOk result (λ view. IsLookedAt alloc (built old.now) (built (message view).now))
   -- what else the allocator has out stays out
   pub others : IfOk result (λ view. KeepsOthers alloc.out (held_of (built old.now)) (held_of (built (message view).now)))
   -- it fails as the allocator fails to hand out the first segment, or as the type declines the root

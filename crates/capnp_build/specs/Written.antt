@@ -50,6 +50,7 @@ IsNumberSet spaces last index number =
 -- what a write through a view keeps
 pub record IsWritten {A : Type 0} (old new : Built A) : Type 0 where
   pub spot : new.spot ≡ old.spot
+  pub count : length new.spaces ≡ length old.spaces
   pub size : size_in_words new.spaces ≡ size_in_words old.spaces
   pub allocator : new.allocator ≡ old.allocator
   pub pairs : (others : List Out) → pairs_of new.spaces others ≡ pairs_of old.spaces others

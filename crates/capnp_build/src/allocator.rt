@@ -10,7 +10,8 @@ use capnp_frame::Result;
 /// What hands out segments and takes them back.
 ///
 /// For implementers: `out` says which segments may be out, each by its length in bytes and whether it
-/// is lent; `same` what each call keeps, as the region that an allocator lends.
+/// is lent; `same` what each call keeps, as the region that an allocator lends; `grants` which requests
+/// have to be granted, where an allocator can say that: memory is never sure to be there.
 pub trait Allocator: Drop {
     /// The bytes of what it hands out.
     type Segment: SegmentSpace;
@@ -21,10 +22,13 @@ pub trait Allocator: Drop {
     /// What each call keeps.
     ghost same: { Self → Self → Type 0 };
 
+    /// A request of so many words has to be granted, by a segment of so many words.
+    ghost grants: { Self → ℕ → ℕ → Type 0 };
+
     /// Hands out a segment of at least so many words and fewer than 2^32, all zero. It is refused by
     /// `OutOfMemory`, `AllocationTooLarge` with the words asked, or `SegmentTaken` alone.
     fn allocate_segment(&mut self, minimum_size: u32) -> Result<Self::Segment>
-        ensures { HandsOut out same Self.Segment.content Self.Segment.is_lent
+        ensures { HandsOut out same grants Self.Segment.content Self.Segment.is_lent
             minimum_size self.old self.new result };
 
     /// Takes a segment back, of which the first words were used. What lies past these is zero.
@@ -53,6 +57,8 @@ impl<A: Allocator> Allocator for &mut A {
     ghost out = { λ allocator list. A.out allocator.now list };
 
     ghost same = { λ old new. (new.ghost_name ≡ old.ghost_name) × A.same old.now new.now };
+
+    ghost grants = { λ allocator asked words. A.grants allocator.now asked words };
 
     fn allocate_segment(&mut self, minimum_size: u32) -> Result<A::Segment> {
         (**self).allocate_segment(minimum_size)

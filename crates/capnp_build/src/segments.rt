@@ -1,11 +1,12 @@
 //! The segments of a message that is built.
 ghost use Rattle.std.specs.Prelude.{◌≡◌, ◌⊎◌, ℕ, ◌+◌, ◌-◌, ◌*◌, ◌/◌, ◌^◌, ◌<◌, ◌≤◌, List, [], ◌∷◌, ◌++◌, length, map, replicate, slice_get, slice_index_or, slice_set, option_copied, Some};
-ghost use Rattle.std.specs.Prelude.{None, IfOk, IfErr, OnOk, OnErr};
+ghost use Rattle.std.specs.Prelude.{None, IfOk, IfErr, IsOk, OnOk, OnErr};
 ghost use Rattle.capnp_frame.specs.declared.error.ErrorKind.{ErrorKind};
+ghost use Rattle.capnp_frame.specs.declared.error.ErrorKind.TheVariants.{SegmentTaken};
 ghost use Rattle.capnp_build.specs.Bytes.{Space, with_block, with_bytes};
-ghost use Rattle.capnp_build.specs.Out.{MayRefuse};
+ghost use Rattle.capnp_build.specs.Out.{Out, HasLarge, MayRefuse};
 ghost use Rattle.capnp_build.specs.Built.{size_in_words};
-ghost use Rattle.capnp_build.specs.Held.{IsAppendedAt, Held, spaces_of, used_of, space_at, room_of, with_space, KeepsOthers};
+ghost use Rattle.capnp_build.specs.Held.{IsAppendedAt, Held, pairs, spaces_of, used_of, space_at, room_of, with_space, KeepsOthers};
 ghost use Rattle.capnp_build.specs.Output.{CanBeWritten, CountsWords};
 ghost use Rattle.capnp_wire.specs.Values.{HasWords};
 ghost use Rattle.capnp_build.specs.Outcomes.{GivesBack};
@@ -205,6 +206,11 @@ impl<A: Allocator> Segments<A> {
         ensures added { OnOk result ((space : Space) × (self.new.spaces ≡ self.old.spaces ++ space ∷ []) × (space.used ≡ []) × (words ≤ space.size / 8)) }
         ensures refused { OnErr result (self.new.spaces ≡ self.old.spaces) }
         ensures kind { IfErr result (λ error. MayRefuse words error.kind) }
+        ensures granted { self.old.spaces ≡ [] → (most : ℕ) → A.grants self.old.allocator words most →
+            IsOk result × ((space_at self.new.spaces 0).size / 8 ≡ most) }
+        ensures taken { IfErr result (λ error. error.kind ≡ SegmentTaken → (others : List Out) →
+            A.out self.old.allocator (pairs self.old.spaces others) →
+            HasLarge words (pairs self.old.spaces others)) }
         ensures same { A.same self.old.allocator self.new.allocator }
         ensures others { KeepsOthers A.out self.old self.new }
     {

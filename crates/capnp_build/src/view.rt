@@ -131,7 +131,7 @@ pub fn init<M: Building, K: OwnedBuilder>(message: &mut M, n: u32) -> Result<()>
     // The same of the message before the call alone.
     ensures crowded { IfErr result (λ error. K.refuses n error.kind
         ⊎ LacksFirst (M.built message.old).spaces error.kind
-        ⊎ WasCrowded M.Allocator.same (InitWords K.inits n) (M.built message.old) error.kind) }
+        ⊎ WasCrowded M.Allocator.Allocator (InitWords K.inits n) (M.built message.old) error.kind) }
 {
     message.init_object::<K>(n)
 }

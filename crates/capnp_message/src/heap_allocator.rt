@@ -121,9 +121,12 @@ impl Allocator for HeapAllocator {
 
     ghost same = { λ old new. ⊤ };
 
+    // Memory is never sure to be there.
+    ghost grants = { λ allocator asked words. ⊥ };
+
     // Beside what any allocator ensures: how many words there are, and what is next.
     fn allocate_segment(&mut self, minimum_size: u32) -> Result<Vec<u8>>
-        ensures hands_out { HandsOut (λ allocator list. ⊤) (λ old new. ⊤)
+        ensures hands_out { HandsOut (λ allocator list. ⊤) (λ old new. ⊤) (λ allocator asked words. ⊥)
             (λ s. s.items) (λ s. false)
             minimum_size self.old self.new result }
         ensures kind { IfErr result (λ error. error.kind ≡ OutOfMemory) }

@@ -1,4 +1,4 @@
-//! Facts about the canonical forms of messages.
+//! Facts about the canonical forms of messages, and about regions that come home.
 ghost use Rattle.std.specs.Prelude.{◌≡◌, ◌≤◌, ◌⊎◌, ℕ, List, [], ◌∷◌, Some, None, true, IfOk, IfErr};
 ghost use Rattle.capnp_frame.specs.declared.error.ErrorKind.TheVariants.{OutOfMemory};
 ghost use Rattle.capnp_wire.specs.Pointer.{words_of};
@@ -9,8 +9,11 @@ ghost use Rattle.capnp_wire.specs.Values.{IsCanonicalForm};
 ghost use Rattle.capnp_message.specs.Seen.{root_of};
 ghost use Rattle.capnp_wire.specs.Block.{numbers_of};
 ghost use Rattle.capnp_message.specs.Canonical.{LacksForm};
+ghost use Rattle.capnp_message.specs.Region.{IsOutAlone, IsLentAlone, IsHome};
 
 use crate::reader::Reader;
+use crate::scratch_space::ScratchSpaceHeapAllocator;
+use crate::single_segment::SingleSegmentAllocator;
 use capnp_frame::message::{ReaderOptions, ReaderSegments, SegmentArray};
 use capnp_frame::{Result, Word};
 use std::alloc::Global;
@@ -78,3 +81,15 @@ fn canonicalize_form(
     let words = reader.canonicalize(alloc)?;
     Ok((is_canonical, words))
 }
+
+/// A single region of which nothing is out is at home, and all zero.
+pub fn a_single_region_comes_home(allocator: &SingleSegmentAllocator<'_>)
+    ensures { IsOutAlone allocator.now.region allocator.now.size [] →
+        IsHome allocator.now.region allocator.now.size }
+{}
+
+/// The same of a region before a heap: of which nothing that is lent is out.
+pub fn a_scratch_region_comes_home(allocator: &ScratchSpaceHeapAllocator<'_>)
+    ensures { IsLentAlone allocator.now.region allocator.now.size [] →
+        IsHome allocator.now.region allocator.now.size }
+{}

@@ -66,7 +66,7 @@ impl<A: Allocator> Builder<A> {
         ensures* rests { sem 𝓛 (RestsIfErr
             (the_row A.row A.Segment.row A.Allocator A.Segment.SegmentSpace)
             self.entry (λ view. view.message.ghost_name) result
-            (λ last. IsCleared A.same self.old last)) }
+            (λ last. IsCleared A.Allocator self.old last)) }
         ensures inits { InitsView A.Allocator K.OwnedBuilder n (λ message. message)
             (λ view. view.message) self.entry result }
     {
@@ -79,7 +79,7 @@ impl<A: Allocator> Builder<A> {
         ensures* rests { sem 𝓛 (RestsIfErr
             (the_row A.row A.Segment.row A.Allocator A.Segment.SegmentSpace)
             self.entry (λ view. view.message.ghost_name) result
-            (λ last. IsCleared A.same self.old last)) }
+            (λ last. IsCleared A.Allocator self.old last)) }
         ensures inits { InitsView A.Allocator K.OwnedBuilder 0 (λ message. message)
             (λ view. view.message) self.entry result }
     {
@@ -92,7 +92,7 @@ impl<A: Allocator> Builder<A> {
         ensures* rests { sem 𝓛 (RestsIfErr
             (the_row A.row A.Segment.row A.Allocator A.Segment.SegmentSpace)
             self.entry (λ view. view.message.ghost_name) result
-            (λ last. IsLookedAt A.same self.old last)) }
+            (λ last. IsLookedAt A.Allocator self.old last)) }
         ensures gets { GetsView A.Allocator K.OwnedBuilder (λ message. message)
             (λ view. view.message) self.entry result }
     {

@@ -4,7 +4,7 @@ ghost use Rattle.std.specs.Option.{ForSome};
 ghost use Rattle.capnp_frame.specs.declared.error.ErrorKind.TheVariants.{OutOfMemory};
 ghost use Rattle.capnp_build.specs.Bytes.{ZeroFrom};
 ghost use Rattle.capnp_message.specs.Next.{size_of};
-ghost use Rattle.capnp_message.specs.Region.{IsLentAlone, HoldsRegion};
+ghost use Rattle.capnp_message.specs.Region.{IsLentAlone, GrantsRegion, HoldsRegion};
 ghost use Rattle.capnp_message.specs.Scratch.{scratch_bytes, scratch_lent};
 ghost use Rattle.capnp_build.specs.Allocating.{HandsOut};
 
@@ -134,10 +134,13 @@ impl<'a> Allocator for ScratchSpaceHeapAllocator<'a> {
 
     ghost same = { λ old new. new.size ≡ old.size };
 
+    ghost grants = { λ allocator. GrantsRegion allocator.region allocator.size };
+
     // Beside what any allocator ensures: where the region is lent, and what the heap hands out.
     fn allocate_segment(&mut self, minimum_size: u32) -> Result<ScratchSegment<'a>>
         ensures hands_out { HandsOut (λ allocator. IsLentAlone allocator.region allocator.size)
-            (λ old new. new.size ≡ old.size) scratch_bytes scratch_lent
+            (λ old new. new.size ≡ old.size)
+            (λ allocator. GrantsRegion allocator.region allocator.size) scratch_bytes scratch_lent
             minimum_size self.old self.new result }
         ensures lent { minimum_size ≤ self.old.size / 8 → IsSome self.old.region →
             IsOk result × IfOk result (λ s. scratch_lent s ≡ true) }

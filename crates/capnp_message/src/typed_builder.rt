@@ -173,7 +173,7 @@ impl<T: OwnedBuilder, A: Allocator> TypedBuilder<T, A> {
         ensures* rests { sem 𝓛 (RestsIfErr
             (typed_row T.row A.row A.Segment.row A.Allocator A.Segment.SegmentSpace)
             self.entry (λ view. view.message.ghost_name) result
-            (λ last. IsCleared A.same self.old last)) }
+            (λ last. IsCleared A.Allocator self.old last)) }
         ensures inits { InitsView A.Allocator T.OwnedBuilder n (λ typed. typed)
             (λ view. view.message) self.entry result }
     {
@@ -186,7 +186,7 @@ impl<T: OwnedBuilder, A: Allocator> TypedBuilder<T, A> {
         ensures* rests { sem 𝓛 (RestsIfErr
             (typed_row T.row A.row A.Segment.row A.Allocator A.Segment.SegmentSpace)
             self.entry (λ view. view.message.ghost_name) result
-            (λ last. IsCleared A.same self.old last)) }
+            (λ last. IsCleared A.Allocator self.old last)) }
         ensures inits { InitsView A.Allocator T.OwnedBuilder 0 (λ typed. typed)
             (λ view. view.message) self.entry result }
     {
@@ -198,7 +198,7 @@ impl<T: OwnedBuilder, A: Allocator> TypedBuilder<T, A> {
         ensures* rests { sem 𝓛 (RestsIfErr
             (typed_row T.row A.row A.Segment.row A.Allocator A.Segment.SegmentSpace)
             self.entry (λ view. view.message.ghost_name) result
-            (λ last. IsLookedAt A.same self.old last)) }
+            (λ last. IsLookedAt A.Allocator self.old last)) }
         ensures gets { GetsView A.Allocator T.OwnedBuilder (λ typed. typed)
             (λ view. view.message) self.entry result }
     {

@@ -26,6 +26,8 @@ impl Allocator for WordsAllocator {
 
     ghost same = { λ old new. ⊤ };
 
+    ghost grants = { λ allocator asked words. ⊥ };
+
     fn allocate_segment(&mut self, minimum_size: u32) -> Result<Vec<u8>> {
         if self.segments_left == 0 {
             return Err(Error::from_kind(ErrorKind::OutOfMemory));

@@ -5,7 +5,7 @@ use capnp_calls::refusals::allocation_refusal;
 use capnp_frame::message::{ReaderOptions, ReaderSegments, SegmentArray};
 use capnp_frame::{Error, ErrorKind, Result};
 use capnp_message::builder::Builder;
-use capnp_message::callers::{copy_root, text_is_read_back};
+use capnp_message::callers::{copy_root, region_comes_home, set_in_region, text_is_read_back};
 use capnp_message::heap_allocator::HeapAllocator;
 use capnp_message::reader::Reader;
 use capnp_message::scratch_space::ScratchSpaceHeapAllocator;
@@ -72,6 +72,8 @@ impl Allocator for SecondRefused {
     ghost out = { λ allocator list. ⊤ };
 
     ghost same = { λ old new. ⊤ };
+
+    ghost grants = { λ allocator asked words. ⊥ };
 
     fn allocate_segment(&mut self, minimum_size: u32) -> Result<Vec<u8>> {
         self.requests = self.requests.saturating_add(1);
@@ -149,6 +151,29 @@ fn comes_home(rt: HostRuntime) -> std::result::Result<(), Fail> {
     drop(message);
     drop(scratch);
     assert_eq!(rt; region.as_slice(), [0; 32].as_slice());
+    Ok(())
+}
+
+// A text of one word has room behind the root in two words, and not in one; either way the region is zero
+// once the message is gone.
+#[test]
+fn in_a_region(rt: HostRuntime) -> std::result::Result<(), Fail> {
+    let mut region = [7; 16];
+    let message = set_in_region::<capnp_wire::text::Owned, &str>(rt.alloc(), &mut region, "hello")?;
+    assert!(rt; shows(&message, 0, b"\x01\0\0\0\x32\0\0\0hello\0\0\0"));
+    assert_eq!(rt; message.size_in_words(), 2);
+    drop(message);
+    assert_eq!(rt; region, [0; 16]);
+    let mut region = [7; 8];
+    let full = set_in_region::<capnp_wire::text::Owned, &str>(rt.alloc(), &mut region, "hello");
+    assert_eq!(rt; allocation_refusal(full), (15, 2));
+    let mut region = [7; 16];
+    let mut home = region_comes_home::<capnp_wire::text::Owned, &str>(
+        rt.alloc(),
+        &mut region,
+        "hello",
+    );
+    assert_eq!(rt; &home.allocate_segment(2)?[..], [0; 16].as_slice());
     Ok(())
 }
 

@@ -81,6 +81,7 @@ fn root_as_any_pointer(rt: HostRuntime) -> std::result::Result<(), Fail> {
     assert_eq!(rt; list.get(4), 9);
     let root = arena.get_root::<any_pointer::Owned>()?;
     assert_eq!(rt; allocation_refusal(root.get_as::<text::Owned>()), (22, 0));
+    assert_eq!(rt; arena.get_root::<primitive_list::Owned<u64>>()?.get(4), 9);
     let mut root = arena.get_root::<any_pointer::Owned>()?;
     root.set_as::<text::Owned, &str>("hello")?;
     assert_eq!(rt;

@@ -1,5 +1,5 @@
 -- A pointer leads to one tree.
-use Rattle.std.proofs.Common.{◌≡◌, ℕ, List, [], ◌∷◌, Option, Some, None, MatchOption, Result, Ok, Err, OnOk, false, true, refl, sym, ◌∙◌, ap, subst, ◌<◌, length, arith}
+use Rattle.std.proofs.Common.{◌≡◌, ℕ, List, [], ◌∷◌, ◌++◌, Option, Some, None, MatchOption, Result, Ok, Err, OnOk, false, true, refl, sym, ◌∙◌, ap, subst, ◌<◌, length, arith}
 use Rattle.capnp_wire.specs.Tree.{Form, null, Trees, none, tree}
 use Rattle.capnp_wire.specs.Reached.{At, at, root, Root}
 use Rattle.capnp_wire.specs.Layout.{canon}
@@ -8,8 +8,10 @@ use Rattle.capnp_wire.specs.Values.{TreeAt, LeadsToTree}
 use Rattle.capnp_wire.specs.declared.layout.place.Place.{Place}
 use Rattle.capnp_wire.proofs.ObjectLemmas.{one_tree}
 use Rattle.capnp_wire.proofs.FaultLemmas.{word_of_object}
+use Rattle.capnp_frame.specs.Sink.{Adds}
 use Rattle.capnp_build.specs.Bytes.{Space}
 use Rattle.capnp_build.specs.Built.{message, IsSet, IsWhole}
+use Rattle.capnp.specs.Written.{IsFrameText}
 
 one_at : (o : Option Place) (m : List (List ℕ)) (level : ℕ) (limit : Option ℕ) (a b : Trees) → MatchOption o (a ≡ tree null none none) (λ place. TreeAt m place level limit a)
     → MatchOption o (b ≡ tree null none none) (λ place. TreeAt m place level limit b) → a ≡ b
@@ -36,3 +38,7 @@ canonical_as p spaces trees is s = s.words_are ∙ ap (λ (t : Trees). canon t �
 pub root_has_segment : (spaces : List Space) (form : Form) (held : Trees) (charge : ℕ) → Root (message spaces) form held charge → 0 < length spaces
 root_has_segment [] form held charge (at {shape = shape} points inside others) = absurd (word_of_object [] root shape refl points)
 root_has_segment (space ∷ spaces) form held charge stands = omega arith
+
+-- what is added to nothing
+pub added_frame : (segments : List (List ℕ)) (old new : List ℕ) → old ≡ [] → Adds (IsFrameText segments) old new → IsFrameText segments new
+added_frame segments old new empty (text, is, spelled) = spelled ∙ ap (λ l. l ++ text) empty ∙ is

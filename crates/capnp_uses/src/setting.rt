@@ -1,19 +1,23 @@
-//! Roots that are set to what another message holds.
-ghost use Rattle.std.specs.Prelude.{◌≡◌, ◌<◌, ◌∷◌, [], ℕ, List, length, map, slice_set, OnOk, IfOk};
+//! Roots that are set to what another message holds, and messages that are written right after.
+ghost use Rattle.std.specs.Prelude.{◌≡◌, ◌<◌, ◌∷◌, [], ℕ, List, length, map, slice_set, false, true, OnOk, IfOk};
 ghost use Rattle.capnp_wire.specs.Tree.{Form, Trees, none, tree, struct};
 ghost use Rattle.capnp_wire.specs.Object.{message_of};
 ghost use Rattle.capnp_wire.specs.Reached.{Root};
 ghost use Rattle.capnp_wire.specs.Layout.{canon};
 ghost use Rattle.capnp_wire.specs.Readers.{pointer_of};
 ghost use Rattle.capnp_wire.specs.Values.{LeadsToTree};
-ghost use Rattle.capnp_build.specs.Built.{message};
+ghost use Rattle.capnp_build.specs.Built.{message, IsSet};
+ghost use Rattle.capnp.specs.Written.{IsFrameText, output_of};
 
+use capnp::serialize;
 use capnp_build::allocator::Allocator;
 use capnp_build::any_struct::{self, StructBuilder};
 use capnp_frame::Result;
 use capnp_frame::message::ReaderSegments;
 use capnp_message::Builder;
 use capnp_wire::any_pointer;
+use capnp_wire::traits::SetterInput;
+use std::alloc::Global;
 
 /// Makes the root what a pointer of another message leads to, a struct with pointers, say.
 pub fn set_tree<A: Allocator, S: ReaderSegments>(
@@ -56,4 +60,34 @@ pub fn set_canonical<A: Allocator, S: ReaderSegments>(
         OnOk result (message built.new.spaces ≡ canon trees ∷ []) }
 {
     built.set_root_canonical::<any_pointer::Owned, any_pointer::Reader<'_, S>>(source)
+}
+
+/// Sets the root to a value, and writes the message right after: it has a segment.
+pub fn set_and_write<T, V: SetterInput<T> + Drop, A: Allocator>(
+    alloc: Global,
+    built: &mut Builder<A>,
+    value: V,
+) -> Result<Vec<u8>>
+    ensures set { OnOk result (IsSet (V.has_tree value) false built.new.spaces) }
+    ensures written { IfOk result (λ text. IsFrameText (output_of built.new) text.items) }
+{
+    built.set_root::<T, V>(value)?;
+    let mut text = Vec::new(alloc);
+    serialize::write_message(alloc, &mut text, built)?;
+    Ok(text)
+}
+
+/// The same in canonical form.
+pub fn set_canonical_and_write<T, V: SetterInput<T> + Drop, A: Allocator>(
+    alloc: Global,
+    built: &mut Builder<A>,
+    value: V,
+) -> Result<Vec<u8>>
+    ensures set { OnOk result (IsSet (V.has_tree value) true built.new.spaces) }
+    ensures written { IfOk result (λ text. IsFrameText (output_of built.new) text.items) }
+{
+    built.set_root_canonical::<T, V>(value)?;
+    let mut text = Vec::new(alloc);
+    serialize::write_message(alloc, &mut text, built)?;
+    Ok(text)
 }

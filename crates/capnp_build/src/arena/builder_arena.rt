@@ -1,15 +1,15 @@
 //! The arena that a message is built in.
-ghost use Rattle.std.specs.Prelude.{⊤, MatchOption, ◌≡◌, ℕ, ◌+◌, ◌-◌, ◌*◌, ◌/◌, ◌<◌, ◌≤◌, [], ◌∷◌, length, map, max, slice_index_or, take, drop, Some, None, IfErr, OnOk, OnErr};
+ghost use Rattle.std.specs.Prelude.{⊤, MatchOption, ◌≡◌, ℕ, ◌+◌, ◌-◌, ◌*◌, ◌/◌, ◌<◌, ◌≤◌, [], ◌∷◌, length, map, max, slice_index_or, take, drop, Some, None, IfErr, IsOk, OnOk, OnErr};
 ghost use Rattle.capnp_build.specs.Out.{MayRefuse};
 ghost use Rattle.capnp_build.specs.Held.{used_of, space_at};
-ghost use Rattle.capnp_build.specs.Built.{held_of, ForRoot, IsShown, size_in_words, message, HasNullRoot, Built, IsZeroAt, KeepsRooms};
+ghost use Rattle.capnp_build.specs.Built.{held_of, ForRoot, IsShown, size_in_words, message, HasNullRoot, HasRootAlone, Built, IsZeroAt, KeepsRooms};
 ghost use Rattle.capnp_build.specs.Shown.{Shows, HoldsForm};
 ghost use Rattle.capnp_build.specs.Output.{CanBeWritten};
 ghost use Rattle.capnp_wire.specs.Tree.{Form, Trees, none, tree, count};
 ghost use Rattle.capnp_wire.specs.Reached.{At, root};
 ghost use Rattle.capnp_wire.specs.Layout.{pointer};
 ghost use Rattle.capnp_wire.specs.Readers.{pointer_of, unlimited_root};
-ghost use Rattle.capnp_build.specs.Outcomes.{ClearsRoot, EnsuresRoot, IsNewMessage, GivesBack};
+ghost use Rattle.capnp_build.specs.Outcomes.{ClearsRoot, EnsuresRoot, IsAtHome, IsNewMessage, GivesBack};
 ghost use Rattle.capnp_build.specs.Blocks.{LeavesNull};
 
 use crate::allocator::Allocator;
@@ -62,12 +62,16 @@ impl<A: Allocator> BuilderArena<A> {
         ensures leaves { LeavesNull A.Allocator self.old self.new }
         ensures null_word { HasNullRoot self.new.spaces }
         ensures zero { MatchOption self.old.spot ⊤ (IsZeroAt self.new.spaces) }
+        ensures behind { MatchOption self.old.spot ⊤ (λ spot. 0 < spot.start) }
         ensures there { OnOk result (0 < length self.new.spaces) }
         ensures none { OnErr result (self.new.spaces ≡ []) }
         ensures kind { IfErr result (λ error. (length self.old.spaces ≡ 0) × MayRefuse 1 error.kind) }
         ensures size { OnOk result (size_in_words self.new.spaces ≡ max 1 (size_in_words self.old.spaces)) }
         ensures rooms { KeepsRooms self.old.spaces self.new.spaces }
-        ensures fresh { self.old.spaces ≡ [] → OnOk result ((length self.new.spaces ≡ 1) × (length (space_at self.new.spaces 0).used ≡ 8)) }
+        ensures fresh { self.old.spaces ≡ [] → OnOk result (HasRootAlone self.new.spaces) }
+        ensures granted { self.old.spaces ≡ [] → (most : ℕ) → A.grants self.old.allocator 1 most →
+            IsOk result × ((space_at self.new.spaces 0).size / 8 ≡ most) }
+        ensures home { IsAtHome A.Allocator (λ kind. ⊥) self.old result }
     {
         if self.segments.len() == 0 {
             self.spot = None;

@@ -1,7 +1,8 @@
 //! Where the block of a value is placed, and the pointer to it.
-ghost use Rattle.std.specs.Prelude.{◌≡◌, ℕ, ◌+◌, ◌-◌, ◌*◌, ◌/◌, ◌^◌, ◌<◌, ◌≤◌, length, Some, None, IfOk, IfErr, OnErr};
-ghost use Rattle.capnp_build.specs.Out.{MayRefuse};
-ghost use Rattle.capnp_build.specs.Held.{space_at, room_of};
+ghost use Rattle.std.specs.Prelude.{◌≡◌, ℕ, ◌+◌, ◌-◌, ◌*◌, ◌/◌, ◌^◌, ◌<◌, ◌≤◌, List, length, Some, None, IfOk, IfErr, OnErr};
+ghost use Rattle.capnp_frame.specs.declared.error.ErrorKind.TheVariants.{SegmentTaken};
+ghost use Rattle.capnp_build.specs.Out.{Out, HasLarge, MayRefuse};
+ghost use Rattle.capnp_build.specs.Held.{space_at, room_of, pairs};
 ghost use Rattle.capnp_build.specs.Built.{IsSet, IsWhole, IsAdded};
 ghost use Rattle.capnp_wire.specs.Tree.{count};
 ghost use Rattle.capnp_wire.specs.Reached.{root};
@@ -28,6 +29,9 @@ impl<A: Allocator> BuilderArena<A> {
         ensures kept { OnErr result (self.new.spaces ≡ self.old.spaces) }
         ensures full { OnErr result ((i : ℕ) → 0 < i → i < length self.old.spaces → room_of (space_at self.old.spaces i) < words) }
         ensures kind { IfErr result (λ error. MayRefuse words error.kind) }
+        ensures taken { IfErr result (λ error. error.kind ≡ SegmentTaken → (others : List Out) →
+            A.out self.old.allocator (pairs self.old.spaces others) →
+            HasLarge words (pairs self.old.spaces others)) }
     {
         let count = self.segments.len();
         for segment in 1..count {

@@ -20,7 +20,7 @@ impl<A: Allocator> BuilderArena<A> {
         n: u32,
     ) -> Result<View<'a, BuilderArena<A>, K>>
         ensures* rests { sem 𝓛 (RestsIfErr (the_row A.row A.Segment.row A.Allocator A.Segment.SegmentSpace) self.entry (λ view. view.message.ghost_name) result
-            (λ last. IsCleared A.same self.old last)) }
+            (λ last. IsCleared A.Allocator self.old last)) }
         ensures inits { InitsView A.Allocator K.OwnedBuilder n (λ arena. arena)
             (λ view. view.message) self.entry result }
     {
@@ -31,7 +31,7 @@ impl<A: Allocator> BuilderArena<A> {
     /// The same, of length 0.
     pub fn init_root<'a, K: OwnedBuilder>(&'a mut self) -> Result<View<'a, BuilderArena<A>, K>>
         ensures* rests { sem 𝓛 (RestsIfErr (the_row A.row A.Segment.row A.Allocator A.Segment.SegmentSpace) self.entry (λ view. view.message.ghost_name) result
-            (λ last. IsCleared A.same self.old last)) }
+            (λ last. IsCleared A.Allocator self.old last)) }
         ensures inits { InitsView A.Allocator K.OwnedBuilder 0 (λ arena. arena)
             (λ view. view.message) self.entry result }
     {
@@ -49,7 +49,7 @@ impl<A: Allocator> BuilderArena<A> {
     /// The object at the root, as a view that writes it. Where it is refused, the root stays.
     pub fn get_root<'a, K: OwnedBuilder>(&'a mut self) -> Result<View<'a, BuilderArena<A>, K>>
         ensures* rests { sem 𝓛 (RestsIfErr (the_row A.row A.Segment.row A.Allocator A.Segment.SegmentSpace) self.entry (λ view. view.message.ghost_name) result
-            (λ last. IsLookedAt A.same self.old last)) }
+            (λ last. IsLookedAt A.Allocator self.old last)) }
         ensures gets { GetsView A.Allocator K.OwnedBuilder (λ arena. arena)
             (λ view. view.message) self.entry result }
     {

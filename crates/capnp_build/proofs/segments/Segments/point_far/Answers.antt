@@ -1,6 +1,7 @@
 -- The pad leads to the body, and the root's word to the pad.
-use Rattle.std.proofs.Common.{◌-◌, ◌*◌, length, ap, arith}
+use Rattle.std.proofs.Common.{◌-◌, ◌*◌, ◌∙◌, length, ap, sym, arith}
 use Rattle.capnp_build.specs.Held.{Held}
+use Rattle.capnp_build.proofs.KeptLemmas.{kept_past, kept_before}
 use Rattle.capnp_build.proofs.PointLemmas.{far_points, rewritten_by, rewritten_twice}
 use Rattle.capnp_build.proofs.segments.Segments.point_far.Goals as goal
 
@@ -18,4 +19,10 @@ returns g c =
           (ap (λ (h : Held g.row.A.Denot). h.spaces) c.write_at.ensures) c.far-pointer.ensures.word c.to_le_bytes-2.ensures (ap length c.to_le_bytes-2.ensures)
           (ap (λ (h : Held g.row.A.Denot). h.spaces) c.write_at-2.ensures);
       rewritten = rewritten_twice c.args.self.now c.write_at.new.self c.write_at-2.new.self pad root;
+      bytes = λ i from n first before fits. let same = pad.used i in
+          kept_past c.write_at.new.self.spaces c.write_at-2.new.self.spaces 0 0 i from n c.to_le_bytes-2.result (ap (λ (h : Held g.row.A.Denot). h.spaces) c.write_at-2.ensures)
+          (λ here. let far = first (sym here) in omega (arith, far, ap length c.to_le_bytes-2.ensures)) (omega (arith, fits, same))
+          ∙ kept_before c.args.self.now.spaces c.write_at.new.self.spaces c.args.spot.segment (8 * (c.args.spot.start - 1)) i from n c.to_le_bytes.result
+          (ap (λ (h : Held g.row.A.Denot). h.spaces) c.write_at.ensures) (λ here. let room = before (omega (arith, here, c.requires.other)) (sym here) in omega (arith, room))
+          (omega (arith, b.room, b.behind));
     }

@@ -3,6 +3,7 @@ use Rattle.std.proofs.Common.{rules, ◌≡◌, List, ap, arith}
 use Rattle.capnp_build.specs.Bytes.{Space}
 use Rattle.capnp_build.specs.Held.{space_at, room_of}
 use Rattle.capnp_build.specs.Built.{Built}
+use Rattle.capnp_build.proofs.KeptLemmas.{found_bytes, found_sizes}
 use Rattle.capnp_build.proofs.PlaceLemmas.{placed_far}
 use Rattle.capnp_build.proofs.arena.builder_arena.BuilderArena.put.Goals as goal
 
@@ -16,9 +17,13 @@ returns g c =
       set = far.set;
       placed = placed_far old c.find_room.new.self.spaces c.put_far.new.self c.in_ok-segment.segment c.args.words (omega (arith, c.if-words-room.false, c.room.ensures, same)) s.found.0
           s.first s.older s.newer far.count far.spot far.size;
+      there = omega (arith, far.count, s.found.1);
+      bytes = found_bytes old c.find_room.new.self.spaces c.put_far.new.self.spaces c.in_ok-segment.segment s.older s.newer far.bytes;
+      sizes = found_sizes old c.find_room.new.self.spaces c.put_far.new.self.spaces c.in_ok-segment.segment s.older s.newer far.sizes;
       refused = tt;
       kept = tt;
       kind = tt;
+      taken = tt;
       same = search rules;
       others = λ others is. far.others others (c.find_room.ensures.leaves.others others is);
     }

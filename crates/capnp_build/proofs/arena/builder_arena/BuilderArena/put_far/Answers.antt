@@ -1,8 +1,9 @@
 -- A tree stands behind its pad, and the root leads to it.
-use Rattle.std.proofs.Common.{ℕ, ◌*◌, ◌<◌, length, replicate, ap, sym, subst, ◌∙◌, arith}
+use Rattle.std.proofs.Common.{ℕ, ◌≡◌, ◌+◌, ◌*◌, ◌<◌, ◌≤◌, length, replicate, ap, sym, subst, ◌∙◌, arith}
 use Rattle.std.proofs.lemmas.List.{length-replicate}
 use Rattle.capnp_build.specs.Held.{space_at, KeepsOthers}
-use Rattle.capnp_build.specs.Built.{size_in_words, Built, held_of}
+use Rattle.capnp_build.specs.Built.{size_in_words, Built, held_of, KeepsBytes}
+use Rattle.capnp_build.specs.declared.arena.spot.Spot.{Spot}
 use Rattle.capnp_build.proofs.PointLemmas.{longer_by, keeps_of}
 use Rattle.capnp_build.proofs.ReadyLemmas.{value_set}
 use Rattle.capnp_build.proofs.arena.builder_arena.BuilderArena.put_far.Goals as goal
@@ -18,6 +19,12 @@ returns g c =
     let p = c.fill-spot.ensures.place in
     let more = c.fill-spot.ensures.longer in
     let kept = c.point_far.ensures.rewritten in
+    let here : c.fill-spot.result ≡ p.place = cc in
+    let start : c.fill-spot.result.start ≡ p.place.start = ap (λ (s : Spot). s.start) here in
+    let place : c.fill-spot.result.segment ≡ c.args.segment = ap (λ (s : Spot). s.segment) here ∙ p.segment_is in
+    let before : (i from n : ℕ) → i ≡ c.fill-spot.result.segment → from + n ≤ length (space_at c.self.inside.segments.spaces i).used → from + n + 8 ≤ 8 * c.fill-spot.result.start =
+    λ i from n same fits. let inside : from + n ≤ length (space_at c.self.inside.segments.spaces c.args.segment).used = subst (λ (k : ℕ). from + n ≤ length (space_at c.self.inside.segments.spaces k).used) (same ∙ place) fits in
+    omega (arith, inside, start, p.start_is, pad.used) in
     record {
       set = value_set (g.V.SetterInput.has_tree c.args.value.now) c.args.canonical c.fill-spot.new.self.spaces c.point_far.new.self.spaces c.fill-spot.result v
           (c.point_far.ensures.stands v.form v.held v.body_is);
@@ -30,6 +37,10 @@ returns g c =
         start_is = omega (arith, p.start_is, pad.used, ap (λ (v : Built g.row.A.Denot). length (space_at v.spaces c.args.segment).used) c.self.view_is);
       };
       size = omega (arith, kept.size, more.size, pad.size, ap (λ (v : Built g.row.A.Denot). size_in_words v.spaces) c.self.view_is);
+      bytes = subst (λ (v : Built g.row.A.Denot). KeepsBytes v.spaces c.point_far.new.self.spaces) c.self.view_is
+          (λ i from n root fits. let low = pad.each i in let wide = more.each i in
+          c.point_far.ensures.bytes i from n root (λ behind same. before i from n same fits) (omega (arith, fits, low, wide)) ∙ more.bytes i from n root (omega (arith, fits, low)) ∙ pad.bytes i from n root fits);
+      sizes = λ i. kept.sizes i ∙ more.sizes i ∙ pad.sizes i ∙ ap (λ (v : Built g.row.A.Denot). (space_at v.spaces i).size) c.self.view_is;
       same = kept.allocator ∙ more.allocator ∙ pad.allocator ∙ ap (λ (v : Built g.row.A.Denot). v.allocator) c.self.view_is;
       others = subst (λ (v : Built g.row.A.Denot). KeepsOthers g.A.Allocator.out (held_of v) c.point_far.new.self) c.self.view_is
           (keeps_of g.A.Allocator.out c.self.inside.segments c.point_far.new.self (kept.allocator ∙ more.allocator ∙ pad.allocator)

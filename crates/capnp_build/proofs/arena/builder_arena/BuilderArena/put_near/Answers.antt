@@ -1,7 +1,7 @@
 -- A tree stands behind the used words of the first segment, and the root leads to it.
 use Rattle.std.proofs.Common.{◌≡◌, ◌<◌, length, Option, Some, None, ap, sym, subst, ◌∙◌, arith}
 use Rattle.capnp_build.specs.Held.{space_at, KeepsOthers}
-use Rattle.capnp_build.specs.Built.{size_in_words, Built, held_of, IsAtEnd, IsBuilt}
+use Rattle.capnp_build.specs.Built.{size_in_words, Built, held_of, IsAtEnd, IsBuilt, KeepsBytes}
 use Rattle.capnp_build.specs.declared.arena.spot.Spot.{Spot}
 use Rattle.capnp_build.proofs.NullLemmas.{root_room}
 use Rattle.capnp_build.proofs.PointLemmas.{keeps_of}
@@ -39,12 +39,19 @@ returns-clause-block g c =
     let v = c.fill-spot.ensures.body in
     let more = c.fill-spot.ensures.longer in
     let kept = c.point_near.ensures.rewritten in
+    let p = c.fill-spot.ensures.place in
+    let here : c.fill-spot.result ≡ p.place = cc in
+    let first : c.fill-spot.result.segment ≡ 0 = ap (λ (s : Spot). s.segment) here ∙ p.segment_is in
     record {
       set = value_set (g.V.SetterInput.has_tree c.args.value.now) c.args.canonical c.fill-spot.new.self.spaces c.point_near.new.self.spaces c.fill-spot.result v
           (c.point_near.ensures.stands v.form v.held v.body_is);
       count = kept.count ∙ more.count ∙ ap (λ (v : Built g.row.A.Denot). length v.spaces) c.self.view_is;
       spot = subst (λ (v : Built g.row.A.Denot). IsAtEnd v.spaces (Some c.fill-spot.result) 0 0 c.args.words) c.self.view_is c.fill-spot.ensures.place;
       size = omega (arith, kept.size, more.size, ap (λ (v : Built g.row.A.Denot). size_in_words v.spaces) c.self.view_is);
+      bytes = subst (λ (v : Built g.row.A.Denot). KeepsBytes v.spaces c.point_near.new.self.spaces) c.self.view_is
+          (λ i from n root fits. let wide = more.each i in c.point_near.ensures.bytes i from n root (λ behind same. absurd (omega (arith, behind, same, first))) (omega (arith, fits, wide))
+          ∙ more.bytes i from n root fits);
+      sizes = λ i. kept.sizes i ∙ more.sizes i ∙ ap (λ (v : Built g.row.A.Denot). (space_at v.spaces i).size) c.self.view_is;
       same = kept.allocator ∙ more.allocator ∙ ap (λ (v : Built g.row.A.Denot). v.allocator) c.self.view_is;
       others = subst (λ (v : Built g.row.A.Denot). KeepsOthers g.A.Allocator.out (held_of v) c.point_near.new.self) c.self.view_is
           (keeps_of g.A.Allocator.out c.self.inside.segments c.point_near.new.self (kept.allocator ∙ more.allocator) (λ others. kept.pairs others ∙ more.pairs others));

@@ -1,7 +1,12 @@
 -- The root is cleared first, and then the canonical form is placed.
-use Rattle.std.proofs.Common.{rules, length, ap, arith}
+use Rattle.std.proofs.Common.{rules, length, ap, arith, refl}
+use Rattle.std.proofs.lemmas.Result.{err_from_is_err_and}
+use Rattle.capnp_build.specs.Held.{space_at, room_of}
 use Rattle.capnp_build.specs.Built.{Built}
-use Rattle.capnp_build.proofs.OutcomeLemmas.{cleared_root}
+use Rattle.capnp_build.proofs.OutcomeLemmas.{cleared_root, still_granted}
+use Rattle.capnp_build.proofs.CanonicalLemmas.{canonical_unmeasured, canonical_full, none_refused}
+use Rattle.capnp_build.proofs.FirstLemmas.{first_put}
+use Rattle.capnp_build.proofs.KeptLemmas.{zero_stays}
 use Rattle.capnp_build.proofs.PlaceLemmas.{placed_near}
 use Rattle.capnp_build.proofs.arena.builder_arena.BuilderArena.set_root_canonical.Goals as goal
 
@@ -10,6 +15,7 @@ returns g c =
     let clear = c.in_ok-clear_root.ensures in
     let near = c.put_near.ensures.block in
     let alone = ap (λ (v : Built g.row.A.Denot). length v.spaces) c.self.view_is in
+    let placed = placed_near c.clear_root.new.self.spaces c.put_near.new.self c.in_ok-words.words (search rules) near.spot near.count (omega (arith, near.size)) in
     record {
       set = near.set;
       placed = record {
@@ -17,12 +23,36 @@ returns g c =
         words = c.in_ok-words.words;
         is_cleared = cleared_root g.A.Allocator _ _ clear;
         words_are = c.in_ok-words.ensures.answer;
-        placed = placed_near c.clear_root.new.self.spaces c.put_near.new.self c.in_ok-words.words (search rules) near.spot near.count (omega (arith, near.size));
+        placed = placed;
+        first = λ none. first_put c.clear_root.new.self c.put_near.new.self c.in_ok-words.words (clear.fresh none) placed (near.sizes 0);
+        granted = still_granted g.A.Allocator _ c.clear_root.new.self c.put_near.new.self.spaces clear (near.sizes 0);
+        zero = zero_stays _ c.clear_root.new.self.spaces c.put_near.new.self.spaces clear.behind clear.zero near.bytes;
       };
       one = omega (arith, near.count, alone, c.if-len-gt1.false, c.len.ensures, clear.there);
       whole = λ none. c.put_near.ensures.whole (clear.fresh none).0 (clear.fresh none).1;
       nulled = tt;
       kind = tt;
+      exact = λ kind refused. absurd (none_refused g.A.Allocator _ _ _ c.clear_root.new.self c.in_ok-words.words kind clear (omega (arith, alone, c.if-len-gt1.false, c.len.ensures)) (search rules)
+          (λ k lacks. c.in_ok-words.ensures.exact k lacks) (λ other has. let same = c.in_ok-words.ensures.found other has in cc) refused);
+      lacks = λ none kind lacks. absurd (c.in_ok-words.ensures.exact kind lacks);
+      fits = λ few words has room. refl;
+      home = λ none out. tt;
       same = search rules;
       others = λ others is. near.others others (clear.others others is);
     }
+
+pub returns-in_err-words : goal.returns-in_err-words
+returns-in_err-words g c =
+    let p = err_from_is_err_and c.from_residual-in_err-words.result c.from_residual-in_err-words.ensures.1 in
+    let alone = ap (λ (v : Built g.row.A.Denot). length v.spaces) c.self.view_is in
+    rw (p.1, p.2) (canonical_unmeasured g.A.Allocator (g.V.SetterInput.has_tree c.args.value.now) (g.V.SetterInput.refuses c.args.value.now) _ c.clear_root.new.self _ c.in_ok-clear_root.ensures
+    (omega (arith, alone, c.if-len-gt1.false, c.len.ensures, c.in_ok-clear_root.ensures.there)) c.in_err-words.ensures.answer c.in_err-words.ensures.exact
+    (λ words has. let same = c.in_err-words.ensures.found words has in absurd (cc)))
+
+pub returns-then-words-room : goal.returns-then-words-room
+returns-then-words-room g c =
+    let alone = ap (λ (v : Built g.row.A.Denot). length v.spaces) c.self.view_is in
+    let same = ap (λ (v : Built g.row.A.Denot). room_of (space_at v.spaces 0)) c.self.view_is in
+    canonical_full g.A.Allocator (g.V.SetterInput.has_tree c.args.value.now) (g.V.SetterInput.refuses c.args.value.now) _ c.clear_root.new.self _ c.in_ok-words.words c.in_ok-clear_root.ensures
+    (omega (arith, alone, c.if-len-gt1.false, c.len.ensures, c.in_ok-clear_root.ensures.there)) (search rules) c.in_ok-words.ensures.answer
+    (omega (arith, same, c.if-words-room.true, c.room.ensures)) (λ k lacks. c.in_ok-words.ensures.exact k lacks) (λ other has. let same = c.in_ok-words.ensures.found other has in cc)

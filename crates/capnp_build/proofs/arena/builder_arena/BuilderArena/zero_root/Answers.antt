@@ -1,9 +1,11 @@
 -- The root's word and its block become zero, and no room is lost.
-use Rattle.std.proofs.Common.{rules, ◌≡◌, inr, ℕ, ◌+◌, ◌-◌, ◌*◌, ◌<◌, ◌≤◌, max, List, length, replicate, Option, Some, slice_set, ap, sym, subst, ◌∙◌, arith}
+use Rattle.std.proofs.Common.{rules, ◌≡◌, inr, ℕ, ◌+◌, ◌-◌, ◌*◌, ◌<◌, ◌≤◌, max, List, [], length, replicate, Option, Some, slice_set, ap, sym, subst, ◌∙◌, arith}
 use Rattle.std.proofs.lemmas.List.{length-replicate}
+use Rattle.std.proofs.lemmas.Result.{err_from_is_err_and}
 use Rattle.capnp_wire.specs.Object.{word_at}
 use Rattle.capnp_wire.specs.Reached.{root}
 use Rattle.capnp_build.specs.Bytes.{Space, with_bytes}
+use Rattle.capnp_build.specs.Out.{HasLarge}
 use Rattle.capnp_build.specs.Held.{Held, space_at, pairs}
 use Rattle.capnp_build.specs.Built.{IsZeroAt, HasNullRoot, message, size_in_words, Built, IsLaid, IsBuilt, KeepsRooms, root_word}
 use Rattle.capnp_wire.specs.Tree.{Form, Trees}
@@ -96,3 +98,11 @@ returns-in-Some-clause-zero g c =
     (wiped spaces c.zero.new.self.spaces c.zero-in-Some.new.self.spaces spot.segment (8 * spot.start) (8 * spot.words) (8 * spot.start + 8 * spot.words - 8 * spot.start)
     p.2.within (omega (arith, p.2.behind)) (omega arith) (omega (arith, p.2.room))
     (ap (λ (h : Held g.row.A.Denot). h.spaces) c.zero.ensures) (ap (λ (h : Held g.row.A.Denot). h.spaces) c.zero-in-Some.ensures))
+
+pub returns-in_err-add-clause-home : goal.returns-in_err-add-clause-home
+returns-in_err-add-clause-home g c = λ empty out.
+    let p = err_from_is_err_and c.from_residual.result c.from_residual.ensures.1 in
+    let none : c.self.inside.segments.spaces ≡ [] = ap (λ (v : Built g.row.A.Denot). v.spaces) c.self.view_is ∙ empty in
+    let is = subst (λ (v : Built g.row.A.Denot). g.A.Allocator.out v.allocator (pairs v.spaces [])) (sym c.self.view_is)
+    (subst (λ (l : List Space). g.A.Allocator.out c.args.self.now.allocator (pairs l [])) (sym empty) out) in
+    rw (p.1, p.2) (λ taken. subst (λ (l : List Space). HasLarge 1 (pairs l [])) none (c.in_err-add.ensures.taken taken [] is))

@@ -1,0 +1,64 @@
+-- What making the root a new object keeps, from what its steps keep.
+use Rattle.std.proofs.Common.{inl, inr, ℕ, List, Result, Ok, Err, refl, subst, sym}
+use Rattle.capnp_frame.specs.declared.error.Error.{Error}
+use Rattle.capnp_wire.specs.Tree.{Form, null}
+use Rattle.capnp_build.specs.declared.allocator.Allocator as allocator
+use Rattle.capnp_build.specs.declared.owned_builder.OwnedBuilder as owned_builder
+use Rattle.capnp_build.specs.Bytes.{Space}
+use Rattle.capnp_build.specs.Out.{IsPreorder}
+use Rattle.capnp_build.specs.Built.{Built, HasNoRoom, NewWords}
+use Rattle.capnp_build.specs.Blocks.{IsNew, PutsBlock}
+use Rattle.capnp_build.specs.Outcomes.{InitsRoot, ClearsRoot}
+use Rattle.capnp_build.proofs.NullLemmas.{null_root}
+use Rattle.capnp_build.proofs.PlaceLemmas.{still_cleared}
+use Rattle.capnp_build.proofs.FirstLemmas.{first_put}
+use Rattle.capnp_build.proofs.KeptLemmas.{zero_stays}
+use Rattle.capnp_build.proofs.OutcomeLemmas.{cleared_root, home_alone, still_granted}
+
+-- a new object's block is placed once the root is cleared
+pub inits_root : {A S K : Type 0} (alloc : allocator.Ghosts A S) (schema : owned_builder.Ghosts K) (n : ℕ) (form : Form) (old cleared new : Built A)
+    {done : Unit {0}} (r : Result (Unit {0}) Error) → IsPreorder alloc.same → ClearsRoot alloc old cleared (Ok done) → schema.inits n form
+    → ((words : ℕ) × NewWords form words × PutsBlock alloc (IsNew form) words cleared new r) → InitsRoot alloc schema n old new r
+inits_root alloc schema n form old cleared new (Ok done) keeps clear inits told =
+    record {
+      inits = (form, told.2.set.0, inits, told.2.set.1);
+      there = told.2.there;
+      placed = record {
+        cleared = cleared;
+        is_cleared = cleared_root alloc old cleared clear;
+        block = inr (told.0, (form, inits, told.1), told.2.placed, λ empty. first_put cleared new told.0 (clear.fresh empty) told.2.placed (told.2.sizes 0 clear.there));
+        granted = still_granted alloc old cleared new.spaces clear (told.2.sizes 0 clear.there);
+        zero = zero_stays old.spot cleared.spaces new.spaces clear.behind clear.zero told.2.bytes;
+      };
+      nulled = tt;
+      kind = tt;
+      home = λ empty out. tt;
+      same = keeps.transitive _ _ _ clear.same told.2.same;
+      others = λ others is. told.2.others others (clear.others others is);
+    }
+inits_root alloc schema n form old cleared new (Err error) keeps clear inits told = record {
+  inits = tt;
+  there = tt;
+  placed = tt;
+  nulled = still_cleared alloc old cleared new (Err error) keeps (cleared_root alloc old cleared clear) told.2.refused told.2.kept told.2.same told.2.others;
+  kind = inr (inr (told.0, (form, inits, told.1), subst (λ (l : List Space). HasNoRoom l told.0) (sym told.2.kept) told.2.kind.0, told.2.kind.1));
+  home = λ empty out taken. absurd (home_alone alloc old cleared told.0 clear told.1.few told.2.kind.0 (told.2.taken taken) empty out);
+  same = keeps.transitive _ _ _ clear.same told.2.same;
+  others = λ others is. told.2.others others (clear.others others is);
+}
+
+-- the null that is left is the new object
+pub inits_null : {A S K : Type 0} (alloc : allocator.Ghosts A S) (schema : owned_builder.Ghosts K) (n : ℕ) (old new : Built A) {done : Unit {0}}
+    → ClearsRoot alloc old new (Ok done) → schema.inits n null → InitsRoot alloc schema n old new (Ok done)
+inits_null alloc schema n old new clear inits =
+    let t = null_root new.spaces clear.there clear.null_word in
+    record {
+      inits = (null, t.0, inits, t.1);
+      there = clear.there;
+      placed = record { cleared = new; is_cleared = cleared_root alloc old new clear; block = inl refl; granted = still_granted alloc old new new.spaces clear refl; zero = clear.zero };
+      nulled = tt;
+      kind = tt;
+      home = λ empty out. tt;
+      same = clear.same;
+      others = clear.others;
+    }
