@@ -15,6 +15,10 @@ mod canonical_texts;
 #[cfg(test)]
 mod formats;
 #[cfg(test)]
+mod given_back;
+#[cfg(test)]
 mod views;
+#[cfg(test)]
+mod walks;
 #[cfg(test)]
 mod writers;
