@@ -8,8 +8,8 @@ use capnp_uses::building::{
 use std::alloc::Global;
 use std::test::Fail;
 
-fn heap(alloc: Global, first_segment_words: u32) -> HeapAllocator {
-    HeapAllocator::new(alloc).first_segment_words(first_segment_words)
+fn heap(alloc: Global, words: u16) -> HeapAllocator {
+    HeapAllocator::new(alloc).first_segment_words(words as u32)
 }
 
 // Behind the root's word, and in a second segment.

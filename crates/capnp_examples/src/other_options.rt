@@ -176,9 +176,18 @@ fn packed_texts_that_are_refused(rt: HostRuntime) -> Result<(), Fail> {
         read_packed_words(alloc, &[0x10, 2, 0x10, 1, 1, 10])?,
         (10, 0)
     );
+    Ok(())
+}
+
+// Records of one word within a limit of one.
+#[test]
+fn records_within_a_limit(rt: HostRuntime) -> Result<(), Fail> {
+    let alloc = rt.alloc();
+    let mut options = ReaderOptions::new();
+    options.traversal_limit_in_words(Some(1));
     let slices = [[].as_slice(), &FRAMED[16..]];
     let record = SegmentArray::new(&slices);
-    let both = two_records_are_read_back(alloc, &record, &record, limited(Some(1)))?;
+    let both = two_records_are_read_back(alloc, &record, &record, options)?;
     assert_eq!(rt; told(both), (2, 28, 0));
     Ok(())
 }

@@ -45,7 +45,7 @@ impl Allocator for Noting {
 }
 
 // Segments of eight words, or as many as are asked.
-fn noting(alloc: Global) -> Noting {
+fn noting_heap(alloc: Global) -> Noting {
     let heap = HeapAllocator::new(alloc)
         .first_segment_words(8)
         .allocation_strategy(AllocationStrategy::FixedSize);
@@ -80,13 +80,13 @@ fn assert_given_back(rt: &impl Abort, allocator: &Noting, wanted: &[(usize, u32)
 // A message that is dropped, one that is read and dropped, and one whose allocator is taken.
 #[test]
 fn each_segment_comes_back(rt: HostRuntime) -> std::result::Result<(), Fail> {
-    let mut allocator = noting(rt.alloc());
+    let mut allocator = noting_heap(rt.alloc());
     let mut message = Builder::new(rt.alloc(), &mut allocator);
     build(&mut message)?;
     drop(message);
     assert_given_back(&rt, &allocator, &BACK);
 
-    let mut allocator = noting(rt.alloc());
+    let mut allocator = noting_heap(rt.alloc());
     let mut message = Builder::new(rt.alloc(), &mut allocator);
     build(&mut message)?;
     let reader = message.into_reader();
@@ -97,7 +97,7 @@ fn each_segment_comes_back(rt: HostRuntime) -> std::result::Result<(), Fail> {
     drop(reader);
     assert_given_back(&rt, &allocator, &BACK);
 
-    let mut message = Builder::new(rt.alloc(), noting(rt.alloc()));
+    let mut message = Builder::new(rt.alloc(), noting_heap(rt.alloc()));
     build(&mut message)?;
     assert_eq!(rt; message.size_in_words(), 21);
     assert_given_back(&rt, &message.into_allocator(), &BACK);
@@ -107,7 +107,7 @@ fn each_segment_comes_back(rt: HostRuntime) -> std::result::Result<(), Fail> {
 // Of a message of no segments none comes back; where only the root was looked at, its word was used.
 #[test]
 fn little_comes_back(rt: HostRuntime) -> std::result::Result<(), Fail> {
-    let mut allocator = noting(rt.alloc());
+    let mut allocator = noting_heap(rt.alloc());
     drop(Builder::new(rt.alloc(), &mut allocator));
     assert_given_back(&rt, &allocator, &[]);
     let mut message = Builder::new(rt.alloc(), &mut allocator);

@@ -17,6 +17,10 @@ mod formats;
 #[cfg(test)]
 mod given_back;
 #[cfg(test)]
+mod large_limits;
+#[cfg(test)]
+mod large_messages;
+#[cfg(test)]
 mod views;
 #[cfg(test)]
 mod walks;

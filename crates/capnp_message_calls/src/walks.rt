@@ -30,8 +30,8 @@ const WALKS: [Walk; 7] = [
 type Source<'a> = any_pointer::Reader<'a, SegmentArray<'a>>;
 
 // Walks over the words of the root's tree, and answers how many.
-fn walk(alloc: Global, reader: &Reader<SegmentArray<'_>>, walk: Walk) -> Result<usize> {
-    match walk {
+fn walk_over(alloc: Global, reader: &Reader<SegmentArray<'_>>, kind: Walk) -> Result<usize> {
+    match kind {
         Walk::Canonicalize => Ok(reader.canonicalize(alloc)?.len()),
         Walk::CanonicalSegment => Ok(reader.canonical_segment(alloc)?.len() / 8),
         Walk::IsCanonical => Ok(if reader.is_canonical()? { 3 } else { 0 }),
@@ -68,7 +68,7 @@ fn walks_between_views(rt: HostRuntime) -> std::result::Result<(), Fail> {
         let reader = Reader::new(SegmentArray::new(&segments), options);
         for view in [0, 0, 20, 20] {
             for _ in 0..3u32 {
-                assert_eq!(rt; walk(rt.alloc(), &reader, kind)?, 3, "{kind:?}");
+                assert_eq!(rt; walk_over(rt.alloc(), &reader, kind)?, 3, "{kind:?}");
             }
             let text: Result<text::Reader<'_>> = reader.get_root();
             assert_eq!(rt; refusal(text), view, "{kind:?}");
