@@ -9,7 +9,7 @@ use std::process::Abort;
 use std::test::Fail;
 
 // Words of a message of one segment: the root's, and those of its data.
-const SIZES: [u32; 4] = [513, 1025, 65537, 1 << 20];
+const SIZES: [u32; 3] = [513, 1025, 65537];
 
 type Source<'a> = any_pointer::Reader<'a, SegmentArray<'a>>;
 
@@ -38,6 +38,14 @@ fn messages_of_many_words(rt: HostRuntime) -> Result<(), Fail> {
         canonicalize(&rt, &segment)?;
     }
     Ok(())
+}
+
+// It is not packed, which takes a build with checks half a minute.
+#[test]
+fn a_message_of_a_million_words(rt: HostRuntime) -> Result<(), Fail> {
+    let segment = segment_of(rt.alloc(), 1 << 20)?;
+    build_and_write(&rt, &segment)?;
+    canonicalize(&rt, &segment)
 }
 
 // What is built is the segment, and its framed text a word and the segment.
