@@ -9,7 +9,7 @@ use std::process::Abort;
 use std::test::Fail;
 
 // Words of a message of one segment: the root's, and those of its data.
-const SIZES: [u32; 3] = [513, 1025, 65537];
+const SIZES: [u32; 3] = [513, 1025, 4097];
 
 type Source<'a> = any_pointer::Reader<'a, SegmentArray<'a>>;
 
