@@ -3,6 +3,14 @@
 #![tactic(auto)]
 
 #[cfg(test)]
+mod built_roots;
+#[cfg(test)]
 mod callers;
 #[cfg(test)]
 mod examples;
+#[cfg(test)]
+mod other_options;
+#[cfg(test)]
+mod refusals;
+#[cfg(test)]
+mod set_roots;

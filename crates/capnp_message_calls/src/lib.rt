@@ -15,6 +15,14 @@ mod canonical_texts;
 #[cfg(test)]
 mod formats;
 #[cfg(test)]
+mod given_back;
+#[cfg(test)]
+mod large_limits;
+#[cfg(test)]
+mod large_messages;
+#[cfg(test)]
 mod views;
+#[cfg(test)]
+mod walks;
 #[cfg(test)]
 mod writers;

@@ -143,17 +143,28 @@ pub fn chain(alloc: Global, length: usize) -> Result<Vec<u8>> {
     Ok(bytes)
 }
 
-/// Structs of two pointers, each of which leads to the next struct: a tree of 2^40 - 1 structs.
-pub fn doublings(alloc: Global) -> Result<Vec<u8>> {
+/// Structs of so many data words and two pointers, each of which leads to the next struct: a tree of
+/// 2^40 - 1 structs.
+pub fn doublings(alloc: Global, data_words: u16) -> Result<Vec<u8>> {
+    let next = TWO + ((data_words as u64) << 32);
     let mut bytes: Vec<u8> = Vec::new(alloc);
-    append(&mut bytes, TWO)?;
+    append(&mut bytes, next)?;
     for _ in 0..39 {
-        append(&mut bytes, TWO + 4)?;
-        append(&mut bytes, TWO)?;
+        append_zeros(&mut bytes, data_words)?;
+        append(&mut bytes, next + 4)?;
+        append(&mut bytes, next)?;
     }
+    append_zeros(&mut bytes, data_words)?;
     append(&mut bytes, 0)?;
     append(&mut bytes, 0)?;
     Ok(bytes)
+}
+
+fn append_zeros(bytes: &mut Vec<u8>, words: u16) -> Result<()> {
+    for _ in 0..words {
+        append(bytes, 0)?;
+    }
+    Ok(())
 }
 
 /// A list of 65,536 pointers, each of which leads to the same list of 8,192 zero words.
@@ -182,8 +193,10 @@ fn walk_each(rt: &(impl Abort + AllocGlobal)) -> Result<()> {
     let alloc = rt.alloc();
     walk(rt, &chain(alloc, 64)?, DEFAULT_LIMIT, Ok(64), Ok(false));
     walk(rt, &chain(alloc, 65)?, DEFAULT_LIMIT, Err(DEEP), Err(DEEP));
-    let tree = doublings(alloc)?;
+    let tree = doublings(alloc, 0)?;
     walk(rt, &tree, Some(1 << 16), Err(LIMITED), Ok(false));
+    let tree = doublings(alloc, 254)?;
+    walk(rt, &tree, DEFAULT_LIMIT, Err(LIMITED), Ok(false));
     let shared = shared_lists(alloc)?;
     walk(rt, &shared, NO_LIMIT, Ok(536936448), Ok(false));
     walk(rt, &shared, DEFAULT_LIMIT, Err(LIMITED), Ok(false));

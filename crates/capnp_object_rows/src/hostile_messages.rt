@@ -161,15 +161,18 @@ fn follow_chains(rt: &(impl Abort + AllocGlobal)) -> Result<()> {
 }
 
 // A tree of 2^40 - 1 structs in 81 words ends at the limit. At the default one, of 8,388,608 words, it
-// does in a fraction of a second (tools/fuzz), but takes a minute in a build with checks.
+// does in a fraction of a second (tools/fuzz), but takes a minute in a build with checks: there each
+// struct has 256 words.
 #[test]
 fn doublings_end_at_the_limit(rt: HostRuntime) -> Result<()> {
     retried!(refuse_doublings(&rt))
 }
 
 fn refuse_doublings(rt: &(impl Abort + AllocGlobal)) -> Result<()> {
-    let bytes = doublings(rt.alloc())?;
-    refuse(rt, &[bytes.as_slice()], Some(1 << 16), [LIMITED; 3])
+    let bytes = doublings(rt.alloc(), 0)?;
+    refuse(rt, &[bytes.as_slice()], Some(1 << 16), [LIMITED; 3])?;
+    let bytes = doublings(rt.alloc(), 254)?;
+    refuse(rt, &[bytes.as_slice()], DEFAULT_LIMIT, [LIMITED; 3])
 }
 
 // 65,536 pointers to one list: 536,936,448 words as a tree, more than a builder or a canonical form has.

@@ -3,6 +3,10 @@
 #![tactic(auto)]
 
 #[cfg(test)]
+mod appended;
+#[cfg(test)]
+mod built_messages;
+#[cfg(test)]
 mod each_message;
 #[cfg(test)]
 mod faults;

@@ -7,6 +7,8 @@ use std::alloc::{AllocError, Global};
 use std::process::Abort;
 use std::test::*;
 
+mod long_streams;
+
 // Three messages: segments [] and [1, 2, 3, 4, 5, 6, 7, 8]; one empty segment; one of two words.
 pub(crate) const STREAM: [u8; 56] = [
     1, 0, 0, 0, 0, 0, 0, 0, 1, 0, 0, 0, 0, 0, 0, 0, 1, 2, 3, 4, 5, 6, 7, 8, 0, 0, 0, 0, 0, 0, 0, 0,
@@ -82,11 +84,12 @@ fn lines_before_a_refusal_stay(rt: HostRuntime) -> Result<(), Fail> {
 
 #[test]
 fn other_words_read_nothing(rt: HostRuntime) -> Result<(), Fail> {
-    let others: [&[&str]; 21] = [
+    let others: [&[&str]; 22] = [
         &[],
         &["lists"],
         &["list", "list"],
         &["list", ""],
+        &["list", "--packed", "x"],
         &["list", "--packed", "--packed"],
         &["list", "--lenient", "--packed"],
         &["list", "--lenient", "--lenient"],
@@ -111,6 +114,7 @@ fn other_words_read_nothing(rt: HostRuntime) -> Result<(), Fail> {
         let mut sink = Vec::new(rt.alloc());
         let answer = run(rt.alloc(), &words, &mut source, &mut sink);
         assert!(rt; matches!(&answer, Err(Stop::Usage)), "{texts:?}");
+        assert!(rt; answer.is_err_and(|stop| stop.status() == 2), "{texts:?}");
         assert_eq!(rt; source.len(), STREAM.len());
         assert!(rt; sink.is_empty());
     }

@@ -6,18 +6,20 @@ use std::test::*;
 
 #[test]
 fn interrupted_and_short_reads_lose_nothing(rt: HostRuntime) -> Result<(), Fail> {
-    let mut device = giving(b"abcdefg", 2);
-    device.interruptions = 3;
-    let mut input = Input::new(rt.alloc(), device)?;
-    let mut got = [0; 5];
-    Read::read_exact(&mut input, &mut got)?;
-    assert_eq!(rt; got, *b"abcde");
-    assert_eq!(rt; Read::read(&mut input, &mut got)?, 1);
-    assert_eq!(rt; got[0], b'f');
-    assert_eq!(rt; BufRead::fill_buf(&mut input)?, b"g".as_slice());
-    BufRead::consume(&mut input, 1);
-    assert_eq!(rt; Read::read(&mut input, &mut got)?, 0);
-    assert_eq!(rt; input.failures.count, 0);
+    for interruptions in [3, 1000] {
+        let mut device = giving(b"abcdefg", 2);
+        device.interruptions = interruptions;
+        let mut input = Input::new(rt.alloc(), device)?;
+        let mut got = [0; 5];
+        Read::read_exact(&mut input, &mut got)?;
+        assert_eq!(rt; got, *b"abcde");
+        assert_eq!(rt; Read::read(&mut input, &mut got)?, 1);
+        assert_eq!(rt; got[0], b'f');
+        assert_eq!(rt; BufRead::fill_buf(&mut input)?, b"g".as_slice());
+        BufRead::consume(&mut input, 1);
+        assert_eq!(rt; Read::read(&mut input, &mut got)?, 0);
+        assert_eq!(rt; input.failures.count, 0);
+    }
     Ok(())
 }
 

@@ -2,6 +2,7 @@ use crate::devices::Output;
 use crate::devices::choppy::taking;
 use capnp::ErrorKind;
 use capnp::io::Write;
+use std::io;
 use std::test::*;
 
 fn is_device_failed(answer: capnp::Result<()>) -> bool {
@@ -10,9 +11,9 @@ fn is_device_failed(answer: capnp::Result<()>) -> bool {
 
 #[test]
 fn parts_and_interruptions_lose_nothing(rt: HostRuntime) -> Result<(), Fail> {
-    for capacity in [0, 4, 64] {
+    for (capacity, interruptions) in [(0, 3), (4, 3), (64, 3), (0, 1000), (64, 1000)] {
         let mut device = taking(rt.alloc(), 2);
-        device.interruptions = 3;
+        device.interruptions = interruptions;
         let mut output = Output::new(rt.alloc(), capacity, &mut device)?;
         for piece in ["abc", "", "defgh", "i"] {
             output.write_all(piece.as_bytes())?;
@@ -58,5 +59,47 @@ fn a_fault_of_the_last_flush_is_answered(rt: HostRuntime) -> Result<(), Fail> {
     let mut output = Output::new(rt.alloc(), 64, &mut stuck)?;
     output.write_all(b"abcdef")?;
     assert!(rt; is_device_failed(output.flush()));
+    Ok(())
+}
+
+/// Takes what it is given. Its first flushes are interrupted.
+#[derive(Drop)]
+struct Unflushed {
+    got: Vec<u8>,
+    interruptions: u64,
+    flushes: u64,
+}
+
+impl io::Write for Unflushed {
+    fn write(&mut self, buf: &[u8]) -> io::Result<usize> {
+        self.got.extend_from_slice(buf)?;
+        Ok(buf.len())
+    }
+
+    fn flush(&mut self) -> io::Result<()> {
+        self.flushes = self.flushes.saturating_add(1);
+        if self.flushes <= self.interruptions {
+            return Err(io::Error::from(io::ErrorKind::Interrupted));
+        }
+        Ok(())
+    }
+}
+
+#[test]
+fn an_interrupted_flush_is_made_again(rt: HostRuntime) -> Result<(), Fail> {
+    for (capacity, interruptions) in [(0, 1), (64, 1), (64, 1000)] {
+        let mut device = Unflushed {
+            got: Vec::new(rt.alloc()),
+            interruptions,
+            flushes: 0,
+        };
+        let mut output = Output::new(rt.alloc(), capacity, &mut device)?;
+        output.write_all(b"abc")?;
+        output.flush()?;
+        assert_eq!(rt; output.failures.count, 0);
+        drop(output);
+        assert_eq!(rt; device.got.as_slice(), b"abc".as_slice());
+        assert!(rt; device.flushes > interruptions);
+    }
     Ok(())
 }

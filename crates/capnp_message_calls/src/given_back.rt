@@ -1,0 +1,119 @@
+//! What builders give back to their allocators: each segment once, with the words that were used of it.
+use capnp_build::allocator::Allocator;
+use capnp_build::segment_space::SegmentSpace;
+use capnp_frame::Result;
+use capnp_message::builder::Builder;
+use capnp_message::heap_allocator::{AllocationStrategy, HeapAllocator};
+use capnp_wire::text;
+use std::alloc::Global;
+use std::process::Abort;
+use std::test::Fail;
+
+/// A heap that notes of each segment that comes back its words, and how many of them were used.
+#[derive(Drop)]
+struct Noting {
+    heap: HeapAllocator,
+    handed_out: u32,
+    back: Vec<(usize, u32)>,
+}
+
+impl Allocator for Noting {
+    type Segment = Vec<u8>;
+
+    ghost use Rattle.std.specs.Prelude.{⊤, []};
+
+    ghost out = { λ allocator list. ⊤ };
+
+    ghost same = { λ old new. ⊤ };
+
+    fn allocate_segment(&mut self, minimum_size: u32) -> Result<Vec<u8>> {
+        self.handed_out = self.handed_out.saturating_add(1);
+        self.heap.allocate_segment(minimum_size)
+    }
+
+    fn deallocate_segment(&mut self, segment: Vec<u8>, words_used: u32) {
+        let words = segment.bytes().len() / 8;
+        if self.back.push((words, words_used)).is_err() {
+            self.handed_out = 0;
+        }
+        self.heap.deallocate_segment(segment, words_used);
+    }
+
+    ghost keeps = { record { reflexive = λ s. tt; transitive = λ s t u p q. tt } };
+
+    ghost accounts = { λ s. ([], tt) };
+}
+
+// Segments of eight words, or as many as are asked.
+fn noting_heap(alloc: Global) -> Noting {
+    let heap = HeapAllocator::new(alloc)
+        .first_segment_words(8)
+        .allocation_strategy(AllocationStrategy::FixedSize);
+    Noting {
+        heap,
+        handed_out: 0,
+        back: Vec::new(alloc),
+    }
+}
+
+// Five roots, one after the other: of the first segment the root's word and texts of two words and of one
+// are used; then, behind its pad each, a list of five words in another segment, and one of nine in a third;
+// at last another word in the first.
+fn build<A: Allocator>(message: &mut Builder<A>) -> Result<()> {
+    message.set_root::<text::Owned, &str>("Hello, World!")?;
+    message.set_root::<text::Owned, &str>("hello")?;
+    message.initn_root::<capnp_build::primitive_list::Owned<u64>>(5)?;
+    message.initn_root::<capnp_build::primitive_list::Owned<u64>>(9)?;
+    message.set_root::<text::Owned, &str>("hello")
+}
+
+const BACK: [(usize, u32); 3] = [(8, 5), (8, 6), (10, 10)];
+
+fn assert_given_back(rt: &impl Abort, allocator: &Noting, wanted: &[(usize, u32)]) {
+    assert_eq!(rt; allocator.handed_out as usize, wanted.len());
+    assert_eq!(rt; allocator.back.len(), wanted.len());
+    for segment in wanted {
+        assert!(rt; allocator.back.contains(segment), "{segment:?}");
+    }
+}
+
+// A message that is dropped, one that is read and dropped, and one whose allocator is taken.
+#[test]
+fn each_segment_comes_back(rt: HostRuntime) -> std::result::Result<(), Fail> {
+    let mut allocator = noting_heap(rt.alloc());
+    let mut message = Builder::new(rt.alloc(), &mut allocator);
+    build(&mut message)?;
+    drop(message);
+    assert_given_back(&rt, &allocator, &BACK);
+
+    let mut allocator = noting_heap(rt.alloc());
+    let mut message = Builder::new(rt.alloc(), &mut allocator);
+    build(&mut message)?;
+    let reader = message.into_reader();
+    assert_eq!(rt;
+        reader.get_root::<text::Reader<'_>>()?.as_bytes(),
+        b"hello".as_slice()
+    );
+    drop(reader);
+    assert_given_back(&rt, &allocator, &BACK);
+
+    let mut message = Builder::new(rt.alloc(), noting_heap(rt.alloc()));
+    build(&mut message)?;
+    assert_eq!(rt; message.size_in_words(), 21);
+    assert_given_back(&rt, &message.into_allocator(), &BACK);
+    Ok(())
+}
+
+// Of a message of no segments none comes back; where only the root was looked at, its word was used.
+#[test]
+fn little_comes_back(rt: HostRuntime) -> std::result::Result<(), Fail> {
+    let mut allocator = noting_heap(rt.alloc());
+    drop(Builder::new(rt.alloc(), &mut allocator));
+    assert_given_back(&rt, &allocator, &[]);
+    let mut message = Builder::new(rt.alloc(), &mut allocator);
+    let root = message.get_root::<capnp_build::any_pointer::Owned>()?;
+    assert!(rt; root.is_null());
+    drop(message);
+    assert_given_back(&rt, &allocator, &[(8, 1)]);
+    Ok(())
+}

@@ -1,0 +1,131 @@
+//! Traversal limits of many words: what views and sizes count of them.
+use capnp_calls::refusals::refusal;
+use capnp_frame::Result;
+use capnp_frame::message::{ReaderOptions, SegmentArray};
+use capnp_message::reader::Reader;
+use capnp_wire::any_struct::StructReader;
+use capnp_wire::canonical::canonical_size;
+use capnp_wire::{any_pointer, data, text};
+use std::test::Fail;
+
+fn reader_of<'a>(segments: &'a [&'a [u8]], limit: Option<usize>) -> Reader<SegmentArray<'a>> {
+    let mut options = ReaderOptions::new();
+    options.traversal_limit_in_words(limit);
+    Reader::new(SegmentArray::new(segments), options)
+}
+
+// What is viewed as a text, though it is none.
+fn as_text(reader: &Reader<SegmentArray<'_>>) -> u8 {
+    let view: Result<text::Reader<'_>> = reader.get_root();
+    refusal(view)
+}
+
+// 65,536 elements of no size are charged one word each: a view of the wrong kind counts them, and then
+// there are none left.
+#[test]
+fn as_many_elements_as_the_limit(rt: HostRuntime) {
+    let segments: [&[u8]; 1] = [b"\x01\0\0\0\0\0\x08\0"];
+    for (limit, views) in [
+        (Some(65_535), [20, 20, 20]),
+        (Some(65_536), [22, 20, 20]),
+        (Some(131_071), [22, 20, 20]),
+        (Some(131_072), [22, 22, 20]),
+        (None, [22, 22, 22]),
+    ] {
+        let reader = reader_of(&segments, limit);
+        let found = [as_text(&reader), as_text(&reader), as_text(&reader)];
+        assert_eq!(rt; found, views, "{limit:?}");
+    }
+}
+
+// A struct of three pointers: to 536,870,911 elements of no size, to 6 and to 5. Within 2^32 words are the
+// struct's three, eight times the first list, and once the last.
+#[test]
+fn a_limit_past_four_bytes(rt: HostRuntime) -> std::result::Result<(), Fail> {
+    let segments: [&[u8]; 1] = [
+        b"\0\0\0\0\0\0\x03\0\x09\0\0\0\xf8\xff\xff\xff\x05\0\0\0\x30\0\0\0\x01\0\0\0\x28\0\0\0",
+    ];
+    let reader = reader_of(&segments, Some(1 << 32));
+    let fields: StructReader<'_, SegmentArray<'_>> = reader.get_root()?;
+    for (pointer, wanted) in [
+        (0, 22),
+        (0, 22),
+        (0, 22),
+        (0, 22),
+        (0, 22),
+        (0, 22),
+        (0, 22),
+        (0, 22),
+        (0, 20),
+        (1, 20),
+        (2, 22),
+        (2, 20),
+    ] {
+        let view: Result<text::Reader<'_>> = fields.get_pointer(pointer).get_as();
+        assert_eq!(rt; refusal(view), wanted, "pointer {pointer}");
+    }
+    assert!(rt; reader.is_canonical()?);
+    Ok(())
+}
+
+// Segments, a limit, and the words of the canonical form or the refusal's number. A pad is charged, and
+// all words of a list of structs.
+#[rattlefmt::skip]
+const SIZES: [(&[&[u8]], Option<usize>, std::result::Result<u32, u8>); 12] = [
+    (&[b"\x01\0\0\0\x72\0\0\0Hello, World!\0\0\0"], Some(2), Ok(3)),
+    (&[b"\x01\0\0\0\x72\0\0\0Hello, World!\0\0\0"], Some(1), Err(20)),
+    (&[b"\0\0\0\0\0\0\0\0"], Some(0), Ok(1)),
+    (&[b"\x02\0\0\0\x01\0\0\0", b"\x01\0\0\0\x6a\0\0\0hello world!\0\0\0\0"], Some(3), Ok(3)),
+    (&[b"\x02\0\0\0\x01\0\0\0", b"\x01\0\0\0\x6a\0\0\0hello world!\0\0\0\0"], Some(2), Err(20)),
+    (&[b"\x01\0\0\0\0\0\x08\0"], Some(65_536), Ok(1)),
+    (&[b"\x01\0\0\0\0\0\x08\0"], Some(65_535), Err(20)),
+    (&[b"\x01\0\0\0\x17\0\0\0\x04\0\0\0\x01\0\0\0\0\0\0\0\0\0\0\0\0\0\0\0\0\0\0\0"], Some(2), Err(20)),
+    (&[b"\x01\0\0\0\xf8\xff\xff\xff"], Some(536_870_911), Ok(1)),
+    (&[b"\x01\0\0\0\xf8\xff\xff\xff"], Some(536_870_910), Err(20)),
+    (&[b"\0\0\0\0\0\0\x02\0\x04\0\0\0\x01\0\0\0\0\0\0\0\x01\0\0\0\x09\0\0\0\0\0\0\0"], Some(4), Ok(5)),
+    (&[b"\0\0\0\0\0\0\x02\0\x04\0\0\0\x01\0\0\0\0\0\0\0\x01\0\0\0\x09\0\0\0\0\0\0\0"], Some(3), Err(20)),
+];
+
+// Each is asked thrice: a size counts from none, and charges nothing.
+#[test]
+fn sizes_of_canonical_forms(rt: HostRuntime) -> std::result::Result<(), Fail> {
+    for (segments, limit, wanted) in SIZES {
+        let reader = reader_of(segments, limit);
+        for _ in 0..3u32 {
+            let root: any_pointer::Reader<'_, SegmentArray<'_>> = reader.get_root()?;
+            let size = canonical_size(&root).map_err(|error| error.kind.number());
+            assert_eq!(rt; size, wanted, "{segments:?}, {limit:?}");
+        }
+    }
+    Ok(())
+}
+
+// Lists of bytes with no zero at their end, as data and as text.
+#[test]
+fn data_that_ends_in_no_zero(rt: HostRuntime) -> std::result::Result<(), Fail> {
+    let rows: [(&[u8], &[u8]); 4] = [
+        (b"\x01\0\0\0\x1a\0\0\0abc\0\0\0\0\0", b"abc"),
+        (b"\x01\0\0\0\x42\0\0\0abcdefgh", b"abcdefgh"),
+        (
+            b"\x01\0\0\0\x4a\0\0\0abcdefgh\xff\0\0\0\0\0\0\0",
+            b"abcdefgh\xff",
+        ),
+        (b"\x01\0\0\0\x02\0\0\0", b""),
+    ];
+    for (segment, bytes) in rows {
+        let segments = [segment];
+        let reader = reader_of(&segments, None);
+        let found: data::Reader<'_> = reader.get_root()?;
+        assert_eq!(rt; found, bytes);
+        assert_eq!(rt; as_text(&reader), 23);
+        let mut message = capnp::message::Builder::new_default(rt.alloc());
+        message.set_root::<capnp::data::Owned, &[u8]>(bytes)?;
+        assert_eq!(rt;
+            capnp::message::ReaderSegments::get_segment(&message, 0),
+            Some(segment)
+        );
+        let view = message.get_root::<capnp_build::data::Owned>()?;
+        assert_eq!(rt; view.as_bytes(), bytes);
+    }
+    Ok(())
+}

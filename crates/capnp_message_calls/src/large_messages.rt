@@ -1,0 +1,128 @@
+//! Messages of many words through each call that reads, writes and canonicalizes.
+use capnp::message::{
+    Builder, DEFAULT_READER_OPTIONS, HeapAllocator, Reader, ReaderSegments, SegmentArray,
+};
+use capnp::serialize::{self, write_canonical_message};
+use capnp::{Way, any_pointer, data, serialize_packed, transcode};
+use std::alloc::Global;
+use std::process::Abort;
+use std::test::Fail;
+
+// Words of a message of one segment: the root's, and those of its data.
+const SIZES: [u32; 3] = [513, 1025, 4097];
+
+type Source<'a> = any_pointer::Reader<'a, SegmentArray<'a>>;
+
+// The segment of so many words whose root is data of sevens.
+fn segment_of(alloc: Global, words: u32) -> Result<Vec<u8>, Fail> {
+    let count = 8 * (words.max(1) as u64 - 1);
+    let mut segment = vec![in alloc; 7u8; 8 * words.max(1) as usize]?;
+    segment[..8].copy_from_slice(&(1 + (2 << 32) + (count << 35)).to_le_bytes());
+    Ok(segment)
+}
+
+// A message whose first segment has room for all of them.
+fn roomy_message(alloc: Global) -> Builder<HeapAllocator> {
+    Builder::new(
+        alloc,
+        HeapAllocator::new(alloc).first_segment_words(1 << 20),
+    )
+}
+
+#[test]
+fn messages_of_many_words(rt: HostRuntime) -> Result<(), Fail> {
+    for words in SIZES {
+        let segment = segment_of(rt.alloc(), words)?;
+        build_and_write(&rt, &segment)?;
+        read_back(&rt, &segment)?;
+        canonicalize(&rt, &segment)?;
+    }
+    Ok(())
+}
+
+// It is not packed, which takes a build with checks half a minute.
+#[test]
+fn a_message_of_a_million_words(rt: HostRuntime) -> Result<(), Fail> {
+    let segment = segment_of(rt.alloc(), 1 << 20)?;
+    build_and_write(&rt, &segment)?;
+    canonicalize(&rt, &segment)
+}
+
+// What is built is the segment, and its framed text a word and the segment.
+fn build_and_write(rt: &(impl Abort + AllocGlobal), segment: &[u8]) -> Result<(), Fail> {
+    let alloc = rt.alloc();
+    let mut message = roomy_message(alloc);
+    message.set_root::<data::Owned, &[u8]>(segment.get(8..).unwrap_or(&[]))?;
+    assert!(rt; !message.is_empty());
+    let words = segment.len() / 8;
+    assert_eq!(rt; message.size_in_words(), words);
+    assert!(rt; message.get_segments_for_output().get_segment(1).is_none());
+    let mut framed: Vec<u8> = Vec::new(alloc);
+    serialize::write_message(alloc, &mut framed, &message)?;
+    assert_eq!(rt; framed.len() / 8, words.saturating_add(1));
+    assert!(rt; framed.starts_with(&((words as u64) << 32).to_le_bytes()));
+    assert!(rt; framed.ends_with(segment));
+    let text = serialize::write_message_to_words(alloc, &message)?;
+    assert!(rt; text == framed);
+    Ok(())
+}
+
+// A framed text through both formats, and each reader.
+fn read_back(rt: &(impl Abort + AllocGlobal), segment: &[u8]) -> Result<(), Fail> {
+    let alloc = rt.alloc();
+    let options = DEFAULT_READER_OPTIONS;
+    let mut framed = ((segment.len() as u64 / 8) << 32)
+        .to_le_bytes()
+        .to_vec(alloc)?;
+    framed.extend_from_slice(segment)?;
+    let mut source = framed.as_slice();
+    let mut packed: Vec<u8> = Vec::new(alloc);
+    transcode(alloc, Way::Pack, &mut source, &mut packed, options)?;
+    let mut back: Vec<u8> = Vec::new(alloc);
+    transcode(
+        alloc,
+        Way::Unpack,
+        &mut packed.as_slice(),
+        &mut back,
+        options,
+    )?;
+    assert!(rt; back == framed);
+    let read = serialize::read_message(alloc, &mut framed.as_slice(), options)?;
+    assert_eq!(rt; read.get_segments().get_segment(0), Some(segment));
+    let read = serialize_packed::read_message(alloc, &mut packed.as_slice(), options)?;
+    assert_eq!(rt; read.get_segments().get_segment(0), Some(segment));
+    let mut slice = framed.as_slice();
+    let read = serialize::read_message_from_flat_slice(alloc, &mut slice, options)?;
+    assert_eq!(rt;
+        read.get_root::<data::Reader<'_>>()?,
+        &segment[8.min(segment.len())..]
+    );
+    let read = serialize::read_message_no_alloc(&mut framed.as_slice(), &mut back, options)?;
+    assert_eq!(rt; read.get_segments().get_segment(0), Some(segment));
+    let read = serialize_packed::read_message_no_alloc(&mut packed.as_slice(), &mut back, options)?;
+    assert_eq!(rt; read.get_segments().get_segment(0), Some(segment));
+    Ok(())
+}
+
+// Behind a far pointer the segment's root has the segment as its canonical form, by each call.
+fn canonicalize(rt: &(impl Abort + AllocGlobal), segment: &[u8]) -> Result<(), Fail> {
+    let alloc = rt.alloc();
+    let words = segment.len() / 8;
+    let far: [&[u8]; 2] = [b"\x02\0\0\0\x01\0\0\0", segment];
+    let reader = Reader::new(SegmentArray::new(&far), DEFAULT_READER_OPTIONS);
+    assert!(rt; !reader.is_canonical()?);
+    assert_eq!(rt; reader.canonicalize(alloc)?.len(), words);
+    assert_eq!(rt; reader.canonical_segment(alloc)?.as_slice(), segment);
+    let mut sink: Vec<u8> = Vec::new(alloc);
+    write_canonical_message(alloc, &mut sink, &reader)?;
+    assert!(rt; sink.ends_with(segment));
+    let mut message = roomy_message(alloc);
+    message.set_root::<any_pointer::Owned, Source<'_>>(reader.get_root()?)?;
+    assert_eq!(rt; message.get_segment(0), Some(segment));
+    let mut message = roomy_message(alloc);
+    message.set_root_canonical::<any_pointer::Owned, Source<'_>>(reader.get_root()?)?;
+    assert_eq!(rt; message.get_segment(0), Some(segment));
+    let reader = message.into_reader();
+    assert!(rt; reader.is_canonical()?);
+    Ok(())
+}

@@ -1,0 +1,78 @@
+//! What the traversal limit counts while a message is walked over: views alone, from where they were.
+use capnp::message::{Builder, Reader, ReaderOptions, SegmentArray};
+use capnp::serialize::write_canonical_message;
+use capnp::{Result, any_pointer, text};
+use capnp_calls::refusals::refusal;
+use std::alloc::Global;
+use std::test::Fail;
+
+#[derive(Clone, Copy, Debug)]
+enum Walk {
+    Canonicalize,
+    CanonicalSegment,
+    IsCanonical,
+    TargetSize,
+    WriteCanonical,
+    SetRoot,
+    SetRootCanonical,
+}
+
+const WALKS: [Walk; 7] = [
+    Walk::Canonicalize,
+    Walk::CanonicalSegment,
+    Walk::IsCanonical,
+    Walk::TargetSize,
+    Walk::WriteCanonical,
+    Walk::SetRoot,
+    Walk::SetRootCanonical,
+];
+
+type Source<'a> = any_pointer::Reader<'a, SegmentArray<'a>>;
+
+// Walks over the words of the root's tree, and answers how many.
+fn walk_over(alloc: Global, reader: &Reader<SegmentArray<'_>>, kind: Walk) -> Result<usize> {
+    match kind {
+        Walk::Canonicalize => Ok(reader.canonicalize(alloc)?.len()),
+        Walk::CanonicalSegment => Ok(reader.canonical_segment(alloc)?.len() / 8),
+        Walk::IsCanonical => Ok(if reader.is_canonical()? { 3 } else { 0 }),
+        Walk::TargetSize => {
+            let root: Source<'_> = reader.get_root()?;
+            Ok((root.target_size()?.word_count as usize).saturating_add(1))
+        }
+        Walk::WriteCanonical => {
+            let mut sink: Vec<u8> = Vec::new(alloc);
+            write_canonical_message(alloc, &mut sink, reader)?;
+            Ok((sink.len() / 8).saturating_sub(1))
+        }
+        Walk::SetRoot => {
+            let mut message = Builder::new_default(alloc);
+            message.set_root::<any_pointer::Owned, Source<'_>>(reader.get_root()?)?;
+            Ok(message.size_in_words())
+        }
+        Walk::SetRootCanonical => {
+            let mut message = Builder::new_default(alloc);
+            message.set_root_canonical::<any_pointer::Owned, Source<'_>>(reader.get_root()?)?;
+            Ok(message.size_in_words())
+        }
+    }
+}
+
+// A text of two words, which may be viewed twice within four. A walk counts its own two from none: it
+// charges nothing, gives nothing back, and goes on where all are used.
+#[test]
+fn walks_between_views(rt: HostRuntime) -> std::result::Result<(), Fail> {
+    let segments: [&[u8]; 1] = [b"\x01\0\0\0\x72\0\0\0Hello, World!\0\0\0"];
+    let mut options = ReaderOptions::new();
+    options.traversal_limit_in_words(Some(4));
+    for kind in WALKS {
+        let reader = Reader::new(SegmentArray::new(&segments), options);
+        for view in [0, 0, 20, 20] {
+            for _ in 0..3u32 {
+                assert_eq!(rt; walk_over(rt.alloc(), &reader, kind)?, 3, "{kind:?}");
+            }
+            let text: Result<text::Reader<'_>> = reader.get_root();
+            assert_eq!(rt; refusal(text), view, "{kind:?}");
+        }
+    }
+    Ok(())
+}
