@@ -1,7 +1,7 @@
 //! Devices whose interrupted calls are tried again.
 ghost use Rattle.std.specs.Prelude.{◌≡◌, ◌≢◌, IfErr};
 ghost use Rattle.std.specs.Io.{ReadsAtMost, WritesAtMost};
-ghost use Rattle.std.specs.Io.KnownBytes.{ReadConsumes, WriteAppends};
+ghost use Rattle.std.specs.Io.KnownBytes.{Keeps, ReadConsumes, WriteAppends};
 ghost use Rattle.std.specs.IoError.{error_kind};
 
 use std::io;
@@ -69,7 +69,10 @@ impl<W: Write> Write for Retried<W> {
         Err(io::Error::from(ErrorKind::TimedOut))
     }
 
-    fn flush(&mut self) -> io::Result<()> {
+    fn flush(&mut self) -> io::Result<()>
+        ensures bytes { Keeps (W.contents self.old.device) (W.contents self.new.device) }
+        ensures retried { IfErr result (λ error. error_kind error ≢ ErrorKind.Interrupted) }
+    {
         for _ in 0..MOST_TRIES {
             match self.device.flush() {
                 Ok(()) => return Ok(()),
