@@ -1,5 +1,5 @@
 -- What making the root a new object keeps, from what its steps keep.
-use Rattle.std.proofs.Common.{inl, inr, ℕ, List, Result, Ok, Err, refl, subst, sym}
+use Rattle.std.proofs.Common.{◌≡◌, ◌∙◌, inl, inr, ℕ, List, length, Result, Ok, Err, refl, ap, subst, sym, arith}
 use Rattle.capnp_frame.specs.declared.error.Error.{Error}
 use Rattle.capnp_wire.specs.Tree.{Form, null}
 use Rattle.capnp_build.specs.declared.allocator.Allocator as allocator
@@ -32,6 +32,7 @@ inits_root alloc schema n form old cleared new (Ok done) keeps clear inits told 
       };
       nulled = tt;
       kind = tt;
+      none = λ gone. tt;
       home = λ empty out. tt;
       same = keeps.transitive _ _ _ clear.same told.2.same;
       others = λ others is. told.2.others others (clear.others others is);
@@ -42,6 +43,7 @@ inits_root alloc schema n form old cleared new (Err error) keeps clear inits tol
   placed = tt;
   nulled = still_cleared alloc old cleared new (Err error) keeps (cleared_root alloc old cleared clear) told.2.refused told.2.kept told.2.same told.2.others;
   kind = inr (inr (told.0, (form, inits, told.1), subst (λ (l : List Space). HasNoRoom l told.0) (sym told.2.kept) told.2.kind.0, told.2.kind.1));
+  none = λ gone. let l : length cleared.spaces ≡ 0 = ap length (sym told.2.kept ∙ gone) in absurd (omega (arith, l, clear.there));
   home = λ empty out taken. absurd (home_alone alloc old cleared told.0 clear told.1.few told.2.kind.0 (told.2.taken taken) empty out);
   same = keeps.transitive _ _ _ clear.same told.2.same;
   others = λ others is. told.2.others others (clear.others others is);
@@ -58,6 +60,7 @@ inits_null alloc schema n old new clear inits =
       placed = record { cleared = new; is_cleared = cleared_root alloc old new clear; block = inl refl; granted = still_granted alloc old new new.spaces clear refl; zero = clear.zero };
       nulled = tt;
       kind = tt;
+      none = λ gone. tt;
       home = λ empty out. tt;
       same = clear.same;
       others = clear.others;

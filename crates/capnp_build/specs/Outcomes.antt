@@ -26,9 +26,9 @@ abbrev pub HasRoomFirst : {A S : Type 0} → allocator.Ghosts A S → Built A �
 HasRoomFirst alloc old words = ((0 < length old.spaces) × (words ≤ room_of (space_at old.spaces 0)))
     ⊎ ((old.spaces ≡ []) × ((most : ℕ) × alloc.grants old.allocator 1 most × (words < most)))
 
--- as the first action, over an allocator that has nothing out, a call is not refused by SegmentTaken, but for another cause
-abbrev pub IsAtHome : {A S : Type 0} → allocator.Ghosts A S → (ErrorKind → Type 0) → Built A → Result (Unit {0}) Error → Type 0
-IsAtHome alloc refuses old result = old.spaces ≡ [] → alloc.out old.allocator [] → IfErr result (λ error. error.kind ≡ SegmentTaken → refuses error.kind)
+-- as the first action, over an allocator that has nothing out, a call is not refused by SegmentTaken, but where `refuses` says so
+abbrev pub NotTakenAtHome : {A S : Type 0} → allocator.Ghosts A S → (ErrorKind → Type 0) → Built A → Result (Unit {0}) Error → Type 0
+NotTakenAtHome alloc refuses old result = old.spaces ≡ [] → alloc.out old.allocator [] → IfErr result (λ error. error.kind ≡ SegmentTaken → refuses error.kind)
 
 -- which refusal of a value in canonical form comes once the old root is cleared: the lines are tested in this order
 abbrev pub RefusesCanonical : (Trees → Type 0) → (ErrorKind → Type 0) → List Space → ErrorKind → Type 0
@@ -55,9 +55,11 @@ pub record SetsRoot {A S : Type 0} (alloc : allocator.Ghosts A S) (has_tree : Tr
       ⊎ IsCrowded (HasWords has_tree false) new.spaces error.kind)
   -- the first segment is asked for before the value is measured
   pub none : new.spaces ≡ [] → IfErr result (λ error. LacksFirst old.spaces error.kind)
+  -- what `measure` fails with is answered
   pub exact : (kind : ErrorKind) → LacksWords has_tree refuses false kind → IsErrAnd result (λ error. (error.kind ≡ kind) ⊎ LacksFirst old.spaces error.kind)
+  -- a value is set where the first segment has room
   pub fits : (words : ℕ) → HasWords has_tree false words → HasRoomFirst alloc old words → IsOk result
-  pub home : IsAtHome alloc (LacksWords has_tree refuses false) old result
+  pub home : NotTakenAtHome alloc (LacksWords has_tree refuses false) old result
   pub same : alloc.same old.allocator new.allocator
   -- what else the allocator has out stays out
   pub others : KeepsOthers alloc.out (held_of old) (held_of new)
@@ -74,12 +76,15 @@ pub record SetsRootCanonical {A S : Type 0} (alloc : allocator.Ghosts A S) (has_
   pub whole : old.spaces ≡ [] → OnOk result (IsWhole has_tree true new.spaces)
   -- after a failure the root is null
   pub nulled : OnErr result (IsCleared alloc old new)
-  -- it fails as the allocator fails to hand out the first segment, and then by the first line that holds
+  -- it fails as the allocator fails to hand out the first segment; once that is there, by the first line that holds
   pub kind : IfErr result (λ error. ((new.spaces ≡ []) × LacksFirst old.spaces error.kind) ⊎ RefusesCanonical has_tree refuses new.spaces error.kind)
+  -- where there was a segment, the first line that holds is answered
   pub exact : (kind : ErrorKind) → RefusesCanonical has_tree refuses old.spaces kind → IsErrAnd result (λ error. error.kind ≡ kind)
+  -- what `measure` fails with is answered, once the first segment is there
   pub lacks : old.spaces ≡ [] → (kind : ErrorKind) → LacksWords has_tree refuses true kind → IsErrAnd result (λ error. (error.kind ≡ kind) ⊎ LacksFirst old.spaces error.kind)
+  -- a value is set where the one segment has room
   pub fits : length old.spaces ≤ 1 → (words : ℕ) → HasWords has_tree true words → HasRoomFirst alloc old words → IsOk result
-  pub home : IsAtHome alloc (LacksWords has_tree refuses true) old result
+  pub home : NotTakenAtHome alloc (LacksWords has_tree refuses true) old result
   pub same : alloc.same old.allocator new.allocator
   -- what else the allocator has out stays out
   pub others : KeepsOthers alloc.out (held_of old) (held_of new)
@@ -99,7 +104,9 @@ pub record InitsRoot {A S K : Type 0} (alloc : allocator.Ghosts A S) (schema : o
   -- has room
   pub kind : IfErr result (λ error. schema.refuses n error.kind ⊎ LacksFirst old.spaces error.kind
       ⊎ IsCrowded (InitWords schema.inits n) new.spaces error.kind)
-  pub home : IsAtHome alloc (schema.refuses n) old result
+  -- the first segment is asked for before the type is
+  pub none : new.spaces ≡ [] → IfErr result (λ error. LacksFirst old.spaces error.kind)
+  pub home : NotTakenAtHome alloc (schema.refuses n) old result
   pub same : alloc.same old.allocator new.allocator
   -- what else the allocator has out stays out
   pub others : KeepsOthers alloc.out (held_of old) (held_of new)
@@ -123,7 +130,7 @@ pub record ClearsRoot {A S : Type 0} (alloc : allocator.Ghosts A S) (old new : B
   pub fresh : old.spaces ≡ [] → OnOk result (HasRootAlone new.spaces)
   -- where it has to be granted, the first segment is, with so many words
   pub granted : old.spaces ≡ [] → (most : ℕ) → alloc.grants old.allocator 1 most → IsOk result × ((space_at new.spaces 0).size / 8 ≡ most)
-  pub home : IsAtHome alloc (λ kind. ⊥) old result
+  pub home : NotTakenAtHome alloc (λ kind. ⊥) old result
 
 -- What making sure of a root keeps: where there is no segment, a null one stands in a new segment afterwards.
 pub record EnsuresRoot {A S : Type 0} (alloc : allocator.Ghosts A S) (old new : Built A) (result : Result (Unit {0}) Error) : Type 0 where
@@ -132,7 +139,7 @@ pub record EnsuresRoot {A S : Type 0} (alloc : allocator.Ghosts A S) (old new : 
   pub looked : IsLookedAt alloc old new
   -- it fails as the allocator fails to hand out the first segment
   pub kind : IfErr result (λ error. LacksFirst old.spaces error.kind)
-  pub home : IsAtHome alloc (λ kind. ⊥) old result
+  pub home : NotTakenAtHome alloc (λ kind. ⊥) old result
   -- what else the allocator has out stays out
   pub others : KeepsOthers alloc.out (held_of old) (held_of new)
 
@@ -144,7 +151,7 @@ pub record LooksAtRoot {A S K : Type 0} (alloc : allocator.Ghosts A S) (schema :
   pub looked : IsLookedAt alloc old new
   -- it fails as the allocator fails to hand out the first segment, or as the type declines the root
   pub kind : IfErr result (λ error. LacksFirst old.spaces error.kind ⊎ DeclinesRoot schema.declines old.spaces error.kind)
-  pub home : IsAtHome alloc (DeclinesRoot schema.declines old.spaces) old result
+  pub home : NotTakenAtHome alloc (DeclinesRoot schema.declines old.spaces) old result
   -- what else the allocator has out stays out
   pub others : KeepsOthers alloc.out (held_of old) (held_of new)
 

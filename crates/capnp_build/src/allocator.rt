@@ -26,7 +26,8 @@ pub trait Allocator: Drop {
     ghost grants: { Self → ℕ → ℕ → Type 0 };
 
     /// Hands out a segment of at least so many words and fewer than 2^32, all zero. It is refused by
-    /// `OutOfMemory`, `AllocationTooLarge` with the words asked, or `SegmentTaken` alone.
+    /// `OutOfMemory`, `AllocationTooLarge` with the words asked, or `SegmentTaken` alone, by the last only
+    /// while a segment is out that is large enough.
     fn allocate_segment(&mut self, minimum_size: u32) -> Result<Self::Segment>
         ensures { HandsOut out same grants Self.Segment.content Self.Segment.is_lent
             minimum_size self.old self.new result };

@@ -9,7 +9,7 @@ ghost use Rattle.capnp_wire.specs.Tree.{Form, Trees, none, tree, count};
 ghost use Rattle.capnp_wire.specs.Reached.{At, root};
 ghost use Rattle.capnp_wire.specs.Layout.{pointer};
 ghost use Rattle.capnp_wire.specs.Readers.{pointer_of, unlimited_root};
-ghost use Rattle.capnp_build.specs.Outcomes.{ClearsRoot, EnsuresRoot, IsAtHome, IsNewMessage, GivesBack};
+ghost use Rattle.capnp_build.specs.Outcomes.{ClearsRoot, EnsuresRoot, NotTakenAtHome, IsNewMessage, GivesBack};
 ghost use Rattle.capnp_build.specs.Blocks.{LeavesNull};
 
 use crate::allocator::Allocator;
@@ -71,7 +71,7 @@ impl<A: Allocator> BuilderArena<A> {
         ensures fresh { self.old.spaces ≡ [] → OnOk result (HasRootAlone self.new.spaces) }
         ensures granted { self.old.spaces ≡ [] → (most : ℕ) → A.grants self.old.allocator 1 most →
             IsOk result × ((space_at self.new.spaces 0).size / 8 ≡ most) }
-        ensures home { IsAtHome A.Allocator (λ kind. ⊥) self.old result }
+        ensures home { NotTakenAtHome A.Allocator (λ kind. ⊥) self.old result }
     {
         if self.segments.len() == 0 {
             self.spot = None;
