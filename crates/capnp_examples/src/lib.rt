@@ -9,6 +9,8 @@ mod callers;
 #[cfg(test)]
 mod examples;
 #[cfg(test)]
+mod long_inputs;
+#[cfg(test)]
 mod other_options;
 #[cfg(test)]
 mod refusals;

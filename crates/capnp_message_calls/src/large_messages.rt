@@ -14,10 +14,12 @@ const SIZES: [u32; 3] = [513, 1025, 4097];
 type Source<'a> = any_pointer::Reader<'a, SegmentArray<'a>>;
 
 // The segment of so many words whose root is data of sevens.
-fn segment_of(alloc: Global, words: u32) -> Result<Vec<u8>, Fail> {
-    let count = 8 * (words.max(1) as u64 - 1);
-    let mut segment = vec![in alloc; 7u8; 8 * words.max(1) as usize]?;
-    segment[..8].copy_from_slice(&(1 + (2 << 32) + (count << 35)).to_le_bytes());
+fn segment_of(rt: &(impl Abort + AllocGlobal), words: u32) -> Result<Vec<u8>, Fail> {
+    assert!(rt; 0 < words && words <= 1 << 20);
+    let count = 8 * (words - 1);
+    let mut segment = vec![in rt.alloc(); 7u8; 8 * words as usize]?;
+    segment[..4].copy_from_slice(&[1, 0, 0, 0]);
+    segment[4..8].copy_from_slice(&(8 * count + 2).to_le_bytes());
     Ok(segment)
 }
 
@@ -32,7 +34,7 @@ fn roomy_message(alloc: Global) -> Builder<HeapAllocator> {
 #[test]
 fn messages_of_many_words(rt: HostRuntime) -> Result<(), Fail> {
     for words in SIZES {
-        let segment = segment_of(rt.alloc(), words)?;
+        let segment = segment_of(&rt, words)?;
         build_and_write(&rt, &segment)?;
         read_back(&rt, &segment)?;
         canonicalize(&rt, &segment)?;
@@ -43,7 +45,7 @@ fn messages_of_many_words(rt: HostRuntime) -> Result<(), Fail> {
 // It is not packed, which takes a build with checks half a minute.
 #[test]
 fn a_message_of_a_million_words(rt: HostRuntime) -> Result<(), Fail> {
-    let segment = segment_of(rt.alloc(), 1 << 20)?;
+    let segment = segment_of(&rt, 1 << 20)?;
     build_and_write(&rt, &segment)?;
     canonicalize(&rt, &segment)
 }
@@ -93,10 +95,8 @@ fn read_back(rt: &(impl Abort + AllocGlobal), segment: &[u8]) -> Result<(), Fail
     assert_eq!(rt; read.get_segments().get_segment(0), Some(segment));
     let mut slice = framed.as_slice();
     let read = serialize::read_message_from_flat_slice(alloc, &mut slice, options)?;
-    assert_eq!(rt;
-        read.get_root::<data::Reader<'_>>()?,
-        &segment[8.min(segment.len())..]
-    );
+    let bytes: data::Reader<'_> = read.get_root()?;
+    assert_eq!(rt; Some(bytes), segment.get(8..));
     let read = serialize::read_message_no_alloc(&mut framed.as_slice(), &mut back, options)?;
     assert_eq!(rt; read.get_segments().get_segment(0), Some(segment));
     let read = serialize_packed::read_message_no_alloc(&mut packed.as_slice(), &mut back, options)?;

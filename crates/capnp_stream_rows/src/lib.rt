@@ -23,6 +23,8 @@ mod framed;
 #[cfg(test)]
 mod framed_rows;
 #[cfg(test)]
+mod kept_memory;
+#[cfg(test)]
 mod lent;
 #[cfg(test)]
 mod lent_roots;
