@@ -26,6 +26,8 @@ impl Allocator for Noting {
 
     ghost same = { λ old new. ⊤ };
 
+    ghost grants = { λ allocator asked words. ⊥ };
+
     fn allocate_segment(&mut self, minimum_size: u32) -> Result<Vec<u8>> {
         self.handed_out = self.handed_out.saturating_add(1);
         self.heap.allocate_segment(minimum_size)
