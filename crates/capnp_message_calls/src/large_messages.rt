@@ -42,12 +42,15 @@ fn messages_of_many_words(rt: HostRuntime) -> Result<(), Fail> {
     Ok(())
 }
 
-// It is not packed, which takes a build with checks half a minute.
+// Of 2^20 words by themselves, for the minute that a test has in a build with checks.
 #[test]
 fn a_message_of_a_million_words(rt: HostRuntime) -> Result<(), Fail> {
-    let segment = segment_of(&rt, 1 << 20)?;
-    build_and_write(&rt, &segment)?;
-    canonicalize(&rt, &segment)
+    build_and_write(&rt, &segment_of(&rt, 1 << 20)?)
+}
+
+#[test]
+fn a_form_of_a_million_words(rt: HostRuntime) -> Result<(), Fail> {
+    canonicalize(&rt, &segment_of(&rt, 1 << 20)?)
 }
 
 // What is built is the segment, and its framed text a word and the segment.
@@ -69,38 +72,81 @@ fn build_and_write(rt: &(impl Abort + AllocGlobal), segment: &[u8]) -> Result<()
     Ok(())
 }
 
-// A framed text through both formats, and each reader.
+// A framed text, and what is packed of it, by each reader.
 fn read_back(rt: &(impl Abort + AllocGlobal), segment: &[u8]) -> Result<(), Fail> {
     let alloc = rt.alloc();
-    let options = DEFAULT_READER_OPTIONS;
     let mut framed = ((segment.len() as u64 / 8) << 32)
         .to_le_bytes()
         .to_vec(alloc)?;
     framed.extend_from_slice(segment)?;
     let mut source = framed.as_slice();
     let mut packed: Vec<u8> = Vec::new(alloc);
-    transcode(alloc, Way::Pack, &mut source, &mut packed, options)?;
-    let mut back: Vec<u8> = Vec::new(alloc);
     transcode(
         alloc,
-        Way::Unpack,
-        &mut packed.as_slice(),
-        &mut back,
-        options,
+        Way::Pack,
+        &mut source,
+        &mut packed,
+        DEFAULT_READER_OPTIONS,
     )?;
-    assert!(rt; back == framed);
-    let read = serialize::read_message(alloc, &mut framed.as_slice(), options)?;
-    assert_eq!(rt; read.get_segments().get_segment(0), Some(segment));
-    let read = serialize_packed::read_message(alloc, &mut packed.as_slice(), options)?;
-    assert_eq!(rt; read.get_segments().get_segment(0), Some(segment));
-    let mut slice = framed.as_slice();
-    let read = serialize::read_message_from_flat_slice(alloc, &mut slice, options)?;
+    assert!(rt; source.is_empty());
+    read_framed(rt, &framed, segment)?;
+    read_slice(rt, &framed, segment)?;
+    read_packed(rt, &packed, segment)?;
+    unpack(rt, &packed, &framed)
+}
+
+fn holds<S: ReaderSegments>(reader: &Reader<S>, segment: &[u8]) -> bool {
+    let segments = reader.get_segments();
+    segments
+        .get_segment(0)
+        .is_some_and(|first| first == segment)
+        && segments.get_segment(1).is_none()
+}
+
+fn read_framed(rt: &(impl Abort + AllocGlobal), framed: &[u8], segment: &[u8]) -> Result<(), Fail> {
+    let mut source = framed;
+    let read = serialize::read_message(rt.alloc(), &mut source, DEFAULT_READER_OPTIONS)?;
+    assert!(rt; holds(&read, segment));
+    let mut room = vec![in rt.alloc(); 0u8; framed.len()]?;
+    let mut source = framed;
+    let read = serialize::read_message_no_alloc(&mut source, &mut room, DEFAULT_READER_OPTIONS)?;
+    assert!(rt; holds(&read, segment));
+    Ok(())
+}
+
+fn read_slice(rt: &(impl Abort + AllocGlobal), framed: &[u8], segment: &[u8]) -> Result<(), Fail> {
+    let mut slice = framed;
+    let options = DEFAULT_READER_OPTIONS;
+    let read = serialize::read_message_from_flat_slice(rt.alloc(), &mut slice, options)?;
+    assert!(rt; holds(&read, segment));
     let bytes: data::Reader<'_> = read.get_root()?;
     assert_eq!(rt; Some(bytes), segment.get(8..));
-    let read = serialize::read_message_no_alloc(&mut framed.as_slice(), &mut back, options)?;
-    assert_eq!(rt; read.get_segments().get_segment(0), Some(segment));
-    let read = serialize_packed::read_message_no_alloc(&mut packed.as_slice(), &mut back, options)?;
-    assert_eq!(rt; read.get_segments().get_segment(0), Some(segment));
+    Ok(())
+}
+
+fn read_packed(rt: &(impl Abort + AllocGlobal), packed: &[u8], segment: &[u8]) -> Result<(), Fail> {
+    let options = DEFAULT_READER_OPTIONS;
+    let mut source = packed;
+    let read = serialize_packed::read_message(rt.alloc(), &mut source, options)?;
+    assert!(rt; holds(&read, segment));
+    let mut room = vec![in rt.alloc(); 0u8; segment.len().saturating_add(8)]?;
+    let mut source = packed;
+    let read = serialize_packed::read_message_no_alloc(&mut source, &mut room, options)?;
+    assert!(rt; holds(&read, segment));
+    Ok(())
+}
+
+fn unpack(rt: &(impl Abort + AllocGlobal), packed: &[u8], framed: &[u8]) -> Result<(), Fail> {
+    let mut source = packed;
+    let mut back: Vec<u8> = Vec::new(rt.alloc());
+    transcode(
+        rt.alloc(),
+        Way::Unpack,
+        &mut source,
+        &mut back,
+        DEFAULT_READER_OPTIONS,
+    )?;
+    assert!(rt; back.as_slice() == framed);
     Ok(())
 }
 
