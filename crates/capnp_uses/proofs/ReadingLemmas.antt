@@ -1,5 +1,5 @@
 -- Readers of bytes at hand answer the one message that stands there.
-use Rattle.std.proofs.Common.{◌≡◌, ◌<◌, ℕ, List, [], Option, Some, None, IfSome, Result, Ok, Err, IsOk, IfOk, IfErr, MatchResult, sym, ap, subst, arith}
+use Rattle.std.proofs.Common.{◌≡◌, ◌<◌, ℕ, List, [], Option, Some, None, Result, Ok, Err, IsOk, IfOk, IfErr, MatchResult, sym, ap, subst, arith}
 use Rattle.std.specs.Prelude.{IfNone, IsSomeAnd, IsOkAnd}
 use Rattle.capnp_frame.specs.declared.serialize.segment_table.Padding.TheVariants.{Zero}
 use Rattle.capnp_frame.specs.declared.error.Error.{Error}
