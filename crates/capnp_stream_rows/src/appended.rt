@@ -191,63 +191,46 @@ fn write_to(rt: &(impl Abort + AllocGlobal), format: Format, fails_at: u64) -> R
     Ok(false)
 }
 
-// In place, and into a buffer that the next message takes, too.
+// In place, and into a buffer.
 #[test]
 fn other_readers_of_the_texts(rt: HostRuntime) -> Result<()> {
     retried!(read_in_slices(rt.alloc(), &rt))?;
-    let mut buffer = [0; 40];
-    for messages in 0..3 {
-        let mut framed = FRAMED;
-        let mut packed = PACKED;
-        for segments in &[FLATTEN, TWO, EMPTY][..messages] {
-            let _ = serialize::read_message_from_flat_slice_no_alloc(
-                &mut framed,
-                DEFAULT_READER_OPTIONS,
-            )?;
-            let read = serialize_packed::read_message_no_alloc(
-                &mut packed,
-                &mut buffer,
-                DEFAULT_READER_OPTIONS,
-            )?;
-            assert!(rt; has_segments(read.get_segments(), segments));
-        }
-        read_next(
-            &rt,
-            framed,
-            packed,
-            &mut buffer,
-            [FLATTEN, TWO, EMPTY][messages],
-        )?;
+    let mut framed = FRAMED;
+    let mut packed = PACKED;
+    for segments in [FLATTEN, TWO, EMPTY] {
+        framed = read_framed(&rt, framed, segments)?;
+        packed = read_packed(&rt, packed, segments)?;
     }
+    assert!(rt; framed.is_empty() && packed.is_empty());
     Ok(())
 }
 
-// The four readers into a buffer, of the next message of each format.
-fn read_next(
-    rt: &impl Abort,
-    framed: &[u8],
-    packed: &[u8],
-    buffer: &mut [u8],
-    segments: &[&[u8]],
-) -> Result<()> {
+// The next framed message by both readers into a buffer, and what is left behind it.
+fn read_framed<'a>(rt: &impl Abort, text: &'a [u8], segments: &[&[u8]]) -> Result<&'a [u8]> {
     let options = DEFAULT_READER_OPTIONS;
-    let mut source = framed;
-    let read = serialize::read_message_no_alloc(&mut source, buffer, options)?;
+    let mut buffer = [0; 40];
+    let mut source = text;
+    let read = serialize::read_message_no_alloc(&mut source, &mut buffer, options)?;
     assert!(rt; has_segments(read.get_segments(), segments));
-    let left = source.len();
-    let mut source = framed;
-    let read = serialize::try_read_message_no_alloc(&mut source, buffer, options)?;
+    let mut again = text;
+    let read = serialize::try_read_message_no_alloc(&mut again, &mut buffer, options)?;
     assert!(rt; read.is_some_and(|read| has_segments(read.get_segments(), segments)));
-    assert_eq!(rt; source.len(), left);
-    let mut source = packed;
-    let read = serialize_packed::read_message_no_alloc(&mut source, buffer, options)?;
+    assert_eq!(rt; again.len(), source.len());
+    Ok(source)
+}
+
+// The same of the next packed one.
+fn read_packed<'a>(rt: &impl Abort, text: &'a [u8], segments: &[&[u8]]) -> Result<&'a [u8]> {
+    let options = DEFAULT_READER_OPTIONS;
+    let mut buffer = [0; 40];
+    let mut source = text;
+    let read = serialize_packed::read_message_no_alloc(&mut source, &mut buffer, options)?;
     assert!(rt; has_segments(read.get_segments(), segments));
-    let left = source.len();
-    let mut source = packed;
-    let read = serialize_packed::try_read_message_no_alloc(&mut source, buffer, options)?;
+    let mut again = text;
+    let read = serialize_packed::try_read_message_no_alloc(&mut again, &mut buffer, options)?;
     assert!(rt; read.is_some_and(|read| has_segments(read.get_segments(), segments)));
-    assert_eq!(rt; source.len(), left);
-    Ok(())
+    assert_eq!(rt; again.len(), source.len());
+    Ok(source)
 }
 
 // Both readers of a slice, message by message.
