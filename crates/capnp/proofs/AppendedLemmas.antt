@@ -7,13 +7,14 @@ use Rattle.std.specs.Option.{option_map}
 use Rattle.capnp_frame.specs.declared.serialize.segment_table.Padding.{Padding}
 use Rattle.capnp_frame.specs.declared.error.ErrorKind.{ErrorKind}
 use Rattle.capnp_frame.specs.declared.error.ErrorKind.TheVariants.{DeviceFailed, OutOfMemory}
-use Rattle.capnp_frame.specs.Sink.{Adds}
+use Rattle.capnp_frame.specs.Sink.{Adds, ByKind}
 use Rattle.capnp_frame.specs.Frame.{IsFrame}
 use Rattle.capnp_frame.specs.Limits.{KeepsLimit}
 use Rattle.capnp_frame.specs.Message.{lengths}
-use Rattle.capnp_frame.specs.Source.{Giving, Refusing, IfKnown}
+use Rattle.capnp_frame.specs.Source.{Giving, Refusing, IfKnown, Fails}
 use Rattle.capnp_frame.specs.Texts.{Grammar, BeginsWith, AreTexts}
 use Rattle.capnp_frame.specs.Writing.{IsWritable, HasFew, RefusesMany}
+use Rattle.capnp_frame.proofs.AskLemmas.{never_fails}
 use Rattle.capnp_frame.proofs.SourceLemmas.{IfKnown-join, IfKnown-refl}
 use Rattle.capnp_frame.proofs.FrameLemmas.{frame_text_is}
 use Rattle.capnp_frame.proofs.SizeLemmas.{HasTable-writable}
@@ -23,7 +24,8 @@ use Rattle.capnp_pack.proofs.PackedFrameLemmas.{packed_text_is}
 use Rattle.capnp.specs.declared.streams.Format.{Format}
 use Rattle.capnp.specs.declared.streams.Format.TheVariants.{Framed, Packed}
 use Rattle.capnp.specs.Streams.{grammar_of, StandsNext, IsStream}
-use Rattle.capnp.specs.Written.{IsTextOf, AppendsEach, RefusesManyOf}
+use Rattle.capnp.specs.Headline.{IsFault}
+use Rattle.capnp.specs.Written.{IsTextOf, AppendsEach, RefusesManyOf, RefusesAppending}
 use Rattle.capnp.proofs.RunLemmas.{format_lawful, format_requested, format_parts}
 use Rattle.capnp.proofs.ReaderLemmas.{nothing_begins_known}
 use Rattle.capnp.proofs.WriterLemmas.{IsWithin-written}
@@ -66,6 +68,12 @@ accepted_later rule format limit F ns count (Some raw) None few had accepted = a
 accepted_later rule format limit F ns count (Some raw) (Some left) few had accepted = λ ms rest texts counted.
     let next = texts_further (format_parts rule format limit) ns ms raw left rest had texts (omega arith) in
     accepted next.0 next.1 next.2
+
+-- and want of memory is a fault
+pub accepted_at_memory : (rule : Padding) (format : Format) (limit : Option ℕ) (count : ℕ) (kind : ErrorKind) (old : Option (List ℕ)) → kind ≡ OutOfMemory
+    → IfSome old (λ raw. (ms : List (List (List ℕ))) (rest : List ℕ) → AreTexts (grammar_of rule format) limit ms raw rest → length ms ≡ count → IsFault kind)
+accepted_at_memory rule format limit count kind None memory = tt
+accepted_at_memory rule format limit count kind (Some raw) memory = λ ms rest texts counted. inr memory
 
 -- as many texts are the same messages
 texts_same : {IsText : Grammar} {rule : Padding} {gives : Giving} {refuses : Refusing} {limit : Option ℕ}
@@ -175,6 +183,13 @@ pub none_left : {X : Type 0} (rule : Padding) (format : Format) (limit : Option 
     → IfSome (option_map segments end) (λ m. IfKnown (Some left) new (StandsNext rule format limit m)) → end ≡ None
 none_left rule format limit segments None left new none begins = refl
 none_left rule format limit segments (Some x) left new none begins = absurd (nothing_begins_known rule (format_lawful format) (format_requested rule format) limit (segments x) (Some left) new (ap Some none) begins)
+
+-- what is appended to a vector fails for too many segments, or for want of memory
+pub appending_memory : {M : Type 0} (kind : ErrorKind) → M ⊎ RefusesAppending (ByKind OutOfMemory) kind → (kind ≡ DeviceFailed → Fails 0 0) → M ⊎ (kind ≡ OutOfMemory)
+appending_memory kind (inl many) failed = inl many
+appending_memory kind (inr (inl device)) failed = absurd (never_fails kind failed device)
+appending_memory kind (inr (inr (inl memory))) failed = inr memory
+appending_memory kind (inr (inr (inr (piece, memory)))) failed = inr memory
 
 pub memory_only : (kind : ErrorKind) → (kind ≡ DeviceFailed) ⊎ (kind ≡ OutOfMemory) → (kind ≡ DeviceFailed → min (0 + 1) (2 ^ 64 - 1) ≤ 0) → kind ≡ OutOfMemory
 memory_only kind (inl device) failed = let fails = failed device in absurd (omega arith)

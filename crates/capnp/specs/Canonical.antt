@@ -1,14 +1,21 @@
 -- What is written of the canonical form of a message (src/serialize/canonical.rt).
-use Rattle.std.specs.Prelude.{◌⊎◌, ℕ, List, [], ◌∷◌}
+use Rattle.std.specs.Prelude.{◌≡◌, ◌⊎◌, ℕ, List, [], ◌∷◌, Result, OnOk}
+use Rattle.std.specs.Result.{IsErrAnd}
+use Rattle.capnp_frame.specs.declared.error.Error.{Error}
 use Rattle.capnp_frame.specs.declared.error.ErrorKind.{ErrorKind}
+use Rattle.capnp_frame.specs.declared.error.ErrorKind.TheVariants.{OutOfMemory}
+use Rattle.capnp_frame.specs.declared.io.Write.{Ghosts}
+use Rattle.capnp_frame.specs.Asking.{FailsOr}
 use Rattle.capnp_frame.specs.Message.{IsWholeWords}
-use Rattle.capnp_frame.specs.Sink.{Appending, AppendsAll, Declining, DeclinesSome}
+use Rattle.capnp_frame.specs.Sink.{Appending, AppendsAll, Declining, DeclinesSome, Adds}
+use Rattle.capnp_frame.specs.Source.{IfKnown}
+use Rattle.capnp_frame.specs.Writers.{WritesTo}
 use Rattle.capnp_frame.specs.Writing.{pieces}
 use Rattle.capnp_wire.specs.Pointer.{words_of}
 use Rattle.capnp_wire.specs.Views.{Pointer}
 use Rattle.capnp_wire.specs.Values.{IsCanonicalForm}
 use Rattle.capnp_message.specs.Canonical.{LacksForm}
-use Rattle.capnp.specs.Written.{IsFrameText}
+use Rattle.capnp.specs.Written.{IsPlainSink, IsFrameText}
 
 -- the one segment of the canonical form of a root
 pub record IsForm (pointer : Pointer) (form : List ℕ) : Type 0 where
@@ -30,3 +37,15 @@ BreaksForm pointer refuses kind = (form : List ℕ) × IsForm pointer form × De
 -- why it is not written, beside the device and want of memory: there is no such form, or the sink refuses a piece of it
 abbrev pub DeclinesForm : Pointer → Declining → ErrorKind → Type 0
 DeclinesForm pointer refuses kind = LacksForm pointer kind ⊎ BreaksForm pointer refuses kind
+
+-- What a call does to its sink that writes the canonical form of this root. `sink` is what is seen of the sink (the members of the trait
+-- Write), `old` and `new` are the sink before the call and after it.
+pub record WritesForm {S X : Type 0} (sink : Ghosts S) (old new : S) (pointer : Pointer) (result : Result X Error) : Type 0 where
+  -- a plain sink gets the framed text of the form
+  pub text : IsPlainSink sink.appends → OnOk result (IfKnown (sink.written old) (sink.written new) (Adds (IsCanonicalText pointer)))
+  -- where there is no form, the call says why, and the sink is as it was
+  pub lacks : (kind : ErrorKind) → LacksForm pointer kind → IsErrAnd result (λ error. error.kind ≡ kind) × (new ≡ old)
+  -- every sink gets what the pieces of the form add
+  pub writes : WritesTo sink old new (AppendsForm pointer sink.appends) (λ kind. (kind ≡ OutOfMemory) ⊎ DeclinesForm pointer sink.refuses kind) result
+  -- a failure that isn't the sink's leaves the sink as it was
+  pub untouched : FailsOr result (λ kind. BreaksForm pointer sink.refuses kind ⊎ (new ≡ old))

@@ -9,7 +9,7 @@ ghost use Rattle.capnp_frame.specs.Sink.{Adds, Grows};
 ghost use Rattle.capnp_frame.specs.Texts.{AreTexts};
 ghost use Rattle.capnp_frame.specs.Writing.{IsWritable, HasFew, RefusesMany};
 ghost use Rattle.capnp_frame.specs.Streams.{next_in, message_in, ReadsStream};
-ghost use Rattle.capnp.specs.Appended.{StopsWithin};
+ghost use Rattle.capnp.specs.Appended.{ReadsMessages, ReadsBack};
 ghost use Rattle.capnp.specs.Headline.{IsFault, ReturnsTexts, OrFailsAtEnd};
 ghost use Rattle.capnp.specs.Streams.{grammar_of, rules_of};
 ghost use Rattle.capnp.specs.Written.{IsPlainSink, IsTextOf, AppendsEach, RefusesManyOf, RefusesAppending};
@@ -45,21 +45,9 @@ pub fn write_and_read_back<S: ReaderSegments>(
     requires writable { AllByRecursion IsWritable (map S.segments messages.now) }
     requires size { AllByRecursion (λ m. KeepsLimit (lengths m) options.traversal_limit_in_words)
         (map S.segments messages.now) }
-    // The text is that of the messages; what is read of it are these, and after them is none.
-    ensures written { IfOk result (λ done.
-        AppendsEach (IsTextOf format) (map S.segments messages.now) done.text.items) }
-    ensures read { IfOk result (λ done.
-        AreTexts (grammar_of Padding.Zero format) options.traversal_limit_in_words
-        (map (λ reader. reader.segments) done.readers.items) done.text.items []) }
-    ensures back { IfOk result (λ done.
-        map (λ reader. reader.segments) done.readers.items ≡ map S.segments messages.now) }
-    ensures options { IfOk result (λ done.
-        AllByRecursion (λ reader. reader.options ≡ options) done.readers.items) }
-    ensures end { IfOk result (λ done. done.end ≡ None) }
-    // One with more segments than a reader accepts is not written.
-    ensures few { OnOk result (AllByRecursion HasFew (map S.segments messages.now)) }
-    ensures refused { IfErr result (λ error. RefusesManyOf (map S.segments messages.now) error.kind
-        ⊎ (error.kind ≡ ErrorKind.OutOfMemory)) }
+    ensures { ReadsBack format options (map S.segments messages.now) (λ done. done.text.items)
+        (λ done. done.readers.items) (λ done. done.end)
+        (λ reader. reader.segments) (λ reader. reader.options) result }
 {
     let mut text: Vec<u8> = Vec::new(alloc);
     write_messages(alloc, format, &mut text, messages)?;
@@ -102,25 +90,8 @@ pub fn read_messages<R: BufRead>(
     count: usize,
     options: ReaderOptions,
 ) -> Result<Vec<Reader<OwnedSegments>>>
-    ensures count { IfOk result (λ readers. length readers.items ≡ count) }
-    ensures found { IfOk result (λ readers.
-        IfKnown (R.unread source.old) (R.unread source.new)
-        (AreTexts (grammar_of Padding.Zero format) options.traversal_limit_in_words
-        (map (λ reader. reader.segments) readers.items))) }
-    ensures options { IfOk result (λ readers.
-        AllByRecursion (λ reader. reader.options ≡ options) readers.items) }
-    // Where as many stand, a failure is a fault.
-    ensures accepted { IfErr result (λ error. IfSome (R.unread source.old) (λ raw.
-        (messages : List (List (List ℕ))) (rest : List ℕ) →
-        AreTexts (grammar_of Padding.Zero format) options.traversal_limit_in_words messages raw rest →
-        length messages ≡ count → IsFault error.kind)) }
-    // It fails where the reader of one message does, or for want of memory for the list.
-    ensures stops { IfErr result (λ error. (error.kind ≡ ErrorKind.OutOfMemory)
-        ⊎ StopsWithin R.Read source.old source.new Padding.Zero format
-        options.traversal_limit_in_words count error) }
-    ensures failed { IfErr result (λ error. error.kind ≡ ErrorKind.DeviceFailed →
-        Fails (R.failures source.old) (R.failures source.new)) }
-    ensures advances { Advances R.unread R.failures R.same source.old source.new }
+    ensures { ReadsMessages R.Read source.old source.new format options count
+        (λ readers. readers.items) (λ reader. reader.segments) (λ reader. reader.options) result }
 {
     let mut readers = Vec::new(alloc);
     for index in 0..count {

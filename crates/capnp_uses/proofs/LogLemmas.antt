@@ -41,12 +41,6 @@ appended_log m old new writable few (text, packed, spelled) limit records log si
 pub cut_back : (old new kept : List ℕ) (end : ℕ) → IfKnown (Some old) (Some new) IsFront → end ≡ length old → kept ≡ take end new → kept ≡ old
 cut_back old new kept end (tail, spelled) at is = is ∙ ap (λ k. take k new) at ∙ ap (λ l. take (length old) l) spelled ∙ take-append_seam old tail
 
-pub log_memory : {M : Type 0} (kind : ErrorKind) → M ⊎ RefusesAppending (ByKind OutOfMemory) kind → (kind ≡ DeviceFailed → Fails 0 0) → M ⊎ (kind ≡ OutOfMemory)
-log_memory kind (inl many) failed = inl many
-log_memory kind (inr (inl device)) failed = absurd (never_fails kind failed device)
-log_memory kind (inr (inr (inl memory))) failed = inr memory
-log_memory kind (inr (inr (inr (piece, memory)))) failed = inr memory
-
 -- Reading
 
 none_of : (refusal : Option Error) → kind_of refusal ≡ None → refusal ≡ None

@@ -1,40 +1,47 @@
 -- Each turn reads one more message.
-use Rattle.std.proofs.Common.{◌≡◌, ◌+◌, inr, length, map, arith, ap, ◌∙◌}
+use Rattle.std.proofs.Common.{◌≡◌, ◌+◌, ◌<◌, Err, inl, inr, length, map, arith, ap, sym, ◌∙◌}
 use Rattle.std.proofs.lemmas.List.{length-map, length_push}
 use Rattle.std.proofs.lemmas.Result.{err_from_is_err_and}
-use Rattle.capnp_frame.proofs.SourceLemmas.{Advances-join}
-use Rattle.capnp.specs.Headline.{IsFault}
+use Rattle.capnp_frame.proofs.SourceLemmas.{Advances-join, Fails-join}
 use Rattle.capnp_frame.specs.declared.serialize.segment_table.Padding.TheVariants.{Zero}
-use Rattle.capnp.proofs.AppendedLemmas.{texts_next, accepted_later, AllByRecursion-push}
-use Rattle.capnp.proofs.FormatLemmas.{or_fails_advances}
+use Rattle.capnp_frame.specs.declared.error.ErrorKind.TheVariants.{DeviceFailed, OutOfMemory}
+use Rattle.capnp.specs.Headline.{IsFault}
+use Rattle.capnp.proofs.AppendedLemmas.{texts_next, accepted_later, accepted_at_memory, AllByRecursion-push}
+use Rattle.capnp.proofs.FormatLemmas.{or_fails_advances, or_fails_failed}
 use Rattle.capnp.proofs.appended.read_messages.Goals as goal
 
-pub returns-in_err-reader-clause-accepted : goal.returns-in_err-reader-clause-accepted
-returns-in_err-reader-clause-accepted g c =
+pub returns-in_err-reader : goal.returns-in_err-reader
+returns-in_err-reader g c =
     let p = err_from_is_err_and c.from_residual.result c.from_residual.ensures.1 in
-    rw (p.1, p.2) (accepted_later Zero c.args.format c.args.options.traversal_limit_in_words (IsFault c.in_err-reader.field-0.0.kind)
-    (map (λ reader. reader.segments) c.loop-index.readers.items) c.args.count _ _
-    (omega (arith, length-map c.loop-index.readers.items (λ reader. reader.segments), c.loop-index.invariant.counted, c.loop-index-test.true))
-    c.loop-index.invariant.texts c.in_err-reader.ensures.texts.accepted)
+    let limit = c.args.options.traversal_limit_in_words in
+    let messages = map (λ reader. reader.segments) c.loop-index.readers.items in
+    let reads = c.in_err-reader.ensures.reads in
+    let told = c.loop-index.invariant in
+    let fewer : length messages < c.args.count = omega (arith, length-map c.loop-index.readers.items (λ reader. reader.segments), told.counted, c.loop-index-test.true) in
+    rw (p.1, p.2) (record {
+      counted = tt;
+      found = tt;
+      options_are = tt;
+      accepted = accepted_later Zero c.args.format limit (IsFault c.in_err-reader.field-0.0.kind) messages c.args.count _ _
+          fewer told.texts c.in_err-reader.ensures.texts.accepted;
+      stops = inr (record { between = c.loop-index.source; messages = messages; fewer = fewer; texts = told.texts; next = reads });
+      failed = λ device. Fails-join _ _ _ told.advances.counted (or_fails_failed g.R.Read _ _ _ _ (Err c.in_err-reader.field-0.0) reads device);
+      advances = Advances-join _ _ _ (g.met.R.Read.keeps.transitive _ _ _) told.advances (or_fails_advances g.R.Read _ _ _ _ _ c.read_message.ensures.reads);
+    })
 
-pub returns-in_err-reader-clause-stops : goal.returns-in_err-reader-clause-stops
-returns-in_err-reader-clause-stops g c =
-    let p = err_from_is_err_and c.from_residual.result c.from_residual.ensures.1 in
-    rw (p.1, p.2) (inr (record {
-      between = c.loop-index.source;
-      messages = map (λ reader. reader.segments) c.loop-index.readers.items;
-      fewer = omega (arith, length-map c.loop-index.readers.items (λ reader. reader.segments), c.loop-index.invariant.counted, c.loop-index-test.true);
-      texts = c.loop-index.invariant.texts;
-      next = c.in_err-reader.ensures.reads;
-    }))
-
-pub returns-in_err-reader-clause-advances : goal.returns-in_err-reader-clause-advances
-returns-in_err-reader-clause-advances g c = Advances-join _ _ _ (g.met.R.Read.keeps.transitive _ _ _) c.loop-index.invariant.advances
-    (or_fails_advances g.R.Read _ _ _ _ _ c.read_message.ensures.reads)
-
-pub returns-in_err-push-clause-advances : goal.returns-in_err-push-clause-advances
-returns-in_err-push-clause-advances g c = Advances-join _ _ _ (g.met.R.Read.keeps.transitive _ _ _) c.loop-index.invariant.advances
-    (or_fails_advances g.R.Read _ _ _ _ _ c.read_message.ensures.reads)
+pub returns-in_err-push : goal.returns-in_err-push
+returns-in_err-push g c =
+    let p = err_from_is_err_and c.from_residual-in_err-push.result c.from_residual-in_err-push.ensures.1 in
+    rw p.1 (record {
+      counted = tt;
+      found = tt;
+      options_are = tt;
+      accepted = accepted_at_memory Zero c.args.format c.args.options.traversal_limit_in_words c.args.count p.0.kind _ p.2;
+      stops = inl p.2;
+      failed = λ device. let never : OutOfMemory ≡ DeviceFailed = sym p.2 ∙ device in cc;
+      advances = Advances-join _ _ _ (g.met.R.Read.keeps.transitive _ _ _) c.loop-index.invariant.advances
+          (or_fails_advances g.R.Read _ _ _ _ _ c.read_message.ensures.reads);
+    })
 
 pub loop-index-preserved : goal.loop-index-preserved
 loop-index-preserved g c = record {

@@ -4,65 +4,58 @@ use Rattle.std.proofs.lemmas.List.{length-map}
 use Rattle.std.proofs.lemmas.Result.{err_from_is_err_and}
 use Rattle.capnp_frame.specs.declared.serialize.segment_table.Padding.TheVariants.{Zero}
 use Rattle.capnp.specs.Written.{IsTextOf, AppendsEach}
-use Rattle.capnp.proofs.AppendedLemmas.{appended_alone, read_texts, read_same, none_left, memory_only}
+use Rattle.capnp.proofs.AppendedLemmas.{appended_alone, appending_memory, read_texts, read_same, none_left, memory_only}
 use Rattle.capnp.proofs.appended.write_and_read_back.Goals as goal
 
-pub returns-in_err-readers-clause-refused : goal.returns-in_err-readers-clause-refused
-returns-in_err-readers-clause-refused g c =
+pub returns-in_err-write_messages : goal.returns-in_err-write_messages
+returns-in_err-write_messages g c =
+    let p = err_from_is_err_and c.from_residual.result c.from_residual.ensures.1 in
+    let told = c.in_err-write_messages.ensures in
+    rw (p.1, p.2) (record { written = tt; read = tt; back = tt; options_are = tt; ends = tt; few = tt; refused = appending_memory _ told.refused told.failed })
+
+pub returns-in_err-readers : goal.returns-in_err-readers
+returns-in_err-readers g c =
     let p = err_from_is_err_and c.from_residual-in_err-readers.result c.from_residual-in_err-readers.ensures.1 in
+    let told = c.in_err-readers.ensures in
     let texts = read_texts Zero c.args.format c.args.options.traversal_limit_in_words
     (map g.S.ReaderSegments.segments c.args.messages.now) c.new-text.result.items _ c.deref-source.result.now
     c.new-text.ensures.items c.deref-source.ensures.value c.requires.writable c.in_ok-write_messages.ensures.few
     c.requires.size (c.in_ok-write_messages.ensures.text (λ piece text same. same)) in
-    rw (p.1, p.2) (inr (memory_only c.in_err-readers.field-0.0.kind (c.in_err-readers.ensures.accepted
-    (map g.S.ReaderSegments.segments c.args.messages.now) [] texts
-    (length-map c.args.messages.now g.S.ReaderSegments.segments)) c.in_err-readers.ensures.failed))
+    let memory = memory_only c.in_err-readers.field-0.0.kind (told.accepted (map g.S.ReaderSegments.segments c.args.messages.now) [] texts
+    (length-map c.args.messages.now g.S.ReaderSegments.segments)) told.failed in
+    rw (p.1, p.2) (record { written = tt; read = tt; back = tt; options_are = tt; ends = tt; few = tt; refused = inr memory })
 
-pub returns-in_err-end-clause-refused : goal.returns-in_err-end-clause-refused
-returns-in_err-end-clause-refused g c =
+pub returns-in_err-end : goal.returns-in_err-end
+returns-in_err-end g c =
     let p = err_from_is_err_and c.from_residual-in_err-end.result c.from_residual-in_err-end.ensures.1 in
+    let reads = c.in_err-end.ensures.reads in
     let texts = read_texts Zero c.args.format c.args.options.traversal_limit_in_words
     (map g.S.ReaderSegments.segments c.args.messages.now) c.new-text.result.items _ c.deref-source.result.now
     c.new-text.ensures.items c.deref-source.ensures.value c.requires.writable c.in_ok-write_messages.ensures.few
     c.requires.size (c.in_ok-write_messages.ensures.text (λ piece text same. same)) in
     let same = read_same Zero c.args.format c.args.options.traversal_limit_in_words (λ reader. reader.segments) g.S.ReaderSegments.segments
     c.in_ok-readers.readers.items c.args.messages.now c.deref-source.result.now _ c.in_ok-readers.ensures.found texts
-    c.in_ok-readers.ensures.count in
-    rw (p.1, p.2) (inr (memory_only c.in_err-end.field-0.0.kind (inl (c.in_err-end.ensures.reads.end (ap Some same.1))) c.in_err-end.ensures.reads.failed))
+    c.in_ok-readers.ensures.counted in
+    let memory = memory_only c.in_err-end.field-0.0.kind (inl (reads.end (ap Some same.1))) reads.failed in
+    rw (p.1, p.2) (record { written = tt; read = tt; back = tt; options_are = tt; ends = tt; few = tt; refused = inr memory })
 
-pub returns-clause-written : goal.returns-clause-written
-returns-clause-written g c = appended_alone (AppendsEach (IsTextOf c.args.format) (map g.S.ReaderSegments.segments c.args.messages.now)) c.new-text.result.items _
-    c.new-text.ensures.items (c.in_ok-write_messages.ensures.text (λ piece text same. same))
-
-pub returns-clause-read : goal.returns-clause-read
-returns-clause-read g c =
+pub returns : goal.returns
+returns g c =
     let limit = c.args.options.traversal_limit_in_words in
-    let texts = read_texts Zero c.args.format limit (map g.S.ReaderSegments.segments c.args.messages.now) c.new-text.result.items _ c.deref-source.result.now
-    c.new-text.ensures.items c.deref-source.ensures.value c.requires.writable c.in_ok-write_messages.ensures.few
-    c.requires.size (c.in_ok-write_messages.ensures.text (λ piece text same. same)) in
+    let messages = map g.S.ReaderSegments.segments c.args.messages.now in
+    let wrote = c.in_ok-write_messages.ensures.text (λ piece text same. same) in
+    let texts = read_texts Zero c.args.format limit messages c.new-text.result.items _ c.deref-source.result.now
+    c.new-text.ensures.items c.deref-source.ensures.value c.requires.writable c.in_ok-write_messages.ensures.few c.requires.size wrote in
     let same = read_same Zero c.args.format limit (λ reader. reader.segments) g.S.ReaderSegments.segments
     c.in_ok-readers.readers.items c.args.messages.now c.deref-source.result.now _ c.in_ok-readers.ensures.found texts
-    c.in_ok-readers.ensures.count in
-    rw (← c.deref-source.ensures.value) (rw (← same.0) at texts)
-
-pub returns-clause-back : goal.returns-clause-back
-returns-clause-back g c =
-    let texts = read_texts Zero c.args.format c.args.options.traversal_limit_in_words
-    (map g.S.ReaderSegments.segments c.args.messages.now) c.new-text.result.items _ c.deref-source.result.now
-    c.new-text.ensures.items c.deref-source.ensures.value c.requires.writable c.in_ok-write_messages.ensures.few
-    c.requires.size (c.in_ok-write_messages.ensures.text (λ piece text same. same)) in
-    (read_same Zero c.args.format c.args.options.traversal_limit_in_words (λ reader. reader.segments) g.S.ReaderSegments.segments
-    c.in_ok-readers.readers.items c.args.messages.now c.deref-source.result.now _ c.in_ok-readers.ensures.found texts
-    c.in_ok-readers.ensures.count).0
-
-pub returns-clause-end : goal.returns-clause-end
-returns-clause-end g c =
-    let texts = read_texts Zero c.args.format c.args.options.traversal_limit_in_words
-    (map g.S.ReaderSegments.segments c.args.messages.now) c.new-text.result.items _ c.deref-source.result.now
-    c.new-text.ensures.items c.deref-source.ensures.value c.requires.writable c.in_ok-write_messages.ensures.few
-    c.requires.size (c.in_ok-write_messages.ensures.text (λ piece text same. same)) in
-    let same = read_same Zero c.args.format c.args.options.traversal_limit_in_words (λ reader. reader.segments) g.S.ReaderSegments.segments
-    c.in_ok-readers.readers.items c.args.messages.now c.deref-source.result.now _ c.in_ok-readers.ensures.found texts
-    c.in_ok-readers.ensures.count in
-    none_left Zero c.args.format c.args.options.traversal_limit_in_words (λ reader. reader.segments) c.in_ok-end.end _
-    (Some c.try_read_message.new.source.now) same.1 c.in_ok-end.ensures.texts.found
+    c.in_ok-readers.ensures.counted in
+    record {
+      written = appended_alone (AppendsEach (IsTextOf c.args.format) messages) c.new-text.result.items _ c.new-text.ensures.items wrote;
+      read = rw (← c.deref-source.ensures.value) (rw (← same.0) at texts);
+      back = same.0;
+      options_are = c.in_ok-readers.ensures.options_are;
+      ends = none_left Zero c.args.format limit (λ reader. reader.segments) c.in_ok-end.end _
+          (Some c.try_read_message.new.source.now) same.1 c.in_ok-end.ensures.texts.found;
+      few = c.in_ok-write_messages.ensures.few;
+      refused = tt;
+    }

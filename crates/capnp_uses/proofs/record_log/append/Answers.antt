@@ -2,8 +2,9 @@
 use Rattle.std.proofs.Common.{◌≡◌, length, Err, arith}
 use Rattle.capnp_frame.specs.declared.error.ErrorKind.TheVariants.{OutOfMemory}
 use Rattle.capnp_frame.specs.Sink.{ByKind}
+use Rattle.capnp.proofs.AppendedLemmas.{appending_memory}
 use Rattle.capnp.proofs.PieceLemmas.{packed_appending}
-use Rattle.capnp_uses.proofs.LogLemmas.{appended_log, cut_back, log_memory}
+use Rattle.capnp_uses.proofs.LogLemmas.{appended_log, cut_back}
 use Rattle.capnp_uses.proofs.record_log.append.Goals as goal
 
 pub returns-in-Ok-clause-appended : goal.returns-in-Ok-clause-appended
@@ -18,4 +19,4 @@ returns-in-Err-clause-unchanged g c =
 pub returns-in-Err-clause-refused : goal.returns-in-Err-clause-refused
 returns-in-Err-clause-refused g c =
     let m = g.S.ReaderSegments.segments c.args.message.now in
-    log_memory c.in-Err.error.kind (packed_appending {X = Unit} (ByKind OutOfMemory) m (Err c.in-Err.error) c.requires c.in-Err.ensures.refused) c.in-Err.ensures.failed
+    appending_memory c.in-Err.error.kind (packed_appending {X = Unit} (ByKind OutOfMemory) m (Err c.in-Err.error) c.requires c.in-Err.ensures.refused) c.in-Err.ensures.failed

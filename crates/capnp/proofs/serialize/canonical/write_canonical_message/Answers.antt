@@ -1,21 +1,25 @@
 -- The pieces of the one segment of the form.
-use Rattle.std.proofs.Common.{◌≡◌, ◌∙◌, ℕ, List, ◌∷◌, [], refl, sym, ap, subst}
+use Rattle.std.proofs.Common.{◌≡◌, ◌∙◌, ℕ, List, ◌∷◌, [], Err, inr, refl, sym, ap, subst}
+use Rattle.std.proofs.lemmas.Result.{err_from_is_err_and}
 use Rattle.capnp_frame.specs.Writing.{IsWritable}
 use Rattle.capnp_message.specs.Seen.{root_of}
 use Rattle.capnp.specs.Written.{IsFrameText}
 use Rattle.capnp.specs.Canonical.{IsForm}
 use Rattle.capnp.proofs.WriterLemmas.{frame_text_added, Adds-weaker}
-use Rattle.capnp.proofs.FormLemmas.{one_writable, form_lacking, form_written, form_untouched, refused_on}
+use Rattle.capnp.proofs.FormLemmas.{one_writable, form_lacking, form_written, form_untouched}
 use Rattle.capnp.proofs.serialize.canonical.write_canonical_message.Given as given
 use Rattle.capnp.proofs.serialize.canonical.write_canonical_message.Goals as goal
 
-pub returns-in_err-form-clause-lacks : goal.returns-in_err-form-clause-lacks
-returns-in_err-form-clause-lacks g c = λ kind lacks.
-    (refused_on (λ error. error.kind ≡ kind) _ c.from_residual.ensures.1 (c.in_err-form.ensures.exact kind lacks), refl)
-
-pub returns-in_err-form-clause-writes : goal.returns-in_err-form-clause-writes
-returns-in_err-form-clause-writes g c =
-    form_lacking g.W.Write g.met.W.Write.keeps _ _ _ c.from_residual.result c.from_residual.ensures.1 c.in_err-form.ensures.answer
+pub returns-in_err-form : goal.returns-in_err-form
+returns-in_err-form g c =
+    let p = err_from_is_err_and c.from_residual.result c.from_residual.ensures.1 in
+    let told = c.in_err-form.ensures in
+    rw (p.1, p.2) (record {
+      text = λ plain. tt;
+      lacks = λ kind lacks. (told.exact kind lacks, refl);
+      writes = form_lacking g.W.Write g.met.W.Write.keeps _ _ _ (Err c.in_err-form.field-0.0) refl told.answer;
+      untouched = inr (inr refl);
+    })
 
 -- the form that was answered
 form : (g : given.Over) (c : goal.After-drop-form g) → IsForm (root_of g.S.ReaderSegments.segments c.args.reader.now) c.in_ok-form.form.items
@@ -31,20 +35,18 @@ write_segments-requires g c =
     let segment : c.new.result ≡ c.in_ok-form.form.items ∷ [] = c.new.ensures ∙ ap (λ (b : List ℕ). b ∷ []) c.as_slice.ensures.value in
     subst IsWritable (sym segment) (one_writable _ _ form)
 
-pub returns-clause-text : goal.returns-clause-text
-returns-clause-text g c = λ plain. Adds-weaker c.write_segments.result _ _
-    (λ text p. (
-      c.in_ok-form.form.items,
-      form g c,
-      subst (λ (s : List (List ℕ)). IsFrameText s text) (segment g c) (frame_text_added g.W.Write.appends plain _ text p),
-    ))
-    c.write_segments.ensures.parts.written
-
-pub returns-clause-lacks : goal.returns-clause-lacks
-returns-clause-lacks g c = λ kind lacks. absurd (c.in_ok-form.ensures.exact kind lacks)
-
-pub returns-clause-writes : goal.returns-clause-writes
-returns-clause-writes g c = form_written g.W.Write _ _ _ _ _ c.write_segments.result (form g c) (segment g c) c.write_segments.ensures
-
-pub returns-clause-untouched : goal.returns-clause-untouched
-returns-clause-untouched g c = form_untouched g.W.Write _ _ _ _ _ c.write_segments.result (form g c) (segment g c) c.write_segments.ensures
+pub returns : goal.returns
+returns g c =
+    let wrote = c.write_segments.ensures in
+    record {
+      text = λ plain. Adds-weaker c.write_segments.result _ _
+          (λ text p. (
+            c.in_ok-form.form.items,
+            form g c,
+            subst (λ (s : List (List ℕ)). IsFrameText s text) (segment g c) (frame_text_added g.W.Write.appends plain _ text p),
+          ))
+          wrote.parts.written;
+      lacks = λ kind lacks. absurd (c.in_ok-form.ensures.exact kind lacks);
+      writes = form_written g.W.Write _ _ _ _ _ c.write_segments.result (form g c) (segment g c) wrote;
+      untouched = form_untouched g.W.Write _ _ _ _ _ c.write_segments.result (form g c) (segment g c) wrote;
+    }
