@@ -5,14 +5,12 @@ use Rattle.std.proofs.lemmas.List.{append-nil}
 use Rattle.capnp_frame.specs.declared.serialize.segment_table.Padding.TheVariants.{Zero}
 use Rattle.capnp_frame.specs.declared.error.Error.{Error}
 use Rattle.capnp_frame.specs.declared.error.ErrorKind.{ErrorKind}
-use Rattle.capnp_frame.specs.declared.error.ErrorKind.TheVariants.{DeviceFailed, OutOfMemory}
 use Rattle.capnp_frame.specs.Limits.{KeepsLimit}
 use Rattle.capnp_frame.specs.Message.{lengths}
-use Rattle.capnp_frame.specs.Source.{IfKnown, IsFront, Fails}
-use Rattle.capnp_frame.specs.Sink.{Adds, ByKind}
+use Rattle.capnp_frame.specs.Source.{IfKnown, IsFront}
+use Rattle.capnp_frame.specs.Sink.{Adds}
 use Rattle.capnp_frame.specs.Texts.{Grammar, BeginsWith, AreTexts}
 use Rattle.capnp_frame.specs.Writing.{IsWritable, HasFew}
-use Rattle.capnp_frame.proofs.AskLemmas.{never_fails}
 use Rattle.capnp_frame.proofs.SizeLemmas.{HasTable-writable}
 use Rattle.capnp_frame.proofs.TextLemmas.{texts_part}
 use Rattle.capnp_pack.specs.PackedFrame.{IsPackedFrame}
@@ -21,7 +19,7 @@ use Rattle.capnp_pack.proofs.AllLemmas.{AllByRecursion-append}
 use Rattle.capnp_pack.proofs.PackedFrameLemmas.{packed_requests, packed_text_is}
 use Rattle.capnp.specs.declared.streams.Format.TheVariants.{Packed}
 use Rattle.capnp.specs.Streams.{EndsBy, IsStream}
-use Rattle.capnp.specs.Written.{IsTextOf, IsPackedTextOf, AppendsEach, RefusesAppending}
+use Rattle.capnp.specs.Written.{IsTextOf, IsPackedTextOf, AppendsEach}
 use Rattle.capnp.proofs.AppendedLemmas.{AppendsEach-push, appended_stream}
 use Rattle.capnp.proofs.RunLemmas.{format_parts}
 use Rattle.capnp_uses.specs.Streaming.{kind_of, LacksMemory, IsLog}
