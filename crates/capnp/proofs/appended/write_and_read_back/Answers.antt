@@ -10,8 +10,8 @@ use Rattle.capnp.proofs.appended.write_and_read_back.Goals as goal
 pub returns-in_err-write_messages : goal.returns-in_err-write_messages
 returns-in_err-write_messages g c =
     let p = err_from_is_err_and c.from_residual.result c.from_residual.ensures.1 in
-    let told = c.in_err-write_messages.ensures in
-    rw (p.1, p.2) (record { written = tt; read = tt; back = tt; options_are = tt; ends = tt; few = tt; refused = appending_memory _ told.refused told.failed })
+    let refused = appending_memory _ c.in_err-write_messages.ensures.refused c.in_err-write_messages.ensures.failed in
+    rw (p.1, p.2) (record { written = tt; read = tt; back = tt; options_are = tt; ends = tt; few = tt; refused = refused })
 
 pub returns-in_err-readers : goal.returns-in_err-readers
 returns-in_err-readers g c =
@@ -28,7 +28,6 @@ returns-in_err-readers g c =
 pub returns-in_err-end : goal.returns-in_err-end
 returns-in_err-end g c =
     let p = err_from_is_err_and c.from_residual-in_err-end.result c.from_residual-in_err-end.ensures.1 in
-    let reads = c.in_err-end.ensures.reads in
     let texts = read_texts Zero c.args.format c.args.options.traversal_limit_in_words
     (map g.S.ReaderSegments.segments c.args.messages.now) c.new-text.result.items _ c.deref-source.result.now
     c.new-text.ensures.items c.deref-source.ensures.value c.requires.writable c.in_ok-write_messages.ensures.few
@@ -36,7 +35,7 @@ returns-in_err-end g c =
     let same = read_same Zero c.args.format c.args.options.traversal_limit_in_words (λ reader. reader.segments) g.S.ReaderSegments.segments
     c.in_ok-readers.readers.items c.args.messages.now c.deref-source.result.now _ c.in_ok-readers.ensures.found texts
     c.in_ok-readers.ensures.counted in
-    let memory = memory_only c.in_err-end.field-0.0.kind (inl (reads.end (ap Some same.1))) reads.failed in
+    let memory = memory_only c.in_err-end.field-0.0.kind (inl (c.in_err-end.ensures.reads.end (ap Some same.1))) c.in_err-end.ensures.reads.failed in
     rw (p.1, p.2) (record { written = tt; read = tt; back = tt; options_are = tt; ends = tt; few = tt; refused = inr memory })
 
 pub returns : goal.returns

@@ -1,7 +1,6 @@
 -- Each turn writes one more message, or ends the run.
-use Rattle.std.proofs.Common.{rules, ◌≡◌, refl, inr}
+use Rattle.std.proofs.Common.{rules, refl, inr}
 use Rattle.capnp_frame.proofs.SourceLemmas.{IfKnown-join, Advances-join, Grows-join}
-use Rattle.capnp.specs.Runs.{most_messages}
 use Rattle.capnp.proofs.FormatLemmas.{reading_fault}
 use Rattle.capnp.proofs.RunLemmas.{HasWritten-next, written_next, all_written, most_written, stopped_reading, stopped_at_message, left_as_written, message_faulted}
 use Rattle.capnp.proofs.streams.write_all.Goals as goal
@@ -22,14 +21,14 @@ pub returns-in-Err-clause-advances : goal.returns-in-Err-clause-advances
 returns-in-Err-clause-advances g c = Advances-join _ _ _ (g.met.R.Read.keeps.transitive _ _ _) c.loop-message.invariant.advances c.read_next.ensures.advances
 
 pub returns-in-Err-write_message-clause-written : goal.returns-in-Err-write_message-clause-written
-returns-in-Err-write_message-clause-written g c = stopped_at_message c.args.padding c.args.format c.args.options.traversal_limit_in_words
-    (g.M.MessageWriter.writes c.args.writer.now g.W.Write.appends) (g.M.MessageWriter.declines c.args.writer.now g.W.Write.refuses)
+returns-in-Err-write_message-clause-written g c =
+    let declines = g.M.MessageWriter.declines c.args.writer.now g.W.Write.refuses in
+    let told = c.in-Err-write_message.ensures in
+    stopped_at_message c.args.padding c.args.format c.args.options.traversal_limit_in_words (g.M.MessageWriter.writes c.args.writer.now g.W.Write.appends) declines
     (record { message = c.loop-message.message; error = c.in-Err-write_message.error }) c.in-Ok-Some.segments _ _ _ _ _ _
     (rw c.in-Ok-Some.field-0-is at c.in-Ok-Some.ensures.within) (rw c.in-Ok-Some.field-0-is at c.in-Ok-Some.ensures.whole)
-    c.loop-message.invariant.written (rw c.in-Ok-Some.field-0-is at c.in-Ok-Some.ensures.found)
-    c.in-Err-write_message.ensures.refused c.write_message.ensures.grows.front
-    (left_as_written g.W.Write.written (g.M.MessageWriter.declines c.args.writer.now g.W.Write.refuses) c.loop-message.message c.in-Ok-Some.segments
-    c.in-Err-write_message.error.kind _ _ c.in-Err-write_message.ensures.untouched)
+    c.loop-message.invariant.written (rw c.in-Ok-Some.field-0-is at c.in-Ok-Some.ensures.found) told.refused c.write_message.ensures.grows.front
+    (left_as_written g.W.Write.written declines c.loop-message.message c.in-Ok-Some.segments c.in-Err-write_message.error.kind _ _ told.untouched)
 
 pub returns-in-Err-write_message-clause-kinds : goal.returns-in-Err-write_message-clause-kinds
 returns-in-Err-write_message-clause-kinds g c = inr (message_faulted c.args.options.traversal_limit_in_words
@@ -56,7 +55,5 @@ loop-message-preserved g c = record {
 }
 
 pub returns-clause-written : goal.returns-clause-written
-returns-clause-written g c =
-    let all : c.loop-message.message ≡ most_messages = search rules in
-    most_written c.args.padding c.args.format c.args.options.traversal_limit_in_words
-    (g.M.MessageWriter.writes c.args.writer.now g.W.Write.appends) (g.M.MessageWriter.declines c.args.writer.now g.W.Write.refuses) _ _ _ _ _ c.loop-message.invariant.written all
+returns-clause-written g c = most_written c.args.padding c.args.format c.args.options.traversal_limit_in_words
+    (g.M.MessageWriter.writes c.args.writer.now g.W.Write.appends) (g.M.MessageWriter.declines c.args.writer.now g.W.Write.refuses) _ _ _ _ _ c.loop-message.invariant.written (search rules)
