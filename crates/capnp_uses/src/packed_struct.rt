@@ -1,8 +1,9 @@
 //! A struct that is built, written packed, and read back.
 ghost use Rattle.std.specs.Prelude.{◌≡◌, ◌⊎◌, ◌<◌, ◌∷◌, [], ℕ, List, length, IfOk, IfErr};
 ghost use Rattle.capnp_frame.specs.declared.error.ErrorKind.{ErrorKind};
-ghost use Rattle.capnp_frame.specs.Limits.{IsWithin};
-ghost use Rattle.capnp_frame.specs.Writing.{IsWritable};
+ghost use Rattle.capnp_frame.specs.Limits.{KeepsLimit};
+ghost use Rattle.capnp_frame.specs.Message.{lengths};
+ghost use Rattle.capnp_frame.specs.Writing.{IsWritable, HasFew};
 ghost use Rattle.capnp_wire.specs.Tree.{struct};
 ghost use Rattle.capnp.specs.Written.{IsPackedTextOf, output_of};
 ghost use Rattle.capnp_uses.specs.Reading.{default_limit};
@@ -33,10 +34,12 @@ pub fn a_struct_is_read_packed<A: Allocator>(
     read_packed_words(alloc, &text)
 }
 
-/// The packed text of a message that is built, which has a segment.
+/// The packed text of a message that is built, which has a segment. It has no more than a reader
+/// accepts, so that `read_packed_words` finds it within the limit of words.
 pub fn packed_text<A: Allocator>(alloc: Global, message: &Builder<A>) -> Result<Vec<u8>>
     requires { 0 < length message.now.spaces }
     ensures { IfOk result (λ text. IsWritable (output_of message.now)
+        × HasFew (output_of message.now)
         × IsPackedTextOf (output_of message.now) text.items) }
 {
     let output = message.get_segments_for_output();
@@ -52,8 +55,8 @@ pub fn read_packed_words(alloc: Global, text: &[u8]) -> Result<(u64, u64)>
         IfOk result (λ read. read ≡ (first, second)) }
     // Memory and the traversal limit aside, it succeeds.
     ensures found { (message : List (List ℕ)) (first second : ℕ) → IsWritable message →
-        IsWithin message default_limit → IsPackedTextOf message text.now →
-        HasRoot message (struct (first ∷ second ∷ [])) →
+        HasFew message → KeepsLimit (lengths message) default_limit →
+        IsPackedTextOf message text.now → HasRoot message (struct (first ∷ second ∷ [])) →
         IfErr result (λ error. (error.kind ≡ ErrorKind.OutOfMemory)
         ⊎ (error.kind ≡ ErrorKind.ReadLimitExceeded)) }
 {

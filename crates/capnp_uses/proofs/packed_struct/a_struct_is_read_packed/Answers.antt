@@ -9,5 +9,5 @@ packed_text-requires g c = root_has_segment _ _ _ _ c.in_ok-write_struct.ensures
 pub returns : goal.returns
 returns g c = record {
   back = c.read_packed_words.ensures.words _ c.args.first c.args.second c.in_ok-text.ensures.0
-      (shown_text _ _ _ c.deref.ensures.value c.in_ok-text.ensures.1) c.in_ok-write_struct.ensures.stands;
+      (shown_text _ _ _ c.deref.ensures.value c.in_ok-text.ensures.2) c.in_ok-write_struct.ensures.stands;
 }

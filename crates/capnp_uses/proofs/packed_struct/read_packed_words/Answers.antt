@@ -15,13 +15,13 @@ use Rattle.capnp_uses.proofs.PackedStructLemmas.{packed_read, begins_packed}
 use Rattle.capnp_uses.proofs.packed_struct.read_packed_words.Goals as goal
 
 pub returns-in_err-message-clause-found : goal.returns-in_err-message-clause-found
-returns-in_err-message-clause-found c message first second writable within packed stands =
+returns-in_err-message-clause-found c message first second writable few size packed stands =
     let p = err_from_is_err_and c.from_residual.result c.from_residual.ensures.1 in
     let failed = elim (c.in_err-message.ensures.reads) as (λ reads. c.in_err-message.field-0.0.kind ≡ DeviceFailed → Fails 0 0) [ inl reads ↦ reads.failed | inr (end, reads) ↦ λ device. cc ] in
-    rw (p.1, p.2) (inl (memory_only _ (c.in_err-message.ensures.texts.accepted message [] (begins_packed default_limit message _ writable within packed)) failed))
+    rw (p.1, p.2) (inl (memory_only _ (c.in_err-message.ensures.texts.accepted message [] (begins_packed default_limit message _ writable few size packed)) failed))
 
 pub returns-in_err-fields-clause-found : goal.returns-in_err-fields-clause-found
-returns-in_err-fields-clause-found c message first second writable within packed stands =
+returns-in_err-fields-clause-found c message first second writable few size packed stands =
     let reader = c.in_ok-message.message in
     let same = packed_read default_limit reader.segments message c.args.text.now _ c.in_ok-message.ensures.texts.found writable packed in
     let here = subst (λ m. HasRoot m (struct (first ∷ second ∷ []))) (sym same) stands in
