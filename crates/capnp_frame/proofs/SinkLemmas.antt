@@ -1,34 +1,98 @@
 -- Pieces that are written to a sink, one call after another.
-use Rattle.std.proofs.Common.{◌≡◌, ℕ, ◌⊎◌, inl, inr, List, [], ◌∷◌, ◌++◌, length, Result, Ok, Err, OnOk, IfErr, Some, refl, sym, ◌∙◌, arith}
+use Rattle.std.proofs.Common.{◌≡◌, ℕ, ◌+◌, ◌⊎◌, inl, inr, List, [], ◌∷◌, ◌++◌, length, take, drop, Result, Ok, Err, OnOk, OnErr, IfErr, Option, Some, refl, sym, ap, ◌∙◌, subst, arith, append_assoc}
+use Rattle.std.proofs.lemmas.List.{append-nil, take-append-drop}
 use Rattle.std.specs.Prelude.{slice_get}
+use Rattle.std.specs.List.{concat}
 use Rattle.capnp_frame.specs.declared.error.Error.{Error}
 use Rattle.capnp_frame.specs.declared.error.ErrorKind.{ErrorKind}
 use Rattle.capnp_frame.specs.declared.io.Write.{Ghosts}
 use Rattle.capnp_frame.specs.declared.error.ErrorKind.TheVariants.{DeviceFailed, InvalidNumberOfSegments}
 use Rattle.capnp_frame.specs.Asking.{FailsOr}
-use Rattle.capnp_frame.specs.Source.{IfKnown, IsPreorder, Fails}
-use Rattle.capnp_frame.specs.Sink.{Adds, AppendsAll, DeclinesSome, Grows}
+use Rattle.capnp_frame.specs.Source.{IfKnown, IsFront, IsPreorder, Fails}
+use Rattle.capnp_frame.specs.Sink.{Appending, Leaving, AppendsSame, Adds, AppendsAll, LeavesSome, DeclinesSome, Grows}
 use Rattle.capnp_frame.specs.Writers.{WritesTo, WritesPieces, WritesSegments, KeepsCount, RefusesUnwritten}
 use Rattle.capnp_frame.specs.Writing.{HasFew, RefusesMany, pieces}
-use Rattle.capnp_frame.proofs.SourceLemmas.{Grows-join, Grows-refl, Fails-join}
-use Rattle.capnp_frame.proofs.WritingLemmas.{written_more, written_one, DeclinesSome-front, DeclinesSome-back, refused_at}
+use Rattle.capnp_frame.proofs.SourceLemmas.{IfKnown-join, IfKnown-weaker, IfKnown-refl, Grows-join, Grows-refl, Fails-join}
+use Rattle.capnp_frame.proofs.WritingLemmas.{take-next, written_more, written_one, DeclinesSome-front, DeclinesSome-back, refused_at}
 
 -- what is refused for one reason is refused for either
 declined : {F P Q : Type 0} → F ⊎ P → F ⊎ (P ⊎ Q)
 declined (inl failed) = inl failed
 declined (inr refused) = inr (inl refused)
 
+-- What a call that fails leaves
+
+left_none : (appends : Appending) (leaves : Leaving) (xs : List (List ℕ)) → LeavesSome appends leaves xs []
+left_none appends leaves [] = refl
+left_none appends leaves (x ∷ xs) = inl refl
+
+left_front : (appends : Appending) (leaves : Leaving) (xs ys : List (List ℕ)) (text : List ℕ)
+    → LeavesSome appends leaves xs text → LeavesSome appends leaves (xs ++ ys) text
+left_front appends leaves [] ys text p = subst (LeavesSome appends leaves ys) (sym p) (left_none appends leaves ys)
+left_front appends leaves (x ∷ xs) ys text (inl p) = inl p
+left_front appends leaves (x ∷ xs) ys text (inr (inl p)) = inr (inl p)
+left_front appends leaves (x ∷ xs) ys text (inr (inr p)) = inr (inr (p.0, p.1, p.2, left_front appends leaves xs ys p.1 p.3, p.4))
+
+left_after : (appends : Appending) (leaves : Leaving) (xs ys : List (List ℕ)) (s t : List ℕ)
+    → AppendsAll appends xs s → LeavesSome appends leaves ys t → LeavesSome appends leaves (xs ++ ys) (s ++ t)
+left_after appends leaves [] ys s t p q = subst (λ l. LeavesSome appends leaves ys (l ++ t)) (sym p) q
+left_after appends leaves (x ∷ xs) ys s t p q =
+    inr (inr (p.0, p.1 ++ t, p.2, left_after appends leaves xs ys p.1 t p.3 q, ap (λ l. l ++ t) p.4 ∙ append_assoc p.0 p.1 t))
+
+-- nothing
+pub left_same : (appends : Appending) (leaves : Leaving) (xs : List (List ℕ)) (a : Option (List ℕ)) → IfKnown a a (Adds (LeavesSome appends leaves xs))
+left_same appends leaves xs a = IfKnown-refl (Adds (LeavesSome appends leaves xs)) a (λ x. ([], left_none appends leaves xs, sym (append-nil x)))
+
+-- a front of more pieces
+pub left_more : (appends : Appending) (leaves : Leaving) (xs ys : List (List ℕ)) (a b : Option (List ℕ))
+    → IfKnown a b (Adds (LeavesSome appends leaves xs)) → IfKnown a b (Adds (LeavesSome appends leaves (xs ++ ys)))
+left_more appends leaves xs ys a b = IfKnown-weaker a b (λ x y p. (p.0, left_front appends leaves xs ys p.0 p.1, p.2))
+
+-- a part of one piece
+pub left_one : (appends : Appending) (leaves : Leaving) (piece : List ℕ) (a b : Option (List ℕ))
+    → IfKnown a b (Adds (leaves piece)) → IfKnown a b (Adds (LeavesSome appends leaves (piece ∷ [])))
+left_one appends leaves piece a b = IfKnown-weaker a b (λ x y p. (p.0, inr (inl p.1), p.2))
+
+-- what is left after pieces that are written
+pub left_behind : (appends : Appending) (leaves : Leaving) (xs ys : List (List ℕ)) (a b c : Option (List ℕ))
+    → IfKnown a b (Adds (AppendsAll appends xs)) → IfKnown b c (Adds (LeavesSome appends leaves ys))
+    → IfKnown a c (Adds (LeavesSome appends leaves (xs ++ ys)))
+left_behind appends leaves xs ys a b c =
+    IfKnown-join a b c (λ x y z p q. (p.0 ++ q.0, left_after appends leaves xs ys p.0 q.0 p.1 q.1, q.2 ∙ ap (λ l. l ++ q.0) p.2 ∙ append_assoc x p.0 q.0))
+
+-- a part of the piece at an index, after those before it
+left_at : (appends : Appending) (leaves : Leaving) (xs : List (List ℕ)) (i : ℕ) (x : List ℕ) (a b c : Option (List ℕ)) → slice_get xs i ≡ Some x
+    → IfKnown a b (Adds (AppendsAll appends (take i xs))) → IfKnown b c (Adds (leaves x)) → IfKnown a c (Adds (LeavesSome appends leaves xs))
+left_at appends leaves xs i x a b c here before stopped =
+    let parts : (take i xs ++ x ∷ []) ++ drop (i + 1) xs ≡ xs = ap (λ l. l ++ drop (i + 1) xs) (sym (take-next xs i x here)) ∙ take-append-drop (i + 1) xs in
+    subst (λ l. IfKnown a c (Adds (LeavesSome appends leaves l))) parts
+    (left_more appends leaves (take i xs ++ x ∷ []) (drop (i + 1) xs) a c
+    (left_behind appends leaves (take i xs) (x ∷ []) a b c before (left_one appends leaves x b c stopped)))
+
+-- at a plain sink it is a front of the pieces, joined
+pub left_is_front : (leaves : Leaving) → ((piece text : List ℕ) → leaves piece text → IsFront text piece) → (xs : List (List ℕ)) (text : List ℕ)
+    → LeavesSome AppendsSame leaves xs text → IsFront text (concat xs)
+left_is_front leaves within [] text p = ([], sym (append-nil text ∙ p))
+left_is_front leaves within (x ∷ xs) text (inl p) = (concat (x ∷ xs), sym (ap (λ l. l ++ concat (x ∷ xs)) p))
+left_is_front leaves within (x ∷ xs) text (inr (inl p)) = let (tail, e) = within x text p in
+    (tail ++ concat xs, ap (λ l. l ++ concat xs) e ∙ append_assoc text tail (concat xs))
+left_is_front leaves within (x ∷ xs) text (inr (inr p)) = let (tail, e) = left_is_front leaves within xs p.1 p.3 in
+    (tail, ap (λ l. x ++ l) e ∙ sym (append_assoc x p.1 tail) ∙ ap (λ l. l ++ tail) (ap (λ l. l ++ p.1) (sym p.2) ∙ sym p.4))
+
+-- Writing
+
 -- a call that only writes the pieces
 pub writes_pieces : {S X : Type 0} (sink : Ghosts S) (old new : S) (xs : List (List ℕ)) (lacks : ErrorKind → Type 0) (r : Result X Error)
-    → WritesTo sink old new (AppendsAll sink.appends xs) (DeclinesSome sink.refuses xs) r → WritesPieces sink old new xs lacks r
-writes_pieces sink old new xs lacks (Ok x) told = record { written = told.written; refused = tt; untouched = tt; failed = tt; grows = told.grows }
-writes_pieces sink old new xs lacks (Err e) told = record { written = tt; refused = declined told.refused; untouched = declined told.refused; failed = told.failed; grows = told.grows }
+    → WritesTo sink old new (AppendsAll sink.appends xs) (LeavesSome sink.appends sink.leaves xs) (DeclinesSome sink.refuses xs) r → WritesPieces sink old new xs lacks r
+writes_pieces sink old new xs lacks (Ok x) told = record { written = told.written; left = tt; refused = tt; untouched = tt; failed = tt; grows = told.grows }
+writes_pieces sink old new xs lacks (Err e) told = record { written = tt; left = told.left; refused = declined told.refused; untouched = declined told.refused; failed = told.failed; grows = told.grows }
 
 -- the first pieces are not all written
 pub front_refused : {S X : Type 0} (sink : Ghosts S) (old new : S) (xs ys : List (List ℕ)) (lacks other : ErrorKind → Type 0) (e : Error)
     → (lacks e.kind → other e.kind) → WritesPieces {X = X} sink old new xs lacks (Err e) → WritesPieces {X = X} sink old new (xs ++ ys) other (Err e)
 front_refused {X} sink old new xs ys lacks other e wider told = record {
   written = tt;
+  left = left_more sink.appends sink.leaves xs ys (sink.written old) (sink.written new) told.left;
   refused = more wider told.refused;
   untouched = more (λ same. same) told.untouched;
   failed = told.failed;
@@ -43,16 +107,18 @@ front_refused {X} sink old new xs ys lacks other e wider told = record {
 -- pieces after those that are written
 pub writes_after : {S X : Type 0} (sink : Ghosts S) (keeps : IsPreorder sink.same) (a b c : S) (xs ys : List (List ℕ)) (r : Result X Error)
     → IfKnown (sink.written a) (sink.written b) (Adds (AppendsAll sink.appends xs)) → Grows sink.written sink.failures sink.same a b
-    → WritesTo sink b c (AppendsAll sink.appends ys) (DeclinesSome sink.refuses ys) r
-    → WritesTo sink a c (AppendsAll sink.appends (xs ++ ys)) (DeclinesSome sink.refuses (xs ++ ys)) r
+    → WritesTo sink b c (AppendsAll sink.appends ys) (LeavesSome sink.appends sink.leaves ys) (DeclinesSome sink.refuses ys) r
+    → WritesTo sink a c (AppendsAll sink.appends (xs ++ ys)) (LeavesSome sink.appends sink.leaves (xs ++ ys)) (DeclinesSome sink.refuses (xs ++ ys)) r
 writes_after sink keeps a b c xs ys (Ok x) before grows told = record {
   written = written_more sink.appends xs ys _ _ _ before told.written;
+  left = tt;
   refused = tt;
   failed = tt;
   grows = Grows-join a b c (keeps.transitive a b c) grows told.grows;
 }
 writes_after sink keeps a b c xs ys (Err e) before grows told = record {
   written = tt;
+  left = left_behind sink.appends sink.leaves xs ys (sink.written a) (sink.written b) (sink.written c) before told.left;
   refused = more told.refused;
   failed = λ device. Fails-join (sink.failures a) (sink.failures b) (sink.failures c) grows.counted (told.failed device);
   grows = Grows-join a b c (keeps.transitive a b c) grows told.grows;
@@ -64,20 +130,38 @@ writes_after sink keeps a b c xs ys (Err e) before grows told = record {
 
 -- one piece
 pub writes_one : {S X : Type 0} (sink : Ghosts S) (old new : S) (piece : List ℕ) (r : Result X Error)
-    → OnOk r (IfKnown (sink.written old) (sink.written new) (Adds (sink.appends piece))) → FailsOr r (sink.refuses piece)
+    → OnOk r (IfKnown (sink.written old) (sink.written new) (Adds (sink.appends piece)))
+    → OnErr r (IfKnown (sink.written old) (sink.written new) (Adds (sink.leaves piece))) → FailsOr r (sink.refuses piece)
     → IfErr r (λ error. error.kind ≡ DeviceFailed → Fails (sink.failures old) (sink.failures new)) → Grows sink.written sink.failures sink.same old new
-    → WritesTo sink old new (AppendsAll sink.appends (piece ∷ [])) (DeclinesSome sink.refuses (piece ∷ [])) r
-writes_one sink old new piece (Ok x) added refused failed grows = record { written = written_one sink.appends piece _ _ added; refused = tt; failed = tt; grows = grows }
-writes_one sink old new piece (Err e) added refused failed grows = record { written = tt; refused = declined refused; failed = failed; grows = grows }
+    → WritesTo sink old new (AppendsAll sink.appends (piece ∷ [])) (LeavesSome sink.appends sink.leaves (piece ∷ [])) (DeclinesSome sink.refuses (piece ∷ [])) r
+writes_one sink old new piece (Ok x) added left refused failed grows = record { written = written_one sink.appends piece _ _ added; left = tt; refused = tt; failed = tt; grows = grows }
+writes_one sink old new piece (Err e) added left refused failed grows = record { written = tt; left = left_one sink.appends sink.leaves piece (sink.written old) (sink.written new) left; refused = declined refused; failed = failed; grows = grows }
+
+-- the first piece is not written
+pub stopped_first : {S X : Type 0} (sink : Ghosts S) (old new : S) (piece : List ℕ) (others : List (List ℕ)) (e : Error)
+    → IfKnown (sink.written old) (sink.written new) (Adds (sink.leaves piece)) → (e.kind ≡ DeviceFailed) ⊎ sink.refuses piece e.kind
+    → (e.kind ≡ DeviceFailed → Fails (sink.failures old) (sink.failures new)) → Grows sink.written sink.failures sink.same old new
+    → WritesTo {X = X} sink old new (AppendsAll sink.appends (piece ∷ others)) (LeavesSome sink.appends sink.leaves (piece ∷ others))
+        (DeclinesSome sink.refuses (piece ∷ others)) (Err e)
+stopped_first sink old new piece others e left refused failed grows = record {
+  written = tt;
+  left = left_more sink.appends sink.leaves (piece ∷ []) others (sink.written old) (sink.written new)
+      (left_one sink.appends sink.leaves piece (sink.written old) (sink.written new) left);
+  refused = declined refused;
+  failed = failed;
+  grows = grows;
+}
 
 -- the piece at an index is refused, after those before it
 pub stopped_at : {S X : Type 0} (sink : Ghosts S) (keeps : IsPreorder sink.same) (a b c : S) (segments : List (List ℕ)) (index : ℕ)
-    (segment : List ℕ) (e : Error) → slice_get segments index ≡ Some segment → Grows sink.written sink.failures sink.same a b
-    → (e.kind ≡ DeviceFailed) ⊎ sink.refuses segment e.kind → (e.kind ≡ DeviceFailed → Fails (sink.failures b) (sink.failures c))
+    (segment : List ℕ) (e : Error) → slice_get segments index ≡ Some segment
+    → IfKnown (sink.written a) (sink.written b) (Adds (AppendsAll sink.appends (take index segments))) → Grows sink.written sink.failures sink.same a b
+    → IfKnown (sink.written b) (sink.written c) (Adds (sink.leaves segment)) → (e.kind ≡ DeviceFailed) ⊎ sink.refuses segment e.kind → (e.kind ≡ DeviceFailed → Fails (sink.failures b) (sink.failures c))
     → Grows sink.written sink.failures sink.same b c
-    → WritesTo {X = X} sink a c (AppendsAll sink.appends segments) (DeclinesSome sink.refuses segments) (Err e)
-stopped_at sink keeps a b c segments index segment e here before refused failed grows = record {
+    → WritesTo {X = X} sink a c (AppendsAll sink.appends segments) (LeavesSome sink.appends sink.leaves segments) (DeclinesSome sink.refuses segments) (Err e)
+stopped_at sink keeps a b c segments index segment e here written before left refused failed grows = record {
   written = tt;
+  left = left_at sink.appends sink.leaves segments index segment (sink.written a) (sink.written b) (sink.written c) here written left;
   refused = refused_at sink.refuses segments index segment e.kind here refused;
   failed = λ device. Fails-join (sink.failures a) (sink.failures b) (sink.failures c) before.counted (failed device);
   grows = Grows-join a b c (keeps.transitive a b c) before grows;
@@ -101,6 +185,7 @@ many_refused sink keeps same segments e many = record {
   unwritten = λ _. refl;
   parts = record {
     written = tt;
+    left = left_same sink.appends sink.leaves (pieces segments) (sink.written same);
     refused = inr (inr (inl many));
     untouched = inr (inr refl);
     failed = λ device. let never : InvalidNumberOfSegments (length segments) ≡ DeviceFailed = sym many.1 ∙ device in cc;

@@ -6,6 +6,7 @@ use Rattle.std.proofs.lemmas.List.Sums.{sum_by-cons}
 use Rattle.std.proofs.lemmas.List.Concat.{flat_map-append}
 use Rattle.std.proofs.lemmas.Option.{slice_get_within, get_or_from_slice_get}
 use Rattle.std.proofs.lemmas.Bool.Decides.{nat_tests}
+use Rattle.std.proofs.lemmas.Bool.{cases_lt}
 use Rattle.std.specs.Prelude.{slice_get, sum}
 use Rattle.std.specs.List.{flat_map, AllByRecursion}
 use Rattle.capnp_frame.specs.declared.error.ErrorKind.{ErrorKind}
@@ -65,6 +66,10 @@ parts_two table more = grind (arith, nat_tests)
 
 pub parts_one : (table : List ℕ) → length table ≤ 8 → word_and_rest table ≡ take 8 table ∷ []
 parts_one table no_more = grind (arith, nat_tests)
+
+-- the first word is one of them in either case
+pub parts_first : (table : List ℕ) → (others : List (List ℕ)) × (word_and_rest table ≡ take 8 table ∷ others)
+parts_first table = elim (cases_lt 8 (length table)) [ inl more ↦ (drop 8 table ∷ [], parts_two table more) | inr no_more ↦ ([], parts_one table no_more) ]
 
 -- lengths
 

@@ -1,5 +1,5 @@
 -- What the functions that write keep (src/serialize/writing.rt).
-use Rattle.std.specs.Prelude.{◌≡◌, ℕ, ◌^◌, ◌≤◌, ◌⊎◌, ◌↔◌, List, length, Result, IfOk, OnOk, IfErr}
+use Rattle.std.specs.Prelude.{◌≡◌, ℕ, ◌^◌, ◌≤◌, ◌⊎◌, ◌↔◌, List, length, Result, IfOk, OnOk, OnErr, IfErr}
 use Rattle.capnp_frame.specs.declared.error.Error.{Error}
 use Rattle.capnp_frame.specs.declared.error.ErrorKind.{ErrorKind}
 use Rattle.capnp_frame.specs.declared.error.ErrorKind.TheVariants.{DeviceFailed, OutOfMemory, MessageSizeOverflow, InvalidNumberOfSegments}
@@ -7,17 +7,19 @@ use Rattle.capnp_frame.specs.declared.io.Write.{Ghosts}
 use Rattle.capnp_frame.specs.Asking.{FailsOr}
 use Rattle.capnp_frame.specs.Errors.{IsRefusedBy}
 use Rattle.capnp_frame.specs.Frame.{frame_text}
-use Rattle.capnp_frame.specs.Sink.{Adds, AppendsAll, DeclinesSome, Grows}
+use Rattle.capnp_frame.specs.Sink.{Adds, AppendsAll, LeavesSome, DeclinesSome, Grows}
 use Rattle.capnp_frame.specs.Source.{IfKnown, Fails}
 use Rattle.capnp_frame.specs.Writing.{HasFew, HasMany, RefusesMany, pieces, serialized_words}
 
 -- What each function that writes does to its sink. `sink` is what is seen of the sink (the members of the trait Write),
--- `old` and `new` are the sink before the call and after it. `adds` holds of what is added, and `declines` of the kinds
--- that the call may fail with beside the device's.
-pub record WritesTo {S X : Type 0} (sink : Ghosts S) (old new : S) (adds : List ℕ → Type 0) (declines : ErrorKind → Type 0)
+-- `old` and `new` are the sink before the call and after it. `adds` holds of what is added where the call succeeds, `leaves`
+-- of what is added where it fails, and `declines` of the kinds that it may fail with beside the device's.
+pub record WritesTo {S X : Type 0} (sink : Ghosts S) (old new : S) (adds leaves : List ℕ → Type 0) (declines : ErrorKind → Type 0)
     (result : Result X Error) : Type 0 where
   -- where the call succeeds, this is added after what was written before
   pub written : OnOk result (IfKnown (sink.written old) (sink.written new) (Adds adds))
+  -- where it fails, that: nothing stands after a hole
+  pub left : OnErr result (IfKnown (sink.written old) (sink.written new) (Adds leaves))
   -- it fails with the device's failure, or with a kind that is declined
   pub refused : FailsOr result declines
   -- the device is blamed only where it failed
@@ -30,6 +32,8 @@ pub record WritesPieces {S X : Type 0} (sink : Ghosts S) (old new : S) (pieces :
     (result : Result X Error) : Type 0 where
   -- where the call succeeds, what the pieces add stands after what was written before
   pub written : OnOk result (IfKnown (sink.written old) (sink.written new) (Adds (AppendsAll sink.appends pieces)))
+  -- where it fails, the first pieces are written, and of the next one what the sink leaves of it; nothing stands after a hole
+  pub left : OnErr result (IfKnown (sink.written old) (sink.written new) (Adds (LeavesSome sink.appends sink.leaves pieces)))
   -- it fails with the device's failure, as the sink refuses one of the pieces, or with a kind that is lacked
   pub refused : FailsOr result (λ kind. DeclinesSome sink.refuses pieces kind ⊎ lacks kind)
   -- a failure that isn't the sink's leaves the sink as it was

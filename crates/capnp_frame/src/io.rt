@@ -3,13 +3,13 @@
 //! Contracts see of a source the bytes that are unread, how often its device failed, and what a
 //! request takes; of a sink what was written, and what a piece adds. How many bytes one `read`
 //! answers is free: what is proved over a `Read` holds however its bytes are cut.
-ghost use Rattle.std.specs.Prelude.{◌≡◌, ℕ, ◌<◌, ◌≤◌, List, [], ◌⊎◌, length, take, drop, Option, Some, IfSome, IfOk, OnOk, IfErr, ◌↔◌};
+ghost use Rattle.std.specs.Prelude.{◌≡◌, ℕ, ◌<◌, ◌≤◌, List, [], ◌⊎◌, length, take, drop, Option, Some, IfSome, IfOk, OnOk, IfErr, OnErr, ◌↔◌};
 ghost use Rattle.std.specs.Borrow.{sem};
 ghost use Rattle.std.specs.Io.BufRead.{Rests};
 ghost use Rattle.capnp_frame.specs.declared.error.ErrorKind.{ErrorKind};
 ghost use Rattle.capnp_frame.specs.Message.{IsWholeWords};
 ghost use Rattle.capnp_frame.specs.Source.{Giving, Refusing, IsSource, IsPreorder, IsPlain, Splits, RunsShort, Fails, IfKnown, Advances, Fills, IsFront, IsRefused, AnswersPart};
-ghost use Rattle.capnp_frame.specs.Sink.{Appending, Declining, Adds, Grows};
+ghost use Rattle.capnp_frame.specs.Sink.{Appending, Leaving, Declining, Adds, Grows};
 
 mod references;
 mod slices;
@@ -130,16 +130,22 @@ pub trait Write {
     /// What a piece adds to the bytes taken so far.
     ghost appends: { Appending };
 
+    /// Which part of a piece a call that fails may leave, after the bytes taken so far.
+    ghost leaves: { Leaving };
+
     /// By which kinds a piece may be refused, beside the device's.
     ghost refuses: { Declining };
 
     /// What each call keeps, as the reference that a sink stands on.
     ghost same: { Self → Self → Type 0 };
 
-    /// Takes all of `piece`. What a refused call leaves begins with what was written before.
+    /// Takes all of `piece`. A call that fails adds no more than a part of it to what was written
+    /// before.
     fn write_all(&mut self, piece: &[u8]) -> Result<()>
         ensures added { OnOk result (IfKnown (written self.old) (written self.new)
             (Adds (appends piece.now))) }
+        ensures left { OnErr result (IfKnown (written self.old) (written self.new)
+            (Adds (leaves piece.now))) }
         ensures failed { IfErr result (λ error. error.kind ≡ ErrorKind.DeviceFailed →
             Fails (failures self.old) (failures self.new)) }
         ensures refused { IfErr result (λ error. (error.kind ≡ ErrorKind.DeviceFailed)

@@ -4,8 +4,8 @@ ghost use Rattle.std.specs.List.{AllByRecursion, concat};
 ghost use Rattle.capnp_frame.specs.Message.{IsWholeWords, lengths};
 ghost use Rattle.capnp_frame.specs.SegmentTable.{zero_padded_table, HasTable, IsTable};
 ghost use Rattle.capnp_frame.specs.Frame.{IsFrame, frame_text};
-ghost use Rattle.capnp_frame.specs.Source.{Splits, Fails};
-ghost use Rattle.capnp_frame.specs.Sink.{AppendsSame, AppendsAll, ByKind, DeclinesSome};
+ghost use Rattle.capnp_frame.specs.Source.{Splits, IsFront, Fails};
+ghost use Rattle.capnp_frame.specs.Sink.{AppendsSame, AppendsAll, LeavesFront, LeavesSome, ByKind, DeclinesSome};
 ghost use Rattle.capnp_frame.specs.Requests.{MessageStands};
 ghost use Rattle.capnp_frame.specs.Writers.{RefusesUnwritten};
 ghost use Rattle.capnp_frame.specs.Writing.{IsWritable, RefusesMany, pieces, serialized_words};
@@ -14,7 +14,7 @@ ghost use Rattle.capnp_frame.specs.FlatRefusals.{FlatForm, RefusesFlat};
 ghost use Rattle.capnp_frame.specs.declared.error.ErrorKind.{ErrorKind};
 ghost use Rattle.capnp_frame.specs.declared.serialize.segment_table.Padding.{Padding};
 
-use crate::io::Read;
+use crate::io::{Read, Write};
 use crate::serialize::Padding;
 
 /// A message has a framed text: the one that is written.
@@ -69,6 +69,15 @@ pub fn pieces_are_the_frame()
     ensures joined { (segments : List (List ℕ)) → concat (pieces segments) ≡ frame_text segments }
     ensures size { (segments : List (List ℕ)) → IsWritable segments →
         length (concat (pieces segments)) ≡ 8 * serialized_words segments }
+{}
+
+/// A plain sink that is left with a front of a piece at most, where a call fails, is left with a
+/// front of the framed text.
+pub fn what_is_left_of_a_message_is_a_front<W: Write>()
+    ensures { ((piece text : List ℕ) → W.leaves piece text → LeavesFront piece text) →
+        (segments : List (List ℕ)) (text : List ℕ) →
+        LeavesSome AppendsSame W.leaves (pieces segments) text →
+        IsFront text (frame_text segments) }
 {}
 
 /// The readers of slices and buffers accept the same bytes with the same segments: what one form

@@ -55,6 +55,8 @@ impl<W: Write> Write for &mut W {
 
     ghost appends = { W.appends };
 
+    ghost leaves = { W.leaves };
+
     ghost refuses = { W.refuses };
 
     ghost same = { λ old new. (new.ghost_name ≡ old.ghost_name) × W.same old.now new.now };

@@ -1,7 +1,7 @@
 //! Slices as sources and sinks, and vectors as sinks.
-ghost use Rattle.std.specs.Prelude.{◌≡◌, ◌<◌, ◌≤◌, ◌⊎◌, ◌++◌, length, drop, Some, None, IfErr, OnOk, ⊤};
+ghost use Rattle.std.specs.Prelude.{◌≡◌, ◌<◌, ◌≤◌, ◌⊎◌, ◌++◌, length, drop, Some, None, IfErr, OnOk, OnErr, ⊤};
 ghost use Rattle.capnp_frame.specs.Source.{Splits, RunsShort, IfKnown, Fails};
-ghost use Rattle.capnp_frame.specs.Sink.{AppendsSame, ByKind, Adds, Grows};
+ghost use Rattle.capnp_frame.specs.Sink.{AppendsSame, LeavesNothing, ByKind, Adds, Grows};
 ghost use Rattle.capnp_frame.specs.declared.error.ErrorKind.{ErrorKind};
 ghost use Rattle.capnp_frame.specs.SplittingLaws.{splitting, always};
 
@@ -58,6 +58,8 @@ impl Write for Vec<u8> {
 
     ghost appends = { AppendsSame };
 
+    ghost leaves = { LeavesNothing };
+
     ghost refuses = { ByKind ErrorKind.OutOfMemory };
 
     ghost same = { λ _ _. ⊤ };
@@ -83,12 +85,15 @@ impl Write for &mut [u8] {
 
     ghost appends = { AppendsSame };
 
+    ghost leaves = { LeavesNothing };
+
     ghost refuses = { ByKind ErrorKind.BufferNotLargeEnough };
 
     ghost same = { λ _ _. ⊤ };
 
     fn write_all(&mut self, piece: &[u8]) -> Result<()>
         ensures added { OnOk result (IfKnown None None (Adds (AppendsSame piece.now))) }
+        ensures left { OnErr result (IfKnown None None (Adds (LeavesNothing piece.now))) }
         ensures failed { IfErr result (λ error. error.kind ≡ ErrorKind.DeviceFailed → Fails 0 0) }
         ensures moved { OnOk result (self.new.now ≡ drop (length piece.now) self.old.now) }
         ensures fits { OnOk result (length piece.now ≤ length self.old.now) }

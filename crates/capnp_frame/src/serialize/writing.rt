@@ -4,7 +4,7 @@ ghost use Rattle.std.specs.List.{AllByRecursion};
 ghost use Rattle.capnp_frame.specs.Message.{IsWholeWords, lengths};
 ghost use Rattle.capnp_frame.specs.SegmentTable.{field, zero_padded_table, table_size};
 ghost use Rattle.capnp_frame.specs.Writing.{IsWritable, RefusesMany, word_and_rest, table_pieces};
-ghost use Rattle.capnp_frame.specs.Sink.{AppendsAll, DeclinesSome};
+ghost use Rattle.capnp_frame.specs.Sink.{AppendsAll, LeavesSome, DeclinesSome};
 ghost use Rattle.capnp_frame.specs.Writers.{WritesTo, WritesPieces, WritesSegments, LacksTable, KeepsCount, ReturnsText, CountsWords};
 
 use crate::error::{Error, ErrorKind, Result};
@@ -100,6 +100,7 @@ fn write_table<W: Write, S: ReaderSegments>(alloc: Global, sink: &mut W, segment
 fn write_in_parts<W: Write>(sink: &mut W, table: &[u8]) -> Result<()>
     requires { 8 ≤ length table.now }
     ensures { WritesTo W.Write sink.old sink.new (AppendsAll W.appends (word_and_rest table.now))
+        (LeavesSome W.appends W.leaves (word_and_rest table.now))
         (DeclinesSome W.refuses (word_and_rest table.now)) result }
 {
     sink.write_all(&table[..8])?;
@@ -113,6 +114,7 @@ fn write_in_parts<W: Write>(sink: &mut W, table: &[u8]) -> Result<()>
 fn write_each<W: Write, S: ReaderSegments>(sink: &mut W, segments: &S) -> Result<()>
     requires { length (S.segments segments.now) < 2 ^ 32 }
     ensures { WritesTo W.Write sink.old sink.new (AppendsAll W.appends (S.segments segments.now))
+        (LeavesSome W.appends W.leaves (S.segments segments.now))
         (DeclinesSome W.refuses (S.segments segments.now)) result }
 {
     let mut index = 0;

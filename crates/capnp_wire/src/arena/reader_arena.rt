@@ -68,8 +68,8 @@ impl<S: ReaderSegments> ReaderArena<S> {
         })
     }
 
-    /// Whether the message is in canonical form: one segment, of whole words, that is the canonical form
-    /// of its root tree.
+    /// Whether the message is in canonical form: one segment, whose words are the canonical form of its
+    /// root tree.
     ///
     /// A message of more than one segment is not canonical, nor is one with a far pointer. It is
     /// refused by `InvalidSegmentId(0)` without a segment, and else where the walk over its objects

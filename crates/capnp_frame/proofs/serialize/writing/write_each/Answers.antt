@@ -14,7 +14,7 @@ returns-in_err-write_all g c =
     let told = c.in_err-write_all.ensures in
     let here = c.in-Some.ensures.here in
     rw (p.1, p.2) (stopped_at g.W.Write g.met.W.Write.keeps _ _ _ segments c.loop-segment.index c.in-Some.segment.now _ here
-    c.loop-segment.invariant.grows told.refused told.failed told.grows)
+    c.loop-segment.invariant.written c.loop-segment.invariant.grows told.left told.refused told.failed told.grows)
 
 pub loop-segment-preserved : goal.loop-segment-preserved
 loop-segment-preserved g c =
@@ -32,4 +32,4 @@ returns g c =
     let segments = g.S.ReaderSegments.segments c.args.segments.now in
     let past = rw c.in_default.is at c.segment_at.ensures.end in
     let all = take_all c.loop-segment.index segments past in
-    record { written = rw all at c.loop-segment.invariant.written; refused = tt; failed = tt; grows = c.loop-segment.invariant.grows }
+    record { written = rw all at c.loop-segment.invariant.written; left = tt; refused = tt; failed = tt; grows = c.loop-segment.invariant.grows }
