@@ -10,7 +10,7 @@ pub use Rattle.capnp_frame.specs.Refusals.{IsReaderKind}
 pub use Rattle.capnp_frame.specs.SegmentTable.{FitsField}
 pub use Rattle.capnp_frame.specs.Source.{Giving, Refusing, Splits, RunsShort, IsSource, IsPreorder, IfKnown, IsFront, IsRefused, Advances, Fails, Fills}
 pub use Rattle.capnp_frame.specs.SplittingLaws.{splitting, always}
-pub use Rattle.capnp_frame.specs.Sink.{Appending, AppendsSame, Declining, DeclinesSome, Adds, AppendsAll, Grows}
+pub use Rattle.capnp_frame.specs.Sink.{Appending, AppendsSame, Leaving, LeavesNothing, LeavesFront, Declining, DeclinesSome, Adds, AppendsAll, Grows}
 pub use Rattle.capnp_frame.specs.Writing.{IsWritable, pieces}
 pub use Rattle.capnp_wire.specs.Object.{message_of}
 pub use Rattle.capnp_wire.specs.Reached.{root}

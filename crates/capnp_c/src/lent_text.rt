@@ -2,7 +2,7 @@
 ghost use Rattle.std.specs.Prelude.{◌≡◌, ◌≤◌, length, take, Some, refl};
 ghost use Rattle.std.proofs.Common.{◌∙◌};
 ghost use Rattle.capnp_frame.specs.declared.error.ErrorKind.{ErrorKind};
-ghost use Rattle.capnp_frame.specs.Sink.{AppendsSame, ByKind};
+ghost use Rattle.capnp_frame.specs.Sink.{AppendsSame, LeavesNothing, ByKind};
 
 use capnp_frame::io::Write;
 use capnp_frame::{Error, ErrorKind, Result};
@@ -40,6 +40,8 @@ impl Write for LentText<'_> {
     ghost failures = { λ _. 0 };
 
     ghost appends = { AppendsSame };
+
+    ghost leaves = { LeavesNothing };
 
     ghost refuses = { ByKind ErrorKind.BufferNotLargeEnough };
 

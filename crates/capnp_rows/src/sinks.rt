@@ -1,6 +1,6 @@
 //! A sink that fails.
 ghost use Rattle.std.specs.Prelude.{Some, ⊤};
-ghost use Rattle.capnp_frame.specs.Sink.{AppendsSame, ByKind};
+ghost use Rattle.capnp_frame.specs.Sink.{AppendsSame, LeavesNothing, ByKind};
 ghost use Rattle.capnp_frame.specs.SplittingLaws.{always};
 ghost use Rattle.capnp_frame.specs.declared.error.ErrorKind.{ErrorKind};
 
@@ -34,6 +34,8 @@ impl Write for FaultySink {
     ghost failures = { λ sink. sink.failures };
 
     ghost appends = { AppendsSame };
+
+    ghost leaves = { LeavesNothing };
 
     ghost refuses = { ByKind ErrorKind.OutOfMemory };
 

@@ -2,7 +2,7 @@
 ghost use Rattle.std.specs.Prelude.{◌≡◌, ◌≤◌, [], IfOk, IfErr, OnOk, OnErr, IsOk, ⊤};
 ghost use Rattle.std.specs.Io.Buffered.{writer_capacity};
 ghost use Rattle.std.specs.Io.KnownBytes.{Keeps};
-ghost use Rattle.capnp.specs.Passed.{ErrorKind, Fails, AppendsSame, always};
+ghost use Rattle.capnp.specs.Passed.{ErrorKind, Fails, AppendsSame, LeavesFront, always};
 ghost use Rattle.capnp_ls.specs.Devices.{pending, taken_so_far};
 
 use crate::devices::Failures;
@@ -65,6 +65,8 @@ impl<W: io::Write + Drop> Write for Output<W> {
     ghost failures = { λ output. output.failures.count };
 
     ghost appends = { AppendsSame };
+
+    ghost leaves = { LeavesFront };
 
     ghost refuses = { λ _ _. ⊥ };
 
