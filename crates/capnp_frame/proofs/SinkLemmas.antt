@@ -26,14 +26,14 @@ left_none : (appends : Appending) (leaves : Leaving) (xs : List (List ℕ)) → 
 left_none appends leaves [] = refl
 left_none appends leaves (x ∷ xs) = inl refl
 
-left_front : (appends : Appending) (leaves : Leaving) (xs ys : List (List ℕ)) (text : List ℕ)
+pub left_front : (appends : Appending) (leaves : Leaving) (xs ys : List (List ℕ)) (text : List ℕ)
     → LeavesSome appends leaves xs text → LeavesSome appends leaves (xs ++ ys) text
 left_front appends leaves [] ys text p = subst (LeavesSome appends leaves ys) (sym p) (left_none appends leaves ys)
 left_front appends leaves (x ∷ xs) ys text (inl p) = inl p
 left_front appends leaves (x ∷ xs) ys text (inr (inl p)) = inr (inl p)
 left_front appends leaves (x ∷ xs) ys text (inr (inr p)) = inr (inr (p.0, p.1, p.2, left_front appends leaves xs ys p.1 p.3, p.4))
 
-left_after : (appends : Appending) (leaves : Leaving) (xs ys : List (List ℕ)) (s t : List ℕ)
+pub left_after : (appends : Appending) (leaves : Leaving) (xs ys : List (List ℕ)) (s t : List ℕ)
     → AppendsAll appends xs s → LeavesSome appends leaves ys t → LeavesSome appends leaves (xs ++ ys) (s ++ t)
 left_after appends leaves [] ys s t p q = subst (λ l. LeavesSome appends leaves ys (l ++ t)) (sym p) q
 left_after appends leaves (x ∷ xs) ys s t p q =

@@ -1,5 +1,5 @@
 -- Calls that hand bytes on to a sink, or take bytes of a source, one after another.
-use Rattle.std.proofs.Common.{◌≡◌, ◌⊎◌, inr, ℕ, List, [], ◌∷◌, Option, Some, None, Result, Ok, Err, IfErr, OnOk, sym, ◌∙◌, subst}
+use Rattle.std.proofs.Common.{◌≡◌, ◌⊎◌, inr, ℕ, List, [], ◌∷◌, Option, Some, None, Result, Ok, Err, IfErr, OnOk, OnErr, refl, sym, ◌∙◌, subst}
 use Rattle.std.specs.Prelude.{IfOk}
 use Rattle.std.specs.Result.{IsErrAnd}
 use Rattle.capnp_frame.specs.declared.error.Error.{Error}
@@ -13,57 +13,74 @@ use Rattle.capnp_frame.specs.Source.{IsPreorder, IfKnown, Advances, Fails}
 use Rattle.capnp_frame.specs.Writers.{WritesTo}
 use Rattle.capnp_frame.proofs.AskLemmas.{Asked-ok, Asked-err}
 use Rattle.capnp_frame.proofs.SourceLemmas.{Grows-join, Fails-join}
-use Rattle.capnp_pack.specs.Calls.{HandsOn, Takes, TakesNext}
+use Rattle.capnp_pack.specs.Calls.{LeavesOf, HandsOn, Takes, TakesNext}
 use Rattle.capnp_pack.specs.Steps.{Hands}
 use Rattle.capnp_pack.proofs.HandingLemmas.{IfKnown-flush, declines_any}
+use Rattle.capnp_pack.proofs.LeavingLemmas.{left_piece}
 
 -- Handing on
 
 -- one piece, which is all that is kept
 pub hands_piece : {S X : Type 0} (sink : Sink S) (old new : S) (kept piece : List ℕ) (r : Result X Error) → kept ≡ piece
-    → OnOk r (IfKnown (sink.written old) (sink.written new) (Adds (sink.appends piece))) → FailsOr r (sink.refuses piece)
+    → OnOk r (IfKnown (sink.written old) (sink.written new) (Adds (sink.appends piece)))
+    → OnErr r (IfKnown (sink.written old) (sink.written new) (Adds (sink.leaves piece))) → FailsOr r (sink.refuses piece)
     → IfErr r (λ e. e.kind ≡ DeviceFailed → Fails (sink.failures old) (sink.failures new)) → Grows sink.written sink.failures sink.same old new
-    → HandsOn sink old new (λ _. IfKnown (sink.written old) (sink.written new) (Hands sink.appends kept [] [])) r
-hands_piece sink old new kept piece (Ok x) is added refused failed grows =
-    record { handed = IfKnown-flush sink.appends kept piece _ _ is added; refused = tt; failed = tt; grows = grows }
-hands_piece sink old new kept piece (Err e) is added refused failed grows =
-    record { handed = tt; refused = declines_any (e.kind ≡ DeviceFailed) sink.refuses piece e.kind refused; failed = failed; grows = grows }
+    → HandsOn sink old new (λ text. text ≡ kept) (λ _. IfKnown (sink.written old) (sink.written new) (Hands sink.appends kept [] [])) r
+hands_piece sink old new kept piece (Ok x) is added left refused failed grows =
+    record { handed = IfKnown-flush sink.appends kept piece _ _ is added; left = tt; refused = tt; failed = tt; grows = grows }
+hands_piece sink old new kept piece (Err e) is added left refused failed grows = record {
+  handed = tt;
+  left = (kept, refl, left_piece sink.appends sink.leaves kept piece (sink.written old) (sink.written new) is left);
+  refused = declines_any (e.kind ≡ DeviceFailed) sink.refuses piece e.kind refused;
+  failed = failed;
+  grows = grows;
+}
 
 -- a call after one that returned
-pub hands_after : {S X : Type 0} (sink : Sink S) (keeps : IsPreorder sink.same) (a b c : S) (first hands : X → Type 0) (r : Result X Error)
-    → IfOk r hands → Grows sink.written sink.failures sink.same a b → HandsOn sink b c first r → HandsOn sink a c hands r
-hands_after sink keeps a b c first hands (Ok x) handed before told =
-    record { handed = handed; refused = tt; failed = tt; grows = Grows-join a b c (keeps.transitive a b c) before told.grows }
-hands_after sink keeps a b c first hands (Err e) handed before told = record {
+pub hands_after : {S X : Type 0} (sink : Sink S) (keeps : IsPreorder sink.same) (a b c : S) (stops more : List ℕ → Type 0) (first hands : X → Type 0) (r : Result X Error)
+    → IfOk r hands → (LeavesOf sink b c stops → LeavesOf sink a c more) → Grows sink.written sink.failures sink.same a b
+    → HandsOn sink b c stops first r → HandsOn sink a c more hands r
+hands_after sink keeps a b c stops more first hands (Ok x) handed turn before told =
+    record { handed = handed; left = tt; refused = tt; failed = tt; grows = Grows-join a b c (keeps.transitive a b c) before told.grows }
+hands_after sink keeps a b c stops more first hands (Err e) handed turn before told = record {
   handed = tt;
+  left = turn told.left;
   refused = told.refused;
   failed = λ device. Fails-join (sink.failures a) (sink.failures b) (sink.failures c) before.counted (told.failed device);
   grows = Grows-join a b c (keeps.transitive a b c) before told.grows;
 }
 
 -- a piece that the sink refuses, after a call that returned
-pub hands_err : {S X : Type 0} (sink : Sink S) (keeps : IsPreorder sink.same) (a b c : S) (hands : X → Type 0) (piece : List ℕ) (e : Error)
-    → (e.kind ≡ DeviceFailed) ⊎ sink.refuses piece e.kind → (e.kind ≡ DeviceFailed → Fails (sink.failures b) (sink.failures c))
-    → Grows sink.written sink.failures sink.same a b → Grows sink.written sink.failures sink.same b c → HandsOn sink a c hands (Err e)
-hands_err sink keeps a b c hands piece e refused failed before grows = record {
+pub hands_err : {S X : Type 0} (sink : Sink S) (keeps : IsPreorder sink.same) (a b c : S) (stops : List ℕ → Type 0) (hands : X → Type 0) (piece : List ℕ) (e : Error)
+    → LeavesOf sink a c stops → (e.kind ≡ DeviceFailed) ⊎ sink.refuses piece e.kind → (e.kind ≡ DeviceFailed → Fails (sink.failures b) (sink.failures c))
+    → Grows sink.written sink.failures sink.same a b → Grows sink.written sink.failures sink.same b c → HandsOn sink a c stops hands (Err e)
+hands_err sink keeps a b c stops hands piece e left refused failed before grows = record {
   handed = tt;
+  left = left;
   refused = declines_any (e.kind ≡ DeviceFailed) sink.refuses piece e.kind refused;
   failed = λ device. Fails-join (sink.failures a) (sink.failures b) (sink.failures c) before.counted (failed device);
   grows = Grows-join a b c (keeps.transitive a b c) before grows;
 }
 
--- the last call of a packer
-pub hands_last : {S X : Type 0} (sink : Sink S) (keeps : IsPreorder sink.same) (a b c : S) (P : Type 0) (adds : List ℕ → Type 0) (r : Result X Error)
-    → (P → IfKnown (sink.written a) (sink.written c) (Adds adds)) → Grows sink.written sink.failures sink.same a b
-    → HandsOn sink b c (λ _. P) r → WritesTo sink a c adds (DeclinesAny sink.refuses) r
-hands_last sink keeps a b c P adds (Ok x) all before told =
-    record { written = all told.handed; refused = tt; failed = tt; grows = Grows-join a b c (keeps.transitive a b c) before told.grows }
-hands_last sink keeps a b c P adds (Err e) all before told = record {
+-- a call of a packer that fails, after those that returned
+pub hands_stopped : {S X Y : Type 0} (sink : Sink S) (keeps : IsPreorder sink.same) (a b c : S) (stops : List ℕ → Type 0) (hands : X → Type 0)
+    (adds leaves : List ℕ → Type 0) (e : Error) → (LeavesOf sink b c stops → IfKnown (sink.written a) (sink.written c) (Adds leaves))
+    → Grows sink.written sink.failures sink.same a b → HandsOn sink b c stops hands (Err e) → WritesTo {X = Y} sink a c adds leaves (DeclinesAny sink.refuses) (Err e)
+hands_stopped sink keeps a b c stops hands adds leaves e turn before told = record {
   written = tt;
+  left = turn told.left;
   refused = told.refused;
   failed = λ device. Fails-join (sink.failures a) (sink.failures b) (sink.failures c) before.counted (told.failed device);
   grows = Grows-join a b c (keeps.transitive a b c) before told.grows;
 }
+
+-- the last call of a packer
+pub hands_last : {S X : Type 0} (sink : Sink S) (keeps : IsPreorder sink.same) (a b c : S) (P : Type 0) (stops adds leaves : List ℕ → Type 0) (r : Result X Error)
+    → (P → IfKnown (sink.written a) (sink.written c) (Adds adds)) → (LeavesOf sink b c stops → IfKnown (sink.written a) (sink.written c) (Adds leaves))
+    → Grows sink.written sink.failures sink.same a b → HandsOn sink b c stops (λ _. P) r → WritesTo sink a c adds leaves (DeclinesAny sink.refuses) r
+hands_last sink keeps a b c P stops adds leaves (Ok x) all turn before told =
+    record { written = all told.handed; left = tt; refused = tt; failed = tt; grows = Grows-join a b c (keeps.transitive a b c) before told.grows }
+hands_last sink keeps a b c P stops adds leaves (Err e) all turn before told = hands_stopped sink keeps a b c stops (λ _. P) adds leaves e turn before told
 
 -- Taking
 

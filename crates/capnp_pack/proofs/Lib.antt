@@ -13,6 +13,7 @@ pub mod MarkLemmas
 pub mod RunFaults
 pub mod StoredLemmas
 pub mod LaneLemmas
+mod LeavingLemmas
 pub mod TagLemmas
 pub mod EightLemmas
 pub mod RunLemmas

@@ -46,6 +46,14 @@ made_tagged appends word os tag old roomy new a b is tagged_by some low fill roo
       buffered appends old roomy new (tag_of word ∷ marked (tag_of word) word) a b (fill ∙ ap (λ l. roomy ++ l) text) roomed,
     )
 
+-- the tag of a word that goes as it stands, and the word
+pub literal_front : (word : List ℕ) (tag : ℕ) (roomy filled : List ℕ) → IsWord word → tag ≡ tag_of word → tag ≡ 255
+    → filled ≡ roomy ++ tag ∷ nonzero word → filled ≡ roomy ++ 255 ∷ word
+literal_front word tag roomy filled is tagged_by full fill =
+    let full_tag : tag_of word ≡ 255 = sym tagged_by ∙ full in
+    let none : zero_bytes word ≡ 0 = tag_full word (omega (arith, top_word word is)) in
+    fill ∙ ap (λ l. roomy ++ l) (ap (λ k. k ∷ nonzero word) full ∙ ap (λ l. 255 ∷ l) (nonzero_all word none))
+
 pub made_literal : {X : Type 0} (words : X → ℕ) (new : X → List ℕ) (appends : Appending) (word : List ℕ) (os : List (List ℕ)) (tag : ℕ)
     (old roomy filled : List ℕ) (a b c : Option (List ℕ))
     (r : Result X Error) → IsWord word → AllByRecursion IsWord os → tag ≡ tag_of word → tag ≡ 255 → filled ≡ roomy ++ tag ∷ nonzero word →
@@ -55,9 +63,7 @@ pub made_literal : {X : Type 0} (words : X → ℕ) (new : X → List ℕ) (appe
 made_literal words new appends word os tag old roomy filled a b c (Err e) is all tagged_by full fill roomed run handed = tt
 made_literal words new appends word os tag old roomy filled a b c (Ok v) is all tagged_by full fill roomed run handed =
     let full_tag : tag_of word ≡ 255 = sym tagged_by ∙ full in
-    let none : zero_bytes word ≡ 0 = tag_full word (omega (arith, top_word word is)) in
-    let text : tag ∷ nonzero word ≡ 255 ∷ word = ap (λ k. k ∷ nonzero word) full ∙ ap (λ l. 255 ∷ l) (nonzero_all word none) in
-    let first = buffered appends old roomy filled (255 ∷ word) a b (fill ∙ ap (λ l. roomy ++ l) text) roomed in
+    let first = buffered appends old roomy filled (255 ∷ word) a b (literal_front word tag roomy filled is tagged_by full fill) roomed in
     let long : length (take (words v) os) ≡ (words v) = length-take-le (words v) os run.within in
     let further : (words v) ∷ concat (take (words v) os) ≡ length (take (words v) os) ∷ concat (take (words v) os) = ap (λ k. k ∷ concat (take (words v) os)) (sym long) in (
       literal word (take (words v) os),

@@ -1,18 +1,27 @@
 -- What the private functions of a packer keep of their sink, and those of an unpacker of their source.
-use Rattle.std.specs.Prelude.{◌≡◌, [], Option, Some, Result, IfOk, IfErr, IfSome, IfNone}
+use Rattle.std.specs.Prelude.{◌≡◌, ℕ, List, [], Option, Some, Result, IfOk, OnErr, IfErr, IfSome, IfNone}
 use Rattle.capnp_frame.specs.declared.error.Error.{Error}
 use Rattle.capnp_frame.specs.declared.error.ErrorKind.{ErrorKind}
 use Rattle.capnp_frame.specs.declared.error.ErrorKind.TheVariants.{DeviceFailed}
 use Rattle.capnp_frame.specs.declared.io.Read.{Ghosts as Source}
 use Rattle.capnp_frame.specs.declared.io.Write.{Ghosts as Sink}
 use Rattle.capnp_frame.specs.Asking.{Asked, FailsOr}
-use Rattle.capnp_frame.specs.Sink.{DeclinesAny, Grows}
-use Rattle.capnp_frame.specs.Source.{Fails}
+use Rattle.capnp_frame.specs.Sink.{Adds, DeclinesAny, Grows}
+use Rattle.capnp_frame.specs.Source.{IfKnown, Fails}
+use Rattle.capnp_pack.specs.Steps.{LeavesParts}
+
+-- of a text that this holds of, a front is handed on, and of the next part what a call that fails leaves
+abbrev pub LeavesOf : {S : Type 0} → Sink S → S → S → (List ℕ → Type 0) → Type 0
+LeavesOf sink old new stops = (text : List ℕ) × stops text
+    × IfKnown (sink.written old) (sink.written new) (Adds (LeavesParts sink.appends sink.leaves text))
 
 -- A call that hands bytes on to a sink. `sink` is what is seen of the sink (the members of the trait Write), `old` and `new`
--- are the sink before the call and after it, and `hands` holds of what is returned.
-pub record HandsOn {S X : Type 0} (sink : Sink S) (old new : S) (hands : X → Type 0) (result : Result X Error) : Type 0 where
+-- are the sink before the call and after it. `stops` holds of the text that is to be handed on, and `hands` of what is
+-- returned.
+pub record HandsOn {S X : Type 0} (sink : Sink S) (old new : S) (stops : List ℕ → Type 0) (hands : X → Type 0) (result : Result X Error) : Type 0 where
   pub handed : IfOk result hands
+  -- where the call fails, no more than a front is handed on, and nothing after a hole
+  pub left : OnErr result (LeavesOf sink old new stops)
   -- the call fails with the device's failure, or as the sink refuses some piece
   pub refused : FailsOr result (DeclinesAny sink.refuses)
   -- the device is blamed only where it failed

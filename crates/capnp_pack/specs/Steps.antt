@@ -3,7 +3,7 @@ use Rattle.std.specs.Prelude.{◌≡◌, ℕ, ◌+◌, ◌*◌, ◌%◌, ◌<◌
 use Rattle.std.specs.List.{concat, filter, AllByRecursion}
 use Rattle.capnp_frame.specs.declared.error.ErrorKind.{ErrorKind}
 use Rattle.capnp_frame.specs.declared.error.ErrorKind.TheVariants.{PrematureEndOfPackedInput, PackedInputDidNotEndCleanlyOnASegmentBoundary}
-use Rattle.capnp_frame.specs.Sink.{Appending, AppendsAll}
+use Rattle.capnp_frame.specs.Sink.{Appending, Leaving, AppendsAll, LeavesSome}
 use Rattle.capnp_frame.specs.Source.{Refusing, RunsShort, IfKnown, AnswersPart}
 use Rattle.capnp_pack.specs.Group.{Group, IsGroup, AreZero, group_text, group_words, marked, unmarked, zero_bytes, zero_word}
 use Rattle.capnp_pack.specs.Piece.{IsPiece}
@@ -107,3 +107,16 @@ pub record Hands (appends : Appending) (old text new before after : List ℕ) : 
   pub told : AppendsAll appends parts handed
   pub added : after ≡ before ++ handed
   pub kept : old ++ text ≡ concat parts ++ new
+
+-- Of a text, cut into parts however, the first ones are added, and of the next one nothing, or what a call that fails
+-- leaves of it.
+abbrev pub LeavesParts : Appending → Leaving → List ℕ → List ℕ → Type 0
+LeavesParts appends leaves text left = (parts : List (List ℕ)) × (concat parts ≡ text) × LeavesSome appends leaves parts left
+
+-- what a buffer holds, and after it the count of a literal run and its words
+abbrev pub LiteralAfter : List ℕ → List (List ℕ) → List ℕ → Type 0
+LiteralAfter buffer others text = (count : ℕ) × IsRun HasFewZeros others count × (text ≡ buffer ++ count ∷ concat (take count others))
+
+-- what a buffer holds, and after it the group of a word and some of those after it
+abbrev pub GroupAfter : List ℕ → List ℕ → List (List ℕ) → List ℕ → Type 0
+GroupAfter buffer word others text = (count : ℕ) × (group : Group) × IsGroupOf word others count group × (text ≡ buffer ++ group_text group)

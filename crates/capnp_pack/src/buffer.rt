@@ -17,7 +17,7 @@ use std::simd::prelude::*;
 pub(crate) fn make_room<W: Write>(sink: &mut W, bytes: &[u8; 64], used: usize) -> Result<usize>
     requires { used ≤ 64 }
     ensures room { IfOk result (λ left. left ≤ 54) }
-    ensures hands { HandsOn W.Write sink.old sink.new (λ left.
+    ensures hands { HandsOn W.Write sink.old sink.new (λ text. text ≡ take used bytes.now) (λ left.
         IfKnown (W.written sink.old) (W.written sink.new)
         (Hands W.appends (take used bytes.now) [] (take left bytes.now))) result }
 {
@@ -32,7 +32,7 @@ pub(crate) fn make_room<W: Write>(sink: &mut W, bytes: &[u8; 64], used: usize) -
 #[inline(always)]
 pub(crate) fn flush<W: Write>(sink: &mut W, bytes: &[u8; 64], used: usize) -> Result<()>
     requires { used ≤ 64 }
-    ensures { HandsOn W.Write sink.old sink.new (λ _.
+    ensures { HandsOn W.Write sink.old sink.new (λ text. text ≡ take used bytes.now) (λ _.
         IfKnown (W.written sink.old) (W.written sink.new)
         (Hands W.appends (take used bytes.now) [] [])) result }
 {

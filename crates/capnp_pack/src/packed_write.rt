@@ -1,5 +1,5 @@
 //! Words into a sink, packed.
-ghost use Rattle.std.specs.Prelude.{◌≡◌, ◌<◌, ◌≤◌, ◌⊎◌, [], ◌∷◌, ◌++◌, IfOk, IfErr, OnOk, take, refl};
+ghost use Rattle.std.specs.Prelude.{◌≡◌, ◌<◌, ◌≤◌, ◌⊎◌, [], ◌∷◌, ◌++◌, IfOk, IfErr, OnOk, OnErr, take, refl};
 ghost use Rattle.std.specs.List.{concat};
 ghost use Rattle.std.specs.Result.{IsErrAnd};
 ghost use Rattle.std.proofs.Common.{◌∙◌};
@@ -10,8 +10,8 @@ ghost use Rattle.capnp_frame.specs.Sink.{DeclinesAny, Adds, Grows};
 ghost use Rattle.capnp_frame.specs.Writers.{WritesTo};
 ghost use Rattle.capnp_pack.specs.Calls.{HandsOn};
 ghost use Rattle.capnp_pack.specs.Group.{Group, group_text};
-ghost use Rattle.capnp_pack.specs.PackedSink.{AppendsPacked, DeclinesPacked};
-ghost use Rattle.capnp_pack.specs.Steps.{IsRun, IsZero, HasFewZeros, Hands, IsGroupOf};
+ghost use Rattle.capnp_pack.specs.PackedSink.{AppendsPacked, LeavesPacked, DeclinesPacked};
+ghost use Rattle.capnp_pack.specs.Steps.{IsRun, IsZero, HasFewZeros, Hands, IsGroupOf, GroupAfter, LiteralAfter};
 
 use crate::buffer::{flush, make_room, push, push_word};
 use crate::runs::{first_mark, literal_run, tag, zero_run};
@@ -52,6 +52,8 @@ impl<'a, W: Write> Write for PackedWrite<'a, W> {
 
     ghost appends = { AppendsPacked W.appends };
 
+    ghost leaves = { LeavesPacked W.appends W.leaves };
+
     ghost refuses = { DeclinesPacked W.refuses };
 
     ghost same = { λ old new. (new.sink.ghost_name ≡ old.sink.ghost_name)
@@ -60,6 +62,9 @@ impl<'a, W: Write> Write for PackedWrite<'a, W> {
     fn write_all(&mut self, piece: &[u8]) -> Result<()>
         ensures added { OnOk result (IfKnown (W.written self.old.sink.now) (W.written self.new.sink.now)
             (Adds (AppendsPacked W.appends piece.now))) }
+        // No more than a front of the packed text is written, and nothing after a hole.
+        ensures left { OnErr result (IfKnown (W.written self.old.sink.now) (W.written self.new.sink.now)
+            (Adds (LeavesPacked W.appends W.leaves piece.now))) }
         ensures failed { IfErr result (λ error. error.kind ≡ ErrorKind.DeviceFailed →
             Fails (W.failures self.old.sink.now) (W.failures self.new.sink.now)) }
         ensures refused { IfErr result (λ error. (error.kind ≡ ErrorKind.DeviceFailed)
@@ -95,7 +100,7 @@ struct Packed {
 fn pack<W: Write>(sink: &mut W, piece: &[u8]) -> Result<()>
     requires { IsWholeWords piece.now }
     ensures { WritesTo W.Write sink.old sink.new (AppendsPacked W.appends piece.now)
-        (DeclinesAny W.refuses) result }
+        (LeavesPacked W.appends W.leaves piece.now) (DeclinesAny W.refuses) result }
 {
     let (words, _) = piece.as_chunks::<8>();
     let mut bytes = [0; 64];
@@ -120,7 +125,8 @@ fn pack_group<W: Write>(
 ) -> Result<Packed>
     requires { used ≤ 64 }
     ensures used { IfOk result (λ packed. packed.used ≤ 64) }
-    ensures hands { HandsOn W.Write sink.old sink.new (λ packed. (group : Group)
+    ensures hands { HandsOn W.Write sink.old sink.new
+        (GroupAfter (take used bytes.old) word.now others.now) (λ packed. (group : Group)
         × IsGroupOf word.now others.now packed.words group
         × IfKnown (W.written sink.old) (W.written sink.new)
         (Hands W.appends (take used bytes.old) (group_text group)
@@ -164,7 +170,8 @@ fn pack_literal<W: Write>(
     requires { end < 64 }
     ensures used { IfOk result (λ packed. packed.used ≤ 64) }
     ensures run { IfOk result (λ packed. IsRun HasFewZeros others.now packed.words) }
-    ensures hands { HandsOn W.Write sink.old sink.new (λ packed.
+    ensures hands { HandsOn W.Write sink.old sink.new
+        (LiteralAfter (take end bytes.old) others.now) (λ packed.
         IfKnown (W.written sink.old) (W.written sink.new) (Hands W.appends (take end bytes.old)
         (packed.words ∷ concat (take packed.words others.now))
         (take packed.used bytes.new))) result }

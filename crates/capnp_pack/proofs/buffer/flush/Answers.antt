@@ -6,4 +6,4 @@ use Rattle.capnp_pack.proofs.buffer.flush.Goals as goal
 pub returns : goal.returns
 returns g c =
     let told = c.write_all.ensures in
-    hands_piece g.W.Write _ _ _ _ c.write_all.result (search rules) told.added told.refused told.failed told.grows
+    hands_piece g.W.Write _ _ _ _ c.write_all.result (search rules) told.added told.left told.refused told.failed told.grows

@@ -1,18 +1,38 @@
 -- The tag says which group it is.
 use Rattle.std.proofs.Common.{rules, arith, length, take, ◌≡◌, ◌<◌}
-use Rattle.capnp_pack.proofs.PackingLemmas.{made_zeros, made_tagged, made_literal, run_of_none}
+use Rattle.capnp_pack.proofs.PackingLemmas.{made_zeros, made_tagged, made_literal, literal_front, run_of_none}
 use Rattle.capnp_pack.proofs.CallLemmas.{hands_after}
 use Rattle.capnp_pack.proofs.Chunks.{each_word}
+use Rattle.capnp_pack.proofs.LeavingLemmas.{left_room, left_literal}
+use Rattle.capnp_pack.specs.Steps.{tag_of}
+use Rattle.std.proofs.lemmas.Result.{err_from_is_err_and}
 use Rattle.capnp_pack.proofs.packed_write.pack_group.Goals as goal
+
+pub returns-in_err-start-clause-hands : goal.returns-in_err-start-clause-hands
+returns-in_err-start-clause-hands g c =
+    let p = err_from_is_err_and c.from_residual.result c.from_residual.ensures.1 in
+    let is : length c.args.word.now ≡ 8 = search rules in
+    let told = c.in_err-start.ensures.hands in
+    let (text, same, left) = told.left in
+    rw (p.1, p.2) (record {
+      handed = tt;
+      left = left_room g.W.Write.appends g.W.Write.leaves c.args.word.now c.args.others.now _ text _ _ is (each_word c.args.others.now c.told-others) same left;
+      refused = told.refused;
+      failed = told.failed;
+      grows = told.grows;
+    })
 
 pub returns-then-tag-clause-hands : goal.returns-then-tag-clause-hands
 returns-then-tag-clause-hands g c =
     let is : length c.args.word.now ≡ 8 = search rules in
     let all = each_word c.args.others.now c.told-others in
-    hands_after g.W.Write g.met.W.Write.keeps _ _ _ _ _ c.pack_literal.result
+    let full : tag_of c.args.word.now ≡ 255 = search rules in
+    hands_after g.W.Write g.met.W.Write.keeps _ _ _ _ _ _ _ c.pack_literal.result
     (made_literal (λ packed. packed.words)
     (λ packed. take packed.used _) g.W.Write.appends _ _ c.tag-tag.result _ _ _ _ _ _ c.pack_literal.result is all c.tag-tag.ensures
     (search rules) c.push_word-end.ensures.word c.in_ok-start.ensures.hands.handed c.pack_literal.ensures.run c.pack_literal.ensures.hands.handed)
+    (left_literal g.W.Write.appends g.W.Write.leaves _ _ _ _ _ _ _ _ is all full
+    (literal_front _ c.tag-tag.result _ _ is c.tag-tag.ensures (search rules) c.push_word-end.ensures.word) c.in_ok-start.ensures.hands.handed)
     c.make_room.ensures.hands.grows c.pack_literal.ensures.hands
 
 pub returns-then-tag-first_mark-eq0-clause-hands : goal.returns-then-tag-first_mark-eq0-clause-hands
@@ -22,6 +42,7 @@ returns-then-tag-first_mark-eq0-clause-hands g c =
     record {
       handed = made_zeros g.W.Write.appends _ _ _ c.tag-tag.result _ _ _ _ _ _ is c.tag-tag.ensures none c.pack_zeros.ensures.run
           c.push_word-end.ensures.word c.pack_zeros.ensures.counted c.in_ok-start.ensures.hands.handed;
+      left = tt;
       refused = tt;
       failed = tt;
       grows = c.make_room.ensures.hands.grows;
@@ -35,6 +56,7 @@ returns-then-tag-eq0-clause-hands g c =
     record {
       handed = made_zeros g.W.Write.appends _ _ _ c.tag-tag.result _ _ _ _ _ _ is c.tag-tag.ensures none
           (run_of_none c.args.others.now (c.first_mark.ensures some)) c.push_word-end.ensures.word c.push_word-end.ensures.zero c.in_ok-start.ensures.hands.handed;
+      left = tt;
       refused = tt;
       failed = tt;
       grows = c.make_room.ensures.hands.grows;
@@ -46,6 +68,7 @@ returns-else-tag-eq0-clause-hands g c =
     record {
       handed = made_tagged g.W.Write.appends _ _ c.tag-tag.result _ _ _ _ _ is c.tag-tag.ensures (search rules) (search rules)
           c.push_word-end.ensures.word c.in_ok-start.ensures.hands.handed;
+      left = tt;
       refused = tt;
       failed = tt;
       grows = c.make_room.ensures.hands.grows;

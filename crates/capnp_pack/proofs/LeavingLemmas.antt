@@ -1,0 +1,140 @@
+-- What a packer leaves at a sink where a call fails.
+use Rattle.std.proofs.Common.{◌≡◌, ℕ, ◌+◌, ◌≤◌, ◌⊎◌, inl, inr, Option, List, [], ◌∷◌, ◌++◌, length, take, drop, refl, sym, ap, ◌∙◌, subst, append_assoc}
+use Rattle.std.specs.List.{concat, flat_map, AllByRecursion}
+use Rattle.std.proofs.lemmas.List.{append-nil, drop_all, length-take-le}
+use Rattle.std.proofs.lemmas.List.Folds.{concat-append}
+use Rattle.std.proofs.lemmas.List.Concat.{concat_is}
+use Rattle.capnp_frame.specs.Source.{IfKnown}
+use Rattle.capnp_frame.specs.Sink.{Appending, Leaving, Adds, AppendsAll, LeavesSome}
+use Rattle.capnp_frame.proofs.SourceLemmas.{IfKnown-join, IfKnown-weaker}
+use Rattle.capnp_frame.proofs.SinkLemmas.{left_front, left_after}
+use Rattle.capnp_pack.specs.Group.{Group, literal, IsWord, group_text}
+use Rattle.capnp_pack.specs.Packed.{Packs}
+use Rattle.capnp_pack.specs.PackedSink.{LeavesPacked}
+use Rattle.capnp_pack.specs.Steps.{HasFewZeros, IsRun, IsGroupOf, Hands, LeavesParts, LiteralAfter, GroupAfter, tag_of}
+use Rattle.capnp_pack.proofs.AllLemmas.{AllByRecursion-drop}
+use Rattle.capnp_pack.proofs.PackerGroups.{IsGroupOf-some, IsGroupOf-literal}
+use Rattle.capnp_pack.proofs.PackerLemmas.{PacksWords, PacksTo, PacksWords-more, PacksWords-none, PacksWords-some, Packs-words}
+
+-- a front of a longer text
+parts_longer : (appends : Appending) (leaves : Leaving) (text more left : List ℕ) → LeavesParts appends leaves text left → LeavesParts appends leaves (text ++ more) left
+parts_longer appends leaves text more left (parts, joined, stopped) = (
+  parts ++ more ∷ [],
+  concat-append parts (more ∷ []) ∙ ap (λ l. concat parts ++ l) (append-nil more) ∙ ap (λ l. l ++ more) joined,
+  left_front appends leaves parts (more ∷ []) left stopped,
+)
+
+pub left_longer : (appends : Appending) (leaves : Leaving) (text more whole : List ℕ) (a b : Option (List ℕ)) → whole ≡ text ++ more
+    → IfKnown a b (Adds (LeavesParts appends leaves text)) → IfKnown a b (Adds (LeavesParts appends leaves whole))
+left_longer appends leaves text more whole a b is = IfKnown-weaker a b (λ x y p.
+    (p.0, subst (λ l. LeavesParts appends leaves l p.0) (sym is) (parts_longer appends leaves text more p.0 p.1), p.2))
+
+-- one part
+pub left_piece : (appends : Appending) (leaves : Leaving) (text piece : List ℕ) (a b : Option (List ℕ)) → text ≡ piece
+    → IfKnown a b (Adds (leaves piece)) → IfKnown a b (Adds (LeavesParts appends leaves text))
+left_piece appends leaves text piece a b is = IfKnown-weaker a b (λ x y p. (p.0, (piece ∷ [], append-nil piece ∙ sym is, inr (inl p.1)), p.2))
+
+-- what is left after parts that are handed on
+parts_after : (appends : Appending) (leaves : Leaving) (old text new more x y z : List ℕ) → Hands appends old text new x y
+    → Adds (LeavesParts appends leaves (new ++ more)) y z → Adds (LeavesParts appends leaves ((old ++ text) ++ more)) x z
+parts_after appends leaves old text new more x y z h (left, (parts, joined, stopped), added) = (
+  h.handed ++ left,
+  (
+    h.parts ++ parts,
+    concat-append h.parts parts ∙ ap (λ l. concat h.parts ++ l) joined ∙ sym (append_assoc (concat h.parts) new more) ∙ ap (λ l. l ++ more) (sym h.kept),
+    left_after appends leaves h.parts parts h.handed left h.told stopped,
+  ),
+  added ∙ ap (λ l. l ++ left) h.added ∙ append_assoc x h.handed left,
+)
+
+pub left_after_handed : (appends : Appending) (leaves : Leaving) (old text new more whole : List ℕ) (a b c : Option (List ℕ)) → whole ≡ (old ++ text) ++ more
+    → IfKnown a b (Hands appends old text new) → IfKnown b c (Adds (LeavesParts appends leaves (new ++ more))) → IfKnown a c (Adds (LeavesParts appends leaves whole))
+left_after_handed appends leaves old text new more whole a b c is =
+    IfKnown-join a b c (λ x y z h p. subst (λ l. Adds (LeavesParts appends leaves l) x z) (sym is) (parts_after appends leaves old text new more x y z h p))
+
+-- A literal run
+
+-- the buffer with its count isn't handed on
+pub left_count : (appends : Appending) (leaves : Leaving) (count : ℕ) (old pushed text : List ℕ) (others : List (List ℕ)) (a b : Option (List ℕ))
+    → IsRun HasFewZeros others count → pushed ≡ old ++ count ∷ [] → text ≡ pushed → IfKnown a b (Adds (LeavesParts appends leaves text))
+    → (whole : List ℕ) × LiteralAfter old others whole × IfKnown a b (Adds (LeavesParts appends leaves whole))
+left_count appends leaves count old pushed text others a b run push is left =
+    let words = concat (take count others) in
+    let whole : old ++ count ∷ words ≡ text ++ words = sym (append_assoc old (count ∷ []) words) ∙ ap (λ l. l ++ words) (sym (is ∙ push)) in
+    (old ++ count ∷ words, (count, run, refl), left_longer appends leaves text words (old ++ count ∷ words) a b whole left)
+
+-- its words aren't, after the buffer
+pub left_words : (appends : Appending) (leaves : Leaving) (count : ℕ) (old pushed flat : List ℕ) (others : List (List ℕ)) (a b c : Option (List ℕ))
+    → IsRun HasFewZeros others count → pushed ≡ old ++ count ∷ [] → flat ≡ flat_map (λ x. x) (take count others)
+    → IfKnown a b (Hands appends pushed [] []) → IfKnown b c (Adds (leaves flat))
+    → (whole : List ℕ) × LiteralAfter old others whole × IfKnown a c (Adds (LeavesParts appends leaves whole))
+left_words appends leaves count old pushed flat others a b c run push all handed left =
+    let words = concat (take count others) in
+    let is : words ≡ flat = concat_is (take count others) ∙ sym all in
+    let whole : old ++ count ∷ words ≡ (pushed ++ []) ++ words =
+    sym (append_assoc old (count ∷ []) words) ∙ ap (λ l. l ++ words) (sym push ∙ sym (append-nil pushed)) in
+    (old ++ count ∷ words, (count, run, refl),
+    left_after_handed appends leaves pushed [] [] words (old ++ count ∷ words) a b c whole handed (left_piece appends leaves words flat b c is left))
+
+-- A group
+
+-- no room is made for it
+pub left_room : (appends : Appending) (leaves : Leaving) (word : List ℕ) (os : List (List ℕ)) (old text : List ℕ) (a b : Option (List ℕ))
+    → IsWord word → AllByRecursion IsWord os → text ≡ old → IfKnown a b (Adds (LeavesParts appends leaves text))
+    → (whole : List ℕ) × GroupAfter old word os whole × IfKnown a b (Adds (LeavesParts appends leaves whole))
+left_room appends leaves word os old text a b is all same left =
+    let (count, (group, made)) = IsGroupOf-some word os is all in
+    (old ++ group_text group, (count, group, made, refl),
+    left_longer appends leaves text (group_text group) (old ++ group_text group) a b (ap (λ l. l ++ group_text group) (sym same)) left)
+
+-- it is one of words that go as they stand
+pub left_literal : (appends : Appending) (leaves : Leaving) (word : List ℕ) (os : List (List ℕ)) (old roomy filled : List ℕ) (a b c : Option (List ℕ))
+    → IsWord word → AllByRecursion IsWord os → tag_of word ≡ 255 → filled ≡ roomy ++ 255 ∷ word → IfKnown a b (Hands appends old [] roomy)
+    → (text : List ℕ) × LiteralAfter filled os text × IfKnown b c (Adds (LeavesParts appends leaves text))
+    → (whole : List ℕ) × GroupAfter old word os whole × IfKnown a c (Adds (LeavesParts appends leaves whole))
+left_literal appends leaves word os old roomy filled a b c is all full fill roomed (text, (count, run, spelled), left) =
+    let further = take count os in
+    let long : length further ≡ count = length-take-le count os run.within in
+    let group = literal word further in
+    let text_is : text ≡ roomy ++ group_text group = spelled ∙ ap (λ k. filled ++ k ∷ concat further) (sym long)
+    ∙ ap (λ l. l ++ length further ∷ concat further) fill ∙ append_assoc roomy (255 ∷ word) (length further ∷ concat further) in
+    (old ++ group_text group, (count, group, IsGroupOf-literal word os count is all full run, refl),
+    left_after_handed appends leaves old [] roomy (group_text group) (old ++ group_text group) a b c
+    (ap (λ l. l ++ group_text group) (sym (append-nil old))) roomed
+    (subst (λ l. IfKnown b c (Adds (LeavesParts appends leaves l))) text_is left))
+
+-- A piece
+
+-- some parts of its text
+packed_left : (appends : Appending) (leaves : Leaving) (piece text : List ℕ) (a b : Option (List ℕ)) → Packs piece text
+    → IfKnown a b (Adds (LeavesParts appends leaves text)) → IfKnown a b (Adds (LeavesPacked appends leaves piece))
+packed_left appends leaves piece text a b packed = IfKnown-weaker a b (λ x y (left, (parts, joined, stopped), added).
+    (left, inr (parts, subst (Packs piece) (sym joined) packed, stopped), added))
+
+-- a group isn't handed on
+pub left_group : (appends : Appending) (leaves : Leaving) (piece : List ℕ) (words : List (List ℕ)) (done : ℕ) (w : List ℕ) (os : List (List ℕ)) (buffer : List ℕ)
+    (a b c : Option (List ℕ)) → concat words ≡ piece → AllByRecursion IsWord words → drop done words ≡ w ∷ os
+    → ((text : List ℕ) × PacksTo words text (drop done words) × IfKnown a b (Hands appends [] text buffer))
+    → (s : List ℕ) × GroupAfter buffer w os s × IfKnown b c (Adds (LeavesParts appends leaves s))
+    → IfKnown a c (Adds (LeavesPacked appends leaves piece))
+left_group appends leaves piece words done w os buffer a b c whole all front (text, to, handed) (s, (count, group, made, spelled), left) =
+    let each : AllByRecursion IsWord (w ∷ os) = subst (AllByRecursion IsWord) front (AllByRecursion-drop IsWord done words all) in
+    let (more, rest) = PacksWords-some (drop count os) (AllByRecursion-drop IsWord count os each.1) in
+    let behind = group_text group ++ more in
+    let packed : PacksWords words (text ++ behind) = to behind (subst (λ l. PacksWords l behind) (sym front) (PacksWords-more w os count group more made rest)) in
+    let longer : buffer ++ behind ≡ s ++ more = sym (append_assoc buffer (group_text group) more) ∙ ap (λ l. l ++ more) (sym spelled) in
+    packed_left appends leaves piece (text ++ behind) a c (subst (λ l. Packs l (text ++ behind)) whole (Packs-words words (text ++ behind) packed))
+    (left_after_handed appends leaves [] text buffer behind (text ++ behind) a b c refl handed (left_longer appends leaves s more (buffer ++ behind) b c longer left))
+
+-- the last bytes aren't
+pub left_last : (appends : Appending) (leaves : Leaving) (piece : List ℕ) (words : List (List ℕ)) (done : ℕ) (buffer : List ℕ) (a b c : Option (List ℕ))
+    → concat words ≡ piece → length words ≤ done
+    → ((text : List ℕ) × PacksTo words text (drop done words) × IfKnown a b (Hands appends [] text buffer))
+    → (s : List ℕ) × (s ≡ buffer) × IfKnown b c (Adds (LeavesParts appends leaves s))
+    → IfKnown a c (Adds (LeavesPacked appends leaves piece))
+left_last appends leaves piece words done buffer a b c whole past (text, to, handed) (s, is, left) =
+    let over : drop done words ≡ [] = drop_all done words past in
+    let packed : PacksWords words (text ++ []) = to [] (subst (λ l. PacksWords l []) (sym over) PacksWords-none) in
+    packed_left appends leaves piece (text ++ []) a c (subst (λ l. Packs l (text ++ [])) whole (Packs-words words (text ++ []) packed))
+    (left_after_handed appends leaves [] text buffer [] (text ++ []) a b c refl handed
+    (left_longer appends leaves s [] (buffer ++ []) b c (ap (λ l. l ++ []) (sym is)) left))
