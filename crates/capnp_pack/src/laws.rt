@@ -5,13 +5,15 @@ ghost use Rattle.capnp_frame.specs.Message.{IsWholeWords, lengths};
 ghost use Rattle.capnp_frame.specs.declared.serialize.segment_table.Padding.{Padding};
 ghost use Rattle.capnp_frame.specs.SegmentTable.{zero_padded_table, HasTable};
 ghost use Rattle.capnp_frame.specs.Requests.{MessageStands};
-ghost use Rattle.capnp_frame.specs.Sink.{AppendsAll, AppendsSame};
+ghost use Rattle.capnp_frame.specs.Source.{IsFront};
+ghost use Rattle.capnp_frame.specs.Sink.{AppendsAll, AppendsSame, LeavesFront};
 ghost use Rattle.capnp_frame.specs.Writing.{pieces};
 ghost use Rattle.capnp_pack.specs.Packed.{Packs};
 ghost use Rattle.capnp_pack.specs.PackedFrame.{IsPackedFrame, IsPackedText, PackedStands};
 ghost use Rattle.capnp_pack.specs.PackedSource.{Unpacks};
-ghost use Rattle.capnp_pack.specs.PackedSink.{AppendsPacked};
+ghost use Rattle.capnp_pack.specs.PackedSink.{AppendsPacked, LeavesPacked};
 
+use capnp_frame::io::Write;
 use capnp_frame::serialize::Padding;
 
 /// A packed request has one answer at most, and leaves one rest.
@@ -83,6 +85,14 @@ pub fn packed_text_is_short()
 /// A plain sink that is written packed gets just the packed text of each piece.
 pub fn plain_sink_gets_the_packed_text()
     ensures { (piece text : List ℕ) → AppendsPacked AppendsSame piece text ↔ Packs piece text }
+{}
+
+/// Where a call fails, a plain sink that is left with a front of a piece at most is left with a front of the
+/// packed text of what was to be written.
+pub fn what_is_left_of_packed_words_is_a_front<W: Write>()
+    ensures { ((piece text : List ℕ) → W.leaves piece text → LeavesFront piece text) →
+        (piece text packed : List ℕ) → LeavesPacked AppendsSame W.leaves piece text →
+        Packs piece packed → IsFront text packed }
 {}
 
 /// And of a message whose pieces are handed to it one after another, as `write_segments` does, it

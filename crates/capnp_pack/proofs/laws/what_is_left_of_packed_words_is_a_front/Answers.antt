@@ -1,0 +1,13 @@
+-- The parts that are left are a front of the only packed text.
+use Rattle.std.proofs.Common.{inl, inr, sym, ap, ◌++◌, ◌∙◌}
+use Rattle.std.specs.List.{concat}
+use Rattle.capnp_frame.proofs.SinkLemmas.{left_is_front}
+use Rattle.capnp_pack.proofs.PackerLemmas.{Packs-once}
+use Rattle.capnp_pack.proofs.laws.what_is_left_of_packed_words_is_a_front.Goals as goal
+
+pub returns : goal.returns
+returns g c within piece text packed left packs = elim left [
+  | inl none ↦ (packed, ap (λ l. l ++ packed) (sym none))
+  | inr (parts, own, stopped) ↦ let (tail, e) = left_is_front g.W.Write.leaves within parts text stopped in
+      (tail, Packs-once piece packed (concat parts) packs own ∙ e)
+]
