@@ -1,17 +1,18 @@
 -- The one segment of a canonical form can be written.
-use Rattle.std.proofs.Common.{◌≡◌, ◌⊎◌, ℕ, suc, ◌/◌, ◌^◌, ◌<◌, List, [], ◌∷◌, length, Result, Ok, Err, true, inl, inr, sym, ap, subst, arith}
+use Rattle.std.proofs.Common.{◌≡◌, ◌⊎◌, ℕ, suc, ◌/◌, ◌^◌, ◌<◌, List, [], ◌∷◌, length, refl, Result, Ok, Err, true, inl, inr, sym, ap, subst, arith}
 use Rattle.std.specs.Result.{IsErrAnd}
 use Rattle.capnp_frame.specs.declared.error.Error.{Error}
 use Rattle.capnp_frame.specs.declared.error.ErrorKind.{ErrorKind}
 use Rattle.capnp_frame.specs.declared.error.ErrorKind.TheVariants.{DeviceFailed, OutOfMemory}
 use Rattle.capnp_frame.specs.declared.io.Write.{Ghosts}
-use Rattle.capnp_frame.specs.Sink.{Declining, AppendsAll, DeclinesSome}
+use Rattle.capnp_frame.specs.Sink.{Declining, Adds, AppendsAll, LeavesSome, DeclinesSome}
 use Rattle.capnp_frame.specs.Asking.{FailsOr}
 use Rattle.capnp_frame.specs.Source.{IsPreorder, Fails}
 use Rattle.capnp_frame.specs.Writers.{WritesTo, WritesSegments}
 use Rattle.capnp_frame.specs.Writing.{IsWritable, pieces}
 use Rattle.capnp_frame.proofs.AskLemmas.{passed_on}
-use Rattle.capnp_frame.proofs.SourceLemmas.{Grows-refl, IfKnown-weaker}
+use Rattle.capnp_frame.proofs.SourceLemmas.{Grows-refl, IfKnown-refl, IfKnown-weaker}
+use Rattle.std.proofs.lemmas.List.{append-nil}
 use Rattle.capnp_wire.specs.Pointer.{words_of}
 use Rattle.capnp_wire.specs.Tree.{total_words}
 use Rattle.capnp_wire.specs.Trim.{trim}
@@ -22,7 +23,7 @@ use Rattle.capnp_wire.proofs.SizeLemmas.{length-body}
 use Rattle.capnp_wire.proofs.OpenLemmas.{room_formed}
 use Rattle.capnp_wire.proofs.WordLemmas.{length-words_of}
 use Rattle.capnp_message.specs.Canonical.{LacksForm}
-use Rattle.capnp.specs.Canonical.{IsForm, AppendsForm, BreaksForm, DeclinesForm}
+use Rattle.capnp.specs.Canonical.{IsForm, AppendsForm, LeavesForm, BreaksForm, DeclinesForm}
 use Rattle.capnp.specs.Written.{RefusesWriter}
 use Rattle.capnp.proofs.BlameLemmas.{answer_blames_none}
 
@@ -64,10 +65,11 @@ declines_writing pointer refuses form segments kind stands is (inr (inr (inr mem
 -- so where there is no form, nothing is written
 pub form_lacking : {S X : Type 0} (sink : Ghosts S) (keeps : IsPreorder sink.same) (s : S) (pointer : Pointer) (e : Error) (r : Result X Error)
     → IsErrAnd r (λ y. y ≡ e) → LacksForm pointer e.kind ⊎ (e.kind ≡ OutOfMemory)
-    → WritesTo sink s s (AppendsForm pointer sink.appends) (λ kind. (kind ≡ OutOfMemory) ⊎ DeclinesForm pointer sink.refuses kind) r
+    → WritesTo sink s s (AppendsForm pointer sink.appends) (LeavesForm pointer sink.appends sink.leaves) (λ kind. (kind ≡ OutOfMemory) ⊎ DeclinesForm pointer sink.refuses kind) r
 form_lacking sink keeps s pointer e (Ok y) is lacks = absurd is
 form_lacking {X = X} sink keeps s pointer e (Err o) is lacks = record {
   written = tt;
+  left = IfKnown-refl (Adds (LeavesForm pointer sink.appends sink.leaves)) (sink.written s) (λ x. ([], inl refl, sym (append-nil x)));
   refused = passed_on {Y = X} {error = e} (λ (y : Error). (y.kind ≡ DeviceFailed) ⊎ (y.kind ≡ OutOfMemory) ⊎ DeclinesForm pointer sink.refuses y.kind)
       (Err o) is (declines_reading pointer sink.refuses e.kind lacks);
   failed = passed_on {Y = X} {error = e} (λ (y : Error). y.kind ≡ DeviceFailed → Fails (sink.failures s) (sink.failures s)) (Err o) is
@@ -78,16 +80,19 @@ form_lacking {X = X} sink keeps s pointer e (Err o) is lacks = record {
 -- and the form is written as the message of one segment
 pub form_written : {S X : Type 0} (sink : Ghosts S) (old new : S) (pointer : Pointer) (form : List ℕ) (segments : List (List ℕ)) (r : Result X Error)
     → IsForm pointer form → segments ≡ form ∷ [] → WritesSegments sink old new segments r
-    → WritesTo sink old new (AppendsForm pointer sink.appends) (λ kind. (kind ≡ OutOfMemory) ⊎ DeclinesForm pointer sink.refuses kind) r
+    → WritesTo sink old new (AppendsForm pointer sink.appends) (LeavesForm pointer sink.appends sink.leaves) (λ kind. (kind ≡ OutOfMemory) ⊎ DeclinesForm pointer sink.refuses kind) r
 form_written sink old new pointer form segments (Ok x) stands is told = record {
   written = IfKnown-weaker (sink.written old) (sink.written new) (λ before after (text, p, e).
       (text, (form, stands, subst (λ (s : List (List ℕ)). AppendsAll sink.appends (pieces s) text) is p), e)) told.parts.written;
+  left = tt;
   refused = tt;
   failed = tt;
   grows = told.parts.grows;
 }
 form_written sink old new pointer form segments (Err e) stands is told = record {
   written = tt;
+  left = IfKnown-weaker (sink.written old) (sink.written new) (λ before after (text, p, e).
+      (text, inr (form, stands, subst (λ (s : List (List ℕ)). LeavesSome sink.appends sink.leaves (pieces s) text) is p), e)) told.parts.left;
   refused = declines_writing pointer sink.refuses form segments e.kind stands is told.parts.refused;
   failed = told.parts.failed;
   grows = told.parts.grows;

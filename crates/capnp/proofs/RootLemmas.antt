@@ -1,15 +1,19 @@
 -- A message that was written and is read back.
-use Rattle.std.proofs.Common.{◌≡◌, ◌⊎◌, inr, ℕ, ◌<◌, Option, Some, None, Result, Ok, Err, IfOk, IfErr, List, [], ◌∷◌, ◌++◌, length, map, refl, sym, ap, ◌∙◌, subst, arith}
-use Rattle.std.proofs.lemmas.List.{append-nil}
+use Rattle.std.proofs.Common.{◌≡◌, ◌⊎◌, inl, inr, ℕ, ◌+◌, ◌-◌, ◌^◌, ◌<◌, ◌≤◌, Option, Some, None, Result, Ok, Err, IfOk, IfErr, List, [], ◌∷◌, ◌++◌, length, map, min, refl, sym, ap, ◌∙◌, subst, arith}
+use Rattle.std.proofs.lemmas.List.{append-nil, length-map}
 use Rattle.capnp_frame.specs.declared.serialize.segment_table.Padding.{Padding}
 use Rattle.capnp_frame.specs.declared.error.Error.{Error}
-use Rattle.capnp_frame.specs.declared.error.ErrorKind.TheVariants.{OutOfMemory}
-use Rattle.capnp_frame.specs.Limits.{KeepsLimit}
-use Rattle.capnp_frame.specs.Message.{lengths}
+use Rattle.capnp_frame.specs.declared.error.ErrorKind.TheVariants.{DeviceFailed, OutOfMemory, MessageTooLarge}
+use Rattle.capnp_frame.specs.declared.message.options.ReaderOptions.{ReaderOptions}
+use Rattle.capnp_frame.specs.Limits.{KeepsLimit, AreWithin}
+use Rattle.capnp_frame.specs.Refusals.{IsTooLarge}
+use Rattle.capnp_frame.specs.Message.{word_count, lengths, size_in_words}
 use Rattle.capnp_frame.specs.declared.io.Read.{Ghosts}
 use Rattle.capnp_frame.specs.Sink.{Adds}
-use Rattle.capnp_frame.specs.Streams.{StreamRules, message_in, ReadsStream}
+use Rattle.capnp_frame.specs.Streams.{message_in, ReadsStream}
 use Rattle.capnp_frame.specs.Writing.{IsWritable, HasFew, RefusesMany}
+use Rattle.capnp_frame.proofs.AgreementLemmas.{limit_cases}
+use Rattle.capnp_frame.proofs.LimitLemmas.{past_limit}
 use Rattle.capnp_wire.specs.Tree.{Trees}
 use Rattle.capnp_wire.specs.Reached.{At, at, root}
 use Rattle.capnp_wire.proofs.LaidOutLemmas.{word_stands}
@@ -19,12 +23,12 @@ use Rattle.capnp_build.specs.Held.{used_of}
 use Rattle.capnp_build.proofs.NullLemmas.{root_stands}
 use Rattle.capnp.specs.declared.streams.Format.{Format}
 use Rattle.capnp.specs.Headline.{IsFault, ReturnsTexts, OrFailsAtEnd}
-use Rattle.capnp.specs.Roots.{HasRootTree, HasRootOf}
-use Rattle.capnp.specs.Streams.{grammar_of, StandsNext}
+use Rattle.capnp.specs.Roots.{HasRootTree, HasRootOf, RefusesSize, ReadsWritten}
+use Rattle.capnp.specs.Streams.{grammar_of, rules_of, StandsNext}
 use Rattle.capnp.specs.Written.{IsTextOf}
 use Rattle.capnp.proofs.AppendedLemmas.{text_is, memory_only}
 use Rattle.capnp.proofs.FormatLemmas.{or_fails_failed}
-use Rattle.capnp.proofs.RunLemmas.{format_parts}
+use Rattle.capnp.proofs.RunLemmas.{format_lawful, format_requested, format_parts}
 use Rattle.capnp.proofs.WriterLemmas.{IsWithin-written}
 
 -- where a tree stands at the root, there is a segment
@@ -53,27 +57,93 @@ root_is_read rule format limit spaces trees text rest left read root writable fe
     (subst (λ (segments : List (List ℕ)). HasRootTree segments trees) (sym same.0) root, same.1)
 
 -- what was added to nothing is its text, alone
-pub added_stands : (rule : Padding) (format : Format) (limit : Option ℕ) (m : List (List ℕ)) (start new shown : List ℕ) → start ≡ [] → shown ≡ new → IsWritable m
-    → Adds (IsTextOf format m) start new → HasFew m → KeepsLimit (lengths m) limit → StandsNext rule format limit m shown []
-added_stands rule format limit m start new shown none same writable (text, here, e) few size =
-    let alone : shown ≡ text ++ [] = same ∙ e ∙ ap (λ (l : List ℕ). l ++ text) none ∙ sym (append-nil text) in
-    subst (λ (l : List ℕ). StandsNext rule format limit m l []) (sym alone) (text_stands rule format limit m text [] writable few size here)
+added_stands : (rule : Padding) (format : Format) (limit : Option ℕ) (m : List (List ℕ)) (shown : List ℕ) → IsWritable m
+    → IsTextOf format m shown → HasFew m → KeepsLimit (lengths m) limit → StandsNext rule format limit m shown []
+added_stands rule format limit m shown writable here few size =
+    subst (λ (l : List ℕ). StandsNext rule format limit m l []) (append-nil shown) (text_stands rule format limit m shown [] writable few size here)
 
-pub read_again : {X : Type 0} (rule : Padding) (format : Format) (limit : Option ℕ) (segments : X → List (List ℕ)) (r : Result X Error) (m : List (List ℕ)) (shown : List ℕ)
-    (left : Option (List ℕ)) → StandsNext rule format limit m shown []
-    → ReturnsTexts (grammar_of rule format) limit (Some shown) left (message_in segments r) → IfOk r (λ x. segments x ≡ m)
-read_again rule format limit segments (Err e) m shown left stands texts = tt
-read_again rule format limit segments (Ok x) m shown None stands texts = absurd texts.found
-read_again rule format limit segments (Ok x) m shown (Some rest) stands texts = ((format_parts rule format limit).begins_once (segments x) m shown rest [] texts.found stands).0
+pub added_alone : (format : Format) (m : List (List ℕ)) (start new shown : List ℕ) → start ≡ [] → shown ≡ new
+    → Adds (IsTextOf format m) start new → IsTextOf format m shown
+added_alone format m start new shown none same (text, here, e) =
+    subst (IsTextOf format m) (sym (same ∙ e ∙ ap (λ (l : List ℕ). l ++ text) none)) here
 
-pub memory_alone : {S X : Type 0} (m : List (List ℕ)) (source : Ghosts S) (old new : S) (rules : StreamRules) (limit : Option ℕ)
-    (segments : X → List (List ℕ)) (r : Result X Error) → IfErr (message_in segments r) (λ e. IsFault e.kind)
-    → OrFailsAtEnd (ReadsStream source old new rules limit) (message_in segments r)
-    → source.failures old ≡ 0 → source.failures new ≡ 0 → IfErr r (λ e. RefusesMany m e.kind ⊎ (e.kind ≡ OutOfMemory))
-memory_alone m source old new rules limit segments (Ok x) fault reads none still = tt
-memory_alone m source old new rules limit segments (Err e) fault reads none still =
-    let failed = or_fails_failed source old new rules limit (Err e) reads in
-    inr (memory_only e.kind fault (λ device. let fails = failed device in omega (arith, fails, none, still)))
+-- without a limit of words
+unlimited : (rule : Padding) (format : Format) (limit : Option ℕ) (m : List (List ℕ)) (raw rest : List ℕ) → StandsNext rule format limit m raw rest
+    → StandsNext rule format None m raw rest
+unlimited rule format limit m raw rest stands = let within = stands.within in record {
+  text = stands.text;
+  is_text = stands.is_text;
+  within = record { some = within.some; few = within.few; each = within.each; size = tt };
+  spelled = stands.spelled;
+}
+
+-- what is read of it is the message, which is within the limit
+read_again : {X : Type 0} (rule : Padding) (format : Format) (limit : Option ℕ) (segments : X → List (List ℕ)) (x : X) (m : List (List ℕ)) (shown : List ℕ)
+    (left : Option (List ℕ)) → StandsNext rule format None m shown []
+    → ReturnsTexts (grammar_of rule format) limit (Some shown) left (message_in segments (Ok x))
+    → (segments x ≡ m) × KeepsLimit (lengths m) limit
+read_again rule format limit segments x m shown None stands texts = absurd texts.found
+read_again rule format limit segments x m shown (Some rest) stands texts =
+    let found : StandsNext rule format limit (segments x) shown rest = texts.found in
+    let same = ((format_parts rule format None).begins_once (segments x) m shown rest [] (unlimited rule format limit (segments x) shown rest found) stands).0 in
+    (same, subst (λ m. KeepsLimit (lengths m) limit) same found.within.size)
+
+-- past the limit of words it fails with that line of the table of refusals
+reads_too_many : {S : Type 0} (rule : Padding) (format : Format) (limit : Option ℕ) (source : Ghosts S) (old new : S) (m : List (List ℕ)) (e : Error)
+    (shown : List ℕ) → StandsNext rule format None m shown [] → source.unread old ≡ Some shown → IsTooLarge (lengths m) limit
+    → OrFailsAtEnd (ReadsStream source old new (rules_of rule format) limit) (Err e)
+    → (e.kind ≡ DeviceFailed) ⊎ (e.kind ≡ OutOfMemory) ⊎ (e.kind ≡ MessageTooLarge (size_in_words m))
+reads_too_many rule format limit source old new m e shown stands unread over reads =
+    let requested = (format_requested rule format m shown []).1 (stands.text, stands.is_text, stands.spelled) in
+    let (left, line) = past_limit rule (format_lawful format) limit m shown [] requested (few_segments stands.within) over in
+    elim reads [
+      | inl told ↦ (rw unread at told.exact) (MessageTooLarge (size_in_words m)) left line
+      | inr (end, told) ↦ absurd ((rw unread at told.exact) (MessageTooLarge (size_in_words m)) left line)
+    ]
+  where
+    few_segments : AreWithin (lengths m) None → length m < 512
+    few_segments within = let few = within.few in omega (arith, few, length-map m word_count)
+
+-- so of what is written and read nothing else comes than the limit and want of memory
+refused_again : {S : Type 0} (rule : Padding) (format : Format) (limit : Option ℕ) (source : Ghosts S) (old new : S) (m : List (List ℕ)) (e : Error) (shown : List ℕ)
+    → IsTextOf format m shown → IsWritable m → HasFew m → source.unread old ≡ Some shown → source.failures old ≡ 0 → source.failures new ≡ 0
+    → (StandsNext rule format limit m shown [] → IsFault e.kind)
+    → OrFailsAtEnd (ReadsStream source old new (rules_of rule format) limit) (Err e)
+    → RefusesMany m e.kind ⊎ RefusesSize m limit e.kind ⊎ (e.kind ≡ OutOfMemory)
+refused_again rule format limit source old new m e shown here writable few unread none still accepted reads = elim (limit_cases (lengths m) limit) [
+  | inr keeps ↦ inr (inr (memory_only e.kind (accepted (added_stands rule format limit m shown writable here few keeps)) never))
+  | inl over ↦ elim (reads_too_many rule format limit source old new m e shown (added_stands rule format None m shown writable here few tt) unread over reads) [
+    | inl device ↦ inr (inr (memory_only e.kind (inl device) never))
+    | inr (inl memory) ↦ inr (inr memory)
+    | inr (inr size) ↦ inr (inl (over, size))
+  ]
+]
+  where
+    never : e.kind ≡ DeviceFailed → min (0 + 1) (2 ^ 64 - 1) ≤ 0
+    never device = let fails = or_fails_failed source old new (rules_of rule format) limit (Err e) reads device in omega (arith, fails, none, still)
+
+-- what is returned of a message that is written and read
+pub written_and_read : {S X : Type 0} (rule : Padding) (format : Format) (options : ReaderOptions) (source : Ghosts S) (old new : S) (m : List (List ℕ))
+    (segments : X → List (List ℕ)) (options_of : X → ReaderOptions) (r : Result X Error) (shown : List ℕ)
+    → IsTextOf format m shown → IsWritable m → HasFew m → source.unread old ≡ Some shown → source.failures old ≡ 0 → source.failures new ≡ 0
+    → ReturnsTexts (grammar_of rule format) options.traversal_limit_in_words (source.unread old) (source.unread new) (message_in segments r)
+    → OrFailsAtEnd (ReadsStream source old new (rules_of rule format) options.traversal_limit_in_words) (message_in segments r)
+    → IfOk r (λ reader. options_of reader ≡ options) → ReadsWritten m options segments options_of r
+written_and_read rule format options source old new m segments options_of (Ok x) shown here writable few unread none still texts reads are =
+    let limit = options.traversal_limit_in_words in
+    let again = read_again rule format limit segments x m shown (source.unread new) (added_stands rule format None m shown writable here few tt) (rw unread at texts) in
+    record { back = again.0; size = again.1; few = few; options_are = are; refused = tt }
+written_and_read rule format options source old new m segments options_of (Err e) shown here writable few unread none still texts reads are =
+    let limit = options.traversal_limit_in_words in
+    let accepted : (raw : List ℕ) → source.unread old ≡ Some raw → (message : List (List ℕ)) (rest : List ℕ) → StandsNext rule format limit message raw rest → IsFault e.kind
+    = λ raw is. rw is at texts.accepted in
+    record {
+      back = tt;
+      size = tt;
+      few = tt;
+      options_are = tt;
+      refused = refused_again rule format limit source old new m e shown here writable few unread none still (accepted shown unread m []) reads;
+    }
 
 -- the root of what is read is that of what was built
 pub tree_again : {X : Type 0} (has_tree : Trees → Type 0) (segments : X → List (List ℕ)) (r : Result X Error) (m : List (List ℕ)) → HasRootOf has_tree m

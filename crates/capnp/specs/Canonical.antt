@@ -7,7 +7,7 @@ use Rattle.capnp_frame.specs.declared.error.ErrorKind.TheVariants.{OutOfMemory}
 use Rattle.capnp_frame.specs.declared.io.Write.{Ghosts}
 use Rattle.capnp_frame.specs.Asking.{FailsOr}
 use Rattle.capnp_frame.specs.Message.{IsWholeWords}
-use Rattle.capnp_frame.specs.Sink.{Appending, AppendsAll, Declining, DeclinesSome, Adds}
+use Rattle.capnp_frame.specs.Sink.{Appending, Leaving, AppendsAll, LeavesSome, Declining, DeclinesSome, Adds}
 use Rattle.capnp_frame.specs.Source.{IfKnown}
 use Rattle.capnp_frame.specs.Writers.{WritesTo}
 use Rattle.capnp_frame.specs.Writing.{pieces}
@@ -30,6 +30,10 @@ IsCanonicalText pointer text = (form : List ℕ) × IsForm pointer form × IsFra
 abbrev pub AppendsForm : Pointer → Appending → List ℕ → Type 0
 AppendsForm pointer appends text = (form : List ℕ) × IsForm pointer form × AppendsAll appends (pieces (form ∷ [])) text
 
+-- what a call that fails leaves of it: nothing, or its first pieces and what the sink leaves of the next one
+abbrev pub LeavesForm : Pointer → Appending → Leaving → List ℕ → Type 0
+LeavesForm pointer appends leaves text = (text ≡ []) ⊎ ((form : List ℕ) × IsForm pointer form × LeavesSome appends leaves (pieces (form ∷ [])) text)
+
 -- the sink refuses a piece of it
 abbrev pub BreaksForm : Pointer → Declining → ErrorKind → Type 0
 BreaksForm pointer refuses kind = (form : List ℕ) × IsForm pointer form × DeclinesSome refuses (pieces (form ∷ [])) kind
@@ -46,6 +50,7 @@ pub record WritesForm {S X : Type 0} (sink : Ghosts S) (old new : S) (pointer : 
   -- where there is no form, the call says why, and the sink is as it was
   pub lacks : (kind : ErrorKind) → LacksForm pointer kind → IsErrAnd result (λ error. error.kind ≡ kind) × (new ≡ old)
   -- every sink gets what the pieces of the form add
-  pub writes : WritesTo sink old new (AppendsForm pointer sink.appends) (λ kind. (kind ≡ OutOfMemory) ⊎ DeclinesForm pointer sink.refuses kind) result
+  pub writes : WritesTo sink old new (AppendsForm pointer sink.appends) (LeavesForm pointer sink.appends sink.leaves)
+      (λ kind. (kind ≡ OutOfMemory) ⊎ DeclinesForm pointer sink.refuses kind) result
   -- a failure that isn't the sink's leaves the sink as it was
   pub untouched : FailsOr result (λ kind. BreaksForm pointer sink.refuses kind ⊎ (new ≡ old))

@@ -1,5 +1,13 @@
 -- The root of a message that was set and is read back (src/roots.rt).
-use Rattle.std.specs.Prelude.{ℕ, List, [], ◌∷◌}
+use Rattle.std.specs.Prelude.{◌≡◌, ◌⊎◌, ℕ, List, [], ◌∷◌, Option, Result, IfOk, OnOk, IfErr}
+use Rattle.capnp_frame.specs.declared.error.Error.{Error}
+use Rattle.capnp_frame.specs.declared.error.ErrorKind.{ErrorKind}
+use Rattle.capnp_frame.specs.declared.error.ErrorKind.TheVariants.{OutOfMemory, MessageTooLarge}
+use Rattle.capnp_frame.specs.declared.message.options.ReaderOptions.{ReaderOptions}
+use Rattle.capnp_frame.specs.Limits.{KeepsLimit}
+use Rattle.capnp_frame.specs.Message.{lengths, size_in_words}
+use Rattle.capnp_frame.specs.Refusals.{IsTooLarge}
+use Rattle.capnp_frame.specs.Writing.{HasFew, RefusesMany}
 use Rattle.capnp_wire.specs.Tree.{Trees}
 use Rattle.capnp_wire.specs.Object.{message_of}
 use Rattle.capnp_wire.specs.Reached.{At, root}
@@ -11,3 +19,21 @@ HasRootTree segments trees = (charge : ℕ) × At (message_of segments) (root �
 -- the tree of a value does
 abbrev pub HasRootOf : (Trees → Type 0) → List (List ℕ) → Type 0
 HasRootOf has_tree segments = (trees : Trees) × has_tree trees × HasRootTree segments trees
+
+-- the message has more words than the limit, and the failure tells how many
+abbrev pub RefusesSize : List (List ℕ) → Option ℕ → ErrorKind → Type 0
+RefusesSize message limit kind = IsTooLarge (lengths message) limit × (kind ≡ MessageTooLarge (size_in_words message))
+
+-- What a call returns that writes a message and reads it back by these options. `segments` and `options_of` are what is seen of
+-- a reader.
+pub record ReadsWritten {X : Type 0} (message : List (List ℕ)) (options : ReaderOptions) (segments : X → List (List ℕ))
+    (options_of : X → ReaderOptions) (result : Result X Error) : Type 0 where
+  -- the segments are those that were written
+  pub back : IfOk result (λ reader. segments reader ≡ message)
+  -- which are within the limit of words, and no more than a reader accepts
+  pub size : OnOk result (KeepsLimit (lengths message) options.traversal_limit_in_words)
+  pub few : OnOk result (HasFew message)
+  pub options_are : IfOk result (λ reader. options_of reader ≡ options)
+  -- it fails for too many segments, for too many words, or for want of memory
+  pub refused : IfErr result (λ error. RefusesMany message error.kind
+      ⊎ RefusesSize message options.traversal_limit_in_words error.kind ⊎ (error.kind ≡ OutOfMemory))

@@ -8,7 +8,7 @@ ghost use Rattle.capnp_wire.specs.Values.{HasWords, LacksWords};
 ghost use Rattle.capnp_build.specs.Built.{IsCrowded};
 ghost use Rattle.capnp_build.specs.Out.{MayRefuse};
 ghost use Rattle.capnp.specs.Written.{output_of};
-ghost use Rattle.capnp.specs.Roots.{HasRootOf};
+ghost use Rattle.capnp.specs.Roots.{HasRootOf, RefusesSize, ReadsWritten};
 
 use crate::appended::{read_message, write_message};
 use crate::streams::Format;
@@ -23,8 +23,8 @@ use std::alloc::Global;
 /// Sets the root of a message to a value, writes the message to a vector and reads it from there: the
 /// root of what is read is the value's tree.
 ///
-/// A message within the limit of words fails only as `set_root` does, for more than 511 segments, or
-/// for want of memory.
+/// It fails as `set_root` does, with `InvalidNumberOfSegments` for more than 511 segments, with
+/// `MessageTooLarge` past the limit of words, or for want of memory.
 pub fn set_and_read_back<T, V: SetterInput<T> + Drop, A: Allocator>(
     alloc: Global,
     format: Format,
@@ -32,12 +32,13 @@ pub fn set_and_read_back<T, V: SetterInput<T> + Drop, A: Allocator>(
     value: V,
     options: ReaderOptions,
 ) -> Result<Reader<OwnedSegments>>
-    ensures tree { KeepsLimit (lengths (output_of message.new)) options.traversal_limit_in_words →
-        IfOk result (λ reader. HasRootOf (V.has_tree value) reader.segments) }
+    ensures tree { IfOk result (λ reader. HasRootOf (V.has_tree value) reader.segments) }
+    ensures back { IfOk result (λ reader. reader.segments ≡ output_of message.new) }
     ensures options { IfOk result (λ reader. reader.options ≡ options) }
     ensures few { OnOk result (HasFew (output_of message.new)) }
-    ensures refused { KeepsLimit (lengths (output_of message.new)) options.traversal_limit_in_words →
-        IfErr result (λ error. RefusesMany (output_of message.new) error.kind
+    ensures size { OnOk result (KeepsLimit (lengths (output_of message.new)) options.traversal_limit_in_words) }
+    ensures refused { IfErr result (λ error. RefusesMany (output_of message.new) error.kind
+        ⊎ RefusesSize (output_of message.new) options.traversal_limit_in_words error.kind
         ⊎ (error.kind ≡ ErrorKind.OutOfMemory)
         ⊎ LacksWords (V.has_tree value) (V.refuses value) false error.kind
         ⊎ ((length message.old.spaces ≡ 0) × MayRefuse 1 error.kind)
@@ -49,6 +50,9 @@ pub fn set_and_read_back<T, V: SetterInput<T> + Drop, A: Allocator>(
 
 /// Writes a message that is built to a vector and reads it from there: the segments are those that were
 /// written.
+///
+/// It fails with `InvalidNumberOfSegments` for more than 511 segments, with `MessageTooLarge` past the
+/// limit of words, or for want of memory.
 pub fn write_and_read_back<A: Allocator>(
     alloc: Global,
     format: Format,
@@ -56,13 +60,8 @@ pub fn write_and_read_back<A: Allocator>(
     options: ReaderOptions,
 ) -> Result<Reader<OwnedSegments>>
     requires { 0 < length message.now.spaces }
-    ensures back { KeepsLimit (lengths (output_of message.now)) options.traversal_limit_in_words →
-        IfOk result (λ reader. reader.segments ≡ output_of message.now) }
-    ensures options { IfOk result (λ reader. reader.options ≡ options) }
-    ensures few { OnOk result (HasFew (output_of message.now)) }
-    ensures refused { KeepsLimit (lengths (output_of message.now)) options.traversal_limit_in_words →
-        IfErr result (λ error. RefusesMany (output_of message.now) error.kind
-        ⊎ (error.kind ≡ ErrorKind.OutOfMemory)) }
+    ensures { ReadsWritten (output_of message.now) options (λ reader. reader.segments)
+        (λ reader. reader.options) result }
 {
     let output = message.get_segments_for_output();
     let mut text: Vec<u8> = Vec::new(alloc);

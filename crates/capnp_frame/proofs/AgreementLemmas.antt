@@ -63,7 +63,7 @@ refused_not_accepted form rule limit kind bytes count refused a =
     (RefusesLengths form rule limit kind bytes k (told_lengths k bytes)))) told x))) refused
 
 -- the limit is kept or passed
-limit_cases : (ns : List ℕ) (limit : Option ℕ) → IsTooLarge ns limit ⊎ KeepsLimit ns limit
+pub limit_cases : (ns : List ℕ) (limit : Option ℕ) → IsTooLarge ns limit ⊎ KeepsLimit ns limit
 limit_cases ns None = inr tt
 limit_cases ns (Some most) = elim (cases_lt most (sum ns)) [ inl over ↦ inl over | inr keeps ↦ inr keeps ]
 

@@ -16,59 +16,9 @@ use Rattle.capnp_frame.specs.Refusals.{RefusesAtLimit, RefusesAtStart, RefusesTa
 use Rattle.capnp_frame.specs.Steps.{StopsAtTable}
 use Rattle.capnp_frame.proofs.SourceLemmas.{IfKnown-join, IfKnown-weaker, IfKnown-refused}
 use Rattle.capnp_frame.proofs.TableLemmas.{any_table}
+use Rattle.capnp_frame.proofs.LimitLemmas.{RefusesAtStart-from}
 use Rattle.capnp_frame.proofs.TableReading.{tells_completed, whole_table, broken_table}
 use Rattle.capnp_frame.proofs.RefusalLemmas.{in_range, within_limit, small_room, RefusesAtStart-map, given_some}
-
-table_tells : {rule : Padding} (word others ns : List ℕ) → IsTable rule (word ++ others) ns → length ns < 512 → length word ≡ 8 → Tells word (length ns)
-table_tells word others ns table few long =
-    let front : take 4 (word ++ others) ≡ take 4 word = take-append-le 4 word others (omega arith) in
-    let told : field (length ns - 1) ≡ take 4 (word ++ others) = ap (take 4) (sym table.spelled) in
-    let some = table.can.some in
-    (length ns - 1, omega arith, told ∙ front, same (length ns) some few)
-  where
-    same : (k : ℕ) → 0 < k → k < 512 → k ≡ (k - 1 + 1) % 2 ^ 32
-    same k some few = omega arith
-
--- what comes after a table that is accepted
-pub RefusesAtStart-from : {gives : Giving} {refuses : Refusing} (rule : Padding) (laws : IsSource gives refuses) (limit room : Option ℕ)
-    (kind : ErrorKind) (A : List ℕ → List ℕ → Type 0) (raw left ns behind : List ℕ)
-    → (LacksRoom room (table_size (length ns)) → ⊥) → TableStands rule gives ns raw behind → AreWithin ns limit
-    → A ns behind → RefusesAtStart rule gives refuses limit room kind A raw left
-RefusesAtStart-from rule laws limit room kind A raw left ns behind fits sent accepts after =
-    let some = accepts.some in
-    let few = accepts.few in
-    inr (
-      small_room room 8 (table_size (length ns)) (omega arith) fits,
-      (
-        given_some laws raw 8 sent.first sent.between sent.first_given (omega arith),
-        inr (
-          sent.first,
-          sent.between,
-          sent.first_given,
-          (
-            length ns,
-            table_tells sent.first sent.others ns sent.table few
-                (laws.gives_all raw 8 sent.first sent.between sent.first_given),
-            inr (
-              in_range (length ns) some few,
-              inr (
-                fits,
-                inr (
-                  sent.others,
-                  behind,
-                  sent.others_given,
-                  (
-                    ns,
-                    any_table (sent.first ++ sent.others) ns sent.table,
-                    inr (within_limit ns limit accepts.size, inr ((λ breaks. breaks sent.table), after)),
-                  ),
-                ),
-              ),
-            ),
-          ),
-        ),
-      ),
-    )
 
 -- the lines, as a reader meets them
 

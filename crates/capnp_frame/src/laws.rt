@@ -1,12 +1,13 @@
 //! Facts about framed messages, each the contract of a function that does nothing.
-ghost use Rattle.std.specs.Prelude.{◌≡◌, ◌≢◌, ◌⊎◌, ℕ, ◌*◌, ◌<◌, ◌≤◌, List, ◌++◌, ◌↔◌, Option, length, slice_get, IsSome};
+ghost use Rattle.std.specs.Prelude.{◌≡◌, ◌≢◌, ◌⊎◌, ℕ, ◌*◌, ◌<◌, ◌≤◌, List, ◌++◌, ◌↔◌, Option, None, length, slice_get, IsSome};
 ghost use Rattle.std.specs.List.{AllByRecursion, concat};
-ghost use Rattle.capnp_frame.specs.Message.{IsWholeWords, lengths};
+ghost use Rattle.capnp_frame.specs.Message.{IsWholeWords, lengths, size_in_words};
 ghost use Rattle.capnp_frame.specs.SegmentTable.{zero_padded_table, HasTable, IsTable};
 ghost use Rattle.capnp_frame.specs.Frame.{IsFrame, frame_text};
 ghost use Rattle.capnp_frame.specs.Source.{Splits, IsFront, Fails};
 ghost use Rattle.capnp_frame.specs.Sink.{AppendsSame, AppendsAll, LeavesFront, LeavesSome, ByKind, DeclinesSome};
 ghost use Rattle.capnp_frame.specs.Requests.{MessageStands};
+ghost use Rattle.capnp_frame.specs.Refusals.{IsTooLarge, RefusesStream};
 ghost use Rattle.capnp_frame.specs.Writers.{RefusesUnwritten};
 ghost use Rattle.capnp_frame.specs.Writing.{IsWritable, RefusesMany, pieces, serialized_words};
 ghost use Rattle.capnp_frame.specs.Front.{HasFrame};
@@ -55,6 +56,14 @@ pub fn plain_requests_take_a_frame()
     ensures { (rule : Padding) (segments : List (List ℕ)) (raw rest : List ℕ) →
         MessageStands rule Splits segments raw rest
         ↔ ((text : List ℕ) × IsFrame rule text segments × (raw ≡ text ++ rest)) }
+{}
+
+/// A message of more words than the limit is refused by `MessageTooLarge`, which tells how many it has.
+pub fn message_past_the_limit_is_refused<R: Read>()
+    ensures { (rule : Padding) (limit : Option ℕ) (m : List (List ℕ)) (raw rest : List ℕ) →
+        MessageStands rule R.gives m raw rest → length m < 512 → IsTooLarge (lengths m) limit →
+        (left : List ℕ) × RefusesStream rule R.gives R.refuses limit None
+        (ErrorKind.MessageTooLarge (size_in_words m)) raw left }
 {}
 
 /// Pieces that a plain sink takes are joined there.

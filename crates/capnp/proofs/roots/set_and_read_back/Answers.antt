@@ -5,14 +5,14 @@ use Rattle.capnp.proofs.RootLemmas.{has_segment, tree_again}
 use Rattle.capnp.proofs.roots.set_and_read_back.Goals as goal
 
 pub returns-in_err-set_root-clause-refused : goal.returns-in_err-set_root-clause-refused
-returns-in_err-set_root-clause-refused g c = λ size. passed_on _ _ c.from_residual.ensures.1 (inr (inr c.in_err-set_root.ensures.kind))
+returns-in_err-set_root-clause-refused g c = passed_on _ _ c.from_residual.ensures.1 (inr (inr (inr c.in_err-set_root.ensures.kind)))
 
 pub write_and_read_back-requires : goal.write_and_read_back-requires
 write_and_read_back-requires g c =
     let set = c.in_ok-set_root.ensures.set in has_segment _ _ _ set.stands
 
 pub returns-clause-tree : goal.returns-clause-tree
-returns-clause-tree g c = λ size.
+returns-clause-tree g c =
     let set = c.in_ok-set_root.ensures.set in
     tree_again (g.V.SetterInput.has_tree c.args.value) (λ reader. reader.segments) c.write_and_read_back.result _ (set.trees, set.tree_is, (set.charge, set.stands))
-    (c.write_and_read_back.ensures.back size)
+    c.write_and_read_back.ensures.back
