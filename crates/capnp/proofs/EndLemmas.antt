@@ -56,7 +56,7 @@ pub stopped_answers : (rule : Padding) (format : Format) (limit : Option ℕ) (W
     → ((ending ≡ Some kind) × (count ≡ length messages)) ⊎ IsRunFault Declines count kind
 stopped_answers rule format limit Writes Declines count kind left before after raw (inl stopped) messages ending stream = elim (stopped.fault) [
   | inl device ↦ inr (inl device)
-  | inr (inl memory) ↦ inr (inr (inl memory))
+  | inr (inl memory) ↦ inr (inr (inl memory.0))
   | inr (inr line) ↦ inl (stopped_ends rule format limit Writes count kind left before after raw stopped (refused_ends rule format limit kind stopped.rest left line) messages ending stream)
 ]
 stopped_answers rule format limit Writes Declines count kind left before after raw (inr stopped) messages ending stream = inr (lacking_faulted rule format limit Declines count kind stopped.rest left stopped.lacks)

@@ -143,5 +143,5 @@ pub reading_fault : (rule : Padding) (format : Format) (limit : Option ℕ) (kin
     → (kind ≡ DeviceFailed) ⊎ ((kind ≡ OutOfMemory) × IfKnown old new ((rules_of rule format).takes_memory limit))
     ⊎ IfKnown old new ((rules_of rule format).refuses limit None kind) → IsReadingFault rule format limit kind old new
 reading_fault rule format limit kind old new (inl device) = inl device
-reading_fault rule format limit kind old new (inr (inl memory)) = inr (inl memory.0)
+reading_fault rule format limit kind old new (inr (inl memory)) = inr (inl memory)
 reading_fault rule format limit kind old new (inr (inr line)) = inr (inr line)

@@ -13,7 +13,7 @@ use Rattle.capnp_frame.specs.Texts.{AreTexts}
 use Rattle.capnp_frame.specs.Writing.{IsWritable}
 use Rattle.capnp.specs.declared.streams.Format.{Format}
 use Rattle.capnp.specs.declared.streams.StoppedAt.{StoppedAt}
-use Rattle.capnp.specs.Streams.{grammar_of, refuses_of, StandsNext, RefusesNext, IsStream}
+use Rattle.capnp.specs.Streams.{grammar_of, refuses_of, rules_of, StandsNext, RefusesNext, IsStream}
 
 -- What is written of a message, by its index: Writes index message text.
 abbrev pub Writing : Type 1
@@ -47,9 +47,12 @@ pub record HasWritten (rule : Padding) (format : Format) (limit : Option ℕ) (W
   pub texts : AreTexts (grammar_of rule format) limit messages raw rest
   pub written : IfKnown before after (Adds (WritesAll Writes messages))
 
--- why the next message was not read: the device's fault, want of memory, or what stands there
+-- why the next message was not read: the device's fault, want of memory where memory is taken, so that no more is
+-- consumed than was asked for till then, or what stands there
 abbrev pub IsReadingFault : Padding → Format → Option ℕ → ErrorKind → Option (List ℕ) → Option (List ℕ) → Type 0
-IsReadingFault rule format limit kind old new = (kind ≡ DeviceFailed) ⊎ (kind ≡ OutOfMemory) ⊎ IfKnown old new (RefusesNext rule format limit kind)
+IsReadingFault rule format limit kind old new = (kind ≡ DeviceFailed)
+    ⊎ ((kind ≡ OutOfMemory) × IfKnown old new ((rules_of rule format).takes_memory limit))
+    ⊎ IfKnown old new (RefusesNext rule format limit kind)
 
 -- a message is not written for what it is, or by its sink
 abbrev pub Declined : DecliningWriting → ℕ → List (List ℕ) → ErrorKind → Type 0
