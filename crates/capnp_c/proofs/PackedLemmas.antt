@@ -1,13 +1,14 @@
 -- Words that are packed and unpacked over lent buffers, which no device stands behind.
-use Rattle.std.proofs.Common.{◌≡◌, ◌⊎◌, ◌<◌, ℕ, List, length, take, inl, inr, ap, arith, length-take}
+use Rattle.std.proofs.Common.{◌≡◌, ◌⊎◌, ◌<◌, ℕ, List, ◌++◌, length, take, inl, inr, sym, ap, ◌∙◌, subst, arith, length-take}
 use Rattle.capnp_frame.specs.declared.error.ErrorKind.{ErrorKind}
 use Rattle.capnp_frame.specs.declared.error.ErrorKind.TheVariants.{DeviceFailed, BufferNotLargeEnough}
-use Rattle.capnp_frame.specs.Sink.{ByKind}
+use Rattle.capnp_frame.specs.Sink.{ByKind, Adds, AppendsSame}
 use Rattle.capnp_frame.specs.Source.{Fails}
 use Rattle.capnp_frame.proofs.AskLemmas.{never_fails}
 use Rattle.capnp_pack.specs.Packed.{Packs}
-use Rattle.capnp_pack.specs.PackedSink.{DeclinesPacked}
+use Rattle.capnp_pack.specs.PackedSink.{AppendsPacked, DeclinesPacked}
 use Rattle.capnp_pack.specs.PackedSource.{RefusesPiece}
+use Rattle.capnp_pack.proofs.PackedTextLemmas.{packed_over_plain}
 use Rattle.capnp_pack.proofs.PackerLemmas.{Packs-once, Packs-whole}
 
 -- a refusal of a slice is a line of the table
@@ -26,3 +27,9 @@ block_refused words packed kind packs (inr (inr (whole, (piece, is)))) failed = 
 pub packed_fits : (words packed block : List ℕ) (n : ℕ) → Packs words packed → length block < length packed → Packs words (take n block) → ⊥
 packed_fits words packed block n packs short written =
     absurd (omega (arith, short, ap length (Packs-once words packed (take n block) packs written), length-take n block))
+
+-- what was added to nothing is that text
+pub packed_alone : (words old new : List ℕ) (n used : ℕ) → n ≡ 0 → Adds (AppendsPacked AppendsSame words) (take n old) (take used new) → Packs words (take used new)
+packed_alone words old new n used none (text, packed, e) =
+    let alone : take used new ≡ text = e ∙ ap (λ k. take k old ++ text) none in
+    subst (Packs words) (sym alone) ((packed_over_plain words text).0 packed)

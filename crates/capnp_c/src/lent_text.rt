@@ -1,5 +1,5 @@
 //! A text that is written into a lent block.
-ghost use Rattle.std.specs.Prelude.{◌≡◌, ◌≤◌, length, take, Some, refl};
+ghost use Rattle.std.specs.Prelude.{◌≡◌, ◌+◌, ◌≤◌, length, take, Some, refl};
 ghost use Rattle.std.proofs.Common.{◌∙◌};
 ghost use Rattle.capnp_frame.specs.declared.error.ErrorKind.{ErrorKind};
 ghost use Rattle.capnp_frame.specs.Sink.{AppendsSame, LeavesNothing, ByKind};
@@ -42,6 +42,8 @@ impl Write for LentText<'_> {
     ghost appends = { AppendsSame };
 
     ghost leaves = { LeavesNothing };
+
+    ghost grants = { λ text bytes. text.used + bytes ≤ length text.block.now };
 
     ghost refuses = { ByKind ErrorKind.BufferNotLargeEnough };
 

@@ -1,5 +1,5 @@
 //! Words that are packed, and unpacked.
-ghost use Rattle.std.specs.Prelude.{◌≡◌, ◌⊎◌, ◌<◌, ◌≤◌, ◌+◌, ℕ, List, length, take, IfErr, OnOk};
+ghost use Rattle.std.specs.Prelude.{◌≡◌, ◌⊎◌, ◌<◌, ◌≤◌, ◌+◌, ℕ, List, length, take, IfErr, OnOk, IsOk};
 ghost use Rattle.std.specs.Result.{IsErrAnd};
 ghost use Rattle.capnp_frame.specs.Message.{IsWholeWords};
 ghost use Rattle.capnp_frame.specs.Numbers.{number_of};
@@ -17,13 +17,16 @@ use capnp_pack::{PackedRead, PackedWrite, laws};
 
 /// Packs whole words into `text`, and tells how many bytes that took.
 ///
-/// Words that are part ones are refused by 14, and a text without room by 2.
+/// It returns 0 exactly where the words are whole ones and `text` has room for what they are packed
+/// to, 14 where a word is a part of one, and 2 where there is no room.
 #[unsafe(no_mangle)]
 pub extern "C" fn linsjoar_pack(words: &[u8], text: &mut [u8], written: &mut usize) -> u8
     ensures packed { result ≡ 0 → Packs words.now (take written.new text.new) }
     ensures within { written.new ≤ length text.new }
     ensures part { (IsWholeWords words.now → ⊥) → result ≡ 14 }
     ensures refused { IsWholeWords words.now → (result ≡ 0) ⊎ (result ≡ 2) }
+    ensures accepted { (packed : List ℕ) → Packs words.now packed → length packed ≤ length text.new →
+        result ≡ 0 }
     ensures short { (packed : List ℕ) → Packs words.now packed → length text.new < length packed →
         result ≡ 2 }
 {
@@ -49,6 +52,8 @@ fn pack_into<W: Write>(sink: &mut W, words: &[u8]) -> Result<()>
         ⊎ DeclinesPacked W.refuses words.now error.kind) }
     ensures part { (IsWholeWords words.now → ⊥) →
         IsErrAnd result (λ error. error.kind ≡ ErrorKind.NotWholeWords) }
+    ensures granted { (packed : List ℕ) → Packs words.now packed →
+        W.grants sink.old (length packed + 0) → IsOk result }
     ensures same { W.same sink.old sink.new }
 {
     let mut packed = PackedWrite::new(sink);

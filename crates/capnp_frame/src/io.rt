@@ -3,7 +3,7 @@
 //! Contracts see of a source the bytes that are unread, how often its device failed, and what a
 //! request takes; of a sink what was written, and what a piece adds. How many bytes one `read`
 //! answers is free: what is proved over a `Read` holds however its bytes are cut.
-ghost use Rattle.std.specs.Prelude.{◌≡◌, ℕ, ◌<◌, ◌≤◌, List, [], ◌⊎◌, length, take, drop, Option, Some, IfSome, IfOk, OnOk, IfErr, OnErr, ◌↔◌};
+ghost use Rattle.std.specs.Prelude.{◌≡◌, ℕ, ◌+◌, ◌<◌, ◌≤◌, List, [], ◌⊎◌, length, take, drop, Option, Some, IfSome, IfOk, OnOk, IfErr, OnErr, IsOk, ◌↔◌};
 ghost use Rattle.std.specs.Borrow.{sem};
 ghost use Rattle.std.specs.Io.BufRead.{Rests};
 ghost use Rattle.capnp_frame.specs.declared.error.ErrorKind.{ErrorKind};
@@ -136,6 +136,9 @@ pub trait Write {
     /// By which kinds a piece may be refused, beside the device's.
     ghost refuses: { Declining };
 
+    /// What a sink takes for sure: so many more bytes, in any pieces.
+    ghost grants: { Self → ℕ → Type 0 };
+
     /// What each call keeps, as the reference that a sink stands on.
     ghost same: { Self → Self → Type 0 };
 
@@ -146,6 +149,8 @@ pub trait Write {
             (Adds (appends piece.now))) }
         ensures left { OnErr result (IfKnown (written self.old) (written self.new)
             (Adds (leaves piece.now))) }
+        ensures granted { (more : ℕ) → grants self.old (length piece.now + more) →
+            IsOk result × grants self.new more }
         ensures failed { IfErr result (λ error. error.kind ≡ ErrorKind.DeviceFailed →
             Fails (failures self.old) (failures self.new)) }
         ensures refused { IfErr result (λ error. (error.kind ≡ ErrorKind.DeviceFailed)

@@ -2,3 +2,4 @@ pub mod CommandLemmas
 pub mod DigitLemmas
 pub mod LineLemmas
 pub mod MessageLemmas
+pub mod SinkLemmas

@@ -13,7 +13,8 @@ pub mod MarkLemmas
 pub mod RunFaults
 pub mod StoredLemmas
 pub mod LaneLemmas
-mod LeavingLemmas
+pub mod LeavingLemmas
+pub mod GrantingLemmas
 pub mod TagLemmas
 pub mod EightLemmas
 pub mod RunLemmas

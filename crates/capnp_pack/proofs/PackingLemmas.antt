@@ -1,7 +1,7 @@
 -- The groups that are handed on, and the whole piece.
-use Rattle.std.proofs.Common.{◌≡◌, ℕ, zero, suc, ◌+◌, ◌<◌, ◌≤◌, Option, Result, Ok, Err, IfOk, List, [], ◌∷◌, ◌++◌, length, take, drop, refl, sym, ap, ◌∙◌, subst, arith, append_assoc, replicate}
+use Rattle.std.proofs.Common.{◌≡◌, ℕ, zero, suc, ◌+◌, ◌<◌, ◌≤◌, Option, Result, Ok, Err, IfOk, List, [], ◌∷◌, ◌++◌, length, take, drop, refl, sym, ap, ◌∙◌, subst, arith, append_assoc, replicate, get_or, add-one, drop-cons, length-drop, ◌-◌}
 use Rattle.std.specs.List.{concat, AllByRecursion}
-use Rattle.std.proofs.lemmas.List.{append-nil, length-take-le, drop_all, drop-drop}
+use Rattle.std.proofs.lemmas.List.{take_all, append-nil, length-take-le, drop_all, drop-drop}
 use Rattle.capnp_frame.specs.Source.{IfKnown}
 use Rattle.capnp_frame.specs.Sink.{Appending, Adds}
 use Rattle.capnp_frame.proofs.SourceLemmas.{IfKnown-join, IfKnown-weaker}
@@ -24,26 +24,39 @@ nonzero_all (suc b ∷ w) e = nonzero_suc b w ∙ ap (λ l. suc b ∷ l) (nonzer
 buffered : (appends : Appending) (old roomy new text : List ℕ) (a b : Option (List ℕ)) → new ≡ roomy ++ text → IfKnown a b (Hands appends old [] roomy) → IfKnown a b (Hands appends old text new)
 buffered appends old roomy new text a b e roomed = IfKnown-weaker a b (λ x y p. Hands-join appends old [] roomy text new x y y p (Hands-none appends roomy text new y e)) roomed
 
+-- the text of a run of zero words
+pub zeros_front : (word : List ℕ) (count tag : ℕ) (roomy filled new : List ℕ) → IsWord word → tag ≡ tag_of word → tag ≡ 0
+    → filled ≡ roomy ++ tag ∷ nonzero word → new ≡ filled ++ count ∷ [] → new ≡ roomy ++ 0 ∷ count ∷ []
+zeros_front word count tag roomy filled new is tagged_by none fill push =
+    let zero_tag : tag_of word ≡ 0 = sym tagged_by ∙ none in
+    let first : word ≡ zero_word = tag_zero word zero_tag ∙ ap (λ k. replicate k 0) is in
+    let text : tag ∷ nonzero word ≡ 0 ∷ [] = ap (λ k. k ∷ nonzero word) none ∙ ap (λ l. 0 ∷ nonzero l) first in
+    push ∙ ap (λ l. l ++ count ∷ []) (fill ∙ ap (λ l. roomy ++ l) text) ∙ append_assoc roomy (0 ∷ []) (count ∷ [])
+
+-- and that of a word whose tag marks its bytes
+pub tagged_front : (word : List ℕ) (tag : ℕ) (roomy new : List ℕ) → tag ≡ tag_of word → new ≡ roomy ++ tag ∷ nonzero word
+    → new ≡ roomy ++ tag_of word ∷ marked (tag_of word) word
+tagged_front word tag roomy new tagged_by fill =
+    fill ∙ ap (λ l. roomy ++ l) (ap (λ k. k ∷ nonzero word) tagged_by ∙ ap (λ l. tag_of word ∷ l) (sym (marked_tag word)))
+
 pub made_zeros : (appends : Appending) (word : List ℕ) (os : List (List ℕ)) (count tag : ℕ) (old roomy filled new : List ℕ) (a b : Option (List ℕ)) →
     IsWord word → tag ≡ tag_of word → tag ≡ 0 → IsRun IsZero os count → filled ≡ roomy ++ tag ∷ nonzero word → new ≡ filled ++ count ∷ [] →
     IfKnown a b (Hands appends old [] roomy) → (g : Group) × IsGroupOf word os count g × IfKnown a b (Hands appends old (group_text g) new)
 made_zeros appends word os count tag old roomy filled new a b is tagged_by none run fill push roomed =
-    let zero_tag : tag_of word ≡ 0 = sym tagged_by ∙ none in
-    let first : word ≡ zero_word = tag_zero word zero_tag ∙ ap (λ k. replicate k 0) is in
-    let text : tag ∷ nonzero word ≡ 0 ∷ [] = ap (λ k. k ∷ nonzero word) none ∙ ap (λ l. 0 ∷ nonzero l) first in (
+    let zero_tag : tag_of word ≡ 0 = sym tagged_by ∙ none in (
       zeros count,
       IsGroupOf-zeros word os count is zero_tag run,
-      buffered appends old roomy new (0 ∷ count ∷ []) a b (push ∙ ap (λ l. l ++ count ∷ []) (fill ∙ ap (λ l. roomy ++ l) text) ∙ append_assoc roomy (0 ∷ []) (count ∷ [])) roomed,
+      buffered appends old roomy new (0 ∷ count ∷ []) a b (zeros_front word count tag roomy filled new is tagged_by none fill push) roomed,
     )
 
 pub made_tagged : (appends : Appending) (word : List ℕ) (os : List (List ℕ)) (tag : ℕ) (old roomy new : List ℕ) (a b : Option (List ℕ)) →
     IsWord word → tag ≡ tag_of word → 0 < tag → tag < 255 → new ≡ roomy ++ tag ∷ nonzero word → IfKnown a b (Hands appends old [] roomy) →
     (g : Group) × IsGroupOf word os 0 g × IfKnown a b (Hands appends old (group_text g) new)
 made_tagged appends word os tag old roomy new a b is tagged_by some low fill roomed =
-    let text : tag ∷ nonzero word ≡ tag_of word ∷ marked (tag_of word) word = ap (λ k. k ∷ nonzero word) tagged_by ∙ ap (λ l. tag_of word ∷ l) (sym (marked_tag word)) in (
+    (
       tagged (tag_of word) word,
       IsGroupOf-tagged word os is (omega arith) (omega arith),
-      buffered appends old roomy new (tag_of word ∷ marked (tag_of word) word) a b (fill ∙ ap (λ l. roomy ++ l) text) roomed,
+      buffered appends old roomy new (tag_of word ∷ marked (tag_of word) word) a b (tagged_front word tag roomy new tagged_by fill) roomed,
     )
 
 -- the tag of a word that goes as it stands, and the word
@@ -83,6 +96,16 @@ PacksTo-more words text done next n w os g front left made to = λ more p.
     let step : PacksWords (drop done words) (group_text g ++ more) =
     subst (λ l. PacksWords l (group_text g ++ more)) (sym front) (PacksWords-more w os n g more made (subst (λ l. PacksWords l more) (sym left) p)) in
     subst (PacksWords words) (sym (append_assoc text (group_text g) more)) (to (group_text g ++ more) step)
+
+-- the words after one, as a slice of them
+pub other_words : (words : List (List ℕ)) (done : ℕ) → take (length words - (done + 1)) (drop (done + 1) words) ≡ drop (done + 1) words
+other_words words done = take_all (length words - (done + 1)) (drop (done + 1) words) (omega (arith, length-drop (done + 1) words))
+
+-- and this one
+pub next_words : (words : List (List ℕ)) (done : ℕ) → done < length words
+    → drop done words ≡ get_or words done [] ∷ take (length words - (done + 1)) (drop (done + 1) words)
+next_words words done within = drop-cons words done [] within
+    ∙ ap (λ k. get_or words done [] ∷ drop k words) (sym (add-one done)) ∙ ap (λ l. get_or words done [] ∷ l) (sym (other_words words done))
 
 -- the next group of a piece
 pub packed_more : (appends : Appending) (words : List (List ℕ)) (done n : ℕ) (w : List ℕ) (os : List (List ℕ)) (buffer new : List ℕ)

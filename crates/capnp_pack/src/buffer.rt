@@ -2,7 +2,7 @@
 //!
 //! They are collected in 64 bytes, of which so many are used. A group adds at most 10 of them: a
 //! tag, a word and a count.
-ghost use Rattle.std.specs.Prelude.{◌≡◌, ◌+◌, ◌<◌, ◌≤◌, [], ◌∷◌, ◌++◌, IfOk, length, take, count_ones};
+ghost use Rattle.std.specs.Prelude.{◌≡◌, ℕ, ◌+◌, ◌<◌, ◌≤◌, [], ◌∷◌, ◌++◌, IfOk, IsOk, IsOkAnd, length, take, count_ones};
 ghost use Rattle.capnp_frame.specs.Source.{IfKnown};
 ghost use Rattle.capnp_pack.specs.Calls.{HandsOn};
 ghost use Rattle.capnp_pack.specs.Steps.{Hands, nonzero, tag_of};
@@ -20,6 +20,8 @@ pub(crate) fn make_room<W: Write>(sink: &mut W, bytes: &[u8; 64], used: usize) -
     ensures hands { HandsOn W.Write sink.old sink.new (λ text. text ≡ take used bytes.now) (λ left.
         IfKnown (W.written sink.old) (W.written sink.new)
         (Hands W.appends (take used bytes.now) [] (take left bytes.now))) result }
+    ensures granted { (more : ℕ) → W.grants sink.old (used + more) →
+        IsOkAnd result (λ left. W.grants sink.new (left + more)) }
 {
     if used <= 54 {
         return Ok(used);
@@ -32,9 +34,11 @@ pub(crate) fn make_room<W: Write>(sink: &mut W, bytes: &[u8; 64], used: usize) -
 #[inline(always)]
 pub(crate) fn flush<W: Write>(sink: &mut W, bytes: &[u8; 64], used: usize) -> Result<()>
     requires { used ≤ 64 }
-    ensures { HandsOn W.Write sink.old sink.new (λ text. text ≡ take used bytes.now) (λ _.
+    ensures hands { HandsOn W.Write sink.old sink.new (λ text. text ≡ take used bytes.now) (λ _.
         IfKnown (W.written sink.old) (W.written sink.new)
         (Hands W.appends (take used bytes.now) [] [])) result }
+    ensures granted { (more : ℕ) → W.grants sink.old (used + more) →
+        IsOk result × W.grants sink.new more }
 {
     if used == 0 {
         return Ok(());

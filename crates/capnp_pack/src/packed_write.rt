@@ -1,5 +1,5 @@
 //! Words into a sink, packed.
-ghost use Rattle.std.specs.Prelude.{◌≡◌, ◌<◌, ◌≤◌, ◌⊎◌, [], ◌∷◌, ◌++◌, IfOk, IfErr, OnOk, OnErr, take, refl};
+ghost use Rattle.std.specs.Prelude.{◌≡◌, ℕ, ◌+◌, ◌<◌, ◌≤◌, ◌⊎◌, List, [], ◌∷◌, ◌++◌, IfOk, IfErr, OnOk, OnErr, IsOk, IsOkAnd, length, take, refl};
 ghost use Rattle.std.specs.List.{concat};
 ghost use Rattle.std.specs.Result.{IsErrAnd};
 ghost use Rattle.std.proofs.Common.{◌∙◌};
@@ -10,6 +10,7 @@ ghost use Rattle.capnp_frame.specs.Sink.{DeclinesAny, Adds, Grows};
 ghost use Rattle.capnp_frame.specs.Writers.{WritesTo};
 ghost use Rattle.capnp_pack.specs.Calls.{HandsOn};
 ghost use Rattle.capnp_pack.specs.Group.{Group, group_text};
+ghost use Rattle.capnp_pack.specs.Packed.{Packs};
 ghost use Rattle.capnp_pack.specs.PackedSink.{AppendsPacked, LeavesPacked, DeclinesPacked};
 ghost use Rattle.capnp_pack.specs.Steps.{IsRun, IsZero, HasFewZeros, Hands, IsGroupOf, GroupAfter, LiteralAfter};
 
@@ -54,6 +55,8 @@ impl<'a, W: Write> Write for PackedWrite<'a, W> {
 
     ghost leaves = { LeavesPacked W.appends W.leaves };
 
+    ghost grants = { λ _ _. ⊥ };
+
     ghost refuses = { DeclinesPacked W.refuses };
 
     ghost same = { λ old new. (new.sink.ghost_name ≡ old.sink.ghost_name)
@@ -62,6 +65,7 @@ impl<'a, W: Write> Write for PackedWrite<'a, W> {
     fn write_all(&mut self, piece: &[u8]) -> Result<()>
         ensures added { OnOk result (IfKnown (W.written self.old.sink.now) (W.written self.new.sink.now)
             (Adds (AppendsPacked W.appends piece.now))) }
+        ensures granted { (more : ℕ) → ⊥ → IsOk result × ⊥ }
         // No more than a front of the packed text is written, and nothing after a hole.
         ensures left { OnErr result (IfKnown (W.written self.old.sink.now) (W.written self.new.sink.now)
             (Adds (LeavesPacked W.appends W.leaves piece.now))) }
@@ -76,6 +80,10 @@ impl<'a, W: Write> Write for PackedWrite<'a, W> {
         ensures part { (IsWholeWords piece.now → ⊥) →
             IsErrAnd result (λ error. error.kind ≡ ErrorKind.NotWholeWords)
             × (self.new.sink.now ≡ self.old.sink.now) }
+        // Where the sink grants the packed text, it is written.
+        ensures packed_granted { (text : List ℕ) (more : ℕ) → Packs piece.now text →
+            W.grants self.old.sink.now (length text + more) →
+            IsOk result × W.grants self.new.sink.now more }
     {
         if piece.len() % 8 != 0 {
             return Err(Error::from_kind(ErrorKind::NotWholeWords));
@@ -99,8 +107,10 @@ struct Packed {
 // Hands on the packed words of a piece.
 fn pack<W: Write>(sink: &mut W, piece: &[u8]) -> Result<()>
     requires { IsWholeWords piece.now }
-    ensures { WritesTo W.Write sink.old sink.new (AppendsPacked W.appends piece.now)
+    ensures writes { WritesTo W.Write sink.old sink.new (AppendsPacked W.appends piece.now)
         (LeavesPacked W.appends W.leaves piece.now) (DeclinesAny W.refuses) result }
+    ensures granted { (text : List ℕ) (more : ℕ) → Packs piece.now text →
+        W.grants sink.old (length text + more) → IsOk result × W.grants sink.new more }
 {
     let (words, _) = piece.as_chunks::<8>();
     let mut bytes = [0; 64];
@@ -131,6 +141,9 @@ fn pack_group<W: Write>(
         × IfKnown (W.written sink.old) (W.written sink.new)
         (Hands W.appends (take used bytes.old) (group_text group)
         (take packed.used bytes.new))) result }
+    ensures granted { (group : Group) (count more : ℕ) → IsGroupOf word.now others.now count group →
+        W.grants sink.old (used + (length (group_text group) + more)) →
+        IsOkAnd result (λ packed. W.grants sink.new (packed.used + more)) }
 {
     let start = make_room(sink, bytes, used)?;
     let tag = tag(word);
@@ -175,6 +188,9 @@ fn pack_literal<W: Write>(
         IfKnown (W.written sink.old) (W.written sink.new) (Hands W.appends (take end bytes.old)
         (packed.words ∷ concat (take packed.words others.now))
         (take packed.used bytes.new))) result }
+    ensures granted { (count more : ℕ) → IsRun HasFewZeros others.now count →
+        W.grants sink.old (end + (1 + (length (concat (take count others.now)) + more))) →
+        IsOkAnd result (λ packed. W.grants sink.new (packed.used + more)) }
 {
     let words = literal_run(others);
     let used = push(bytes, end, words as u8);

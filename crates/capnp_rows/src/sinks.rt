@@ -37,6 +37,8 @@ impl Write for FaultySink {
 
     ghost leaves = { LeavesNothing };
 
+    ghost grants = { λ _ _. ⊥ };
+
     ghost refuses = { ByKind ErrorKind.OutOfMemory };
 
     ghost same = { λ _ _. ⊤ };

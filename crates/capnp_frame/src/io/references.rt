@@ -57,6 +57,8 @@ impl<W: Write> Write for &mut W {
 
     ghost leaves = { W.leaves };
 
+    ghost grants = { λ sink. W.grants sink.now };
+
     ghost refuses = { W.refuses };
 
     ghost same = { λ old new. (new.ghost_name ≡ old.ghost_name) × W.same old.now new.now };

@@ -1,5 +1,5 @@
 //! Slices as sources and sinks, and vectors as sinks.
-ghost use Rattle.std.specs.Prelude.{◌≡◌, ◌<◌, ◌≤◌, ◌⊎◌, ◌++◌, length, drop, Some, None, IfErr, OnOk, OnErr, ⊤};
+ghost use Rattle.std.specs.Prelude.{◌≡◌, ℕ, ◌+◌, ◌<◌, ◌≤◌, ◌⊎◌, ◌++◌, length, drop, Some, None, IfErr, OnOk, OnErr, IsOk, ⊤};
 ghost use Rattle.capnp_frame.specs.Source.{Splits, RunsShort, IfKnown, Fails};
 ghost use Rattle.capnp_frame.specs.Sink.{AppendsSame, LeavesNothing, ByKind, Adds, Grows};
 ghost use Rattle.capnp_frame.specs.declared.error.ErrorKind.{ErrorKind};
@@ -60,6 +60,8 @@ impl Write for Vec<u8> {
 
     ghost leaves = { LeavesNothing };
 
+    ghost grants = { λ _ _. ⊥ };
+
     ghost refuses = { ByKind ErrorKind.OutOfMemory };
 
     ghost same = { λ _ _. ⊤ };
@@ -87,6 +89,8 @@ impl Write for &mut [u8] {
 
     ghost leaves = { LeavesNothing };
 
+    ghost grants = { λ slice bytes. bytes ≤ length slice.now };
+
     ghost refuses = { ByKind ErrorKind.BufferNotLargeEnough };
 
     ghost same = { λ _ _. ⊤ };
@@ -94,6 +98,8 @@ impl Write for &mut [u8] {
     fn write_all(&mut self, piece: &[u8]) -> Result<()>
         ensures added { OnOk result (IfKnown None None (Adds (AppendsSame piece.now))) }
         ensures left { OnErr result (IfKnown None None (Adds (LeavesNothing piece.now))) }
+        ensures granted { (more : ℕ) → length piece.now + more ≤ length self.old.now →
+            IsOk result × (more ≤ length self.new.now) }
         ensures failed { IfErr result (λ error. error.kind ≡ ErrorKind.DeviceFailed → Fails 0 0) }
         ensures moved { OnOk result (self.new.now ≡ drop (length piece.now) self.old.now) }
         ensures fits { OnOk result (length piece.now ≤ length self.old.now) }

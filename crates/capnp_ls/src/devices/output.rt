@@ -68,6 +68,8 @@ impl<W: io::Write + Drop> Write for Output<W> {
 
     ghost leaves = { LeavesFront };
 
+    ghost grants = { λ _ _. ⊥ };
+
     ghost refuses = { λ _ _. ⊥ };
 
     ghost same = { λ _ _. ⊤ };

@@ -1,12 +1,27 @@
 -- Where the packed text has no room, that is the refusal.
-use Rattle.std.proofs.Common.{rules, ap, ◌∙◌}
+use Rattle.std.proofs.Common.{rules, arith, ◌≡◌, ◌≤◌, ◌+◌, length, ap, ◌∙◌}
+use Rattle.std.proofs.lemmas.Bool.{false≢true}
 use Rattle.capnp_frame.specs.Numbers.{number_of}
-use Rattle.capnp_c.proofs.PackedLemmas.{block_refused, packed_fits}
+use Rattle.capnp_c.proofs.PackedLemmas.{packed_alone, block_refused, packed_fits}
 use Rattle.capnp_c.proofs.packed.linsjoar_pack.Goals as goal
 
 pub returns-in-Ok-clause-short : goal.returns-in-Ok-clause-short
-returns-in-Ok-clause-short c packed packs short = absurd (packed_fits c.args.words.now packed _ c.len.result packs short (search rules))
+returns-in-Ok-clause-short c packed packs short =
+    let text = packed_alone c.args.words.now _ _ _ _ c.new-sink.ensures.used c.in-Ok.ensures.packed in
+    absurd (packed_fits c.args.words.now packed _ c.len.result packs short (search (rules, text)))
+
+pub returns-in-Ok-clause-packed : goal.returns-in-Ok-clause-packed
+returns-in-Ok-clause-packed c zero =
+    let text = packed_alone c.args.words.now _ _ _ _ c.new-sink.ensures.used c.in-Ok.ensures.packed in
+    search (rules, text)
 
 pub returns-in-Err-clause-short : goal.returns-in-Err-clause-short
 returns-in-Err-clause-short c packed packs short =
     c.number.ensures ∙ ap number_of (block_refused c.args.words.now packed c.in-Err.error.kind packs c.in-Err.ensures.refused c.in-Err.ensures.failed)
+
+pub returns-in-Err-clause-accepted : goal.returns-in-Err-clause-accepted
+returns-in-Err-clause-accepted c packed packs fits =
+    let block : length packed ≤ length c.pack_into.new.sink.block.now = search (rules, fits) in
+    let same = c.in-Err.ensures.same.1 in
+    let room : c.new-sink.result.used + (length packed + 0) ≤ length c.new-sink.result.block.now = omega (arith, block, same, c.new-sink.ensures.used) in
+    absurd (false≢true (c.in-Err.ensures.granted packed packs room))

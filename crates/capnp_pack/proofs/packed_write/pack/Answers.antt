@@ -4,8 +4,9 @@ use Rattle.std.proofs.lemmas.List.{take_all}
 use Rattle.std.specs.List.{concat, AllByRecursion}
 use Rattle.capnp_frame.proofs.SourceLemmas.{Grows-join}
 use Rattle.capnp_pack.proofs.CallLemmas.{hands_last, hands_stopped}
-use Rattle.capnp_pack.proofs.PackingLemmas.{packed_more, packed_all}
+use Rattle.capnp_pack.proofs.PackingLemmas.{next_words, other_words, packed_more, packed_all}
 use Rattle.capnp_pack.proofs.Chunks.{chunks_whole}
+use Rattle.capnp_pack.proofs.GrantingLemmas.{grants_more, grants_group, grants_last}
 use Rattle.capnp_pack.proofs.LeavingLemmas.{left_group, left_last}
 use Rattle.capnp_pack.specs.Group.{IsWord}
 use Rattle.std.proofs.lemmas.Result.{err_from_is_err_and}
@@ -17,19 +18,21 @@ loop-done-preserved g c =
     let done = c.loop-done.done in
     let within : done < length words = c.loop-done-test.true in
     let others = take (length words - (done + 1)) (drop (done + 1) words) in
-    let all : others ≡ drop (done + 1) words = take_all (length words - (done + 1)) (drop (done + 1) words) (omega (arith, length-drop (done + 1) words)) in
-    let front : drop done words ≡ get_or words done [] ∷ others = drop-cons words done [] within
-    ∙ ap (λ k. get_or words done [] ∷ drop k words) (sym (add-one done)) ∙ ap (λ l. get_or words done [] ∷ l) (sym all) in
+    let all = other_words words done in
+    let front = next_words words done within in
     let rest = c.in_ok-packed.ensures.hands.handed.1.within in
     let more = packed_more g.W.Write.appends words done c.in_ok-packed.packed.words (get_or words done []) others _ _ _ _ _ front all c.loop-done.invariant.2 c.in_ok-packed.ensures.hands.handed in (
       omega (arith, length-drop (done + 1) words, ap length all, rest),
       c.in_ok-packed.ensures.used,
       more,
       Grows-join _ _ _ (g.met.W.Write.keeps.transitive _ _ _) c.loop-done.invariant.3 c.in_ok-packed.ensures.hands.grows,
+      grants_more (g.W.Write.grants c.args.sink.now) (g.W.Write.grants c.loop-done.sink) (g.W.Write.grants c.pack_group.new.sink) words done c.in_ok-packed.packed.words c.loop-done.used c.in_ok-packed.packed.used
+          (get_or words done []) others _ front all c.in_ok-packed.ensures.hands.handed.1
+          c.loop-done.invariant.4 c.in_ok-packed.ensures.granted,
     )
 
-pub returns-in_err-packed : goal.returns-in_err-packed
-returns-in_err-packed g c =
+pub returns-in_err-packed-clause-writes : goal.returns-in_err-packed-clause-writes
+returns-in_err-packed-clause-writes g c =
     let p = err_from_is_err_and c.from_residual.result c.from_residual.ensures.1 in
     let words = c.as_chunks.result.0.now in
     let piece = c.args.piece.now in
@@ -39,15 +42,14 @@ returns-in_err-packed g c =
     let whole : concat words ≡ piece = ap concat c.as_chunks.ensures.front ∙ cut.0 in
     let each : AllByRecursion IsWord words = subst (AllByRecursion IsWord) (sym c.as_chunks.ensures.front) cut.1 in
     let others = take (length words - (done + 1)) (drop (done + 1) words) in
-    let all : others ≡ drop (done + 1) words = take_all (length words - (done + 1)) (drop (done + 1) words) (omega (arith, length-drop (done + 1) words)) in
-    let front : drop done words ≡ get_or words done [] ∷ others = drop-cons words done [] within
-    ∙ ap (λ k. get_or words done [] ∷ drop k words) (sym (add-one done)) ∙ ap (λ l. get_or words done [] ∷ l) (sym all) in
+    let all = other_words words done in
+    let front = next_words words done within in
     rw (p.1, p.2) (hands_stopped g.W.Write g.met.W.Write.keeps _ _ _ _ _ _ _ _
     (left_group g.W.Write.appends g.W.Write.leaves piece words done (get_or words done []) others _ _ _ _ whole each front c.loop-done.invariant.2)
     c.loop-done.invariant.3 c.in_err-packed.ensures.hands)
 
-pub returns : goal.returns
-returns g c =
+pub returns-clause-writes : goal.returns-clause-writes
+returns-clause-writes g c =
     let words = c.as_chunks.result.0.now in
     let piece = c.args.piece.now in
     let cut = chunks_whole (length piece / 8) piece (omega arith) in
@@ -55,4 +57,26 @@ returns g c =
     hands_last g.W.Write g.met.W.Write.keeps _ _ _ _ _ _ _ c.flush.result
     (λ last. packed_all g.W.Write.appends piece words c.loop-done.done (take c.loop-done.used c.loop-done.bytes) [] _ _ _
     whole c.loop-done-test.false refl c.loop-done.invariant.2 last)
-    (left_last g.W.Write.appends g.W.Write.leaves piece words c.loop-done.done _ _ _ _ whole c.loop-done-test.false c.loop-done.invariant.2) c.loop-done.invariant.3 c.flush.ensures
+    (left_last g.W.Write.appends g.W.Write.leaves piece words c.loop-done.done _ _ _ _ whole c.loop-done-test.false c.loop-done.invariant.2) c.loop-done.invariant.3 c.flush.ensures.hands
+
+pub returns-in_err-packed-clause-granted : goal.returns-in_err-packed-clause-granted
+returns-in_err-packed-clause-granted g c text more packs granted =
+    let words = c.as_chunks.result.0.now in
+    let piece = c.args.piece.now in
+    let done = c.loop-done.done in
+    let within : done < length words = c.loop-done-test.true in
+    let cut = chunks_whole (length piece / 8) piece (omega arith) in
+    let whole : concat words ≡ piece = ap concat c.as_chunks.ensures.front ∙ cut.0 in
+    let each : AllByRecursion IsWord words = subst (AllByRecursion IsWord) (sym c.as_chunks.ensures.front) cut.1 in
+    let front = next_words words done within in
+    let (group, count, others, made, given) = grants_group (g.W.Write.grants c.args.sink.now) (g.W.Write.grants c.loop-done.sink) piece text more words done c.loop-done.used (get_or words done []) _
+    whole each front packs granted c.loop-done.invariant.4 in
+    absurd (c.in_err-packed.ensures.granted group count others made given)
+
+pub returns-clause-granted : goal.returns-clause-granted
+returns-clause-granted g c text more packs granted =
+    let words = c.as_chunks.result.0.now in
+    let piece = c.args.piece.now in
+    let cut = chunks_whole (length piece / 8) piece (omega arith) in
+    let whole : concat words ≡ piece = ap concat c.as_chunks.ensures.front ∙ cut.0 in
+    c.flush.ensures.granted more (grants_last (g.W.Write.grants c.args.sink.now) (g.W.Write.grants c.loop-done.sink) piece text more words c.loop-done.done c.loop-done.used whole c.loop-done-test.false packs granted c.loop-done.invariant.4)

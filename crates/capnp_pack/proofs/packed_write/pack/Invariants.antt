@@ -3,6 +3,7 @@ use Rattle.std.proofs.Common.{length, ◌-◌, ◌≤◌, List, [], ℕ, drop, t
 use Rattle.capnp_frame.specs.Source.{IfKnown}
 use Rattle.capnp_frame.specs.Sink.{Grows}
 use Rattle.capnp_pack.specs.Steps.{Hands}
+use Rattle.capnp_pack.proofs.GrantingLemmas.{GrantsRest}
 use Rattle.capnp_pack.proofs.PackerLemmas.{PacksTo}
 use Rattle.capnp_pack.proofs.packed_write.pack.Given as goal
 
@@ -12,6 +13,7 @@ invariant-loop-done g l = let W = g.W.Write in
     × (l.used ≤ 64)
     × ((text : List ℕ) × PacksTo l.words text (drop l.done l.words) × IfKnown (W.written l.initial.sink) (W.written l.sink) (Hands W.appends [] text (take l.used l.bytes)))
     × Grows W.written W.failures W.same l.initial.sink l.sink
+    × GrantsRest (W.grants l.initial.sink) (W.grants l.sink) l.words (drop l.done l.words) l.used
 
 abbrev pub decreases-loop-done : goal.decreases-loop-done
 decreases-loop-done g l = length l.words - l.done

@@ -1,9 +1,11 @@
 -- The bytes of one more write follow those of the earlier ones.
-use Rattle.std.proofs.Common.{◌-◌, ◌++◌, length, take, drop, sym, ap, subst, ◌∙◌, arith, length-take}
+use Rattle.std.proofs.Common.{◌≡◌, ◌≤◌, ℕ, ◌-◌, [], ◌++◌, length, take, drop, sym, ap, subst, ◌∙◌, arith, length-take}
 use lib.Seq.{take-add, take-take}
 use Rattle.std.specs.Io.KnownBytes.{Appends}
 use Rattle.std.proofs.KnownBytes.{Appends-trans}
+use Rattle.capnp_ls.proofs.SinkLemmas.{front_kept, nothing_added}
 use Rattle.capnp_ls.proofs.devices.output.OutputWrite.write_all.Goals as goal
+use Rattle.capnp_ls.proofs.devices.output.OutputWrite.write_all.Goals.{in_default-via-in-Ok+else-count-gt0, in_default-via-in_default}
 
 pub loop-done-preserved : goal.loop-done-preserved
 loop-done-preserved g c =
@@ -14,3 +16,18 @@ loop-done-preserved g c =
     let most = length-take (length piece - done) (drop done piece) in
     let joined = ap (λ text. take done piece ++ text) (take-take count (length piece - done) (drop done piece) (omega arith)) ∙ sym (take-add done count piece) in
     (omega arith, c.loop-done.invariant.1, subst (Appends _ _) joined (Appends-trans _ _ _ _ _ c.loop-done.invariant.2 c.in-Ok.ensures.bytes))
+
+-- a call that fails, or takes nothing, leaves what was done
+pub returns-in_default-clause-left : goal.returns-in_default-clause-left
+returns-in_default-clause-left g c =
+    let done = c.loop-done.done in
+    let piece = c.args.piece.now in
+    elim c.in_default.branch [
+      | in_default-via-in-Ok+else-count-gt0 w ↦
+          let none : take w.in-Ok.count (take (length piece - done) (drop done piece)) ≡ [] = ap (λ k. take k (take (length piece - done) (drop done piece))) (no_more w.in-Ok.count w.if-count-gt0.false) in
+          front_kept _ _ _ piece done c.loop-done.invariant.2 (nothing_added _ _ _ none w.in-Ok.ensures.bytes)
+      | in_default-via-in_default w ↦ front_kept _ _ _ piece done c.loop-done.invariant.2 w.in_default.ensures.bytes
+    ]
+  where
+    no_more : (k : ℕ) → k ≤ 0 → k ≡ 0
+    no_more k less = omega arith

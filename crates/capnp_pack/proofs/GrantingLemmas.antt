@@ -1,0 +1,98 @@
+-- What a packer hands on to a sink that grants its text.
+use Rattle.std.proofs.Common.{◌≡◌, ℕ, ◌+◌, ◌≤◌, List, [], ◌∷◌, ◌++◌, length, take, drop, refl, sym, ap, ◌∙◌, subst, arith, length-append}
+use Rattle.std.specs.List.{concat, flat_map, AllByRecursion}
+use Rattle.std.proofs.lemmas.List.{drop_all, drop-drop}
+use Rattle.std.proofs.lemmas.List.Concat.{concat_is}
+use Rattle.capnp_pack.specs.Group.{Group, literal, IsWord, group_text}
+use Rattle.capnp_pack.specs.Packed.{Packs}
+use Rattle.capnp_pack.specs.Steps.{HasFewZeros, IsRun, IsGroupOf, tag_of}
+use Rattle.capnp_pack.proofs.AllLemmas.{AllByRecursion-drop}
+use Rattle.capnp_pack.proofs.RunLemmas.{IsRun-once, IsRun-some, few_or_not}
+use Rattle.capnp_pack.proofs.PackerGroups.{IsGroupOf-some, IsGroupOf-once, IsGroupOf-literal}
+use Rattle.capnp_pack.proofs.PackerLemmas.{PacksWords, PacksTo, PacksWords-more, PacksWords-none, PacksWords-some, Packs-words, Packs-once}
+use Rattle.capnp_pack.proofs.PackingLemmas.{PacksTo-none, PacksTo-more}
+
+-- the words of a literal run have as many bytes as the piece that is written of them
+pub run_flat : (count words : ℕ) (flat : List ℕ) (os : List (List ℕ)) → IsRun HasFewZeros os count → IsRun HasFewZeros os words
+    → flat ≡ flat_map (λ x. x) (take words os) → length (concat (take count os)) ≡ length flat
+run_flat count words flat os run own all =
+    ap (λ k. length (concat (take k os))) (IsRun-once HasFewZeros os count words run own) ∙ ap length (concat_is (take words os) ∙ sym all)
+
+-- a buffer with a group after what it held
+pub group_counted : (word : List ℕ) (os : List (List ℕ)) (n count start used : ℕ) (own made : Group) (roomy new : List ℕ) → length roomy ≡ start → length new ≡ used
+    → new ≡ roomy ++ group_text own → IsGroupOf word os n own → IsGroupOf word os count made → used ≡ start + length (group_text made)
+group_counted word os n count start used own made roomy new begun ended is mine theirs =
+    let same = (IsGroupOf-once word os n count own made mine theirs).1 in
+    sym ended ∙ ap length is ∙ length-append roomy (group_text own) ∙ ap (λ k. k + length (group_text own)) begun ∙ ap (λ g. start + length (group_text g)) same
+
+-- and one of words that go as they stand, up to its count
+pub literal_counted : (word : List ℕ) (os : List (List ℕ)) (count start end : ℕ) (made : Group) (roomy filled : List ℕ) → IsWord word → AllByRecursion IsWord os → tag_of word ≡ 255
+    → length roomy ≡ start → length filled ≡ end → filled ≡ roomy ++ 255 ∷ word → IsGroupOf word os count made
+    → (k : ℕ) × IsRun HasFewZeros os k × (start + length (group_text made) ≡ end + (1 + length (concat (take k os))))
+literal_counted word os count start end made roomy filled is all full begun ended fill theirs =
+    let run : (k : ℕ) × IsRun HasFewZeros os k = IsRun-some HasFewZeros few_or_not os in
+    let own = literal word (take run.0 os) in
+    let same : own ≡ made = (IsGroupOf-once word os run.0 count own made (IsGroupOf-literal word os run.0 is all full run.1) theirs).1 in
+    let head : length filled ≡ length roomy + length (255 ∷ word) = ap length fill ∙ length-append roomy (255 ∷ word) in
+    let text : length (group_text own) ≡ length (255 ∷ word) + length (length (take run.0 os) ∷ concat (take run.0 os)) =
+    length-append (255 ∷ word) (length (take run.0 os) ∷ concat (take run.0 os)) in
+    (run.0, run.1, ap (λ g. start + length (group_text g)) (sym same) ∙ omega (arith, head, text, begun, ended))
+
+-- what is granted at first is, less what is handed on, granted for what the buffer holds and the rest of the text
+abbrev pub GrantsRest : (ℕ → Type 0) → (ℕ → Type 0) → List (List ℕ) → List (List ℕ) → ℕ → Type 0
+GrantsRest first now words left used = (text : List ℕ) × PacksTo words text left
+    × ((rest : List ℕ) (more : ℕ) → PacksWords left rest → first (length text + (length rest + more)) → now (used + (length rest + more)))
+
+pub grants_none : (first : ℕ → Type 0) (words : List (List ℕ)) → GrantsRest first first words words 0
+grants_none first words = ([], PacksTo-none words, λ rest more packs granted. granted)
+
+-- the next group of a piece
+pub grants_more : (first before after : ℕ → Type 0) (words : List (List ℕ)) (done n used next : ℕ) (w : List ℕ) (os : List (List ℕ)) (g : Group)
+    → drop done words ≡ w ∷ os → os ≡ drop (done + 1) words → IsGroupOf w os n g → GrantsRest first before words (drop done words) used
+    → ((group : Group) (count more : ℕ) → IsGroupOf w os count group → before (used + (length (group_text group) + more)) → after (next + more))
+    → GrantsRest first after words (drop (done + (1 + n)) words) next
+grants_more first before after words done n used next w os g front rest made (text, to, grants) step =
+    let whole : (done + 1) + n ≡ done + (1 + n) = omega arith in
+    let left : drop n os ≡ drop (done + (1 + n)) words = ap (drop n) rest ∙ drop-drop n (done + 1) words ∙ ap (λ k. drop k words) whole in (
+      text ++ group_text g,
+      PacksTo-more words text done (done + (1 + n)) n w os g front left made to,
+      λ behind more packs granted.
+      let group : PacksWords (drop done words) (group_text g ++ behind) =
+      subst (λ l. PacksWords l (group_text g ++ behind)) (sym front) (PacksWords-more w os n g behind made (subst (λ l. PacksWords l behind) (sym left) packs)) in
+      let both : length (group_text g ++ behind) ≡ length (group_text g) + length behind = length-append (group_text g) behind in
+      let text_both : length (text ++ group_text g) ≡ length text + length (group_text g) = length-append text (group_text g) in
+      let asked : length (text ++ group_text g) + (length behind + more) ≡ length text + (length (group_text g ++ behind) + more) = omega (arith, both, text_both) in
+      let given : used + (length (group_text g ++ behind) + more) ≡ used + (length (group_text g) + (length behind + more)) = omega (arith, both) in
+      step g n (length behind + more) made (subst before given (grants (group_text g ++ behind) more group (subst first asked granted))),
+    )
+
+-- so the next group is granted
+pub grants_group : (first now : ℕ → Type 0) (piece text : List ℕ) (more : ℕ) (words : List (List ℕ)) (done used : ℕ) (w : List ℕ) (os : List (List ℕ))
+    → concat words ≡ piece → AllByRecursion IsWord words → drop done words ≡ w ∷ os → Packs piece text → first (length text + more)
+    → GrantsRest first now words (drop done words) used
+    → (group : Group) × (count : ℕ) × (others : ℕ) × IsGroupOf w os count group × now (used + (length (group_text group) + others))
+grants_group first now piece text more words done used w os whole all front packs granted (handed, to, grants) =
+    let each : AllByRecursion IsWord (w ∷ os) = subst (AllByRecursion IsWord) front (AllByRecursion-drop IsWord done words all) in
+    let (count, (group, made)) = IsGroupOf-some w os each.0 each.1 in
+    let (rest, others) = PacksWords-some (drop count os) (AllByRecursion-drop IsWord count os each.1) in
+    let left : PacksWords (drop done words) (group_text group ++ rest) =
+    subst (λ l. PacksWords l (group_text group ++ rest)) (sym front) (PacksWords-more w os count group rest made others) in
+    let behind = group_text group ++ rest in
+    let own : Packs piece (handed ++ behind) = subst (λ l. Packs l (handed ++ behind)) whole (Packs-words words (handed ++ behind) (to behind left)) in
+    let long : length text ≡ length handed + length behind = ap length (Packs-once piece text (handed ++ behind) packs own) ∙ length-append handed behind in
+    let both : length behind ≡ length (group_text group) + length rest = length-append (group_text group) rest in
+    let asked : length text + more ≡ length handed + (length behind + more) = omega (arith, long) in
+    let given : used + (length behind + more) ≡ used + (length (group_text group) + (length rest + more)) = omega (arith, both) in
+    (group, count, length rest + more, made, subst now given (grants behind more left (subst first asked granted)))
+
+-- and at last what the buffer holds
+pub grants_last : (first now : ℕ → Type 0) (piece text : List ℕ) (more : ℕ) (words : List (List ℕ)) (done used : ℕ)
+    → concat words ≡ piece → length words ≤ done → Packs piece text → first (length text + more) → GrantsRest first now words (drop done words) used → now (used + more)
+grants_last first now piece text more words done used whole past packs granted (handed, to, grants) =
+    let over : drop done words ≡ [] = drop_all done words past in
+    let none : PacksWords (drop done words) [] = subst (λ l. PacksWords l []) (sym over) PacksWords-none in
+    let own : Packs piece (handed ++ []) = subst (λ l. Packs l (handed ++ [])) whole (Packs-words words (handed ++ []) (to [] none)) in
+    let long : length text ≡ length handed + 0 = ap length (Packs-once piece text (handed ++ []) packs own) ∙ length-append handed [] in
+    let asked : length text + more ≡ length handed + (0 + more) = omega (arith, long) in
+    let last : used + (0 + more) ≡ used + more = omega arith in
+    subst now last (grants [] more none (subst first asked granted))
