@@ -19,9 +19,9 @@ use Rattle.capnp_wire.specs.Trim.{trim}
 use Rattle.capnp_wire.specs.Layout.{body}
 use Rattle.capnp_wire.specs.Views.{Pointer}
 use Rattle.capnp_wire.specs.Values.{IsCanonicalForm}
-use Rattle.capnp_wire.proofs.SizeLemmas.{length-body}
-use Rattle.capnp_wire.proofs.OpenLemmas.{room_formed}
-use Rattle.capnp_wire.proofs.WordLemmas.{length-words_of}
+use Rattle.capnp_wire.proofs.layouts.SizeLemmas.{length-body}
+use Rattle.capnp_wire.proofs.layouts.OpenLemmas.{room_formed}
+use Rattle.capnp_wire.proofs.words.WordLemmas.{length-words_of}
 use Rattle.capnp_message.specs.Canonical.{LacksForm}
 use Rattle.capnp.specs.Canonical.{IsForm, AppendsForm, LeavesForm, BreaksForm, DeclinesForm}
 use Rattle.capnp.specs.Written.{RefusesWriter}

@@ -16,7 +16,7 @@ use Rattle.capnp_frame.proofs.AgreementLemmas.{limit_cases}
 use Rattle.capnp_frame.proofs.LimitLemmas.{past_limit}
 use Rattle.capnp_wire.specs.Tree.{Trees}
 use Rattle.capnp_wire.specs.Reached.{At, at, root}
-use Rattle.capnp_wire.proofs.LaidOutLemmas.{word_stands}
+use Rattle.capnp_wire.proofs.layouts.LaidOutLemmas.{word_stands}
 use Rattle.capnp_build.specs.Bytes.{Space}
 use Rattle.capnp_build.specs.Built.{message}
 use Rattle.capnp_build.specs.Held.{used_of}

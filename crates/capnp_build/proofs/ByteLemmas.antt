@@ -9,8 +9,8 @@ use Rattle.capnp_wire.specs.Pointer.{number_of, words_of}
 use Rattle.capnp_wire.specs.Object.{word_at}
 use Rattle.capnp_wire.specs.Reached.{root}
 use Rattle.capnp_wire.specs.declared.layout.place.Place.{Place}
-use Rattle.capnp_wire.proofs.MessageLemmas.{word_stands}
-use Rattle.capnp_wire.proofs.WordLemmas.{number_of_eight}
+use Rattle.capnp_wire.proofs.words.MessageLemmas.{word_stands}
+use Rattle.capnp_wire.proofs.words.WordLemmas.{number_of_eight}
 use Rattle.capnp_build.specs.Bytes.{Space, written, with_bytes}
 use Rattle.capnp_build.specs.Held.{used_of, space_at}
 use Rattle.capnp_build.specs.Built.{message}

@@ -5,8 +5,8 @@ use Rattle.capnp_wire.specs.Tree.{Form, null, none, Trees, tree}
 use Rattle.capnp_wire.specs.Object.{places, word_at, Target, Lands, near, far, Shape, PointsTo, is_null, is_object, double_far}
 use Rattle.capnp_wire.specs.Reached.{At, at, nowhere, root, Root}
 use Rattle.capnp_wire.specs.declared.layout.place.Place.{Place}
-use Rattle.capnp_wire.proofs.WordLemmas.{length-words_of}
-use Rattle.capnp_wire.proofs.ObjectLemmas.{one_tree}
+use Rattle.capnp_wire.proofs.words.WordLemmas.{length-words_of}
+use Rattle.capnp_wire.proofs.objects.ObjectLemmas.{one_tree}
 use Rattle.capnp_build.specs.Bytes.{Space, written, with_bytes}
 use Rattle.capnp_build.specs.Held.{space_at}
 use Rattle.capnp_build.specs.Built.{message, HasNullRoot, size_in_words}

@@ -6,7 +6,7 @@ use Rattle.capnp_wire.specs.Tree.{Form, Trees, none, tree, count, total_words}
 use Rattle.capnp_wire.specs.Object.{word_at}
 use Rattle.capnp_wire.specs.Reached.{root}
 use Rattle.capnp_wire.specs.Layout.{pointer, far_pointer, body, Laid, AllHaveRoom}
-use Rattle.capnp_wire.proofs.WordLemmas.{length-words_of}
+use Rattle.capnp_wire.proofs.words.WordLemmas.{length-words_of}
 use Rattle.capnp_build.specs.Bytes.{Space, written, with_bytes}
 use Rattle.capnp_build.specs.Filled.{with_more}
 use Rattle.capnp_build.specs.Out.{Out}

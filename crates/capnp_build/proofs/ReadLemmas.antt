@@ -12,9 +12,9 @@ use Rattle.capnp_wire.specs.Tree.{Form, null, struct, numbers, pointers, structs
 use Rattle.capnp_wire.specs.Reached.{At, root}
 use Rattle.capnp_wire.specs.Views.{HasData, IsWords}
 use Rattle.capnp_wire.specs.Layout.{body, pointers_to, slots}
-use Rattle.capnp_wire.proofs.DigitLemmas.{digits-number_of}
-use Rattle.capnp_wire.proofs.WordLemmas.{length-words_of}
-use Rattle.capnp_wire.proofs.ObjectLemmas.{one_tree}
+use Rattle.capnp_wire.proofs.words.DigitLemmas.{digits-number_of}
+use Rattle.capnp_wire.proofs.words.WordLemmas.{length-words_of}
+use Rattle.capnp_wire.proofs.objects.ObjectLemmas.{one_tree}
 use Rattle.capnp_build.specs.Bytes.{Space, written, with_bytes}
 use Rattle.capnp_build.specs.Held.{space_at}
 use Rattle.capnp_build.specs.Built.{message, IsLaid, IsShown}

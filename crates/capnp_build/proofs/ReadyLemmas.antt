@@ -9,9 +9,9 @@ use Rattle.capnp_wire.specs.Tree.{Form, Trees, none, tree, count, total_words}
 use Rattle.capnp_wire.specs.Reached.{At, root}
 use Rattle.capnp_wire.specs.Layout.{pointer, body, layout, formed, AllHaveRoom}
 use Rattle.capnp_wire.specs.Values.{HasWords, pointed}
-use Rattle.capnp_wire.proofs.TrimLemmas.{count-trim}
-use Rattle.capnp_wire.proofs.OpenLemmas.{room_formed}
-use Rattle.capnp_wire.proofs.WordLemmas.{length-words_of}
+use Rattle.capnp_wire.proofs.trees.TrimLemmas.{count-trim}
+use Rattle.capnp_wire.proofs.layouts.OpenLemmas.{room_formed}
+use Rattle.capnp_wire.proofs.words.WordLemmas.{length-words_of}
 use Rattle.capnp_build.specs.Bytes.{Space}
 use Rattle.capnp_build.specs.Filled.{IsBlockOf}
 use Rattle.capnp_build.specs.Held.{space_at}

@@ -10,8 +10,8 @@ use Rattle.capnp_wire.specs.Tree.{Form, numbers, Trees, none, tree, count, own_w
 use Rattle.capnp_wire.specs.Object.{word_at}
 use Rattle.capnp_wire.specs.Reached.{root}
 use Rattle.capnp_wire.specs.Layout.{pointer, body, HasRoom}
-use Rattle.capnp_wire.proofs.WordLemmas.{numbers_from, bytes_back, length-words_of}
-use Rattle.capnp_wire.proofs.BytesLemmas.{padded, below_zeros}
+use Rattle.capnp_wire.proofs.words.WordLemmas.{numbers_from, bytes_back, length-words_of}
+use Rattle.capnp_wire.proofs.words.BytesLemmas.{padded, below_zeros}
 use Rattle.capnp_build.specs.Bytes.{Space, written, with_bytes}
 use Rattle.capnp_build.specs.Held.{space_at}
 use Rattle.capnp_build.specs.Built.{message, root_word, pad_of, IsLaid}

@@ -6,7 +6,7 @@ use Rattle.std.specs.Simd.{first_chunks}
 use Rattle.std.proofs.lemmas.List.{take-take, drop-drop, drop-take, length-replicate}
 use Rattle.std.proofs.lemmas.List.Elements.{All-take, All-drop, All-replicate}
 use Rattle.capnp_wire.specs.Pointer.{number_of, words_of, words_from}
-use Rattle.capnp_wire.proofs.WordLemmas.{length-words_of}
+use Rattle.capnp_wire.proofs.words.WordLemmas.{length-words_of}
 use Rattle.capnp_build.specs.Bytes.{written}
 use Rattle.capnp_build.proofs.UsedLemmas.{written_length, written_zero}
 use Rattle.capnp_build.proofs.ByteLemmas.{eight_here, eight_before, word_back, drop_written}

@@ -15,7 +15,7 @@ use Rattle.capnp_wire.specs.Reached.{root}
 use Rattle.capnp_wire.specs.Views.{Pointer}
 use Rattle.capnp_wire.specs.Faults.{NoWord, no_word, at_pointer}
 use Rattle.capnp_wire.specs.Values.{IsCanonicalForm, LeadsToTree, StopsWalkFrom}
-use Rattle.capnp_wire.proofs.OneValueLemmas.{one_of_pointer, measured_exactly, measured_found}
+use Rattle.capnp_wire.proofs.views.OneValueLemmas.{one_of_pointer, measured_exactly, measured_found}
 use Rattle.capnp_c.specs.Fronts.{IsAtFront, HasForm, LacksForm, IsShort, root_pointer}
 
 pub one_front : (bytes rest left : List ℕ) (segments others : List (List ℕ)) → IsAtFront bytes segments rest → IsAtFront bytes others left → segments ≡ others

@@ -8,8 +8,8 @@ use Rattle.capnp_wire.specs.Reached.{At, at, nowhere, root, Root}
 use Rattle.capnp_wire.specs.Readers.{unlimited_root}
 use Rattle.capnp_wire.specs.Views.{Denotes, at_place, Accepts, Reads, IsText, TakesText}
 use Rattle.capnp_wire.specs.Values.{IsTextOf}
-use Rattle.capnp_wire.proofs.CanonicalLemmas.{none_has_no_root}
-use Rattle.capnp_wire.proofs.ViewLemmas.{one_denoted}
+use Rattle.capnp_wire.proofs.forms.CanonicalLemmas.{none_has_no_root}
+use Rattle.capnp_wire.proofs.views.ViewLemmas.{one_denoted}
 use Rattle.capnp_build.specs.Bytes.{Space}
 use Rattle.capnp_build.specs.Held.{used_of}
 use Rattle.capnp_build.specs.Built.{message, IsSet}

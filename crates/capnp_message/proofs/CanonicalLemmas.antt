@@ -10,8 +10,8 @@ use Rattle.capnp_wire.specs.Reached.{root}
 use Rattle.capnp_wire.specs.Faults.{NoWord, StopsWalk, no_word, at_pointer}
 use Rattle.capnp_wire.specs.Views.{Pointer}
 use Rattle.capnp_wire.specs.Values.{TreeAt, IsCanonicalForm}
-use Rattle.capnp_wire.proofs.StopLemmas.{stops_has_no_trees}
-use Rattle.capnp_wire.proofs.OneValueLemmas.{one_of_pointer}
+use Rattle.capnp_wire.proofs.walks.StopLemmas.{stops_has_no_trees}
+use Rattle.capnp_wire.proofs.views.OneValueLemmas.{one_of_pointer}
 use Rattle.capnp_message.specs.Canonical.{HasForm, LacksForm, ReturnsForm}
 use Rattle.capnp_message.specs.Seen.{ReadMessage, root_of}
 

@@ -9,8 +9,8 @@ use Rattle.capnp_wire.specs.Reached.{root}
 use Rattle.capnp_wire.specs.Faults.{NoWord, no_segment, past_segment, Fault, no_word}
 use Rattle.capnp_wire.specs.Views.{Pointer, IsViewOf}
 use Rattle.capnp_wire.specs.declared.layout.place.Place.{Place}
-use Rattle.capnp_wire.proofs.RefusalLemmas.{one_refusal}
-use Rattle.capnp_wire.proofs.FaultLemmas.{no_word_there}
+use Rattle.capnp_wire.proofs.pointers.RefusalLemmas.{one_refusal}
+use Rattle.capnp_wire.proofs.pointers.FaultLemmas.{no_word_there}
 use Rattle.capnp_message.specs.Seen.{ReadMessage, root_of, HasRoot}
 use Rattle.capnp_message.specs.Roots.{ReadsRoot}
 

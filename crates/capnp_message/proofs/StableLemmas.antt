@@ -9,11 +9,11 @@ use Rattle.capnp_wire.specs.Canonical.{IsCanonical}
 use Rattle.capnp_wire.specs.Views.{Pointer}
 use Rattle.capnp_wire.specs.Values.{TreeAt, LeadsToTree, IsCanonicalForm, one_value}
 use Rattle.capnp_wire.specs.declared.layout.place.Place.{Place}
-use Rattle.capnp_wire.proofs.CanonLemmas.{root_of_canon}
-use Rattle.capnp_wire.proofs.TrimLemmas.{trim_twice, room_trim}
-use Rattle.capnp_wire.proofs.KeptLemmas.{shallow_narrowed}
-use Rattle.capnp_wire.proofs.OneValueLemmas.{one_of_pointer}
-use Rattle.capnp_wire.proofs.SetterLemmas.{form_is_canonical}
+use Rattle.capnp_wire.proofs.forms.CanonLemmas.{root_of_canon}
+use Rattle.capnp_wire.proofs.trees.TrimLemmas.{trim_twice, room_trim}
+use Rattle.capnp_wire.proofs.trees.KeptLemmas.{shallow_narrowed}
+use Rattle.capnp_wire.proofs.views.OneValueLemmas.{one_of_pointer}
+use Rattle.capnp_wire.proofs.views.SetterLemmas.{form_is_canonical}
 use Rattle.capnp_message.specs.Canonical.{HasForm}
 use Rattle.capnp_message.specs.Seen.{ReadMessage, root_of}
 use Rattle.capnp_frame.specs.declared.message.options.ReaderOptions.{ReaderOptions}

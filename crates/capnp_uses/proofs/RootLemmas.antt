@@ -10,11 +10,11 @@ use Rattle.capnp_wire.specs.Faults.{NoWord, Fault}
 use Rattle.capnp_wire.specs.Views.{Pointer, Denotes, nowhere, at_place, Shows, Reads, Refuses, MeetsLimit, IsText, DeclinesText, DeclinesStruct}
 use Rattle.capnp_wire.specs.Charge.{Within}
 use Rattle.capnp_wire.specs.Readers.{unlimited_root}
-use Rattle.capnp_wire.proofs.ObjectLemmas.{one_object}
-use Rattle.capnp_wire.proofs.ViewLemmas.{one_denoted}
-use Rattle.capnp_wire.proofs.FaultLemmas.{word_of_object, no_word_there, refused_has_no_object}
-use Rattle.capnp_wire.proofs.FullLemmas.{null_is_zero}
-use Rattle.capnp_wire.proofs.NullLemmas.{null_by_word}
+use Rattle.capnp_wire.proofs.objects.ObjectLemmas.{one_object}
+use Rattle.capnp_wire.proofs.views.ViewLemmas.{one_denoted}
+use Rattle.capnp_wire.proofs.pointers.FaultLemmas.{word_of_object, no_word_there, refused_has_no_object}
+use Rattle.capnp_wire.proofs.forms.FullLemmas.{null_is_zero}
+use Rattle.capnp_wire.proofs.pointers.NullLemmas.{null_by_word}
 use Rattle.capnp_build.specs.Bytes.{Space}
 use Rattle.capnp_build.specs.Held.{used_of}
 use Rattle.capnp_build.specs.Built.{message}

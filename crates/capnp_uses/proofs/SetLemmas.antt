@@ -6,8 +6,8 @@ use Rattle.capnp_wire.specs.Layout.{canon}
 use Rattle.capnp_wire.specs.Views.{Pointer}
 use Rattle.capnp_wire.specs.Values.{TreeAt, LeadsToTree}
 use Rattle.capnp_wire.specs.declared.layout.place.Place.{Place}
-use Rattle.capnp_wire.proofs.ObjectLemmas.{one_tree}
-use Rattle.capnp_wire.proofs.FaultLemmas.{word_of_object}
+use Rattle.capnp_wire.proofs.objects.ObjectLemmas.{one_tree}
+use Rattle.capnp_wire.proofs.pointers.FaultLemmas.{word_of_object}
 use Rattle.capnp_frame.specs.Sink.{Adds}
 use Rattle.capnp_build.specs.Bytes.{Space}
 use Rattle.capnp_build.specs.Built.{message, IsSet, IsWhole}

@@ -151,7 +151,7 @@ pub(crate) fn write_text(bytes: &[u8], block: &mut [u8]) -> Word
 }
 
 /// The words of a list of words.
-#[tactic(auto, using(crate::proofs::WordListLemmas::words_counted))]
+#[tactic(auto, using(crate::proofs::words::WordListLemmas::words_counted))]
 pub(crate) fn measure_words(bytes: &[u8]) -> Result<u32>
     ensures words { MatchResult result
         (λ words. (length (words_of bytes.now) < 2 ^ 29) × (words ≡ length (words_of bytes.now)))
@@ -171,7 +171,7 @@ pub(crate) fn measure_words(bytes: &[u8]) -> Result<u32>
 }
 
 /// Writes a list of words into a block of just these, and answers the pointer to it.
-#[tactic(auto, using(crate::proofs::WordListLemmas::words_counted))]
+#[tactic(auto, using(crate::proofs::words::WordListLemmas::words_counted))]
 pub(crate) fn write_words(bytes: &[u8], block: &mut [u8]) -> Word
     requires few { length (words_of bytes.now) < 2 ^ 29 }
     requires room { length block.old ≡ 8 * length (words_of bytes.now) }

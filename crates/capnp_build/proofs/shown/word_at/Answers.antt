@@ -3,7 +3,7 @@ use Rattle.std.proofs.Common.{◌≡◌, ℕ, ◌/◌, ◌<◌, ◌≤◌, lengt
 use Rattle.std.specs.Int.{from_le_bytes}
 use borrow.Author.Tests.{ltb-true, ltb-false}
 use Rattle.capnp_wire.specs.Pointer.{words_of}
-use Rattle.capnp_wire.proofs.WordLemmas.{word_of_chunk, no_word}
+use Rattle.capnp_wire.proofs.words.WordLemmas.{word_of_chunk, no_word}
 use Rattle.capnp_build.proofs.WordLemmas.{got_word, no_word_got}
 use Rattle.capnp_build.proofs.shown.word_at.Goals as goal
 

@@ -1,7 +1,7 @@
 -- The pointer and the body behind it are the canonical form.
 use Rattle.std.proofs.Common.{◌∙◌, arith}
 use Rattle.capnp_wire.specs.Readers.{pointer_of}
-use Rattle.capnp_wire.proofs.SetterLemmas.{whole_form}
+use Rattle.capnp_wire.proofs.views.SetterLemmas.{whole_form}
 use Rattle.capnp_wire.proofs.canonical.write_form.Goals as goal
 
 pub returns-clause-form : goal.returns-clause-form

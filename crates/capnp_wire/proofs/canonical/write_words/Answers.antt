@@ -3,8 +3,8 @@ use Rattle.std.proofs.Common.{◌≡◌, ℕ, ◌-◌, length, take, drop, subst
 use Rattle.capnp_wire.specs.Block.{numbers_of}
 use Rattle.capnp_wire.specs.Readers.{pointer_of}
 use Rattle.capnp_wire.specs.Values.{HasWords, LeadsToTree}
-use Rattle.capnp_wire.proofs.PutLemmas.{length-numbers_of}
-use Rattle.capnp_wire.proofs.SetterLemmas.{words_form}
+use Rattle.capnp_wire.proofs.words.PutLemmas.{length-numbers_of}
+use Rattle.capnp_wire.proofs.views.SetterLemmas.{words_form}
 use Rattle.capnp_wire.proofs.canonical.write_words.Goals as goal
 
 pub write_into-requires : goal.write_into-requires

@@ -1,6 +1,6 @@
 -- The bytes of a list stand in its words.
 use Rattle.std.proofs.Common.{◌≡◌, ◌+◌, ◌-◌, ◌*◌, ℕ, take, drop, ap, ◌∙◌, arith}
-use Rattle.capnp_wire.proofs.ElementLemmas.{elements_are_bytes}
+use Rattle.capnp_wire.proofs.objects.ElementLemmas.{elements_are_bytes}
 use Rattle.capnp_wire.proofs.entered.bytes_at.Goals as goal
 
 pub returns : goal.returns

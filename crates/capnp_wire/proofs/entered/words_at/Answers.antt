@@ -1,7 +1,7 @@
 -- The words of a list stand one behind the other.
 use Rattle.std.proofs.Common.{◌≡◌, ◌+◌, ◌-◌, ◌*◌, ℕ, take, drop, ap, ◌∙◌, arith, length-take}
 use Rattle.capnp_wire.specs.Pointer.{words_of}
-use Rattle.capnp_wire.proofs.ElementLemmas.{elements_are_words}
+use Rattle.capnp_wire.proofs.objects.ElementLemmas.{elements_are_words}
 use Rattle.capnp_wire.proofs.entered.words_at.Goals as goal
 
 pub returns-clause-words : goal.returns-clause-words

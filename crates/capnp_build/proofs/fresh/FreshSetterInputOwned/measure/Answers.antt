@@ -1,7 +1,7 @@
 -- A new object is one tree, which is measured.
 use Rattle.std.proofs.Common.{◌≡◌, ap, ◌∙◌, sym, Ok}
 use Rattle.capnp_wire.specs.Tree.{none, tree}
-use Rattle.capnp_wire.proofs.OneValueLemmas.{IsOne, measured_found, measured_exactly}
+use Rattle.capnp_wire.proofs.views.OneValueLemmas.{IsOne, measured_found, measured_exactly}
 use Rattle.capnp_build.specs.Body.{zero_form, words_in}
 use Rattle.capnp_build.specs.declared.object.Body.{Body}
 use Rattle.capnp_build.proofs.FreshLemmas.{fresh_words}

@@ -5,7 +5,7 @@ use Rattle.capnp_frame.specs.Words.{bytes_of}
 use Rattle.capnp_wire.specs.Tree.{count}
 use Rattle.capnp_wire.specs.Layout.{pointer}
 use Rattle.capnp_build.specs.Held.{Held}
-use Rattle.capnp_wire.proofs.WordLemmas.{number_of_eight}
+use Rattle.capnp_wire.proofs.words.WordLemmas.{number_of_eight}
 use Rattle.capnp_build.proofs.PointLemmas.{block_there, longer_by}
 use Rattle.capnp_build.proofs.ReadyLemmas.{ready}
 use Rattle.capnp_build.proofs.segments.Segments.fill.Goals as goal

@@ -3,8 +3,8 @@ use Rattle.std.proofs.Common.{ℕ, Result, Ok}
 use Rattle.capnp_frame.specs.declared.error.Error.{Error}
 use Rattle.capnp_wire.specs.Readers.{pointer_of}
 use Rattle.capnp_wire.specs.Values.{LeadsToTree, StopsWalkFrom}
-use Rattle.capnp_wire.proofs.SetterLemmas.{none_has_words, measured_value}
-use Rattle.capnp_wire.proofs.OneValueLemmas.{one_of_pointer, measured_found, measured_exactly}
+use Rattle.capnp_wire.proofs.views.SetterLemmas.{none_has_words, measured_value}
+use Rattle.capnp_wire.proofs.views.OneValueLemmas.{one_of_pointer, measured_found, measured_exactly}
 use Rattle.capnp_wire.proofs.any_pointer.ReaderSetterInputOwned.measure.Goals as goal
 
 pub returns-in-None : goal.returns-in-None

@@ -2,7 +2,7 @@
 use Rattle.std.proofs.Common.{ℕ, subst, sym}
 use Rattle.capnp_wire.specs.Readers.{pointer_of}
 use Rattle.capnp_wire.specs.Values.{HasWords, LeadsToTree}
-use Rattle.capnp_wire.proofs.WordLemmas.{length-words_of}
+use Rattle.capnp_wire.proofs.words.WordLemmas.{length-words_of}
 use Rattle.capnp_wire.proofs.any_pointer.ReaderSetterInputOwned.write.Goals as goal
 
 pub write_into-requires : goal.write_into-requires

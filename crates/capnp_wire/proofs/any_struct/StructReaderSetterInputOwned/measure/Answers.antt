@@ -1,7 +1,7 @@
 -- The words of a struct that is read, with all below it, are those of its tree.
 use Rattle.capnp_wire.specs.Readers.{struct_of}
 use Rattle.capnp_wire.specs.Values.{IsTreeOf, StopsInside}
-use Rattle.capnp_wire.proofs.OneValueLemmas.{one_of_struct, measured_found, measured_exactly}
+use Rattle.capnp_wire.proofs.views.OneValueLemmas.{one_of_struct, measured_found, measured_exactly}
 use Rattle.capnp_wire.proofs.any_struct.StructReaderSetterInputOwned.measure.Goals as goal
 
 pub returns : goal.returns

@@ -3,7 +3,7 @@ use Rattle.std.proofs.Common.{inr, refl, sym, subst}
 use Rattle.std.proofs.lemmas.Result.{err_from_is_err_and}
 use Rattle.capnp_wire.specs.Views.{IsData, DeclinesNumbers}
 use Rattle.capnp_wire.specs.Readers.{pointer_of, IsEntered}
-use Rattle.capnp_wire.proofs.FormLemmas.{entered_shows, entered_reads}
+use Rattle.capnp_wire.proofs.views.FormLemmas.{entered_shows, entered_reads}
 use Rattle.capnp_wire.proofs.data.reader.read_bytes.Goals as goal
 
 pub returns-in_err-bytes : goal.returns-in_err-bytes

@@ -1,5 +1,5 @@
 -- A front as long as the whole is the whole.
-use Rattle.capnp_wire.proofs.WholeLemmas.{same_front, front_is_whole}
+use Rattle.capnp_wire.proofs.words.WholeLemmas.{same_front, front_is_whole}
 use Rattle.capnp_wire.proofs.layout.block.copy_bytes.Goals as goal
 
 pub copy_from_slice-requires : goal.copy_from_slice-requires

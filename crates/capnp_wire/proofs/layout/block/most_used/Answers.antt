@@ -1,8 +1,8 @@
 -- The most that one stretch needs, stretch by stretch.
 use Rattle.std.proofs.Common.{◌≡◌, ◌+◌, ◌-◌, ◌/◌, ◌<◌, max, length, ◌∙◌, sym, arith, ℕ}
 use Rattle.capnp_wire.specs.Pointer.{words_of}
-use Rattle.capnp_wire.proofs.UsedLemmas.{most_next, most_none, most_within, stretch_next}
-use Rattle.capnp_wire.proofs.OpenedLemmas.{most_within_rows}
+use Rattle.capnp_wire.proofs.words.UsedLemmas.{most_next, most_none, most_within, stretch_next}
+use Rattle.capnp_wire.proofs.layouts.OpenedLemmas.{most_within_rows}
 use Rattle.capnp_wire.proofs.layout.block.most_used.Goals as goal
 
 pub returns-then-count-eq0-clause-value : goal.returns-then-count-eq0-clause-value

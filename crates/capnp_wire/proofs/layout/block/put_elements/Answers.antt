@@ -3,8 +3,8 @@ use Rattle.std.proofs.Common.{◌≡◌, ℕ, ◌*◌, ◌%◌, ◌<◌, sym, �
 use Rattle.capnp_wire.specs.Pointer.{words_of}
 use Rattle.capnp_wire.specs.Element.{code_of, width, words_for}
 use Rattle.capnp_wire.specs.Block.{put}
-use Rattle.capnp_wire.proofs.WordLemmas.{length-words_of}
-use Rattle.capnp_wire.proofs.PaddingLemmas.{whole_words, part_word, shifted, any_below}
+use Rattle.capnp_wire.proofs.words.WordLemmas.{length-words_of}
+use Rattle.capnp_wire.proofs.objects.PaddingLemmas.{whole_words, part_word, shifted, any_below}
 use Rattle.capnp_wire.proofs.layout.block.put_elements.Goals as goal
 
 pub returns-then-behind-ne0-clause-words : goal.returns-then-behind-ne0-clause-words

@@ -1,8 +1,8 @@
 -- Words are left out from the end on while they are zero.
 use Rattle.std.proofs.Common.{◌≡◌, ◌∙◌, arith}
 use Rattle.capnp_wire.specs.Pointer.{words_of}
-use Rattle.capnp_wire.proofs.WordLemmas.{length-words_of}
-use Rattle.capnp_wire.proofs.UsedLemmas.{last_used, last_unused}
+use Rattle.capnp_wire.proofs.words.WordLemmas.{length-words_of}
+use Rattle.capnp_wire.proofs.words.UsedLemmas.{last_used, last_unused}
 use Rattle.capnp_wire.proofs.layout.block.used.Goals as goal
 
 pub returns-then-word_at-ne0 : goal.returns-then-word_at-ne0

@@ -3,12 +3,12 @@ use Rattle.std.proofs.Common.{◌≡◌, ◌≤◌, ◌/◌, [], ◌∷◌, leng
 use Rattle.std.proofs.lemmas.Bool.Decides.{nat_tests}
 use Rattle.capnp_wire.specs.Pointer.{words_of}
 use Rattle.capnp_wire.specs.Reached.{root}
-use Rattle.capnp_wire.proofs.WordLemmas.{length-words_of}
-use Rattle.capnp_wire.proofs.ElementLemmas.{all_words_below}
-use Rattle.capnp_wire.proofs.PadLemmas.{passed_on, passed_kind}
-use Rattle.capnp_wire.proofs.MetLemmas.{no_word_ends}
-use Rattle.capnp_wire.proofs.OneEndLemmas.{refused_passes, one_way_to_end, one_refusal_ends}
-use Rattle.capnp_wire.proofs.CanonicalLemmas.{ended_is_not, whole_or_not, root_some}
+use Rattle.capnp_wire.proofs.words.WordLemmas.{length-words_of}
+use Rattle.capnp_wire.proofs.objects.ElementLemmas.{all_words_below}
+use Rattle.capnp_wire.proofs.pointers.PadLemmas.{passed_on, passed_kind}
+use Rattle.capnp_wire.proofs.walks.MetLemmas.{no_word_ends}
+use Rattle.capnp_wire.proofs.walks.OneEndLemmas.{refused_passes, one_way_to_end, one_refusal_ends}
+use Rattle.capnp_wire.proofs.forms.CanonicalLemmas.{ended_is_not, whole_or_not, root_some}
 use Rattle.capnp_wire.proofs.layout.canonical.is_canonical.Goals as goal
 
 pub returns-in_err-pointer_at-clause-refused : goal.returns-in_err-pointer_at-clause-refused

@@ -7,13 +7,13 @@ use Rattle.capnp_wire.specs.Layout.{run}
 use Rattle.capnp_wire.specs.Rows.{kept_in, slots_of}
 use Rattle.capnp_wire.specs.declared.layout.object.Body.TheVariants.{Struct}
 use Rattle.capnp_wire.specs.declared.layout.rows.RowSize.{RowSize}
-use Rattle.capnp_wire.proofs.CopyLemmas.{copying_begins, copying_first, copying_next, copying_ends}
-use Rattle.capnp_wire.proofs.CopiedLemmas.{opened_here, fewer_pointers, as_many, null_is_copied, object_is_copied, pointers_kept, pointers_are_copied}
-use Rattle.capnp_wire.proofs.FieldLemmas.{length-places}
-use Rattle.capnp_wire.proofs.NearLemmas.{word_there}
-use Rattle.capnp_wire.proofs.NullRunLemmas.{struct_of_nulls}
+use Rattle.capnp_wire.proofs.layouts.CopyLemmas.{copying_begins, copying_first, copying_next, copying_ends}
+use Rattle.capnp_wire.proofs.layouts.CopiedLemmas.{opened_here, fewer_pointers, as_many, null_is_copied, object_is_copied, pointers_kept, pointers_are_copied}
+use Rattle.capnp_wire.proofs.objects.FieldLemmas.{length-places}
+use Rattle.capnp_wire.proofs.pointers.NearLemmas.{word_there}
+use Rattle.capnp_wire.proofs.pointers.NullRunLemmas.{struct_of_nulls}
 use Rattle.std.proofs.lemmas.List.{append-nil}
-use Rattle.capnp_wire.proofs.NumberCopyLemmas.{number_list_opened, number_list_copied}
+use Rattle.capnp_wire.proofs.layouts.NumberCopyLemmas.{number_list_opened, number_list_copied}
 use Rattle.capnp_wire.proofs.layout.copy.+copy.Goals as goal
 
 pub copy-returns-in_default-clause-copied : goal.copy-returns-in_default-clause-copied

@@ -3,7 +3,7 @@ use Rattle.std.proofs.Common.{◌≡◌, ◌≢◌, ◌+◌, ◌*◌, ◌≤◌,
 use Rattle.capnp_wire.specs.Pointer.{words_of}
 use Rattle.capnp_wire.specs.Object.{message_of}
 use Rattle.capnp_wire.specs.Rows.{places_in, slots_in, end_of}
-use Rattle.capnp_wire.proofs.CopyLemmas.{Copying}
+use Rattle.capnp_wire.proofs.layouts.CopyLemmas.{Copying}
 use Rattle.capnp_wire.proofs.layout.copy.+copy.Given as goal
 
 abbrev pub decreases-copy : goal.decreases-copy

@@ -3,8 +3,8 @@ use Rattle.std.proofs.Common.{◌<◌, Some, sym, ◌∙◌, ap, subst, arith, l
 use Rattle.std.proofs.lemmas.Result.{err_from_is_err_and}
 use Rattle.capnp_wire.specs.Object.{message_of, near}
 use Rattle.capnp_wire.specs.Faults.{Fault, no_word, no_segment, past_segment, bad_pad, capability}
-use Rattle.capnp_wire.proofs.MessageLemmas.{segment_stands, no_segment_stands, word_stands}
-use Rattle.capnp_wire.proofs.PadLemmas.{near_landing}
+use Rattle.capnp_wire.proofs.words.MessageLemmas.{segment_stands, no_segment_stands, word_stands}
+use Rattle.capnp_wire.proofs.pointers.PadLemmas.{near_landing}
 use Rattle.capnp_wire.proofs.layout.landing.land.Goals as goal
 
 pub returns-in_err-segment-clause-refused : goal.returns-in_err-segment-clause-refused

@@ -4,8 +4,8 @@ use Rattle.capnp_wire.specs.PointerWord.{IsFarPointer}
 use Rattle.capnp_wire.specs.Landing.{HasWidePad}
 use Rattle.capnp_wire.specs.Object.{message_of, word_at, pad}
 use Rattle.capnp_wire.specs.Faults.{BadPad, no_tag}
-use Rattle.capnp_wire.proofs.PadLemmas.{passed_on, not_is_true, not_is_false, narrow_landing, pad_word, no_second_word, no_pad_segment, no_pad_word, narrow_refused, is_narrow}
-use Rattle.capnp_wire.proofs.PadLemmas.{is_wide, wide_pad, wide_found, wide_declined}
+use Rattle.capnp_wire.proofs.pointers.PadLemmas.{passed_on, not_is_true, not_is_false, narrow_landing, pad_word, no_second_word, no_pad_segment, no_pad_word, narrow_refused, is_narrow}
+use Rattle.capnp_wire.proofs.pointers.PadLemmas.{is_wide, wide_pad, wide_found, wide_declined}
 use Rattle.capnp_wire.proofs.layout.landing.land_far.Given as given
 use Rattle.capnp_wire.proofs.layout.landing.land_far.Goals as goal
 use Rattle.capnp_wire.proofs.layout.landing.land_far.Goals.{In_ok-first, In_ok-tag}

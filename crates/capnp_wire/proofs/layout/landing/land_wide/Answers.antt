@@ -5,8 +5,8 @@ use Rattle.capnp_wire.specs.Object.{message_of, pad, IsFar}
 use Rattle.capnp_wire.specs.Faults.{BadPad, not_far, no_content}
 use Rattle.capnp_wire.specs.declared.layout.place.Place.{Place}
 use Rattle.capnp_frame.specs.declared.error.ErrorKind.TheVariants.{InvalidSegmentId}
-use Rattle.capnp_wire.proofs.MessageLemmas.{segment_stands, no_segment_stands}
-use Rattle.capnp_wire.proofs.PadLemmas.{passed_on, wide_refused, is_far_word, not_far_word, wide_landing, content_place}
+use Rattle.capnp_wire.proofs.words.MessageLemmas.{segment_stands, no_segment_stands}
+use Rattle.capnp_wire.proofs.pointers.PadLemmas.{passed_on, wide_refused, is_far_word, not_far_word, wide_landing, content_place}
 use Rattle.capnp_wire.proofs.layout.landing.land_wide.Given as given
 use Rattle.capnp_wire.proofs.layout.landing.land_wide.Goals as goal
 use Rattle.capnp_wire.proofs.layout.landing.land_wide.Goals.{In_ok-content}

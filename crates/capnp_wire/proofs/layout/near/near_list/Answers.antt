@@ -2,7 +2,7 @@
 use Rattle.std.proofs.Common.{◌+◌, ◌/◌, ◌≤◌, length, refl, sym, arith}
 use Rattle.capnp_wire.specs.Pointer.{words_of}
 use Rattle.capnp_wire.specs.Element.{code_of, width, words_for}
-use Rattle.capnp_wire.proofs.NearLemmas.{word_there, number_list_stands}
+use Rattle.capnp_wire.proofs.pointers.NearLemmas.{word_there, number_list_stands}
 use Rattle.capnp_wire.proofs.layout.near.near_list.Goals as goal
 
 pub returns : goal.returns

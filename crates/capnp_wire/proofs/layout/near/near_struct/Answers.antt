@@ -1,7 +1,7 @@
 -- A struct that a near pointer leads to stands where it has room.
 use Rattle.std.proofs.Common.{◌+◌, ◌/◌, ◌≤◌, length, sym, arith}
 use Rattle.capnp_wire.specs.Pointer.{words_of}
-use Rattle.capnp_wire.proofs.NearLemmas.{word_there, struct_stands_near}
+use Rattle.capnp_wire.proofs.pointers.NearLemmas.{word_there, struct_stands_near}
 use Rattle.capnp_wire.proofs.layout.near.near_struct.Goals as goal
 
 pub returns : goal.returns

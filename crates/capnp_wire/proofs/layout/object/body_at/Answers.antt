@@ -3,7 +3,7 @@ use Rattle.std.proofs.Common.{◌+◌, ◌/◌, ◌<◌, ◌≤◌, length, arit
 use Rattle.std.proofs.lemmas.Result.{err_from_is_err_and}
 use Rattle.capnp_wire.specs.Pointer.{code}
 use Rattle.capnp_wire.specs.Element.{code_of, width, words_for}
-use Rattle.capnp_wire.proofs.LandingLemmas.{struct_stands, numbers_stand, pointers_stand, struct_misfits, list_misfits, pointers_misfit}
+use Rattle.capnp_wire.proofs.pointers.LandingLemmas.{struct_stands, numbers_stand, pointers_stand, struct_misfits, list_misfits, pointers_misfit}
 use Rattle.capnp_wire.proofs.layout.object.body_at.Goals as goal
 
 pub returns-in_err-expect_room-in-Struct-clause-refused : goal.returns-in_err-expect_room-in-Struct-clause-refused

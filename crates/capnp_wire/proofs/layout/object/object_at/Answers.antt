@@ -5,8 +5,8 @@ use Rattle.capnp_wire.specs.Object.{message_of, IsStart}
 use Rattle.capnp_wire.specs.Landing.{IsLanding}
 use Rattle.capnp_wire.specs.Faults.{Fault, too_deep, no_start, misfits}
 use Rattle.capnp_wire.specs.Pointer.{words_of}
-use Rattle.capnp_wire.proofs.PadLemmas.{object_stands}
-use Rattle.capnp_wire.proofs.RoomLemmas.{stands_room}
+use Rattle.capnp_wire.proofs.pointers.PadLemmas.{object_stands}
+use Rattle.capnp_wire.proofs.trees.RoomLemmas.{stands_room}
 use Rattle.capnp_wire.proofs.layout.object.object_at.Goals as goal
 
 pub returns-then-level-eq0-clause-refused : goal.returns-then-level-eq0-clause-refused

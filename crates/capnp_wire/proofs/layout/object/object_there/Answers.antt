@@ -1,6 +1,6 @@
 -- Where a tree stands, no object is refused.
 use Rattle.capnp_wire.specs.Object.{message_of}
-use Rattle.capnp_wire.proofs.CopiedLemmas.{fault_no_tree}
+use Rattle.capnp_wire.proofs.layouts.CopiedLemmas.{fault_no_tree}
 use Rattle.capnp_wire.proofs.layout.object.object_there.Goals as goal
 
 pub returns-in-Err : goal.returns-in-Err

@@ -1,7 +1,7 @@
 -- A list of structs stands behind its tag.
 use Rattle.std.proofs.Common.{◌+◌, ◌*◌, ◌<◌, ◌≤◌, arith}
 use Rattle.std.proofs.lemmas.Result.{err_from_is_err_and}
-use Rattle.capnp_wire.proofs.LandingLemmas.{structs_misfit, no_tag_misfits, odd_tag_misfits, many_elements_misfit, structs_stand}
+use Rattle.capnp_wire.proofs.pointers.LandingLemmas.{structs_misfit, no_tag_misfits, odd_tag_misfits, many_elements_misfit, structs_stand}
 use Rattle.capnp_wire.proofs.layout.object.structs.Goals as goal
 
 pub returns-in_err-expect_room-clause-refused : goal.returns-in_err-expect_room-clause-refused

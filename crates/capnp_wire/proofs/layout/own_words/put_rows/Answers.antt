@@ -1,8 +1,8 @@
 -- Each row is put behind the one before, with room for its pointers.
 use Rattle.std.proofs.Common.{◌≡◌, ◌+◌, ◌-◌, ◌/◌, ◌<◌, length, sym, ◌∙◌, arith}
 use Rattle.capnp_wire.specs.Pointer.{words_of}
-use Rattle.capnp_wire.proofs.WordLemmas.{length-words_of}
-use Rattle.capnp_wire.proofs.RowCopyLemmas.{put_rows_next, put_no_data, fewer_rows}
+use Rattle.capnp_wire.proofs.words.WordLemmas.{length-words_of}
+use Rattle.capnp_wire.proofs.layouts.RowCopyLemmas.{put_rows_next, put_no_data, fewer_rows}
 use Rattle.capnp_wire.proofs.layout.own_words.put_rows.Goals as goal
 
 pub returns-then-data_words-eq0-clause-words : goal.returns-then-data_words-eq0-clause-words

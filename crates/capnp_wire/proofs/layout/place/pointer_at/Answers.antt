@@ -3,7 +3,7 @@ use Rattle.std.proofs.Common.{sym, subst}
 use Rattle.std.proofs.lemmas.Result.{err_from_is_err_and}
 use Rattle.capnp_wire.specs.Object.{message_of}
 use Rattle.capnp_wire.specs.Faults.{NoWord, no_segment, past_segment}
-use Rattle.capnp_wire.proofs.MessageLemmas.{segment_stands, no_segment_stands, word_stands}
+use Rattle.capnp_wire.proofs.words.MessageLemmas.{segment_stands, no_segment_stands, word_stands}
 use Rattle.capnp_wire.proofs.layout.place.pointer_at.Goals as goal
 
 pub returns-in_err-segment : goal.returns-in_err-segment

@@ -5,8 +5,8 @@ use Rattle.capnp_wire.specs.Object.{message_of}
 use Rattle.capnp_wire.specs.Landing.{words_in}
 use Rattle.capnp_wire.specs.Copy.{formed_body}
 use Rattle.capnp_wire.specs.declared.layout.object.Body.TheVariants.{Struct}
-use Rattle.capnp_wire.proofs.WordLemmas.{length-words_of}
-use Rattle.capnp_wire.proofs.StructLemmas.{struct_measured}
+use Rattle.capnp_wire.proofs.words.WordLemmas.{length-words_of}
+use Rattle.capnp_wire.proofs.objects.StructLemmas.{struct_measured}
 use Rattle.capnp_wire.specs.Charge.{counted as counted_by}
 use Rattle.capnp_wire.proofs.layout.struct_value.measure.Goals as goal
 

@@ -5,10 +5,10 @@ use Rattle.capnp_wire.specs.Tree.{Trees}
 use Rattle.capnp_wire.specs.Object.{message_of}
 use Rattle.capnp_wire.specs.Layout.{layout, formed}
 use Rattle.capnp_wire.specs.Values.{HasWords, IsTreeOf, fields_at}
-use Rattle.capnp_wire.proofs.WordLemmas.{length-words_of}
+use Rattle.capnp_wire.proofs.words.WordLemmas.{length-words_of}
 use Rattle.capnp_wire.specs.declared.layout.object.Body.TheVariants.{Struct}
-use Rattle.capnp_wire.proofs.CopiedLemmas.{fewer_pointers}
-use Rattle.capnp_wire.proofs.StructLemmas.{struct_opened_as, struct_written, same_struct, struct_held}
+use Rattle.capnp_wire.proofs.layouts.CopiedLemmas.{fewer_pointers}
+use Rattle.capnp_wire.proofs.objects.StructLemmas.{struct_opened_as, struct_written, same_struct, struct_held}
 use Rattle.capnp_wire.proofs.layout.struct_value.write.Goals as goal
 
 pub put_own_words-requires-clause-fits : goal.put_own_words-requires-clause-fits

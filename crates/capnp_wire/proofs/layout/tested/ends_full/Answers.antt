@@ -1,8 +1,8 @@
 -- The last of some words is the one before their end.
 use Rattle.std.proofs.Common.{◌+◌, ◌-◌, arith}
 use Rattle.capnp_wire.specs.Pointer.{words_of}
-use Rattle.capnp_wire.proofs.WordLemmas.{length-words_of}
-use Rattle.capnp_wire.proofs.TightLemmas.{stretch_ends_full}
+use Rattle.capnp_wire.proofs.words.WordLemmas.{length-words_of}
+use Rattle.capnp_wire.proofs.forms.TightLemmas.{stretch_ends_full}
 use Rattle.capnp_wire.proofs.layout.tested.ends_full.Goals as goal
 
 pub returns-else-count-eq0 : goal.returns-else-count-eq0

@@ -3,10 +3,10 @@ use Rattle.std.proofs.Common.{◌≡◌, ◌<◌, ◌+◌, ◌*◌, ◌/◌, ◌
 use Rattle.std.proofs.lemmas.Bool.Decides.{nat_tests}
 use Rattle.capnp_wire.specs.Pointer.{words_of}
 use Rattle.capnp_wire.specs.Element.{code_of, width}
-use Rattle.capnp_wire.proofs.WordLemmas.{length-words_of}
-use Rattle.capnp_wire.proofs.TightLemmas.{or_there, there_or}
-use Rattle.capnp_wire.proofs.ElementLemmas.{all_words_below}
-use Rattle.capnp_wire.proofs.PaddedLemmas.{whole_is_padded, part_is_padded, no_bits_behind}
+use Rattle.capnp_wire.proofs.words.WordLemmas.{length-words_of}
+use Rattle.capnp_wire.proofs.forms.TightLemmas.{or_there, there_or}
+use Rattle.capnp_wire.proofs.objects.ElementLemmas.{all_words_below}
+use Rattle.capnp_wire.proofs.objects.PaddedLemmas.{whole_is_padded, part_is_padded, no_bits_behind}
 use Rattle.capnp_wire.proofs.layout.tested.is_padded.Goals as goal
 
 pub returns-then-behind-eq0 : goal.returns-then-behind-eq0

@@ -1,6 +1,6 @@
 -- A word that is not there counts as zero.
 use Rattle.capnp_wire.specs.Pointer.{words_of}
-use Rattle.capnp_wire.proofs.TightLemmas.{or_zero}
+use Rattle.capnp_wire.proofs.forms.TightLemmas.{or_zero}
 use Rattle.std.proofs.Common.{sym}
 use Rattle.capnp_wire.proofs.layout.tested.is_set.Goals as goal
 

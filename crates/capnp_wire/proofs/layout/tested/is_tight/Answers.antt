@@ -4,9 +4,9 @@ use Rattle.capnp_wire.specs.Pointer.{words_of, words_from}
 use Rattle.capnp_wire.specs.Object.{places, row_places, rows_from}
 use Rattle.capnp_wire.specs.Canonical.{EndsFull}
 use Rattle.capnp_wire.specs.Tested.{links_at}
-use Rattle.capnp_wire.proofs.WordLemmas.{length-words_of}
-use Rattle.capnp_wire.proofs.RoomLemmas.{length-rows_from}
-use Rattle.capnp_wire.proofs.TightLemmas.{links_places}
+use Rattle.capnp_wire.proofs.words.WordLemmas.{length-words_of}
+use Rattle.capnp_wire.proofs.trees.RoomLemmas.{length-rows_from}
+use Rattle.capnp_wire.proofs.forms.TightLemmas.{links_places}
 use Rattle.capnp_wire.proofs.layout.tested.is_tight.Goals as goal
 
 pub returns-then-ends_full : goal.returns-then-ends_full

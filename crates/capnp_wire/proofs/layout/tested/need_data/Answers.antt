@@ -1,8 +1,8 @@
 -- A row needs its data where the last word of it is not zero.
 use Rattle.std.proofs.Common.{◌+◌, ◌-◌, arith}
 use Rattle.capnp_wire.specs.Pointer.{words_of}
-use Rattle.capnp_wire.proofs.WordLemmas.{length-words_of}
-use Rattle.capnp_wire.proofs.TightLemmas.{row_room, need_data}
+use Rattle.capnp_wire.proofs.words.WordLemmas.{length-words_of}
+use Rattle.capnp_wire.proofs.forms.TightLemmas.{row_room, need_data}
 use Rattle.capnp_wire.proofs.layout.tested.need_data.Goals as goal
 
 pub some_is_set-requires-clause-within : goal.some_is_set-requires-clause-within

@@ -1,7 +1,7 @@
 -- A row needs its pointers where the last of them is not null.
 use Rattle.std.proofs.Common.{◌+◌, ◌-◌, arith}
 use Rattle.capnp_wire.specs.Pointer.{words_of}
-use Rattle.capnp_wire.proofs.TightLemmas.{row_room, need_pointers}
+use Rattle.capnp_wire.proofs.forms.TightLemmas.{row_room, need_pointers}
 use Rattle.capnp_wire.proofs.layout.tested.need_pointers.Goals as goal
 
 pub some_is_set-requires-clause-within : goal.some_is_set-requires-clause-within

@@ -2,7 +2,7 @@
 use Rattle.std.proofs.Common.{◌+◌, refl}
 use Rattle.capnp_wire.specs.Object.{message_of}
 use Rattle.capnp_wire.specs.Charge.{counted as counted_by}
-use Rattle.capnp_wire.proofs.ValueLemmas.{answer_fits}
+use Rattle.capnp_wire.proofs.views.ValueLemmas.{answer_fits}
 use Rattle.capnp_wire.proofs.layout.value.measure.Goals as goal
 
 pub returns : goal.returns

@@ -1,6 +1,6 @@
 -- As many words as there are.
 use Rattle.std.proofs.Common.{arith}
-use Rattle.capnp_wire.proofs.ElementLemmas.{all_words_below}
+use Rattle.capnp_wire.proofs.objects.ElementLemmas.{all_words_below}
 use Rattle.capnp_wire.proofs.layout.value.measure_words.Goals as goal
 
 pub returns-then-words-clause-words_fit : goal.returns-then-words-clause-words_fit

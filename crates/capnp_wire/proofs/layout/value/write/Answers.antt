@@ -1,7 +1,7 @@
 -- A tree is written as it is copied.
 use Rattle.std.proofs.Common.{length}
 use Rattle.capnp_wire.specs.Object.{message_of}
-use Rattle.capnp_wire.proofs.ValueLemmas.{can_copy, written}
+use Rattle.capnp_wire.proofs.views.ValueLemmas.{can_copy, written}
 use Rattle.capnp_wire.proofs.layout.value.write.Goals as goal
 
 pub copy-requires-clause-there : goal.copy-requires-clause-there

@@ -1,6 +1,6 @@
 -- The bytes of a list, and zeros behind them, are its words.
 use Rattle.std.proofs.Common.{ℕ, ◌++◌, ◌∙◌, List, length, drop, ap, arith}
-use Rattle.capnp_wire.proofs.BytesLemmas.{bytes_written}
+use Rattle.capnp_wire.proofs.words.BytesLemmas.{bytes_written}
 use Rattle.capnp_wire.proofs.layout.value.write_bytes.Goals as goal
 
 pub returns-clause-written : goal.returns-clause-written

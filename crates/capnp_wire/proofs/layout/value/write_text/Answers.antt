@@ -1,6 +1,6 @@
 -- The bytes of a text, and zeros behind them, are its words.
 use Rattle.std.proofs.Common.{ℕ, ◌++◌, ◌∙◌, List, length, drop, ap, arith}
-use Rattle.capnp_wire.proofs.BytesLemmas.{text_written}
+use Rattle.capnp_wire.proofs.words.BytesLemmas.{text_written}
 use Rattle.capnp_wire.proofs.layout.value.write_text.Goals as goal
 
 pub returns-clause-written : goal.returns-clause-written

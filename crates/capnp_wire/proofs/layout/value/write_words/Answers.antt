@@ -1,7 +1,7 @@
 -- The words of a list are copied as bytes.
 use Rattle.std.proofs.Common.{◌*◌, ◌/◌, ◌∙◌, length, arith, length-take}
-use Rattle.capnp_wire.proofs.WordLemmas.{length-words_of}
-use Rattle.capnp_wire.proofs.WordListLemmas.{words_written}
+use Rattle.capnp_wire.proofs.words.WordLemmas.{length-words_of}
+use Rattle.capnp_wire.proofs.words.WordListLemmas.{words_written}
 use Rattle.capnp_wire.proofs.layout.value.write_words.Goals as goal
 
 pub copy_from_slice-requires : goal.copy_from_slice-requires

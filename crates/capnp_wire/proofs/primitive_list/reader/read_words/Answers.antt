@@ -4,7 +4,7 @@ use Rattle.std.proofs.lemmas.Result.{err_from_is_err_and}
 use Rattle.capnp_wire.specs.Pointer.{words_of}
 use Rattle.capnp_wire.specs.Views.{IsWords, DeclinesNumbers}
 use Rattle.capnp_wire.specs.Readers.{pointer_of, IsEntered}
-use Rattle.capnp_wire.proofs.FormLemmas.{entered_shows, entered_reads}
+use Rattle.capnp_wire.proofs.views.FormLemmas.{entered_shows, entered_reads}
 use Rattle.capnp_wire.proofs.primitive_list.reader.read_words.Goals as goal
 
 pub returns-in_err-bytes : goal.returns-in_err-bytes

@@ -1,6 +1,6 @@
 -- The bytes before a last zero are there just where the last byte is zero.
 use Rattle.std.proofs.Common.{◌≡◌, ◌+◌, ℕ, List, [], ◌∷◌, suc, length, ap, ◌∙◌, arith, length-append}
-use Rattle.capnp_wire.proofs.FormLemmas.{zero_behind, no_zero_behind}
+use Rattle.capnp_wire.proofs.views.FormLemmas.{zero_behind, no_zero_behind}
 use Rattle.capnp_wire.proofs.text.reader.before_zero.Goals as goal
 
 pub returns-in_default : goal.returns-in_default

@@ -3,7 +3,7 @@ use Rattle.std.proofs.Common.{inl, inr}
 use Rattle.std.proofs.lemmas.Result.{err_from_is_err_and}
 use Rattle.capnp_wire.specs.Views.{IsText, DeclinesText}
 use Rattle.capnp_wire.specs.Readers.{pointer_of, IsEntered}
-use Rattle.capnp_wire.proofs.FormLemmas.{entered_shows, entered_reads, ends_with_zero, no_zero_at_end}
+use Rattle.capnp_wire.proofs.views.FormLemmas.{entered_shows, entered_reads, ends_with_zero, no_zero_at_end}
 use Rattle.capnp_wire.proofs.text.reader.read_text.Goals as goal
 
 pub returns-in_err-bytes : goal.returns-in_err-bytes

@@ -1,6 +1,6 @@
 -- A struct has as many data words as its size says.
 use Rattle.std.proofs.Common.{arith}
-use Rattle.capnp_wire.proofs.FieldLemmas.{length-words_from}
+use Rattle.capnp_wire.proofs.objects.FieldLemmas.{length-words_from}
 use Rattle.capnp_wire.proofs.any_struct.reader.StructReader.data_words.Goals as goal
 
 pub returns : goal.returns

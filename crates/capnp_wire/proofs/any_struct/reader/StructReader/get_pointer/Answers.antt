@@ -4,7 +4,7 @@ use Rattle.capnp_wire.specs.Object.{message_of}
 use Rattle.capnp_wire.specs.Readers.{limit_of}
 use Rattle.capnp_wire.specs.Views.{Pointer}
 use Rattle.capnp_wire.specs.declared.layout.place.Place.{Place}
-use Rattle.capnp_wire.proofs.FieldLemmas.{place_within, no_place_past}
+use Rattle.capnp_wire.proofs.objects.FieldLemmas.{place_within, no_place_past}
 use Rattle.capnp_wire.proofs.any_struct.reader.StructReader.get_pointer.Goals as goal
 use Rattle.capnp_wire.proofs.any_struct.reader.StructReader.get_pointer.Goals.{then-index-self, else-index-self}
 

@@ -1,6 +1,6 @@
 -- A data word is that of the segment, and 0 past the last one.
 use Rattle.capnp_wire.specs.Pointer.{words_of}
-use Rattle.capnp_wire.proofs.FieldLemmas.{word_within, no_word_within}
+use Rattle.capnp_wire.proofs.objects.FieldLemmas.{word_within, no_word_within}
 use Rattle.capnp_wire.proofs.any_struct.reader.StructReader.get_word.Goals as goal
 
 pub returns-in-Some : goal.returns-in-Some

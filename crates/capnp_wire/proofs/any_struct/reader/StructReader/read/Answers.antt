@@ -2,7 +2,7 @@
 use Rattle.std.proofs.Common.{inr, refl}
 use Rattle.capnp_wire.specs.Views.{DeclinesStruct}
 use Rattle.capnp_wire.specs.Readers.{pointer_of, IsEntered}
-use Rattle.capnp_wire.proofs.FormLemmas.{entered_shows, other_than_struct, struct_shows}
+use Rattle.capnp_wire.proofs.views.FormLemmas.{entered_shows, other_than_struct, struct_shows}
 use Rattle.capnp_wire.proofs.any_struct.reader.StructReader.read.Goals as goal
 
 pub returns-in_default-as_struct : goal.returns-in_default-as_struct

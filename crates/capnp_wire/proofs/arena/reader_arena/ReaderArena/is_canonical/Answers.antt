@@ -4,8 +4,8 @@ use Rattle.capnp_wire.specs.Object.{message_of}
 use Rattle.capnp_wire.specs.Pointer.{words_of}
 use Rattle.capnp_wire.specs.Tested.{Unsaid, no_first_segment}
 use Rattle.capnp_wire.specs.Readers.{level_of}
-use Rattle.capnp_wire.proofs.CanonicalLemmas.{no_segment_there, one_segment_there, more_is_not, said_of_more, unsaid_of_none, unsaid_stops, said_at}
-use Rattle.capnp_wire.proofs.CanonicalLemmas.{said_exactly, said_where_found, said_stops, second_shown, no_second, none_has_no_root}
+use Rattle.capnp_wire.proofs.forms.CanonicalLemmas.{no_segment_there, one_segment_there, more_is_not, said_of_more, unsaid_of_none, unsaid_stops, said_at}
+use Rattle.capnp_wire.proofs.forms.CanonicalLemmas.{said_exactly, said_where_found, said_stops, second_shown, no_second, none_has_no_root}
 use Rattle.capnp_wire.proofs.arena.reader_arena.ReaderArena.is_canonical.Goals as goal
 
 pub returns-in_default : goal.returns-in_default

@@ -1,9 +1,9 @@
 -- Bytes of whole words are words.
 use Rattle.std.proofs.Common.{◌≡◌, ◌≤◌, ◌+◌, ◌*◌, ◌-◌, ◌/◌, length, ◌∙◌, ap, arith}
 use Rattle.capnp_wire.specs.Pointer.{words_of}
-use Rattle.capnp_wire.proofs.WordLemmas.{length-words_of}
-use Rattle.capnp_wire.proofs.BlockLemmas.{length-put}
-use Rattle.capnp_wire.proofs.PutLemmas.{put_mid_words}
+use Rattle.capnp_wire.proofs.words.WordLemmas.{length-words_of}
+use Rattle.capnp_wire.proofs.layouts.BlockLemmas.{length-put}
+use Rattle.capnp_wire.proofs.words.PutLemmas.{put_mid_words}
 use Rattle.capnp_wire.proofs.layout.block.U8BlockItem.put_bytes.Goals as goal
 
 pub overflow_mul-begin : goal.overflow_mul-begin

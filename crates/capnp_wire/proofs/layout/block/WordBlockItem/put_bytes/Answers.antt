@@ -5,7 +5,7 @@ use Rattle.capnp_frame.specs.Words.{bytes_of}
 use Rattle.capnp_frame.specs.declared.words.Word.{Word}
 use Rattle.capnp_wire.specs.Pointer.{number_of}
 use Rattle.capnp_wire.specs.Block.{put, numbers_of}
-use Rattle.capnp_wire.proofs.PutLemmas.{length-numbers_of, put_one, put_next}
+use Rattle.capnp_wire.proofs.words.PutLemmas.{length-numbers_of, put_one, put_next}
 use Rattle.capnp_wire.proofs.layout.block.WordBlockItem.put_bytes.Goals as goal
 
 pub loop-index-preserved : goal.loop-index-preserved

@@ -1,10 +1,10 @@
 -- A walk tests an object, and then what its pointers lead to.
 use Rattle.std.proofs.Common.{◌≤◌, ◌∙◌, length, arith}
 use Rattle.capnp_wire.specs.Pointer.{words_of}
-use Rattle.capnp_wire.proofs.WordLemmas.{length-words_of}
-use Rattle.capnp_wire.proofs.ElementLemmas.{all_words_below}
-use Rattle.capnp_wire.proofs.PadLemmas.{passed_on}
-use Rattle.capnp_wire.proofs.GoingLemmas.{null_passes, going_begins, going_next, going_ends, pointers_pass, pointers_end, pointers_refused}
+use Rattle.capnp_wire.proofs.words.WordLemmas.{length-words_of}
+use Rattle.capnp_wire.proofs.objects.ElementLemmas.{all_words_below}
+use Rattle.capnp_wire.proofs.pointers.PadLemmas.{passed_on}
+use Rattle.capnp_wire.proofs.walks.GoingLemmas.{null_passes, going_begins, going_next, going_ends, pointers_pass, pointers_end, pointers_refused}
 use Rattle.capnp_wire.proofs.layout.canonical.CanonicalWalk.+testing.Goals as goal
 
 pub test-returns-in_err-meet-clause-refused : goal.test-returns-in_err-meet-clause-refused

@@ -2,7 +2,7 @@
 use Rattle.std.proofs.Common.{◌≡◌, ◌+◌, ◌*◌, ◌≤◌, length}
 use Rattle.capnp_wire.specs.Pointer.{words_of}
 use Rattle.capnp_wire.specs.Rows.{places_in, end_of}
-use Rattle.capnp_wire.proofs.GoingLemmas.{Going}
+use Rattle.capnp_wire.proofs.walks.GoingLemmas.{Going}
 use Rattle.capnp_wire.proofs.layout.canonical.CanonicalWalk.+testing.Given as goal
 
 abbrev pub decreases-test : goal.decreases-test

@@ -1,6 +1,6 @@
 -- A struct as it is copied is what its body becomes.
 use Rattle.capnp_wire.specs.Pointer.{words_of}
-use Rattle.capnp_wire.proofs.NearLemmas.{struct_formed}
+use Rattle.capnp_wire.proofs.pointers.NearLemmas.{struct_formed}
 use Rattle.capnp_wire.proofs.layout.near.NearStruct.formed.Goals as goal
 
 pub returns-clause-body : goal.returns-clause-body

@@ -1,6 +1,6 @@
 -- The bytes of an object are the elements of a list of bytes.
 use Rattle.capnp_wire.specs.declared.layout.element.ElementSize.TheVariants.{Byte}
-use Rattle.capnp_wire.proofs.FormLemmas.{numbers_form, other_than_numbers}
+use Rattle.capnp_wire.proofs.views.FormLemmas.{numbers_form, other_than_numbers}
 use Rattle.capnp_wire.proofs.layout.object.Object.bytes.Goals as goal
 
 pub returns-in-Some : goal.returns-in-Some

@@ -1,7 +1,7 @@
 -- All pointers of an object are those that its shape holds.
 use Rattle.std.proofs.Common.{◌∙◌}
 use Rattle.capnp_wire.specs.Pointer.{words_of}
-use Rattle.capnp_wire.proofs.PointerRowLemmas.{kept_held}
+use Rattle.capnp_wire.proofs.pointers.PointerRowLemmas.{kept_held}
 use Rattle.capnp_wire.proofs.layout.object.Object.pointers.Goals as goal
 
 pub returns-clause-places : goal.returns-clause-places

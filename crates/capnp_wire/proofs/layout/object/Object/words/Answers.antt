@@ -1,6 +1,6 @@
 -- The words of an object are the elements of a list of words.
 use Rattle.capnp_wire.specs.declared.layout.element.ElementSize.TheVariants.{EightBytes}
-use Rattle.capnp_wire.proofs.FormLemmas.{numbers_form, other_than_numbers}
+use Rattle.capnp_wire.proofs.views.FormLemmas.{numbers_form, other_than_numbers}
 use Rattle.capnp_wire.proofs.layout.object.Object.words.Goals as goal
 
 pub returns-in-Some : goal.returns-in-Some

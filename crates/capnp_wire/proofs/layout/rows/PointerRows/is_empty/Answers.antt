@@ -1,7 +1,7 @@
 -- Nothing is left where no pointer is left in this row, and there is no further row.
 use Rattle.std.proofs.Common.{◌≡◌, arith}
 use Rattle.std.proofs.lemmas.Bool.Decides.{nat_tests}
-use Rattle.capnp_wire.proofs.PointerRowLemmas.{none_left, some_left}
+use Rattle.capnp_wire.proofs.pointers.PointerRowLemmas.{none_left, some_left}
 use Rattle.capnp_wire.proofs.layout.rows.PointerRows.is_empty.Goals as goal
 
 pub returns-then-self-eq0 : goal.returns-then-self-eq0

@@ -1,6 +1,6 @@
 -- The rows of an object, with no row where they keep no pointers.
 use Rattle.std.proofs.Common.{sym, arith}
-use Rattle.capnp_wire.proofs.PointerRowLemmas.{kept_nothing, slots_nothing, kept_first}
+use Rattle.capnp_wire.proofs.pointers.PointerRowLemmas.{kept_nothing, slots_nothing, kept_first}
 use Rattle.capnp_wire.proofs.layout.rows.PointerRows.new.Goals as goal
 
 pub returns-then-kept-eq0-clause-places : goal.returns-then-kept-eq0-clause-places

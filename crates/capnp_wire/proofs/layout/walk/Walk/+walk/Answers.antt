@@ -3,16 +3,16 @@ use Rattle.std.proofs.Common.{◌≡◌, ◌∙◌, ◌+◌, ◌-◌, refl, sym,
 use Rattle.std.proofs.lemmas.List.{append-nil}
 use Rattle.capnp_wire.specs.Pointer.{words_of}
 use Rattle.capnp_wire.specs.Object.{message_of, places, is_null as null_there}
-use Rattle.capnp_wire.proofs.NearLemmas.{word_there, number_list_walked}
-use Rattle.capnp_wire.proofs.ParentLemmas.{struct_met, struct_walked, struct_stops, some_before}
+use Rattle.capnp_wire.proofs.pointers.NearLemmas.{word_there, number_list_walked}
+use Rattle.capnp_wire.proofs.walks.ParentLemmas.{struct_met, struct_walked, struct_stops, some_before}
 use Rattle.capnp_wire.specs.Rows.{places_in}
 use Rattle.capnp_wire.specs.Faults.{at_pointer}
 use Rattle.capnp_wire.specs.Charge.{counted}
-use Rattle.capnp_wire.proofs.NullRunLemmas.{nulls_walked}
-use Rattle.capnp_wire.proofs.WordLemmas.{length-words_of}
-use Rattle.capnp_wire.proofs.PadLemmas.{passed_on}
-use Rattle.capnp_wire.proofs.StopLemmas.{exceeds_stops}
-use Rattle.capnp_wire.proofs.ProgressLemmas.{progress_begins, progress_next, progress_stops, progress_done, walked_null, progress_over, progress_stopped, some_left, entered, walk_goes_on, walk_stops}
+use Rattle.capnp_wire.proofs.pointers.NullRunLemmas.{nulls_walked}
+use Rattle.capnp_wire.proofs.words.WordLemmas.{length-words_of}
+use Rattle.capnp_wire.proofs.pointers.PadLemmas.{passed_on}
+use Rattle.capnp_wire.proofs.walks.StopLemmas.{exceeds_stops}
+use Rattle.capnp_wire.proofs.walks.ProgressLemmas.{progress_begins, progress_next, progress_stops, progress_done, walked_null, progress_over, progress_stopped, some_left, entered, walk_goes_on, walk_stops}
 use Rattle.capnp_wire.proofs.layout.walk.Walk.+walk.Goals as goal
 
 pub walk-returns-in_err-object-clause-refused : goal.walk-returns-in_err-object-clause-refused

@@ -4,7 +4,7 @@ use Rattle.capnp_wire.specs.Pointer.{words_of}
 use Rattle.capnp_wire.specs.Object.{message_of}
 use Rattle.capnp_wire.specs.Rows.{places_in}
 use Rattle.capnp_wire.specs.Charge.{counted}
-use Rattle.capnp_wire.proofs.ProgressLemmas.{Progress}
+use Rattle.capnp_wire.proofs.walks.ProgressLemmas.{Progress}
 use Rattle.capnp_wire.proofs.layout.walk.Walk.+walk.Given as goal
 
 abbrev pub decreases-walk : goal.decreases-walk

@@ -2,7 +2,7 @@
 use Rattle.capnp_wire.specs.Pointer.{words_of}
 use Rattle.capnp_wire.specs.Views.{DeclinesNumbers, TakesNumbers}
 use Rattle.capnp_wire.specs.Readers.{pointer_of}
-use Rattle.capnp_wire.proofs.ViewLemmas.{is_view_of, numbers_decide, words_accepted}
+use Rattle.capnp_wire.proofs.views.ViewLemmas.{is_view_of, numbers_decide, words_accepted}
 use Rattle.capnp_wire.proofs.primitive_list.reader.ReaderU64FromPointerReader.get_from_pointer.Goals as goal
 
 pub returns : goal.returns

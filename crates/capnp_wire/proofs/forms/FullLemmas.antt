@@ -1,0 +1,158 @@
+-- What is tested of trimmed objects.
+use Rattle.std.proofs.Common.{◌≡◌, ◌⊎◌, inl, inr, ℕ, zero, suc, ◌+◌, ◌*◌, ◌≤◌, List, [], ◌∷◌, length, map, take, Some, slice_get, refl, ap, subst, arith}
+use Rattle.std.proofs.lemmas.List.{take_all}
+use Rattle.std.proofs.lemmas.Bool.{cases_lt}
+use Rattle.std.proofs.lemmas.Option.{slice_get_within, get_or_from_slice_get}
+use Rattle.std.proofs.lemmas.List.Elements.{All-head, All-tail}
+use Rattle.capnp_wire.specs.Tree.{null, struct, numbers, pointers, structs, Trees, none, tree, count}
+use Rattle.capnp_wire.specs.Trim.{first, behind, keep_word, cut_zeros, keep_tree, cut_nulls, least_data, least_pointers, narrowed, trim_form, trim_held}
+use Rattle.capnp_wire.specs.declared.layout.place.Place.{Place}
+use Rattle.capnp_wire.specs.Object.{Shape, ShapeStands, a_struct, some_numbers, some_pointers, some_structs, is_null, is_object, PointsTo, word_at}
+use Rattle.capnp_wire.specs.Canonical.{EndsFull, nth_form, EndsSome}
+use Rattle.capnp_wire.proofs.objects.ObjectLemmas.{null_lands_nowhere}
+use Rattle.capnp_wire.proofs.layouts.SizeLemmas.{rows_even}
+use Rattle.capnp_wire.proofs.pointers.SlotLemmas.{AllOf}
+use Rattle.capnp_wire.proofs.words.CutLemmas.{length-keep_word, least_data_within}
+use Rattle.capnp_wire.proofs.trees.PieceLemmas.{kept, before_pieces}
+use Rattle.capnp_wire.proofs.trees.NarrowLemmas.{rows_split, first_all}
+use Rattle.capnp_wire.specs.Layout.{HasRoom}
+use Rattle.std.specs.Prelude.{All, ◌↔◌}
+
+shorter : (words : List ℕ) (k : ℕ) → length words ≡ k + 1 → slice_get words k ≡ Some 0 → length (cut_zeros words) ≤ k
+shorter [] k long last = absurd (omega arith)
+shorter (w ∷ []) zero long last = let empty : w ≡ 0 = cc in rw empty (omega arith)
+shorter (w ∷ v ∷ words) zero long last = absurd (omega arith)
+shorter (w ∷ words) (suc k) long last = omega (arith, length-keep_word (cut_zeros words) w, shorter words k (omega arith) last)
+
+full_same : (words : List ℕ) → EndsFull words → cut_zeros words ≡ words
+full_same [] full = refl
+full_same (zero ∷ []) full = absurd (full 0 refl refl)
+full_same (suc n ∷ []) full = refl
+full_same (w ∷ v ∷ words) full =
+    let rest : cut_zeros (v ∷ words) ≡ v ∷ words = full_same (v ∷ words) (λ k long last. full (suc k) (omega arith) last) in
+    ap (λ (l : List ℕ). keep_word l w) rest
+
+same_full : (words : List ℕ) → cut_zeros words ≡ words → EndsFull words
+same_full words same k long last =
+    let equal : length (cut_zeros words) ≡ length words = ap length same in
+    omega (arith, shorter words k long last)
+
+pub fewer : (trees : Trees) (k : ℕ) → count trees ≡ k + 1 → nth_form trees k ≡ Some null → count (cut_nulls trees) ≤ k
+fewer none k long last = absurd (omega arith)
+fewer (tree null held none) zero long last = omega arith
+fewer (tree (struct ws) held none) zero long last = absurd (cc)
+fewer (tree (numbers c vs) held none) zero long last = absurd (cc)
+fewer (tree pointers held none) zero long last = absurd (cc)
+fewer (tree (structs d p rows) held none) zero long last = absurd (cc)
+fewer (tree form held (tree f h r)) zero long last = absurd (omega arith)
+fewer (tree form held rest) (suc k) long last = let kept_here = kept (cut_nulls rest) form held in omega (arith, kept_here.most, fewer rest k (omega arith) last)
+
+pub some_same : (trees : Trees) → EndsSome trees → cut_nulls trees ≡ trees
+some_same none full = refl
+some_same (tree null held none) full = absurd (full 0 refl refl)
+some_same (tree (struct ws) held none) full = refl
+some_same (tree (numbers c vs) held none) full = refl
+some_same (tree pointers held none) full = refl
+some_same (tree (structs d p rows) held none) full = refl
+some_same (tree form held (tree f h r)) full =
+    let rest : cut_nulls (tree f h r) ≡ tree f h r = some_same (tree f h r) (λ k long last. full (suc k) (omega arith) last) in
+    ap (λ (t : Trees). keep_tree t form held) rest
+
+same_some : (trees : Trees) → cut_nulls trees ≡ trees → EndsSome trees
+same_some trees same k long last =
+    let equal : count (cut_nulls trees) ≡ count trees = ap count same in
+    omega (arith, fewer trees k long last)
+
+-- a struct is trimmed where its last word is not zero and its last pointer is not null
+pub struct_is_trimmed : (words : List ℕ) (held : Trees)
+    → ((trim_form (struct words) held ≡ struct words) × (trim_held (struct words) held ≡ held)) ↔ (EndsFull words × EndsSome held)
+struct_is_trimmed words held =
+    (λ t. let same : cut_zeros words ≡ words = cc (t.0) in (same_full words same, same_some held t.1), λ t. (ap struct (full_same words t.0), some_same held t.1))
+
+take_rows : (d : ℕ) (rows : List (List ℕ)) → AllOf d rows → map (take d) rows ≡ rows
+take_rows d [] even = refl
+take_rows d (row ∷ rows) even =
+    let wide : length row ≡ d = All-head (λ r. length r ≡ d) row rows even in
+    let one : take d row ≡ row = take_all d row (omega arith) in
+    let rest : map (take d) rows ≡ rows = take_rows d rows (All-tail (λ r. length r ≡ d) row rows even) in
+    cc
+
+narrowed_all : (p : ℕ) (rows : List (List ℕ)) (held : Trees) → count held ≡ length rows * p → narrowed p p rows held ≡ held
+narrowed_all p [] none long = refl
+narrowed_all p [] (tree form held rest) long = absurd (omega arith)
+narrowed_all p (row ∷ rows) held long =
+    let s = rows_split p p rows held (omega arith) long in
+    let one : first p (first p held) ≡ first p held = first_all p (first p held) s.whole in
+    let rest : narrowed p p rows (behind p held) ≡ behind p held = narrowed_all p rows (behind p held) s.others in
+    rw (one, rest) (before_pieces p held)
+
+-- a list of structs is trimmed where its elements need all their words
+pub structs_are_trimmed : (d p : ℕ) (rows : List (List ℕ)) (held : Trees) → HasRoom (structs d p rows) (count held)
+    → ((trim_form (structs d p rows) held ≡ structs d p rows) × (trim_held (structs d p rows) held ≡ held)) ↔ ((least_data rows ≡ d) × (least_pointers p rows held ≡ p))
+structs_are_trimmed d p rows held room =
+    let even : AllOf d rows = rows_even d rows room.5 in (
+      λ t.
+          let form_same : structs (least_data rows) (least_pointers p rows held) (map (take (least_data rows)) rows) ≡ structs d p rows = t.0 in
+          let data_same : least_data rows ≡ d = cc in
+          let links_same : least_pointers p rows held ≡ p = cc in
+          (data_same, links_same),
+      λ t.
+          let data_same : least_data rows ≡ d = t.0 in
+          let links_same : least_pointers p rows held ≡ p = t.1 in
+          (rw (data_same, links_same) (ap (structs d p) (take_rows d rows even)), rw links_same (narrowed_all p rows held room.4)),
+    )
+
+not_null : (words : List ℕ) (start : Place) (tag : ℕ) (shape : Shape) → ShapeStands words start tag shape → shape.form ≡ null → ⊥
+not_null words start tag shape (a_struct k room) same = absurd (cc)
+not_null words start tag shape (some_numbers k i room) same = absurd (cc)
+not_null words start tag shape (some_pointers k i room) same = absurd (cc)
+not_null words start tag shape (some_structs k i room there l fits) same = absurd (cc)
+
+-- a pointer is null where its word is zero
+pub null_is_zero : (m : List (List ℕ)) (place : Place) (shape : Shape) → PointsTo m place shape → (shape.form ≡ null) ↔ (word_at m place ≡ Some 0)
+null_is_zero m place shape (is_null e) = (λ t. e, λ t. refl)
+null_is_zero m place shape (is_object {landing = c} {words = words} {start = start} {shape = s} lands e begins stands) =
+    (λ t. absurd (not_null words (record { segment = c.segment; word = start }) c.tag s stands t), λ t. absurd (null_lands_nowhere m place c t lands))
+
+-- a row that needs the most words
+widest : (rows : List (List ℕ)) → (least_data rows ≡ 0) ⊎ ((i : ℕ) × (row : List ℕ) × (slice_get rows i ≡ Some row) × (length (cut_zeros row) ≡ least_data rows))
+widest [] = inl refl
+widest (row ∷ rows) = elim (cases_lt (length (cut_zeros row)) (least_data rows)) [
+  | inl less ↦ elim (widest rows) [
+    | inl nothing ↦ absurd (omega arith)
+    | inr found ↦ inr (suc found.0, found.1, found.2, omega (arith, found.3))
+  ]
+  | inr most ↦ inr (0, row, refl, omega arith)
+]
+
+at_least : (rows : List (List ℕ)) (i : ℕ) (row : List ℕ) → slice_get rows i ≡ Some row → length (cut_zeros row) ≤ least_data rows
+at_least [] i row there = absurd (omega (arith, slice_get_within [] i row there))
+at_least (r ∷ rows) zero row there = let same : r ≡ row = cc in rw (← same) (omega arith)
+at_least (r ∷ rows) (suc i) row there = omega (arith, at_least rows i row there)
+
+row_wide : (d : ℕ) (rows : List (List ℕ)) (i : ℕ) (row : List ℕ) → AllOf d rows → slice_get rows i ≡ Some row → length row ≡ d
+row_wide d rows i row even there = subst (λ (r : List ℕ). length r ≡ d) (get_or_from_slice_get rows i row row there) (even i row (slice_get_within rows i row there))
+
+-- and they need all their data words where these are none, or one of them ends full
+pub rows_need_data : (d : ℕ) (rows : List (List ℕ)) → All (λ row. length row ≡ d) rows → (least_data rows ≡ d) ↔ ((d ≡ 0) ⊎ ((i : ℕ) × (row : List ℕ) × (slice_get rows i ≡ Some row) × EndsFull row))
+rows_need_data d rows even = (
+  λ same. elim (widest rows) [
+    | inl nothing ↦ inl (omega arith)
+    | inr found ↦ inr (
+      found.0,
+      found.1,
+      found.2,
+      λ k long last.
+          let wide : length found.1 ≡ d = row_wide d rows found.0 found.1 even found.2 in
+          omega (arith, shorter found.1 k long last, found.3),
+    )
+  ],
+  λ c. elim c [
+    | inl nothing ↦ omega (arith, least_data_within d rows even)
+    | inr found ↦
+        let wide : length found.1 ≡ d = row_wide d rows found.0 found.1 even found.2 in
+        let full : cut_zeros found.1 ≡ found.1 = full_same found.1 found.3 in
+        let long : length (cut_zeros found.1) ≡ length found.1 = ap length full in
+        omega (arith, least_data_within d rows even, at_least rows found.0 found.1 found.2)
+  ],
+)

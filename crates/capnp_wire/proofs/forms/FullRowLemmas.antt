@@ -1,0 +1,69 @@
+-- What is tested of the pointers of a trimmed list of structs.
+use Rattle.std.proofs.Common.{◌≡◌, inl, inr, ℕ, zero, suc, ◌+◌, ◌*◌, ◌<◌, ◌≤◌, List, [], ◌∷◌, length, Some, refl, sym, ◌∙◌, ap, arith, ◌⊎◌}
+use Rattle.std.proofs.lemmas.Bool.{cases_lt}
+use Rattle.capnp_wire.specs.Tree.{null, Trees, none, tree, count}
+use Rattle.capnp_wire.specs.Trim.{first, behind, cut_nulls, least_pointers}
+use Rattle.capnp_wire.specs.Canonical.{nth_form, EndsSome}
+use Rattle.capnp_wire.proofs.trees.PieceLemmas.{least_pointers_within}
+use Rattle.capnp_wire.proofs.trees.NarrowLemmas.{rows_split}
+use Rattle.capnp_wire.proofs.forms.FullLemmas.{fewer, some_same}
+use Rattle.std.specs.Prelude.{◌↔◌}
+
+nth-first : (n : ℕ) (trees : Trees) (k : ℕ) → k < n → nth_form (first n trees) k ≡ nth_form trees k
+nth-first zero trees k less = absurd (omega arith)
+nth-first (suc n) none k less = refl
+nth-first (suc n) (tree form held rest) zero less = refl
+nth-first (suc n) (tree form held rest) (suc k) less = nth-first n rest k (omega arith)
+
+nth-behind : (n : ℕ) (trees : Trees) (j i : ℕ) → n + j ≡ i → nth_form (behind n trees) j ≡ nth_form trees i
+nth-behind zero trees j i same = ap (nth_form trees) (omega arith)
+nth-behind (suc n) none j i same = refl
+nth-behind (suc n) (tree form held rest) j zero same = absurd (omega arith)
+nth-behind (suc n) (tree form held rest) j (suc i) same = nth-behind n rest j i (omega arith)
+
+abbrev NeedsIn : ℕ → ℕ → List (List ℕ) → Trees → Type 0
+NeedsIn p k rows held = (i : ℕ) × (i < length rows) × (nth_form held (i * p + k) ≡ Some null → ⊥)
+
+found_in : (p k : ℕ) (rows : List (List ℕ)) (held : Trees) → p ≡ k + 1 → count held ≡ length rows * p → least_pointers p rows held ≡ p → NeedsIn p k rows held
+found_in p k [] held some long same = absurd (omega arith)
+found_in p k (row ∷ rows) held some long same =
+    let s = rows_split p p rows held (omega arith) long in
+    elim (cases_lt (least_pointers p rows (behind p held)) p) [
+      | inl less ↦ (
+        0,
+        omega arith,
+        λ last.
+            let here : nth_form (first p held) k ≡ Some null = nth-first p held k (omega arith) ∙ (ap (nth_form held) (omega arith) ∙ last) in
+            omega (arith, fewer (first p held) k (omega (arith, s.whole)) here),
+      )
+      | inr most ↦
+          let rest = found_in p k rows (behind p held) some s.others (omega (arith, least_pointers_within p rows (behind p held))) in
+          (suc rest.0, omega (arith, rest.1), λ last. rest.2 (nth-behind p held (rest.0 * p + k) (suc rest.0 * p + k) (omega arith) ∙ last))
+    ]
+
+needed_in : (p k : ℕ) (rows : List (List ℕ)) (held : Trees) (i : ℕ) → p ≡ k + 1 → count held ≡ length rows * p → i < length rows → (nth_form held (i * p + k) ≡ Some null → ⊥)
+    → p ≤ least_pointers p rows held
+needed_in p k [] held i some long less full = absurd (omega arith)
+needed_in p k (row ∷ rows) held zero some long less full =
+    let s = rows_split p p rows held (omega arith) long in
+    let ends : EndsSome (first p held) = λ j many last.
+    let place : j ≡ k = omega (arith, s.whole) in
+    full (ap (nth_form held) (omega arith) ∙ (sym (nth-first p held j (omega arith)) ∙ last)) in
+    let same : count (cut_nulls (first p held)) ≡ count (first p held) = ap count (some_same (first p held) ends) in
+    omega (arith, s.whole)
+needed_in p k (row ∷ rows) held (suc i) some long less full =
+    let s = rows_split p p rows held (omega arith) long in
+    let rest = needed_in p k rows (behind p held) i some s.others (omega arith) (λ last. full (sym (nth-behind p held (i * p + k) (suc i * p + k) (omega arith)) ∙ last)) in
+    omega arith
+
+-- and all their pointers where these are none, or the last pointer of one of them is not null
+pub rows_need_pointers : (p : ℕ) (rows : List (List ℕ)) (held : Trees) → count held ≡ length rows * p
+    → (least_pointers p rows held ≡ p) ↔ ((p ≡ 0) ⊎ ((k : ℕ) × (p ≡ k + 1) × (i : ℕ) × (i < length rows) × (nth_form held (i * p + k) ≡ Some null → ⊥)))
+rows_need_pointers zero rows held long = (λ same. inl refl, λ c. omega (arith, least_pointers_within 0 rows held))
+rows_need_pointers (suc k) rows held long = (
+  λ same. let found = found_in (suc k) k rows held (omega arith) long same in inr (k, omega arith, found.0, found.1, found.2),
+  λ c. elim c [
+    | inl nothing ↦ absurd (omega arith)
+    | inr found ↦ omega (arith, least_pointers_within (suc k) rows held, needed_in (suc k) found.0 rows held found.2 found.1 long found.3 found.4)
+  ],
+)

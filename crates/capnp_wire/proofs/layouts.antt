@@ -1,0 +1,15 @@
+-- Layouts: trees that are copied into a block, and read back.
+pub mod SizeLemmas
+pub mod WrittenLemmas
+pub mod LayoutLemmas
+pub mod BlockLemmas
+pub mod CopyLemmas
+pub mod FillLemmas
+pub mod BlockRowLemmas
+pub mod OpenLemmas
+pub mod OpenedLemmas
+pub mod RowCopyLemmas
+pub mod CopiedLemmas
+pub mod NumberCopyLemmas
+pub mod ExactLemmas
+pub mod LaidOutLemmas

@@ -1,0 +1,232 @@
+-- An object that is copied: its own words, then what its pointers lead to.
+use Rattle.std.proofs.lemmas.List.{append-nil}
+use Rattle.capnp_wire.proofs.pointers.SlotLemmas.{AllOf}
+use Rattle.capnp_wire.proofs.layouts.SizeLemmas.{length-woven, rows_even}
+use Rattle.capnp_wire.proofs.objects.ObjectLemmas.{one_object}
+use Rattle.capnp_wire.proofs.trees.TrimLemmas.{room_trim}
+use Rattle.capnp_wire.proofs.layouts.CopyLemmas.{none_formed, fill_nothing}
+use Rattle.capnp_wire.proofs.trees.RoomLemmas.{length-rows_from}
+use Rattle.std.proofs.Common.{◌≡◌, ℕ, ◌+◌, ◌-◌, ◌*◌, ◌<◌, ◌≤◌, ◌^◌, ◌==◌, if◌then◌else◌, Bool, true, false, List, [], ◌∷◌, ◌++◌, length, take, drop, refl, sym, ◌∙◌, ap, subst}
+use Rattle.std.proofs.Common.{arith, length-take, length-drop}
+use Rattle.capnp_wire.specs.Pointer.{number_of, words_from}
+use Rattle.capnp_wire.specs.Element.{code_of, width, words_for}
+use Rattle.capnp_wire.specs.Tree.{Form, struct, numbers, pointers, structs, Trees, none, tree, count, depth, own_words, total_words}
+use Rattle.capnp_wire.specs.Object.{Shape, PointsTo, places, rows_from, elements as numerals}
+use Rattle.capnp_wire.specs.Landing.{words_in}
+use Rattle.capnp_wire.specs.Reached.{At, nowhere, at}
+use Rattle.capnp_wire.specs.Layout.{pointer, body, own, slots, run, row_run, woven, pointer_to, formed, struct_pointer, list_pointer, minus_one, AllHaveRoom}
+use Rattle.capnp_wire.specs.Block.{put, put_rows, fill, moved}
+use Rattle.capnp_wire.specs.Copy.{CanCopy, put_own, list_length, element_count, pointer_of_body}
+use Rattle.capnp_wire.specs.Rows.{row_size, kept_in, slots_of, kept_places, row_slots}
+use Rattle.capnp_wire.specs.declared.layout.place.Place.{Place}
+use Rattle.capnp_wire.specs.declared.layout.element.ElementSize.{ElementSize}
+use Rattle.capnp_wire.specs.declared.layout.object.Body.{Body}
+use Rattle.capnp_wire.specs.declared.layout.object.Body.TheVariants.{Struct, Numbers, Pointers, Structs}
+use Rattle.capnp_wire.proofs.layouts.BlockLemmas.{put_both, length-put, put_none}
+use Rattle.capnp_wire.proofs.layouts.FillLemmas.{fill_is}
+use Rattle.capnp_wire.proofs.words.DigitLemmas.{length-digits}
+use Rattle.capnp_wire.proofs.layouts.BlockRowLemmas.{moved_run, moved_rows, put_short, put_rows_woven}
+
+-- what an object opens to: the places of the pointers that are copied, and what is left to be put into the block
+pub record Opened (m : List (List ℕ)) (words : List ℕ) (start : Place) (from copied : Body) (level : ℕ) (c : Bool) (next room : ℕ) (trees : Trees) : Type 0 where
+  pub kept : CanCopy m (kept_in start from (row_size copied).pointers) level c (next + words_in copied) room
+  pub fills : (block : List ℕ) → length block ≡ room
+      → fill (slots_of next copied) (next + words_in copied) (formed c kept.trees) (put_own words start.word from copied next block)
+      ≡ put next (body (formed c trees)) block
+  pub totals : words_in copied + total_words (formed c kept.trees) ≡ total_words (formed c trees)
+  pub pointers_are : (offset : ℕ) → pointer_of_body copied offset ≡ pointer_to (formed c trees) offset
+  pub few : list_length copied < 2 ^ 29
+  pub few_elements : element_count copied < 2 ^ 30
+
+-- the trees of an object by the object itself
+pub record Under (m : List (List ℕ)) (shape : Shape) (trees : Trees) : Type 0 where
+  pub held : Trees
+  pub inside : ℕ
+  pub whole : trees ≡ tree shape.form held none
+  pub stand : At m shape.held held inside
+
+pub under : (m : List (List ℕ)) (place : Place) (shape : Shape) (trees : Trees) (charge : ℕ) → At m (place ∷ []) trees charge → PointsTo m place shape → Under m shape trees
+under m place shape trees charge (at {shape = s} {held = h} {inside = i} object inner nowhere) there =
+    let same : s ≡ shape = one_object m place s shape object there in
+    record {
+      held = h;
+      inside = i;
+      whole = ap (λ (x : Shape). tree x.form h none) same;
+      stand = subst (λ (x : Shape). At m x.held h i) same inner;
+    }
+
+-- a tree's fields have room as it is copied
+pub room_formed : (c : Bool) (trees : Trees) → AllHaveRoom trees → AllHaveRoom (formed c trees)
+room_formed true trees rooms = room_trim trees rooms
+room_formed false trees rooms = rooms
+
+-- a struct
+pub struct_opens : (m : List (List ℕ)) (words : List ℕ) (start : Place) (d p e q level : ℕ) (c : Bool) (next room : ℕ) (trees kept held : Trees) (charge : ℕ)
+    → formed c trees ≡ tree (struct (words_from words start.word e)) held none → formed c kept ≡ held → At m (places start.segment (start.word + d) q) kept charge
+    → depth kept ≤ level → AllHaveRoom kept → AllHaveRoom (formed c trees) → start.word + e ≤ length words → count held ≡ q → next + total_words (formed c trees) ≤ room
+    → Opened m words start (Struct (record { data_words = d; pointers = p })) (Struct (record { data_words = e; pointers = q })) level c next room trees
+struct_opens m words start d p e q level c next room trees kept held charge form_is kept_is stand shallow rooms all there many fits =
+    let form : Form = struct (words_from words start.word e) in
+    let rooms_there : AllHaveRoom (tree form held none) = subst AllHaveRoom form_is all in
+    let wide : length (words_from words start.word e) ≡ e = omega (arith, length-take e (drop start.word words), length-drop start.word words) in
+    let size : own_words form (count held) ≡ e + q = omega (arith, wide, many) in
+    let total_is : total_words (formed c trees) ≡ own_words form (count held) + total_words held = ap total_words form_is ∙ omega arith in
+    let kept_total : total_words (formed c kept) ≡ total_words held = ap total_words kept_is in
+    let slots_are : moved next (run (length (words_from words start.word e)) (count held)) ≡ run (next + e) q ++ [] =
+    moved_run next (length (words_from words start.word e)) (count held) ∙ ap (λ (k : ℕ). run k (count held)) (omega (arith, wide)) ∙ ap (λ (k : ℕ). run (next + e) k) many
+    ∙ sym (append-nil (run (next + e) q)) in
+    record {
+      kept = record {
+        trees = kept;
+        charge = charge;
+        stand = subst (λ (l : List Place). At m l kept charge) (sym (append-nil (places start.segment (start.word + d) q))) stand;
+        shallow = shallow;
+        rooms = rooms;
+        fits = omega arith;
+      };
+      fills = λ block long.
+          let olds : List ℕ = take q (drop (next + length (words_from words start.word e)) block) in
+          let olds_long : length (take q (drop (next + length (words_from words start.word e)) block)) ≡ q = omega (
+            arith,
+            length-take q (drop (next + length
+                (words_from words start.word e)) block),
+            length-drop (next + length (words_from words start.word e)) block,
+          ) in
+          let done = fill_is next form held olds block rooms_there.0 rooms_there.1 (olds_long ∙ sym many) (omega arith) in
+          let short : put next (words_from words start.word e) block ≡ put next (own form olds) block = put_short next q (words_from words start.word e) block (omega arith) in
+          ap (λ (l : List ℕ). fill l (next + (e + q)) (formed c kept) (put next (words_from words start.word e) block)) (sym slots_are)
+          ∙ ap (λ (n : ℕ). fill (moved next (slots form (count held))) (next + n) (formed c kept) (put next (words_from words start.word e) block)) (sym size)
+          ∙ ap (λ (t : Trees). fill (moved next (slots form (count held))) (next + own_words form (count held)) t (put next (words_from words start.word e) block)) kept_is
+          ∙ ap (λ (l : List ℕ). fill (moved next (slots form (count held))) (next + own_words form (count held)) held l) short
+          ∙ done ∙ ap (λ (t : Trees). put next (body t) block) (sym form_is);
+      totals = omega arith;
+      pointers_are = λ offset.
+          ap (λ (n : ℕ). struct_pointer (if n + q == 0 then minus_one else offset) n q) (sym wide)
+          ∙ ap (λ (n : ℕ). struct_pointer (if length (words_from words start.word e) + n == 0 then minus_one else offset) (length (words_from words start.word e)) n) (sym many)
+          ∙ ap (λ (t : Trees). pointer_to t offset) (sym form_is);
+      few = omega arith;
+      few_elements = omega arith;
+    }
+
+-- a list of pointers
+pub pointers_open : (m : List (List ℕ)) (words : List ℕ) (start : Place) (n level : ℕ) (c : Bool) (next room : ℕ) (trees kept held : Trees) (charge : ℕ)
+    → formed c trees ≡ tree pointers held none → formed c kept ≡ held → At m (places start.segment start.word n) kept charge
+    → depth kept ≤ level → AllHaveRoom kept → AllHaveRoom (formed c trees) → count held ≡ n → next + total_words (formed c trees) ≤ room
+    → Opened m words start (Pointers n) (Pointers n) level c next room trees
+pointers_open m words start n level c next room trees kept held charge form_is kept_is stand shallow rooms all many fits =
+    let rooms_there : AllHaveRoom (tree pointers held none) = subst AllHaveRoom form_is all in
+    let small : count held < 2 ^ 29 = rooms_there.0 in
+    let total_is : total_words (formed c trees) ≡ count held + total_words held = ap total_words form_is ∙ omega arith in
+    let kept_total : total_words (formed c kept) ≡ total_words held = ap total_words kept_is in
+    let slots_are : moved next (run 0 (count held)) ≡ run (next + 0) n ++ [] =
+    moved_run next 0 (count held) ∙ ap (λ (k : ℕ). run (next + 0) k) many ∙ sym (append-nil (run (next + 0) n)) in
+    let first : start.word ≡ start.word + 0 = omega arith in
+    record {
+      kept = record {
+        trees = kept;
+        charge = charge;
+        stand = subst (λ (l : List Place). At m l kept charge) (ap (λ (k : ℕ). places start.segment k n) first ∙ sym (append-nil (places start.segment (start.word + 0) n))) stand;
+        shallow = shallow;
+        rooms = rooms;
+        fits = omega arith;
+      };
+      fills = λ block long.
+          let olds : List ℕ = take n (drop (next + 0) block) in
+          let olds_long : length (take n (drop (next + 0) block)) ≡ n = omega (arith, length-take n (drop (next + 0) block), length-drop (next + 0) block) in
+          let done = fill_is next pointers held olds block rooms_there.0 rooms_there.1 (olds_long ∙ sym many) (omega arith) in
+          let short : block ≡ put next olds block = sym (put_none next block) ∙ put_short next n [] block (omega arith) in
+          ap (λ (l : List ℕ). fill l (next + n) (formed c kept) block) (sym slots_are)
+          ∙ ap (λ (k : ℕ). fill (moved next (slots pointers (count held))) (next + k) (formed c kept) block) (sym many)
+          ∙ ap (λ (t : Trees). fill (moved next (slots pointers (count held))) (next + count held) t block) kept_is
+          ∙ ap (λ (l : List ℕ). fill (moved next (slots pointers (count held))) (next + count held) held l) short
+          ∙ done ∙ ap (λ (t : Trees). put next (body t) block) (sym form_is);
+      totals = omega arith;
+      pointers_are = λ offset. ap (λ (k : ℕ). pointer pointers k offset) (sym many) ∙ ap (λ (t : Trees). pointer_to t offset) (sym form_is);
+      few = omega arith;
+      few_elements = omega arith;
+    }
+
+no_trees : (trees : Trees) → count trees ≡ 0 → trees ≡ none
+no_trees none e = refl
+no_trees (tree form held rest) e = absurd (omega arith)
+
+-- a list of numbers
+pub numbers_open : (m : List (List ℕ)) (words : List ℕ) (start : Place) (n level : ℕ) (size : ElementSize) (c : Bool) (next room : ℕ) (trees held : Trees)
+    → formed c trees ≡ tree (numbers (code_of size) (numerals words start.word (code_of size) n)) held none → AllHaveRoom (formed c trees) → next + total_words (formed c trees) ≤ room
+    → Opened m words start (Numbers size n) (Numbers size n) level c next room trees
+numbers_open m words start n level size c next room trees held form_is all fits =
+    let form : Form = numbers (code_of size) (numerals words start.word (code_of size) n) in
+    let rooms_there : AllHaveRoom (tree form held none) = subst AllHaveRoom form_is all in
+    let empty : held ≡ none = no_trees held rooms_there.0.2 in
+    let long_values : length (numerals words start.word (code_of size) n) ≡ n = length-digits (2 ^ width (code_of size)) n (number_of (2 ^ 64) (words_from words start.word (words_for n (width
+    (code_of size))))) in
+    let own_size : own_words form (count held) ≡ words_for n (width (code_of size)) = ap (λ (k : ℕ). words_for k (width (code_of size))) long_values in
+    let none_total : total_words held ≡ 0 = ap total_words empty in
+    let total_is : total_words (formed c trees) ≡ own_words form (count held) + total_words held = ap total_words form_is ∙ omega arith in
+    let nothing_formed : formed c none ≡ none = none_formed c in
+    let nothing_total : total_words (formed c none) ≡ 0 = ap total_words nothing_formed in
+    let small : n < 2 ^ 29 = subst (λ (k : ℕ). k < 2 ^ 29) long_values rooms_there.0.1 in
+    record {
+      kept = record { trees = none; charge = 0; stand = nowhere; shallow = omega arith; rooms = tt; fits = omega arith };
+      fills = λ block long.
+          let words_are : body (tree form held none) ≡ own form [] = ap (λ (t : Trees). body (tree form t none)) empty ∙ append-nil (own form [] ++ []) ∙ append-nil (own form []) in
+          fill_nothing (next + words_for n (width (code_of size))) (formed c none) (put next (own form []) block)
+          ∙ ap (λ (l : List ℕ). put next l block) (sym words_are) ∙ ap (λ (t : Trees). put next (body t) block) (sym form_is);
+      totals = omega arith;
+      pointers_are = λ offset. ap (λ (k : ℕ). list_pointer offset (code_of size) k) (sym long_values) ∙ ap (λ (t : Trees). pointer_to t offset) (sym form_is);
+      few = small;
+      few_elements = omega arith;
+    }
+
+-- a list of structs
+pub structs_open : (m : List (List ℕ)) (words : List ℕ) (start : Place) (d p e q n behind words_kept level : ℕ) (c : Bool) (next room : ℕ) (trees kept held : Trees) (charge : ℕ)
+    → e ≤ d → start.word + 1 + n * (d + p) ≤ length words
+    → formed c trees ≡ tree (structs e q (rows_from words (start.word + 1) e (d + p - e) n)) held none → formed c kept ≡ held
+    → At m (kept_places start.segment (start.word + 1) d p q n) kept charge
+    → depth kept ≤ level → AllHaveRoom kept → AllHaveRoom (formed c trees) → next + total_words (formed c trees) ≤ room
+    → Opened m words start (Structs (record { size = record { data_words = d; pointers = p }; count = n }) behind)
+    (Structs (record { size = record { data_words = e; pointers = q }; count = n }) words_kept) level c next room trees
+structs_open m words start d p e q n behind words_kept level c next room trees kept held charge less there form_is kept_is stand shallow rooms all fits =
+    let rows : List (List ℕ) = rows_from words (start.word + 1) e (d + p - e) n in
+    let form : Form = structs e q (rows_from words (start.word + 1) e (d + p - e) n) in
+    let rooms_there : AllHaveRoom (tree form held none) = subst AllHaveRoom form_is all in
+    let rows_long : length (rows_from words (start.word + 1) e (d + p - e) n) ≡ n = length-rows_from words (start.word + 1) e (d + p - e) n in
+    let many : count held ≡ length (rows_from words (start.word + 1) e (d + p - e) n) * q = rooms_there.0.4 in
+    let size : own_words form (count held) ≡ 1 + n * (e + q) = ap (λ (k : ℕ). 1 + k * (e + q)) rows_long in
+    let total_is : total_words (formed c trees) ≡ own_words form (count held) + total_words held = ap total_words form_is ∙ omega arith in
+    let kept_total : total_words (formed c kept) ≡ total_words held = ap total_words kept_is in
+    let wide : AllOf e (rows_from words (start.word + 1) e (d + p - e) n) = rows_even e (rows_from words (start.word + 1) e (d + p - e) n) rooms_there.0.5 in
+    let tag_long : length (struct_pointer n e q ∷ []) ≡ 1 = refl in
+    let slots_are : moved next (row_run 1 e q (rows_from words (start.word + 1) e (d + p - e) n)) ≡ row_slots (next + 1) e q n = moved_rows next 1 e q (rows_from words (start.word + 1) e
+    (d + p - e) n) ∙ ap (λ (k : ℕ). row_slots (next + 1) e q k) rows_long in
+    let few_words : length (rows_from words (start.word + 1) e (d + p - e) n) * (e + q) < 2 ^ 29 = rooms_there.0.3 in
+    let few_rows : length (rows_from words (start.word + 1) e (d + p - e) n) < 2 ^ 30 = rooms_there.0.2 in
+    record {
+      kept = record { trees = kept; charge = charge; stand = stand; shallow = shallow; rooms = rooms; fits = omega arith };
+      fills = λ block long.
+          let tagged : List ℕ = put next (struct_pointer n e q ∷ []) block in
+          let tagged_long : length (put next (struct_pointer n e q ∷ []) block) ≡ length block = length-put next (struct_pointer n e q ∷ []) block (omega arith) in
+          let rows_room : next + 1 + length (rows_from words (start.word + 1) e (d + p - e) n) * (e + q) ≤ length (put next (struct_pointer n e q ∷ []) block) = rw rows_long (omega arith) in
+          let w = put_rows_woven (next + 1) e q (rows_from words (start.word + 1) e (d + p - e) n) (put next (struct_pointer n e q ∷ []) block) wide rows_room in
+          let woven_size : length (woven q (rows_from words (start.word + 1) e (d + p - e) n) w.0) ≡ length (rows_from words (start.word + 1) e (d + p - e) n) * (e + q) = length-woven e q
+          (rows_from words (start.word + 1) e (d + p - e) n) w.0 wide w.1 in
+          let woven_room : next + 1 + length (woven q (rows_from words (start.word + 1) e (d + p - e) n) w.0) ≤ length block = rw woven_size (omega arith) in
+          let done = fill_is next form held w.0 block rooms_there.0 rooms_there.1 (w.1 ∙ sym many) (omega arith) in
+          let joined : put_rows (next + 1) q (rows_from words (start.word + 1) e (d + p - e) n) (put next (struct_pointer n e q ∷ []) block) ≡ put next (struct_pointer n e q ∷ woven q
+          (rows_from words (start.word + 1) e (d + p - e) n) w.0) block =
+          w.2 ∙ put_both next (struct_pointer n e q ∷ []) (woven q (rows_from words (start.word + 1) e (d + p - e) n) w.0) block woven_room in
+          let own_is : put next (struct_pointer n e q ∷ woven q (rows_from words (start.word + 1) e (d + p - e) n) w.0) block ≡ put next (own form w.0) block =
+          ap (λ (k : ℕ). put next (struct_pointer k e q ∷ woven q (rows_from words (start.word + 1) e (d + p - e) n) w.0) block) (sym rows_long) in
+          ap (λ (l : List ℕ). fill l (next + (1 + n * (e + q))) (formed c kept) (put_rows (next + 1) q (rows_from words (start.word + 1) e (d + p - e) n) (put next
+          (struct_pointer n e q ∷ []) block))) (sym slots_are)
+          ∙ ap (λ (k : ℕ). fill (moved next (slots form (count held))) (next + k) (formed c kept) (put_rows (next + 1) q (rows_from words (start.word + 1) e (d + p - e) n) (put next
+          (struct_pointer n e q ∷ []) block))) (sym size)
+          ∙ ap (λ (t : Trees). fill (moved next (slots form (count held))) (next + own_words form (count held)) t (put_rows (next + 1) q (rows_from words (start.word + 1) e (d + p - e) n)
+          (put next (struct_pointer n e q ∷ []) block))) kept_is
+          ∙ ap (λ (l : List ℕ). fill (moved next (slots form (count held))) (next + own_words form (count held)) held l) (joined ∙ own_is)
+          ∙ done ∙ ap (λ (t : Trees). put next (body t) block) (sym form_is);
+      totals = omega arith;
+      pointers_are = λ offset. ap (λ (k : ℕ). list_pointer offset 7 (k * (e + q))) (sym rows_long) ∙ ap (λ (t : Trees). pointer_to t offset) (sym form_is);
+      few = subst (λ (k : ℕ). k * (e + q) < 2 ^ 29) rows_long few_words;
+      few_elements = subst (λ (k : ℕ). k < 2 ^ 30) rows_long few_rows;
+    }

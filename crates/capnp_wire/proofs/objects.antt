@@ -1,0 +1,11 @@
+-- Objects, and what stands in them.
+pub mod ObjectLemmas
+pub mod CycleLemmas
+pub mod ElementLemmas
+pub mod FieldLemmas
+pub mod OwnLemmas
+pub mod PaddingLemmas
+pub mod OwnWordLemmas
+pub mod PaddedLemmas
+pub mod ReadNearLemmas
+pub mod StructLemmas

@@ -1,0 +1,108 @@
+-- Lists of numbers and structs, and that they stand where near pointers lead to them.
+use Rattle.std.proofs.Common.{◌≡◌, Bool, true, false, if◌then◌else◌, ℕ, ◌+◌, ◌*◌, ◌/◌, ◌^◌, ◌<◌, ◌≤◌, List, All, length, Some, slice_get, Bor, Option, refl, ◌∙◌, ap, subst, arith}
+use Rattle.std.specs.Prelude.{⊤}
+use Rattle.capnp_wire.specs.Pointer.{words_of, offset, pointer_kind}
+use Rattle.capnp_wire.specs.PointerWord.{IsNearShape}
+use Rattle.capnp_wire.specs.Element.{code_of, width, words_for}
+use Rattle.capnp_wire.specs.Object.{word_at, near, behind, Target, Lands, Shape, ShapeStands, PointsTo, is_object}
+use Rattle.capnp_wire.specs.Landing.{IsObject, shape_of, room_of, words_in, charge_of}
+use Rattle.capnp_wire.specs.Near.{object_of, struct_of}
+use Rattle.capnp_wire.specs.Charge.{Within, CountsMore, Walked, less}
+use Rattle.capnp_wire.specs.Copy.{least_size, formed_body}
+use Rattle.capnp_wire.specs.declared.layout.place.Place.{Place}
+use Rattle.capnp_wire.specs.declared.layout.element.ElementSize.{ElementSize}
+use Rattle.capnp_wire.specs.declared.layout.number_list.NumberList.{NumberList}
+use Rattle.capnp_wire.specs.declared.layout.pointer.NearShape.TheVariants.{Numbers as NearNumbers, Struct as NearStructShape}
+use Rattle.capnp_wire.specs.declared.layout.object.Body.{Body}
+use Rattle.capnp_wire.specs.declared.layout.pointer.StructSize.{StructSize}
+use Rattle.capnp_wire.specs.declared.layout.object.Body.TheVariants.{Struct, Numbers, Pointers, Structs}
+use Rattle.capnp_wire.proofs.pointers.LandingLemmas.{struct_stands, numbers_stand}
+use Rattle.capnp_wire.proofs.trees.RoomLemmas.{stands_room}
+use Rattle.capnp_wire.proofs.walks.ProgressLemmas.{entered, walked_alone}
+
+-- what a near pointer says stands where it has room
+near_stands : (m : List (List ℕ)) (place : Place) (pointer : ℕ) (segment : Bor (List ℕ)) (start : ℕ) (body : Body) (charge : ℕ)
+    → word_at m place ≡ Some pointer → 0 < pointer → pointer < 2 ^ 64 → pointer_kind pointer < 2 → slice_get m place.segment ≡ Some (words_of segment.now)
+    → start + 2 ^ 30 * (offset pointer / 2 ^ 29) ≡ place.word + 1 + offset pointer
+    → (let here : Place = record { segment = place.segment; word = start } in let shape = shape_of (words_of segment.now) here body in
+    ShapeStands (words_of segment.now) here pointer shape × (shape.charge ≡ charge))
+    → charge_of body ≤ charge → All (λ w. w < 2 ^ 64) (words_of segment.now) → start + room_of body ≤ length segment.now / 8 → words_in body ≤ room_of body
+    → IsObject m place (record { segment = segment; start = record { segment = place.segment; word = start }; body = body; charge = charge })
+near_stands m place pointer segment start body charge word positive small kind content begins there charged words_fit room inside =
+    let words = words_of segment.now in
+    let here : Place = record { segment = place.segment; word = start } in
+    let landing : Target = record { segment = place.segment; origin = behind place.word; tag = pointer; pads = 0 } in
+    let shape : Shape = shape_of words here body in
+    let lands : Lands m place landing = near word positive kind in
+    let object : PointsTo m place (record shape { charge = 0 + shape.charge }) = is_object lands content begins there.0 in
+    let charge_is : 0 + shape.charge ≡ charge = omega (arith, there.1) in
+    record {
+      content = content;
+      object = subst (λ (x : ℕ). PointsTo m place (record shape { charge = x })) charge_is object;
+      landing = landing;
+      lands = lands;
+      number = refl;
+      begins = begins;
+      room = room;
+      elements = inside;
+      charge = charged;
+      has_room = stands_room words here pointer shape small words_fit there.0;
+    }
+
+-- a list of numbers
+pub number_list_stands : (m : List (List ℕ)) (place : Place) (pointer : ℕ) (segment : Bor (List ℕ)) (start : ℕ) (size : ElementSize) (count charge : ℕ)
+    → word_at m place ≡ Some pointer → pointer < 2 ^ 64 → slice_get m place.segment ≡ Some (words_of segment.now)
+    → start + 2 ^ 30 * (offset pointer / 2 ^ 29) ≡ place.word + 1 + offset pointer → IsNearShape pointer (NearNumbers size count)
+    → charge ≡ charge_of (Numbers size count) → All (λ w. w < 2 ^ 64) (words_of segment.now) → start + words_for count (width (code_of size)) ≤ length segment.now / 8
+    → IsObject m place (record { segment = segment; start = record { segment = place.segment; word = start }; body = Numbers size count; charge = charge })
+number_list_stands m place pointer segment start size count charge word small content begins list charge_is words_fit room =
+    let here : Place = record { segment = place.segment; word = start } in
+    let stands = numbers_stand segment.now here pointer (code_of size) count list.0 list.1 list.2 list.3 room in
+    near_stands m place pointer segment start (Numbers size count) charge word (omega (arith, list.0)) small (omega (arith, list.0)) content begins
+    (stands, omega (arith, charge_is)) (omega (arith, charge_is)) words_fit room (omega arith)
+
+-- a struct
+pub struct_stands_near : (m : List (List ℕ)) (place : Place) (pointer : ℕ) (segment : Bor (List ℕ)) (start : ℕ) (size : StructSize)
+    → word_at m place ≡ Some pointer → 0 < pointer → pointer < 2 ^ 64 → slice_get m place.segment ≡ Some (words_of segment.now)
+    → start + 2 ^ 30 * (offset pointer / 2 ^ 29) ≡ place.word + 1 + offset pointer → IsNearShape pointer (NearStructShape size)
+    → All (λ w. w < 2 ^ 64) (words_of segment.now) → start + (size.data_words + size.pointers) ≤ length segment.now / 8
+    → IsObject m place (struct_of (record { segment = segment; start = record { segment = place.segment; word = start }; size = size }))
+struct_stands_near m place pointer segment start size word positive small content begins is words_fit room =
+    let here : Place = record { segment = place.segment; word = start } in
+    let stands = struct_stands segment.now here pointer size.data_words size.pointers is.0 is.1 is.2 room in
+    near_stands m place pointer segment start (Struct size) (size.data_words + size.pointers) word positive small (omega (arith, is.0)) content begins
+    (stands, refl) (omega arith) words_fit room (omega arith)
+
+-- a list without structs is the same in canonical form
+abbrev pub IsPlainList : Body → Type 0
+IsPlainList (Numbers size count) = ⊤
+IsPlainList (Pointers count) = ⊤
+IsPlainList other = ⊥
+
+pub list_formed : (c : Bool) (words : List ℕ) (start : ℕ) (list : Body) → IsPlainList list → list ≡ formed_body c words start list
+list_formed true words start (Numbers size count) plain = refl
+list_formed true words start (Pointers count) plain = refl
+list_formed true words start (Struct size) plain = absurd plain
+list_formed true words start (Structs elements words_behind) plain = absurd plain
+list_formed false words start list plain = refl
+
+-- a walk that meets a list of numbers meets nothing below it
+pub number_list_walked : (m : List (List ℕ)) (c : Bool) (place : Place) (list : NumberList) (level : ℕ) (limit left counted_then counted_now : Option ℕ) (charge words : ℕ)
+    → IsObject m place (object_of list) → 0 < level → charge ≡ charge_of (Numbers list.size list.count) → words ≡ words_for list.count (width (code_of list.size))
+    → Within limit charge → left ≡ less limit charge → CountsMore counted_then counted_now words → Walked m c place level limit left counted_then counted_now
+number_list_walked m c place list level limit left before now charge words is deep charge_is words_are within left_is counted =
+    let formed_words = words_are ∙ ap words_in (list_formed c (words_of list.segment.now) list.start.word (Numbers list.size list.count) tt) in
+    walked_alone
+    (entered m c place (object_of list) level limit left before now is deep (subst (Within limit) charge_is within) (subst (λ (x : ℕ). left ≡ less limit x) charge_is left_is)
+    (subst (CountsMore before now) formed_words counted))
+    refl
+
+-- the word of a segment of the message
+pub word_there : (m : List (List ℕ)) (place : Place) (words : List ℕ) (word : ℕ) → slice_get m place.segment ≡ Some words → slice_get words place.word ≡ Some word → word_at m place ≡ Some word
+word_there m place words word there is = rw there is
+
+-- a struct as it is copied
+pub struct_formed : (c : Bool) (words : List ℕ) (start : ℕ) (size from : StructSize) → size ≡ (if c then least_size words start from 1 else from)
+    → Struct size ≡ formed_body c words start (Struct from)
+struct_formed true words start size from is = ap (λ (s : StructSize). Struct s) is
+struct_formed false words start size from is = ap (λ (s : StructSize). Struct s) is

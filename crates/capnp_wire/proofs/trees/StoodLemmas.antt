@@ -1,0 +1,157 @@
+-- Trees at places with room for their fields, and the words that they have, as they stand or in canonical form.
+use Rattle.std.proofs.Common.{◌≡◌, ℕ, suc, ◌+◌, ◌-◌, ◌*◌, ◌<◌, ◌≤◌, Bool, true, false, List, [], ◌∷◌, ◌++◌, length, map, take, Some, slice_get, refl, sym, ◌∙◌, ap, subst, arith}
+use Rattle.std.proofs.lemmas.List.{length-map}
+use Rattle.capnp_wire.specs.Pointer.{words_of, words_from}
+use Rattle.capnp_wire.specs.Tree.{Form, null, struct, numbers, pointers, structs, Trees, none, tree, count, depth, is_null, own_words, total_words}
+use Rattle.capnp_wire.specs.Trim.{first, behind, before, keep_tree, cut_zeros, cut_nulls, least_data, least_pointers, narrowed, trim}
+use Rattle.capnp_wire.specs.Object.{Shape, PointsTo, nothing, places, row_places, rows_from}
+use Rattle.capnp_wire.specs.Landing.{IsObject, shape_of, room_of, words_in}
+use Rattle.capnp_wire.specs.Reached.{At, nowhere, at}
+use Rattle.capnp_wire.specs.Layout.{formed, HasRoom, AllHaveRoom}
+use Rattle.capnp_wire.specs.Block.{most_used}
+use Rattle.capnp_wire.specs.Copy.{formed_body}
+use Rattle.capnp_wire.specs.Charge.{TreesAt, TreesWithRoom}
+use Rattle.capnp_wire.specs.declared.layout.place.Place.{Place}
+use Rattle.capnp_wire.specs.declared.layout.object.Body.{Body}
+use Rattle.capnp_wire.specs.declared.layout.object.Body.TheVariants.{Struct, Numbers, Pointers, Structs}
+use Rattle.capnp_wire.specs.declared.layout.object.Object.{Object as ReadObject}
+use Rattle.capnp_wire.proofs.words.WordLemmas.{length-words_of}
+use Rattle.capnp_wire.proofs.trees.StandLemmas.{at_both, depth_both, one_deeper, count_at}
+use Rattle.capnp_wire.proofs.trees.PieceLemmas.{cut-first, count-behind, total-before, total-pieces}
+use Rattle.capnp_wire.proofs.trees.KeptLemmas.{rooms_first, rooms_behind, used_where_some, least_data_is, least_pointers_is, long_places}
+use Rattle.capnp_wire.proofs.trees.FrontLemmas.{trim_before, count_cut_trim}
+use Rattle.capnp_wire.proofs.trees.RoomLemmas.{length-rows_from, length-row_places}
+use Rattle.capnp_wire.proofs.trees.TrimLemmas.{count-trim, room_trim}
+use Rattle.capnp_wire.proofs.objects.OwnWordLemmas.{own_words_are}
+
+-- the words of an object by itself: with those of what it holds they are the words of the whole
+pub record OwnOf (m : List (List ℕ)) (c : Bool) (shape : Shape) (own : ℕ) : Type 0 where
+  pub counts : (held : Trees) (inside : ℕ) → At m shape.held held inside → AllHaveRoom held → own + total_words (formed c held) ≡ total_words (formed c (tree shape.form held none))
+  pub room : HasRoom shape.form (length shape.held)
+
+pub plain_stand : (m : List (List ℕ)) (ps : List Place) (level x : ℕ) (c : Bool) (words : ℕ) (s : TreesWithRoom m ps level x c words) → TreesAt m ps level x (total_words s.trees)
+plain_stand m ps level x c words s = record { trees = s.trees; stand = s.stand; shallow = s.shallow; words_are = refl }
+
+none_is : (c : Bool) → total_words (formed c none) ≡ 0
+none_is true = refl
+none_is false = refl
+
+pub stood_nowhere : (m : List (List ℕ)) (c : Bool) (level : ℕ) → TreesWithRoom m [] level 0 c 0
+stood_nowhere m c level = record { trees = none; stand = nowhere; shallow = omega arith; rooms = tt; words_are = none_is c }
+
+formed_both : (c : Bool) (a b : Trees) → total_words (formed c (before a b)) ≡ total_words (formed c a) + total_words (formed c b)
+formed_both true a b = ap total_words (trim_before a b) ∙ total-before (trim a) (trim b)
+formed_both false a b = total-before a b
+
+rooms_both : (a b : Trees) → AllHaveRoom a → AllHaveRoom b → AllHaveRoom (before a b)
+rooms_both none b p q = q
+rooms_both (tree form held rest) b p q = (p.0, p.1, rooms_both rest b p.2 q)
+
+pub stood_both : (m : List (List ℕ)) (c : Bool) (ps qs : List Place) (level x y v w : ℕ) → TreesWithRoom m ps level x c v → TreesWithRoom m qs level y c w
+    → TreesWithRoom m (ps ++ qs) level (x + y) c (v + w)
+stood_both m c ps qs level x y v w p q = record {
+  trees = before p.trees q.trees;
+  stand = at_both m ps qs p.trees q.trees x y p.stand q.stand;
+  shallow = depth_both p.trees q.trees level p.shallow q.shallow;
+  rooms = rooms_both p.trees q.trees p.rooms q.rooms;
+  words_are = formed_both c p.trees q.trees ∙ omega (arith, p.words_are, q.words_are);
+}
+
+pub stood_over : (m : List (List ℕ)) (c : Bool) (place : Place) (shape : Shape) (level x own words : ℕ) → PointsTo m place shape → 0 < level
+    → OwnOf m c shape own → TreesWithRoom m shape.held (level - 1) x c words → TreesWithRoom m (place ∷ []) level (shape.charge + x) c (own + words)
+stood_over m c place shape level x own words object deep own_is s = record {
+  trees = tree shape.form s.trees none;
+  stand = subst (At m (place ∷ []) (tree shape.form s.trees none)) (omega arith) (at object s.stand nowhere);
+  shallow = one_deeper (is_null shape.form) (depth s.trees) level s.shallow deep;
+  rooms = (subst (λ (n : ℕ). HasRoom shape.form n) (sym (count_at m shape.held s.trees x s.stand)) own_is.room, s.rooms, tt);
+  words_are = sym (own_is.counts s.trees x s.stand s.rooms) ∙ omega (arith, s.words_are);
+}
+
+null_total : (c : Bool) → total_words (formed c (tree null none none)) ≡ 0
+null_total true = refl
+null_total false = refl
+
+pub stood_null : (m : List (List ℕ)) (c : Bool) (place : Place) (level : ℕ) → PointsTo m place nothing → TreesWithRoom m (place ∷ []) level 0 c 0
+stood_null m c place level object = record { trees = tree nothing.form none none; stand = at object nowhere nowhere; shallow = omega arith; rooms = (refl, tt, tt); words_are = null_total c }
+
+-- what is cut has no words
+keep_total : (rest : Trees) (form : Form) (held : Trees) → HasRoom form (count held) → total_words (keep_tree rest form held) ≡ own_words form (count held) + total_words held + total_words rest
+keep_total (tree f h r) form held room = refl
+keep_total none null none room = refl
+keep_total none null (tree f h r) room = absurd (omega (arith, room))
+keep_total none (struct words) held room = refl
+keep_total none (numbers c values) held room = refl
+keep_total none pointers held room = refl
+keep_total none (structs d p rows) held room = refl
+
+total_cut : (t : Trees) → AllHaveRoom t → total_words (cut_nulls t) ≡ total_words t
+total_cut none rooms = refl
+total_cut (tree form held rest) rooms = keep_total (cut_nulls rest) form held rooms.0 ∙ omega (arith, total_cut rest rooms.2)
+
+total_first : (q : ℕ) (t : Trees) → AllHaveRoom t → AllHaveRoom (first q t) → count (cut_nulls t) ≤ q → total_words (first q t) ≡ total_words t
+total_first q t rooms some le =
+    sym (total_cut (first q t) some) ∙ ap total_words (cut-first q t le) ∙ total_cut t rooms
+
+total_narrowed : (q p : ℕ) (rows : List (List ℕ)) (t : Trees) → AllHaveRoom t → count t ≡ length rows * p → least_pointers p rows t ≤ q → total_words (narrowed q p rows t) ≡ total_words t
+total_narrowed q p [] none rooms long le = refl
+total_narrowed q p [] (tree form held rest) rooms long le = absurd (omega arith)
+total_narrowed q p (row ∷ rows) t rooms long le =
+    let split : suc (length rows) * p ≡ p + length rows * p = omega arith in
+    let own = total_first q (first p t) (rooms_first p t rooms) (rooms_first q (first p t) (rooms_first p t rooms)) (omega arith) in
+    let rest = total_narrowed q p rows (behind p t) (rooms_behind p t rooms) (omega (arith, count-behind p t (omega arith))) (omega arith) in
+    omega (arith, total-before (first q (first p t)) (narrowed q p rows (behind p t)), total-pieces p t, own, rest)
+
+-- an object's own words, in each form
+pub struct_total : (m : List (List ℕ)) (words : List ℕ) (segment start d p : ℕ) (held : Trees) (inside : ℕ) → (0 < p → slice_get m segment ≡ Some words)
+    → At m (places segment (start + d) p) held inside → AllHaveRoom (trim held)
+    → most_used words start d (d + p) 1 + most_used words (start + d) p (d + p) 1 + total_words (trim held) ≡ total_words (trim (tree (struct (words_from words start d)) held none))
+struct_total m words segment start d p held inside there stand rooms =
+    let q_is : count (cut_nulls (trim held)) ≡ length (cut_zeros (words_from words (start + d) p)) = count_cut_trim held ∙ used_where_some m words segment (start + d) p held inside there stand in
+    omega (arith, q_is, total_cut (trim held) rooms)
+
+structs_total : (m : List (List ℕ)) (words : List ℕ) (segment start d p n : ℕ) (held : Trees) (inside : ℕ) → slice_get m segment ≡ Some words → At m (row_places segment start d p n) held inside
+    → AllHaveRoom (trim held)
+    → 1 + n * (most_used words start d (d + p) n + most_used words (start + d) p (d + p) n) + total_words (trim held) ≡ total_words (trim (tree (structs d p (rows_from words start d p n)) held none))
+structs_total m words segment start d p n held inside there stand rooms =
+    let rows : List (List ℕ) = rows_from words start d p n in
+    let long : length (rows_from words start d p n) ≡ n = length-rows_from words start d p n in
+    let stand_long : At m (row_places segment start d p (length (rows_from words start d p n))) held inside = subst (λ (k : ℕ). At m (row_places segment start d p k) held inside) (sym long) stand in
+    let data_is : least_data (rows_from words start d p n) ≡ most_used words start d (d + p) n = least_data_is words start d p n in
+    let pointers_is : least_pointers p (rows_from words start d p n) (trim held) ≡ most_used words (start + d) p (d + p) n =
+    least_pointers_is m words segment start d p (rows_from words start d p n) held inside there stand_long ∙ ap (most_used words (start + d) p (d + p)) long in
+    let rows_long : length (map (take (least_data (rows_from words start d p n))) (rows_from words start d p n)) ≡ n = length-map (rows_from words start d p n) (take (least_data
+    (rows_from words start d p n))) ∙ long in
+    let many : count (trim held) ≡ length (rows_from words start d p n) * p =
+    count-trim held ∙ count_at m (row_places segment start d p n) held inside stand ∙ length-row_places segment start d p n ∙ ap (λ (k : ℕ). k * p) (sym long) in
+    let same = total_narrowed (least_pointers p (rows_from words start d p n) (trim held)) p (rows_from words start d p n) (trim held) rooms many (omega arith) in
+    sym (ap (λ (k : ℕ). 1 + k * (least_data (rows_from words start d p n) + least_pointers p (rows_from words start d p n) (trim held)) + total_words (narrowed (least_pointers p
+    (rows_from words start d p n) (trim held)) p (rows_from words start d p n) (trim held)) + 0) rows_long
+    ∙ ap (λ (k : ℕ). 1 + n * (k + least_pointers p (rows_from words start d p n) (trim held)) + total_words (narrowed (least_pointers p (rows_from words start d p n) (trim held)) p
+    (rows_from words start d p n) (trim held)) + 0) data_is
+    ∙ ap (λ (k : ℕ). 1 + n * (most_used words start d (d + p) n + k) + total_words (narrowed (least_pointers p (rows_from words start d p n) (trim held)) p (rows_from words start d p n)
+    (trim held)) + 0) pointers_is
+    ∙ omega (arith, same))
+
+body_total : (m : List (List ℕ)) (words : List ℕ) (start : Place) (there : Body) (c : Bool) (held : Trees) (inside : ℕ) → slice_get m start.segment ≡ Some words
+    → start.word + room_of there ≤ length words → At m (shape_of words start there).held held inside → AllHaveRoom (trim held)
+    → words_in (formed_body c words start.word there) + total_words (formed c held) ≡ total_words (formed c (tree (shape_of words start there).form held none))
+body_total m words start there false held inside here room stand rooms =
+    let own = own_words_are words start there room in
+    let many = count_at m (shape_of words start there).held held inside stand in
+    omega (arith, own, ap (own_words (shape_of words start there).form) many)
+body_total m words start (Struct size) true held inside here room stand rooms = struct_total m words start.segment start.word size.data_words size.pointers held inside (λ some. here) stand rooms
+body_total m words start (Numbers size n) true held inside here room stand rooms = omega (arith, own_words_are words start (Numbers size n) room)
+body_total m words start (Pointers n) true held inside here room stand rooms =
+    let many : count (trim held) ≡ n = count-trim held ∙ count_at m (places start.segment start.word n) held inside stand ∙ long_places start.segment start.word n in
+    omega (arith, many)
+body_total m words start (Structs elements behind) true held inside here room stand rooms =
+    structs_total m words start.segment (start.word + 1) elements.size.data_words elements.size.pointers elements.count held inside here stand rooms
+
+pub own_formed : (m : List (List ℕ)) (object : ReadObject) (place : Place) (c : Bool) → IsObject m place object
+    → OwnOf m c (record (shape_of (words_of object.segment.now) object.start object.body) { charge = object.charge }) (words_in (formed_body c
+    (words_of object.segment.now) object.start.word object.body))
+own_formed m object place c is = record {
+  counts = λ held inside stand rooms.
+      body_total m (words_of object.segment.now) object.start object.body c held inside is.content (omega (arith, is.room, length-words_of object.segment.now)) stand (room_trim held rooms);
+  room = is.has_room;
+}

@@ -1,0 +1,6 @@
+-- What views show, and values that are set.
+pub mod ViewLemmas
+pub mod FormLemmas
+pub mod ValueLemmas
+pub mod SetterLemmas
+pub mod OneValueLemmas

@@ -1,0 +1,84 @@
+-- A value is one tree, or is refused for one reason, and so its measure is decided.
+use Rattle.std.proofs.Common.{◌≡◌, ℕ, Bool, List, [], ◌∷◌, Option, Some, None, MatchOption, Result, Ok, Err, MatchResult, inl, inr, sym, ◌∙◌, ap, subst, arith}
+use Rattle.std.specs.Result.{IsErrAnd}
+use Rattle.capnp_frame.specs.declared.error.Error.{Error}
+use Rattle.capnp_frame.specs.declared.error.ErrorKind.{ErrorKind}
+use Rattle.capnp_wire.specs.Tree.{null, struct, Trees, none, tree, total_words}
+use Rattle.capnp_wire.specs.Layout.{formed}
+use Rattle.capnp_wire.specs.Faults.{StopsWalk}
+use Rattle.capnp_wire.specs.Views.{Pointer, Struct}
+use Rattle.capnp_wire.specs.Values.{TreeAt, HasWords, LacksWords, LeadsToTree, StopsWalkFrom, IsTreeOf, StopsInside, too_large}
+use Rattle.capnp_wire.specs.declared.layout.place.Place.{Place}
+use Rattle.capnp_wire.proofs.objects.ObjectLemmas.{one_tree}
+use Rattle.capnp_wire.proofs.walks.StopLemmas.{stops_has_no_trees, one_stop}
+use Rattle.capnp_wire.proofs.views.SetterLemmas.{from_tree}
+
+pub record IsOne (has_tree : Trees → Type 0) (refuses : ErrorKind → Type 0) : Type 0 where
+  pub same_tree : (a b : Trees) → has_tree a → has_tree b → a ≡ b
+  pub same_refusal : (a b : ErrorKind) → refuses a → refuses b → a ≡ b
+  pub apart : (kind : ErrorKind) (trees : Trees) → refuses kind → has_tree trees → ⊥
+
+has_or_lacks : (h : Trees → Type 0) (r : ErrorKind → Type 0) → IsOne h r → (c : Bool) (words : ℕ) (kind : ErrorKind) → HasWords h c words → LacksWords h r c kind → ⊥
+has_or_lacks h r one c words kind w (inl refused) = one.apart kind w.trees refused w.tree_is
+has_or_lacks h r one c words kind w (inr many) =
+    let same : total_words (formed c w.trees) ≡ total_words (formed c many.0) = ap (λ (t : Trees). total_words (formed c t)) (one.same_tree w.trees many.0 w.tree_is many.1) in
+    omega (arith, w.words_are, w.few, many.2, same)
+
+one_measure : (h : Trees → Type 0) (r : ErrorKind → Type 0) → IsOne h r → (c : Bool) (words others : ℕ) → HasWords h c words → HasWords h c others → words ≡ others
+one_measure h r one c words others w o =
+    w.words_are ∙ ap (λ (t : Trees). total_words (formed c t)) (one.same_tree w.trees o.trees w.tree_is o.tree_is) ∙ sym o.words_are
+
+one_lack : (h : Trees → Type 0) (r : ErrorKind → Type 0) → IsOne h r → (c : Bool) (a b : ErrorKind) → LacksWords h r c a → LacksWords h r c b → a ≡ b
+one_lack h r one c a b (inl x) (inl y) = one.same_refusal a b x y
+one_lack h r one c a b (inl x) (inr y) = absurd (one.apart a y.0 x y.1)
+one_lack h r one c a b (inr x) (inl y) = absurd (one.apart b x.0 y x.1)
+one_lack h r one c a b (inr x) (inr y) =
+    x.3 ∙ ap (λ (t : Trees). too_large c (total_words (formed c t))) (one.same_tree x.0 y.0 x.1 y.1) ∙ sym y.3
+
+-- a value that lacks words is refused by just that
+pub measured_exactly : (h : Trees → Type 0) (r : ErrorKind → Type 0) → IsOne h r → (c : Bool) (answer : Result ℕ Error)
+    → MatchResult answer (λ words. HasWords h c words) (λ error. LacksWords h r c error.kind)
+    → (kind : ErrorKind) → LacksWords h r c kind → IsErrAnd answer (λ error. error.kind ≡ kind)
+measured_exactly h r one c (Ok words) m kind lacks = absurd (has_or_lacks h r one c words kind m lacks)
+measured_exactly h r one c (Err error) m kind lacks = one_lack h r one c error.kind kind m lacks
+
+-- and one that has words is answered by just these
+pub measured_found : (h : Trees → Type 0) (r : ErrorKind → Type 0) → IsOne h r → (c : Bool) (answer : Result ℕ Error)
+    → MatchResult answer (λ words. HasWords h c words) (λ error. LacksWords h r c error.kind)
+    → (words : ℕ) → HasWords h c words → answer ≡ Ok words
+measured_found h r one c (Ok others) m words w = ap (λ (n : ℕ). Ok n) (one_measure h r one c others words m w)
+measured_found h r one c (Err error) m words w = absurd (has_or_lacks h r one c words error.kind w m)
+
+-- the tree that a pointer leads to
+one_there : (o : Option Place) (m : List (List ℕ)) (level : ℕ) (limit : Option ℕ) (a b : Trees) → MatchOption o (a ≡ tree null none none) (λ place. TreeAt m place level limit a)
+    → MatchOption o (b ≡ tree null none none) (λ place. TreeAt m place level limit b) → a ≡ b
+one_there None m level limit a b x y = x ∙ sym y
+one_there (Some place) m level limit a b x y = (one_tree m (place ∷ []) a b x.charge y.charge x.stand y.stand).0
+
+one_way : (p : Pointer) (a b : ErrorKind) → StopsWalkFrom p a → StopsWalkFrom p b → a ≡ b
+one_way p a b x y =
+    let there = x.1 in
+    let there_too = y.1 in
+    let same : y.0 ≡ x.0 = cc in
+    one_stop p.message (x.0 ∷ []) p.level p.limit a b x.2 (subst (λ (place : Place). StopsWalk p.message (place ∷ []) p.level p.limit b) same y.2)
+
+stops_or_leads : (p : Pointer) (kind : ErrorKind) (trees : Trees) → StopsWalkFrom p kind → LeadsToTree p trees → ⊥
+stops_or_leads p kind trees stops leads =
+    let t = from_tree p stops.0 trees stops.1 leads in
+    stops_has_no_trees p.message (stops.0 ∷ []) p.level t.charge p.limit kind trees stops.2 t.stand t.shallow t.within
+
+pub one_of_pointer : (p : Pointer) → IsOne (LeadsToTree p) (StopsWalkFrom p)
+one_of_pointer p = record {
+  same_tree = one_there p.place p.message p.level p.limit;
+  same_refusal = one_way p;
+  apart = stops_or_leads p;
+}
+
+-- the tree of a struct
+pub one_of_struct : (fields : Struct) → IsOne (IsTreeOf fields) (StopsInside fields)
+one_of_struct fields = record {
+  same_tree = λ a b x y.
+      x.whole ∙ ap (λ (t : Trees). tree (struct fields.words) t none) (one_tree fields.message fields.held x.held y.held x.charge y.charge x.stand y.stand).0 ∙ sym y.whole;
+  same_refusal = one_stop fields.message fields.held fields.level fields.limit;
+  apart = λ kind trees stops t. stops_has_no_trees fields.message fields.held fields.level t.charge fields.limit kind t.held stops t.stand t.shallow t.within;
+}

@@ -1,0 +1,224 @@
+-- When views are refused.
+use Rattle.std.proofs.Common.{◌≡◌, ◌≢◌, ◌⊎◌, ℕ, List, Some, None, Result, Ok, Err, IsOk, IfErr, MatchResult, inl, inr, refl, sym, ◌∙◌, subst}
+use Rattle.std.specs.Result.{IsErrAnd}
+use Rattle.capnp_frame.specs.declared.error.Error.{Error}
+use Rattle.capnp_frame.specs.declared.error.ErrorKind.{ErrorKind}
+use Rattle.capnp_frame.specs.declared.error.ErrorKind.TheVariants.{ReadLimitExceeded, WrongPointerKind, TextNotTerminated}
+use Rattle.capnp_wire.specs.Tree.{Form, null, struct, numbers, pointers, structs}
+use Rattle.capnp_wire.specs.Object.{Shape, PointsTo}
+use Rattle.capnp_wire.specs.Faults.{NoWord, no_segment, past_segment, BadPad, no_pad, far_again, pad_capability, no_tag, not_far, no_content, far_tag, capability_tag, Misfits}
+use Rattle.capnp_wire.specs.Faults.{struct_outside, list_outside, structs_outside, odd_tag, many_elements, Fault, no_word, capability, bad_pad, too_deep, no_start, misfits}
+use Rattle.capnp_wire.specs.Views.{Pointer, Struct, IsViewOf, Denotes, nowhere, at_place, Barred, LeadsAstray, MeetsLimit, Reads, Accepts, Declines, Refuses, IsData}
+use Rattle.capnp_wire.specs.Views.{IsText, IsWords, HasData, IsStruct, TakesNumbers, TakesText, TakesStruct, DeclinesNumbers, DeclinesText, DeclinesStruct}
+use Rattle.capnp_wire.specs.declared.layout.place.Place.{Place}
+use Rattle.capnp_wire.proofs.objects.ObjectLemmas.{one_object}
+use Rattle.capnp_wire.proofs.pointers.FaultLemmas.{refused_has_no_object}
+use Rattle.capnp_wire.proofs.pointers.RefusalLemmas.{one_refusal}
+
+-- a pointer stands for one thing alone
+pub one_denoted : (p : Pointer) (s t : Shape) → Denotes p s → Denotes p t → s ≡ t
+one_denoted p s t (nowhere e) (nowhere f) = refl
+one_denoted p s t (nowhere e) (at_place f _ _) = cc
+one_denoted p s t (at_place e _ _) (nowhere f) = cc
+one_denoted p s t (at_place {place = a} e o _) (at_place {place = b} f q _) =
+    let same : a ≡ b = cc in one_object p.message b s t (subst (λ x. PointsTo p.message x s) same o) q
+
+-- without a limit a pointer is barred only where it stands for nothing
+fault_denotes_nothing : (p : Pointer) (place : Place) (kind : ErrorKind) (s : Shape) → p.place ≡ Some place → Fault p.message place p.level kind → Denotes p s → ⊥
+fault_denotes_nothing p place kind s e fault (nowhere f) = cc
+fault_denotes_nothing p place kind s e fault (at_place {place = b} f o deep) =
+    let same : b ≡ place = cc in
+    refused_has_no_object p.message place p.level kind s fault (subst (λ x. PointsTo p.message x s) same o) deep
+
+astray_denotes_nothing : (p : Pointer) (kind : ErrorKind) (s : Shape) → LeadsAstray p kind → Denotes p s → ⊥
+astray_denotes_nothing p kind s astray there = fault_denotes_nothing p astray.0 kind s astray.1 astray.2 there
+
+barred_denotes_nothing : (p : Pointer) (kind : ErrorKind) (s : Shape) → Barred p kind → p.limit ≡ None → Denotes p s → ⊥
+barred_denotes_nothing p kind s (inl astray) free there = astray_denotes_nothing p kind s astray there
+barred_denotes_nothing p kind s (inr met) free there = met.1 free
+
+-- and never by the limit
+no_word_unlimited : (m : List (List ℕ)) (place : Place) (kind : ErrorKind) → NoWord m place kind → kind ≢ ReadLimitExceeded
+no_word_unlimited m place kind (no_segment e) = λ is. cc
+no_word_unlimited m place kind (past_segment e f) = λ is. cc
+
+bad_pad_unlimited : (m : List (List ℕ)) (word : ℕ) (kind : ErrorKind) → BadPad m word kind → kind ≢ ReadLimitExceeded
+bad_pad_unlimited m word kind (no_pad none) = no_word_unlimited m _ kind none
+bad_pad_unlimited m word kind (far_again _ _ _) = λ is. cc
+bad_pad_unlimited m word kind (pad_capability _ _ _) = λ is. cc
+bad_pad_unlimited m word kind (no_tag _ _ _) = λ is. cc
+bad_pad_unlimited m word kind (not_far _ _ _ _) = λ is. cc
+bad_pad_unlimited m word kind (no_content _ _ _ _ _) = λ is. cc
+bad_pad_unlimited m word kind (far_tag _ _ _ _ _ _) = λ is. cc
+bad_pad_unlimited m word kind (capability_tag _ _ _ _ _ _) = λ is. cc
+
+misfits_unlimited : (words : List ℕ) (start pointer : ℕ) (kind : ErrorKind) → Misfits words start pointer kind → kind ≢ ReadLimitExceeded
+misfits_unlimited words start pointer kind (struct_outside _ _) = λ is. cc
+misfits_unlimited words start pointer kind (list_outside _ _ _) = λ is. cc
+misfits_unlimited words start pointer kind (structs_outside _ _ _) = λ is. cc
+misfits_unlimited words start pointer kind (odd_tag _ _ _ _ _) = λ is. cc
+misfits_unlimited words start pointer kind (many_elements _ _ _ _ _ _) = λ is. cc
+
+pub fault_unlimited : (m : List (List ℕ)) (place : Place) (level : ℕ) (kind : ErrorKind) → Fault m place level kind → kind ≢ ReadLimitExceeded
+fault_unlimited m place level kind (no_word none) = no_word_unlimited m place kind none
+fault_unlimited m place level kind (capability _ _) = λ is. cc
+fault_unlimited m place level kind (bad_pad _ _ bad) = bad_pad_unlimited m _ kind bad
+fault_unlimited m place level kind (too_deep _ _) = λ is. cc
+fault_unlimited m place level kind (no_start _ _ _) = λ is. cc
+fault_unlimited m place level kind (misfits _ _ _ _ misfit) = misfits_unlimited _ _ _ kind misfit
+
+barred_unlimited : (p : Pointer) (kind : ErrorKind) → Barred p kind → p.limit ≡ None → kind ≢ ReadLimitExceeded
+barred_unlimited p kind (inl astray) free = fault_unlimited p.message astray.0 p.level kind astray.2
+barred_unlimited p kind (inr met) free = absurd (met.1 free)
+
+-- What a view declines it does not take; it declines it by one error, which is not the limit's.
+pub record Decides (takes : Form → Type 0) (declines : Form → ErrorKind → Type 0) : Type 0 where
+  pub apart : (form : Form) (kind : ErrorKind) → declines form kind → takes form → ⊥
+  pub once : (form : Form) (kind other : ErrorKind) → declines form kind → declines form other → kind ≡ other
+  pub unlimited : (form : Form) (kind : ErrorKind) → declines form kind → kind ≢ ReadLimitExceeded
+
+-- A view of a kind that decides, of a pointer.
+module _ {V : Type 0} (p : Pointer) (takes : Form → Type 0) (declines : Form → ErrorKind → Type 0) (shows : V → Type 0) (decides : Decides takes declines)
+    (shown : (v : V) → shows v → Accepts p takes) where
+  apart_there : (kind : ErrorKind) → Declines p declines kind → Accepts p takes → ⊥
+  apart_there kind declined taken =
+      let same : declined.0 ≡ taken.0 = one_denoted p declined.0 taken.0 declined.1 taken.1 in
+      decides.apart taken.0.form kind (subst (λ (x : Shape). declines x.form kind) same declined.2) taken.2
+
+  refused_not_taken : (kind : ErrorKind) → Refuses p declines kind → p.limit ≡ None → Accepts p takes → ⊥
+  refused_not_taken kind (inl barred) free taken = barred_denotes_nothing p kind taken.0 barred free taken.1
+  refused_not_taken kind (inr declined) free taken = apart_there kind declined taken
+
+  refused_unlimited : (kind : ErrorKind) → Refuses p declines kind → p.limit ≡ None → kind ≢ ReadLimitExceeded
+  refused_unlimited kind (inl barred) free = barred_unlimited p kind barred free
+  refused_unlimited kind (inr declined) free = decides.unlimited declined.0.form kind declined.2
+
+  found : (r : Result V Error) → MatchResult r shows (λ e. Refuses p declines e.kind) → p.limit ≡ None → Accepts p takes → IsOk r
+  found (Ok v) answer free taken = refl
+  found (Err e) answer free taken = absurd (refused_not_taken e.kind answer free taken)
+
+  unlimited : (r : Result V Error) → MatchResult r shows (λ e. Refuses p declines e.kind) → p.limit ≡ None → IfErr r (λ e. e.kind ≢ ReadLimitExceeded)
+  unlimited (Ok v) answer free = tt
+  unlimited (Err e) answer free = refused_unlimited e.kind answer free
+
+  -- where no object stands, by just the one error
+  refused_astray : (kind other : ErrorKind) → LeadsAstray p kind → Refuses p declines other → other ≡ kind
+  refused_astray kind other astray (inl (inl another)) =
+      let there : p.place ≡ Some another.0 = another.1 in
+      let it : p.place ≡ Some astray.0 = astray.1 in
+      let same : another.0 ≡ astray.0 = cc in
+      one_refusal p.message astray.0 p.level other kind (subst (λ (x : Place). Fault p.message x p.level other) same another.2) astray.2
+  refused_astray kind other astray (inl (inr met)) = absurd (astray_denotes_nothing p kind met.0.0 astray met.0.1)
+  refused_astray kind other astray (inr declined) = absurd (astray_denotes_nothing p kind declined.0 astray declined.1)
+
+  exact : (r : Result V Error) → MatchResult r shows (λ e. Refuses p declines e.kind) → (kind : ErrorKind) → LeadsAstray p kind → IsErrAnd r (λ e. e.kind ≡ kind)
+  exact (Ok v) answer kind astray = let taken = shown v answer in absurd (astray_denotes_nothing p kind taken.0 astray taken.1)
+  exact (Err e) answer kind astray = refused_astray kind e.kind astray answer
+
+  -- what a view declines, by the error that it declines it by, or by the limit
+  refused_declined : (kind other : ErrorKind) → Declines p declines kind → Refuses p declines other → (other ≡ kind) ⊎ MeetsLimit p other
+  refused_declined kind other declined (inl (inl astray)) = absurd (astray_denotes_nothing p other declined.0 astray declined.1)
+  refused_declined kind other declined (inl (inr met)) = inr met
+  refused_declined kind other declined (inr another) =
+      let same : another.0 ≡ declined.0 = one_denoted p another.0 declined.0 another.1 declined.1 in
+      inl (decides.once declined.0.form other kind (subst (λ (x : Shape). declines x.form other) same another.2) declined.2)
+
+  declined_is_err : (r : Result V Error) → MatchResult r shows (λ e. Refuses p declines e.kind) → (kind : ErrorKind) → Declines p declines kind
+      → IsErrAnd r (λ e. (e.kind ≡ kind) ⊎ MeetsLimit p e.kind)
+  declined_is_err (Ok v) answer kind declined = absurd (apart_there kind declined (shown v answer))
+  declined_is_err (Err e) answer kind declined = refused_declined kind e.kind declined answer
+
+  pub is_view_of : (r : Result V Error) → MatchResult r shows (λ e. Refuses p declines e.kind)
+      → IsViewOf p shows (Accepts p takes) (Refuses p declines) (Declines p declines) r
+  is_view_of r answer = record {
+    answer = answer;
+    found = found r answer;
+    unlimited = unlimited r answer;
+    exact = λ kind astray untaken. exact r answer kind astray;
+    declined = declined_is_err r answer;
+  }
+
+wrong_kind_unlimited : (kind : ErrorKind) → kind ≡ WrongPointerKind → kind ≢ ReadLimitExceeded
+wrong_kind_unlimited kind is = λ limit. cc
+
+wrong_kind_once : (kind other : ErrorKind) → kind ≡ WrongPointerKind → other ≡ WrongPointerKind → kind ≡ other
+wrong_kind_once kind other is other_is = is ∙ sym other_is
+
+pub numbers_decide : (code : ℕ) → Decides (TakesNumbers code) (DeclinesNumbers code)
+numbers_decide code = record {
+  apart = λ form kind declined. declined.0;
+  once = λ form kind other p q. wrong_kind_once kind other p.1 q.1;
+  unlimited = λ form kind declined. wrong_kind_unlimited kind declined.1;
+}
+
+pub struct_decides : Decides TakesStruct DeclinesStruct
+struct_decides = record {
+  apart = λ form kind declined. declined.0;
+  once = λ form kind other p q. wrong_kind_once kind other p.1 q.1;
+  unlimited = λ form kind declined. wrong_kind_unlimited kind declined.1;
+}
+
+text_is_bytes : (form : Form) → TakesText form → TakesNumbers 2 form
+text_is_bytes null t = tt
+text_is_bytes (struct words) t = t
+text_is_bytes (numbers code values) t = t.0
+text_is_bytes pointers t = t
+text_is_bytes (structs d p rows) t = t
+
+text_apart : (form : Form) (kind : ErrorKind) → DeclinesText form kind → TakesText form → ⊥
+text_apart form kind (inl other) t = other.0 (text_is_bytes form t)
+text_apart form kind (inr no_end) t = no_end.1 t
+
+text_unlimited : (form : Form) (kind : ErrorKind) → DeclinesText form kind → kind ≢ ReadLimitExceeded
+text_unlimited form kind (inl other) = wrong_kind_unlimited kind other.1
+text_unlimited form kind (inr no_end) = let is : kind ≡ TextNotTerminated = no_end.2 in λ limit. cc
+
+text_once : (form : Form) (kind other : ErrorKind) → DeclinesText form kind → DeclinesText form other → kind ≡ other
+text_once form kind other (inl p) (inl q) = wrong_kind_once kind other p.1 q.1
+text_once form kind other (inl p) (inr q) = absurd (p.0 q.0)
+text_once form kind other (inr p) (inl q) = absurd (q.0 p.0)
+text_once form kind other (inr p) (inr q) = p.2 ∙ sym q.2
+
+pub text_decides : Decides TakesText DeclinesText
+text_decides = record { apart = text_apart; once = text_once; unlimited = text_unlimited }
+
+-- what a view shows is of a form that it takes
+data_taken : (form : Form) (bytes : List ℕ) → IsData form bytes → TakesNumbers 2 form
+data_taken null bytes t = tt
+data_taken (struct words) bytes t = t
+data_taken (numbers code values) bytes t = t.0
+data_taken pointers bytes t = t
+data_taken (structs d p rows) bytes t = t
+
+words_taken : (form : Form) (words : List ℕ) → IsWords form words → TakesNumbers 5 form
+words_taken null words t = tt
+words_taken (struct there) words t = t
+words_taken (numbers code values) words t = t.0
+words_taken pointers words t = t
+words_taken (structs d p rows) words t = t
+
+text_taken : (form : Form) (bytes : List ℕ) → IsText form bytes → TakesText form
+text_taken null bytes t = tt
+text_taken (struct words) bytes t = t
+text_taken (numbers code values) bytes t = (t.0, (bytes, t.1))
+text_taken pointers bytes t = t
+text_taken (structs d p rows) bytes t = t
+
+struct_taken : (form : Form) (words : List ℕ) → HasData form words → TakesStruct form
+struct_taken null words t = tt
+struct_taken (struct there) words t = tt
+struct_taken (numbers code values) words t = t
+struct_taken pointers words t = t
+struct_taken (structs d p rows) words t = t
+
+pub data_accepted : (p : Pointer) (bytes : List ℕ) → Reads p (λ form. IsData form bytes) → Accepts p (TakesNumbers 2)
+data_accepted p bytes read = (read.0, read.1, data_taken read.0.form bytes read.2.0)
+
+pub words_accepted : (p : Pointer) (words : List ℕ) → Reads p (λ form. IsWords form words) → Accepts p (TakesNumbers 5)
+words_accepted p words read = (read.0, read.1, words_taken read.0.form words read.2.0)
+
+pub text_accepted : (p : Pointer) (bytes : List ℕ) → Reads p (λ form. IsText form bytes) → Accepts p TakesText
+text_accepted p bytes read = (read.0, read.1, text_taken read.0.form bytes read.2.0)
+
+pub struct_accepted : (p : Pointer) (fields : Struct) → IsStruct p fields → Accepts p TakesStruct
+struct_accepted p fields read = (read.shown.0, read.shown.1, struct_taken read.shown.0.form fields.words read.shown.2.0)

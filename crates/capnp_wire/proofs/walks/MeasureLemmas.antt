@@ -1,0 +1,98 @@
+-- What a walk from a pointer measures.
+use Rattle.std.proofs.Common.{◌≡◌, ℕ, ◌+◌, ◌-◌, ◌<◌, ◌≤◌, ◌^◌, ◌⊎◌, List, [], ◌∷◌, Option, Some, None, MatchOption, false, Result}
+use Rattle.std.proofs.Common.{Ok, Err, MatchResult, IsOk, IfOk, inl, inr, refl, sym, ◌∙◌, ap, subst, arith}
+use Rattle.std.specs.Result.{IsErrAnd}
+use Rattle.capnp_frame.specs.declared.error.Error.{Error}
+use Rattle.capnp_frame.specs.declared.error.ErrorKind.{ErrorKind}
+use Rattle.capnp_frame.specs.declared.error.ErrorKind.TheVariants.{AllocationTooLarge}
+use Rattle.capnp_wire.specs.Tree.{total_words}
+use Rattle.capnp_wire.specs.Charge.{Within, TreesAt, TreesWithRoom, Walked}
+use Rattle.capnp_wire.specs.Faults.{StopsWalk}
+use Rattle.capnp_wire.specs.Views.{Pointer, Measures, Unmeasured}
+use Rattle.capnp_wire.specs.declared.layout.place.Place.{Place}
+use Rattle.capnp_wire.specs.declared.message_size.MessageSize.{MessageSize}
+use Rattle.capnp_wire.proofs.objects.ObjectLemmas.{one_tree}
+use Rattle.capnp_wire.proofs.walks.StopLemmas.{stops_has_no_trees, one_stop}
+
+pub measures_nothing : (p : Pointer) → p.place ≡ None → Measures p 0
+measures_nothing p e =
+    subst (λ (o : Option Place). MatchOption o (◌≡◌ {A = ℕ} 0 0) (λ place. (charge : ℕ) × TreesAt p.message (place ∷ []) p.level charge 0 × Within p.limit charge)) (sym e) refl
+
+pub measures_at : (p : Pointer) (place : Place) (words charge : ℕ) → p.place ≡ Some place → TreesAt p.message (place ∷ []) p.level charge words → Within p.limit charge → Measures p words
+measures_at p place words charge e s w =
+    subst (λ (o : Option Place). MatchOption o (words ≡ 0) (λ at. (c : ℕ) × TreesAt p.message (at ∷ []) p.level c words × Within p.limit c)) (sym e) (charge, s, w)
+
+measured_there : (p : Pointer) (place : Place) (words : ℕ) → p.place ≡ Some place → Measures p words → (c : ℕ) × TreesAt p.message (place ∷ []) p.level c words × Within p.limit c
+measured_there p place words e m =
+    subst (λ (o : Option Place). MatchOption o (words ≡ 0) (λ at. (c : ℕ) × TreesAt p.message (at ∷ []) p.level c words × Within p.limit c)) e m
+
+pub walked_as : (m : List (List ℕ)) (place : Place) (level : ℕ) (limit limit_is left counted counted_is now now_is : Option ℕ) → limit ≡ limit_is → counted ≡ counted_is → now ≡ now_is
+    → Walked m false place level limit left counted now → Walked m false place level limit_is left counted_is now_is
+walked_as m place level limit limit_is left counted counted_is now now_is e f g w =
+    subst (λ (x : Option ℕ). Walked m false place level limit_is left counted_is x) g
+    (subst (λ (x : Option ℕ). Walked m false place level limit_is left x now) f
+    (subst (λ (x : Option ℕ). Walked m false place level x left counted now) e w))
+
+as_stood : (m : List (List ℕ)) (place : Place) (level charge words : ℕ) → TreesWithRoom m (place ∷ []) level charge false words → TreesAt m (place ∷ []) level charge words
+as_stood m place level charge words s = record { trees = s.trees; stand = s.stand; shallow = s.shallow; words_are = s.words_are }
+
+pub walk_measures : (p : Pointer) (place : Place) (words : ℕ) (left : Option ℕ) → p.place ≡ Some place → Walked p.message false place p.level p.limit left (Some 0) (Some words) → Measures p words
+walk_measures p place words left e w =
+    let counted : words ≡ 0 + w.words = w.counted 0 refl in
+    let same : w.words ≡ words = omega arith in
+    measures_at p place words w.charge e (subst (λ (n : ℕ). TreesAt p.message (place ∷ []) p.level w.charge n) same (as_stood p.message place p.level w.charge w.words w.stand)) w.within
+
+pub walk_overflows : (p : Pointer) (place : Place) (left : Option ℕ) (kind : ErrorKind) → p.place ≡ Some place → Walked p.message false place p.level p.limit left (Some 0) None
+    → kind ≡ AllocationTooLarge (2 ^ 32 - 1) → Unmeasured p kind
+walk_overflows p place left kind e w is =
+    let counted : 2 ^ 64 ≤ 0 + w.words = w.counted 0 refl in
+    (place, e, inr (w.words, measures_at p place w.words w.charge e (as_stood p.message place p.level w.charge w.words w.stand) w.within, omega arith, is))
+
+pub walk_stops : (p : Pointer) (place : Place) (kind : ErrorKind) → p.place ≡ Some place → StopsWalk p.message (place ∷ []) p.level p.limit kind → Unmeasured p kind
+walk_stops p place kind e stops = (place, e, inl stops)
+
+same_words : (p : Pointer) (place : Place) (v w : ℕ) → p.place ≡ Some place → Measures p v → Measures p w → v ≡ w
+same_words p place v w e a b =
+    let x = measured_there p place v e a in
+    let y = measured_there p place w e b in
+    let same = one_tree p.message (place ∷ []) x.1.trees y.1.trees x.0 y.0 x.1.stand y.1.stand in
+    sym x.1.words_are ∙ ap total_words same.0 ∙ y.1.words_are
+
+stops_unmeasured : (p : Pointer) (place : Place) (words : ℕ) (kind : ErrorKind) → p.place ≡ Some place → Measures p words → StopsWalk p.message (place ∷ []) p.level p.limit kind → ⊥
+stops_unmeasured p place words kind e m stops =
+    let x = measured_there p place words e m in
+    stops_has_no_trees p.message (place ∷ []) p.level x.0 p.limit kind x.1.trees stops x.1.stand x.1.shallow x.2
+
+stops_or_measures : (p : Pointer) (place : Place) (words : ℕ) (kind : ErrorKind) → p.place ≡ Some place → Measures p words → words < 2 ^ 64
+    → StopsWalk p.message (place ∷ []) p.level p.limit kind ⊎ ((n : ℕ) × Measures p n × (2 ^ 64 ≤ n) × (kind ≡ AllocationTooLarge (2 ^ 32 - 1))) → ⊥
+stops_or_measures p place words kind e m small (inl stops) = stops_unmeasured p place words kind e m stops
+stops_or_measures p place words kind e m small (inr large) =
+    let same : words ≡ large.0 = same_words p place words large.0 e m large.1 in
+    omega (arith, large.2)
+
+pub measured_is_ok : {V : Type 0} (p : Pointer) (shows : V → Type 0) (r : Result V Error) → MatchResult r shows (λ e. Unmeasured p e.kind)
+    → (words : ℕ) → Measures p words → words < 2 ^ 64 → IsOk r
+measured_is_ok p shows (Ok v) found words m small = refl
+measured_is_ok p shows (Err e) refused words m small = absurd (stops_or_measures p refused.0 words e.kind refused.1 m small refused.2)
+
+one_way_to_stop : (p : Pointer) (place : Place) (a b : ErrorKind) → p.place ≡ Some place
+    → StopsWalk p.message (place ∷ []) p.level p.limit a ⊎ ((n : ℕ) × Measures p n × (2 ^ 64 ≤ n) × (a ≡ AllocationTooLarge (2 ^ 32 - 1)))
+    → StopsWalk p.message (place ∷ []) p.level p.limit b ⊎ ((n : ℕ) × Measures p n × (2 ^ 64 ≤ n) × (b ≡ AllocationTooLarge (2 ^ 32 - 1)))
+    → a ≡ b
+one_way_to_stop p place a b e (inl stops) (inl others) = one_stop p.message (place ∷ []) p.level p.limit a b stops others
+one_way_to_stop p place a b e (inl stops) (inr large) = absurd (stops_unmeasured p place large.0 a e large.1 stops)
+one_way_to_stop p place a b e (inr large) (inl stops) = absurd (stops_unmeasured p place large.0 b e large.1 stops)
+one_way_to_stop p place a b e (inr large) (inr others) = large.3 ∙ sym others.3
+
+one_unmeasured : (p : Pointer) (a b : ErrorKind) → Unmeasured p a → Unmeasured p b → a ≡ b
+one_unmeasured p a b x y =
+    let there = x.1 in
+    let there_too = y.1 in
+    let same : y.0 ≡ x.0 = cc in
+    one_way_to_stop p x.0 a b x.1 x.2
+    (subst (λ (place : Place). StopsWalk p.message (place ∷ []) p.level p.limit b ⊎ ((n : ℕ) × Measures p n × (2 ^ 64 ≤ n) × (b ≡ AllocationTooLarge (2 ^ 32 - 1)))) same y.2)
+
+pub unmeasured_is_err : (p : Pointer) (r : Result MessageSize Error) → MatchResult r (λ size. Measures p size.word_count × (size.cap_count ≡ 0)) (λ e. Unmeasured p e.kind)
+    → IfOk r (λ size. size.word_count < 2 ^ 64) → (kind : ErrorKind) → Unmeasured p kind → IsErrAnd r (λ e. e.kind ≡ kind)
+unmeasured_is_err p (Ok size) found small kind is = absurd (stops_or_measures p is.0 size.word_count kind is.1 found.0 small is.2)
+unmeasured_is_err p (Err e) refused small kind is = one_unmeasured p e.kind kind refused is
