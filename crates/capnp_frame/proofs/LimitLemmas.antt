@@ -30,7 +30,7 @@ RefusesAtStart-table : {gives : Giving} {refuses : Refusing} (rule : Padding) (l
     (kind : ErrorKind) (A : List ℕ → List ℕ → Type 0) (raw left ns behind : List ℕ)
     → (LacksRoom room (table_size (length ns)) → ⊥) → (sent : TableStands rule gives ns raw behind) → 0 < length ns → length ns < 512
     → Unless (IsTooLarge ns limit) (StopsBy (MessageTooLarge (sum ns)) kind behind left)
-        (Unless (BreaksPadding rule (sent.first ++ sent.others) ns) (StopsBy NonZeroPadding kind behind left) (A ns behind))
+    (Unless (BreaksPadding rule (sent.first ++ sent.others) ns) (StopsBy NonZeroPadding kind behind left) (A ns behind))
     → RefusesAtStart rule gives refuses limit room kind A raw left
 RefusesAtStart-table {gives} {refuses} rule laws limit room kind A raw left ns behind fits sent some few lines =
     let long = laws.gives_all raw 8 sent.first sent.between sent.first_given in
@@ -56,6 +56,8 @@ pub past_limit : {gives : Giving} {refuses : Refusing} (rule : Padding) (laws : 
     (m : List (List ℕ)) (raw rest : List ℕ) → MessageStands rule gives m raw rest → length m < 512 → IsTooLarge (lengths m) limit
     → (left : List ℕ) × RefusesStream rule gives refuses limit None (MessageTooLarge (sum (lengths m))) raw left
 past_limit rule laws limit m raw rest stands few over =
-    let some = stands.table.table.can.some in
-    (stands.between, RefusesAtStart-table rule laws limit None (MessageTooLarge (sum (lengths m))) _ raw stands.between (lengths m) stands.between
-    (λ none. none) stands.table some (omega (arith, length-map m word_count)) (inl (over, (refl, refl))))
+    let some = stands.table.table.can.some in (
+      stands.between,
+      RefusesAtStart-table rule laws limit None (MessageTooLarge (sum (lengths m))) _ raw stands.between (lengths m) stands.between
+          (λ none. none) stands.table some (omega (arith, length-map m word_count)) (inl (over, (refl, refl))),
+    )

@@ -142,7 +142,7 @@ pub stopped_first : {S X : Type 0} (sink : Ghosts S) (old new : S) (piece : List
     → IfKnown (sink.written old) (sink.written new) (Adds (sink.leaves piece)) → (e.kind ≡ DeviceFailed) ⊎ sink.refuses piece e.kind
     → (e.kind ≡ DeviceFailed → Fails (sink.failures old) (sink.failures new)) → Grows sink.written sink.failures sink.same old new
     → WritesTo {X = X} sink old new (AppendsAll sink.appends (piece ∷ others)) (LeavesSome sink.appends sink.leaves (piece ∷ others))
-        (DeclinesSome sink.refuses (piece ∷ others)) (Err e)
+    (DeclinesSome sink.refuses (piece ∷ others)) (Err e)
 stopped_first sink old new piece others e left refused failed grows = record {
   written = tt;
   left = left_more sink.appends sink.leaves (piece ∷ []) others (sink.written old) (sink.written new)

@@ -57,13 +57,13 @@ grants_more first before after words done n used next w os g front rest made (te
       text ++ group_text g,
       PacksTo-more words text done (done + (1 + n)) n w os g front left made to,
       λ behind more packs granted.
-      let group : PacksWords (drop done words) (group_text g ++ behind) =
-      subst (λ l. PacksWords l (group_text g ++ behind)) (sym front) (PacksWords-more w os n g behind made (subst (λ l. PacksWords l behind) (sym left) packs)) in
-      let both : length (group_text g ++ behind) ≡ length (group_text g) + length behind = length-append (group_text g) behind in
-      let text_both : length (text ++ group_text g) ≡ length text + length (group_text g) = length-append text (group_text g) in
-      let asked : length (text ++ group_text g) + (length behind + more) ≡ length text + (length (group_text g ++ behind) + more) = omega (arith, both, text_both) in
-      let given : used + (length (group_text g ++ behind) + more) ≡ used + (length (group_text g) + (length behind + more)) = omega (arith, both) in
-      step g n (length behind + more) made (subst before given (grants (group_text g ++ behind) more group (subst first asked granted))),
+          let group : PacksWords (drop done words) (group_text g ++ behind) =
+          subst (λ l. PacksWords l (group_text g ++ behind)) (sym front) (PacksWords-more w os n g behind made (subst (λ l. PacksWords l behind) (sym left) packs)) in
+          let both : length (group_text g ++ behind) ≡ length (group_text g) + length behind = length-append (group_text g) behind in
+          let text_both : length (text ++ group_text g) ≡ length text + length (group_text g) = length-append text (group_text g) in
+          let asked : length (text ++ group_text g) + (length behind + more) ≡ length text + (length (group_text g ++ behind) + more) = omega (arith, both, text_both) in
+          let given : used + (length (group_text g ++ behind) + more) ≡ used + (length (group_text g) + (length behind + more)) = omega (arith, both) in
+          step g n (length behind + more) made (subst before given (grants (group_text g ++ behind) more group (subst first asked granted))),
     )
 
 -- so the next group is granted

@@ -72,9 +72,11 @@ left_words appends leaves count old pushed flat others a b c run push all handed
     let words = concat (take count others) in
     let is : words ≡ flat = concat_is (take count others) ∙ sym all in
     let whole : old ++ count ∷ words ≡ (pushed ++ []) ++ words =
-    sym (append_assoc old (count ∷ []) words) ∙ ap (λ l. l ++ words) (sym push ∙ sym (append-nil pushed)) in
-    (old ++ count ∷ words, (count, run, refl),
-    left_after_handed appends leaves pushed [] [] words (old ++ count ∷ words) a b c whole handed (left_piece appends leaves words flat b c is left))
+    sym (append_assoc old (count ∷ []) words) ∙ ap (λ l. l ++ words) (sym push ∙ sym (append-nil pushed)) in (
+      old ++ count ∷ words,
+      (count, run, refl),
+      left_after_handed appends leaves pushed [] [] words (old ++ count ∷ words) a b c whole handed (left_piece appends leaves words flat b c is left),
+    )
 
 -- A group
 
@@ -83,9 +85,11 @@ pub left_room : (appends : Appending) (leaves : Leaving) (word : List ℕ) (os :
     → IsWord word → AllByRecursion IsWord os → text ≡ old → IfKnown a b (Adds (LeavesParts appends leaves text))
     → (whole : List ℕ) × GroupAfter old word os whole × IfKnown a b (Adds (LeavesParts appends leaves whole))
 left_room appends leaves word os old text a b is all same left =
-    let (count, (group, made)) = IsGroupOf-some word os is all in
-    (old ++ group_text group, (count, group, made, refl),
-    left_longer appends leaves text (group_text group) (old ++ group_text group) a b (ap (λ l. l ++ group_text group) (sym same)) left)
+    let (count, (group, made)) = IsGroupOf-some word os is all in (
+      old ++ group_text group,
+      (count, group, made, refl),
+      left_longer appends leaves text (group_text group) (old ++ group_text group) a b (ap (λ l. l ++ group_text group) (sym same)) left,
+    )
 
 -- it is one of words that go as they stand
 pub left_literal : (appends : Appending) (leaves : Leaving) (word : List ℕ) (os : List (List ℕ)) (old roomy filled : List ℕ) (a b c : Option (List ℕ))
@@ -97,11 +101,13 @@ left_literal appends leaves word os old roomy filled a b c is all full fill room
     let long : length further ≡ count = length-take-le count os run.within in
     let group = literal word further in
     let text_is : text ≡ roomy ++ group_text group = spelled ∙ ap (λ k. filled ++ k ∷ concat further) (sym long)
-    ∙ ap (λ l. l ++ length further ∷ concat further) fill ∙ append_assoc roomy (255 ∷ word) (length further ∷ concat further) in
-    (old ++ group_text group, (count, group, IsGroupOf-literal word os count is all full run, refl),
-    left_after_handed appends leaves old [] roomy (group_text group) (old ++ group_text group) a b c
-    (ap (λ l. l ++ group_text group) (sym (append-nil old))) roomed
-    (subst (λ l. IfKnown b c (Adds (LeavesParts appends leaves l))) text_is left))
+    ∙ ap (λ l. l ++ length further ∷ concat further) fill ∙ append_assoc roomy (255 ∷ word) (length further ∷ concat further) in (
+      old ++ group_text group,
+      (count, group, IsGroupOf-literal word os count is all full run, refl),
+      left_after_handed appends leaves old [] roomy (group_text group) (old ++ group_text group) a b c
+          (ap (λ l. l ++ group_text group) (sym (append-nil old))) roomed
+          (subst (λ l. IfKnown b c (Adds (LeavesParts appends leaves l))) text_is left),
+    )
 
 -- A piece
 

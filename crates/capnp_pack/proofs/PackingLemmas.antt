@@ -52,12 +52,11 @@ made_zeros appends word os count tag old roomy filled new a b is tagged_by none 
 pub made_tagged : (appends : Appending) (word : List ℕ) (os : List (List ℕ)) (tag : ℕ) (old roomy new : List ℕ) (a b : Option (List ℕ)) →
     IsWord word → tag ≡ tag_of word → 0 < tag → tag < 255 → new ≡ roomy ++ tag ∷ nonzero word → IfKnown a b (Hands appends old [] roomy) →
     (g : Group) × IsGroupOf word os 0 g × IfKnown a b (Hands appends old (group_text g) new)
-made_tagged appends word os tag old roomy new a b is tagged_by some low fill roomed =
-    (
-      tagged (tag_of word) word,
-      IsGroupOf-tagged word os is (omega arith) (omega arith),
-      buffered appends old roomy new (tag_of word ∷ marked (tag_of word) word) a b (tagged_front word tag roomy new tagged_by fill) roomed,
-    )
+made_tagged appends word os tag old roomy new a b is tagged_by some low fill roomed = (
+  tagged (tag_of word) word,
+  IsGroupOf-tagged word os is (omega arith) (omega arith),
+  buffered appends old roomy new (tag_of word ∷ marked (tag_of word) word) a b (tagged_front word tag roomy new tagged_by fill) roomed,
+)
 
 -- the tag of a word that goes as it stands, and the word
 pub literal_front : (word : List ℕ) (tag : ℕ) (roomy filled : List ℕ) → IsWord word → tag ≡ tag_of word → tag ≡ 255
