@@ -1,7 +1,7 @@
 -- What a packer hands on to a sink that grants its text.
-use Rattle.std.proofs.Common.{◌≡◌, ℕ, ◌+◌, ◌≤◌, List, [], ◌∷◌, ◌++◌, length, take, drop, refl, sym, ap, ◌∙◌, subst, arith, length-append}
+use Rattle.std.proofs.Common.{◌≡◌, ℕ, ◌+◌, ◌<◌, ◌≤◌, List, [], ◌∷◌, ◌++◌, length, take, drop, refl, sym, ap, ◌∙◌, subst, arith, length-append}
 use Rattle.std.specs.List.{concat, flat_map, AllByRecursion}
-use Rattle.std.proofs.lemmas.List.{drop_all, drop-drop}
+use Rattle.std.proofs.lemmas.List.{drop_all, drop-drop, length-take-le}
 use Rattle.std.proofs.lemmas.List.Concat.{concat_is}
 use Rattle.capnp_pack.specs.Group.{Group, literal, IsWord, group_text}
 use Rattle.capnp_pack.specs.Packed.{Packs}
@@ -18,25 +18,35 @@ pub run_flat : (count words : ℕ) (flat : List ℕ) (os : List (List ℕ)) → 
 run_flat count words flat os run own all =
     ap (λ k. length (concat (take k os))) (IsRun-once HasFewZeros os count words run own) ∙ ap length (concat_is (take words os) ∙ sym all)
 
--- a buffer with a group after what it held
-pub group_counted : (word : List ℕ) (os : List (List ℕ)) (n count start used : ℕ) (own made : Group) (roomy new : List ℕ) → length roomy ≡ start → length new ≡ used
-    → new ≡ roomy ++ group_text own → IsGroupOf word os n own → IsGroupOf word os count made → used ≡ start + length (group_text made)
-group_counted word os n count start used own made roomy new begun ended is mine theirs =
+-- a buffer of 64 bytes with a group after what it held: what was granted for the group is, for what it holds now
+pub group_granted : (grants : ℕ → Type 0) (word : List ℕ) (os : List (List ℕ)) (n count more start used : ℕ) (own made : Group) (old new : List ℕ)
+    → length old ≡ 64 → length new ≡ 64 → start ≤ 54 → used ≤ 64 → take used new ≡ take start old ++ group_text own → IsGroupOf word os n own
+    → IsGroupOf word os count made → grants (start + (length (group_text made) + more)) → grants (used + more)
+group_granted grants word os n count more start used own made old new old_long new_long room within is mine theirs =
     let same = (IsGroupOf-once word os n count own made mine theirs).1 in
-    sym ended ∙ ap length is ∙ length-append roomy (group_text own) ∙ ap (λ k. k + length (group_text own)) begun ∙ ap (λ g. start + length (group_text g)) same
+    let whole : length (take used new) ≡ length (take start old) + length (group_text own) = ap length is ∙ length-append (take start old) (group_text own) in
+    let begun : length (take start old) ≡ start = length-take-le start old (omega (arith, old_long)) in
+    let ended : length (take used new) ≡ used = length-take-le used new (omega (arith, new_long)) in
+    let both : start + (length (group_text own) + more) ≡ used + more = omega (arith, whole, begun, ended) in
+    subst grants (ap (λ g. start + (length (group_text g) + more)) (sym same) ∙ both)
 
--- and one of words that go as they stand, up to its count
-pub literal_counted : (word : List ℕ) (os : List (List ℕ)) (count start end : ℕ) (made : Group) (roomy filled : List ℕ) → IsWord word → AllByRecursion IsWord os → tag_of word ≡ 255
-    → length roomy ≡ start → length filled ≡ end → filled ≡ roomy ++ 255 ∷ word → IsGroupOf word os count made
-    → (k : ℕ) × IsRun HasFewZeros os k × (start + length (group_text made) ≡ end + (1 + length (concat (take k os))))
-literal_counted word os count start end made roomy filled is all full begun ended fill theirs =
+-- and one of words that go as they stand: it is granted for what it holds with the count and the words
+pub literal_granted : (grants : ℕ → Type 0) (word : List ℕ) (os : List (List ℕ)) (count more start end : ℕ) (made : Group) (old new : List ℕ)
+    → IsWord word → AllByRecursion IsWord os → tag_of word ≡ 255 → length old ≡ 64 → length new ≡ 64 → start ≤ 54 → end < 64
+    → take end new ≡ take start old ++ 255 ∷ word → IsGroupOf word os count made → grants (start + (length (group_text made) + more))
+    → (k : ℕ) × IsRun HasFewZeros os k × grants (end + (1 + (length (concat (take k os)) + more)))
+literal_granted grants word os count more start end made old new is all full old_long new_long room within fill theirs granted =
     let run : (k : ℕ) × IsRun HasFewZeros os k = IsRun-some HasFewZeros few_or_not os in
-    let own = literal word (take run.0 os) in
+    let further = take run.0 os in
+    let own = literal word further in
     let same : own ≡ made = (IsGroupOf-once word os run.0 count own made (IsGroupOf-literal word os run.0 is all full run.1) theirs).1 in
-    let head : length filled ≡ length roomy + length (255 ∷ word) = ap length fill ∙ length-append roomy (255 ∷ word) in
-    let text : length (group_text own) ≡ length (255 ∷ word) + length (length (take run.0 os) ∷ concat (take run.0 os)) =
-    length-append (255 ∷ word) (length (take run.0 os) ∷ concat (take run.0 os)) in
-    (run.0, run.1, ap (λ g. start + length (group_text g)) (sym same) ∙ omega (arith, head, text, begun, ended))
+    let head : length (take end new) ≡ length (take start old) + length (255 ∷ word) = ap length fill ∙ length-append (take start old) (255 ∷ word) in
+    let text : length (group_text own) ≡ length (255 ∷ word) + length (length further ∷ concat further) =
+    length-append (255 ∷ word) (length further ∷ concat further) in
+    let begun : length (take start old) ≡ start = length-take-le start old (omega (arith, old_long)) in
+    let ended : length (take end new) ≡ end = length-take-le end new (omega (arith, new_long)) in
+    let both : start + (length (group_text own) + more) ≡ end + (1 + (length (concat further) + more)) = omega (arith, head, text, begun, ended) in
+    (run.0, run.1, subst grants (ap (λ g. start + (length (group_text g) + more)) (sym same) ∙ both) granted)
 
 -- what is granted at first is, less what is handed on, granted for what the buffer holds and the rest of the text
 abbrev pub GrantsRest : (ℕ → Type 0) → (ℕ → Type 0) → List (List ℕ) → List (List ℕ) → ℕ → Type 0

@@ -1,13 +1,11 @@
 -- The tag says which group it is.
-use Rattle.std.proofs.Common.{rules, arith, length, take, ◌≡◌, ◌+◌, ◌<◌, sym, ◌∙◌, subst}
+use Rattle.std.proofs.Common.{rules, arith, length, take, ◌≡◌, ◌+◌, ◌<◌, sym, ◌∙◌}
 use Rattle.capnp_pack.proofs.PackingLemmas.{made_zeros, made_tagged, made_literal, zeros_front, tagged_front, literal_front, run_of_none}
 use Rattle.capnp_pack.proofs.CallLemmas.{hands_after}
 use Rattle.capnp_pack.proofs.Chunks.{each_word}
-use Rattle.capnp_pack.proofs.GrantingLemmas.{group_counted, literal_counted}
+use Rattle.capnp_pack.proofs.GrantingLemmas.{group_granted, literal_granted}
 use Rattle.capnp_pack.proofs.PackerGroups.{IsGroupOf-zeros, IsGroupOf-tagged}
 use Rattle.capnp_pack.specs.Group.{group_text}
-use Rattle.std.specs.List.{concat}
-use Rattle.std.proofs.lemmas.List.{length-take-le}
 use Rattle.capnp_pack.proofs.LeavingLemmas.{left_room, left_literal}
 use Rattle.capnp_pack.specs.Steps.{tag_of}
 use Rattle.std.proofs.lemmas.Result.{err_from_is_err_and}
@@ -83,17 +81,11 @@ pub returns-then-tag-clause-granted : goal.returns-then-tag-clause-granted
 returns-then-tag-clause-granted g c group count more made granted =
     let is : length c.args.word.now ≡ 8 = search rules in
     let full : tag_of c.args.word.now ≡ 255 = search rules in
-    let room = c.in_ok-start.ensures.room in
-    let roomy : length (take c.in_ok-start.start c.args.bytes.now) ≡ c.in_ok-start.start = length-take-le _ _ (omega (arith, room, c.told-bytes)) in
-    let end = c.push_word-end.ensures.room in
-    let filled : length (take c.push_word-end.result c.push_word-end.new.bytes) ≡ c.push_word-end.result =
-    length-take-le _ _ (omega (arith, end, c.push_word-end.array_long)) in
-    let (k, run, same) = literal_counted c.args.word.now c.args.others.now count _ _ group _ _ is (each_word c.args.others.now c.told-others) full roomy filled
-    (literal_front _ c.tag-tag.result _ _ is c.tag-tag.ensures (search rules) c.push_word-end.ensures.word) made in
-    let words = length (concat (take k c.args.others.now)) in
-    let start = c.in_ok-start.ensures.granted (length (group_text group) + more) granted in
-    let sum : c.in_ok-start.start + (length (group_text group) + more) ≡ c.push_word-end.result + (1 + (words + more)) = omega (arith, same) in
-    c.pack_literal.ensures.granted k more run (subst (g.W.Write.grants _) sum start)
+    let front = literal_front _ c.tag-tag.result _ _ is c.tag-tag.ensures (search rules) c.push_word-end.ensures.word in
+    let (k, run, left) = literal_granted (g.W.Write.grants c.make_room.new.sink) c.args.word.now c.args.others.now count more _ _ group _ _ is
+    (each_word c.args.others.now c.told-others) full c.told-bytes c.push_word-end.array_long c.in_ok-start.ensures.room c.push_word-end.ensures.room front made
+    (c.in_ok-start.ensures.granted (length (group_text group) + more) granted) in
+    c.pack_literal.ensures.granted k more run left
 
 pub returns-then-tag-first_mark-eq0-clause-granted : goal.returns-then-tag-first_mark-eq0-clause-granted
 returns-then-tag-first_mark-eq0-clause-granted g c group count more made granted =
@@ -101,14 +93,8 @@ returns-then-tag-first_mark-eq0-clause-granted g c group count more made granted
     let none : c.tag-tag.result ≡ 0 = omega arith in
     let front = zeros_front _ _ c.tag-tag.result _ _ _ is c.tag-tag.ensures none c.push_word-end.ensures.word c.pack_zeros.ensures.counted in
     let own = IsGroupOf-zeros c.args.word.now c.args.others.now _ is (sym c.tag-tag.ensures ∙ none) c.pack_zeros.ensures.run in
-    let room = c.in_ok-start.ensures.room in
-    let roomy : length (take c.in_ok-start.start c.args.bytes.now) ≡ c.in_ok-start.start = length-take-le _ _ (omega (arith, room, c.told-bytes)) in
-    let used = c.pack_zeros.ensures.used in
-    let filled : length (take c.pack_zeros.result.used c.pack_zeros.new.bytes) ≡ c.pack_zeros.result.used =
-    length-take-le _ _ (omega (arith, used, c.pack_zeros.array_long)) in
-    let counted = group_counted c.args.word.now c.args.others.now _ count _ _ _ group _ _ roomy filled front own made in
-    let sum : c.in_ok-start.start + (length (group_text group) + more) ≡ c.pack_zeros.result.used + more = omega (arith, counted) in
-    subst (g.W.Write.grants _) sum (c.in_ok-start.ensures.granted (length (group_text group) + more) granted)
+    group_granted (g.W.Write.grants c.make_room.new.sink) c.args.word.now c.args.others.now _ count more _ _ _ group _ _ c.told-bytes c.pack_zeros.array_long
+    c.in_ok-start.ensures.room c.pack_zeros.ensures.used front own made (c.in_ok-start.ensures.granted (length (group_text group) + more) granted)
 
 pub returns-then-tag-eq0-clause-granted : goal.returns-then-tag-eq0-clause-granted
 returns-then-tag-eq0-clause-granted g c group count more made granted =
@@ -117,27 +103,15 @@ returns-then-tag-eq0-clause-granted g c group count more made granted =
     let some : 0 < c.first_mark.result = omega (arith, none) in
     let front = zeros_front _ _ c.tag-tag.result _ _ _ is c.tag-tag.ensures none c.push_word-end.ensures.word c.push_word-end.ensures.zero in
     let own = IsGroupOf-zeros c.args.word.now c.args.others.now 0 is (sym c.tag-tag.ensures ∙ none) (run_of_none c.args.others.now (c.first_mark.ensures some)) in
-    let room = c.in_ok-start.ensures.room in
-    let roomy : length (take c.in_ok-start.start c.args.bytes.now) ≡ c.in_ok-start.start = length-take-le _ _ (omega (arith, room, c.told-bytes)) in
     let end = c.push_word-end.ensures.room in
-    let filled : length (take (c.push_word-end.result + 1) c.push_word-end.new.bytes) ≡ c.push_word-end.result + 1 =
-    length-take-le _ _ (omega (arith, end, c.push_word-end.array_long)) in
-    let counted = group_counted c.args.word.now c.args.others.now 0 count _ _ _ group _ _ roomy filled front own made in
-    let sum : c.in_ok-start.start + (length (group_text group) + more) ≡ c.push_word-end.result + 1 + more = omega (arith, counted) in
-    subst (g.W.Write.grants _) sum (c.in_ok-start.ensures.granted (length (group_text group) + more) granted)
+    group_granted (g.W.Write.grants c.make_room.new.sink) c.args.word.now c.args.others.now 0 count more _ _ _ group _ _ c.told-bytes c.push_word-end.array_long
+    c.in_ok-start.ensures.room (omega (arith, end)) front own made (c.in_ok-start.ensures.granted (length (group_text group) + more) granted)
 
 pub returns-else-tag-eq0-clause-granted : goal.returns-else-tag-eq0-clause-granted
 returns-else-tag-eq0-clause-granted g c group count more made granted =
     let is : length c.args.word.now ≡ 8 = search rules in
-    let some : 0 < tag_of c.args.word.now = search rules in
-    let low : tag_of c.args.word.now < 255 = search rules in
     let front = tagged_front _ c.tag-tag.result _ _ c.tag-tag.ensures c.push_word-end.ensures.word in
-    let own = IsGroupOf-tagged c.args.word.now c.args.others.now is some low in
-    let room = c.in_ok-start.ensures.room in
-    let roomy : length (take c.in_ok-start.start c.args.bytes.now) ≡ c.in_ok-start.start = length-take-le _ _ (omega (arith, room, c.told-bytes)) in
+    let own = IsGroupOf-tagged c.args.word.now c.args.others.now is (search rules) (search rules) in
     let end = c.push_word-end.ensures.room in
-    let filled : length (take c.push_word-end.result c.push_word-end.new.bytes) ≡ c.push_word-end.result =
-    length-take-le _ _ (omega (arith, end, c.push_word-end.array_long)) in
-    let counted = group_counted c.args.word.now c.args.others.now 0 count _ _ _ group _ _ roomy filled front own made in
-    let sum : c.in_ok-start.start + (length (group_text group) + more) ≡ c.push_word-end.result + more = omega (arith, counted) in
-    subst (g.W.Write.grants _) sum (c.in_ok-start.ensures.granted (length (group_text group) + more) granted)
+    group_granted (g.W.Write.grants c.make_room.new.sink) c.args.word.now c.args.others.now 0 count more _ _ _ group _ _ c.told-bytes c.push_word-end.array_long
+    c.in_ok-start.ensures.room (omega (arith, end)) front own made (c.in_ok-start.ensures.granted (length (group_text group) + more) granted)
