@@ -28,11 +28,14 @@ fault_here raw n kind some fault =
     let same : n ≡ n - 0 = omega arith in
     record { groups = []; each = tt; left = raw; spelled = refl; fewer = some; fault = subst (λ k. IsFault raw k kind) same fault }
 
+-- how many bytes a run of zero words has
+pub zeros_size : (more : ℕ) → group_size (zeros more) ≡ 8 * suc more
+zeros_size more = ap length (concat-zeros (suc more)) ∙ length-replicate (8 * suc more) 0
+
 -- a run that is longer than what is asked
 pub long_run : (more n : ℕ) (left : List ℕ) → more < 256 → 0 < n → n < 8 * (more + 1) → MeetsFault (0 ∷ more ∷ left) n PackedInputDidNotEndCleanlyOnASegmentBoundary
 long_run more n left fits some long =
-    let size : group_size (zeros more) ≡ 8 * suc more = ap length (concat-zeros (suc more)) ∙ length-replicate (8 * suc more) 0 in
-    fault_here (0 ∷ more ∷ left) n _ some (inr (inl (record { group = zeros more; behind = left; head = record { is = fits; spelled = refl }; long = omega (arith, size) }, refl)))
+    fault_here (0 ∷ more ∷ left) n _ some (inr (inl (record { group = zeros more; behind = left; head = record { is = fits; spelled = refl }; long = omega (arith, zeros_size more) }, refl)))
 
 pub run_refused : (n more : ℕ) (old mid : Option (List ℕ)) → 0 < n → more < 256 → n < 8 * (more + 1) →
     IfKnown old mid (λ raw left. raw ≡ more ∷ left) → IsRefused (FaultBehind 0) n old PackedInputDidNotEndCleanlyOnASegmentBoundary
@@ -68,7 +71,7 @@ literal_cut bytes n some short =
     ))
 
 -- its count is larger than what is asked, or its run is cut
-literal_head : (word left : List ℕ) (count : ℕ) → length word ≡ 8 → count < 256 → IsHeadAt (literal word (replicate count zero_word)) (255 ∷ word ++ count ∷ left) left
+pub literal_head : (word left : List ℕ) (count : ℕ) → length word ≡ 8 → count < 256 → IsHeadAt (literal word (replicate count zero_word)) (255 ∷ word ++ count ∷ left) left
 literal_head word left count whole fits =
     let same : length (replicate count zero_word) ≡ count = length-replicate count zero_word in
     record {
@@ -76,7 +79,7 @@ literal_head word left count whole fits =
       spelled = ap (λ l. 255 ∷ l) (ap (λ k. word ++ k ∷ left) (sym same) ∙ sym (append_assoc word (length (replicate count zero_word) ∷ []) left));
     }
 
-literal_size : (word : List ℕ) (count : ℕ) → length word ≡ 8 → group_size (literal word (replicate count zero_word)) ≡ 8 * (count + 1)
+pub literal_size : (word : List ℕ) (count : ℕ) → length word ≡ 8 → group_size (literal word (replicate count zero_word)) ≡ 8 * (count + 1)
 literal_size word count whole = omega (arith, length-append word (concat (replicate count zero_word)), ap length (concat-zeros count), length-replicate {A = ℕ} (8 * count) 0)
 
 pub literal_long : (word left : List ℕ) (count n : ℕ) → 0 < n → length word ≡ 8 → count < 256 → n < 8 * (count + 1) →

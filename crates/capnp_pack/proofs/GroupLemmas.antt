@@ -10,6 +10,7 @@ use Rattle.capnp_pack.specs.Group.{Group, zeros, IsGroup, zero_word, group_text,
 use Rattle.capnp_pack.specs.Piece.{text_of, words_of_groups}
 use Rattle.capnp_pack.specs.PackedSource.{Unpacks, MeetsFault}
 use Rattle.capnp_pack.specs.Steps.{GroupAt, TakesGroups}
+use Rattle.capnp_pack.proofs.TakenLemmas.{group_taken}
 use Rattle.capnp_pack.specs.UnpackingLaws.{group_len, same_group}
 use Rattle.capnp_pack.specs.RefusingLaws.{fault_later, fault_behind}
 
@@ -85,6 +86,7 @@ group_found tag at count buffer old mid new same within tagged_by group =
       within.1,
       within.2,
       some_unread tag old mid tagged_by,
+      group_taken tag count buffer old mid new within.1 tagged_by (subst (λ t. IfKnown mid new (GroupAt t (take count buffer))) (sym same) group),
       AnswersPart-group (length buffer) tag (take count buffer) old mid new (subst (λ k. k ≤ length buffer) (sym part) within.1) tagged_by
           (subst (λ t. IfKnown mid new (GroupAt t (take count buffer))) (sym same) group),
     )

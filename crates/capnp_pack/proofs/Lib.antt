@@ -13,6 +13,8 @@ pub mod MarkLemmas
 pub mod RunFaults
 pub mod StoredLemmas
 pub mod LaneLemmas
+pub mod TakenLemmas
+pub mod OverrunLemmas
 pub mod LeavingLemmas
 pub mod GrantingLemmas
 pub mod TagLemmas

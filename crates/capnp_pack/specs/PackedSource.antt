@@ -1,10 +1,11 @@
 -- Which packed request is given, and which is refused and by which kind.
-use Rattle.std.specs.Prelude.{◌≡◌, ◌≢◌, ℕ, ◌-◌, ◌%◌, ◌<◌, ◌≤◌, ◌⊎◌, List, [], ◌∷◌, ◌++◌, length}
+use Rattle.std.specs.Prelude.{◌≡◌, ◌≢◌, ℕ, ◌+◌, ◌-◌, ◌%◌, ◌<◌, ◌≤◌, ◌⊎◌, List, [], ◌∷◌, ◌++◌, length, Option, Result, IfErr}
 use Rattle.std.specs.List.{concat, AllByRecursion}
+use Rattle.capnp_frame.specs.declared.error.Error.{Error}
 use Rattle.capnp_frame.specs.declared.error.ErrorKind.{ErrorKind}
 use Rattle.capnp_frame.specs.declared.error.ErrorKind.TheVariants.{FailedToFillTheWholeBuffer, PrematureEndOfPackedInput, PackedInputDidNotEndCleanlyOnASegmentBoundary, NotWholeWords}
 use Rattle.capnp_frame.specs.Refusals.{Unless}
-use Rattle.capnp_frame.specs.Source.{Giving, Refusing}
+use Rattle.capnp_frame.specs.Source.{Giving, Refusing, IfKnown}
 use Rattle.capnp_pack.specs.Group.{Group, tagged, zeros, literal, IsGroup, group_words, marked}
 use Rattle.capnp_pack.specs.Piece.{IsPiece, text_of, words_of_groups}
 
@@ -69,6 +70,21 @@ pub record MeetsFault (raw : List ℕ) (n : ℕ) (kind : ErrorKind) : Type 0 whe
   pub spelled : raw ≡ text_of groups ++ left
   pub fewer : length (concat (words_of_groups groups)) < n
   pub fault : IsFault left (n - length (concat (words_of_groups groups))) kind
+
+-- Where a count is larger than what is still asked of n bytes, the groups before it and the head of its group are consumed,
+-- and no more.
+pub record LeavesOverrun (n : ℕ) (raw left : List ℕ) : Type 0 where
+  pub groups : List Group
+  pub each : AllByRecursion IsGroup groups
+  pub fewer : length (concat (words_of_groups groups)) < n
+  pub group : Group
+  pub is : IsGroup group
+  pub long : n < length (concat (words_of_groups groups)) + group_size group
+  pub spelled : raw ≡ text_of groups ++ (head_text group ++ left)
+
+-- where a call fails by such a count, this holds of what was unread before it and after it
+abbrev pub Overran : {X : Type 0} → Result X Error → Option (List ℕ) → Option (List ℕ) → (List ℕ → List ℕ → Type 0) → Type 0
+Overran result old new leaves = IfErr result (λ error. error.kind ≡ PackedInputDidNotEndCleanlyOnASegmentBoundary → IfKnown old new leaves)
 
 -- a packed request is refused: the lines of the table of a piece (docs/REFUSALS.md)
 abbrev pub RefusesPiece : Refusing

@@ -6,9 +6,9 @@ use Rattle.capnp_frame.specs.declared.error.ErrorKind.TheVariants.{PrematureEndO
 use Rattle.capnp_frame.specs.Sink.{Appending, Leaving, AppendsAll, LeavesSome}
 use Rattle.capnp_frame.specs.Source.{Refusing, RunsShort, IfKnown, AnswersPart}
 use Rattle.capnp_pack.specs.Group.{Group, IsGroup, AreZero, group_text, group_words, marked, unmarked, zero_bytes, zero_word}
-use Rattle.capnp_pack.specs.Piece.{IsPiece}
+use Rattle.capnp_pack.specs.Piece.{IsPiece, text_of, words_of_groups}
 use Rattle.capnp_pack.specs.Packed.{IfFirst, IsLongest}
-use Rattle.capnp_pack.specs.PackedSource.{Unpacks, MeetsFault}
+use Rattle.capnp_pack.specs.PackedSource.{Unpacks, MeetsFault, head_text, group_size}
 
 -- Reading
 
@@ -63,11 +63,25 @@ pub record Unpacked (text buffer : List ℕ) (used filled : ℕ) : Type 0 where
   pub whole : filled % 8 ≡ 0
   pub piece : IsPiece (take used text) (take filled buffer)
 
+-- whole groups, whose words have so many bytes, are taken from the front
+abbrev pub HasTaken : ℕ → List ℕ → List ℕ → Type 0
+HasTaken count raw left = (groups : List Group) × AllByRecursion IsGroup groups × (raw ≡ text_of groups ++ left)
+    × (length (concat (words_of_groups groups)) ≡ count)
+
+-- the head of a group stands at the front, of which the tag is taken, and its words have more than n bytes
+abbrev pub HeadOver : ℕ → ℕ → List ℕ → List ℕ → Type 0
+HeadOver tag n raw left = (group : Group) × IsGroup group × (n < group_size group) × (tag ∷ raw ≡ head_text group ++ left)
+
+-- a count of words stands at the front that have more than n bytes
+abbrev pub CountOver : ℕ → List ℕ → List ℕ → Type 0
+CountOver n raw left = (further : ℕ) × (further < 256) × (n < 8 * further) × (raw ≡ further ∷ left)
+
 -- So many bytes at the front of a buffer are the words of groups, a part of each answer that they
 -- fit into, and something was unread before them.
 abbrev pub TakesGroups : Option (List ℕ) → Option (List ℕ) → List ℕ → ℕ → Type 0
 TakesGroups old new buffer count = (0 < count) × (count ≤ length buffer) × (count % 8 ≡ 0)
     × IfSome old (λ raw. raw ≡ [] → ⊥)
+    × IfKnown old new (HasTaken count)
     × IfKnown old new (AnswersPart Unpacks MeetsFault (length buffer) (take count buffer))
 
 -- Packing

@@ -8,8 +8,8 @@ ghost use Rattle.capnp_frame.specs.Message.{IsWholeWords};
 ghost use Rattle.capnp_frame.specs.Source.{IfKnown, IsRefused, AnswersPart, RunsShort};
 ghost use Rattle.capnp_frame.specs.Asking.{Asked, FailsOr};
 ghost use Rattle.capnp_pack.specs.Calls.{Takes, TakesNext};
-ghost use Rattle.capnp_pack.specs.PackedSource.{Unpacks, MeetsFault, RefusesPiece};
-ghost use Rattle.capnp_pack.specs.Steps.{TakesGroups, GroupAt, FaultBehind, MarkedAt, marked_count, Lacks, RunAt, RefusesRun};
+ghost use Rattle.capnp_pack.specs.PackedSource.{Unpacks, MeetsFault, RefusesPiece, LeavesOverrun, Overran};
+ghost use Rattle.capnp_pack.specs.Steps.{TakesGroups, HeadOver, CountOver, GroupAt, FaultBehind, MarkedAt, marked_count, Lacks, RunAt, RefusesRun};
 
 use crate::unpack::{copy_front, unpack_shown, unpack_tagged};
 use capnp_frame::io::{BufRead, Read};
@@ -28,6 +28,8 @@ pub(crate) fn read_piece<R: BufRead>(source: &mut R, buffer: &mut [u8]) -> Resul
         ErrorKind.FailedToFillTheWholeBuffer) }
     ensures refused { FailsOr result
         (IsRefused RefusesPiece (length buffer.new) (R.unread source.old)) }
+    ensures overrun { Overran result (R.unread source.old) (R.unread source.new)
+        (LeavesOverrun (length buffer.new)) }
     ensures at_end { IfErr result (λ error. R.unread source.old ≡ Some [] →
         error.kind ≡ ErrorKind.DeviceFailed) }
     ensures asked { Asked R.unread R.failures R.same source.old source.new result }
@@ -47,9 +49,11 @@ pub(crate) fn read_piece<R: BufRead>(source: &mut R, buffer: &mut [u8]) -> Resul
 // whole the next one, and answers how many bytes they have, or none at the end.
 fn read_groups<R: BufRead>(source: &mut R, buffer: &mut [u8]) -> Result<Option<usize>>
     requires { 8 ≤ length buffer.old }
-    ensures { TakesNext R.Read source.old source.new
+    ensures takes { TakesNext R.Read source.old source.new
         (TakesGroups (R.unread source.old) (R.unread source.new) buffer.new)
         (IsRefused MeetsFault (length buffer.new) (R.unread source.old)) result }
+    ensures overrun { Overran result (R.unread source.old) (R.unread source.new)
+        (LeavesOverrun (length buffer.new)) }
 {
     let taken = unpack_shown(source.fill_buf()?, buffer);
     if taken.filled == 0 {
@@ -63,9 +67,11 @@ fn read_groups<R: BufRead>(source: &mut R, buffer: &mut [u8]) -> Result<Option<u
 // at the end. One byte is looked at at a time.
 fn read_group<R: BufRead>(source: &mut R, buffer: &mut [u8]) -> Result<Option<usize>>
     requires { 8 ≤ length buffer.old }
-    ensures { TakesNext R.Read source.old source.new
+    ensures takes { TakesNext R.Read source.old source.new
         (TakesGroups (R.unread source.old) (R.unread source.new) buffer.new)
         (IsRefused MeetsFault (length buffer.new) (R.unread source.old)) result }
+    ensures overrun { Overran result (R.unread source.old) (R.unread source.new)
+        (LeavesOverrun (length buffer.new)) }
 {
     let Some(tag) = next_byte(source)? else {
         return Ok(None);
@@ -85,6 +91,8 @@ fn read_zeros<R: BufRead>(source: &mut R, buffer: &mut [u8]) -> Result<usize>
     ensures takes { Takes R.Read source.old source.new (λ count.
         IfKnown (R.unread source.old) (R.unread source.new) (GroupAt 0 (take count buffer.new)))
         (IsRefused (FaultBehind 0) (length buffer.new) (R.unread source.old)) result }
+    ensures overrun { Overran result (R.unread source.old) (R.unread source.new)
+        (HeadOver 0 (length buffer.new)) }
 {
     let Some(further) = next_byte(source)? else {
         return Err(Error::from_kind(ErrorKind::PrematureEndOfPackedInput));
@@ -106,6 +114,8 @@ fn read_words<R: BufRead>(source: &mut R, tag: u8, buffer: &mut [u8]) -> Result<
     ensures takes { Takes R.Read source.old source.new (λ count.
         IfKnown (R.unread source.old) (R.unread source.new) (GroupAt tag (take count buffer.new)))
         (IsRefused (FaultBehind tag) (length buffer.new) (R.unread source.old)) result }
+    ensures overrun { Overran result (R.unread source.old) (R.unread source.new)
+        (HeadOver tag (length buffer.new)) }
 {
     read_word(source, tag, &mut buffer[..8])?;
     if tag < 255 {
@@ -163,6 +173,8 @@ fn read_run<R: BufRead>(source: &mut R, buffer: &mut [u8]) -> Result<usize>
     ensures takes { Takes R.Read source.old source.new (λ count.
         IfKnown (R.unread source.old) (R.unread source.new) (RunAt (take count buffer.new)))
         (IsRefused RefusesRun (length buffer.new) (R.unread source.old)) result }
+    ensures overrun { Overran result (R.unread source.old) (R.unread source.new)
+        (CountOver (length buffer.new)) }
 {
     let further = required_byte(source)?;
     let count = 8 * further as usize;

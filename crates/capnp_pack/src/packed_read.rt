@@ -5,7 +5,7 @@ ghost use Rattle.std.proofs.Common.{◌∙◌};
 ghost use Rattle.capnp_frame.specs.Message.{IsWholeWords};
 ghost use Rattle.capnp_frame.specs.Source.{IfKnown, AnswersPart, IsRefused, IsPlain, Advances, Fails};
 ghost use Rattle.capnp_frame.specs.declared.error.ErrorKind.{ErrorKind};
-ghost use Rattle.capnp_pack.specs.PackedSource.{Unpacks, RefusesPiece};
+ghost use Rattle.capnp_pack.specs.PackedSource.{Unpacks, RefusesPiece, LeavesOverrun, Overran};
 ghost use Rattle.capnp_pack.specs.RefusingLaws.{unpacking};
 
 use crate::group::read_piece;
@@ -78,6 +78,9 @@ impl<'a, R: BufRead> Read for PackedRead<'a, R> {
         ensures part { (IsWholeWords buffer.old → ⊥) →
             IsErrAnd result (λ error. error.kind ≡ ErrorKind.NotWholeWords)
             × (self.new.source.now ≡ self.old.source.now) × (buffer.new ≡ buffer.old) }
+        // Where a run goes past the end, the groups before it and its head are consumed, and no more.
+        ensures overrun { Overran result (R.unread self.old.source.now) (R.unread self.new.source.now)
+            (LeavesOverrun (length buffer.new)) }
 
         ensures advances { Advances (λ packed. R.unread packed.source.now)
             (λ packed. R.failures packed.source.now)
@@ -107,6 +110,9 @@ impl<'a, R: BufRead> Read for PackedRead<'a, R> {
         ensures part { (IsWholeWords buffer.old → ⊥) →
             IsErrAnd result (λ error. error.kind ≡ ErrorKind.NotWholeWords)
             × (self.new.source.now ≡ self.old.source.now) × (buffer.new ≡ buffer.old) }
+        // Where a run goes past the end, the groups before it and its head are consumed, and no more.
+        ensures overrun { Overran result (R.unread self.old.source.now) (R.unread self.new.source.now)
+            (LeavesOverrun (length buffer.new)) }
 
         ensures advances { Advances (λ packed. R.unread packed.source.now)
             (λ packed. R.failures packed.source.now)

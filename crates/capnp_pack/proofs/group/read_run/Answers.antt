@@ -2,6 +2,8 @@
 use Rattle.std.proofs.Common.{rules, arith}
 use Rattle.std.proofs.lemmas.Grind.{common_steps}
 use Rattle.capnp_pack.proofs.CallLemmas.{takes_passed, takes_err, takes_own, takes_ok}
+use Rattle.capnp_frame.proofs.AskLemmas.{passed_on}
+use Rattle.capnp_pack.proofs.OverrunLemmas.{cut_is_other, short_is_other, count_over}
 use Rattle.capnp_pack.proofs.RunFaults.{count_missing, count_large, run_short}
 use Rattle.capnp_pack.proofs.group.read_run.Goals as goal
 
@@ -23,3 +25,13 @@ returns-in_err-read_stored-clause-takes g c =
 pub returns-clause-takes : goal.returns-clause-takes
 returns-clause-takes g c =
     takes_ok g.R.Read g.met.R.Read.keeps _ _ _ _ _ _ (grind (arith, common_steps)) c.required_byte.ensures.asked.advances c.read_stored.ensures.asked.advances
+
+pub returns-in_err-further-clause-overrun : goal.returns-in_err-further-clause-overrun
+returns-in_err-further-clause-overrun g c = passed_on _ _ c.from_residual.ensures.1 (λ over. absurd (cut_is_other _ _ _ c.in_err-further.ensures.refused over))
+
+pub returns-then-count-buffer-clause-overrun : goal.returns-then-count-buffer-clause-overrun
+returns-then-count-buffer-clause-overrun g c = λ over. count_over _ c.in_ok-further.further _ _ (search rules) (search rules) c.in_ok-further.ensures.found
+
+pub returns-in_err-read_stored-clause-overrun : goal.returns-in_err-read_stored-clause-overrun
+returns-in_err-read_stored-clause-overrun g c =
+    passed_on _ _ c.from_residual-in_err-read_stored.ensures.1 (λ over. absurd (short_is_other _ _ _ c.in_err-read_stored.ensures.refused over))

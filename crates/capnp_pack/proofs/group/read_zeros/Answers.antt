@@ -2,6 +2,8 @@
 use Rattle.std.proofs.Common.{rules, arith, ◌+◌, ◌*◌, refl}
 use Rattle.std.proofs.lemmas.Grind.{common_steps}
 use Rattle.capnp_pack.proofs.CallLemmas.{takes_own}
+use Rattle.capnp_frame.proofs.AskLemmas.{passed_on}
+use Rattle.capnp_pack.proofs.OverrunLemmas.{device_is_other, zeros_over}
 use Rattle.capnp_pack.proofs.FaultLemmas.{run_refused, count_refused}
 use Rattle.capnp_pack.proofs.GroupLemmas.{zeros_found}
 use Rattle.capnp_pack.proofs.group.read_zeros.Goals as goal
@@ -25,3 +27,11 @@ pub returns-in_default-clause-takes : goal.returns-in_default-clause-takes
 returns-in_default-clause-takes g c =
     let none = rw c.in_default.is at c.in_ok-further.ensures.none in
     takes_own g.R.Read _ _ _ _ _ _ c.from_kind.ensures (λ device. cc) (count_refused _ _ (search rules) none) c.next_byte.ensures.asked.advances
+
+pub returns-in_err-further-clause-overrun : goal.returns-in_err-further-clause-overrun
+returns-in_err-further-clause-overrun g c = passed_on _ _ c.from_residual.ensures.1 (λ over. absurd (device_is_other _ c.in_err-further.ensures.refused over))
+
+pub returns-then-count-buffer-clause-overrun : goal.returns-then-count-buffer-clause-overrun
+returns-then-count-buffer-clause-overrun g c =
+    let found = rw c.in-Some.is at c.in_ok-further.ensures.found in
+    λ over. zeros_over _ c.in-Some.further _ _ (search rules) (search rules) found
