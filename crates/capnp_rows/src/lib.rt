@@ -20,6 +20,8 @@ mod no_memory;
 #[cfg(test)]
 mod packed_calls;
 #[cfg(test)]
+mod parts;
+#[cfg(test)]
 mod pieces;
 #[cfg(test)]
 mod sink_faults;
