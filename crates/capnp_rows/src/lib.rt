@@ -10,6 +10,8 @@
 
 pub mod growths;
 #[cfg(test)]
+mod large;
+#[cfg(test)]
 mod lengths;
 pub mod limits;
 #[cfg(test)]
