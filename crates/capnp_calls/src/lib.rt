@@ -17,4 +17,6 @@ pub mod refusals;
 #[cfg(test)]
 mod rows;
 #[cfg(test)]
+mod unlimited_roots;
+#[cfg(test)]
 mod values;

@@ -256,3 +256,21 @@ fn typed(rt: HostRuntime) -> std::result::Result<(), Fail> {
     assert_eq!(rt; fields.get_word(1), 20);
     Ok(())
 }
+
+// What is changed through the message that is lent is the typed one's root.
+#[test]
+fn a_lent_message(rt: HostRuntime) -> std::result::Result<(), Fail> {
+    let mut message: TypedBuilder<any_struct::Owned, HeapAllocator> = TypedBuilder::new_default(
+        rt.alloc(),
+    );
+    let mut fields = message
+        .borrow_inner_mut()
+        .initn_root::<any_struct::Owned>(1)?;
+    if fields.data_words() > 0 {
+        fields.set_word(0, 7);
+    }
+    let words = b"\0\0\0\0\x01\0\0\0\x07\0\0\0\0\0\0\0";
+    assert!(rt; shows(message.borrow_inner(), 0, words));
+    assert_eq!(rt; message.get_root()?.get_word(0), 7);
+    Ok(())
+}

@@ -1,6 +1,7 @@
 //! Worked rows through both formats.
-use capnp::message::{DEFAULT_READER_OPTIONS, Reader, ReaderOptions, ReaderSegments};
-use capnp::{Result, Way, data, serialize, serialize_packed, text, transcode, transcode_lenient};
+use crate::readers::{self, BOTH, END};
+use capnp::message::{DEFAULT_READER_OPTIONS, ReaderOptions, ReaderSegments};
+use capnp::{Way, data, serialize, text, transcode, transcode_lenient};
 use capnp_calls::refusals::refusal;
 use std::test::Fail;
 
@@ -24,114 +25,69 @@ pub const HELLO: [u8; 32] = [
     0x57, 0x6f, 0x72, 0x6c, 0x64, 0x21, 0, 0, 0,
 ];
 
-fn holds_both<S: ReaderSegments>(reader: &Reader<S>) -> bool {
-    let segments = reader.get_segments();
-    segments
-        .get_segment(0)
-        .is_some_and(|first| first.is_empty())
-        && segments
-            .get_segment(1)
-            .is_some_and(|second| second == [1, 2, 3, 4, 5, 6, 7, 8].as_slice())
-        && segments.get_segment(2).is_none()
-}
-
 #[test]
-fn a_message_and_then_the_end(rt: HostRuntime) -> std::result::Result<(), Fail> {
+fn a_message_and_then_the_end(rt: HostRuntime) {
     let mut source = FRAMED.as_slice();
-    let reader = serialize::read_message(rt.alloc(), &mut source, DEFAULT_READER_OPTIONS)?;
-    assert!(rt; holds_both(&reader));
-    let end = serialize::read_message(rt.alloc(), &mut source, DEFAULT_READER_OPTIONS);
-    assert_eq!(rt; refusal(end), 9);
-    let none = serialize::try_read_message(rt.alloc(), &mut source, DEFAULT_READER_OPTIONS)?;
-    assert!(rt; none.is_none());
+    assert_eq!(rt; readers::framed(rt.alloc(), &mut source), BOTH);
+    assert_eq!(rt; readers::framed(rt.alloc(), &mut source), 9);
+    assert_eq!(rt; readers::try_framed(rt.alloc(), &mut source), END);
     let mut source = PACKED.as_slice();
-    let reader = serialize_packed::read_message(rt.alloc(), &mut source, DEFAULT_READER_OPTIONS)?;
-    assert!(rt; holds_both(&reader));
-    let end = serialize_packed::read_message(rt.alloc(), &mut source, DEFAULT_READER_OPTIONS);
-    assert_eq!(rt; refusal(end), 9);
-    let none = serialize_packed::try_read_message(rt.alloc(), &mut source, DEFAULT_READER_OPTIONS)?;
-    assert!(rt; none.is_none());
-    Ok(())
+    assert_eq!(rt; readers::packed(rt.alloc(), &mut source), BOTH);
+    assert_eq!(rt; readers::packed(rt.alloc(), &mut source), 9);
+    assert_eq!(rt; readers::try_packed(rt.alloc(), &mut source), END);
 }
 
 #[test]
-fn a_message_and_then_the_end_lent(rt: HostRuntime) -> std::result::Result<(), Fail> {
+fn a_message_and_then_the_end_lent(rt: HostRuntime) {
     let mut room = [0; 24];
     let mut source = FRAMED.as_slice();
-    let lent = serialize::read_message_no_alloc(&mut source, &mut room, DEFAULT_READER_OPTIONS)?;
-    assert!(rt; holds_both(&lent));
-    let end = serialize::read_message_no_alloc(&mut source, &mut room, DEFAULT_READER_OPTIONS);
-    assert_eq!(rt; refusal(end), 9);
+    assert_eq!(rt; readers::framed_lent(&mut source, &mut room), BOTH);
+    assert_eq!(rt; readers::framed_lent(&mut source, &mut room), 9);
     let mut source = PACKED.as_slice();
-    let lent = serialize_packed::read_message_no_alloc(
-        &mut source,
-        &mut room,
-        DEFAULT_READER_OPTIONS,
-    )?;
-    assert!(rt; holds_both(&lent));
-    let end = serialize_packed::read_message_no_alloc(
-        &mut source,
-        &mut room,
-        DEFAULT_READER_OPTIONS,
-    );
-    assert_eq!(rt; refusal(end), 9);
+    assert_eq!(rt; readers::packed_lent(&mut source, &mut room), BOTH);
+    assert_eq!(rt; readers::packed_lent(&mut source, &mut room), 9);
     let mut little = [0; 23];
     let mut source = PACKED.as_slice();
-    let small = serialize_packed::read_message_no_alloc(
-        &mut source,
-        &mut little,
-        DEFAULT_READER_OPTIONS,
-    );
-    assert_eq!(rt; refusal(small), 2);
-    Ok(())
+    assert_eq!(rt; readers::packed_lent(&mut source, &mut little), 2);
 }
 
 #[test]
-fn a_message_of_any_padding(rt: HostRuntime) -> std::result::Result<(), Fail> {
-    let options = DEFAULT_READER_OPTIONS;
+fn a_message_of_any_padding(rt: HostRuntime) {
     let mut source = PADDED.as_slice();
-    let reader = serialize::read_message_lenient(rt.alloc(), &mut source, options)?;
-    assert!(rt; holds_both(&reader));
-    let end = serialize::try_read_message_lenient(rt.alloc(), &mut source, options)?;
-    assert!(rt; end.is_none());
-    let end = serialize::read_message_lenient(rt.alloc(), &mut source, options);
-    assert_eq!(rt; refusal(end), 9);
+    assert_eq!(rt; readers::framed_lenient(rt.alloc(), &mut source), BOTH);
+    assert_eq!(rt; readers::try_framed_lenient(rt.alloc(), &mut source), END);
+    assert_eq!(rt; readers::framed_lenient(rt.alloc(), &mut source), 9);
     let mut source = PACKED_PADDED.as_slice();
-    let reader = serialize_packed::read_message_lenient(rt.alloc(), &mut source, options)?;
-    assert!(rt; holds_both(&reader));
-    let end = serialize_packed::try_read_message_lenient(rt.alloc(), &mut source, options)?;
-    assert!(rt; end.is_none());
+    assert_eq!(rt; readers::packed_lenient(rt.alloc(), &mut source), BOTH);
+    assert_eq!(rt; readers::try_packed_lenient(rt.alloc(), &mut source), END);
     let mut source = PADDED.as_slice();
-    let refused = serialize::read_message(rt.alloc(), &mut source, options);
-    assert_eq!(rt; refusal(refused), 26);
+    assert_eq!(rt; readers::framed(rt.alloc(), &mut source), 26);
     let mut source = PACKED_PADDED.as_slice();
-    let refused = serialize_packed::read_message(rt.alloc(), &mut source, options);
-    assert_eq!(rt; refusal(refused), 26);
-    Ok(())
+    assert_eq!(rt; readers::packed(rt.alloc(), &mut source), 26);
 }
 
 // In a caller-provided buffer, and in a slice.
 #[test]
-fn a_message_of_any_padding_in_place(rt: HostRuntime) -> std::result::Result<(), Fail> {
-    let options = DEFAULT_READER_OPTIONS;
+fn a_message_of_any_padding_in_place(rt: HostRuntime) {
     let mut room = [0; 24];
     let mut source = PADDED.as_slice();
-    let read = serialize::read_message_no_alloc_lenient(&mut source, &mut room, options)?;
-    assert!(rt; holds_both(&read));
-    let end = serialize::try_read_message_no_alloc_lenient(&mut source, &mut room, options)?;
-    assert!(rt; end.is_none());
+    assert_eq!(rt; readers::framed_lent_lenient(&mut source, &mut room), BOTH);
+    assert_eq!(rt;
+        readers::try_framed_lent_lenient(&mut source, &mut room),
+        END
+    );
     let mut source = PACKED_PADDED.as_slice();
-    let read = serialize_packed::read_message_no_alloc_lenient(&mut source, &mut room, options)?;
-    assert!(rt; holds_both(&read));
-    let end = serialize_packed::try_read_message_no_alloc_lenient(&mut source, &mut room, options)?;
-    assert!(rt; end.is_none());
+    assert_eq!(rt; readers::packed_lent_lenient(&mut source, &mut room), BOTH);
+    assert_eq!(rt;
+        readers::try_packed_lent_lenient(&mut source, &mut room),
+        END
+    );
     let mut slice = PADDED.as_slice();
-    let read = serialize::read_message_from_flat_slice_lenient(rt.alloc(), &mut slice, options)?;
-    assert!(rt; slice.is_empty() && holds_both(&read));
+    assert_eq!(rt; readers::slice_lenient(rt.alloc(), &mut slice), BOTH);
+    assert!(rt; slice.is_empty());
     let mut slice = PADDED.as_slice();
-    let read = serialize::read_message_from_flat_slice_no_alloc_lenient(&mut slice, options)?;
-    assert!(rt; slice.is_empty() && holds_both(&read));
-    Ok(())
+    assert_eq!(rt; readers::slice_lent_lenient(&mut slice), BOTH);
+    assert!(rt; slice.is_empty());
 }
 
 #[test]

@@ -21,6 +21,8 @@ mod large_limits;
 #[cfg(test)]
 mod large_messages;
 #[cfg(test)]
+mod readers;
+#[cfg(test)]
 mod views;
 #[cfg(test)]
 mod walks;

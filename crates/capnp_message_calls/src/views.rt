@@ -98,3 +98,28 @@ fn root_as_any_pointer(rt: HostRuntime) -> std::result::Result<(), Fail> {
     assert_eq!(rt; arena.get_root::<any_pointer::Owned>()?.is_null(), true);
     Ok(())
 }
+
+// A new list of three words at the root, which is then seen as one. Where it is refused, the root is null.
+#[test]
+fn a_new_object_seen_as_what_it_is(rt: HostRuntime) -> std::result::Result<(), Fail> {
+    let mut arena = arena_of(rt.alloc(), 1024);
+    let mut root = arena.get_root::<any_pointer::Owned>()?;
+    root.set_new::<primitive_list::Owned<u64>>(3)?;
+    assert!(rt; !root.is_null());
+    let mut list = root.into_view::<primitive_list::Owned<u64>>();
+    if list.len() > 2 {
+        list.set(2, 9);
+    }
+    assert_eq!(rt; list.len(), 3);
+    assert_eq!(rt; list.get(2), 9);
+    let segment = arena.get_segment(0).ok_or("no segment")?;
+    assert_eq!(rt;
+        segment,
+        b"\x01\0\0\0\x1d\0\0\0\0\0\0\0\0\0\0\0\0\0\0\0\0\0\0\0\x09\0\0\0\0\0\0\0".as_slice()
+    );
+    let mut root = arena.get_root::<any_pointer::Owned>()?;
+    let refused = root.set_new::<any_struct::Owned>(65536);
+    assert_eq!(rt; allocation_refusal(refused), (15, 65536));
+    assert!(rt; root.is_null());
+    Ok(())
+}

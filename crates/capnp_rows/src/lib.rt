@@ -10,6 +10,8 @@
 
 pub mod growths;
 #[cfg(test)]
+mod large;
+#[cfg(test)]
 mod lengths;
 pub mod limits;
 #[cfg(test)]
@@ -19,6 +21,8 @@ pub mod messages;
 mod no_memory;
 #[cfg(test)]
 mod packed_calls;
+#[cfg(test)]
+mod parts;
 #[cfg(test)]
 mod pieces;
 #[cfg(test)]

@@ -1,0 +1,68 @@
+//! Roots of segments that are read without a traversal limit, at any depth.
+use crate::refusals::refusal;
+use capnp_frame::message::SegmentArray;
+use capnp_wire::{any_pointer, text};
+use std::test::Fail;
+
+// "Hello, World!", and "A" behind pads of one and of two words.
+#[rattlefmt::skip]
+const TEXTS: [(&[&[u8]], &[u8]); 3] = [
+    (&[b"\x01\0\0\0\x72\0\0\0Hello, World!\0\0\0"], b"Hello, World!"),
+    (&[b"\x0a\0\0\0\0\0\0\0\x01\0\0\0\x12\0\0\0\x41\0\0\0\0\0\0\0"], b"A"),
+    (&[b"\x06\0\0\0\x01\0\0\0", b"\x02\0\0\0\x02\0\0\0\x01\0\0\0\x12\0\0\0", b"\x41\0\0\0\0\0\0\0"],
+        b"A"),
+];
+
+#[test]
+fn texts_at_the_root(rt: HostRuntime) -> std::result::Result<(), Fail> {
+    for (segments, bytes) in TEXTS {
+        let array = SegmentArray::new(segments);
+        let root = any_pointer::Reader::root_of(&array);
+        assert!(rt; !root.is_null(), "{segments:?}");
+        let found: text::Reader<'_> = root.get_as()?;
+        assert_eq!(rt; found.as_bytes(), bytes, "{segments:?}");
+    }
+    Ok(())
+}
+
+// Segments, and the words of the root's tree, or the refusal's number.
+#[rattlefmt::skip]
+const SIZES: [(&[&[u8]], std::result::Result<u64, u8>); 7] = [
+    // no segment: null
+    (&[], Ok(0)),
+    (&[b"\0\0\0\0\0\0\0\0"], Ok(0)),
+    (&[b""], Err(17)),
+    // 536,870,911 nothings, and 1,073,741,823 structs of no words behind a tag: more than the default limit
+    (&[b"\x01\0\0\0\xf8\xff\xff\xff"], Ok(0)),
+    (&[b"\x01\0\0\0\x07\0\0\0\xfc\xff\xff\xff\0\0\0\0"], Ok(1)),
+    // a capability, and a far pointer to no segment
+    (&[b"\x03\0\0\0\0\0\0\0"], Err(21)),
+    (&[b"\x02\0\0\0\x07\0\0\0"], Err(18)),
+];
+
+#[test]
+fn sizes_without_a_limit(rt: HostRuntime) {
+    for (segments, wanted) in SIZES {
+        let array = SegmentArray::new(segments);
+        let root = any_pointer::Reader::root_of(&array);
+        match root.target_size() {
+            Ok(size) => assert_eq!(rt; Ok(size.word_count), wanted, "{segments:?}"),
+            Err(error) => assert_eq!(rt; Err(error.kind.number()), wanted, "{segments:?}"),
+        }
+    }
+}
+
+// A hundred structs of one pointer, each to the next word's one, and a null pointer in the last: deeper
+// than the 64 that a reader's options allow.
+#[test]
+fn a_tree_deeper_than_the_default(rt: HostRuntime) -> std::result::Result<(), Fail> {
+    let mut words = [[0, 0, 0, 0, 0, 0, 1, 0]; 101];
+    words[100] = [0; 8];
+    let segments = [words.as_flattened()];
+    let array = SegmentArray::new(&segments);
+    let root = any_pointer::Reader::root_of(&array);
+    assert_eq!(rt; root.target_size()?.word_count, 100);
+    let view = root.get_as::<text::Reader<'_>>();
+    assert_eq!(rt; refusal(view), 22);
+    Ok(())
+}
