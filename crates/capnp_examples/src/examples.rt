@@ -123,6 +123,22 @@ fn builds_messages(rt: HostRuntime) -> Result<(), Fail> {
     Ok(())
 }
 
+// The example of README.md.
+#[test]
+fn writes_and_reads_a_message(rt: HostRuntime) -> Result<(), Fail> {
+    let alloc = rt.alloc();
+    let mut message = Builder::new_default(alloc);
+    message.set_root::<text::Owned, &str>("Hello, World!")?;
+    let mut stream: Vec<u8> = Vec::new(alloc);
+    serialize::write_message(alloc, &mut stream, &message)?;
+    assert_eq!(rt; stream.as_slice(), HELLO.as_slice());
+    let mut source = stream.as_slice();
+    let read = serialize::read_message(alloc, &mut source, DEFAULT_READER_OPTIONS)?;
+    let greeting: text::Reader<'_> = read.get_root()?;
+    assert_eq!(rt; greeting.as_bytes(), b"Hello, World!".as_slice());
+    Ok(())
+}
+
 #[test]
 fn inits_roots(rt: HostRuntime) -> Result<(), Fail> {
     let alloc = rt.alloc();
