@@ -26,4 +26,4 @@ KeepsHeap old new = IsHeapOf old.next_size old.allocation_strategy old.max_segme
 abbrev pub CountsSegment : Bool → ℕ → HeapAllocator → HeapAllocator → Type 0
 CountsSegment true asked old new = KeepsHeap old new
 CountsSegment false asked old new =
-  IsHeapOf (next_after old.allocation_strategy old.next_size old.max_segment_words (size_of old.next_size asked)) old.allocation_strategy old.max_segment_words new
+    IsHeapOf (next_after old.allocation_strategy old.next_size old.max_segment_words (size_of old.next_size asked)) old.allocation_strategy old.max_segment_words new
