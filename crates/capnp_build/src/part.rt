@@ -112,6 +112,7 @@ impl<S: SegmentSpace> Part<S> {
         ensures size { length (S.content result.0) ≡ self.size }
         ensures lent { S.is_lent result.0 ≡ self.is_lent }
         ensures used { 8 * result.1 ≤ length (S.content result.0) }
+        ensures words { 8 * result.1 ≡ length self.used }
         ensures zero { ZeroFrom (8 * result.1) (S.content result.0) }
     {
         let Part { segment, words } = self;

@@ -1,5 +1,6 @@
 -- What contracts see of heaps, and of a heap behind one region (src/heap_allocator.rt, src/scratch_space.rt).
-use Rattle.std.specs.Prelude.{◌≡◌, ℕ}
+use Rattle.std.specs.Prelude.{◌≡◌, ℕ, Bool, true, false}
+use Rattle.capnp_message.specs.Next.{size_of, next_after}
 use Rattle.capnp_message.specs.declared.heap_allocator.AllocationStrategy.{AllocationStrategy}
 use Rattle.capnp_message.specs.declared.heap_allocator.HeapAllocator.{HeapAllocator}
 use Rattle.capnp_message.specs.declared.scratch_space.ScratchSpaceHeapAllocator.{ScratchSpaceHeapAllocator}
@@ -16,3 +17,13 @@ pub record WithHeap (old : ScratchSpaceHeapAllocator) (words : ℕ) (grows : All
   pub size : new.size ≡ old.size
   pub next : new.heap.next_size ≡ words
   pub strategy : new.heap.allocation_strategy ≡ grows
+
+-- the heap as it was
+abbrev pub KeepsHeap : HeapAllocator → HeapAllocator → Type 0
+KeepsHeap old new = IsHeapOf old.next_size old.allocation_strategy old.max_segment_words new
+
+-- the heap after a segment that was asked for by so many words: a lent one leaves it as it was, one of its own counts
+abbrev pub CountsSegment : Bool → ℕ → HeapAllocator → HeapAllocator → Type 0
+CountsSegment true asked old new = KeepsHeap old new
+CountsSegment false asked old new =
+    IsHeapOf (next_after old.allocation_strategy old.next_size old.max_segment_words (size_of old.next_size asked)) old.allocation_strategy old.max_segment_words new

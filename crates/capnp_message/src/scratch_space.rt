@@ -1,12 +1,13 @@
 //! One region first, then segments from the heap.
-ghost use Rattle.std.specs.Prelude.{◌≡◌, ◌⊎◌, ℕ, ◌*◌, ◌/◌, ◌^◌, ◌<◌, ◌≤◌, true, false, length, IfOk, IfErr, IsSome, IsOk, OnOk, None};
+ghost use Rattle.std.specs.Prelude.{◌≡◌, ◌⊎◌, ℕ, ◌*◌, ◌/◌, ◌^◌, ◌<◌, ◌≤◌, true, false, length, IfOk, IfErr, IsSome, IsOk, OnOk, OnErr, None, min};
 ghost use Rattle.std.specs.Option.{ForSome};
 ghost use Rattle.capnp_frame.specs.declared.error.ErrorKind.TheVariants.{OutOfMemory};
 ghost use Rattle.capnp_build.specs.Bytes.{ZeroFrom};
 ghost use Rattle.capnp_message.specs.Next.{size_of};
-ghost use Rattle.capnp_message.specs.Region.{IsLentAlone, GrantsRegion, HoldsRegion};
+ghost use Rattle.capnp_message.specs.Region.{IsLentAlone, GrantsRegion, HoldsRegion, IsHome};
 ghost use Rattle.capnp_message.specs.Scratch.{scratch_bytes, scratch_lent};
-ghost use Rattle.capnp_build.specs.Allocating.{HandsOut};
+ghost use Rattle.capnp_build.specs.Allocating.{HandsOut, TakesBack};
+ghost use Rattle.capnp_build.specs.Out.{IsOut};
 
 use crate::heap_allocator::{AllocationStrategy, HeapAllocator};
 use capnp_build::allocator::Allocator;
@@ -129,6 +130,7 @@ impl<'a> Allocator for ScratchSpaceHeapAllocator<'a> {
     ghost use Rattle.std.specs.Prelude.{refl};
     ghost use Rattle.std.proofs.Common.{◌∙◌};
     ghost use Rattle.capnp_message.specs.Region.{some_lent};
+    ghost use Rattle.capnp_message.specs.Heaps.{IsHeapOf, KeepsHeap, CountsSegment};
 
     ghost out = { λ allocator list. IsLentAlone allocator.region allocator.size list };
 
@@ -150,6 +152,9 @@ impl<'a> Allocator for ScratchSpaceHeapAllocator<'a> {
         ensures away { self.old.region ≡ None → IfOk result (λ s. (scratch_lent s ≡ false)
             × (length (scratch_bytes s) ≡ 8 * size_of self.old.heap.next_size minimum_size)) }
         ensures kind { IfErr result (λ error. error.kind ≡ OutOfMemory) }
+        ensures counts { IfOk result (λ s.
+            CountsSegment (scratch_lent s) minimum_size self.old.heap self.new.heap) }
+        ensures unchanged { OnErr result (KeepsHeap self.old.heap self.new.heap) }
     {
         if minimum_size as usize <= self.size / 8 {
             match self.region.take() {
@@ -161,8 +166,23 @@ impl<'a> Allocator for ScratchSpaceHeapAllocator<'a> {
         Ok(ScratchSegment::Owned(segment))
     }
 
-    // What was used of the region is made zero, so that at home it is all zero.
-    fn deallocate_segment(&mut self, segment: ScratchSegment<'a>, words_used: u32) {
+    // What was used of the region is made zero, so that at home it is all zero. One from the heap goes
+    // back to it, as to a heap alone.
+    fn deallocate_segment(&mut self, segment: ScratchSegment<'a>, words_used: u32)
+        requires is_out { IsOut (IsLentAlone self.old.region self.old.size)
+            (record { length = length (scratch_bytes segment); is_lent = scratch_lent segment }) }
+        requires used { 8 * words_used ≤ length (scratch_bytes segment) }
+        requires zero { ZeroFrom (8 * words_used) (scratch_bytes segment) }
+        ensures takes_back { TakesBack (λ allocator. IsLentAlone allocator.region allocator.size)
+            (λ old new. new.size ≡ old.size)
+            (record { length = length (scratch_bytes segment.entry); is_lent = scratch_lent segment.entry })
+            self.old self.new }
+        ensures lent { scratch_lent segment.entry ≡ true →
+            IsHome self.new.region self.old.size × KeepsHeap self.old.heap self.new.heap }
+        ensures owned { scratch_lent segment.entry ≡ false → (self.new.region ≡ self.old.region)
+            × IsHeapOf (min 1024 self.old.heap.max_segment_words)
+            self.old.heap.allocation_strategy self.old.heap.max_segment_words self.new.heap }
+    {
         match segment {
             ScratchSegment::Lent(region) => {
                 region[..8 * words_used as usize].fill(0);
