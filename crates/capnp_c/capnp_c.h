@@ -12,8 +12,11 @@
 extern "C" {
 #endif
 
-/* Packs whole words into a text, and tells how many bytes that took. A part of a word is refused by
- * 14, and a text without room by 2. Of n words a text has at most 8 n + (n + 3) / 2 bytes. */
+/* Packs whole words into a text, and tells how many bytes that took. It returns 0 exactly where the
+ * words are whole ones and the text has room for what they are packed to, 14 where a word is a part of
+ * one, and 2 where there is no room. Of n words a text has at most 8 n + (n + 3) / 2 bytes.
+ * A packed message is not the packing of its framed bytes: the first word of its table, the table's
+ * other words, and each segment are packed one by one. */
 uint8_t linsjoar_pack(const uint8_t *words, size_t words_len, uint8_t *text, size_t text_len,
                       size_t *written);
 
