@@ -1,7 +1,8 @@
 //! Traversal limits of many words: what views and sizes count of them.
-use capnp_calls::refusals::refusal;
+use capnp_calls::refusals::{allocation_refusal, refusal};
 use capnp_frame::Result;
-use capnp_frame::message::{ReaderOptions, SegmentArray};
+use capnp_frame::message::{DEFAULT_READER_OPTIONS, ReaderOptions, SegmentArray};
+use capnp_message::builder::Builder;
 use capnp_message::reader::Reader;
 use capnp_wire::any_struct::StructReader;
 use capnp_wire::canonical::canonical_size;
@@ -128,4 +129,51 @@ fn data_that_ends_in_no_zero(rt: HostRuntime) -> std::result::Result<(), Fail> {
         assert_eq!(rt; view.as_bytes(), bytes);
     }
     Ok(())
+}
+
+// 40 structs of two pointers, both of which lead to the next struct: a tree of 2^40 - 1 structs, which a
+// walk enters 4,194,304 times before the default limit of 8,388,608 words is met. In a build with checks
+// (`rt try`) that takes longer than the minute of a test, in one that is proved (`rt test`) a moment.
+fn doublings() -> [u8; 648] {
+    let mut bytes = [0; 648];
+    bytes[6] = 2;
+    for index in 0..39usize {
+        bytes[8 + 16 * index] = 4;
+        bytes[8 + 16 * index + 6] = 2;
+        bytes[16 + 16 * index + 6] = 2;
+    }
+    bytes
+}
+
+type Source<'a> = any_pointer::Reader<'a, SegmentArray<'a>>;
+
+#[test]
+fn doublings_have_no_size_within_the_limit(rt: HostRuntime) -> std::result::Result<(), Fail> {
+    let bytes = doublings();
+    let segments = [bytes.as_slice()];
+    let reader = Reader::new(SegmentArray::new(&segments), DEFAULT_READER_OPTIONS);
+    let root: Source<'_> = reader.get_root()?;
+    assert_eq!(rt; refusal(root.target_size()), 20);
+    assert!(rt; !reader.is_canonical()?);
+    Ok(())
+}
+
+#[test]
+fn doublings_are_not_set(rt: HostRuntime) -> std::result::Result<(), Fail> {
+    let bytes = doublings();
+    let segments = [bytes.as_slice()];
+    let reader = Reader::new(SegmentArray::new(&segments), DEFAULT_READER_OPTIONS);
+    let mut message = Builder::new_default(rt.alloc());
+    let set = message.set_root::<any_pointer::Owned, Source<'_>>(reader.get_root()?);
+    assert_eq!(rt; allocation_refusal(set), (20, 0));
+    assert_eq!(rt; message.size_in_words(), 1);
+    Ok(())
+}
+
+#[test]
+fn doublings_have_no_canonical_form_within_the_limit(rt: HostRuntime) {
+    let bytes = doublings();
+    let segments = [bytes.as_slice()];
+    let reader = Reader::new(SegmentArray::new(&segments), DEFAULT_READER_OPTIONS);
+    assert_eq!(rt; refusal(reader.canonicalize(rt.alloc())), 20);
 }

@@ -53,6 +53,50 @@ fn a_form_of_a_million_words(rt: HostRuntime) -> Result<(), Fail> {
     canonicalize(&rt, &segment_of(&rt, 1 << 20)?)
 }
 
+#[test]
+fn a_million_words_are_read(rt: HostRuntime) -> Result<(), Fail> {
+    let segment = segment_of(&rt, 1 << 20)?;
+    let framed = framed_text(rt.alloc(), &segment)?;
+    read_framed(&rt, &framed, &segment)?;
+    read_slice(&rt, &framed, &segment)
+}
+
+#[test]
+fn a_million_words_are_packed(rt: HostRuntime) -> Result<(), Fail> {
+    let segment = segment_of(&rt, 1 << 20)?;
+    let framed = framed_text(rt.alloc(), &segment)?;
+    assert!(rt; pack(&rt, &framed)? == packed_million(rt.alloc())?);
+    Ok(())
+}
+
+#[test]
+fn a_million_packed_words_are_read(rt: HostRuntime) -> Result<(), Fail> {
+    let segment = segment_of(&rt, 1 << 20)?;
+    read_packed(&rt, &packed_million(rt.alloc())?, &segment)
+}
+
+#[test]
+fn a_million_packed_words_are_unpacked(rt: HostRuntime) -> Result<(), Fail> {
+    let segment = segment_of(&rt, 1 << 20)?;
+    let framed = framed_text(rt.alloc(), &segment)?;
+    unpack(&rt, &packed_million(rt.alloc())?, &framed)
+}
+
+// The packed text of a segment of 2^20 words whose root is data of sevens: the table's word, the root's
+// with its three zero bytes left out, and then literal runs: each a word by its tag and up to 255 words
+// as they stand, 256 words together. Of 2^20 - 1 words 4,095 runs are full, and the last has 255 words.
+fn packed_million(alloc: Global) -> Result<Vec<u8>, Fail> {
+    let mut packed = [0x40, 0x10, 0xf1, 1, 0xc2, 0xff, 0xff, 3].to_vec(alloc)?;
+    let words = [7u8; 255 * 8];
+    for _ in 0..4095 {
+        packed.extend_from_slice(&[0xff, 7, 7, 7, 7, 7, 7, 7, 7, 255])?;
+        packed.extend_from_slice(&words)?;
+    }
+    packed.extend_from_slice(&[0xff, 7, 7, 7, 7, 7, 7, 7, 7, 254])?;
+    packed.extend_from_slice(&words[..254 * 8])?;
+    Ok(packed)
+}
+
 // What is built is the segment, and its framed text a word and the segment.
 fn build_and_write(rt: &(impl Abort + AllocGlobal), segment: &[u8]) -> Result<(), Fail> {
     let alloc = rt.alloc();
@@ -74,25 +118,34 @@ fn build_and_write(rt: &(impl Abort + AllocGlobal), segment: &[u8]) -> Result<()
 
 // A framed text, and what is packed of it, by each reader.
 fn read_back(rt: &(impl Abort + AllocGlobal), segment: &[u8]) -> Result<(), Fail> {
-    let alloc = rt.alloc();
+    let framed = framed_text(rt.alloc(), segment)?;
+    let packed = pack(rt, &framed)?;
+    read_framed(rt, &framed, segment)?;
+    read_slice(rt, &framed, segment)?;
+    read_packed(rt, &packed, segment)?;
+    unpack(rt, &packed, &framed)
+}
+
+fn framed_text(alloc: Global, segment: &[u8]) -> Result<Vec<u8>, Fail> {
     let mut framed = ((segment.len() as u64 / 8) << 32)
         .to_le_bytes()
         .to_vec(alloc)?;
     framed.extend_from_slice(segment)?;
-    let mut source = framed.as_slice();
-    let mut packed: Vec<u8> = Vec::new(alloc);
+    Ok(framed)
+}
+
+fn pack(rt: &(impl Abort + AllocGlobal), framed: &[u8]) -> Result<Vec<u8>, Fail> {
+    let mut source = framed;
+    let mut packed: Vec<u8> = Vec::new(rt.alloc());
     transcode(
-        alloc,
+        rt.alloc(),
         Way::Pack,
         &mut source,
         &mut packed,
         DEFAULT_READER_OPTIONS,
     )?;
     assert!(rt; source.is_empty());
-    read_framed(rt, &framed, segment)?;
-    read_slice(rt, &framed, segment)?;
-    read_packed(rt, &packed, segment)?;
-    unpack(rt, &packed, &framed)
+    Ok(packed)
 }
 
 fn holds<S: ReaderSegments>(reader: &Reader<S>, segment: &[u8]) -> bool {
