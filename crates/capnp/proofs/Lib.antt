@@ -11,3 +11,4 @@ pub mod Passed
 pub mod BlameLemmas
 pub mod FormLemmas
 pub mod RootLemmas
+pub mod DeviceLemmas

@@ -8,3 +8,4 @@ pub mod Transcoding
 pub mod Passed
 pub mod Canonical
 pub mod Roots
+pub mod Devices

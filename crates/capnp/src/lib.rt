@@ -9,6 +9,7 @@ pub mod any_pointer;
 pub mod any_struct;
 pub mod appended;
 pub mod data;
+pub mod devices;
 pub mod laws;
 pub mod message;
 pub mod primitive_list;

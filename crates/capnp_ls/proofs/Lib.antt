@@ -2,4 +2,3 @@ pub mod CommandLemmas
 pub mod DigitLemmas
 pub mod LineLemmas
 pub mod MessageLemmas
-pub mod SinkLemmas

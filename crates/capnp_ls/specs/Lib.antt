@@ -1,5 +1,4 @@
 pub mod Commands
-pub mod Devices
 pub mod Output
 pub mod Runs
 pub mod Stop

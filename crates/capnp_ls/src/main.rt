@@ -5,18 +5,19 @@ ghost use Rattle.std.specs.Prelude.{◌≡◌, [], OnOk, OnErr, IfErr, IsErrOf};
 ghost use Rattle.std.specs.Process.{exit_status};
 ghost use Rattle.std.specs.Io.KnownBytes.{Keeps};
 ghost use Rattle.capnp.specs.Passed.{Fails, ErrorKind};
-ghost use Rattle.capnp_ls.specs.Devices.{pending, taken_so_far, IsOutOfMemory};
+ghost use Rattle.capnp.specs.Devices.{pending, taken_so_far, IsOutOfMemory};
 ghost use Rattle.capnp_ls.specs.declared.stop.Stop.TheVariants.{Usage, Refused};
 ghost use Rattle.capnp_ls.specs.Stop.{IsAtStart, status_of};
 
+#[cfg(test)]
+mod choppy;
 mod command;
-mod devices;
 mod listing;
 mod program;
 mod stop;
 
-use crate::devices::{Input, OUTPUT_BYTES, Output};
 use crate::stop::{Stop, report};
+use capnp::devices::{Input, OUTPUT_BYTES, Output};
 use capnp::{Error, ErrorKind};
 use std::io::Write;
 use std::process::ExitCode;

@@ -1,8 +1,8 @@
 //! Canonical forms that the program writes.
-use crate::devices::Output;
-use crate::devices::choppy::taking;
+use crate::choppy::taking;
 use crate::program::run;
 use crate::program::tests::{refusal, words};
+use capnp::devices::Output;
 use std::test::*;
 
 // "Hello, World!", which is canonical.

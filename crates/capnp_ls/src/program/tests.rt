@@ -1,8 +1,8 @@
-use crate::devices::choppy::{giving, taking};
-use crate::devices::{Input, Output};
+use crate::choppy::{giving, taking};
 use crate::program::run;
 use crate::stop::Stop;
 use capnp::ErrorKind;
+use capnp::devices::{Input, Output};
 use std::alloc::{AllocError, Global};
 use std::process::Abort;
 use std::test::*;

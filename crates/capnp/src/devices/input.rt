@@ -1,16 +1,16 @@
-//! Standard input, or another device that is read, as a source.
+//! A device that is read, as standard input or a file, as a source.
 ghost use Rattle.std.specs.Prelude.{◌≡◌, ◌<◌, ◌≤◌, None, [], length, take, drop, IfOk, IfErr, OnOk, OnErr, IfSome, ⊤};
 ghost use Rattle.std.specs.Borrow.{sem};
 ghost use Rattle.std.specs.Io.BufRead.{Rests};
 ghost use Rattle.std.specs.Io.KnownBytes.{Keeps, Consumes, IsAtEnd};
 ghost use Rattle.capnp.specs.Passed.{ErrorKind, Splits, RunsShort, Fails, Fills, IfKnown, IsFront, IsRefused, splitting, always};
-ghost use Rattle.capnp_ls.specs.Devices.{read_ahead, coming};
-ghost use Rattle.capnp_ls.specs.contracts.devices.input.Input.{the_row};
+ghost use Rattle.capnp.specs.Devices.{read_ahead, coming};
+ghost use Rattle.capnp.specs.contracts.devices.input.Input.{the_row};
 
 use crate::devices::retried::Retried;
 use crate::devices::{BUFFER_BYTES, Failures};
-use capnp::io::{BufRead, Read};
-use capnp::{Error, ErrorKind, Result};
+use crate::io::{BufRead, Read};
+use crate::{Error, ErrorKind, Result};
 use std::alloc::Global;
 use std::io;
 use std::io::BufReader;
@@ -41,6 +41,13 @@ impl<R: io::Read + Drop> Input<R> {
             buffered,
             failures: Failures::none(),
         })
+    }
+
+    /// How often the device failed, at most 2^64 - 1.
+    pub fn failures(&self) -> u64
+        ensures { result ≡ self.now.failures.count }
+    {
+        self.failures.count
     }
 }
 
@@ -118,6 +125,3 @@ impl<R: io::Read> BufRead for Input<R> {
 
     ghost plain_refusals = { λ _ _ _. (λ p. p, λ p. p) };
 }
-
-#[cfg(test)]
-mod tests;

@@ -1,8 +1,8 @@
 -- What is done of the piece follows what was written before.
 use Rattle.std.proofs.Common.{◌-◌, ◌≤◌, length, take}
 use Rattle.std.specs.Io.KnownBytes.{Appends}
-use Rattle.capnp_ls.specs.Devices.{taken_so_far}
-use Rattle.capnp_ls.proofs.devices.output.OutputWrite.write_all.Given as goal
+use Rattle.capnp.specs.Devices.{taken_so_far}
+use Rattle.capnp.proofs.devices.output.OutputWrite.write_all.Given as goal
 
 abbrev pub invariant-loop-done : goal.invariant-loop-done
 invariant-loop-done g l = (l.done ≤ length l.piece)

@@ -1,4 +1,7 @@
 //! Devices that move little at a time, are interrupted, or fail, for tests.
+mod input_tests;
+mod output_tests;
+
 use std::alloc::Global;
 use std::io;
 

@@ -1,7 +1,7 @@
 -- An interrupted read consumes nothing, and the buffer keeps its length.
 use Rattle.std.proofs.Common.{◌≡◌, length}
 use Rattle.std.specs.Io.KnownBytes.{Keeps}
-use Rattle.capnp_ls.proofs.devices.retried.RetriedRead.read.Given as goal
+use Rattle.capnp.proofs.devices.retried.RetriedRead.read.Given as goal
 
 abbrev pub invariant-loop : goal.invariant-loop
 invariant-loop g l = (length l.buffer ≡ length l.initial.buffer) × Keeps (g.R.Read.remaining l.initial.self.device) (g.R.Read.remaining l.self.device)

@@ -1,6 +1,6 @@
-use crate::devices::Input;
-use crate::devices::choppy::giving;
+use crate::choppy::giving;
 use capnp::ErrorKind;
+use capnp::devices::Input;
 use capnp::io::{BufRead, Read};
 use std::test::*;
 
@@ -18,7 +18,7 @@ fn interrupted_and_short_reads_lose_nothing(rt: HostRuntime) -> Result<(), Fail>
         assert_eq!(rt; BufRead::fill_buf(&mut input)?, b"g".as_slice());
         BufRead::consume(&mut input, 1);
         assert_eq!(rt; Read::read(&mut input, &mut got)?, 0);
-        assert_eq!(rt; input.failures.count, 0);
+        assert_eq!(rt; input.failures(), 0);
     }
     Ok(())
 }
@@ -33,7 +33,7 @@ fn a_fault_is_no_end_and_gives_no_bytes(rt: HostRuntime) -> Result<(), Fail> {
         let answer = Read::read_exact(&mut input, &mut got);
         let refused = answer.is_err_and(|error| error.kind == ErrorKind::DeviceFailed);
         assert!(rt; refused, "at read {bad_read}");
-        assert_eq!(rt; input.failures.count, 1);
+        assert_eq!(rt; input.failures(), 1);
         let rest = BufRead::fill_buf(&mut input)?;
         let next: &[u8] = match bad_read {
             1 => b"abc",

@@ -4,8 +4,8 @@ use Rattle.std.specs.IoError.{error_kind}
 use Rattle.std.specs.declared.io.Error.{Error as Fault}
 use Rattle.std.specs.declared.io.ErrorKind.TheVariants.{OutOfMemory}
 use Rattle.std.specs.Io.Buffered.{reader_buffer, reader_remaining, writer_buffer, writer_contents}
-use Rattle.capnp_ls.specs.declared.devices.input.Input.{Input}
-use Rattle.capnp_ls.specs.declared.devices.output.Output.{Output}
+use Rattle.capnp.specs.declared.devices.input.Input.{Input}
+use Rattle.capnp.specs.declared.devices.output.Output.{Output}
 
 -- the bytes that are read ahead and not yet consumed
 abbrev pub read_ahead : {R : Type 0} → Input R → List ℕ

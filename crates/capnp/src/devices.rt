@@ -1,24 +1,23 @@
-//! Standard input and output as a source and a sink of messages.
+//! What std reads and writes, as files, standard input and standard output, as a source and a sink of
+//! messages.
 //!
-//! Both are buffered, both try an interrupted call again, and both answer any other fault by
+//! Both are buffered, and both try an interrupted call again. Any other fault of the device is
 //! `DeviceFailed`.
 ghost use Rattle.std.specs.Prelude.{◌≡◌, ◌+◌, ◌-◌, ◌^◌, ◌≤◌, min};
 ghost use Rattle.capnp.specs.Passed.{ErrorKind};
 
-#[cfg(test)]
-pub mod choppy;
 mod input;
 mod output;
 mod retried;
 
-use capnp::{Error, ErrorKind};
+use crate::{Error, ErrorKind};
 pub use input::Input;
 pub use output::Output;
 
 /// The size in bytes of the buffer before a device that is read.
 pub const BUFFER_BYTES: usize = 4096;
 
-/// The size in bytes of the buffer before standard output.
+/// A size in bytes for the buffer before a device that is written.
 pub const OUTPUT_BYTES: usize = 32768;
 
 /// How often a device failed, up to 2^64 - 1.

@@ -1,14 +1,14 @@
-//! Standard output or standard error, or another device that is written, as a sink.
+//! A device that is written, as standard output or a file, as a sink.
 ghost use Rattle.std.specs.Prelude.{◌≡◌, ◌≤◌, [], IfOk, IfErr, OnOk, OnErr, IsOk, ⊤};
 ghost use Rattle.std.specs.Io.Buffered.{writer_capacity};
 ghost use Rattle.std.specs.Io.KnownBytes.{Keeps};
 ghost use Rattle.capnp.specs.Passed.{ErrorKind, Fails, AppendsSame, LeavesFront, always};
-ghost use Rattle.capnp_ls.specs.Devices.{pending, taken_so_far};
+ghost use Rattle.capnp.specs.Devices.{pending, taken_so_far};
 
 use crate::devices::Failures;
 use crate::devices::retried::Retried;
-use capnp::io::Write;
-use capnp::{Error, ErrorKind, Result};
+use crate::io::Write;
+use crate::{Error, ErrorKind, Result};
 use std::alloc::Global;
 use std::io;
 use std::io::BufWriter;
@@ -41,6 +41,13 @@ impl<W: io::Write + Drop> Output<W> {
             buffered,
             failures: Failures::none(),
         })
+    }
+
+    /// How often the device failed, at most 2^64 - 1.
+    pub fn failures(&self) -> u64
+        ensures { result ≡ self.now.failures.count }
+    {
+        self.failures.count
     }
 
     /// Hands what is pending to the device. The only refusal is `DeviceFailed`.
@@ -88,6 +95,3 @@ impl<W: io::Write + Drop> Write for Output<W> {
 
     ghost keeps = { always };
 }
-
-#[cfg(test)]
-mod tests;

@@ -1,6 +1,6 @@
-use crate::devices::Output;
-use crate::devices::choppy::taking;
+use crate::choppy::taking;
 use capnp::ErrorKind;
+use capnp::devices::Output;
 use capnp::io::Write;
 use std::io;
 use std::test::*;
@@ -19,7 +19,7 @@ fn parts_and_interruptions_lose_nothing(rt: HostRuntime) -> Result<(), Fail> {
             output.write_all(piece.as_bytes())?;
         }
         output.flush()?;
-        assert_eq!(rt; output.failures.count, 0);
+        assert_eq!(rt; output.failures(), 0);
         drop(output);
         assert_eq!(rt;
             device.got.as_slice(),
@@ -36,7 +36,7 @@ fn a_fault_of_a_write_is_answered(rt: HostRuntime) -> Result<(), Fail> {
     device.bad_write = 2;
     let mut unbuffered = Output::new(rt.alloc(), 0, &mut device)?;
     assert!(rt; is_device_failed(unbuffered.write_all(b"abcdef")));
-    assert_eq!(rt; unbuffered.failures.count, 1);
+    assert_eq!(rt; unbuffered.failures(), 1);
     drop(unbuffered);
     assert_eq!(rt; device.got.as_slice(), b"abcd".as_slice());
 
@@ -52,7 +52,7 @@ fn a_fault_of_the_last_flush_is_answered(rt: HostRuntime) -> Result<(), Fail> {
     let mut output = Output::new(rt.alloc(), 64, &mut device)?;
     output.write_all(b"abcdef")?;
     assert!(rt; is_device_failed(output.flush()));
-    assert_eq!(rt; output.failures.count, 1);
+    assert_eq!(rt; output.failures(), 1);
 
     let mut stuck = taking(rt.alloc(), 4);
     stuck.fails_to_flush = true;
@@ -96,7 +96,7 @@ fn an_interrupted_flush_is_made_again(rt: HostRuntime) -> Result<(), Fail> {
         let mut output = Output::new(rt.alloc(), capacity, &mut device)?;
         output.write_all(b"abc")?;
         output.flush()?;
-        assert_eq!(rt; output.failures.count, 0);
+        assert_eq!(rt; output.failures(), 0);
         drop(output);
         assert_eq!(rt; device.got.as_slice(), b"abc".as_slice());
         assert!(rt; device.flushes > interruptions);
