@@ -3,7 +3,7 @@ pub use Rattle.capnp_frame.specs.declared.error.Error.{Error}
 pub use Rattle.capnp_frame.specs.declared.error.ErrorKind.{ErrorKind}
 pub use Rattle.capnp_frame.specs.declared.serialize.segment_table.Padding.{Padding}
 pub use Rattle.capnp_frame.specs.declared.serialize.segment_table.Padding.TheVariants.{Any, Zero}
-pub use Rattle.capnp_frame.specs.Limits.{IsWithin}
+pub use Rattle.capnp_frame.specs.Limits.{IsWithin, default_limit}
 pub use Rattle.capnp_frame.specs.Message.{IsWholeWords, word_count, lengths, size_in_words}
 pub use Rattle.capnp_frame.specs.Numbers.{number_of}
 pub use Rattle.capnp_frame.specs.Refusals.{IsReaderKind}
@@ -14,5 +14,6 @@ pub use Rattle.capnp_frame.specs.Sink.{Appending, AppendsSame, Leaving, LeavesNo
 pub use Rattle.capnp_frame.specs.Writing.{IsWritable, pieces}
 pub use Rattle.capnp_wire.specs.Object.{message_of}
 pub use Rattle.capnp_wire.specs.Reached.{root}
+pub use Rattle.capnp_wire.specs.Readers.{default_root}
 pub use Rattle.capnp_wire.specs.Views.{Pointer}
 pub use Rattle.capnp_message.specs.Canonical.{LacksForm}

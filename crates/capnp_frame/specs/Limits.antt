@@ -1,8 +1,12 @@
 -- What a reader accepts (ReaderOptions and SEGMENTS_COUNT_LIMIT).
-use Rattle.std.specs.Prelude.{ℕ, ◌<◌, ◌≤◌, List, length, sum, Option, IfSome}
+use Rattle.std.specs.Prelude.{ℕ, ◌<◌, ◌≤◌, List, length, sum, Option, Some, IfSome}
 use Rattle.std.specs.List.{AllByRecursion}
 use Rattle.capnp_frame.specs.Message.{lengths}
 use Rattle.capnp_frame.specs.SegmentTable.{FitsField}
+
+-- how many words a reader accepts by default (DEFAULT_READER_OPTIONS)
+abbrev pub default_limit : Option ℕ
+default_limit = Some 8388608
 
 -- no more words than the limit, where there is one
 abbrev pub KeepsLimit : List ℕ → Option ℕ → Type 0

@@ -1,7 +1,7 @@
 -- What the program prints of messages.
-use Rattle.std.specs.Prelude.{ℕ, List, [], ◌∷◌, ◌++◌, length, Option, Some, decimal}
+use Rattle.std.specs.Prelude.{ℕ, List, [], ◌∷◌, ◌++◌, length, decimal}
 use Rattle.std.specs.List.{flat_map}
-use Rattle.capnp.specs.Passed.{Appending, Declining, lengths, size_in_words, message_of, root, Pointer, LacksForm}
+use Rattle.capnp.specs.Passed.{Appending, Declining, lengths, size_in_words, default_root, LacksForm}
 use Rattle.capnp.specs.Canonical.{AppendsForm, BreaksForm}
 use Rattle.capnp.specs.Runs.{Writing, DecliningWriting}
 use Rattle.capnp.specs.Transcoding.{Transcodes, DeclinesTranscoded}
@@ -16,25 +16,17 @@ spaced n = 32 ∷ decimal n
 abbrev pub line : ℕ → List (List ℕ) → List ℕ
 line index segments = decimal index ++ spaced (length segments) ++ spaced (size_in_words segments) ++ flat_map spaced (lengths segments) ++ 10 ∷ []
 
--- the default options' limit, in words
-abbrev pub limit : Option ℕ
-limit = Some 8388608
-
--- the root of a message, read by the default options
-abbrev pub root_of : List (List ℕ) → Pointer
-root_of segments = record { message = message_of segments; place = Some root; level = 64; limit = limit }
-
 -- What a sink adds for the message of this index: its line; its pieces, packed or as they are; or the pieces of its canonical form.
 abbrev pub Prints : Command → Appending → Writing
 Prints (Listing format padding) appends index segments text = appends (line index segments) text
 Prints (Transcoding way padding) appends index segments text = Transcodes way appends index segments text
-Prints (Canonical format) appends index segments text = AppendsForm (root_of segments) appends text
+Prints (Canonical format) appends index segments text = AppendsForm (default_root segments) appends text
 
 -- and why this message is not printed: it has no canonical form, or the sink refuses a piece of what is printed
 abbrev pub DeclinesPrinted : Command → Declining → DecliningWriting
 DeclinesPrinted (Listing format padding) refuses = record { lacks = λ index segments kind. ⊥; breaks = λ index segments. refuses (line index segments) }
 DeclinesPrinted (Transcoding way padding) refuses = DeclinesTranscoded way refuses
 DeclinesPrinted (Canonical format) refuses = record {
-  lacks = λ index segments. LacksForm (root_of segments);
-  breaks = λ index segments. BreaksForm (root_of segments) refuses;
+  lacks = λ index segments. LacksForm (default_root segments);
+  breaks = λ index segments. BreaksForm (default_root segments) refuses;
 }

@@ -3,7 +3,8 @@ ghost use Rattle.std.specs.Prelude.{◌≡◌, ◌⊎◌, ◌↔◌, map, string
 ghost use Rattle.capnp.specs.Runs.{WritesEach};
 ghost use Rattle.capnp_ls.specs.declared.command.Command.{Command};
 ghost use Rattle.capnp_ls.specs.Commands.{command_words, input_of, padding_of};
-ghost use Rattle.capnp_ls.specs.Output.{limit, Prints, DeclinesPrinted};
+ghost use Rattle.capnp.specs.Passed.{default_limit};
+ghost use Rattle.capnp_ls.specs.Output.{Prints, DeclinesPrinted};
 ghost use Rattle.capnp_ls.specs.Runs.{ForCommand};
 
 use crate::command::Command;
@@ -36,7 +37,7 @@ pub fn run<R: BufRead, W: Write>(
         ⊎ ((command : Command) × (map string_bytes words.now ≡ command_words command)) }
     ensures runs { (command : Command) → map string_bytes words.now ≡ command_words command →
         ForCommand (WritesEach R.Read source.old source.new W.Write sink.old sink.new
-        (padding_of command) (input_of command) limit (Prints command W.appends)
+        (padding_of command) (input_of command) default_limit (Prints command W.appends)
         (DeclinesPrinted command W.refuses)) result }
 {
     let Some(command) = Command::from_words(words) else {
@@ -53,7 +54,7 @@ fn print_all<R: BufRead, W: Write>(
     sink: &mut W,
 ) -> std::result::Result<(), Stop>
     ensures { ForCommand (WritesEach R.Read source.old source.new W.Write sink.old sink.new
-        (padding_of command) (input_of command) limit (Prints command W.appends)
+        (padding_of command) (input_of command) default_limit (Prints command W.appends)
         (DeclinesPrinted command W.refuses)) result }
 {
     let format = command.input();

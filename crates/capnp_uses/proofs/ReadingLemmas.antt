@@ -6,7 +6,7 @@ use Rattle.capnp_frame.specs.declared.error.Error.{Error}
 use Rattle.capnp_frame.specs.declared.error.ErrorKind.TheVariants.{DeviceFailed, OutOfMemory}
 use Rattle.capnp_frame.specs.declared.message.options.ReaderOptions.{ReaderOptions}
 use Rattle.capnp_frame.specs.declared.message.options.TheConstants.{DEFAULT_READER_OPTIONS}
-use Rattle.capnp_wire.specs.Readers.{level_of}
+use Rattle.capnp_wire.specs.Readers.{level_of, default_root}
 use Rattle.capnp_wire.specs.Views.{Pointer}
 use Rattle.capnp_wire.specs.Values.{IsCanonicalForm}
 use Rattle.capnp_message.specs.Seen.{root_of}
@@ -15,7 +15,6 @@ use Rattle.capnp.specs.declared.streams.Format.{Format}
 use Rattle.capnp_frame.specs.Streams.{next_in}
 use Rattle.capnp.specs.Streams.{grammar_of, StandsNext, IsPlainSource}
 use Rattle.capnp.specs.Headline.{ReturnsTexts}
-use Rattle.capnp_uses.specs.Reading.{default_root}
 use Rattle.capnp.proofs.RunLemmas.{format_lawful, format_requested, format_parts}
 use Rattle.capnp.proofs.ReaderLemmas.{nothing_begins}
 use Rattle.capnp.proofs.AppendedLemmas.{memory_only}

@@ -1,4 +1,3 @@
 -- What callers say.
-pub mod Reading
 pub mod Roots
 pub mod Streaming

@@ -6,7 +6,8 @@ ghost use Rattle.capnp_wire.specs.Values.{IsCanonicalForm};
 ghost use Rattle.capnp_wire.specs.Block.{numbers_of};
 ghost use Rattle.capnp_message.specs.Canonical.{HasForm};
 ghost use Rattle.capnp.specs.Streams.{BeginsFramed};
-ghost use Rattle.capnp_uses.specs.Reading.{default_limit, default_root};
+ghost use Rattle.capnp_frame.specs.Limits.{default_limit};
+ghost use Rattle.capnp_wire.specs.Readers.{default_root};
 
 use crate::reading::borrowed_message;
 use capnp::{Result, Word};

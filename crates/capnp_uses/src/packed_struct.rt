@@ -1,12 +1,11 @@
 //! A struct that is built, written packed, and read back.
 ghost use Rattle.std.specs.Prelude.{◌≡◌, ◌⊎◌, ◌<◌, ◌∷◌, [], ℕ, List, length, IfOk, IfErr};
 ghost use Rattle.capnp_frame.specs.declared.error.ErrorKind.{ErrorKind};
-ghost use Rattle.capnp_frame.specs.Limits.{KeepsLimit};
+ghost use Rattle.capnp_frame.specs.Limits.{KeepsLimit, default_limit};
 ghost use Rattle.capnp_frame.specs.Message.{lengths};
 ghost use Rattle.capnp_frame.specs.Writing.{IsWritable, HasFew};
 ghost use Rattle.capnp_wire.specs.Tree.{struct};
 ghost use Rattle.capnp.specs.Written.{IsPackedTextOf, output_of};
-ghost use Rattle.capnp_uses.specs.Reading.{default_limit};
 ghost use Rattle.capnp_uses.specs.Roots.{HasRoot};
 
 use crate::building::write_struct;

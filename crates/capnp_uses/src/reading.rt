@@ -7,7 +7,7 @@ ghost use Rattle.capnp_wire.specs.Tree.{numbers};
 ghost use Rattle.capnp_wire.specs.Views.{MeetsLimit};
 ghost use Rattle.capnp_message.specs.Seen.{root_of};
 ghost use Rattle.capnp.specs.Streams.{BeginsFramed};
-ghost use Rattle.capnp_uses.specs.Reading.{default_limit};
+ghost use Rattle.capnp_frame.specs.Limits.{default_limit};
 ghost use Rattle.capnp_uses.specs.Roots.{HasRoot};
 
 use capnp::message::{DEFAULT_READER_OPTIONS, Reader, ReaderSegments};

@@ -1,6 +1,7 @@
 -- What contracts see of readers (src/arena/reader_arena.rt, src/any_pointer/reader.rt, src/any_struct/reader.rt).
 use Rattle.std.specs.Prelude.{◌≡◌, ℕ, ◌+◌, ◌-◌, ◌^◌, ◌<◌, ℤ, pos, negsuc, List, [], ◌∷◌, Option, Some, None}
 use denote.Ref.{Bor}
+use Rattle.capnp_frame.specs.Limits.{default_limit}
 use Rattle.capnp_frame.specs.declared.message.segments.ReaderSegments.{Ghosts}
 use Rattle.capnp_wire.specs.Pointer.{words_of, words_from}
 use Rattle.capnp_wire.specs.Tree.{Form}
@@ -42,6 +43,10 @@ root_place (segment ∷ segments) = Some root
 -- the root of segments that are read without limits, as those of a message that is built
 abbrev pub unlimited_root : List (List ℕ) → Pointer
 unlimited_root segments = record { message = message_of segments; place = root_place segments; level = 2 ^ 31 - 1; limit = None }
+
+-- the root of segments that are read by the default options
+abbrev pub default_root : List (List ℕ) → Pointer
+default_root segments = record { message = message_of segments; place = Some root; level = 64; limit = default_limit }
 
 -- the struct of a reader
 abbrev pub struct_of : {S : Type 0} {ghosts : Ghosts S} → (S → List (List ℕ)) → StructReader S ghosts → Struct

@@ -1,5 +1,6 @@
 //! What a reader accepts.
-ghost use Rattle.std.specs.Prelude.{◌≡◌, Some, pos};
+ghost use Rattle.std.specs.Prelude.{◌≡◌, pos};
+ghost use Rattle.capnp_frame.specs.Limits.{default_limit};
 ghost use Rattle.capnp_frame.specs.declared.message.options.TheConstants.{DEFAULT_READER_OPTIONS};
 
 /// Limits against messages that would cost a reader too much.
@@ -23,7 +24,7 @@ pub const DEFAULT_READER_OPTIONS: ReaderOptions = ReaderOptions {
 impl ReaderOptions {
     /// The default options.
     pub const fn new() -> ReaderOptions
-        ensures words { result.traversal_limit_in_words ≡ Some 8388608 }
+        ensures words { result.traversal_limit_in_words ≡ default_limit }
         ensures levels { result.nesting_limit ≡ pos 64 }
         ensures default { result ≡ DEFAULT_READER_OPTIONS }
     {

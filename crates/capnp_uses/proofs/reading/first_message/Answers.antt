@@ -1,6 +1,6 @@
 -- The message that is found is the one that stands there.
 use Rattle.capnp.specs.declared.streams.Format.TheVariants.{Framed}
-use Rattle.capnp_uses.specs.Reading.{default_limit}
+use Rattle.capnp_frame.specs.Limits.{default_limit}
 use Rattle.capnp_uses.proofs.ReadingLemmas.{slices_are_plain, exactly}
 use Rattle.capnp_uses.proofs.reading.first_message.Goals as goal
 
