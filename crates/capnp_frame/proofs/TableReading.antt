@@ -35,12 +35,12 @@ completed_given gives word piece after old new long is =
     let size : length after - 8 ≡ length piece = omega (arith, ap length is, length-append word piece) in
     IfKnown-weaker old new (λ raw rest given. subst (λ k. gives raw k (drop 8 after) rest) (sym size) (subst (λ l. gives raw (length piece) l rest) (sym others) given))
 
--- the bytes are a table of so many segments whose first word was told to be accepted
-pub tells_completed : (word table : List ℕ) (count : ℕ) → take 8 table ≡ word → length table ≡ table_size count → TellsAccepted word count → SpellsLengths table count → TellsTable table count
-tells_completed word table count front long accepted spells = record {
+-- the bytes are a table of so many segments, where its first word tells so
+pub tells_complete : (table : List ℕ) (count : ℕ) → TellsAccepted (take 8 table) count → length table ≡ table_size count → SpellsLengths table count → TellsTable table count
+tells_complete table count accepted long spells = record {
   some = accepted.some;
   few = accepted.few;
-  counted = accepted.told ∙ ap (take 4) (sym front) ∙ take_within 4 8 table (omega arith) (omega arith);
+  counted = accepted.told ∙ take_within 4 8 table (omega arith) (omega arith);
   lengths = spells;
   room = omega arith;
 }

@@ -1,5 +1,5 @@
 -- What the private steps of the readers of streams keep (src/serialize/stream.rt, src/serialize/lent_stream.rt).
-use Rattle.std.specs.Prelude.{◌≡◌, ◌⊎◌, ℕ, ◌^◌, ◌<◌, ◌≤◌, List, [], length, map, Option, Some, Result, IfOk, IfErr, OnOk, IfSome, IfNone}
+use Rattle.std.specs.Prelude.{◌≡◌, ◌⊎◌, ℕ, ◌^◌, ◌<◌, ◌≤◌, List, [], length, map, take, drop, Option, Some, Result, IfOk, IfErr, OnOk, IfSome, IfNone}
 use Rattle.std.specs.List.{AllByRecursion}
 use Rattle.capnp_frame.specs.declared.error.Error.{Error}
 use Rattle.capnp_frame.specs.declared.error.ErrorKind.{ErrorKind}
@@ -12,13 +12,17 @@ use Rattle.capnp_frame.specs.Limits.{KeepsLimit}
 use Rattle.capnp_frame.specs.Source.{Giving, Refusing, IfKnown}
 use Rattle.capnp_frame.specs.Requests.{RestStands}
 use Rattle.capnp_frame.specs.Errors.{IsRefusedBy}
-use Rattle.capnp_frame.specs.Refusals.{RefusesRest, IsTableKind, IsReaderKind, IsLentReaderKind}
+use Rattle.capnp_frame.specs.Refusals.{RefusesAtLimit, RefusesRest, IsTableKind, IsReaderKind, IsLentReaderKind}
 use Rattle.capnp_frame.specs.Asking.{Asked, FailsOr}
 
 -- A step that completes a table of so many segments stops by a line of the table of refusals: by the request of its
 -- other words, the limit, or the padding.
 abbrev pub StopsAtTable : Padding → Giving → Refusing → Option ℕ → ErrorKind → List ℕ → ℕ → List ℕ → List ℕ → Type 0
 StopsAtTable rule gives refuses limit kind first count raw left = RefusesRest rule gives refuses limit kind (λ ns behind. ⊥) left first count raw
+
+-- The limit or the padding refuses a table that is complete, whatever is unread behind it.
+abbrev pub RefusesComplete : Padding → Option ℕ → ErrorKind → List ℕ → Type 0
+RefusesComplete rule limit kind table = (behind : List ℕ) → RefusesAtLimit rule limit kind (λ ns rest. ⊥) behind (take 8 table) (drop 8 table) behind
 
 -- What a step keeps that reads the words of a table after its first, tests the limit and the padding, and fills in where
 -- each segment begins and ends.

@@ -1,13 +1,13 @@
 //! Reading messages from a source into a lent buffer.
-ghost use Rattle.std.specs.Prelude.{◌≡◌, ◌+◌, ◌*◌, ◌<◌, ◌≤◌, ◌^◌, [], length, sum, IfOk, IfErr, OnOk, IfSome, IfNone, Option, Some, None};
-ghost use Rattle.capnp_frame.specs.SegmentTable.{table_size};
+ghost use Rattle.std.specs.Prelude.{◌≡◌, ◌+◌, ◌*◌, ◌<◌, ◌≤◌, ◌^◌, [], length, take, sum, IfOk, IfErr, OnOk, IfSome, IfNone, Option, Some, None};
+ghost use Rattle.capnp_frame.specs.SegmentTable.{table_size, KeepsPadding};
 ghost use Rattle.capnp_frame.specs.Limits.{KeepsLimit};
-ghost use Rattle.capnp_frame.specs.Front.{told_lengths, told_segments, TellsTable, HoldsMessage};
+ghost use Rattle.capnp_frame.specs.Front.{told_lengths, told_padding, told_segments, TellsTable, HoldsMessage};
 ghost use Rattle.capnp_frame.specs.Source.{IfKnown};
 ghost use Rattle.capnp_frame.specs.Asking.{Asked, FailsOr};
 ghost use Rattle.capnp_frame.specs.Errors.{IsRefusedBy};
 ghost use Rattle.capnp_frame.specs.Streams.{next_in, framed_rules, ReadsStreamInto};
-ghost use Rattle.capnp_frame.specs.Steps.{AsksNextInto, StopsAtTable};
+ghost use Rattle.capnp_frame.specs.Steps.{AsksNextInto, StopsAtTable, RefusesComplete};
 ghost use Rattle.capnp_frame.specs.Requests.{RestStands, TableStands, MessageStands};
 ghost use Rattle.capnp_frame.specs.Refusals.{TellsAccepted, RefusesTable, RefusesStream, IsTableKind, IsLentReaderKind};
 ghost use Rattle.capnp_frame.specs.declared.error.ErrorKind.{ErrorKind};
@@ -175,6 +175,25 @@ fn read_total<R: Read>(
     ensures asked { Asked R.unread R.failures R.same source.old source.new result }
 {
     complete_table(source, first, table)?;
+    accepted_total(table, count, limit, rule)
+}
+
+// The sum of the lengths in a table that is complete, once the limit and the padding are tested.
+fn accepted_total(
+    table: &[u8],
+    count: usize,
+    limit: Option<usize>,
+    rule: Padding,
+) -> Result<usize>
+    requires accepted { TellsAccepted (take 8 table.now) count }
+    requires size { length table.now ≡ table_size count }
+    ensures tells { TellsTable table.now count }
+    ensures total { IfOk result (λ total. total ≡ sum (told_lengths count table.now)) }
+    ensures bound { IfOk result (λ total. total < 2 ^ 42) }
+    ensures padding { OnOk result (KeepsPadding rule (told_padding count table.now)) }
+    ensures within { OnOk result (KeepsLimit (told_lengths count table.now) limit) }
+    ensures refused { IfErr result (λ error. RefusesComplete rule limit error.kind table.now) }
+{
     let total = lengths_total(table, count);
     keep_limit(total, limit)?;
     keep_padding(table, count, rule)?;
