@@ -23,7 +23,8 @@ use Rattle.capnp_frame.specs.Front.{told_lengths, told_segments, TellsTable, Hol
 use Rattle.capnp_frame.proofs.RequestLemmas.{MessageStands-cut}
 use Rattle.capnp_frame.proofs.HeldLemmas.{within_held, begins_held}
 use Rattle.capnp_frame.proofs.MetRefusals.{body_met, segments_met}
-use Rattle.capnp_frame.proofs.FrontLemmas.{found_from_held, table_is, Told, told_from_table, length-told, cut-take}
+use Rattle.capnp_frame.proofs.ToldTables.{table_is, Told, told_from_table, length-told}
+use Rattle.capnp_frame.proofs.FrontMessages.{found_from_held, cut-take}
 use Rattle.capnp_frame.proofs.RefusalLemmas.{RefusesStream-apart, RefusesStream-once}
 use Rattle.capnp_frame.proofs.WritingLemmas.{length-lengths}
 

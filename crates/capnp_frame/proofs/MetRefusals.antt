@@ -1,21 +1,19 @@
 -- Which line of the refusal table each part of a reader meets.
-use Rattle.std.proofs.Common.{◌≡◌, ℕ, ◌+◌, ◌-◌, ◌*◌, ◌/◌, ◌%◌, ◌<◌, ◌^◌, Option, Some, None, ◌⊎◌, inl, inr, List, [], ◌++◌, length, take, drop, refl, sym, ap, ◌∙◌, subst, arith}
+use Rattle.std.proofs.Common.{◌≡◌, ℕ, ◌+◌, ◌-◌, ◌*◌, ◌/◌, ◌<◌, Option, Some, None, ◌⊎◌, inl, inr, List, [], ◌++◌, length, take, drop, refl, ap, ◌∙◌, subst, arith}
 use Rattle.std.specs.Prelude.{sum, IsSomeAnd}
-use lib.Seq.{take-append-le}
 use Rattle.capnp_frame.specs.declared.error.ErrorKind.{ErrorKind}
 use Rattle.capnp_frame.specs.declared.error.ErrorKind.TheVariants.{BufferNotLargeEnough, MessageTooLarge, NonZeroPadding, DeviceFailed}
 use Rattle.capnp_frame.specs.declared.serialize.segment_table.Padding.{Padding}
 use Rattle.capnp_frame.specs.declared.serialize.segment_table.Padding.TheVariants.{Any, Zero}
-use Rattle.capnp_frame.specs.SegmentTable.{field, table_size, KeepsPadding, IsTable}
+use Rattle.capnp_frame.specs.SegmentTable.{table_size, KeepsPadding, IsTable}
 use Rattle.capnp_frame.specs.Front.{told_lengths, told_padding, TellsTable}
 use Rattle.capnp_frame.specs.Limits.{KeepsLimit, AreWithin}
 use Rattle.capnp_frame.specs.Source.{Giving, Refusing, IsSource, IfKnown, IsTail, IsRefused}
 use Rattle.capnp_frame.specs.Requests.{TableStands}
 use Rattle.capnp_frame.specs.Refusals.{Tells, TellsAccepted, CountStands, TakesMemory, IsTooLarge, LacksRoom, IsTableKind, IsReaderKind, IsLentReaderKind}
-use Rattle.capnp_frame.specs.Refusals.{RefusesAtLimit, RefusesAtStart, RefusesTable, RefusesStream}
+use Rattle.capnp_frame.specs.Refusals.{RefusesAtLimit, RefusesTable, RefusesStream}
 use Rattle.capnp_frame.specs.Steps.{StopsAtTable, RefusesComplete}
 use Rattle.capnp_frame.proofs.SourceLemmas.{IfKnown-join, IfKnown-weaker, IfKnown-refused}
-use Rattle.capnp_frame.proofs.TableLemmas.{any_table}
 use Rattle.capnp_frame.proofs.LimitLemmas.{RefusesAtStart-from}
 use Rattle.capnp_frame.proofs.TableReading.{whole_table, broken_table}
 use Rattle.capnp_frame.proofs.RefusalLemmas.{in_range, within_limit, small_room, RefusesAtStart-map, given_some}

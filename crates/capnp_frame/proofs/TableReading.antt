@@ -1,7 +1,6 @@
 -- A table whose first word was read before its other words.
 use Rattle.std.proofs.Common.{◌≡◌, ℕ, ◌+◌, ◌-◌, ◌*◌, ◌/◌, ◌≤◌, Option, List, ◌++◌, length, take, drop, sym, ap, ◌∙◌, subst, arith, length-append}
-use Rattle.std.proofs.lemmas.List.{take-append-drop, take_all, take_at, drop_at, length-take-le}
-use lib.Seq.{take-append-le}
+use Rattle.std.proofs.lemmas.List.{take-take, take-append-drop, take_all, take_at, drop_at}
 use borrow.Rule.Slice.PartMut.{put_mid}
 use Rattle.capnp_frame.specs.declared.serialize.segment_table.Padding.{Padding}
 use Rattle.capnp_frame.specs.SegmentTable.{table_size, KeepsPadding, IsTable}
@@ -10,10 +9,7 @@ use Rattle.capnp_frame.specs.Requests.{RestStands, TableStands}
 use Rattle.capnp_frame.specs.Refusals.{TellsAccepted}
 use Rattle.capnp_frame.specs.Front.{told_lengths, told_padding, SpellsLengths, TellsTable}
 use Rattle.capnp_frame.proofs.SourceLemmas.{IfKnown-join, IfKnown-weaker, length-put_mid, put_mid_front}
-use Rattle.capnp_frame.proofs.FrontLemmas.{length-told, table_is, padding_told}
-
-take_within : (m n : ℕ) (xs : List ℕ) → m ≤ n → n ≤ length xs → take m (take n xs) ≡ take m xs
-take_within m n xs less there = sym (take-append-le m (take n xs) (drop n xs) (omega (arith, length-take-le n xs there))) ∙ ap (take m) (take-append-drop n xs)
+use Rattle.capnp_frame.proofs.ToldTables.{length-told, table_is, padding_told}
 
 -- the first word of a table, and then its other words
 pub completed : (word behind piece : List ℕ) → length word ≡ 8 → length piece ≡ length (word ++ behind) - 8 → put_mid 8 (length (word ++ behind) - 8) (word ++ behind) piece ≡ word ++ piece
@@ -40,7 +36,7 @@ pub tells_complete : (table : List ℕ) (count : ℕ) → TellsAccepted (take 8 
 tells_complete table count accepted long spells = record {
   some = accepted.some;
   few = accepted.few;
-  counted = accepted.told ∙ take_within 4 8 table (omega arith) (omega arith);
+  counted = accepted.told ∙ take-take 4 8 table (omega arith);
   lengths = spells;
   room = omega arith;
 }
