@@ -27,30 +27,6 @@ Tells-accepted word count accepted =
     let few = accepted.few in
     (count - 1, omega arith, accepted.told, omega arith)
 
--- a lent buffer has no room for the table
-pub room_met : {gives : Giving} {refuses : Refusing} (rule : Padding) (laws : IsSource gives refuses) (limit room : Option ℕ)
-    (old mid : Option (List ℕ)) (word : List ℕ) (count : ℕ) → (LacksRoom room 8 → ⊥)
-    → LacksRoom room (table_size count) → TellsAccepted word count
-    → IfKnown old mid (λ raw rest. gives raw 8 word rest)
-    → IfKnown old mid (RefusesTable rule gives refuses limit room BufferNotLargeEnough)
-room_met rule laws limit room old mid word count holds lacks accepted given =
-    IfKnown-weaker old mid (λ raw left here. inr (
-      holds,
-      (
-        given_some laws raw 8 word left here (omega arith),
-        inr (
-          word,
-          left,
-          here,
-          (
-            count,
-            Tells-accepted word count accepted,
-            inr (in_range count accepted.some accepted.few, inl (lacks, (refl, refl))),
-          ),
-        ),
-      ),
-    )) given
-
 -- the lines of a table that is completed
 
 -- the source refuses the other words

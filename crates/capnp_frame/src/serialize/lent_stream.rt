@@ -166,12 +166,7 @@ fn read_total<R: Read>(
 }
 
 // The sum of the lengths in a table that is complete, once the limit and the padding are tested.
-fn accepted_total(
-    table: &[u8],
-    count: usize,
-    limit: Option<usize>,
-    rule: Padding,
-) -> Result<usize>
+fn accepted_total(table: &[u8], count: usize, limit: Option<usize>, rule: Padding) -> Result<usize>
     requires accepted { TellsAccepted (take 8 table.now) count }
     requires size { length table.now ≡ table_size count }
     ensures tells { TellsTable table.now count }
