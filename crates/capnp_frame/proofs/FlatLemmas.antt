@@ -17,7 +17,8 @@ use Rattle.capnp_frame.specs.Front.{HasFrame, number, told_lengths, told_padding
 use Rattle.capnp_frame.specs.FlatRefusals.{FlatForm, by_words, by_fields, cut_kind, count_end, count_of, AcceptsCount, lengths_end, CutsSegments, RefusesLengths, RefusesCount, RefusesFlat}
 use Rattle.capnp_frame.proofs.TableLemmas.{count_told}
 use Rattle.capnp_frame.proofs.FrameLemmas.{length-table}
-use Rattle.capnp_frame.proofs.FrontLemmas.{number-field, table_is, Told, told_from_table, held_from_begins}
+use Rattle.capnp_frame.proofs.ToldTables.{number-field, table_is, Told, told_from_table}
+use Rattle.capnp_frame.proofs.FrontMessages.{held_from_begins}
 use Rattle.capnp_frame.proofs.RefusalLemmas.{Unless-once, Unless-after, in_range, within_limit}
 
 -- one line at most is the first that holds

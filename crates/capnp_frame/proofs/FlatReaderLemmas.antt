@@ -11,7 +11,7 @@ use Rattle.capnp_frame.specs.Limits.{KeepsLimit}
 use Rattle.capnp_frame.specs.Front.{told_lengths, told_padding, told_segments, HoldsMessage}
 use Rattle.capnp_frame.specs.FlatRefusals.{FlatForm, by_words, by_fields, AcceptsCount, RefusesFlat}
 use Rattle.capnp_frame.specs.FlatReaders.{FlatRules, StandsBy, RefusesBy, Leaves, OrLacksMemory, Accepts, ReadsFlat}
-use Rattle.capnp_frame.proofs.FrontLemmas.{found_from_held, within_told}
+use Rattle.capnp_frame.proofs.FrontMessages.{found_from_held, within_told}
 use Rattle.capnp_frame.proofs.FlatLemmas.{RefusesFlat-once, RefusesFlat-apart}
 
 -- no line holds where a message stands

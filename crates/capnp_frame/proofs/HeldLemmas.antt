@@ -19,7 +19,7 @@ use Rattle.capnp_frame.specs.Front.{HasFrame, IsDescribed, HaveSameNumbers, numb
 use Rattle.capnp_frame.specs.FlatRefusals.{by_words, by_fields, AcceptsCount, RefusesFlat}
 use Rattle.capnp_frame.proofs.AskLemmas.{never_fails}
 use Rattle.capnp_frame.proofs.Ranges.{widths}
-use Rattle.capnp_frame.proofs.FrontLemmas.{found_from_held, held_from_begins, within_told, length-told_segments}
+use Rattle.capnp_frame.proofs.FrontMessages.{found_from_held, held_from_begins, within_told, length-told_segments}
 use Rattle.capnp_frame.proofs.FlatLemmas.{RefusesFlat-apart, told_by_requests, count_accepted, words_refused, past_lengths, cut_segments}
 
 -- the frame at the front

@@ -17,22 +17,24 @@ use Rattle.capnp_frame.specs.Source.{Giving, Refusing, IsSource, IfKnown, IsTail
 use Rattle.capnp_frame.specs.Refusals.{RefusesStream, IsLentReaderKind}
 use Rattle.capnp_frame.specs.declared.io.Read.{Ghosts}
 use Rattle.capnp_frame.specs.Streams.{framed_rules, ReadsStreamInto}
-use Rattle.capnp_frame.specs.Requests.{TableStands, MessageStands}
+use Rattle.capnp_frame.specs.Requests.{MessageStands}
+use Rattle.capnp_frame.specs.Steps.{FindsTable, FindsMessage}
 use Rattle.capnp_frame.specs.Front.{told_lengths, told_segments, TellsTable, HoldsMessage}
 use Rattle.capnp_frame.proofs.RequestLemmas.{MessageStands-cut}
 use Rattle.capnp_frame.proofs.HeldLemmas.{within_held, begins_held}
 use Rattle.capnp_frame.proofs.MetRefusals.{body_met, segments_met}
-use Rattle.capnp_frame.proofs.FrontLemmas.{found_from_held, table_is, Told, told_from_table, length-told, cut-take}
+use Rattle.capnp_frame.proofs.ToldTables.{table_is, Told, told_from_table, length-told}
+use Rattle.capnp_frame.proofs.FrontMessages.{found_from_held, cut-take}
 use Rattle.capnp_frame.proofs.RefusalLemmas.{RefusesStream-apart, RefusesStream-once}
 use Rattle.capnp_frame.proofs.WritingLemmas.{length-lengths}
 
 -- the segments put behind a table
-pub record Filled (before body after : List ℕ) (count : ℕ) : Type 0 where
-  pub holds : HoldsMessage after count
-  pub lengths_are : told_lengths count after ≡ told_lengths count before
-  pub segments_are : told_segments count after ≡ cut (told_lengths count before) body
+record Filled (before body after : List ℕ) (count : ℕ) : Type 0 where
+  holds : HoldsMessage after count
+  lengths_are : told_lengths count after ≡ told_lengths count before
+  segments_are : told_segments count after ≡ cut (told_lengths count before) body
 
-pub body_put : (before body : List ℕ) (count size len : ℕ) → TellsTable before count → size ≡ table_size count
+body_put : (before body : List ℕ) (count size len : ℕ) → TellsTable before count → size ≡ table_size count
     → len ≡ 8 * sum (told_lengths count before) → length body ≡ len → size + len ≤ length before
     → Filled before body (put_mid size len before body) count
 body_put before body count size len tells size_is len_is long room =
@@ -56,21 +58,6 @@ body_put before body count size len tells size_is len_is long room =
       segments_are = ap (λ l. cut l (drop (table_size count) after)) lens ∙ ap (cut ns) behind ∙ cut-take ns tail ∙ ap (cut ns) part;
     }
 
-pub message_stands : (rule : Padding) (gives : Giving) (before body after : List ℕ) (count len : ℕ) (old mid new : Option (List ℕ))
-    → Filled before body after count → len ≡ 8 * sum (told_lengths count before) → length body ≡ len
-    → IfKnown old mid (TableStands rule gives (told_lengths count before))
-    → IfKnown mid new (λ raw rest. gives raw (length body) body rest)
-    → IfKnown old new (MessageStands rule gives (told_segments count after))
-message_stands rule gives before body after count len old mid new filled len_is long table given =
-    subst (λ l. IfKnown old new (MessageStands rule gives l)) (sym filled.segments_are) (MessageStands-cut rule gives (told_lengths count before) body old mid new (long ∙ len_is) table given)
-
-pub filled_total : (before body after : List ℕ) (count total : ℕ) → Filled before body after count → total ≡ sum (told_lengths count before) → 8 * total ≡ 8 * sum (told_lengths count after)
-filled_total before body after count total filled is = ap (λ k. 8 * k) (is ∙ ap sum (sym filled.lengths_are))
-
-pub filled_within : (before body after : List ℕ) (count : ℕ) (limit : Option ℕ) → Filled before body after count
-    → KeepsLimit (told_lengths count before) limit → KeepsLimit (told_lengths count after) limit
-filled_within before body after count limit filled keeps = subst (λ l. KeepsLimit l limit) (sym filled.lengths_are) keeps
-
 -- what the numbers of a table keep
 pub told_within : (buffer : List ℕ) (count : ℕ) (limit : Option ℕ) → TellsTable buffer count → KeepsLimit (told_lengths count buffer) limit → AreWithin (told_lengths count buffer) limit
 told_within buffer count limit tells keeps =
@@ -79,30 +66,25 @@ told_within buffer count limit tells keeps =
     let few = tells.few in
     record { some = omega arith; few = omega arith; each = tells.lengths.each; size = keeps }
 
--- a table was read to the front of a lent buffer: of so many segments and words, within the limit
-pub record IsRead (rule : Padding) (gives : Giving) (limit : Option ℕ) (buffer : List ℕ) (count total : ℕ) (old mid : Option (List ℕ)) : Type 0 where
-  pub found : IfKnown old mid (TableStands rule gives (told_lengths count buffer))
-  pub tells : TellsTable buffer count
-  pub total_is : total ≡ sum (told_lengths count buffer)
-  pub within : KeepsLimit (told_lengths count buffer) limit
-
--- what the call that reads the table says where it finds one
-pub is_read : (rule : Padding) (gives : Giving) (limit : Option ℕ) (buffer : List ℕ) (count total : ℕ) (old mid : Option (List ℕ)) (found : Option (ℕ × ℕ))
-    → found ≡ Some (count, total)
-    → IfSome found (λ table. IfKnown old mid (TableStands rule gives (told_lengths table.0 buffer)))
-    → IfSome found (λ table. TellsTable buffer table.0)
-    → IfSome found (λ table. table.1 ≡ sum (told_lengths table.0 buffer))
-    → IfSome found (λ table. KeepsLimit (told_lengths table.0 buffer) limit) → IsRead rule gives limit buffer count total old mid
-is_read rule gives limit buffer count total old mid found is stands tells sums keeps = record {
-  found = rw is at stands;
-  tells = rw is at tells;
-  total_is = rw is at sums;
-  within = rw is at keeps;
-}
+-- the segments are read behind the table
+pub body_read : (rule : Padding) (gives : Giving) (limit : Option ℕ) (before body : List ℕ) (count total size len : ℕ) (old mid new : Option (List ℕ))
+    → FindsTable rule gives limit before count total old mid → size ≡ table_size count → len ≡ 8 * total → length body ≡ len
+    → size + len ≤ length before → IfKnown mid new (λ raw rest. gives raw (length body) body rest)
+    → FindsMessage rule gives limit (put_mid size len before body) count (8 * total) old new
+body_read rule gives limit before body count total size len old mid new read size_is len_is long room given =
+    let sums = read.total_is in
+    let filled = body_put before body count size len read.tells size_is (omega arith) long room in
+    record {
+      found = subst (λ l. IfKnown old new (MessageStands rule gives l)) (sym filled.segments_are)
+          (MessageStands-cut rule gives (told_lengths count before) body old mid new (omega arith) read.found given);
+      holds = filled.holds;
+      total_is = ap (λ k. 8 * k) (sums ∙ ap sum (sym filled.lengths_are));
+      within = subst (λ l. KeepsLimit l limit) (sym filled.lengths_are) read.within;
+    }
 
 -- the buffer has no room for the segments
 pub lacks_segments : {gives : Giving} {refuses : Refusing} (rule : Padding) (laws : IsSource gives refuses) (limit : Option ℕ)
-    (buffer : List ℕ) (count total len : ℕ) (old mid : Option (List ℕ)) → IsRead rule gives limit buffer count total old mid
+    (buffer : List ℕ) (count total len : ℕ) (old mid : Option (List ℕ)) → FindsTable rule gives limit buffer count total old mid
     → table_size count ≤ len → len < table_size count + 8 * total
     → IfKnown old mid (RefusesStream rule gives refuses limit (Some len) BufferNotLargeEnough)
 lacks_segments rule laws limit buffer count total len old mid read room lacks =
@@ -114,7 +96,7 @@ lacks_segments rule laws limit buffer count total len old mid read room lacks =
 -- the source refuses the segments
 pub segments_refused : {gives : Giving} {refuses : Refusing} (rule : Padding) (laws : IsSource gives refuses) (F : Type 0)
     (limit : Option ℕ) (kind : ErrorKind) (buffer : List ℕ) (count total len n : ℕ) (old mid new : Option (List ℕ))
-    → IsRead rule gives limit buffer count total old mid → table_size count + 8 * total ≤ len → n ≡ 8 * total
+    → FindsTable rule gives limit buffer count total old mid → table_size count + 8 * total ≤ len → n ≡ 8 * total
     → IfKnown mid new IsTail → F ⊎ IsRefused refuses n mid kind
     → F ⊎ IfKnown old new (RefusesStream rule gives refuses limit (Some len) kind)
 segments_refused rule laws F limit kind buffer count total len n old mid new read room asked tail =

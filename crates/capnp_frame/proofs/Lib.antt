@@ -14,7 +14,8 @@ pub mod TextLemmas
 pub mod WorkedRows
 pub mod WritingLemmas
 pub mod SizeLemmas
-pub mod FrontLemmas
+pub mod ToldTables
+pub mod FrontMessages
 pub mod FlatLemmas
 pub mod HeldLemmas
 pub mod FlatReaderLemmas

@@ -1,23 +1,21 @@
 -- Which line of the refusal table each part of a reader meets.
-use Rattle.std.proofs.Common.{◌≡◌, ℕ, ◌+◌, ◌-◌, ◌*◌, ◌/◌, ◌%◌, ◌<◌, ◌^◌, Option, Some, None, ◌⊎◌, inl, inr, List, ◌++◌, length, take, drop, refl, sym, ap, ◌∙◌, subst, arith}
+use Rattle.std.proofs.Common.{◌≡◌, ℕ, ◌+◌, ◌-◌, ◌*◌, ◌/◌, ◌<◌, Option, Some, None, ◌⊎◌, inl, inr, List, [], ◌++◌, length, take, drop, refl, ap, ◌∙◌, subst, arith}
 use Rattle.std.specs.Prelude.{sum, IsSomeAnd}
-use lib.Seq.{take-append-le}
 use Rattle.capnp_frame.specs.declared.error.ErrorKind.{ErrorKind}
 use Rattle.capnp_frame.specs.declared.error.ErrorKind.TheVariants.{BufferNotLargeEnough, MessageTooLarge, NonZeroPadding, DeviceFailed}
 use Rattle.capnp_frame.specs.declared.serialize.segment_table.Padding.{Padding}
-use Rattle.capnp_frame.specs.declared.serialize.segment_table.Padding.TheVariants.{Any}
-use Rattle.capnp_frame.specs.SegmentTable.{field, table_size, KeepsPadding, IsTable}
-use Rattle.capnp_frame.specs.Front.{told_lengths, told_padding, SpellsLengths, TellsTable}
+use Rattle.capnp_frame.specs.declared.serialize.segment_table.Padding.TheVariants.{Any, Zero}
+use Rattle.capnp_frame.specs.SegmentTable.{table_size, KeepsPadding, IsTable}
+use Rattle.capnp_frame.specs.Front.{told_lengths, told_padding, TellsTable}
 use Rattle.capnp_frame.specs.Limits.{KeepsLimit, AreWithin}
 use Rattle.capnp_frame.specs.Source.{Giving, Refusing, IsSource, IfKnown, IsTail, IsRefused}
 use Rattle.capnp_frame.specs.Requests.{TableStands}
 use Rattle.capnp_frame.specs.Refusals.{Tells, TellsAccepted, CountStands, TakesMemory, IsTooLarge, LacksRoom, IsTableKind, IsReaderKind, IsLentReaderKind}
-use Rattle.capnp_frame.specs.Refusals.{RefusesAtLimit, RefusesAtStart, RefusesTable, RefusesStream}
-use Rattle.capnp_frame.specs.Steps.{StopsAtTable}
+use Rattle.capnp_frame.specs.Refusals.{RefusesAtLimit, RefusesTable, RefusesStream}
+use Rattle.capnp_frame.specs.Steps.{StopsAtTable, RefusesComplete}
 use Rattle.capnp_frame.proofs.SourceLemmas.{IfKnown-join, IfKnown-weaker, IfKnown-refused}
-use Rattle.capnp_frame.proofs.TableLemmas.{any_table}
 use Rattle.capnp_frame.proofs.LimitLemmas.{RefusesAtStart-from}
-use Rattle.capnp_frame.proofs.TableReading.{tells_completed, whole_table, broken_table}
+use Rattle.capnp_frame.proofs.TableReading.{whole_table, broken_table}
 use Rattle.capnp_frame.proofs.RefusalLemmas.{in_range, within_limit, small_room, RefusesAtStart-map, given_some}
 
 -- the lines, as a reader meets them
@@ -28,30 +26,6 @@ Tells-accepted word count accepted =
     let some = accepted.some in
     let few = accepted.few in
     (count - 1, omega arith, accepted.told, omega arith)
-
--- a lent buffer has no room for the table
-pub room_met : {gives : Giving} {refuses : Refusing} (rule : Padding) (laws : IsSource gives refuses) (limit room : Option ℕ)
-    (old mid : Option (List ℕ)) (word : List ℕ) (count : ℕ) → (LacksRoom room 8 → ⊥)
-    → LacksRoom room (table_size count) → TellsAccepted word count
-    → IfKnown old mid (λ raw rest. gives raw 8 word rest)
-    → IfKnown old mid (RefusesTable rule gives refuses limit room BufferNotLargeEnough)
-room_met rule laws limit room old mid word count holds lacks accepted given =
-    IfKnown-weaker old mid (λ raw left here. inr (
-      holds,
-      (
-        given_some laws raw 8 word left here (omega arith),
-        inr (
-          word,
-          left,
-          here,
-          (
-            count,
-            Tells-accepted word count accepted,
-            inr (in_range count accepted.some accepted.few, inl (lacks, (refl, refl))),
-          ),
-        ),
-      ),
-    )) given
 
 -- the lines of a table that is completed
 
@@ -65,60 +39,54 @@ others_stop rule gives refuses F limit kind word count None new tail (inr refuse
 others_stop rule gives refuses F limit kind word count (Some raw) None tail (inr refused) = absurd tail
 others_stop rule gives refuses F limit kind word count (Some raw) (Some left) tail (inr refused) = inr (inl refused)
 
--- a table was completed: its first word, and all its bytes
-pub record IsCompleted (gives : Giving) (word table : List ℕ) (count : ℕ) (old new : Option (List ℕ)) : Type 0 where
-  pub front : take 8 table ≡ word
-  pub size : length table ≡ table_size count
-  pub tells : TellsTable table count
-  pub given : IfKnown old new (λ raw rest. gives raw (length table - 8) (drop 8 table) rest)
-
-pub is_completed : (gives : Giving) (word table : List ℕ) (count : ℕ) (old new : Option (List ℕ)) → take 8 table ≡ word
-    → length table ≡ table_size count → TellsAccepted word count → SpellsLengths table count
-    → IfKnown old new (λ raw rest. gives raw (length table - 8) (drop 8 table) rest) → IsCompleted gives word table count old new
-is_completed gives word table count old new front size accepted spells given =
-    record { front = front; size = size; tells = tells_completed word table count front size accepted spells; given = given }
-
-completed_stops : (rule : Padding) (gives : Giving) (refuses : Refusing) (limit : Option ℕ) (kind : ErrorKind)
-    (word table : List ℕ) (count : ℕ) (old new : Option (List ℕ)) → IsCompleted gives word table count old new
-    → ((left : List ℕ) → RefusesAtLimit rule limit kind (λ ns behind. ⊥) left word (drop 8 table) left)
-    → IfKnown old new (StopsAtTable rule gives refuses limit kind word count)
-completed_stops rule gives refuses limit kind word table count old new completed met =
-    let long = completed.size in
-    let size : length table - 8 ≡ 8 * (count / 2) = omega arith in
-    IfKnown-weaker old new
-    (λ raw rest given. inr (drop 8 table, rest, subst (λ k. gives raw k (drop 8 table) rest) size given, met rest))
-    completed.given
-
 -- the table is one of any padding
-some_table : {gives : Giving} (word table : List ℕ) (count : ℕ) (old new : Option (List ℕ)) → IsCompleted gives word table count old new
-    → IsTable Any (word ++ drop 8 table) (told_lengths count table)
-some_table word table count old new completed = whole_table Any word table count completed.front completed.size completed.tells tt
+some_table : (table : List ℕ) (count : ℕ) → TellsTable table count → length table ≡ table_size count
+    → IsTable Any (take 8 table ++ drop 8 table) (told_lengths count table)
+some_table table count tells size = whole_table Any (take 8 table) table count refl size tells tt
 
 -- its segments pass the limit
-pub limit_stops : (rule : Padding) (gives : Giving) (refuses : Refusing) (limit : Option ℕ) (kind : ErrorKind)
-    (word table : List ℕ) (count total : ℕ) (old new : Option (List ℕ)) → IsCompleted gives word table count old new
-    → total ≡ sum (told_lengths count table) → IsSomeAnd limit (λ most. most < total) × (kind ≡ MessageTooLarge total)
-    → IfKnown old new (StopsAtTable rule gives refuses limit kind word count)
-limit_stops rule gives refuses limit kind word table count total old new completed sums (over, is) =
+pub limit_refuses : (rule : Padding) (limit : Option ℕ) (kind : ErrorKind) (table : List ℕ) (count total : ℕ) → TellsTable table count
+    → length table ≡ table_size count → total ≡ sum (told_lengths count table)
+    → IsSomeAnd limit (λ most. most < total) × (kind ≡ MessageTooLarge total) → RefusesComplete rule limit kind table
+limit_refuses rule limit kind table count total tells size sums (over, is) =
     let ns = told_lengths count table in
     let large : IsTooLarge ns limit = subst (λ k. IsSomeAnd limit (λ most. most < k)) sums over in
-    completed_stops rule gives refuses limit kind word table count old new completed
-    (λ left. (ns, some_table word table count old new completed, inl (large, (is ∙ ap MessageTooLarge sums, refl))))
+    λ behind. (ns, some_table table count tells size, inl (large, (is ∙ ap MessageTooLarge sums, refl)))
 
 -- its padding is not taken
-pub padding_stops : (rule : Padding) (gives : Giving) (refuses : Refusing) (limit : Option ℕ) (kind : ErrorKind)
-    (word table : List ℕ) (count : ℕ) (old new : Option (List ℕ)) → IsCompleted gives word table count old new
-    → KeepsLimit (told_lengths count table) limit → (KeepsPadding rule (told_padding count table) → ⊥) → kind ≡ NonZeroPadding
-    → IfKnown old new (StopsAtTable rule gives refuses limit kind word count)
-padding_stops rule gives refuses limit kind word table count old new completed keeps broken is =
+pub padding_refuses : (rule : Padding) (limit : Option ℕ) (kind : ErrorKind) (table : List ℕ) (count : ℕ) → TellsTable table count
+    → length table ≡ table_size count → KeepsLimit (told_lengths count table) limit
+    → (KeepsPadding rule (told_padding count table) → ⊥) → kind ≡ NonZeroPadding → RefusesComplete rule limit kind table
+padding_refuses rule limit kind table count tells size keeps broken is =
     let ns = told_lengths count table in
-    let breaks = broken_table rule word table count completed.front completed.size broken in
-    completed_stops rule gives refuses limit kind word table count old new completed
-    (λ left. (
-      ns,
-      some_table word table count old new completed,
-      inr (within_limit ns limit keeps, inl (breaks, (is, refl))),
-    ))
+    let breaks = broken_table rule (take 8 table) table count refl size broken in
+    λ behind. (ns, some_table table count tells size, inr (within_limit ns limit keeps, inl (breaks, (is, refl))))
+
+-- these are lines of a table that is to be completed
+pub complete_stops : (rule : Padding) (gives : Giving) (refuses : Refusing) (limit : Option ℕ) (kind : ErrorKind)
+    (word table : List ℕ) (count : ℕ) (old new : Option (List ℕ)) → take 8 table ≡ word → length table ≡ table_size count
+    → IfKnown old new (λ raw rest. gives raw (length table - 8) (drop 8 table) rest)
+    → RefusesComplete rule limit kind table → IfKnown old new (StopsAtTable rule gives refuses limit kind word count)
+complete_stops rule gives refuses limit kind word table count old new front long given met =
+    let size : length table - 8 ≡ 8 * (count / 2) = omega arith in
+    IfKnown-weaker old new (λ raw rest given. inr (
+      drop 8 table,
+      rest,
+      subst (λ k. gives raw k (drop 8 table) rest) size given,
+      subst (λ first. RefusesAtLimit rule limit kind (λ ns behind. ⊥) rest first (drop 8 table) rest) front (met rest),
+    )) given
+
+-- and their kinds are those met there, none of them the device's
+pub complete_kind : (rule : Padding) (refuses : Refusing) (limit : Option ℕ) (kind : ErrorKind) (table : List ℕ)
+    → RefusesComplete rule limit kind table → IsTableKind rule refuses kind × (kind ≡ DeviceFailed → ⊥)
+complete_kind rule refuses limit kind table met = by_line rule (met [])
+  where
+    by_line : (own : Padding) → RefusesAtLimit own limit kind (λ ns rest. ⊥) [] (take 8 table) (drop 8 table) []
+        → IsTableKind own refuses kind × (kind ≡ DeviceFailed → ⊥)
+    by_line own (ns, is, inl (large, (line, here))) = (inr (inl (sum ns, line)), λ device. cc)
+    by_line Any (ns, is, inr (small, inl (breaks, line))) = absurd (breaks is)
+    by_line Zero (ns, is, inr (small, inl (breaks, (line, here)))) = (inr (inr (inl (refl, line))), λ device. cc)
+    by_line own (ns, is, inr (small, inr (kept, never))) = absurd never
 
 -- and these are lines of the whole table of refusals
 pub rest_met : (rule : Padding) {gives : Giving} {refuses : Refusing} (laws : IsSource gives refuses) (F : Type 0)

@@ -6,7 +6,7 @@ use Rattle.std.specs.Prelude.{sum, slice_get}
 use Rattle.capnp_frame.specs.SegmentTable.{field, table_size}
 use Rattle.capnp_frame.specs.SegmentLengths.{cut}
 use Rattle.capnp_frame.specs.Front.{number, told_lengths, told_segments, HoldsMessage}
-use Rattle.capnp_frame.proofs.FrontLemmas.{number_at, numbers-take, numbers-suc, number-field}
+use Rattle.capnp_frame.proofs.ToldTables.{number_at, numbers-take, numbers-suc, number-field}
 use Rattle.capnp_frame.proofs.Ranges.{sum_push}
 
 pub cut_at : (ns body : List ℕ) (i n : ℕ) → slice_get ns i ≡ Some n → slice_get (cut ns body) i ≡ Some (take (8 * n) (drop (8 * sum (take i ns)) body))

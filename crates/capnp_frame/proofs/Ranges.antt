@@ -39,9 +39,6 @@ AreRanges-push indices total n are =
     ∙ ap (λ l. l ++ (total, total + n) ∷ []) (sym are.running) in
     record { running = sym more ∙ ap ranges (sym lens); total_is = ap (λ k. k + n) are.total_is ∙ sym (sum_push (map range_len indices) n) ∙ ap sum (sym lens) }
 
-length-ranges : (start : ℕ) (ns : List ℕ) → length (ranges_from start ns) ≡ length ns
-length-ranges start ns = sym (length-map (ranges_from start ns) range_len) ∙ ap length (widths start ns)
-
 pub concat-cut : (ns bytes : List ℕ) → length bytes ≡ 8 * sum ns → concat (cut ns bytes) ≡ bytes
 concat-cut [] bytes all = sym (nil_from_length bytes all)
 concat-cut (n ∷ ns) bytes all = ap (λ l. take (8 * n) bytes ++ l) (concat-cut ns (drop (8 * n) bytes) (omega (arith, length-drop (8 * n) bytes, sum-cons n ns))) ∙ take-append-drop (8 * n) bytes

@@ -18,6 +18,7 @@ use Rattle.capnp_frame.specs.Writing.{IsWritable, HasFew, RefusesMany, word_and_
 use Rattle.capnp_frame.specs.declared.serialize.segment_table.Padding.TheVariants.{Zero}
 use Rattle.capnp_frame.proofs.FrameLemmas.{zero_padded_is, length-table, length-segments}
 use Rattle.capnp_frame.proofs.AskLemmas.{never_fails}
+use Rattle.capnp_frame.proofs.TextLemmas.{pieces_joined}
 use Rattle.capnp_frame.proofs.WritingLemmas.{parts_one, parts_two, length-lengths}
 
 pub HasTable-writable : (segments : List (List ℕ)) → IsWritable segments → HasTable (lengths segments)
@@ -51,13 +52,9 @@ concat-pieces segments =
     let table = zero_padded_table (lengths segments) in
     concat-append (word_and_rest table) segments ∙ ap (λ l. l ++ concat segments) (concat-word_and_rest table)
 
-appended_same : (xs : List (List ℕ)) (text : List ℕ) → AppendsAll AppendsSame xs text → text ≡ concat xs
-appended_same [] text p = p
-appended_same (x ∷ xs) text p = p.4 ∙ ap (λ l. l ++ p.1) p.2 ∙ ap (λ l. x ++ l) (appended_same xs p.1 p.3)
-
 -- what a plain sink has after the pieces of a message
 pub written_frame : (segments : List (List ℕ)) (old new : List ℕ) → old ≡ [] → IfKnown (Some old) (Some new) (Adds (AppendsAll AppendsSame (pieces segments))) → new ≡ frame_text segments
-written_frame segments old new empty p = p.2 ∙ ap (λ l. l ++ p.0) empty ∙ appended_same (pieces segments) p.0 p.1 ∙ concat-pieces segments
+written_frame segments old new empty p = p.2 ∙ ap (λ l. l ++ p.0) empty ∙ (pieces_joined (pieces segments) p.0).0 p.1 ∙ concat-pieces segments
 
 declines_memory : (xs : List (List ℕ)) (kind : ErrorKind) → DeclinesSome (ByKind OutOfMemory) xs kind → kind ≡ OutOfMemory
 declines_memory [] kind p = absurd p

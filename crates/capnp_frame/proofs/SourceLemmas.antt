@@ -44,13 +44,6 @@ Advances-join {unread} a b c join p q = record {
   same_source = join p.same_source q.same_source;
 }
 
-pub Advances-refl : {S : Type 0} {unread : S → Option (List ℕ)} {failures : S → ℕ} {same : S → S → Type 0} (a : S) → same a a → Advances unread failures same a a
-Advances-refl {unread} a self_same = record {
-  tail = IfKnown-refl IsTail (unread a) (λ x. ([], refl));
-  counted = omega arith;
-  same_source = self_same;
-}
-
 -- two answers to one request
 pub AnswersPart-join : {gives : Giving} {refuses : Refusing} (n : ℕ) (a b raw mid left : List ℕ)
     → AnswersPart gives refuses n a raw mid → AnswersPart gives refuses (n - length a) b mid left
@@ -185,14 +178,6 @@ not_empty_before (Some x) (Some y) tail more = λ e. more (nil_from_length y (om
 pub ends : (n : ℕ) (old : Option (List ℕ)) → IfSome old (λ raw. raw ≡ []) → IfSome old (λ raw. 0 < n → (◌≡◌ {A = ℕ} 0 0) ↔ (raw ≡ []))
 ends n None end = tt
 ends n (Some raw) end = λ _. (λ _. end, λ _. refl)
-
--- a refusal of the rest of a request is one of the request, and a failure stays
-pub refused_join : (F : Type 0) (gives : Giving) (refuses : Refusing) (n len : ℕ) (got : List ℕ)
-    (old mid : Option (List ℕ)) (kind : ErrorKind) → len ≡ n - length got
-    → IfKnown old mid (AnswersPart gives refuses n got) → F ⊎ IsRefused refuses len mid kind → F
-    ⊎ IsRefused refuses n old kind
-refused_join F gives refuses n len got old mid kind left taken (inl failed) = inl failed
-refused_join F gives refuses n len got old mid kind left taken (inr refused) = inr (IsRefused-join gives refuses n got old mid kind taken (subst (λ k. IsRefused refuses k mid kind) left refused))
 
 -- a request that is answered whole
 pub AnswersPart-given : (gives : Giving) (refuses : Refusing) (n : ℕ) (got raw left : List ℕ)

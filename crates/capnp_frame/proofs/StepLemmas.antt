@@ -1,5 +1,5 @@
 -- The private steps of the readers of streams, one after another.
-use Rattle.std.proofs.Common.{◌≡◌, ◌⊎◌, ℕ, ◌<◌, List, Option, Some, Result, Ok, Err, sym, subst}
+use Rattle.std.proofs.Common.{◌≡◌, ◌⊎◌, ℕ, ◌<◌, List, [], Option, Some, Result, Ok, Err, refl, sym, subst}
 use Rattle.std.specs.Result.{IsErrAnd}
 use Rattle.capnp_frame.specs.declared.error.Error.{Error}
 use Rattle.capnp_frame.specs.declared.error.ErrorKind.{ErrorKind}
@@ -7,8 +7,10 @@ use Rattle.capnp_frame.specs.declared.error.ErrorKind.TheVariants.{DeviceFailed,
 use Rattle.capnp_frame.specs.declared.serialize.segment_table.Padding.{Padding}
 use Rattle.capnp_frame.specs.declared.io.Read.{Ghosts}
 use Rattle.capnp_frame.specs.Source.{IfKnown, Advances}
+use Rattle.capnp_frame.specs.Asking.{Asked}
+use Rattle.capnp_frame.specs.Refusals.{IsReaderKind, IsLentReaderKind}
 use Rattle.capnp_frame.specs.Steps.{AsksNext, AsksNextInto}
-use Rattle.capnp_frame.proofs.AskLemmas.{Asked-ok}
+use Rattle.capnp_frame.proofs.AskLemmas.{Asked-ok, Asked-err}
 
 -- a step that finds what comes next, after one that was answered
 
@@ -36,6 +38,45 @@ asks_found_into source rule room lines a b c found enough join first second = re
   end = tt;
   asked = Asked-ok join first second;
 }
+
+-- and one that fails, after one that was answered
+
+pub asks_failed : {S X Y : Type 0} (source : Ghosts S) (rule : Padding) (takes : List ℕ → List ℕ → Type 0)
+    (lines : ErrorKind → List ℕ → List ℕ → Type 0) (a b c : S) (error : Error) (result : Result (Option Y) Error)
+    → (source.same a b → source.same b c → source.same a c) → IsErrAnd result (λ own. own ≡ error)
+    → (error.kind ≡ DeviceFailed) ⊎ ((error.kind ≡ OutOfMemory) × IfKnown (source.unread a) (source.unread c) takes)
+    ⊎ IfKnown (source.unread a) (source.unread c) (lines error.kind) → IsReaderKind rule source.refuses error.kind
+    → (source.unread a ≡ Some [] → error.kind ≡ DeviceFailed)
+    → Advances source.unread source.failures source.same a b
+    → Asked {X = X} source.unread source.failures source.same b c (Err error) → AsksNext source a c rule takes lines result
+asks_failed source rule takes lines a b c error (Ok found) join is refused kind end first second = absurd is
+asks_failed {Y = Y} source rule takes lines a b c error (Err own) join is refused kind end first second =
+    subst (λ e. AsksNext {X = Y} source a c rule takes lines (Err e)) (sym is) (record {
+      none = tt;
+      refused = refused;
+      kinds = kind;
+      end = end;
+      asked = Asked-err join refl first second;
+    })
+
+pub asks_failed_into : {S X Y : Type 0} (source : Ghosts S) (rule : Padding) (room : ℕ) (lines : ErrorKind → List ℕ → List ℕ → Type 0)
+    (a b c : S) (error : Error) (result : Result (Option Y) Error) → (room < 8 → ⊥)
+    → (source.same a b → source.same b c → source.same a c) → IsErrAnd result (λ own. own ≡ error)
+    → (error.kind ≡ DeviceFailed) ⊎ IfKnown (source.unread a) (source.unread c) (lines error.kind)
+    → IsLentReaderKind rule source.refuses error.kind
+    → (source.unread a ≡ Some [] → error.kind ≡ DeviceFailed)
+    → Advances source.unread source.failures source.same a b
+    → Asked {X = X} source.unread source.failures source.same b c (Err error) → AsksNextInto source a c rule room lines result
+asks_failed_into source rule room lines a b c error (Ok found) enough join is refused kind end first second = absurd is
+asks_failed_into {Y = Y} source rule room lines a b c error (Err own) enough join is refused kind end first second =
+    subst (λ e. AsksNextInto {X = Y} source a c rule room lines (Err e)) (sym is) (record {
+      none = tt;
+      short = λ few. absurd (enough few);
+      refused = refused;
+      kinds = kind;
+      end = λ nothing fits. end nothing;
+      asked = Asked-err join refl first second;
+    })
 
 -- a failure that is passed on, where its lines are among the caller's
 

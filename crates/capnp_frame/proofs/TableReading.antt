@@ -1,7 +1,6 @@
 -- A table whose first word was read before its other words.
 use Rattle.std.proofs.Common.{◌≡◌, ℕ, ◌+◌, ◌-◌, ◌*◌, ◌/◌, ◌≤◌, Option, List, ◌++◌, length, take, drop, sym, ap, ◌∙◌, subst, arith, length-append}
-use Rattle.std.proofs.lemmas.List.{take-append-drop, take_all, take_at, drop_at, length-take-le}
-use lib.Seq.{take-append-le}
+use Rattle.std.proofs.lemmas.List.{take-take, take-append-drop, take_all, take_at, drop_at}
 use borrow.Rule.Slice.PartMut.{put_mid}
 use Rattle.capnp_frame.specs.declared.serialize.segment_table.Padding.{Padding}
 use Rattle.capnp_frame.specs.SegmentTable.{table_size, KeepsPadding, IsTable}
@@ -10,10 +9,7 @@ use Rattle.capnp_frame.specs.Requests.{RestStands, TableStands}
 use Rattle.capnp_frame.specs.Refusals.{TellsAccepted}
 use Rattle.capnp_frame.specs.Front.{told_lengths, told_padding, SpellsLengths, TellsTable}
 use Rattle.capnp_frame.proofs.SourceLemmas.{IfKnown-join, IfKnown-weaker, length-put_mid, put_mid_front}
-use Rattle.capnp_frame.proofs.FrontLemmas.{length-told, table_is, padding_told}
-
-take_within : (m n : ℕ) (xs : List ℕ) → m ≤ n → n ≤ length xs → take m (take n xs) ≡ take m xs
-take_within m n xs less there = sym (take-append-le m (take n xs) (drop n xs) (omega (arith, length-take-le n xs there))) ∙ ap (take m) (take-append-drop n xs)
+use Rattle.capnp_frame.proofs.ToldTables.{length-told, table_is, padding_told}
 
 -- the first word of a table, and then its other words
 pub completed : (word behind piece : List ℕ) → length word ≡ 8 → length piece ≡ length (word ++ behind) - 8 → put_mid 8 (length (word ++ behind) - 8) (word ++ behind) piece ≡ word ++ piece
@@ -35,12 +31,12 @@ completed_given gives word piece after old new long is =
     let size : length after - 8 ≡ length piece = omega (arith, ap length is, length-append word piece) in
     IfKnown-weaker old new (λ raw rest given. subst (λ k. gives raw k (drop 8 after) rest) (sym size) (subst (λ l. gives raw (length piece) l rest) (sym others) given))
 
--- the bytes are a table of so many segments whose first word was told to be accepted
-pub tells_completed : (word table : List ℕ) (count : ℕ) → take 8 table ≡ word → length table ≡ table_size count → TellsAccepted word count → SpellsLengths table count → TellsTable table count
-tells_completed word table count front long accepted spells = record {
+-- the bytes are a table of so many segments, where its first word tells so
+pub tells_complete : (table : List ℕ) (count : ℕ) → TellsAccepted (take 8 table) count → length table ≡ table_size count → SpellsLengths table count → TellsTable table count
+tells_complete table count accepted long spells = record {
   some = accepted.some;
   few = accepted.few;
-  counted = accepted.told ∙ ap (take 4) (sym front) ∙ take_within 4 8 table (omega arith) (omega arith);
+  counted = accepted.told ∙ take-take 4 8 table (omega arith);
   lengths = spells;
   room = omega arith;
 }

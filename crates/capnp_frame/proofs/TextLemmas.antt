@@ -1,6 +1,5 @@
 -- A stream parts into texts in one way.
-use Rattle.std.proofs.Common.{◌≡◌, ℕ, ◌≤◌, Option, Some, None, List, [], ◌∷◌, ◌++◌, length, refl, sym, ap, ◌∙◌, subst, arith, lit<, append_assoc, length-append, ◌↔◌}
-use Rattle.std.proofs.lemmas.List.{append-nil}
+use Rattle.std.proofs.Common.{◌≡◌, ℕ, ◌≤◌, Option, Some, None, List, [], ◌∷◌, ◌++◌, length, refl, sym, ap, ◌∙◌, subst, arith, lit<, length-append, ◌↔◌}
 use Rattle.std.specs.List.{concat}
 use Rattle.capnp_frame.specs.declared.error.ErrorKind.{ErrorKind}
 use Rattle.capnp_frame.specs.declared.serialize.segment_table.Padding.{Padding}
@@ -96,13 +95,7 @@ pub frames_part : {rule also : Padding} (text other rest left : List ℕ) (segme
     → IsFrame also other others → text ++ rest ≡ other ++ left → (text ≡ other) × (segments ≡ others) × (rest ≡ left)
 frames_part text other rest left segments others is so = texts_part Any splitting (plain_requests Any) text other rest left segments others (any_frame text segments is) (any_frame other others so)
 
--- pieces behind one another
-pub AppendsAll-push : (appends : List ℕ → List ℕ → Type 0) (pieces : List (List ℕ)) (piece text more : List ℕ)
-    → AppendsAll appends pieces text → appends piece more → AppendsAll appends (pieces ++ piece ∷ []) (text ++ more)
-AppendsAll-push appends [] piece text more all here = (more, [], here, refl, ap (λ l. l ++ more) all ∙ sym (append-nil more))
-AppendsAll-push appends (p ∷ ps) piece text more all here =
-    (all.0, all.1 ++ more, all.2, AppendsAll-push appends ps piece all.1 more all.3 here, ap (λ l. l ++ more) all.4 ∙ append_assoc all.0 all.1 more)
-
+-- pieces behind one another that are added as they are
 pub pieces_joined : (pieces : List (List ℕ)) (text : List ℕ) → AppendsAll AppendsSame pieces text ↔ (text ≡ concat pieces)
 pieces_joined [] text = (λ all. all, λ all. all)
 pieces_joined (p ∷ ps) text = (

@@ -21,7 +21,7 @@ use Rattle.capnp_frame.proofs.TableLemmas.{length-fields}
 
 -- pieces
 
-AppendsAll-append : (appends : Appending) (xs ys : List (List ℕ)) (s t : List ℕ) → AppendsAll appends xs s → AppendsAll appends ys t → AppendsAll appends (xs ++ ys) (s ++ t)
+pub AppendsAll-append : (appends : Appending) (xs ys : List (List ℕ)) (s t : List ℕ) → AppendsAll appends xs s → AppendsAll appends ys t → AppendsAll appends (xs ++ ys) (s ++ t)
 AppendsAll-append appends [] ys s t p q = subst (λ l. AppendsAll appends ys (l ++ t)) (sym p) q
 AppendsAll-append appends (x ∷ xs) ys s t p q = (p.0, p.1 ++ t, p.2, AppendsAll-append appends xs ys p.1 t p.3 q, ap (λ l. l ++ t) p.4 ∙ append_assoc p.0 p.1 t)
 

@@ -1,5 +1,5 @@
 -- What the private steps of the readers of streams keep (src/serialize/stream.rt, src/serialize/lent_stream.rt).
-use Rattle.std.specs.Prelude.{◌≡◌, ◌⊎◌, ℕ, ◌^◌, ◌<◌, ◌≤◌, List, [], length, map, Option, Some, Result, IfOk, IfErr, OnOk, IfSome, IfNone}
+use Rattle.std.specs.Prelude.{◌≡◌, ◌⊎◌, ℕ, ◌*◌, ◌^◌, ◌<◌, ◌≤◌, List, [], length, map, take, drop, sum, Option, Some, Result, IfOk, IfErr, OnOk, IfSome, IfNone}
 use Rattle.std.specs.List.{AllByRecursion}
 use Rattle.capnp_frame.specs.declared.error.Error.{Error}
 use Rattle.capnp_frame.specs.declared.error.ErrorKind.{ErrorKind}
@@ -9,16 +9,21 @@ use Rattle.capnp_frame.specs.declared.io.Read.{Ghosts}
 use Rattle.capnp_frame.specs.SegmentTable.{FitsField}
 use Rattle.capnp_frame.specs.SegmentLengths.{range_len, AreRanges}
 use Rattle.capnp_frame.specs.Limits.{KeepsLimit}
+use Rattle.capnp_frame.specs.Front.{told_lengths, told_segments, TellsTable, HoldsMessage}
 use Rattle.capnp_frame.specs.Source.{Giving, Refusing, IfKnown}
-use Rattle.capnp_frame.specs.Requests.{RestStands}
+use Rattle.capnp_frame.specs.Requests.{RestStands, TableStands, MessageStands}
 use Rattle.capnp_frame.specs.Errors.{IsRefusedBy}
-use Rattle.capnp_frame.specs.Refusals.{RefusesRest, IsTableKind, IsReaderKind, IsLentReaderKind}
+use Rattle.capnp_frame.specs.Refusals.{RefusesAtLimit, RefusesRest, IsTableKind, IsReaderKind, IsLentReaderKind}
 use Rattle.capnp_frame.specs.Asking.{Asked, FailsOr}
 
 -- A step that completes a table of so many segments stops by a line of the table of refusals: by the request of its
 -- other words, the limit, or the padding.
 abbrev pub StopsAtTable : Padding → Giving → Refusing → Option ℕ → ErrorKind → List ℕ → ℕ → List ℕ → List ℕ → Type 0
 StopsAtTable rule gives refuses limit kind first count raw left = RefusesRest rule gives refuses limit kind (λ ns behind. ⊥) left first count raw
+
+-- The limit or the padding refuses a table that is complete, whatever is unread behind it.
+abbrev pub RefusesComplete : Padding → Option ℕ → ErrorKind → List ℕ → Type 0
+RefusesComplete rule limit kind table = (behind : List ℕ) → RefusesAtLimit rule limit kind (λ ns rest. ⊥) behind (take 8 table) (drop 8 table) behind
 
 -- What a step keeps that reads the words of a table after its first, tests the limit and the padding, and fills in where
 -- each segment begins and ends.
@@ -35,6 +40,21 @@ pub record ReadsLengths {S : Type 0} (source : Ghosts S) (old new : S) (rule : P
       (StopsAtTable rule source.gives source.refuses limit kind first (length indices)))
   pub kinds : IfErr result (λ error. IsTableKind rule source.refuses error.kind)
   pub asked : Asked source.unread source.failures source.same old new result
+
+-- What a step finds that reads a table to the front of a caller-provided buffer: of so many segments and words.
+pub record FindsTable (rule : Padding) (gives : Giving) (limit : Option ℕ) (buffer : List ℕ) (count total : ℕ) (old new : Option (List ℕ)) : Type 0 where
+  -- the table stands there, and just its bytes are consumed
+  pub found : IfKnown old new (TableStands rule gives (told_lengths count buffer))
+  pub tells : TellsTable buffer count
+  pub total_is : total ≡ sum (told_lengths count buffer)
+  pub within : KeepsLimit (told_lengths count buffer) limit
+
+-- The same of a message: of so many segments, and so many bytes behind its table.
+pub record FindsMessage (rule : Padding) (gives : Giving) (limit : Option ℕ) (buffer : List ℕ) (count bytes : ℕ) (old new : Option (List ℕ)) : Type 0 where
+  pub found : IfKnown old new (MessageStands rule gives (told_segments count buffer))
+  pub holds : HoldsMessage buffer count
+  pub total_is : bytes ≡ 8 * sum (told_lengths count buffer)
+  pub within : KeepsLimit (told_lengths count buffer) limit
 
 -- What a step keeps beside what it finds, where it reads what comes next in a stream, or none at its end. Memory is
 -- taken where `takes` holds, and `lines` are those of the table of refusals.

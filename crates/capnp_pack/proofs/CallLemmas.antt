@@ -50,29 +50,44 @@ hands_after sink keeps a b c stops more first hands (Err e) handed turn before t
   grows = Grows-join a b c (keeps.transitive a b c) before told.grows;
 }
 
+-- a failure that is passed on
+pub hands_passed : {S X Y : Type 0} (sink : Sink S) (old new : S) (stops more : List ℕ → Type 0) (first : X → Type 0) (hands : Y → Type 0) (e : Error)
+    (r : Result Y Error) → IsErrAnd r (λ y. y ≡ e) → (LeavesOf sink old new stops → LeavesOf sink old new more)
+    → HandsOn sink old new stops first (Err e) → HandsOn sink old new more hands r
+hands_passed sink old new stops more first hands e (Ok y) is turn told = absurd is
+hands_passed sink old new stops more first hands e (Err own) is turn told =
+    subst (λ y. HandsOn sink old new more hands (Err y)) (sym is)
+    (record { handed = tt; left = turn told.left; refused = told.refused; failed = told.failed; grows = told.grows })
+
 -- a piece that the sink refuses, after a call that returned
-pub hands_err : {S X : Type 0} (sink : Sink S) (keeps : IsPreorder sink.same) (a b c : S) (stops : List ℕ → Type 0) (hands : X → Type 0) (piece : List ℕ) (e : Error)
-    → LeavesOf sink a c stops → (e.kind ≡ DeviceFailed) ⊎ sink.refuses piece e.kind → (e.kind ≡ DeviceFailed → Fails (sink.failures b) (sink.failures c))
-    → Grows sink.written sink.failures sink.same a b → Grows sink.written sink.failures sink.same b c → HandsOn sink a c stops hands (Err e)
-hands_err sink keeps a b c stops hands piece e left refused failed before grows = record {
-  handed = tt;
-  left = left;
-  refused = declines_any (e.kind ≡ DeviceFailed) sink.refuses piece e.kind refused;
-  failed = λ device. Fails-join (sink.failures a) (sink.failures b) (sink.failures c) before.counted (failed device);
-  grows = Grows-join a b c (keeps.transitive a b c) before grows;
-}
+pub hands_err : {S X : Type 0} (sink : Sink S) (keeps : IsPreorder sink.same) (a b c : S) (stops : List ℕ → Type 0) (hands : X → Type 0) (piece : List ℕ)
+    (e : Error) (r : Result X Error) → IsErrAnd r (λ y. y ≡ e) → LeavesOf sink a c stops → (e.kind ≡ DeviceFailed) ⊎ sink.refuses piece e.kind
+    → (e.kind ≡ DeviceFailed → Fails (sink.failures b) (sink.failures c)) → Grows sink.written sink.failures sink.same a b
+    → Grows sink.written sink.failures sink.same b c → HandsOn sink a c stops hands r
+hands_err sink keeps a b c stops hands piece e (Ok x) is left refused failed before grows = absurd is
+hands_err sink keeps a b c stops hands piece e (Err own) is left refused failed before grows =
+    subst (λ y. HandsOn sink a c stops hands (Err y)) (sym is) (record {
+      handed = tt;
+      left = left;
+      refused = declines_any (e.kind ≡ DeviceFailed) sink.refuses piece e.kind refused;
+      failed = λ device. Fails-join (sink.failures a) (sink.failures b) (sink.failures c) before.counted (failed device);
+      grows = Grows-join a b c (keeps.transitive a b c) before grows;
+    })
 
 -- a call of a packer that fails, after those that returned
 pub hands_stopped : {S X Y : Type 0} (sink : Sink S) (keeps : IsPreorder sink.same) (a b c : S) (stops : List ℕ → Type 0) (hands : X → Type 0)
-    (adds leaves : List ℕ → Type 0) (e : Error) → (LeavesOf sink b c stops → IfKnown (sink.written a) (sink.written c) (Adds leaves))
-    → Grows sink.written sink.failures sink.same a b → HandsOn sink b c stops hands (Err e) → WritesTo {X = Y} sink a c adds leaves (DeclinesAny sink.refuses) (Err e)
-hands_stopped sink keeps a b c stops hands adds leaves e turn before told = record {
-  written = tt;
-  left = turn told.left;
-  refused = told.refused;
-  failed = λ device. Fails-join (sink.failures a) (sink.failures b) (sink.failures c) before.counted (told.failed device);
-  grows = Grows-join a b c (keeps.transitive a b c) before told.grows;
-}
+    (adds leaves : List ℕ → Type 0) (e : Error) (r : Result Y Error) → IsErrAnd r (λ y. y ≡ e)
+    → (LeavesOf sink b c stops → IfKnown (sink.written a) (sink.written c) (Adds leaves)) → Grows sink.written sink.failures sink.same a b
+    → HandsOn sink b c stops hands (Err e) → WritesTo sink a c adds leaves (DeclinesAny sink.refuses) r
+hands_stopped sink keeps a b c stops hands adds leaves e (Ok y) is turn before told = absurd is
+hands_stopped {Y = Y} sink keeps a b c stops hands adds leaves e (Err own) is turn before told =
+    subst (λ y. WritesTo {X = Y} sink a c adds leaves (DeclinesAny sink.refuses) (Err y)) (sym is) (record {
+      written = tt;
+      left = turn told.left;
+      refused = told.refused;
+      failed = λ device. Fails-join (sink.failures a) (sink.failures b) (sink.failures c) before.counted (told.failed device);
+      grows = Grows-join a b c (keeps.transitive a b c) before told.grows;
+    })
 
 -- the last call of a packer
 pub hands_last : {S X : Type 0} (sink : Sink S) (keeps : IsPreorder sink.same) (a b c : S) (P : Type 0) (stops adds leaves : List ℕ → Type 0) (r : Result X Error)
@@ -80,7 +95,7 @@ pub hands_last : {S X : Type 0} (sink : Sink S) (keeps : IsPreorder sink.same) (
     → Grows sink.written sink.failures sink.same a b → HandsOn sink b c stops (λ _. P) r → WritesTo sink a c adds leaves (DeclinesAny sink.refuses) r
 hands_last sink keeps a b c P stops adds leaves (Ok x) all turn before told =
     record { written = all told.handed; left = tt; refused = tt; failed = tt; grows = Grows-join a b c (keeps.transitive a b c) before told.grows }
-hands_last sink keeps a b c P stops adds leaves (Err e) all turn before told = hands_stopped sink keeps a b c stops (λ _. P) adds leaves e turn before told
+hands_last sink keeps a b c P stops adds leaves (Err e) all turn before told = hands_stopped sink keeps a b c stops (λ _. P) adds leaves e (Err e) refl turn before told
 
 -- Taking
 

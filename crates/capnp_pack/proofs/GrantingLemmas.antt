@@ -13,10 +13,21 @@ use Rattle.capnp_pack.proofs.PackerLemmas.{PacksWords, PacksTo, PacksWords-more,
 use Rattle.capnp_pack.proofs.PackingLemmas.{PacksTo-none, PacksTo-more}
 
 -- the words of a literal run have as many bytes as the piece that is written of them
-pub run_flat : (count words : ℕ) (flat : List ℕ) (os : List (List ℕ)) → IsRun HasFewZeros os count → IsRun HasFewZeros os words
+run_flat : (count words : ℕ) (flat : List ℕ) (os : List (List ℕ)) → IsRun HasFewZeros os count → IsRun HasFewZeros os words
     → flat ≡ flat_map (λ x. x) (take words os) → length (concat (take count os)) ≡ length flat
 run_flat count words flat os run own all =
     ap (λ k. length (concat (take k os))) (IsRun-once HasFewZeros os count words run own) ∙ ap length (concat_is (take words os) ∙ sym all)
+
+-- what is granted for the buffer with a count, and for the words behind it, is granted for the words once the buffer is handed on
+pub run_granted : (before after : ℕ → Type 0) (count words end used more : ℕ) (flat : List ℕ) (os : List (List ℕ)) (Flushed : Type 0)
+    → IsRun HasFewZeros os count → IsRun HasFewZeros os words → flat ≡ flat_map (λ x. x) (take words os) → used ≡ end + 1
+    → before (end + (1 + (length (concat (take count os)) + more))) → ((n : ℕ) → before (used + n) → Flushed × after n)
+    → Flushed × after (length flat + more)
+run_granted before after count words end used more flat os Flushed run own all pushed granted flush =
+    let bytes = length (concat (take count os)) in
+    let same : end + (1 + (bytes + more)) ≡ used + (bytes + more) = omega arith in
+    let (done, left) = flush (bytes + more) (subst before same granted) in
+    (done, subst (λ k. after (k + more)) (run_flat count words flat os run own all) left)
 
 -- a buffer of 64 bytes with a group after what it held: what was granted for the group is, for what it holds now
 pub group_granted : (grants : ℕ → Type 0) (word : List ℕ) (os : List (List ℕ)) (n count more start used : ℕ) (own made : Group) (old new : List ℕ)

@@ -55,10 +55,11 @@ left_after_handed appends leaves old text new more whole a b c is =
 -- A literal run
 
 -- the buffer with its count isn't handed on
-pub left_count : (appends : Appending) (leaves : Leaving) (count : ℕ) (old pushed text : List ℕ) (others : List (List ℕ)) (a b : Option (List ℕ))
-    → IsRun HasFewZeros others count → pushed ≡ old ++ count ∷ [] → text ≡ pushed → IfKnown a b (Adds (LeavesParts appends leaves text))
+pub left_count : (appends : Appending) (leaves : Leaving) (count : ℕ) (old pushed : List ℕ) (others : List (List ℕ)) (a b : Option (List ℕ))
+    → IsRun HasFewZeros others count → pushed ≡ old ++ count ∷ []
+    → (text : List ℕ) × (text ≡ pushed) × IfKnown a b (Adds (LeavesParts appends leaves text))
     → (whole : List ℕ) × LiteralAfter old others whole × IfKnown a b (Adds (LeavesParts appends leaves whole))
-left_count appends leaves count old pushed text others a b run push is left =
+left_count appends leaves count old pushed others a b run push (text, is, left) =
     let words = concat (take count others) in
     let whole : old ++ count ∷ words ≡ text ++ words = sym (append_assoc old (count ∷ []) words) ∙ ap (λ l. l ++ words) (sym (is ∙ push)) in
     (old ++ count ∷ words, (count, run, refl), left_longer appends leaves text words (old ++ count ∷ words) a b whole left)
@@ -81,10 +82,10 @@ left_words appends leaves count old pushed flat others a b c run push all handed
 -- A group
 
 -- no room is made for it
-pub left_room : (appends : Appending) (leaves : Leaving) (word : List ℕ) (os : List (List ℕ)) (old text : List ℕ) (a b : Option (List ℕ))
-    → IsWord word → AllByRecursion IsWord os → text ≡ old → IfKnown a b (Adds (LeavesParts appends leaves text))
+pub left_room : (appends : Appending) (leaves : Leaving) (word : List ℕ) (os : List (List ℕ)) (old : List ℕ) (a b : Option (List ℕ))
+    → IsWord word → AllByRecursion IsWord os → (text : List ℕ) × (text ≡ old) × IfKnown a b (Adds (LeavesParts appends leaves text))
     → (whole : List ℕ) × GroupAfter old word os whole × IfKnown a b (Adds (LeavesParts appends leaves whole))
-left_room appends leaves word os old text a b is all same left =
+left_room appends leaves word os old a b is all (text, same, left) =
     let (count, (group, made)) = IsGroupOf-some word os is all in (
       old ++ group_text group,
       (count, group, made, refl),

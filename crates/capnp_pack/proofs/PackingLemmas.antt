@@ -9,7 +9,7 @@ use Rattle.capnp_frame.specs.declared.error.Error.{Error}
 use Rattle.capnp_pack.specs.Group.{Group, tagged, zeros, literal, IsWord, group_text, zero_bytes, zero_word, marked}
 use Rattle.capnp_pack.specs.Packed.{IfFirst, Packs}
 use Rattle.capnp_pack.specs.PackedSink.{AppendsPacked}
-use Rattle.capnp_pack.specs.Steps.{IsZero, HasFewZeros, tag_of, nonzero, IsRun, IsGroupOf, Hands}
+use Rattle.capnp_pack.specs.Steps.{IsZero, HasFewZeros, tag_of, nonzero, IsRun, IsGroupOf, EndsGroup, Hands}
 use Rattle.capnp_pack.proofs.TagLemmas.{tag_zero, tag_full, top_word, marked_tag, zeros_cons, zeros_suc, nonzero_suc}
 use Rattle.capnp_pack.proofs.PackerGroups.{IsGroupOf-zeros, IsGroupOf-literal, IsGroupOf-tagged}
 use Rattle.capnp_pack.proofs.PackerLemmas.{PacksWords, PacksTo, PacksWords-more, PacksWords-none, Packs-words}
@@ -24,39 +24,36 @@ nonzero_all (suc b ∷ w) e = nonzero_suc b w ∙ ap (λ l. suc b ∷ l) (nonzer
 buffered : (appends : Appending) (old roomy new text : List ℕ) (a b : Option (List ℕ)) → new ≡ roomy ++ text → IfKnown a b (Hands appends old [] roomy) → IfKnown a b (Hands appends old text new)
 buffered appends old roomy new text a b e roomed = IfKnown-weaker a b (λ x y p. Hands-join appends old [] roomy text new x y y p (Hands-none appends roomy text new y e)) roomed
 
--- the text of a run of zero words
-pub zeros_front : (word : List ℕ) (count tag : ℕ) (roomy filled new : List ℕ) → IsWord word → tag ≡ tag_of word → tag ≡ 0
-    → filled ≡ roomy ++ tag ∷ nonzero word → new ≡ filled ++ count ∷ [] → new ≡ roomy ++ 0 ∷ count ∷ []
-zeros_front word count tag roomy filled new is tagged_by none fill push =
+-- a run of zero words
+pub ends_zeros : (word : List ℕ) (os : List (List ℕ)) (count tag : ℕ) (filled new : List ℕ) → IsWord word → tag ≡ tag_of word → tag ≡ 0
+    → IsRun IsZero os count → new ≡ filled ++ count ∷ [] → EndsGroup word os count filled new
+ends_zeros word os count tag filled new is tagged_by none run push =
     let zero_tag : tag_of word ≡ 0 = sym tagged_by ∙ none in
     let first : word ≡ zero_word = tag_zero word zero_tag ∙ ap (λ k. replicate k 0) is in
-    let text : tag ∷ nonzero word ≡ 0 ∷ [] = ap (λ k. k ∷ nonzero word) none ∙ ap (λ l. 0 ∷ nonzero l) first in
-    push ∙ ap (λ l. l ++ count ∷ []) (fill ∙ ap (λ l. roomy ++ l) text) ∙ append_assoc roomy (0 ∷ []) (count ∷ [])
-
--- and that of a word whose tag marks its bytes
-pub tagged_front : (word : List ℕ) (tag : ℕ) (roomy new : List ℕ) → tag ≡ tag_of word → new ≡ roomy ++ tag ∷ nonzero word
-    → new ≡ roomy ++ tag_of word ∷ marked (tag_of word) word
-tagged_front word tag roomy new tagged_by fill =
-    fill ∙ ap (λ l. roomy ++ l) (ap (λ k. k ∷ nonzero word) tagged_by ∙ ap (λ l. tag_of word ∷ l) (sym (marked_tag word)))
-
-pub made_zeros : (appends : Appending) (word : List ℕ) (os : List (List ℕ)) (count tag : ℕ) (old roomy filled new : List ℕ) (a b : Option (List ℕ)) →
-    IsWord word → tag ≡ tag_of word → tag ≡ 0 → IsRun IsZero os count → filled ≡ roomy ++ tag ∷ nonzero word → new ≡ filled ++ count ∷ [] →
-    IfKnown a b (Hands appends old [] roomy) → (g : Group) × IsGroupOf word os count g × IfKnown a b (Hands appends old (group_text g) new)
-made_zeros appends word os count tag old roomy filled new a b is tagged_by none run fill push roomed =
-    let zero_tag : tag_of word ≡ 0 = sym tagged_by ∙ none in (
+    let text : tag_of word ∷ nonzero word ≡ 0 ∷ [] = ap (λ k. k ∷ nonzero word) zero_tag ∙ ap (λ l. 0 ∷ nonzero l) first in (
       zeros count,
       IsGroupOf-zeros word os count is zero_tag run,
-      buffered appends old roomy new (0 ∷ count ∷ []) a b (zeros_front word count tag roomy filled new is tagged_by none fill push) roomed,
+      λ front fill. push ∙ ap (λ l. l ++ count ∷ []) (fill ∙ ap (λ l. front ++ l) text) ∙ append_assoc front (0 ∷ []) (count ∷ []),
     )
 
-pub made_tagged : (appends : Appending) (word : List ℕ) (os : List (List ℕ)) (tag : ℕ) (old roomy new : List ℕ) (a b : Option (List ℕ)) →
-    IsWord word → tag ≡ tag_of word → 0 < tag → tag < 255 → new ≡ roomy ++ tag ∷ nonzero word → IfKnown a b (Hands appends old [] roomy) →
-    (g : Group) × IsGroupOf word os 0 g × IfKnown a b (Hands appends old (group_text g) new)
-made_tagged appends word os tag old roomy new a b is tagged_by some low fill roomed = (
+-- a word whose tag marks some of its bytes
+pub ends_tagged : (word : List ℕ) (os : List (List ℕ)) (tag : ℕ) (filled : List ℕ) → IsWord word → tag ≡ tag_of word → 0 < tag → tag < 255
+    → EndsGroup word os 0 filled filled
+ends_tagged word os tag filled is tagged_by some low = (
   tagged (tag_of word) word,
   IsGroupOf-tagged word os is (omega arith) (omega arith),
-  buffered appends old roomy new (tag_of word ∷ marked (tag_of word) word) a b (tagged_front word tag roomy new tagged_by fill) roomed,
+  λ front fill. fill ∙ ap (λ l. front ++ tag_of word ∷ l) (sym (marked_tag word)),
 )
+
+-- the tag and the bytes, as they were put into the buffer
+pub filled_by : (word : List ℕ) (tag : ℕ) (roomy filled : List ℕ) → tag ≡ tag_of word → filled ≡ roomy ++ tag ∷ nonzero word → filled ≡ roomy ++ tag_of word ∷ nonzero word
+filled_by word tag roomy filled tagged_by fill = fill ∙ ap (λ k. roomy ++ k ∷ nonzero word) tagged_by
+
+pub made_group : (appends : Appending) (word : List ℕ) (os : List (List ℕ)) (count tag : ℕ) (old roomy filled new : List ℕ) (a b : Option (List ℕ))
+    → EndsGroup word os count filled new → tag ≡ tag_of word → filled ≡ roomy ++ tag ∷ nonzero word
+    → IfKnown a b (Hands appends old [] roomy) → (g : Group) × IsGroupOf word os count g × IfKnown a b (Hands appends old (group_text g) new)
+made_group appends word os count tag old roomy filled new a b (group, made, ends) tagged_by fill roomed =
+    (group, made, buffered appends old roomy new (group_text group) a b (ends roomy (filled_by word tag roomy filled tagged_by fill)) roomed)
 
 -- the tag of a word that goes as it stands, and the word
 pub literal_front : (word : List ℕ) (tag : ℕ) (roomy filled : List ℕ) → IsWord word → tag ≡ tag_of word → tag ≡ 255

@@ -114,6 +114,11 @@ pub record IsGroupOf (word : List ℕ) (others : List (List ℕ)) (count : ℕ) 
   pub words : group_words group ≡ word ∷ take count others
   pub longest : IsLongest group (drop count others)
 
+-- A buffer held a word's tag and its bytes that aren't zero, at the end; now it holds the group of the word there.
+abbrev pub EndsGroup : List ℕ → List (List ℕ) → ℕ → List ℕ → List ℕ → Type 0
+EndsGroup word others count old new = (group : Group) × IsGroupOf word others count group
+    × ((front : List ℕ) → old ≡ front ++ tag_of word ∷ nonzero word → new ≡ front ++ group_text group)
+
 -- Of a buffer's bytes and a text after them, some parts are handed on, and the buffer keeps the rest.
 pub record Hands (appends : Appending) (old text new before after : List ℕ) : Type 0 where
   pub parts : List (List ℕ)

@@ -9,10 +9,10 @@ ghost use Rattle.capnp_frame.specs.Source.{IfKnown, Fails};
 ghost use Rattle.capnp_frame.specs.Sink.{DeclinesAny, Adds, Grows};
 ghost use Rattle.capnp_frame.specs.Writers.{WritesTo};
 ghost use Rattle.capnp_pack.specs.Calls.{HandsOn};
-ghost use Rattle.capnp_pack.specs.Group.{Group, group_text};
+ghost use Rattle.capnp_pack.specs.Group.{Group, IsWord, group_text};
 ghost use Rattle.capnp_pack.specs.Packed.{Packs};
 ghost use Rattle.capnp_pack.specs.PackedSink.{AppendsPacked, LeavesPacked, DeclinesPacked};
-ghost use Rattle.capnp_pack.specs.Steps.{IsRun, IsZero, HasFewZeros, Hands, IsGroupOf, GroupAfter, LiteralAfter};
+ghost use Rattle.capnp_pack.specs.Steps.{IsRun, IsZero, HasFewZeros, Hands, IsGroupOf, EndsGroup, GroupAfter, LiteralAfter, tag_of};
 
 use crate::buffer::{flush, make_room, push, push_word};
 use crate::runs::{first_mark, literal_run, tag, zero_run};
@@ -151,12 +151,25 @@ fn pack_group<W: Write>(
     if tag == 255 {
         return pack_literal(sink, bytes, end, others);
     }
+    Ok(end_group(bytes, end, tag, others))
+}
+
+// Ends the group of a word that doesn't go as it stands: after a zero word comes a count.
+#[inline(always)]
+fn end_group(bytes: &mut [u8; 64], end: usize, tag: u8, others: &[[u8; 8]]) -> Packed
+    requires room { end < 64 }
+    requires low { tag < 255 }
+    requires zero { take (end + 1) bytes.old ≡ take end bytes.old ++ 0 ∷ [] }
+    ensures used { result.used ≤ 64 }
+    ensures ends { (word : List ℕ) → IsWord word → tag ≡ tag_of word →
+        EndsGroup word others.now result.words (take end bytes.old) (take result.used bytes.new) }
+{
     // A sum, so that a zero word alone takes no branch of its own.
     if tag as usize + first_mark(others) as usize == 0 {
-        return Ok(pack_zeros(bytes, end, others));
+        return pack_zeros(bytes, end, others);
     }
     let used = if tag == 0 { end + 1 } else { end };
-    Ok(Packed { words: 0, used })
+    Packed { words: 0, used }
 }
 
 // Counts the zero words after one.

@@ -1,13 +1,13 @@
 //! Reading messages from a source into a lent buffer.
-ghost use Rattle.std.specs.Prelude.{◌≡◌, ◌+◌, ◌*◌, ◌<◌, ◌≤◌, ◌^◌, [], length, sum, IfOk, IfErr, OnOk, IfSome, IfNone, Option, Some, None};
-ghost use Rattle.capnp_frame.specs.SegmentTable.{table_size};
+ghost use Rattle.std.specs.Prelude.{◌≡◌, ◌+◌, ◌*◌, ◌<◌, ◌≤◌, ◌^◌, [], length, take, sum, IfOk, IfErr, OnOk, IfSome, IfNone, Option, Some, None};
+ghost use Rattle.capnp_frame.specs.SegmentTable.{table_size, KeepsPadding};
 ghost use Rattle.capnp_frame.specs.Limits.{KeepsLimit};
-ghost use Rattle.capnp_frame.specs.Front.{told_lengths, told_segments, TellsTable, HoldsMessage};
+ghost use Rattle.capnp_frame.specs.Front.{told_lengths, told_padding, told_segments, TellsTable, HoldsMessage};
 ghost use Rattle.capnp_frame.specs.Source.{IfKnown};
 ghost use Rattle.capnp_frame.specs.Asking.{Asked, FailsOr};
 ghost use Rattle.capnp_frame.specs.Errors.{IsRefusedBy};
 ghost use Rattle.capnp_frame.specs.Streams.{next_in, framed_rules, ReadsStreamInto};
-ghost use Rattle.capnp_frame.specs.Steps.{AsksNextInto, StopsAtTable};
+ghost use Rattle.capnp_frame.specs.Steps.{FindsTable, FindsMessage, AsksNextInto, StopsAtTable, RefusesComplete};
 ghost use Rattle.capnp_frame.specs.Requests.{RestStands, TableStands, MessageStands};
 ghost use Rattle.capnp_frame.specs.Refusals.{TellsAccepted, RefusesTable, RefusesStream, IsTableKind, IsLentReaderKind};
 ghost use Rattle.capnp_frame.specs.declared.error.ErrorKind.{ErrorKind};
@@ -87,16 +87,9 @@ fn read_into<R: Read>(
     limit: Option<usize>,
     rule: Padding,
 ) -> Result<Option<NoAllocSegmentTableInfo>>
-    ensures found { IfOk result (λ found. IfSome found (λ info.
-        IfKnown (R.unread source.old) (R.unread source.new)
-        (MessageStands rule R.gives (told_segments info.segments_count buffer.new)))) }
-    ensures holds { IfOk result (λ found. IfSome found (λ info.
-        HoldsMessage buffer.new info.segments_count)) }
-    ensures total { IfOk result (λ found. IfSome found (λ info.
-        info.total_segments_length_bytes
-        ≡ 8 * sum (told_lengths info.segments_count buffer.new))) }
-    ensures within { IfOk result (λ found. IfSome found (λ info.
-        KeepsLimit (told_lengths info.segments_count buffer.new) limit)) }
+    ensures message { IfOk result (λ found. IfSome found (λ info. FindsMessage rule R.gives limit
+        buffer.new info.segments_count info.total_segments_length_bytes
+        (R.unread source.old) (R.unread source.new))) }
     ensures asks { AsksNextInto R.Read source.old source.new rule (length buffer.old)
         (RefusesStream rule R.gives R.refuses limit (Some (length buffer.old))) result }
 {
@@ -124,15 +117,9 @@ fn read_table_into<R: Read>(
     limit: Option<usize>,
     rule: Padding,
 ) -> Result<Option<(usize, usize)>>
-    ensures found { IfOk result (λ found. IfSome found (λ table.
-        IfKnown (R.unread source.old) (R.unread source.new)
-        (TableStands rule R.gives (told_lengths table.0 buffer.new)))) }
-    ensures tells { IfOk result (λ found. IfSome found (λ table. TellsTable buffer.new table.0)) }
-    ensures total { IfOk result (λ found. IfSome found (λ table.
-        table.1 ≡ sum (told_lengths table.0 buffer.new))) }
+    ensures table { IfOk result (λ found. IfSome found (λ table. FindsTable rule R.gives limit
+        buffer.new table.0 table.1 (R.unread source.old) (R.unread source.new))) }
     ensures bound { IfOk result (λ found. IfSome found (λ table. table.1 < 2 ^ 42)) }
-    ensures within { IfOk result (λ found. IfSome found (λ table.
-        KeepsLimit (told_lengths table.0 buffer.new) limit)) }
     ensures asks { AsksNextInto R.Read source.old source.new rule (length buffer.old)
         (RefusesTable rule R.gives R.refuses limit (Some (length buffer.old))) result }
 {
@@ -175,6 +162,20 @@ fn read_total<R: Read>(
     ensures asked { Asked R.unread R.failures R.same source.old source.new result }
 {
     complete_table(source, first, table)?;
+    accepted_total(table, count, limit, rule)
+}
+
+// The sum of the lengths in a table that is complete, once the limit and the padding are tested.
+fn accepted_total(table: &[u8], count: usize, limit: Option<usize>, rule: Padding) -> Result<usize>
+    requires accepted { TellsAccepted (take 8 table.now) count }
+    requires size { length table.now ≡ table_size count }
+    ensures tells { TellsTable table.now count }
+    ensures total { IfOk result (λ total. total ≡ sum (told_lengths count table.now)) }
+    ensures bound { IfOk result (λ total. total < 2 ^ 42) }
+    ensures padding { OnOk result (KeepsPadding rule (told_padding count table.now)) }
+    ensures within { OnOk result (KeepsLimit (told_lengths count table.now) limit) }
+    ensures refused { IfErr result (λ error. RefusesComplete rule limit error.kind table.now) }
+{
     let total = lengths_total(table, count);
     keep_limit(total, limit)?;
     keep_padding(table, count, rule)?;

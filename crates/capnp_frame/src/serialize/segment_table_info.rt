@@ -8,7 +8,7 @@ ghost use Rattle.capnp_frame.specs.FlatRefusals.{by_fields, cut_kind, RefusesFla
 use crate::error::{Error, ErrorKind, Result};
 use crate::message::AsBytes;
 use crate::serialize::segment_table::{
-    Padding, SEGMENTS_COUNT_LIMIT, field_at, keep_padding, lengths_total, table_len,
+    Padding, SEGMENTS_COUNT_LIMIT, field_at, keep_limit, keep_padding, lengths_total, table_len,
 };
 
 /// What is known of a message from its segment table.
@@ -73,11 +73,7 @@ pub(crate) fn read_table_info(
         return Err(cut_field(bytes));
     }
     let total = lengths_total(bytes, segments_count);
-    if let Some(most) = limit
-        && total > most
-    {
-        return Err(Error::from_kind(ErrorKind::MessageTooLarge(total)));
-    }
+    keep_limit(total, limit)?;
     let table_length = table_len(segments_count);
     if length < table_length {
         return Err(cut_field(bytes));

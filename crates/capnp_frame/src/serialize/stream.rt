@@ -2,12 +2,14 @@
 ghost use Rattle.std.specs.Prelude.{◌≡◌, ◌-◌, ◌*◌, ◌<◌, ◌≤◌, ◌^◌, [], length, take, drop, map, sum, IfOk, IfErr, OnOk, IfSome, IfNone, IsOk, ◌⊎◌, Option, Some, None};
 ghost use Rattle.std.specs.List.{AllByRecursion};
 ghost use Rattle.capnp_frame.specs.Message.{IsWholeWords};
-ghost use Rattle.capnp_frame.specs.SegmentTable.{table_size};
-ghost use Rattle.capnp_frame.specs.Limits.{AreWithin, IsWithin};
+ghost use Rattle.capnp_frame.specs.SegmentTable.{table_size, KeepsPadding};
+ghost use Rattle.capnp_frame.specs.SegmentLengths.{range_len, AreRanges};
+ghost use Rattle.capnp_frame.specs.Front.{told_lengths, told_padding, TellsTable};
+ghost use Rattle.capnp_frame.specs.Limits.{KeepsLimit, AreWithin, IsWithin};
 ghost use Rattle.capnp_frame.specs.Source.{IfKnown, IsRefused};
 ghost use Rattle.capnp_frame.specs.Asking.{Asked, FailsOr};
 ghost use Rattle.capnp_frame.specs.Streams.{framed_rules, ReadsStream};
-ghost use Rattle.capnp_frame.specs.Steps.{AsksNext, ReadsLengths};
+ghost use Rattle.capnp_frame.specs.Steps.{AsksNext, ReadsLengths, RefusesComplete};
 ghost use Rattle.capnp_frame.specs.Requests.{TableStands, MessageStands};
 ghost use Rattle.capnp_frame.specs.Refusals.{TellsAccepted, RefusesTable, RefusesStream, CountStands, TakesMemory, IsReaderKind};
 ghost use Rattle.capnp_frame.specs.declared.error.ErrorKind.{ErrorKind};
@@ -201,6 +203,28 @@ fn read_lengths_by<R: Read>(
     ensures { ReadsLengths R.Read source.old source.new rule limit first.now indices.new result }
 {
     complete_table(source, first, table)?;
+    fill_lengths(indices, table, limit, rule)
+}
+
+// Fills in where each segment begins and ends by a table that is complete, tests the limit and the
+// padding, and answers the sum of the lengths.
+fn fill_lengths(
+    indices: &mut [(usize, usize)],
+    table: &[u8],
+    limit: Option<usize>,
+    rule: Padding,
+) -> Result<usize>
+    requires accepted { TellsAccepted (take 8 table.now) (length indices.old) }
+    requires size { length table.now ≡ table_size (length indices.old) }
+    ensures told { map range_len indices.new ≡ told_lengths (length indices.new) table.now }
+    ensures tells { TellsTable table.now (length indices.new) }
+    ensures ranges { IfOk result (AreRanges indices.new) }
+    ensures bound { IfOk result (λ total. total < 2 ^ 42) }
+    ensures padding { OnOk result
+        (KeepsPadding rule (told_padding (length indices.new) table.now)) }
+    ensures within { OnOk result (KeepsLimit (map range_len indices.new) limit) }
+    ensures refused { IfErr result (λ error. RefusesComplete rule limit error.kind table.now) }
+{
     let total = fill_indices(indices, table);
     keep_limit(total, limit)?;
     keep_padding(table, indices.len(), rule)?;

@@ -1,5 +1,5 @@
 -- The pieces are the frame, joined.
-use Rattle.std.proofs.Common.{ap, sym, ◌∙◌, ◌++◌}
+use Rattle.std.proofs.Common.{sym, ◌∙◌}
 use Rattle.capnp_frame.specs.Writing.{pieces}
 use Rattle.capnp_frame.proofs.SinkLemmas.{left_is_front}
 use Rattle.capnp_frame.proofs.SizeLemmas.{concat-pieces}

@@ -5,11 +5,10 @@ use Rattle.std.specs.List.{concat, AllByRecursion}
 use Rattle.capnp_frame.proofs.SourceLemmas.{Grows-join}
 use Rattle.capnp_pack.proofs.CallLemmas.{hands_last, hands_stopped}
 use Rattle.capnp_pack.proofs.PackingLemmas.{next_words, other_words, packed_more, packed_all}
-use Rattle.capnp_pack.proofs.Chunks.{chunks_whole}
+use Rattle.capnp_pack.proofs.Chunks.{whole_words}
 use Rattle.capnp_pack.proofs.GrantingLemmas.{grants_more, grants_group, grants_last}
 use Rattle.capnp_pack.proofs.LeavingLemmas.{left_group, left_last}
 use Rattle.capnp_pack.specs.Group.{IsWord}
-use Rattle.std.proofs.lemmas.Result.{err_from_is_err_and}
 use Rattle.capnp_pack.proofs.packed_write.pack.Goals as goal
 
 pub loop-done-preserved : goal.loop-done-preserved
@@ -33,50 +32,35 @@ loop-done-preserved g c =
 
 pub returns-in_err-packed-clause-writes : goal.returns-in_err-packed-clause-writes
 returns-in_err-packed-clause-writes g c =
-    let p = err_from_is_err_and c.from_residual.result c.from_residual.ensures.1 in
     let words = c.as_chunks.result.0.now in
-    let piece = c.args.piece.now in
-    let done = c.loop-done.done in
-    let within : done < length words = c.loop-done-test.true in
-    let cut = chunks_whole (length piece / 8) piece (omega arith) in
-    let whole : concat words ≡ piece = ap concat c.as_chunks.ensures.front ∙ cut.0 in
-    let each : AllByRecursion IsWord words = subst (AllByRecursion IsWord) (sym c.as_chunks.ensures.front) cut.1 in
-    let others = take (length words - (done + 1)) (drop (done + 1) words) in
-    let all = other_words words done in
-    let front = next_words words done within in
-    rw (p.1, p.2) (hands_stopped g.W.Write g.met.W.Write.keeps _ _ _ _ _ _ _ _
-    (left_group g.W.Write.appends g.W.Write.leaves piece words done (get_or words done []) others _ _ _ _ whole each front c.loop-done.invariant.2)
-    c.loop-done.invariant.3 c.in_err-packed.ensures.hands)
+    let cut = whole_words c.args.piece.now words c.requires c.as_chunks.ensures.front in
+    let front = next_words words c.loop-done.done c.loop-done-test.true in
+    hands_stopped g.W.Write g.met.W.Write.keeps _ _ _ _ _ _ _ _ _ c.from_residual.ensures.1
+    (left_group g.W.Write.appends g.W.Write.leaves c.args.piece.now words c.loop-done.done _ _ _ _ _ _ cut.0 cut.1 front c.loop-done.invariant.2)
+    c.loop-done.invariant.3 c.in_err-packed.ensures.hands
 
 pub returns-clause-writes : goal.returns-clause-writes
 returns-clause-writes g c =
     let words = c.as_chunks.result.0.now in
-    let piece = c.args.piece.now in
-    let cut = chunks_whole (length piece / 8) piece (omega arith) in
-    let whole : concat words ≡ piece = ap concat c.as_chunks.ensures.front ∙ cut.0 in
+    let cut = whole_words c.args.piece.now words c.requires c.as_chunks.ensures.front in
     hands_last g.W.Write g.met.W.Write.keeps _ _ _ _ _ _ _ c.flush.result
-    (λ last. packed_all g.W.Write.appends piece words c.loop-done.done (take c.loop-done.used c.loop-done.bytes) [] _ _ _
-    whole c.loop-done-test.false refl c.loop-done.invariant.2 last)
-    (left_last g.W.Write.appends g.W.Write.leaves piece words c.loop-done.done _ _ _ _ whole c.loop-done-test.false c.loop-done.invariant.2) c.loop-done.invariant.3 c.flush.ensures.hands
+    (λ last. packed_all g.W.Write.appends c.args.piece.now words c.loop-done.done (take c.loop-done.used c.loop-done.bytes) [] _ _ _
+    cut.0 c.loop-done-test.false refl c.loop-done.invariant.2 last)
+    (left_last g.W.Write.appends g.W.Write.leaves c.args.piece.now words c.loop-done.done _ _ _ _ cut.0 c.loop-done-test.false c.loop-done.invariant.2)
+    c.loop-done.invariant.3 c.flush.ensures.hands
 
 pub returns-in_err-packed-clause-granted : goal.returns-in_err-packed-clause-granted
 returns-in_err-packed-clause-granted g c text more packs granted =
     let words = c.as_chunks.result.0.now in
-    let piece = c.args.piece.now in
-    let done = c.loop-done.done in
-    let within : done < length words = c.loop-done-test.true in
-    let cut = chunks_whole (length piece / 8) piece (omega arith) in
-    let whole : concat words ≡ piece = ap concat c.as_chunks.ensures.front ∙ cut.0 in
-    let each : AllByRecursion IsWord words = subst (AllByRecursion IsWord) (sym c.as_chunks.ensures.front) cut.1 in
-    let front = next_words words done within in
-    let (group, count, others, made, given) = grants_group (g.W.Write.grants c.args.sink.now) (g.W.Write.grants c.loop-done.sink) piece text more words done c.loop-done.used (get_or words done []) _
-    whole each front packs granted c.loop-done.invariant.4 in
+    let cut = whole_words c.args.piece.now words c.requires c.as_chunks.ensures.front in
+    let front = next_words words c.loop-done.done c.loop-done-test.true in
+    let (group, count, others, made, given) = grants_group (g.W.Write.grants c.args.sink.now) (g.W.Write.grants c.loop-done.sink) c.args.piece.now text more
+    words c.loop-done.done c.loop-done.used (get_or words c.loop-done.done []) _ cut.0 cut.1 front packs granted c.loop-done.invariant.4 in
     absurd (c.in_err-packed.ensures.granted group count others made given)
 
 pub returns-clause-granted : goal.returns-clause-granted
 returns-clause-granted g c text more packs granted =
     let words = c.as_chunks.result.0.now in
-    let piece = c.args.piece.now in
-    let cut = chunks_whole (length piece / 8) piece (omega arith) in
-    let whole : concat words ≡ piece = ap concat c.as_chunks.ensures.front ∙ cut.0 in
-    c.flush.ensures.granted more (grants_last (g.W.Write.grants c.args.sink.now) (g.W.Write.grants c.loop-done.sink) piece text more words c.loop-done.done c.loop-done.used whole c.loop-done-test.false packs granted c.loop-done.invariant.4)
+    let cut = whole_words c.args.piece.now words c.requires c.as_chunks.ensures.front in
+    c.flush.ensures.granted more (grants_last (g.W.Write.grants c.args.sink.now) (g.W.Write.grants c.loop-done.sink) c.args.piece.now text more words
+    c.loop-done.done c.loop-done.used cut.0 c.loop-done-test.false packs granted c.loop-done.invariant.4)

@@ -13,11 +13,9 @@ returns-in_err-info g c =
 
 pub returns : goal.returns
 returns g c =
-    let told = c.in_ok-info.ensures in
-    let holds = rw c.in-Some.is at told.holds in
-    let keeps = rw c.in-Some.is at told.within in
-    let stands = rw c.in-Some.is at told.found in
+    let asks = c.in_ok-info.ensures.asks in
+    let message = rw c.in-Some.is at c.in_ok-info.ensures.message in
     let long : length c.read_into.new.buffer ≡ length c.args.buffer.now = search rules in
     reads_into c.args.rule g.R.Read g.met.R.Read.lawful _ _ c.args.limit (length c.args.buffer.now) c.read_into.new.buffer
-    c.in-Some.info.segments_count c.of_held.result.segments holds (ap (λ held. held.segments) c.of_held.ensures) long keeps stands
-    (λ few. (told.asks.short few).1) told.asks.asked.advances
+    c.in-Some.info.segments_count c.of_held.result.segments message.holds (ap (λ held. held.segments) c.of_held.ensures) long message.within message.found
+    (λ few. (asks.short few).1) asks.asked.advances

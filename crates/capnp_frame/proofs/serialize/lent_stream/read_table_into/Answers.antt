@@ -1,12 +1,10 @@
 -- The table that is read stands at the front of the buffer.
 use Rattle.std.proofs.Common.{Some, length, arith, rules}
-use borrow.Rule.Slice.PartMut.{put_mid}
 use Rattle.capnp_frame.proofs.AskLemmas.{passed_on, Asked-err}
 use Rattle.capnp_frame.proofs.StepLemmas.{asks_found_into}
 use Rattle.capnp_frame.proofs.MetRefusals.{rest_met, lent_reader_kind}
 use Rattle.capnp_frame.proofs.TableReading.{table_stands}
-use Rattle.capnp_frame.proofs.LentLemmas.{IsPut, table_put}
-use Rattle.capnp_frame.proofs.serialize.lent_stream.read_table_into.Given as given
+use Rattle.capnp_frame.proofs.LentLemmas.{table_put}
 use Rattle.capnp_frame.proofs.serialize.lent_stream.read_table_into.Goals as goal
 
 pub returns-in_err-total-clause-asks : goal.returns-in_err-total-clause-asks
@@ -24,24 +22,17 @@ returns-in_err-total-clause-asks g c =
       asked = Asked-err (g.met.R.Read.keeps.transitive _ _ _) is c.read_first.ensures.asked.advances c.in_err-total.ensures.asked;
     }
 
--- the table in the buffer
-put : (g : given.Over) (c : goal.In_ok-total g) → IsPut c.read_total.new.table (put_mid 0 c.table_len-size.result c.args.buffer.now c.read_total.new.table) c.in_ok-count.count
-put g c = table_put c.args.buffer.now c.read_total.new.table c.in_ok-count.count c.table_len-size.result c.in_ok-total.ensures.tells (search rules)
-
-pub returns-clause-found : goal.returns-clause-found
-returns-clause-found g c =
+pub returns-clause-table : goal.returns-clause-table
+returns-clause-table g c =
     let first = rw c.in-Some.is at c.in_ok-first.ensures.found in
-    rw (← (put g c).lengths_are) (table_stands c.args.rule g.R.Read.gives c.in-Some.first _ _ _ _ first c.in_ok-total.ensures.found)
-
-pub returns-clause-tells : goal.returns-clause-tells
-returns-clause-tells g c = (put g c).tells
-
-pub returns-clause-total : goal.returns-clause-total
-returns-clause-total g c = rw (← (put g c).lengths_are) c.in_ok-total.ensures.total
-
-pub returns-clause-within : goal.returns-clause-within
-returns-clause-within g c =
-    rw (← (put g c).lengths_are) c.in_ok-total.ensures.within
+    let told = c.in_ok-total.ensures in
+    let put = table_put c.args.buffer.now c.read_total.new.table c.in_ok-count.count c.table_len-size.result told.tells (search rules) in
+    record {
+      found = rw (← put.lengths_are) (table_stands c.args.rule g.R.Read.gives c.in-Some.first _ _ _ _ first told.found);
+      tells = put.tells;
+      total_is = rw (← put.lengths_are) told.total;
+      within = rw (← put.lengths_are) told.within;
+    }
 
 pub returns-clause-asks : goal.returns-clause-asks
 returns-clause-asks g c = asks_found_into g.R.Read c.args.rule _ _ _ _ _ _ (λ few. absurd (omega arith)) (g.met.R.Read.keeps.transitive _ _ _)

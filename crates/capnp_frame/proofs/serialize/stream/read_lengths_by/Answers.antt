@@ -1,9 +1,9 @@
 -- The lengths are those that the table tells.
 use Rattle.std.proofs.Common.{◌≡◌, ◌*◌, ◌/◌, ◌-◌, length, inr, rules, arith}
+use Rattle.std.proofs.lemmas.Result.{on_ok_weaker, IfErr-weaker}
 use Rattle.capnp_frame.specs.SegmentTable.{table_size}
-use Rattle.capnp_frame.specs.Refusals.{TellsAccepted}
 use Rattle.capnp_frame.proofs.AskLemmas.{passed_on}
-use Rattle.capnp_frame.proofs.MetRefusals.{is_completed, others_stop, limit_stops, padding_stops, source_kind}
+use Rattle.capnp_frame.proofs.MetRefusals.{others_stop, complete_stops, complete_kind, source_kind}
 use Rattle.capnp_frame.proofs.TableReading.{rest_stands}
 use Rattle.capnp_frame.proofs.serialize.stream.read_lengths_by.Goals as goal
 
@@ -13,6 +13,7 @@ returns-in_err-complete_table g c =
     let size : length c.complete_table.new.table ≡ table_size (length c.args.indices.now) = search rules in
     let some = c.requires.accepted.some in
     let others : length c.complete_table.new.table - 8 ≡ 8 * (length c.args.indices.now / 2) = omega arith in
+    let told = c.in_err-complete_table.ensures in
     record {
       table = search rules;
       ranges = search rules;
@@ -20,52 +21,8 @@ returns-in_err-complete_table g c =
       each = search rules;
       within = search rules;
       refused = passed_on _ _ is (others_stop c.args.rule g.R.Read.gives g.R.Read.refuses _ c.args.limit _ c.args.first.now
-          (length c.args.indices.now) _ _ c.complete_table.ensures.asked.advances.tail (rw others at c.in_err-complete_table.ensures.refused));
-      kinds = passed_on _ _ is (source_kind c.args.rule g.R.Read.refuses _ _ _ c.in_err-complete_table.ensures.refused);
-      asked = search rules;
-    }
-
-pub returns-in_err-keep_limit : goal.returns-in_err-keep_limit
-returns-in_err-keep_limit g c =
-    let is = c.from_residual-in_err-keep_limit.ensures.1 in
-    let word = c.args.first.now in
-    let table = c.complete_table.new.table in
-    let count = length c.fill_indices-total.new.indices in
-    let accepted : TellsAccepted word count = search rules in
-    let size : length table ≡ table_size count = search rules in
-    let whole = is_completed g.R.Read.gives word table count _ _ c.in_ok-complete_table.ensures.front size accepted
-    c.fill_indices-total.ensures.lengths c.in_ok-complete_table.ensures.others in
-    let told = rw c.fill_indices-total.ensures.told at c.fill_indices-total.ensures.ranges.total_is in
-    record {
-      table = search rules;
-      ranges = search rules;
-      bound = search rules;
-      each = search rules;
-      within = search rules;
-      refused = passed_on _ _ is (inr (limit_stops c.args.rule g.R.Read.gives g.R.Read.refuses c.args.limit _ word table _ _ _ _ whole told c.in_err-keep_limit.ensures.refused));
-      kinds = search rules;
-      asked = search rules;
-    }
-
-pub returns-in_err-keep_padding : goal.returns-in_err-keep_padding
-returns-in_err-keep_padding g c =
-    let is = c.from_residual-in_err-keep_padding.ensures.1 in
-    let word = c.args.first.now in
-    let table = c.complete_table.new.table in
-    let count = length c.fill_indices-total.new.indices in
-    let accepted : TellsAccepted word count = search rules in
-    let size : length table ≡ table_size count = search rules in
-    let whole = is_completed g.R.Read.gives word table count _ _ c.in_ok-complete_table.ensures.front size accepted
-    c.fill_indices-total.ensures.lengths c.in_ok-complete_table.ensures.others in
-    let broken = c.in_err-keep_padding.ensures.refused in
-    record {
-      table = search rules;
-      ranges = search rules;
-      bound = search rules;
-      each = search rules;
-      within = search rules;
-      refused = passed_on _ _ is (inr (padding_stops c.args.rule g.R.Read.gives g.R.Read.refuses c.args.limit _ word table _ _ _ whole (search rules) broken.1 broken.2));
-      kinds = search rules;
+          (length c.args.indices.now) _ _ told.asked.advances.tail (rw others at told.refused));
+      kinds = passed_on _ _ is (source_kind c.args.rule g.R.Read.refuses _ _ _ told.refused);
       asked = search rules;
     }
 
@@ -73,18 +30,21 @@ pub returns : goal.returns
 returns g c =
     let word = c.args.first.now in
     let table = c.complete_table.new.table in
-    let count = length c.fill_indices-total.new.indices in
-    let accepted : TellsAccepted word count = search rules in
-    let size : length table ≡ table_size count = search rules in
-    let whole = is_completed g.R.Read.gives word table count _ _ c.in_ok-complete_table.ensures.front size accepted
-    c.fill_indices-total.ensures.lengths c.in_ok-complete_table.ensures.others in
+    let done = c.in_ok-complete_table.ensures in
+    let told = c.fill_lengths.ensures in
+    let read = c.fill_lengths.result in
+    let size : length table ≡ table_size (length c.fill_lengths.new.indices) = search rules in
     record {
-      table = rw c.fill_indices-total.ensures.told (rest_stands c.args.rule g.R.Read.gives word table count _ _ whole.front whole.size whole.tells (search rules) whole.given);
-      ranges = c.fill_indices-total.ensures.ranges;
-      bound = c.fill_indices-total.ensures.bound;
-      each = search rules;
-      within = search rules;
-      refused = tt;
-      kinds = tt;
-      asked = search rules;
+      table = on_ok_weaker read (λ kept. rw told.told (rest_stands c.args.rule g.R.Read.gives word table _ _ _ done.front size told.tells kept done.others)) told.padding;
+      ranges = told.ranges;
+      bound = told.bound;
+      each = on_ok_weaker read (λ kept. rw told.told told.tells.lengths.each) told.padding;
+      within = told.within;
+      refused = IfErr-weaker read _ _ (λ error met. inr (complete_stops c.args.rule g.R.Read.gives g.R.Read.refuses c.args.limit error.kind word table _ _ _
+          done.front size done.others met)) told.refused;
+      kinds = IfErr-weaker read _ _ (λ error met. (complete_kind c.args.rule g.R.Read.refuses c.args.limit error.kind table met).0) told.refused;
+      asked = record {
+        failed = IfErr-weaker read _ _ (λ error met device. absurd ((complete_kind c.args.rule g.R.Read.refuses c.args.limit error.kind table met).1 device)) told.refused;
+        advances = c.complete_table.ensures.asked.advances;
+      };
     }

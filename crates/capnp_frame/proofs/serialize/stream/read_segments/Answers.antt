@@ -3,11 +3,7 @@ use Rattle.std.proofs.Common.{rules, ◌≡◌, ◌*◌, arith, ap, length, None
 use Rattle.std.proofs.lemmas.Grind.{common_steps}
 use Rattle.std.specs.Prelude.{sum}
 use Rattle.capnp_frame.specs.SegmentLengths.{cut}
-use Rattle.capnp_frame.specs.declared.error.Error.{Error}
-use Rattle.capnp_frame.specs.declared.error.ErrorKind.TheVariants.{DeviceFailed}
-use Rattle.capnp_frame.proofs.AskLemmas.{passed_on, Asked-err}
-use Rattle.capnp_frame.proofs.StepLemmas.{asks_found, asks_passed}
-use Rattle.capnp_frame.proofs.SourceLemmas.{IfErr-vacuous}
+use Rattle.capnp_frame.proofs.StepLemmas.{asks_found, asks_failed, asks_passed}
 use Rattle.capnp_frame.proofs.Ranges.{widths}
 use Rattle.capnp_frame.proofs.RequestLemmas.{lengths-cut, MessageStands-cut, IsWithin-cut, table_not_empty}
 use Rattle.capnp_frame.proofs.MetRefusals.{reader_kind, source_kind}
@@ -24,18 +20,13 @@ pub returns-in_err-read_piece-clause-asks : goal.returns-in_err-read_piece-claus
 returns-in_err-read_piece-clause-asks g c =
     let table = rw c.in-Some.is at c.in_ok-lengths.ensures.found in
     let accepts = rw c.in-Some.is at c.in_ok-lengths.ensures.within in
-    let is = c.from_residual-in_err-read_piece.ensures.1 in
-    let advances = c.read_table.ensures.asks.asked.advances in
-    let told = c.in_err-read_piece.ensures in
-    record {
-      none = search rules;
-      refused = passed_on _ _ is (or_memory (segments_met c.args.rule g.met.R.Read.lawful _ c.args.limit None _ _ _ _ c.in-Some.lengths
-          (length c.read_piece.new.piece) (λ x. x) table accepts c.read_piece.ensures.asked.advances.tail (search rules) told.refused));
-      kinds = passed_on _ _ is (reader_kind c.args.rule g.R.Read.refuses _ (source_kind c.args.rule g.R.Read.refuses _ _ _ told.refused));
-      end = IfErr-vacuous (λ (error : Error). error.kind ≡ DeviceFailed) _
-          (table_not_empty c.args.rule g.R.Read.gives _ _ c.in-Some.lengths g.met.R.Read.lawful.none_from_nothing table);
-      asked = Asked-err (g.met.R.Read.keeps.transitive _ _ _) is advances told.asked;
-    }
+    let failed = c.in_err-read_piece.ensures.refused in
+    asks_failed g.R.Read c.args.rule _ _ _ _ _ _ _ (g.met.R.Read.keeps.transitive _ _ _) c.from_residual-in_err-read_piece.ensures.1
+    (or_memory (segments_met c.args.rule g.met.R.Read.lawful _ c.args.limit None _ _ _ _ c.in-Some.lengths (length c.read_piece.new.piece) (λ x. x)
+    table accepts c.read_piece.ensures.asked.advances.tail (search rules) failed))
+    (reader_kind c.args.rule g.R.Read.refuses _ (source_kind c.args.rule g.R.Read.refuses _ _ _ failed))
+    (λ none. absurd (table_not_empty c.args.rule g.R.Read.gives _ _ c.in-Some.lengths g.met.R.Read.lawful.none_from_nothing table none))
+    c.read_table.ensures.asks.asked.advances c.in_err-read_piece.ensures.asked
 
 -- the segments are the parts of what is read
 parts : (g : given.Over) (c : goal.After-from_parts g) → (length c.read_piece.new.piece ≡ 8 * sum c.in-Some.lengths) × (c.from_parts.result ≡ cut c.in-Some.lengths c.read_piece.new.piece)
