@@ -1,10 +1,10 @@
 -- Segments in order.
-use Rattle.std.proofs.Common.{◌≡◌, ℕ, zero, suc, ◌+◌, ◌-◌, ◌^◌, ◌<◌, Bool, List, [], ◌∷◌, ◌++◌, length, take, Option, Some, None, MatchOption, slice_index_or, slice_set, refl, ap, sym}
+use Rattle.std.proofs.Common.{◌≡◌, ℕ, zero, suc, ◌+◌, ◌-◌, ◌/◌, ◌^◌, ◌<◌, Bool, List, [], ◌∷◌, ◌++◌, length, take, Option, Some, None, MatchOption, slice_index_or, slice_set, refl, ap, sym}
 use Rattle.std.proofs.Common.{subst, ◌∙◌, arith, length-set, length-append}
 use Rattle.std.specs.Prelude.{⊤}
 use Rattle.capnp_build.specs.Bytes.{Space}
 use Rattle.capnp_build.specs.Out.{Out, Removed, here, IsOut}
-use Rattle.capnp_build.specs.Held.{Held, pair, pairs, space_at, no_space, spaces_of, with_space, AreOut, KeepsOthers}
+use Rattle.capnp_build.specs.Held.{Held, pair, pairs, space_at, no_space, spaces_of, with_space, AreOut, KeepsOthers, ReturnsEach}
 
 -- a segment more is the first pair
 pub pairs_more : (spaces : List Space) (space : Space) (others : List Out) → pairs (spaces ++ space ∷ []) others ≡ pair space ∷ pairs spaces others
@@ -89,6 +89,25 @@ pub taken_first : (Before After : List Out → Type 0) (o p : Out) (list left : 
     → ((l m : List Out) → Before l → Removed o l m → After m) → After left
 taken_first Before After o p list left out is e takes =
     takes list left out (subst (λ (q : Out). Removed q list left) (sym is) (subst (λ (l : List Out). Removed p l left) (sym e) here))
+
+-- one return more, of the last segment
+returned_more : {A : Type 0} (returns : A → Out → ℕ → A → Type 0) (spaces : List Space) (x : Space) (old between new : A)
+    → returns old (pair x) (length x.used / 8) between → ReturnsEach returns spaces between new → ReturnsEach returns (spaces ++ x ∷ []) old new
+returned_more {A = A} returns [] x old between new one each = (old, refl, subst (λ (a : A). returns old (pair x) (length x.used / 8) a) (sym each) one)
+returned_more returns (s ∷ spaces) x old between new one each = (each.0, returned_more returns spaces x old between each.0 one each.1, each.2)
+
+pub returned_last : {A : Type 0} (returns : A → Out → ℕ → A → Type 0) (first : Option Space) (others init : List Space) (x : Space) (old between new : A)
+    → MatchOption first (others ≡ []) (λ _. ⊤) → others ≡ init ++ x ∷ [] → returns old (pair x) (length x.used / 8) between
+    → ReturnsEach returns (spaces_of first init) between new → ReturnsEach returns (spaces_of first others) old new
+returned_last returns None others init x old between new alone e one each =
+    let l : length others ≡ length init + 1 = ap length e ∙ omega (arith, length-append init (x ∷ [])) in
+    let none : length others ≡ 0 = ap length alone in absurd (omega (arith, l, none))
+returned_last returns (Some s) others init x old between new alone e one each =
+    subst (λ (xs : List Space). ReturnsEach returns (s ∷ xs) old new) (sym e) (returned_more returns (s ∷ init) x old between new one each)
+
+pub returned_first : {A : Type 0} (returns : A → Out → ℕ → A → Type 0) (first : Option Space) (others : List Space) (x : Space) (old new : A)
+    → first ≡ Some x → others ≡ [] → returns old (pair x) (length x.used / 8) new → ReturnsEach returns (spaces_of first others) old new
+returned_first returns first others x old new e none one = rw (e, none) (old, refl, one)
 
 pub none_left : (old new : List Space) (n : ℕ) → n ≡ 0 → new ≡ take (n - 1) old → old ≡ new ++ [] → old ≡ []
 none_left old new n z r e = let k : n - 1 ≡ 0 = omega (arith, z) in e ∙ (rw (r, k) refl)

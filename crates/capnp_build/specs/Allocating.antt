@@ -1,5 +1,6 @@
 -- What an allocator keeps that hands out a segment, or takes one back (src/allocator.rt). `out` says which segments may be out,
--- `keeps` what each call keeps, and `grants` which requests have to be granted, as the members of the trait Allocator.
+-- `keeps` what each call keeps, `grants` which requests have to be granted, and `returns` what a return leads to, as the members
+-- of the trait Allocator.
 use Rattle.std.specs.Prelude.{ℕ, ◌/◌, ◌^◌, ◌<◌, ◌≤◌, ◌≡◌, Bool, List, length, Result, IfOk, IfErr, IsOkAnd, OnErr}
 use Rattle.capnp_frame.specs.declared.error.Error.{Error}
 use Rattle.capnp_frame.specs.declared.error.ErrorKind.TheVariants.{SegmentTaken}
@@ -22,7 +23,9 @@ pub record HandsOut {A S : Type 0} (out : A → List Out → Type 0) (keeps : A 
   pub refused : OnErr result ((list : List Out) → out old list → out new list)
   pub same : keeps old new
 
--- A segment of such a length is taken back.
-pub record TakesBack {A : Type 0} (out : A → List Out → Type 0) (keeps : A → A → Type 0) (segment : Out) (old new : A) : Type 0 where
+-- A segment of such a length is taken back, of which so many words were used.
+pub record TakesBack {A : Type 0} (out : A → List Out → Type 0) (keeps : A → A → Type 0) (returns : A → Out → ℕ → A → Type 0)
+    (segment : Out) (words : ℕ) (old new : A) : Type 0 where
   pub takes_off : TakesOff (out old) (out new) segment
+  pub returned : returns old segment words new
   pub same : keeps old new

@@ -39,6 +39,11 @@ KeepsOthers out old new = (others : List Out) → out old.allocator (pairs old.s
 abbrev pub BringsHome : {A : Type 0} → (A → List Out → Type 0) → Held A → A → Type 0
 BringsHome out old allocator = (others : List Out) → out old.allocator (pairs old.spaces others) → out allocator others
 
+-- the segments are returned one by one, the last one first, each with just the words that are used of it
+abbrev pub ReturnsEach : {A : Type 0} → (A → Out → ℕ → A → Type 0) → List Space → A → A → Type 0
+ReturnsEach returns [] old new = new ≡ old
+ReturnsEach {A = A} returns (space ∷ spaces) old new = (between : A) × ReturnsEach returns spaces old between × returns between (pair space) (length space.used / 8) new
+
 abbrev pub no_space : Space
 no_space = record { used = []; size = 0; is_lent = false }
 

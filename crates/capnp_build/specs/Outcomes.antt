@@ -13,7 +13,7 @@ use Rattle.capnp_build.specs.declared.allocator.Allocator as allocator
 use Rattle.capnp_build.specs.declared.owned_builder.OwnedBuilder as owned_builder
 use Rattle.capnp_build.specs.Bytes.{Space}
 use Rattle.capnp_build.specs.Out.{MayRefuse}
-use Rattle.capnp_build.specs.Held.{space_at, room_of, Held, KeepsOthers, BringsHome}
+use Rattle.capnp_build.specs.Held.{space_at, room_of, Held, KeepsOthers, BringsHome, ReturnsEach}
 use Rattle.capnp_build.specs.Built.{Built, held_of, message, size_in_words, HasNullRoot, ForRoot, DeclinesRoot, IsSet, IsWhole, IsPut, IsInit}
 use Rattle.capnp_build.specs.Built.{InitWords, IsCrowded, IsCleared, IsZeroAt, KeepsRooms, HasRootAlone, IsLookedAt}
 
@@ -164,4 +164,6 @@ pub record IsNewMessage {A : Type 0} (fact : A → Type 0) (built : Built A) : T
 -- What the allocator that comes back keeps: each segment has gone back to it with its used words.
 pub record GivesBack {A S : Type 0} (alloc : allocator.Ghosts A S) (held : Held A) (last : A) : Type 0 where
   pub home : BringsHome alloc.out held last
+  -- by just such returns the allocator came to be as it is
+  pub returned : ReturnsEach alloc.returns held.spaces held.allocator last
   pub same : alloc.same held.allocator last

@@ -11,7 +11,9 @@ use capnp_frame::Result;
 ///
 /// For implementers: `out` says which segments may be out, each by its length in bytes and whether it
 /// is lent; `same` what each call keeps, as the region that an allocator lends; `grants` which requests
-/// have to be granted, where an allocator can say that: memory is never sure to be there.
+/// have to be granted, where an allocator can say that: memory is never sure to be there; `returns` what
+/// a return does, by the segment and its used words. Where nothing depends on these it says nothing, and
+/// code over any allocator still shows it by returns of just these words alone.
 pub trait Allocator: Drop {
     /// The bytes of what it hands out.
     type Segment: SegmentSpace;
@@ -25,6 +27,9 @@ pub trait Allocator: Drop {
     /// A request of so many words has to be granted, by a segment of so many words.
     ghost grants: { Self → ℕ → ℕ → Type 0 };
 
+    /// A return of a segment, of which so many words were used, leads from the one to the other.
+    ghost returns: { Self → Out → ℕ → Self → Type 0 };
+
     /// Hands out a segment of at least so many words and fewer than 2^32, all zero. It is refused by
     /// `OutOfMemory`, `AllocationTooLarge` with the words asked, or `SegmentTaken` alone, by the last only
     /// while a segment is out that is large enough.
@@ -37,9 +42,9 @@ pub trait Allocator: Drop {
         requires is_out { IsOut (out self.old) (record { length = length (Self.Segment.content segment); is_lent = Self.Segment.is_lent segment }) }
         requires used { 8 * words_used ≤ length (Self.Segment.content segment) }
         requires zero { ZeroFrom (8 * words_used) (Self.Segment.content segment) }
-        ensures { TakesBack out same
+        ensures { TakesBack out same returns
             (record { length = length (Self.Segment.content segment); is_lent = Self.Segment.is_lent segment })
-            self.old self.new };
+            words_used self.old self.new };
 
     /// What each call keeps, the calls together keep.
     ghost keeps: { IsPreorder same };
@@ -60,6 +65,8 @@ impl<A: Allocator> Allocator for &mut A {
     ghost same = { λ old new. (new.ghost_name ≡ old.ghost_name) × A.same old.now new.now };
 
     ghost grants = { λ allocator asked words. A.grants allocator.now asked words };
+
+    ghost returns = { λ old segment words new. (new.ghost_name ≡ old.ghost_name) × A.returns old.now segment words new.now };
 
     fn allocate_segment(&mut self, minimum_size: u32) -> Result<A::Segment> {
         (**self).allocate_segment(minimum_size)

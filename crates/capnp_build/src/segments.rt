@@ -4,11 +4,12 @@ ghost use Rattle.std.specs.Prelude.{None, IfOk, IfErr, IsOk, OnOk, OnErr};
 ghost use Rattle.capnp_frame.specs.declared.error.ErrorKind.{ErrorKind};
 ghost use Rattle.capnp_frame.specs.declared.error.ErrorKind.TheVariants.{SegmentTaken};
 ghost use Rattle.capnp_build.specs.Bytes.{Space, with_block, with_bytes};
-ghost use Rattle.capnp_build.specs.Out.{Out, HasLarge, MayRefuse};
+ghost use Rattle.capnp_build.specs.Out.{Out, HasLarge, MayRefuse, IsOut};
 ghost use Rattle.capnp_build.specs.Built.{size_in_words};
-ghost use Rattle.capnp_build.specs.Held.{IsAppendedAt, Held, pairs, spaces_of, used_of, space_at, room_of, with_space, KeepsOthers};
+ghost use Rattle.capnp_build.specs.Held.{IsAppendedAt, Held, pair, pairs, spaces_of, used_of, space_at, room_of, with_space, KeepsOthers};
 ghost use Rattle.capnp_build.specs.Output.{CanBeWritten, CountsWords};
 ghost use Rattle.capnp_wire.specs.Values.{HasWords};
+ghost use Rattle.capnp_build.specs.Allocating.{TakesBack};
 ghost use Rattle.capnp_build.specs.Outcomes.{GivesBack};
 
 use crate::allocator::Allocator;
@@ -240,20 +241,30 @@ impl<A: Allocator> Segments<A> {
             mut others,
         } = self;
         while let Some(part) = others.pop() {
-            let (segment, words) = part.into_segment();
-            allocator.deallocate_segment(segment, words);
+            give_back(&mut allocator, part);
         }
         if let Some(part) = first {
-            let (segment, words) = part.into_segment();
-            allocator.deallocate_segment(segment, words);
+            give_back(&mut allocator, part);
             return allocator;
         }
         allocator
     }
 }
 
+// Returns a segment with the words that are used of it.
+fn give_back<A: Allocator>(allocator: &mut A, part: Part<A::Segment>)
+    requires { IsOut (A.out allocator.old) (pair part) }
+    ensures { TakesBack A.out A.same A.returns (pair part) (length part.used / 8) allocator.old allocator.new }
+{
+    let (segment, words) = part.into_segment();
+    allocator.deallocate_segment(segment, words);
+}
+
 impl<A: Allocator> Drop for Segments<A> {
-    fn drop(self) {
+    // Each segment goes back on the way.
+    fn drop(self)
+        ensures { (last : A) × GivesBack A.Allocator self last }
+    {
         let allocator = self.into_allocator();
         drop(allocator);
     }

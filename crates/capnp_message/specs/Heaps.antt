@@ -1,6 +1,7 @@
 -- What contracts see of heaps, and of a heap behind one region (src/heap_allocator.rt, src/scratch_space.rt).
-use Rattle.std.specs.Prelude.{◌≡◌, ℕ, Bool, true, false}
+use Rattle.std.specs.Prelude.{◌≡◌, ℕ, min, Bool, true, false}
 use Rattle.capnp_message.specs.Next.{size_of, next_after}
+use Rattle.capnp_message.specs.Region.{IsHome}
 use Rattle.capnp_message.specs.declared.heap_allocator.AllocationStrategy.{AllocationStrategy}
 use Rattle.capnp_message.specs.declared.heap_allocator.HeapAllocator.{HeapAllocator}
 use Rattle.capnp_message.specs.declared.scratch_space.ScratchSpaceHeapAllocator.{ScratchSpaceHeapAllocator}
@@ -21,6 +22,15 @@ pub record WithHeap (old : ScratchSpaceHeapAllocator) (words : ℕ) (grows : All
 -- the heap as it was
 abbrev pub KeepsHeap : HeapAllocator → HeapAllocator → Type 0
 KeepsHeap old new = IsHeapOf old.next_size old.allocation_strategy old.max_segment_words new
+
+-- the heap after a segment came back: the next size is the suggested first one again, or the maximum
+abbrev pub StartsAnew : HeapAllocator → HeapAllocator → Type 0
+StartsAnew old new = IsHeapOf (min 1024 old.max_segment_words) old.allocation_strategy old.max_segment_words new
+
+-- a segment came back: a lent one is the region, which is at home, any other one went to the heap
+abbrev pub ReturnsTo : Bool → ScratchSpaceHeapAllocator → ScratchSpaceHeapAllocator → Type 0
+ReturnsTo true old new = IsHome new.region old.size × KeepsHeap old.heap new.heap
+ReturnsTo false old new = (new.region ≡ old.region) × StartsAnew old.heap new.heap
 
 -- the heap after a segment that was asked for by so many words: a lent one leaves it as it was, one of its own counts
 abbrev pub CountsSegment : Bool → ℕ → HeapAllocator → HeapAllocator → Type 0

@@ -1,11 +1,9 @@
 //! Segments from the heap.
-ghost use Rattle.std.specs.Prelude.{⊤, ◌≡◌, ℕ, ◌-◌, ◌*◌, ◌/◌, ◌≤◌, ◌<◌, ◌^◌, false, List, [], length, min, IfOk, OnOk, OnErr, IfErr};
+ghost use Rattle.std.specs.Prelude.{⊤, ◌≡◌, ℕ, ◌-◌, ◌*◌, ◌/◌, ◌≤◌, ◌<◌, ◌^◌, false, [], length, IfOk, OnOk, OnErr, IfErr};
 ghost use Rattle.capnp_frame.specs.declared.error.ErrorKind.TheVariants.{OutOfMemory};
-ghost use Rattle.capnp_build.specs.Bytes.{ZeroFrom};
-ghost use Rattle.capnp_build.specs.Out.{Out, Removed};
 ghost use Rattle.capnp_message.specs.Next.{size_of, next_after};
 ghost use Rattle.capnp_message.specs.declared.heap_allocator.AllocationStrategy.TheVariants.{GrowHeuristically};
-ghost use Rattle.capnp_build.specs.Allocating.{HandsOut, TakesBack};
+ghost use Rattle.capnp_build.specs.Allocating.{HandsOut};
 
 use capnp_build::allocator::Allocator;
 use capnp_frame::{Error, ErrorKind, Result};
@@ -113,7 +111,7 @@ impl HeapAllocator {
 }
 
 impl Allocator for HeapAllocator {
-    ghost use Rattle.capnp_message.specs.Heaps.{IsHeapOf};
+    ghost use Rattle.capnp_message.specs.Heaps.{StartsAnew};
 
     type Segment = Vec<u8>;
 
@@ -123,6 +121,9 @@ impl Allocator for HeapAllocator {
 
     // Memory is never sure to be there.
     ghost grants = { λ allocator asked words. ⊥ };
+
+    // The next size is the suggested first one again, or the maximum.
+    ghost returns = { λ old segment words new. StartsAnew old new };
 
     // Beside what any allocator ensures: how many words there are, and what is next.
     fn allocate_segment(&mut self, minimum_size: u32) -> Result<Vec<u8>>
@@ -146,17 +147,7 @@ impl Allocator for HeapAllocator {
         Ok(segment)
     }
 
-    // The next size is the suggested first one again, or the maximum.
-    fn deallocate_segment(&mut self, segment: Vec<u8>, words_used: u32)
-        requires is_out { (list : List Out) × (left : List Out) × ⊤
-            × Removed (record { length = length segment.items; is_lent = false }) list left }
-        requires used { 8 * words_used ≤ length segment.items }
-        requires zero { ZeroFrom (8 * words_used) segment.items }
-        ensures takes_back { TakesBack (λ allocator list. ⊤) (λ old new. ⊤)
-            (record { length = length segment.items; is_lent = false }) self.old self.new }
-        ensures heap { IsHeapOf (min 1024 self.old.max_segment_words)
-            self.old.allocation_strategy self.old.max_segment_words self.new }
-    {
+    fn deallocate_segment(&mut self, segment: Vec<u8>, words_used: u32) {
         self.next_size = SUGGESTED_FIRST_SEGMENT_WORDS.min(self.max_segment_words);
         drop(segment);
     }

@@ -1,13 +1,12 @@
 //! One region first, then segments from the heap.
-ghost use Rattle.std.specs.Prelude.{◌≡◌, ◌⊎◌, ℕ, ◌*◌, ◌/◌, ◌^◌, ◌<◌, ◌≤◌, true, false, length, IfOk, IfErr, IsSome, IsOk, OnOk, OnErr, None, min};
+ghost use Rattle.std.specs.Prelude.{◌≡◌, ◌⊎◌, ℕ, ◌*◌, ◌/◌, ◌^◌, ◌<◌, ◌≤◌, true, false, length, IfOk, IfErr, IsSome, IsOk, OnOk, OnErr, None};
 ghost use Rattle.std.specs.Option.{ForSome};
 ghost use Rattle.capnp_frame.specs.declared.error.ErrorKind.TheVariants.{OutOfMemory};
 ghost use Rattle.capnp_build.specs.Bytes.{ZeroFrom};
 ghost use Rattle.capnp_message.specs.Next.{size_of};
-ghost use Rattle.capnp_message.specs.Region.{IsLentAlone, GrantsRegion, HoldsRegion, IsHome};
+ghost use Rattle.capnp_message.specs.Region.{IsLentAlone, GrantsRegion, HoldsRegion};
 ghost use Rattle.capnp_message.specs.Scratch.{scratch_bytes, scratch_lent};
-ghost use Rattle.capnp_build.specs.Allocating.{HandsOut, TakesBack};
-ghost use Rattle.capnp_build.specs.Out.{IsOut};
+ghost use Rattle.capnp_build.specs.Allocating.{HandsOut};
 
 use crate::heap_allocator::{AllocationStrategy, HeapAllocator};
 use capnp_build::allocator::Allocator;
@@ -130,13 +129,16 @@ impl<'a> Allocator for ScratchSpaceHeapAllocator<'a> {
     ghost use Rattle.std.specs.Prelude.{refl};
     ghost use Rattle.std.proofs.Common.{◌∙◌};
     ghost use Rattle.capnp_message.specs.Region.{some_lent};
-    ghost use Rattle.capnp_message.specs.Heaps.{IsHeapOf, KeepsHeap, CountsSegment};
+    ghost use Rattle.capnp_message.specs.Heaps.{KeepsHeap, CountsSegment, ReturnsTo};
 
     ghost out = { λ allocator list. IsLentAlone allocator.region allocator.size list };
 
     ghost same = { λ old new. new.size ≡ old.size };
 
     ghost grants = { λ allocator. GrantsRegion allocator.region allocator.size };
+
+    // The region is at home, or the heap is after a return to it.
+    ghost returns = { λ old segment words new. ReturnsTo segment.is_lent old new };
 
     // Beside what any allocator ensures: where the region is lent, and what the heap hands out.
     fn allocate_segment(&mut self, minimum_size: u32) -> Result<ScratchSegment<'a>>
@@ -168,21 +170,7 @@ impl<'a> Allocator for ScratchSpaceHeapAllocator<'a> {
 
     // What was used of the region is made zero, so that at home it is all zero. One from the heap goes
     // back to it, as to a heap alone.
-    fn deallocate_segment(&mut self, segment: ScratchSegment<'a>, words_used: u32)
-        requires is_out { IsOut (IsLentAlone self.old.region self.old.size)
-            (record { length = length (scratch_bytes segment); is_lent = scratch_lent segment }) }
-        requires used { 8 * words_used ≤ length (scratch_bytes segment) }
-        requires zero { ZeroFrom (8 * words_used) (scratch_bytes segment) }
-        ensures takes_back { TakesBack (λ allocator. IsLentAlone allocator.region allocator.size)
-            (λ old new. new.size ≡ old.size)
-            (record { length = length (scratch_bytes segment.entry); is_lent = scratch_lent segment.entry })
-            self.old self.new }
-        ensures lent { scratch_lent segment.entry ≡ true →
-            IsHome self.new.region self.old.size × KeepsHeap self.old.heap self.new.heap }
-        ensures owned { scratch_lent segment.entry ≡ false → (self.new.region ≡ self.old.region)
-            × IsHeapOf (min 1024 self.old.heap.max_segment_words)
-            self.old.heap.allocation_strategy self.old.heap.max_segment_words self.new.heap }
-    {
+    fn deallocate_segment(&mut self, segment: ScratchSegment<'a>, words_used: u32) {
         match segment {
             ScratchSegment::Lent(region) => {
                 region[..8 * words_used as usize].fill(0);

@@ -47,13 +47,15 @@ impl<'a> Allocator for SingleSegmentAllocator<'a> {
 
     ghost use Rattle.std.specs.Prelude.{refl};
     ghost use Rattle.std.proofs.Common.{◌∙◌};
-    ghost use Rattle.capnp_message.specs.Region.{some_out};
+    ghost use Rattle.capnp_message.specs.Region.{some_out, IsHome};
 
     ghost out = { λ allocator list. IsOutAlone allocator.region allocator.size list };
 
     ghost same = { λ old new. new.size ≡ old.size };
 
     ghost grants = { λ allocator. GrantsRegion allocator.region allocator.size };
+
+    ghost returns = { λ old segment words new. IsHome new.region old.size };
 
     // Beside what any allocator ensures: where it is refused, and by what.
     fn allocate_segment(&mut self, minimum_size: u32) -> Result<&'a mut [u8]>

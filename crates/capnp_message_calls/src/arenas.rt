@@ -28,6 +28,8 @@ impl Allocator for WordsAllocator {
 
     ghost grants = { λ allocator asked words. ⊥ };
 
+    ghost returns = { λ old segment words new. ⊤ };
+
     fn allocate_segment(&mut self, minimum_size: u32) -> Result<Vec<u8>> {
         if self.segments_left == 0 {
             return Err(Error::from_kind(ErrorKind::OutOfMemory));

@@ -75,6 +75,8 @@ impl Allocator for SecondRefused {
 
     ghost grants = { λ allocator asked words. ⊥ };
 
+    ghost returns = { λ old segment words new. ⊤ };
+
     fn allocate_segment(&mut self, minimum_size: u32) -> Result<Vec<u8>> {
         self.requests = self.requests.saturating_add(1);
         if self.requests == 2 {

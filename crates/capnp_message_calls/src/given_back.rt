@@ -28,6 +28,8 @@ impl Allocator for Noting {
 
     ghost grants = { λ allocator asked words. ⊥ };
 
+    ghost returns = { λ old segment words new. ⊤ };
+
     fn allocate_segment(&mut self, minimum_size: u32) -> Result<Vec<u8>> {
         self.handed_out = self.handed_out.saturating_add(1);
         self.heap.allocate_segment(minimum_size)

@@ -21,32 +21,32 @@ invariant_of-self c =
       maximum = c.args.self.now.maximum;
     }
 
-pub returns-in-Lent-clause-takes_back : goal.returns-in-Lent-clause-takes_back
-returns-in-Lent-clause-takes_back c = record {
-  takes_off = λ list left out removed.
-      (comes_home_as c.args.self.now.region c.args.segment c.in-Lent.region c.args.self.now.size list left c.in-Lent.is out removed).1;
-  same = refl;
-}
-
-pub returns-in-Owned-clause-takes_back : goal.returns-in-Owned-clause-takes_back
-returns-in-Owned-clause-takes_back c = record {
-  takes_off = λ list left out removed.
-      stays_out c.args.self.now.region (length c.in-Owned.owned.items) c.args.self.now.size list left out (rw c.in-Owned.is at removed);
-  same = refl;
-}
-
-pub returns-in-Lent-clause-lent : goal.returns-in-Lent-clause-lent
-returns-in-Lent-clause-lent c lent =
+pub returns-in-Lent : goal.returns-in-Lent
+returns-in-Lent c =
     let out = c.requires.is_out in
     let region = c.in-Lent.region in
     let same = comes_home_as c.args.self.now.region c.args.segment region c.args.self.now.size out.0 out.1 c.in-Lent.is out.2 out.3 in
     let n : ℕ = 8 * c.args.words_used in
     let used : n ≤ length region.now = (rw c.in-Lent.is at c.requires.used) in
-    let clean : ZeroFrom n region.now = (rw c.in-Lent.is at c.requires.zero) in (
-      record {
-        home = refl;
-        whole = filled_length n c.fill.new.self region.now c.fill.ensures.len used ∙ same.0;
-        zero = all_zero n _ c.fill.new.self region.now (c.fill.ensures.after (λ y h. h)) clean;
-      },
-      record { next = refl; strategy = refl; maximum = refl },
-    )
+    let clean : ZeroFrom n region.now = (rw c.in-Lent.is at c.requires.zero) in
+    record {
+      takes_off = λ list left out removed. (comes_home_as c.args.self.now.region c.args.segment region c.args.self.now.size list left c.in-Lent.is out removed).1;
+      returned =
+          rw c.in-Lent.is (
+            record {
+              home = refl;
+              whole = filled_length n c.fill.new.self region.now c.fill.ensures.len used ∙ same.0;
+              zero = all_zero n _ c.fill.new.self region.now (c.fill.ensures.after (λ y h. h)) clean;
+            },
+            record { next = refl; strategy = refl; maximum = refl },
+          );
+      same = refl;
+    }
+
+pub returns-in-Owned : goal.returns-in-Owned
+returns-in-Owned c = record {
+  takes_off = λ list left out removed.
+      stays_out c.args.self.now.region (length c.in-Owned.owned.items) c.args.self.now.size list left out (rw c.in-Owned.is at removed);
+  returned = rw c.in-Owned.is (refl, c.deallocate_segment.ensures.returned);
+  same = refl;
+}

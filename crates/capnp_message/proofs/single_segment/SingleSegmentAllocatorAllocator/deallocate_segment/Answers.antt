@@ -20,7 +20,16 @@ invariant_of-self c =
     }
 
 pub returns : goal.returns
-returns c = record {
-  takes_off = λ list left out removed. (comes_back c.args.self.now.region _ _ list left out removed).1;
-  same = refl;
-}
+returns c =
+    let out = c.requires.is_out in
+    let n : ℕ = 8 * c.args.words_used in
+    let same = comes_back c.args.self.now.region _ _ out.0 out.1 out.2 out.3 in
+    record {
+      takes_off = λ list left out removed. (comes_back c.args.self.now.region _ _ list left out removed).1;
+      returned = record {
+        home = refl;
+        whole = filled_length n c.fill.new.self c.args.segment.now c.fill.ensures.len c.requires.used ∙ ap (λ (o : Out). o.length) same.0;
+        zero = all_zero n _ c.fill.new.self c.args.segment.now (c.fill.ensures.after (λ y h. h)) c.requires.zero;
+      };
+      same = refl;
+    }
