@@ -27,7 +27,9 @@ fn what_is_built_is_read_back(rt: HostRuntime) -> Result<(), Fail> {
         assert_eq!(rt; numbers.as_slice(), [7, u64::MAX].as_slice());
         let fields = a_struct_is_read_back(alloc, heap(alloc, words), u64::MAX, 7)?;
         assert_eq!(rt; fields, (u64::MAX, 7));
-        assert!(rt; null_is_read_back(alloc, heap(alloc, words))?);
+        let mut message = Builder::new(alloc, heap(alloc, words));
+        assert!(rt; null_is_read_back(&mut message)?);
+        assert!(rt; is_one_segment(&message, &[0; 8]));
     }
     Ok(())
 }
@@ -98,7 +100,9 @@ fn roots_in_a_region(rt: HostRuntime) -> Result<(), Fail> {
             refusal(a_struct_is_read_back(alloc, SingleSegmentAllocator::new(region), 1, 2)),
         ];
         assert_eq!(rt; found, refusals, "{length} bytes");
-        assert!(rt; null_is_read_back(alloc, SingleSegmentAllocator::new(region))?);
+        let mut message = Builder::new(alloc, SingleSegmentAllocator::new(region));
+        assert!(rt; null_is_read_back(&mut message)?);
+        drop(message);
         assert!(rt; region.iter().all(|byte| *byte == 0), "{length} bytes");
     }
     Ok(())

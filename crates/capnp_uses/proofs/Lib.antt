@@ -5,4 +5,5 @@ pub mod PackingLemmas
 pub mod ReadingLemmas
 pub mod RootLemmas
 pub mod SetLemmas
+pub mod SkipLemmas
 pub mod StreamLemmas

@@ -124,11 +124,11 @@ pub fn write_null<A: Allocator>(message: &mut Builder<A>) -> Result<()>
 }
 
 /// Makes the root of a message null, and asks it whether it is.
-pub fn null_is_read_back<A: Allocator>(alloc: Global, allocator: A) -> Result<bool>
+pub fn null_is_read_back<A: Allocator>(message: &mut Builder<A>) -> Result<bool>
+    ensures stands { OnOk result (HasRootForm message.new.spaces null) }
     ensures back { IfOk result (λ is_null. is_null ≡ true) }
 {
-    let mut message = Builder::new(alloc, allocator);
-    write_null(&mut message)?;
+    write_null(message)?;
     let root: capnp_wire::any_pointer::Reader<'_, BuilderArena<A>> = message.get_root_as_reader()?;
     Ok(root.is_null())
 }
