@@ -41,7 +41,8 @@ pub fn region_comes_home<'a, T, V: SetterInput<T> + Drop>(
     value: V,
 ) -> SingleSegmentAllocator<'a>
     requires { length region.old / 8 < 2 ^ 32 }
-    ensures { IsHome result.region result.size }
+    ensures home { IsHome result.region result.size }
+    ensures size { result.size ≡ length region.old }
 {
     let mut message = Builder::new(alloc, SingleSegmentAllocator::new(region));
     let _ = message.set_root::<T, V>(value);
