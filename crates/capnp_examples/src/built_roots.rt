@@ -18,16 +18,20 @@ fn what_is_built_is_read_back(rt: HostRuntime) -> Result<(), Fail> {
     let alloc = rt.alloc();
     for words in [1024, 1] {
         for bytes in [b"Hello, World!".as_slice(), b"", b"\0", b"12345678"] {
-            let text = text_is_read_back(alloc, heap(alloc, words), bytes)?;
+            let mut message = Builder::new(alloc, heap(alloc, words));
+            let text = text_is_read_back(alloc, &mut message, bytes)?;
             assert_eq!(rt; text.as_slice(), bytes, "{words} words");
-            let data = data_is_read_back(alloc, heap(alloc, words), bytes)?;
+            let data = data_is_read_back(alloc, &mut message, bytes)?;
             assert_eq!(rt; data.as_slice(), bytes, "{words} words");
         }
-        let numbers = numbers_are_read_back(alloc, heap(alloc, words), 7, u64::MAX)?;
+        let mut message = Builder::new(alloc, heap(alloc, words));
+        let numbers = numbers_are_read_back(alloc, &mut message, 7, u64::MAX)?;
         assert_eq!(rt; numbers.as_slice(), [7, u64::MAX].as_slice());
-        let fields = a_struct_is_read_back(alloc, heap(alloc, words), u64::MAX, 7)?;
+        let fields = a_struct_is_read_back(&mut message, u64::MAX, 7)?;
         assert_eq!(rt; fields, (u64::MAX, 7));
-        assert!(rt; null_is_read_back(alloc, heap(alloc, words))?);
+        let mut message = Builder::new(alloc, heap(alloc, words));
+        assert!(rt; null_is_read_back(&mut message)?);
+        assert!(rt; is_one_segment(&message, &[0; 8]));
     }
     Ok(())
 }
@@ -91,14 +95,17 @@ fn roots_in_a_region(rt: HostRuntime) -> Result<(), Fail> {
         assert!(rt; length <= 24);
         let mut room = [7; 24];
         let region = &mut room[..length];
-        let found = [
-            refusal(text_is_read_back(alloc, SingleSegmentAllocator::new(region), b"hello")),
-            refusal(data_is_read_back(alloc, SingleSegmentAllocator::new(region), b"hello")),
-            refusal(numbers_are_read_back(alloc, SingleSegmentAllocator::new(region), 1, 2)),
-            refusal(a_struct_is_read_back(alloc, SingleSegmentAllocator::new(region), 1, 2)),
-        ];
-        assert_eq!(rt; found, refusals, "{length} bytes");
-        assert!(rt; null_is_read_back(alloc, SingleSegmentAllocator::new(region))?);
+        let mut message = Builder::new(alloc, SingleSegmentAllocator::new(region));
+        let text = refusal(text_is_read_back(alloc, &mut message, b"hello"));
+        message = Builder::new(alloc, message.into_allocator());
+        let data = refusal(data_is_read_back(alloc, &mut message, b"hello"));
+        message = Builder::new(alloc, message.into_allocator());
+        let numbers = refusal(numbers_are_read_back(alloc, &mut message, 1, 2));
+        message = Builder::new(alloc, message.into_allocator());
+        let fields = refusal(a_struct_is_read_back(&mut message, 1, 2));
+        assert_eq!(rt; [text, data, numbers, fields], refusals, "{length} bytes");
+        assert!(rt; null_is_read_back(&mut message)?);
+        drop(message);
         assert!(rt; region.iter().all(|byte| *byte == 0), "{length} bytes");
     }
     Ok(())

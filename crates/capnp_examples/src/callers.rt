@@ -1,8 +1,6 @@
 //! Each caller once, on bytes of the encoding document and of the C++ tool.
 use crate::examples::HELLO;
-use capnp::message::{
-    Builder, DEFAULT_READER_OPTIONS, HeapAllocator, ReaderSegments, SegmentArray,
-};
+use capnp::message::{Builder, DEFAULT_READER_OPTIONS, ReaderSegments, SegmentArray};
 use capnp::streams::Format;
 use capnp_uses::building::write_struct;
 use capnp_uses::canonical::canonical_words;
@@ -112,7 +110,8 @@ fn a_struct_is_packed(rt: HostRuntime) -> Result<(), Fail> {
         );
         assert_eq!(rt; read_packed_words(alloc, &text)?, (10, 20));
     }
-    let read = a_struct_is_read_packed(alloc, HeapAllocator::new(alloc), 10, 20)?;
+    let mut message = Builder::new_default(alloc);
+    let read = a_struct_is_read_packed(alloc, &mut message, 10, 20)?;
     assert_eq!(rt; read, (10, 20));
     Ok(())
 }

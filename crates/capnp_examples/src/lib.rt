@@ -15,4 +15,6 @@ mod other_options;
 #[cfg(test)]
 mod refusals;
 #[cfg(test)]
+mod regions;
+#[cfg(test)]
 mod set_roots;

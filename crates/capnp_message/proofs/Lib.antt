@@ -3,4 +3,3 @@ pub mod RootLemmas
 pub mod CanonicalLemmas
 pub mod StableLemmas
 pub mod RegionLemmas
-pub mod BackLemmas

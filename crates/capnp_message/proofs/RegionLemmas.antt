@@ -6,9 +6,7 @@ use Rattle.capnp_build.specs.Out.{Out, Removed, here, there, lent_of, lent_befor
 use Rattle.capnp_build.specs.Bytes.{ZeroFrom}
 use Rattle.capnp_message.specs.declared.scratch_space.ScratchSegment.{ScratchSegment}
 use Rattle.capnp_message.specs.declared.scratch_space.ScratchSegment.TheVariants.{Lent}
-use Rattle.capnp_message.specs.Region.{IsOutAlone}
 use Rattle.capnp_message.specs.Scratch.{scratch_bytes, scratch_lent}
-use Rattle.std.specs.Prelude.{IsSome}
 
 removed_none : (pair : Out) (list left : List Out) → list ≡ [] → Removed pair list left → ⊥
 removed_none pair list left e here = cc
@@ -84,8 +82,3 @@ held a x e = let same : a ≡ x = cc in ap (λ (m : MutBor (List ℕ)). m.now) s
 -- a front that is filled keeps the length
 pub filled_length : (n : ℕ) (front bytes : List ℕ) → length front ≡ length (take n bytes) → n ≤ length bytes → length (front ++ drop n bytes) ≡ length bytes
 filled_length n front bytes long within = omega (arith, long, length-append front (drop n bytes), length-take n bytes, length-drop n bytes)
-
--- at home, nothing is out
-pub home_alone : {X : Type 0} (region : Option X) (size : ℕ) → IsSome region → IsOutAlone region size []
-home_alone None size home = absurd (cc)
-home_alone (Some x) size home = refl

@@ -1,9 +1,8 @@
 -- One region that is lent: at home, or away (src/scratch_space.rt, src/single_segment.rt).
-use Rattle.std.specs.Prelude.{◌≡◌, ℕ, ◌+◌, ◌/◌, ◌≤◌, true, List, [], ◌∷◌, length, Option, Some, None, IfSome, IsSome, MatchOption, refl}
+use Rattle.std.specs.Prelude.{◌≡◌, ℕ, ◌/◌, ◌≤◌, true, List, [], ◌∷◌, length, Option, Some, None, IfSome, IsSome, MatchOption, refl}
 use Rattle.std.specs.Borrow.{MutBor}
 use Rattle.capnp_build.specs.Bytes.{ZeroFrom}
 use Rattle.capnp_build.specs.Out.{Out, lent_of}
-use Rattle.capnp_build.specs.Built.{Built, StandsAt, size_in_words}
 
 -- a region of so many bytes, as a segment that is out
 abbrev pub region_out : ℕ → Out
@@ -41,7 +40,3 @@ pub record HoldsRegion (region : Option (MutBor (List ℕ))) (bytes : ℕ) (prov
   pub same : IfSome region (λ r. r.ghost_name ≡ provided.ghost_name)
   pub home : IsSome region
   pub size : bytes ≡ length provided.now
-
--- a block of so many words stands just behind the root's word in the one segment, and nothing else
-abbrev pub StandsAlone : {A : Type 0} → Built A → ℕ → Type 0
-StandsAlone message words = StandsAt message.spot 0 1 words × (length message.spaces ≡ 1) × (size_in_words message.spaces ≡ 1 + words)

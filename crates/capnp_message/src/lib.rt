@@ -8,7 +8,6 @@
 #![tactic(auto)]
 
 pub mod builder;
-pub mod callers;
 pub mod heap_allocator;
 pub mod laws;
 pub mod output_segments;

@@ -2,12 +2,10 @@
 use capnp_build::allocator::Allocator;
 use capnp_build::{any_struct, data, primitive_list, text};
 use capnp_calls::refusals::allocation_refusal;
-use capnp_frame::message::{ReaderOptions, ReaderSegments, SegmentArray};
+use capnp_frame::message::ReaderSegments;
 use capnp_frame::{Error, ErrorKind, Result};
 use capnp_message::builder::Builder;
-use capnp_message::callers::{copy_root, region_comes_home, set_in_region, text_is_read_back};
 use capnp_message::heap_allocator::HeapAllocator;
-use capnp_message::reader::Reader;
 use capnp_message::scratch_space::ScratchSpaceHeapAllocator;
 use capnp_message::single_segment::SingleSegmentAllocator;
 use capnp_message::typed_builder::TypedBuilder;
@@ -153,50 +151,6 @@ fn comes_home(rt: HostRuntime) -> std::result::Result<(), Fail> {
     drop(message);
     drop(scratch);
     assert_eq!(rt; region.as_slice(), [0; 32].as_slice());
-    Ok(())
-}
-
-// A text of one word has room behind the root in two words, and not in one; either way the region is zero
-// once the message is gone.
-#[test]
-fn in_a_region(rt: HostRuntime) -> std::result::Result<(), Fail> {
-    let mut region = [7; 16];
-    let message = set_in_region::<capnp_wire::text::Owned, &str>(rt.alloc(), &mut region, "hello")?;
-    assert!(rt; shows(&message, 0, b"\x01\0\0\0\x32\0\0\0hello\0\0\0"));
-    assert_eq!(rt; message.size_in_words(), 2);
-    drop(message);
-    assert_eq!(rt; region, [0; 16]);
-    let mut region = [7; 8];
-    let full = set_in_region::<capnp_wire::text::Owned, &str>(rt.alloc(), &mut region, "hello");
-    assert_eq!(rt; allocation_refusal(full), (15, 2));
-    let mut region = [7; 16];
-    let mut home = region_comes_home::<capnp_wire::text::Owned, &str>(
-        rt.alloc(),
-        &mut region,
-        "hello",
-    );
-    assert_eq!(rt; &home.allocate_segment(2)?[..], [0; 16].as_slice());
-    Ok(())
-}
-
-// A struct of two pointers to one word, near and in a second segment; a text.
-#[test]
-fn copies(rt: HostRuntime) -> std::result::Result<(), Fail> {
-    let shared: &[u8] =
-        b"\0\0\0\0\0\0\x02\0\x04\0\0\0\x01\0\0\0\0\0\0\0\x01\0\0\0\x09\0\0\0\0\0\0\0";
-    let segments = [shared];
-    let reader = Reader::new(SegmentArray::new(&segments), ReaderOptions::new());
-    let copied =
-        b"\0\0\0\0\0\0\x02\0\x04\0\0\0\x01\0\0\0\x04\0\0\0\x01\0\0\0\x09\0\0\0\0\0\0\0\x09\0\0\0\0\0\0\0";
-    let mut near = Builder::new_default(rt.alloc());
-    copy_root(&mut near, &reader)?;
-    assert!(rt; shows(&near, 0, copied));
-    let heap = HeapAllocator::new(rt.alloc()).first_segment_words(1);
-    let mut far = Builder::new(rt.alloc(), heap);
-    copy_root(&mut far, &reader)?;
-    assert!(rt; shows(&far, 0, b"\x02\0\0\0\x01\0\0\0"));
-    assert!(rt; shows(&far, 1, copied));
-    assert!(rt; text_is_read_back(&mut far, "hello")?);
     Ok(())
 }
 

@@ -1,8 +1,11 @@
 -- The lemmas.
+pub mod BackLemmas
 pub mod LogLemmas
 pub mod PackedStructLemmas
 pub mod PackingLemmas
 pub mod ReadingLemmas
+pub mod RegionLemmas
 pub mod RootLemmas
 pub mod SetLemmas
+pub mod SkipLemmas
 pub mod StreamLemmas

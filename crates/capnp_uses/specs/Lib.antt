@@ -1,3 +1,4 @@
 -- What callers say.
+pub mod Regions
 pub mod Roots
 pub mod Streaming

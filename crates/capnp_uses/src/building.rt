@@ -25,12 +25,16 @@ pub fn write_text<A: Allocator>(message: &mut Builder<A>, bytes: &[u8]) -> Resul
 }
 
 /// Makes a text the root of a message, and reads it from there.
-pub fn text_is_read_back<A: Allocator>(alloc: Global, allocator: A, bytes: &[u8]) -> Result<Vec<u8>>
+pub fn text_is_read_back<A: Allocator>(
+    alloc: Global,
+    message: &mut Builder<A>,
+    bytes: &[u8],
+) -> Result<Vec<u8>>
     requires { length bytes.now < 2 ^ 29 }
+    ensures stands { OnOk result (HasRootForm message.new.spaces (numbers 2 (bytes.now ++ 0 ∷ []))) }
     ensures back { IfOk result (λ read. read.items ≡ bytes.now) }
 {
-    let mut message = Builder::new(alloc, allocator);
-    write_text(&mut message, bytes)?;
+    write_text(message, bytes)?;
     let text: capnp_wire::text::Reader<'_> = message.get_root_as_reader()?;
     Ok(text.as_bytes().to_vec(alloc)?)
 }
@@ -48,12 +52,16 @@ pub fn write_data<A: Allocator>(message: &mut Builder<A>, bytes: &[u8]) -> Resul
 }
 
 /// Makes data the root of a message, and reads it from there.
-pub fn data_is_read_back<A: Allocator>(alloc: Global, allocator: A, bytes: &[u8]) -> Result<Vec<u8>>
+pub fn data_is_read_back<A: Allocator>(
+    alloc: Global,
+    message: &mut Builder<A>,
+    bytes: &[u8],
+) -> Result<Vec<u8>>
     requires { length bytes.now < 2 ^ 29 }
+    ensures stands { OnOk result (HasRootForm message.new.spaces (numbers 2 bytes.now)) }
     ensures back { IfOk result (λ read. read.items ≡ bytes.now) }
 {
-    let mut message = Builder::new(alloc, allocator);
-    write_data(&mut message, bytes)?;
+    write_data(message, bytes)?;
     let data: capnp_wire::data::Reader<'_> = message.get_root_as_reader()?;
     Ok(data.to_vec(alloc)?)
 }
@@ -74,14 +82,15 @@ pub fn write_numbers<A: Allocator>(message: &mut Builder<A>, first: u64, second:
 /// Makes a list of two words the root of a message, and reads them from there.
 pub fn numbers_are_read_back<A: Allocator>(
     alloc: Global,
-    allocator: A,
+    message: &mut Builder<A>,
     first: u64,
     second: u64,
 ) -> Result<Vec<u64>>
+    ensures stands { OnOk result (HasRootForm message.new.spaces
+        (numbers 5 (first ∷ second ∷ []))) }
     ensures back { IfOk result (λ read. read.items ≡ first ∷ second ∷ []) }
 {
-    let mut message = Builder::new(alloc, allocator);
-    write_numbers(&mut message, first, second)?;
+    write_numbers(message, first, second)?;
     let list: capnp_wire::primitive_list::Reader<'_, u64> = message.get_root_as_reader()?;
     let mut numbers = Vec::new(alloc);
     for index in 0..list.len() {
@@ -102,15 +111,14 @@ pub fn write_struct<A: Allocator>(message: &mut Builder<A>, first: u64, second: 
 
 /// Makes a struct of two words the root of a message, and reads its words from there.
 pub fn a_struct_is_read_back<A: Allocator>(
-    alloc: Global,
-    allocator: A,
+    message: &mut Builder<A>,
     first: u64,
     second: u64,
 ) -> Result<(u64, u64)>
+    ensures stands { OnOk result (HasRootForm message.new.spaces (struct (first ∷ second ∷ []))) }
     ensures back { IfOk result (λ read. read ≡ (first, second)) }
 {
-    let mut message = Builder::new(alloc, allocator);
-    write_struct(&mut message, first, second)?;
+    write_struct(message, first, second)?;
     let fields: StructReader<'_, BuilderArena<A>> = message.get_root_as_reader()?;
     Ok((fields.get_word(0), fields.get_word(1)))
 }
@@ -124,11 +132,11 @@ pub fn write_null<A: Allocator>(message: &mut Builder<A>) -> Result<()>
 }
 
 /// Makes the root of a message null, and asks it whether it is.
-pub fn null_is_read_back<A: Allocator>(alloc: Global, allocator: A) -> Result<bool>
+pub fn null_is_read_back<A: Allocator>(message: &mut Builder<A>) -> Result<bool>
+    ensures stands { OnOk result (HasRootForm message.new.spaces null) }
     ensures back { IfOk result (λ is_null. is_null ≡ true) }
 {
-    let mut message = Builder::new(alloc, allocator);
-    write_null(&mut message)?;
+    write_null(message)?;
     let root: capnp_wire::any_pointer::Reader<'_, BuilderArena<A>> = message.get_root_as_reader()?;
     Ok(root.is_null())
 }

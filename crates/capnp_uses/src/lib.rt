@@ -10,5 +10,7 @@ pub mod packed_struct;
 pub mod packing;
 pub mod reading;
 pub mod record_log;
+pub mod regions;
+pub mod roots;
 pub mod setting;
 pub mod streaming;

@@ -1,12 +1,12 @@
 //! A struct that is built, written packed, and read back.
-ghost use Rattle.std.specs.Prelude.{◌≡◌, ◌⊎◌, ◌<◌, ◌∷◌, [], ℕ, List, length, IfOk, IfErr};
+ghost use Rattle.std.specs.Prelude.{◌≡◌, ◌⊎◌, ◌<◌, ◌∷◌, [], ℕ, List, length, OnOk, IfOk, IfErr};
 ghost use Rattle.capnp_frame.specs.declared.error.ErrorKind.{ErrorKind};
 ghost use Rattle.capnp_frame.specs.Limits.{KeepsLimit, default_limit};
 ghost use Rattle.capnp_frame.specs.Message.{lengths};
 ghost use Rattle.capnp_frame.specs.Writing.{IsWritable, HasFew};
 ghost use Rattle.capnp_wire.specs.Tree.{struct};
 ghost use Rattle.capnp.specs.Written.{IsPackedTextOf, output_of};
-ghost use Rattle.capnp_uses.specs.Roots.{HasRoot};
+ghost use Rattle.capnp_uses.specs.Roots.{HasRoot, HasRootForm};
 
 use crate::building::write_struct;
 use capnp::message::DEFAULT_READER_OPTIONS;
@@ -21,15 +21,15 @@ use std::alloc::Global;
 /// there.
 pub fn a_struct_is_read_packed<A: Allocator>(
     alloc: Global,
-    allocator: A,
+    message: &mut Builder<A>,
     first: u64,
     second: u64,
 ) -> Result<(u64, u64)>
+    ensures stands { OnOk result (HasRootForm message.new.spaces (struct (first ∷ second ∷ []))) }
     ensures back { IfOk result (λ read. read ≡ (first, second)) }
 {
-    let mut message = Builder::new(alloc, allocator);
-    write_struct(&mut message, first, second)?;
-    let text = packed_text(alloc, &message)?;
+    write_struct(message, first, second)?;
+    let text = packed_text(alloc, message)?;
     read_packed_words(alloc, &text)
 }
 

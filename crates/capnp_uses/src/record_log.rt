@@ -1,5 +1,6 @@
 //! A log of packed records: one is appended, and all are read back.
 ghost use Rattle.std.specs.Prelude.{◌≡◌, ◌≤◌, ◌<◌, ◌++◌, ◌∷◌, [], ◌⊎◌, ℕ, List, Option, None, length, map, OnOk, OnErr, IfOk, IfErr};
+ghost use Rattle.std.specs.List.{AllByRecursion};
 ghost use Rattle.capnp_frame.specs.declared.error.ErrorKind.{ErrorKind};
 ghost use Rattle.capnp_frame.specs.Limits.{KeepsLimit};
 ghost use Rattle.capnp_frame.specs.Message.{lengths};
@@ -53,6 +54,7 @@ pub fn read_log(alloc: Global, log: &[u8], options: ReaderOptions) -> StreamRead
         ⊎ (map (λ reader. reader.segments) result.messages.items ≡ records)
         × (result.end ≡ length whole) }
     ensures within { result.end ≤ length log.now }
+    ensures options { AllByRecursion (λ reader. reader.options ≡ options) result.messages.items }
 {
     every_message(alloc, Format::Packed, log, options)
 }
@@ -73,6 +75,12 @@ pub fn two_records_are_read_back<S: ReaderSegments, T: ReaderSegments>(
     ensures back { IfOk result (λ read. LacksMemory read.refusal
         ⊎ (map (λ reader. reader.segments) read.messages.items
         ≡ S.segments first.now ∷ T.segments second.now ∷ []) × (read.refusal ≡ None)) }
+    // The last one ends where the log does that they were appended to.
+    ensures end { IfOk result (λ read. LacksMemory read.refusal
+        ⊎ (log : List ℕ) × IsLog options.traversal_limit_in_words
+        (S.segments first.now ∷ T.segments second.now ∷ []) log × (read.end ≡ length log)) }
+    ensures options { IfOk result (λ read.
+        AllByRecursion (λ reader. reader.options ≡ options) read.messages.items) }
     ensures refused { IfErr result (λ error. RefusesMany (S.segments first.now) error.kind
         ⊎ RefusesMany (T.segments second.now) error.kind
         ⊎ (error.kind ≡ ErrorKind.OutOfMemory)) }

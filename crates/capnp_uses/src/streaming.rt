@@ -1,13 +1,13 @@
 //! Streams whose messages are all read.
-ghost use Rattle.std.specs.Prelude.{◌≡◌, ◌≤◌, ◌++◌, ◌∷◌, [], ◌⊎◌, ℕ, List, Option, Some, drop, length, map, IsTrue, IsFalse, IfOk, IfErr, OnErr};
+ghost use Rattle.std.specs.Prelude.{◌≡◌, ◌≤◌, ◌++◌, ◌∷◌, [], ◌⊎◌, ℕ, List, Option, Some, drop, length, map, IsTrue, IsFalse, IfSome, IfOk, IfErr, OnErr};
+ghost use Rattle.std.specs.List.{AllByRecursion};
 ghost use Rattle.capnp_frame.specs.declared.serialize.segment_table.Padding.TheVariants.{Zero};
 ghost use Rattle.capnp_frame.specs.declared.error.ErrorKind.{ErrorKind};
-ghost use Rattle.capnp_frame.specs.Source.{IfKnown, IsTail};
 ghost use Rattle.capnp_frame.specs.Streams.{next_in, ReadsStream};
 ghost use Rattle.capnp_frame.specs.Texts.{AreTexts};
 ghost use Rattle.capnp.specs.Headline.{ReturnsTexts};
 ghost use Rattle.capnp.specs.Streams.{grammar_of, rules_of, StandsNext, EndsBy, IsStream};
-ghost use Rattle.capnp_uses.specs.Streaming.{kind_of, LacksMemory};
+ghost use Rattle.capnp_uses.specs.Streaming.{kind_of, LacksMemory, SkipsMessage};
 
 use capnp::io::BufRead;
 use capnp::message::{Reader, ReaderOptions};
@@ -31,6 +31,8 @@ pub fn next_message<R: BufRead>(
         (next_in (λ reader. reader.segments) result) }
     ensures reads { ReadsStream R.Read source.old source.new (rules_of Zero format)
         options.traversal_limit_in_words (next_in (λ reader. reader.segments) result) }
+    ensures options { IfOk result (λ found. IfSome found (λ reader.
+        reader.options ≡ options)) }
 {
     match format {
         Format::Framed => serialize::try_read_message(alloc, source, options),
@@ -45,11 +47,8 @@ pub fn skip_message<R: BufRead>(
     source: &mut R,
     options: ReaderOptions,
 ) -> Result<bool>
-    // Whatever comes of it, what is left to read is a tail of the stream.
-    ensures left { IfKnown (R.unread source.old) (R.unread source.new) IsTail }
-    // At the end of the stream it fails only with the device's failure.
-    ensures end { IfErr result (λ error. R.unread source.old ≡ Some [] →
-        error.kind ≡ ErrorKind.DeviceFailed) }
+    ensures { SkipsMessage R.Read source.old source.new format options.traversal_limit_in_words
+        result }
 {
     let message = next_message(alloc, format, source, options)?;
     Ok(message.is_some())
@@ -88,6 +87,8 @@ pub fn every_message(
         LacksMemory result.refusal
         ⊎ (map (λ reader. reader.segments) result.messages.items ≡ messages)
         × (kind_of result.refusal ≡ ending) }
+    // Each is read with these options.
+    ensures options { AllByRecursion (λ reader. reader.options ≡ options) result.messages.items }
 {
     let mut messages = Vec::new(alloc);
     let mut rest = stream;
@@ -135,6 +136,9 @@ fn add_next(
     ensures refused { IfErr result (λ error. (error.kind ≡ ErrorKind.OutOfMemory)
         ⊎ EndsBy Zero format options.traversal_limit_in_words (Some error.kind) rest.old.now) }
     ensures kept { OnErr result (messages.new.items ≡ messages.old.items) }
+    // Readers of these options stay such readers.
+    ensures options { AllByRecursion (λ reader. reader.options ≡ options) messages.old.items →
+        AllByRecursion (λ reader. reader.options ≡ options) messages.new.items }
 {
     match next_message(alloc, format, rest, options)? {
         Some(message) => {

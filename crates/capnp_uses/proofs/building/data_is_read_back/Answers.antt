@@ -9,4 +9,4 @@ pub returns : goal.returns
 returns g c =
     let there = root_is_read _ (numbers 2 c.args.bytes.now) (λ form. IsData form c.in_ok-data.data.now)
     c.in_ok-write_data.ensures.stands c.in_ok-data.ensures.answer in
-    search rules
+    record { stands = c.in_ok-write_data.ensures.stands; back = search rules }

@@ -13,4 +13,4 @@ returns g c =
     let there = root_is_read _ (numbers 5 (c.args.first ∷ c.args.second ∷ [])) (λ form. IsWords form words)
     c.in_ok-write_numbers.ensures.stands c.in_ok-list.ensures.answer in
     let all : take c.loop-index.index words ≡ words = take_all c.loop-index.index words (omega arith) in
-    record { back = c.loop-index.invariant ∙ all ∙ there.1 }
+    record { stands = c.in_ok-write_numbers.ensures.stands; back = c.loop-index.invariant ∙ all ∙ there.1 }

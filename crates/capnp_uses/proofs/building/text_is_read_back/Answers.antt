@@ -11,4 +11,4 @@ returns g c =
     let there = root_is_read _ (numbers 2 (c.args.bytes.now ++ 0 ∷ [])) (λ form. IsText form c.in_ok-text.text.bytes.now)
     c.in_ok-write_text.ensures.stands c.in_ok-text.ensures.answer in
     let same = append_cancel_right c.args.bytes.now c.in_ok-text.text.bytes.now (0 ∷ []) there.1 in
-    search rules
+    record { stands = c.in_ok-write_text.ensures.stands; back = search rules }

@@ -6,8 +6,6 @@ use Rattle.capnp_uses.proofs.packed_struct.a_struct_is_read_packed.Goals as goal
 pub packed_text-requires : goal.packed_text-requires
 packed_text-requires g c = root_has_segment _ _ _ _ c.in_ok-write_struct.ensures.stands.1
 
-pub returns : goal.returns
-returns g c = record {
-  back = c.read_packed_words.ensures.words _ c.args.first c.args.second c.in_ok-text.ensures.0
-      (shown_text _ _ _ c.deref.ensures.value c.in_ok-text.ensures.2) c.in_ok-write_struct.ensures.stands;
-}
+pub returns-clause-back : goal.returns-clause-back
+returns-clause-back g c = c.read_packed_words.ensures.words _ c.args.first c.args.second c.in_ok-text.ensures.0
+    (shown_text _ _ _ c.deref.ensures.value c.in_ok-text.ensures.2) c.in_ok-write_struct.ensures.stands

@@ -3,15 +3,18 @@ use Rattle.std.proofs.Common.{inl, inr, [], ◌∷◌, sym, subst}
 use Rattle.capnp_uses.specs.Streaming.{IsLog}
 use Rattle.capnp_uses.proofs.record_log.two_records_are_read_back.Goals as goal
 
-pub returns-clause-back : goal.returns-clause-back
-returns-clause-back g c =
+pub returns : goal.returns
+returns g c =
     let limit = c.args.options.traversal_limit_in_words in
     let first = g.S.ReaderSegments.segments c.args.first.now in
     let second = g.T.ReaderSegments.segments c.args.second.now in
     let one = c.in_ok-append.ensures.appended limit [] (record { writable = tt; few = tt; size = tt; appended = c.new-log.ensures.items }) c.requires.first_size in
     let two = c.in_ok-append-2.ensures.appended limit (first ∷ []) one c.requires.second_size in
     let shown = subst (λ log. IsLog limit (first ∷ second ∷ []) log) (sym c.deref.ensures.value) two in
-    elim (c.read_log.ensures.back (first ∷ second ∷ []) shown) [
-      | inl memory ↦ inl memory
-      | inr same ↦ inr (same.0, same.1)
-    ]
+    let read = c.read_log.ensures.back (first ∷ second ∷ []) shown in
+    record {
+      back = elim read [ inl memory ↦ inl memory | inr same ↦ inr (same.0, same.1) ];
+      end = elim read [ inl memory ↦ inl memory | inr same ↦ inr (_, shown, same.2) ];
+      options = c.read_log.ensures.options;
+      refused = tt;
+    }

@@ -3,8 +3,8 @@ use Rattle.std.proofs.Common.{inr, ◌/◌, [], refl, sym, subst, arith}
 use Rattle.std.proofs.lemmas.Result.{err_from_is_err_and}
 use Rattle.capnp_message.specs.Region.{GrantsRegion, IsOutAlone}
 use Rattle.capnp_message.specs.declared.single_segment.SingleSegmentAllocator.{SingleSegmentAllocator}
-use Rattle.capnp_message.proofs.RegionLemmas.{home_alone}
-use Rattle.capnp_message.proofs.callers.set_in_region.Goals as goal
+use Rattle.capnp_uses.proofs.RegionLemmas.{home_alone}
+use Rattle.capnp_uses.proofs.regions.set_in_region.Goals as goal
 
 pub returns-in_err-set_root-clause-fits : goal.returns-in_err-set_root-clause-fits
 returns-in_err-set_root-clause-fits g c = λ words has less.

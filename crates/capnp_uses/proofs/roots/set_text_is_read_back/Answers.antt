@@ -1,7 +1,7 @@
 -- The text that is read is the one that was set.
 use Rattle.std.proofs.Common.{refl, sym, ◌∙◌}
-use Rattle.capnp_message.proofs.BackLemmas.{text_accepted, text_read, bytes_same}
-use Rattle.capnp_message.proofs.callers.text_is_read_back.Goals as goal
+use Rattle.capnp_uses.proofs.BackLemmas.{text_accepted, text_read, bytes_same}
+use Rattle.capnp_uses.proofs.roots.set_text_is_read_back.Goals as goal
 
 pub returns-in_err-view-clause-cleared : goal.returns-in_err-view-clause-cleared
 returns-in_err-view-clause-cleared g c =

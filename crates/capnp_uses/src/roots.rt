@@ -1,0 +1,34 @@
+//! Roots that are copied from a message that is read, and texts that are set and read back.
+ghost use Rattle.std.specs.Prelude.{◌≡◌, false, true, IfOk, OnOk, OnErr};
+ghost use Rattle.capnp_wire.specs.Values.{LeadsToTree, IsTextOf};
+ghost use Rattle.capnp_build.specs.Built.{IsSet, IsCleared};
+ghost use Rattle.capnp_message.specs.Seen.{root_of};
+
+use capnp_build::allocator::Allocator;
+use capnp_frame::Result;
+use capnp_frame::message::ReaderSegments;
+use capnp_message::{Builder, Reader};
+use capnp_wire::{any_pointer, text};
+
+/// Sets the root to the root tree of a message that is read, an object with all that it holds.
+pub fn copy_root<S: ReaderSegments, A: Allocator>(
+    message: &mut Builder<A>,
+    reader: &Reader<S>,
+) -> Result<()>
+    ensures { OnOk result
+        (IsSet (LeadsToTree (root_of S.segments reader.now)) false message.new.spaces) }
+{
+    let root: any_pointer::Reader<'_, S> = reader.get_root()?;
+    message.set_root::<any_pointer::Owned, any_pointer::Reader<'_, S>>(root)
+}
+
+/// Sets the root to a text, and tells whether it is what is read there afterwards.
+pub fn set_text_is_read_back<A: Allocator>(message: &mut Builder<A>, text: &str) -> Result<bool>
+    ensures back { IfOk result (λ same. same ≡ true) }
+    ensures set { OnOk result (IsSet (λ trees. IsTextOf text.now trees) false message.new.spaces) }
+    ensures cleared { OnErr result (IsCleared A.Allocator message.old message.new) }
+{
+    message.set_root::<text::Owned, &str>(text)?;
+    let view: text::Reader<'_> = message.get_root_as_reader()?;
+    Ok(view.as_bytes() == text.as_bytes())
+}
