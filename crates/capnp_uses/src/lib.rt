@@ -4,6 +4,7 @@
 //! know. Nothing stands on them.
 #![tactic(auto)]
 
+pub mod account;
 pub mod building;
 pub mod canonical;
 pub mod packed_struct;

@@ -1,0 +1,70 @@
+//! A type over structs, as a schema has them: an account with a number and a name.
+//!
+//! `struct Account { id @0 :UInt64; name @1 :Text; }` has one data word and one pointer (Cap'n Proto's
+//! encoding, "Structs").
+ghost use Rattle.std.specs.Prelude.{◌≡◌, slice_index, MatchResult};
+ghost use Rattle.capnp_wire.specs.Readers.{struct_of, pointer_of};
+ghost use Rattle.capnp_wire.specs.Views.{IsViewOf, IsText, IsStruct, Accepts, Refuses, Declines, Reads, TakesStruct, DeclinesStruct, DeclinesText, pointer_in};
+
+use capnp::any_struct::StructReader;
+use capnp::traits::{self, FromPointerReader};
+use capnp::{Result, any_pointer, text};
+use capnp_frame::message::ReaderSegments;
+
+/// Accounts, as a type of a schema.
+pub struct Owned;
+
+impl<'a, S: ReaderSegments + 'a> traits::Owned<'a, S> for Owned {
+    type Reader = Reader<'a, S>;
+}
+
+/// An account in a message. From a null pointer, and from older writers, it has the number 0 and no name.
+#[derive(Drop)]
+pub struct Reader<'a, S: ReaderSegments> {
+    fields: StructReader<'a, S>,
+}
+
+impl<'a, S: ReaderSegments> Reader<'a, S> {
+    /// Its number; 0 where the struct has no data word.
+    pub fn id(&self) -> u64
+        ensures { result ≡ slice_index (struct_of S.segments self.now.fields).words 0 }
+    {
+        self.fields.get_word(0)
+    }
+
+    /// Its name; empty where the struct has no pointer, or a null one.
+    pub fn name(&self) -> Result<text::Reader<'a>>
+        ensures { let pointer = pointer_in (struct_of S.segments self.now.fields) 0 in
+            MatchResult result (λ name. Reads pointer (λ form. IsText form name.bytes.now))
+            (λ error. Refuses pointer DeclinesText error.kind) }
+    {
+        self.fields.get_pointer(0).get_as()
+    }
+}
+
+impl<'a, S: ReaderSegments> FromPointerReader<'a, S> for Reader<'a, S> {
+    // What the view shows: the struct that the pointer leads to.
+    ghost shows = { λ pointer view. IsStruct pointer (struct_of S.segments view.fields) };
+
+    // Null, and each struct, is such a view.
+    ghost accepts = { λ pointer. Accepts pointer TakesStruct };
+
+    // Why there is none: no object stands there, it may not be read, or it is no struct.
+    ghost refuses = { λ pointer kind. Refuses pointer DeclinesStruct kind };
+
+    // An object that is no struct is refused by `WrongPointerKind`.
+    ghost declines = { λ pointer kind. Declines pointer DeclinesStruct kind };
+
+    // The trait's clause, with these members in it.
+    fn get_from_pointer(reader: any_pointer::Reader<'a, S>) -> Result<Self>
+        ensures { let pointer = pointer_of S.segments reader.entry in IsViewOf pointer
+            (λ view. IsStruct pointer (struct_of S.segments view.fields))
+            (Accepts pointer TakesStruct) (Refuses pointer DeclinesStruct)
+            (Declines pointer DeclinesStruct) result }
+    {
+        match StructReader::get_from_pointer(reader) {
+            Ok(fields) => Ok(Reader { fields }),
+            Err(error) => Err(error),
+        }
+    }
+}
