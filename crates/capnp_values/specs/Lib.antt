@@ -1,0 +1,3 @@
+-- What composed values are.
+pub mod Rows
+pub mod RowFacts
