@@ -1,22 +1,16 @@
 -- Structs of data words and of rows.
-use Rattle.std.proofs.Common.{◌≡◌, ℕ, zero, suc, ◌+◌, ◌-◌, ◌*◌, ◌/◌, ◌%◌, ◌<◌, ◌≤◌, ◌^◌, Bool, true, false, List, [], ◌∷◌, ◌++◌, length, take, drop, Result, Ok, Err, MatchResult, inl, inr, refl, sym, ◌∙◌, ap, arith}
+use Rattle.std.proofs.Common.{◌≡◌, ℕ, ◌+◌, ◌-◌, ◌*◌, ◌/◌, ◌%◌, ◌<◌, ◌≤◌, ◌^◌, Bool, true, false, List, ◌∷◌, ◌++◌, length, take, Result, Ok, Err, MatchResult, inl, inr, refl, sym, ◌∙◌, ap, arith}
 use Rattle.std.specs.Prelude.{All, ◌==◌, if◌then◌else◌}
-use Rattle.std.proofs.Common.{Some, slice_get, slice_index_or, length-take, w64}
-use Rattle.std.specs.Int.{to_le_bytes}
+use Rattle.std.proofs.Common.{length-take}
 use Rattle.std.proofs.lemmas.List.{append-nil, take_all}
-use Rattle.capnp_wire.specs.Block.{put}
-use Rattle.capnp_wire.proofs.layouts.BlockLemmas.{put_both}
-use Rattle.capnp_wire.proofs.words.UsedLemmas.{take_more, last_used, last_unused}
-use Rattle.capnp_wire.proofs.views.ValueLemmas.{put_whole}
-use Rattle.capnp_values.proofs.RowLemmas.{one_word}
 use Rattle.capnp_frame.specs.Words.{bytes_of}
 use Rattle.capnp_frame.specs.declared.words.Word.{Word}
 use Rattle.capnp_frame.specs.declared.error.Error.{Error}
 use Rattle.capnp_frame.specs.declared.error.ErrorKind.{ErrorKind}
 use Rattle.std.specs.Result.{IsErrAnd}
-use Rattle.capnp_wire.specs.Pointer.{number_of, words_of, words_from}
+use Rattle.capnp_wire.specs.Pointer.{number_of, words_of}
 use Rattle.capnp_wire.specs.Tree.{struct, Trees, none, tree, count, total_words}
-use Rattle.capnp_wire.specs.Trim.{first, cut_zeros, trim}
+use Rattle.capnp_wire.specs.Trim.{first, trim}
 use Rattle.capnp_wire.specs.Layout.{struct_pointer, minus_one, run, pointers_to, body, layout, formed}
 use Rattle.capnp_wire.specs.Values.{HasWords, LacksWords, pointed, too_large}
 use Rattle.capnp_wire.proofs.trees.FrontLemmas.{first_cut, cut_front}
@@ -24,8 +18,9 @@ use Rattle.capnp_wire.proofs.trees.NarrowLemmas.{first_all}
 use Rattle.capnp_wire.proofs.words.CutLemmas.{length-cut}
 use Rattle.capnp_wire.proofs.trees.TrimLemmas.{count-trim}
 use Rattle.capnp_wire.proofs.trees.PieceLemmas.{count-cut}
-use Rattle.capnp_wire.proofs.words.PutLemmas.{words_split, put_mid_words}
-use Rattle.capnp_values.specs.Rows.{IsSettled, IsStruct, RefusesStruct, kept_row, kept_words, extent_of, CanWriteRow}
+use Rattle.capnp_wire.proofs.words.PutLemmas.{words_split}
+use Rattle.capnp_values.specs.Fields.{IsSettled, kept_row, extent_of, CanWriteRow}
+use Rattle.capnp_values.specs.Structs.{IsStruct, RefusesStruct, kept_words}
 use Rattle.capnp_values.specs.declared.fields.Extent.{Extent}
 
 pub kept_first : (c : Bool) (t : Trees) → first (count (kept_row c t)) (formed c t) ≡ kept_row c t
@@ -92,11 +87,11 @@ fitted_lacks c total words kind (Ok n) f is many k = absurd (omega (arith, f.0, 
 fitted_lacks c total words kind (Err e) f is many k = f.1 ∙ ap (too_large c) (sym is) ∙ sym k
 
 -- what is written of it
-pub struct_written : (c : Bool) (words : List ℕ) (held : Trees) (word : Word) (d n : ℕ) (own_block behind : List ℕ) → d ≡ length (kept_words c words) → n ≡ count (kept_row c held)
+pub struct_written : (c : Bool) (words : List ℕ) (held : Trees) (word : Word) (d n : ℕ) (own_block held_block : List ℕ) → d ≡ length (kept_words c words) → n ≡ count (kept_row c held)
     → number_of 256 (bytes_of word) ≡ struct_pointer (if d + n == 0 then minus_one else 0) d n → length own_block ≡ 8 * (d + n)
-    → words_of own_block ≡ take d words ++ pointers_to (run d n) (d + n + 0) (first n (formed c held)) → words_of behind ≡ body (first n (formed c held))
-    → pointed word (own_block ++ behind) ≡ layout (formed c (tree (struct words) held none))
-struct_written c words held word d n own_block behind d_is n_is word_is long own_is behind_is =
+    → words_of own_block ≡ take d words ++ pointers_to (run d n) (d + n + 0) (first n (formed c held)) → words_of held_block ≡ body (first n (formed c held))
+    → pointed word (own_block ++ held_block) ≡ layout (formed c (tree (struct words) held none))
+struct_written c words held word d n own_block held_block d_is n_is word_is long own_is held_there_is =
     let kept : first n (formed c held) ≡ kept_row c held = ap (λ (k : ℕ). first k (formed c held)) n_is ∙ kept_first c held in
     let ws : take d words ≡ kept_words c words = ap (λ (k : ℕ). take k words) d_is ∙ kept_front c words in
     let end : d + n + 0 ≡ d + n = omega arith in
@@ -107,61 +102,16 @@ struct_written c words held word d n own_block behind d_is n_is word_is long own
     ∙ ap (λ (t : Trees). links (kept_words c words) d n t) kept
     ∙ ap (λ (k : ℕ). links (kept_words c words) k n (kept_row c held)) d_is
     ∙ ap (λ (k : ℕ). links (kept_words c words) (length (kept_words c words)) k (kept_row c held)) n_is in
-    let behind_there : words_of behind ≡ body (kept_row c held) = behind_is ∙ ap body kept in
+    let held_there : words_of held_block ≡ body (kept_row c held) = held_there_is ∙ ap body kept in
     let tag : ℕ → ℕ → ℕ = λ e k. struct_pointer (if e + k == 0 then minus_one else 0) e k in
     let word_there : number_of 256 (bytes_of word) ≡ tag (length (kept_words c words)) (count (kept_row c held)) =
     word_is ∙ ap (λ (k : ℕ). tag k n) d_is ∙ ap (λ (k : ℕ). tag (length (kept_words c words)) k) n_is in
     ap (λ (l : List ℕ). number_of 256 (bytes_of word) ∷ l)
-    (words_split (d + n) own_block behind long ∙ ap (λ (l : List ℕ). l ++ words_of behind) own_there
-    ∙ ap (λ (l : List ℕ). links (kept_words c words) (length (kept_words c words)) (count (kept_row c held)) (kept_row c held) ++ l) behind_there
+    (words_split (d + n) own_block held_block long ∙ ap (λ (l : List ℕ). l ++ words_of held_block) own_there
+    ∙ ap (λ (l : List ℕ). links (kept_words c words) (length (kept_words c words)) (count (kept_row c held)) (kept_row c held) ++ l) held_there
     ∙ sym (append-nil (links (kept_words c words) (length (kept_words c words)) (count (kept_row c held)) (kept_row c held) ++ body (kept_row c held))))
     ∙ ap (λ (k : ℕ). k ∷ body (tree (struct (kept_words c words)) (kept_row c held) none)) word_there
     ∙ ap layout (sym (struct_formed c words held))
-
--- words that are put one after the other
-same_there : (xs : List ℕ) (k e : ℕ) → k < length xs → slice_get xs k ≡ Some (slice_index_or xs k e)
-same_there [] k e within = absurd (omega arith)
-same_there (x ∷ xs) zero e within = refl
-same_there (x ∷ xs) (suc k) e within = same_there xs k e (omega arith)
-
-pub word_put : (i k : ℕ) (block w old words : List ℕ) (x : ℕ) → k ≡ 8 → w ≡ to_le_bytes w64 x → length w ≡ 8 → x < 2 ^ 64 → slice_get words i ≡ Some x → i < length words
-    → length block ≡ 8 * length words → length old ≡ length words → words_of block ≡ put 0 (take i words) old
-    → words_of (take (8 * i) block ++ (w ++ drop k (drop (8 * i) block))) ≡ put 0 (take (i + 1) words) old
-word_put i k block w old words x k_is w_is eight small there within long old_long so_far =
-    let one : words_of w ≡ x ∷ [] = one_word w x small w_is eight in
-    let front : length (take i words) ≡ i = omega (arith, length-take i words) in
-    let next : suc i ≡ i + 1 = omega arith in
-    ap (λ (n : ℕ). words_of (take (8 * i) block ++ (w ++ drop n (drop (8 * i) block)))) (k_is ∙ sym eight)
-    ∙ put_mid_words i block w (omega arith) (omega arith)
-    ∙ ap (λ (l : List ℕ). put i l (words_of block)) one
-    ∙ ap (λ (l : List ℕ). put i (x ∷ []) l) so_far
-    ∙ ap (λ (n : ℕ). put n (x ∷ []) (put 0 (take i words) old)) (omega arith)
-    ∙ put_both 0 (take i words) (x ∷ []) old (omega arith)
-    ∙ ap (λ (l : List ℕ). put 0 l old) (sym (take_more i words x there) ∙ ap (λ (n : ℕ). take n words) next)
-
-pub there_is : (xs : List ℕ) (k e x : ℕ) → k < length xs → x ≡ slice_index_or xs k e → slice_get xs k ≡ Some x
-there_is xs k e x within is = same_there xs k e within ∙ ap (λ (n : ℕ). Some n) (sym is)
-
-pub all_put : (words old block : List ℕ) (i : ℕ) → length old ≡ length words → length words ≤ i → words_of block ≡ put 0 (take i words) old → words_of block ≡ words
-all_put words old block i long past is = is ∙ ap (λ (l : List ℕ). put 0 l old) (take_all i words past) ∙ put_whole words old (sym long)
-
--- data words, with the pointers behind them
-pub own_written : (words own_data pointers : List ℕ) (start n m gap : ℕ) (t : Trees) → words_of own_data ≡ words → length own_data ≡ 8 * length words → n ≡ m
-    → words_of pointers ≡ pointers_to (run start m) (start + m + gap) (first m t) → words_of (own_data ++ pointers) ≡ words ++ pointers_to (run start n) (start + n + gap) (first n t)
-own_written words own_data pointers start n m gap t data_there long same links =
-    words_split (length words) own_data pointers long ∙ ap (λ (l : List ℕ). l ++ words_of pointers) data_there ∙ ap (λ (l : List ℕ). words ++ l) links
-    ∙ ap (λ (k : ℕ). words ++ pointers_to (run start k) (start + k + gap) (first k t)) (sym same)
-
-pub here_used : (words : List ℕ) (left w : ℕ) → 0 < left → left ≤ length words → w ≡ slice_index_or words (left - 1) 0 → 0 < w → left ≡ length (cut_zeros (words_from words 0 left))
-here_used words left w some room is positive =
-    let at : left - 1 ≡ 0 + left - 1 = omega arith in
-    last_used words 0 left w some (omega arith) (ap (λ (n : ℕ). slice_get words n) (sym at) ∙ there_is words (left - 1) 0 w (omega arith) is) positive
-
-pub here_unused : (words : List ℕ) (left : ℕ) → 0 < left → left ≤ length words → 0 ≡ slice_index_or words (left - 1) 0
-    → length (cut_zeros (words_from words 0 (left - 1))) ≡ length (cut_zeros (words_from words 0 left))
-here_unused words left some room is =
-    let at : left - 1 ≡ 0 + left - 1 = omega arith in
-    last_unused words 0 left some (ap (λ (n : ℕ). slice_get words n) (sym at) ∙ there_is words (left - 1) 0 0 (omega arith) is)
 
 pub same_extents : (r : Result Extent Error) (a b : Extent) → r ≡ Ok a → r ≡ Ok b → a ≡ b
 same_extents r a b x y = cc
@@ -177,10 +127,10 @@ struct_exact c words size hs rs total r kind few_words few_pointers totals not f
     fitted_lacks c total (total_words (formed c lacks.0)) kind r f is lacks.2 lacks.3
 
 -- where its row is written
-pub struct_row : (c : Bool) (words : List ℕ) (size : ℕ) (hs : Trees → Type 0) (whole own_long behind_long d n : ℕ) → (w : HasWords (λ t. IsStruct words size hs t) c (whole / 8)) → whole % 8 ≡ 0
-    → own_long ≡ 8 * (d + n) → behind_long + own_long ≡ whole → d ≡ length (kept_words c words) → n ≡ count (kept_row c w.tree_is.held)
-    → CanWriteRow hs c (own_long / 8 - length (take d words)) behind_long
-struct_row c words size hs whole own_long behind_long d n w even own_is sum d_is n_is =
+pub struct_row : (c : Bool) (words : List ℕ) (size : ℕ) (hs : Trees → Type 0) (whole own_long held_long d n : ℕ) → (w : HasWords (λ t. IsStruct words size hs t) c (whole / 8)) → whole % 8 ≡ 0
+    → own_long ≡ 8 * (d + n) → held_long + own_long ≡ whole → d ≡ length (kept_words c words) → n ≡ count (kept_row c w.tree_is.held)
+    → CanWriteRow hs c (own_long / 8 - length (take d words)) held_long
+struct_row c words size hs whole own_long held_long d n w even own_is sum d_is n_is =
     let total : total_words (formed c w.trees) ≡ length (kept_words c words) + count (kept_row c w.tree_is.held) + total_words (kept_row c w.tree_is.held) =
     ap (λ (t : Trees). total_words (formed c t)) w.tree_is.whole ∙ struct_total c words w.tree_is.held in
     let some : own_long / 8 - length (take d words) ≡ count (kept_row c w.tree_is.held) = omega (arith, length-take d words, kept_fewer c words) in
@@ -193,13 +143,13 @@ struct_row c words size hs whole own_long behind_long d n w even own_is sum d_is
       room_is = omega (arith, first_is, total, w.words_are);
     }
 
-pub struct_written_at : (c : Bool) (words : List ℕ) (held trees : Trees) (word : Word) (d n m : ℕ) (own_block behind : List ℕ) → trees ≡ tree (struct words) held none
+pub struct_written_at : (c : Bool) (words : List ℕ) (held trees : Trees) (word : Word) (d n m : ℕ) (own_block held_block : List ℕ) → trees ≡ tree (struct words) held none
     → d ≡ length (kept_words c words) → n ≡ count (kept_row c held) → m ≡ n
     → number_of 256 (bytes_of word) ≡ struct_pointer (if d + n == 0 then minus_one else 0) d n → length own_block ≡ 8 * (d + n)
-    → words_of own_block ≡ take d words ++ pointers_to (run d m) (d + m + 0) (first m (formed c held)) → words_of behind ≡ body (first m (formed c held))
-    → pointed word (own_block ++ behind) ≡ layout (formed c trees)
-struct_written_at c words held trees word d n m own_block behind whole d_is n_is same word_is long own_is behind_is =
-    struct_written c words held word d n own_block behind d_is n_is word_is long
+    → words_of own_block ≡ take d words ++ pointers_to (run d m) (d + m + 0) (first m (formed c held)) → words_of held_block ≡ body (first m (formed c held))
+    → pointed word (own_block ++ held_block) ≡ layout (formed c trees)
+struct_written_at c words held trees word d n m own_block held_block whole d_is n_is same word_is long own_is held_there_is =
+    struct_written c words held word d n own_block held_block d_is n_is word_is long
     (own_is ∙ ap (λ (k : ℕ). take d words ++ pointers_to (run d k) (d + k + 0) (first k (formed c held))) same)
-    (behind_is ∙ ap (λ (k : ℕ). body (first k (formed c held))) same)
+    (held_there_is ∙ ap (λ (k : ℕ). body (first k (formed c held))) same)
     ∙ ap (λ (t : Trees). layout (formed c t)) (sym whole)

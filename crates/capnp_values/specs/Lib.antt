@@ -1,3 +1,4 @@
 -- What composed values are.
-pub mod Rows
-pub mod RowFacts
+pub mod Fields
+pub mod FieldLaws
+pub mod Structs

@@ -1,4 +1,4 @@
-//! Rows of pointer fields.
+//! Rows of pointer fields: the pointer sections of structs (encoding document, "Structs").
 ghost use Rattle.std.specs.Prelude.{◌≡◌, ◌+◌, ◌/◌, ◌%◌, ◌<◌, ◌^◌, ℕ, length, min, replicate, Ok, MatchResult};
 ghost use Rattle.std.specs.Result.{IsErrAnd};
 ghost use Rattle.capnp_frame.specs.declared.error.ErrorKind.{ErrorKind};
@@ -6,7 +6,7 @@ ghost use Rattle.capnp_wire.specs.Pointer.{words_of};
 ghost use Rattle.capnp_wire.specs.Tree.{Trees};
 ghost use Rattle.capnp_wire.specs.Trim.{first};
 ghost use Rattle.capnp_wire.specs.Layout.{run, pointers_to, body, formed};
-ghost use Rattle.capnp_values.specs.Rows.{IsSettled, HasExtent, extent_of, CanWriteRow};
+ghost use Rattle.capnp_values.specs.Fields.{IsSettled, HasExtent, extent_of, CanWriteRow};
 
 mod field;
 mod no_fields;
@@ -18,7 +18,10 @@ pub use no_fields::NoFields;
 /// How far a row reaches: its pointers, and the words that these lead to.
 #[derive(Clone, Copy)]
 pub struct Extent {
+    /// How many pointers it keeps.
     pub pointers: u32,
+
+    /// The words of all that these lead to.
     pub words: u64,
 }
 
@@ -49,7 +52,7 @@ pub trait Fields {
             IsErrAnd result (λ error. error.kind ≡ kind) };
 
     /// Writes the first pointers of the row, and what they lead to into a block of zeros of just its
-    /// words, which begins so many words behind the last of the pointers.
+    /// words, which begins so many words after the last of the pointers.
     fn write(&self, canonical: bool, gap: u32, pointers: &mut [u8], block: &mut [u8])
         requires row { CanWriteRow (has_trees self.now) canonical (length pointers.old / 8)
             (length block.old) }

@@ -1,11 +1,13 @@
-//! Null pointers, and borrowed values.
+//! Null pointers.
 use capnp_frame::{Result, Word, word};
 use capnp_wire::traits::SetterInput;
 
-/// A null pointer, as a value of each type of a schema.
+/// A null pointer, as a value of each type of a schema (encoding document, "Structs": a pointer that is
+/// null stands for the default value of its field).
 #[derive(Clone, Copy)]
 pub struct Null;
 
+// It leads to no words, and is a word of zeros.
 impl<T> SetterInput<T> for Null {
     ghost use Rattle.std.specs.Prelude.{◌≡◌};
     ghost use Rattle.capnp_wire.specs.Tree.{null, none, tree, count};
@@ -23,27 +25,5 @@ impl<T> SetterInput<T> for Null {
 
     fn write(&self, _canonical: bool, _block: &mut [u8]) -> Word {
         word(0, 0, 0, 0, 0, 0, 0, 0)
-    }
-}
-
-/// A value that is borrowed.
-#[derive(Clone, Copy)]
-pub struct Borrowed<'a, V> {
-    pub value: &'a V,
-}
-
-impl<'a, T, V: SetterInput<T>> SetterInput<T> for Borrowed<'a, V> {
-    ghost has_tree = { λ value trees. V.has_tree value.value.now trees };
-
-    ghost refuses = { λ value kind. V.refuses value.value.now kind };
-
-    ghost one = { λ value trees is. V.one value.value.now trees is };
-
-    fn measure(&self, canonical: bool) -> Result<u32> {
-        self.value.measure(canonical)
-    }
-
-    fn write(&self, canonical: bool, block: &mut [u8]) -> Word {
-        self.value.write(canonical, block)
     }
 }

@@ -1,11 +1,11 @@
 //! A value in front of a row.
 ghost use Rattle.std.specs.Prelude.{◌≡◌, ◌<◌, ◌^◌, false};
-ghost use Rattle.capnp_wire.specs.Tree.{Form, Trees, none, tree, total_words, is_null as null_form};
+ghost use Rattle.capnp_wire.specs.Tree.{Form, Trees, none, tree, total_words};
 ghost use Rattle.capnp_wire.specs.Values.{HasWords};
-ghost use Rattle.capnp_values.specs.Rows.{IsPart, extent_of};
+ghost use Rattle.capnp_values.specs.Fields.{IsPart, extent_of};
 
 use crate::fields::{Extent, Fields};
-use crate::link::{moved, number};
+use crate::part::{is_null, part_words, put_part};
 use capnp_frame::Result;
 use capnp_wire::traits::SetterInput;
 use std::marker::PhantomData;
@@ -13,15 +13,34 @@ use std::marker::PhantomData;
 /// A field that is set to a value of a type of a schema, in front of further fields.
 #[derive(Drop)]
 pub struct Field<T, V, F> {
+    /// What it is set to.
     pub value: V,
+
+    /// The fields after it.
     pub rest: F,
+
+    /// The type of the field in a schema.
     pub schema: PhantomData<T>,
+}
+
+impl<T, V, F> Field<T, V, F> {
+    /// A field that is set to a value, in front of the fields after it.
+    pub fn new(value: V, rest: F) -> Field<T, V, F>
+        ensures value { result.value ≡ value }
+        ensures rest { result.rest ≡ rest }
+    {
+        Field {
+            value,
+            rest,
+            schema: PhantomData,
+        }
+    }
 }
 
 impl<T, V: SetterInput<T>, F: Fields> Fields for Field<T, V, F> {
     ghost use Rattle.std.specs.Prelude.{◌+◌};
-    ghost use Rattle.capnp_values.specs.Rows.{IsRow, RefusesRow};
-    ghost use Rattle.capnp_values.specs.RowFacts.{settled_more};
+    ghost use Rattle.capnp_values.specs.Fields.{IsRow, RefusesRow};
+    ghost use Rattle.capnp_values.specs.FieldLaws.{settled_more};
 
     ghost size = { F.size + 1 };
 
@@ -49,13 +68,12 @@ impl<T, V: SetterInput<T>, F: Fields> Fields for Field<T, V, F> {
         if pointers.is_empty() {
             return;
         }
-        let words = self.value.measure(canonical).unwrap_or(0);
+        let words = part_words(&self.value, canonical);
         let (slot, others) = pointers.split_at_mut(8);
-        let (own, behind) = block.split_at_mut(8 * words as usize);
-        let word = self.value.write(canonical, own);
-        let link = moved(number(word), gap + (others.len() / 8) as u32);
-        slot.copy_from_slice(&link.to_le_bytes());
-        self.rest.write(canonical, gap + words, others, behind);
+        let (own, held) = block.split_at_mut(8 * words as usize);
+        let offset = gap + (others.len() / 8) as u32;
+        put_part(&self.value, canonical, offset, slot, own);
+        self.rest.write(canonical, gap + words, others, held);
     }
 }
 
@@ -79,24 +97,9 @@ fn front<T, V: SetterInput<T>>(value: &V, canonical: bool, plain: u32, rest: Ext
     if rest.pointers == 0 && is_null(value, plain) {
         return rest;
     }
-    let words = value.measure(true).unwrap_or(0);
+    let words = part_words(value, true);
     Extent {
         pointers: rest.pointers + 1,
         words: words as u64 + rest.words,
     }
-}
-
-// A value of no words is null where its pointer is.
-fn is_null<T, V: SetterInput<T>>(value: &V, plain: u32) -> bool
-    requires has { HasWords (V.has_tree value.now) false plain }
-    requires plain { (form : Form) (held : Trees) → IsPart (V.has_tree value.now) form held →
-        plain ≡ total_words (tree form held none) }
-    ensures { (form : Form) (held : Trees) → IsPart (V.has_tree value.now) form held →
-        result ≡ null_form form }
-{
-    if plain > 0 {
-        return false;
-    }
-    let mut none = [0u8; 0];
-    number(value.write(false, &mut none)) == 0
 }

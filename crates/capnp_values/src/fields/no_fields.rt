@@ -10,7 +10,7 @@ pub struct NoFields;
 
 impl Fields for NoFields {
     ghost use Rattle.capnp_wire.specs.Tree.{none};
-    ghost use Rattle.capnp_values.specs.RowFacts.{settled_none};
+    ghost use Rattle.capnp_values.specs.FieldLaws.{settled_none};
 
     ghost size = { 0 };
 

@@ -1,7 +1,8 @@
 -- The words of a struct are those of its tree.
 use Rattle.std.proofs.Common.{rules, ◌≡◌, ◌+◌, IsTrue, arith}
 use Rattle.capnp_wire.specs.Tree.{Trees}
-use Rattle.capnp_values.proofs.RowLemmas.{bounded, ok_not_err}
+use Rattle.capnp_values.proofs.ReachLemmas.{bounded}
+use Rattle.capnp_values.proofs.AnswerLemmas.{ok_not_err}
 use Rattle.capnp_values.proofs.StructLemmas.{total_of, struct_answer, struct_exact, same_extents}
 use Rattle.capnp_values.proofs.struct_value.StructValueSetterInputOwned.measure.Goals as goal
 

@@ -1,7 +1,9 @@
--- A row reaches as far as its first value and what is behind it.
+-- A row reaches as far as its first value and what is after it.
 use Rattle.std.proofs.Common.{rules, ◌≡◌, false, refl, Ok, Err, arith}
 use Rattle.capnp_wire.specs.Tree.{tree}
-use Rattle.capnp_values.proofs.RowLemmas.{part_total, part_words, part_of, bounded, same_ok, ok_not_err, err_kind, refused_first, refused_rest}
+use Rattle.capnp_values.proofs.PartLemmas.{part_total, part_words, part_of}
+use Rattle.capnp_values.proofs.ReachLemmas.{bounded}
+use Rattle.capnp_values.proofs.AnswerLemmas.{same_ok, ok_not_err, err_kind, refused_first, refused_rest}
 use Rattle.capnp_values.proofs.fields.field.FieldFields.measure.Goals as goal
 
 pub returns-in_err-plain-clause-found : goal.returns-in_err-plain-clause-found

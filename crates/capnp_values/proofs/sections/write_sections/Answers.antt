@@ -1,8 +1,8 @@
 -- The data words, and then the pointers.
 use Rattle.std.proofs.Common.{◌-◌, ◌/◌, length, arith}
 use Rattle.capnp_wire.specs.Layout.{formed}
-use Rattle.capnp_values.proofs.StructLemmas.{own_written}
-use Rattle.capnp_values.proofs.row.write_row.Goals as goal
+use Rattle.capnp_values.proofs.SectionLemmas.{own_written}
+use Rattle.capnp_values.proofs.sections.write_sections.Goals as goal
 
 pub returns-clause-own : goal.returns-clause-own
 returns-clause-own g c trees start is =

@@ -1,9 +1,8 @@
--- Rows of pointer fields, and structs of data words and such a row.
-use Rattle.std.specs.Prelude.{◌≡◌, ◌⊎◌, ℕ, ◌*◌, ◌^◌, ◌<◌, ◌≤◌, Bool, true, false, List, length}
+-- Rows of pointer fields (src/fields.rt).
+use Rattle.std.specs.Prelude.{◌≡◌, ◌⊎◌, ℕ, ◌*◌, ◌^◌, ◌<◌, ◌≤◌, Bool, true, false}
 use Rattle.capnp_frame.specs.declared.error.ErrorKind.{ErrorKind}
-use Rattle.capnp_frame.specs.declared.error.ErrorKind.TheVariants.{AllocationTooLarge}
-use Rattle.capnp_wire.specs.Tree.{Form, struct, Trees, none, tree, count, total_words}
-use Rattle.capnp_wire.specs.Trim.{cut_zeros, cut_nulls, first, trim}
+use Rattle.capnp_wire.specs.Tree.{Form, Trees, none, tree, count, total_words}
+use Rattle.capnp_wire.specs.Trim.{cut_nulls, first, trim}
 use Rattle.capnp_wire.specs.Layout.{formed, AllHaveRoom}
 use Rattle.capnp_wire.specs.Values.{HasWords, LacksWords}
 use Rattle.capnp_values.specs.declared.fields.Extent.{Extent}
@@ -14,6 +13,13 @@ pub record IsPart (has_tree : Trees → Type 0) (form : Form) (held : Trees) : T
   pub rooms : AllHaveRoom (tree form held none)
   pub few : total_words (tree form held none) < 2 ^ 29
 
+-- a value can be written into a block of just the words of its tree
+pub record CanWritePart (has_tree : Trees → Type 0) (canonical : Bool) (room : ℕ) : Type 0 where
+  pub form : Form
+  pub held : Trees
+  pub part : IsPart has_tree form held
+  pub room_is : room ≡ 8 * total_words (formed canonical (tree form held none))
+
 -- a value in front of a row
 pub record IsRow (has_tree has_trees : Trees → Type 0) (trees : Trees) : Type 0 where
   pub form : Form
@@ -23,7 +29,7 @@ pub record IsRow (has_tree has_trees : Trees → Type 0) (trees : Trees) : Type 
   pub part : IsPart has_tree form held
   pub others : has_trees rest
 
--- its first value, or the first one behind that, has no tree, or one of too many words as it stands
+-- its first value, or the first one after that, has no tree, or one of too many words as it stands
 abbrev pub RefusesRow : (Trees → Type 0) → (ErrorKind → Type 0) → (ErrorKind → Type 0) → ErrorKind → Type 0
 RefusesRow has_tree refuses refuses_rest kind =
     LacksWords has_tree refuses false kind
@@ -50,28 +56,9 @@ extent_of canonical trees = record {
 abbrev pub HasExtent : (Trees → Type 0) → Bool → Extent → Type 0
 HasExtent has_trees canonical extent = (trees : Trees) × has_trees trees × (extent ≡ extent_of canonical trees)
 
--- the first n pointers of a row can be written into a block of just the words behind them
+-- the first n pointers of a row can be written into a block of just the words that they lead to
 pub record CanWriteRow (has_trees : Trees → Type 0) (canonical : Bool) (n room : ℕ) : Type 0 where
   pub trees : Trees
   pub trees_are : has_trees trees
   pub some : n ≤ count trees
   pub room_is : room ≡ 8 * total_words (first n (formed canonical trees))
-
--- data words, and a row of so many pointers
-pub record IsStruct (words : List ℕ) (size : ℕ) (has_trees : Trees → Type 0) (trees : Trees) : Type 0 where
-  pub held : Trees
-  pub held_is : has_trees held
-  pub few_words : length words < 2 ^ 16
-  pub few_pointers : size < 2 ^ 16
-  pub whole : trees ≡ tree (struct words) held none
-
--- a pointer can't tell so many words or pointers, or the row is refused
-abbrev pub RefusesStruct : ℕ → ℕ → (ErrorKind → Type 0) → ErrorKind → Type 0
-RefusesStruct words size refuses kind =
-    ((2 ^ 16 ≤ words ⊎ 2 ^ 16 ≤ size) × (kind ≡ AllocationTooLarge (2 ^ 16)))
-    ⊎ ((words < 2 ^ 16) × (size < 2 ^ 16) × refuses kind)
-
--- the data words that are kept
-abbrev pub kept_words : Bool → List ℕ → List ℕ
-kept_words true words = cut_zeros words
-kept_words false words = words

@@ -2,7 +2,7 @@
 use Rattle.std.proofs.Common.{◌≡◌, ◌≤◌, length}
 use Rattle.capnp_wire.specs.Pointer.{words_from}
 use Rattle.capnp_wire.specs.Trim.{cut_zeros}
-use Rattle.capnp_values.proofs.row.used.Given as goal
+use Rattle.capnp_values.proofs.sections.used.Given as goal
 
 abbrev pub invariant-words : goal.invariant-words
 invariant-words l =

@@ -1,8 +1,8 @@
--- Rows are settled.
+-- Rows are settled (src/fields/).
 use Rattle.std.specs.Prelude.{◌≡◌, ℕ, ◌+◌, refl}
 use Rattle.std.proofs.Common.{arith, sym, subst}
 use Rattle.capnp_wire.specs.Tree.{Trees, none}
-use Rattle.capnp_values.specs.Rows.{IsRow, IsSettled}
+use Rattle.capnp_values.specs.Fields.{IsRow, IsSettled}
 
 settled_at_none : IsSettled 0 none
 settled_at_none = record { many = refl; rooms = tt; few = omega arith }

@@ -1,9 +1,9 @@
--- Each word is put behind those before it.
+-- Each word is put after those before it.
 use Rattle.std.proofs.Common.{◌+◌, ◌-◌, ◌*◌, slice_index_or, refl, arith}
 use Rattle.capnp_wire.specs.Pointer.{words_of}
 use Rattle.capnp_wire.proofs.words.WordLemmas.{length-words_of}
-use Rattle.capnp_values.proofs.StructLemmas.{word_put, there_is, all_put}
-use Rattle.capnp_values.proofs.row.put_words.Goals as goal
+use Rattle.capnp_values.proofs.SectionLemmas.{word_put, there_is, all_put}
+use Rattle.capnp_values.proofs.sections.put_words.Goals as goal
 
 pub loop-index-preserved : goal.loop-index-preserved
 loop-index-preserved c =

@@ -1,7 +1,7 @@
 -- Words are left out from the end on while they are zero.
 use Rattle.std.proofs.Common.{◌-◌, ◌∙◌, slice_index_or, refl, arith}
-use Rattle.capnp_values.proofs.StructLemmas.{here_used, here_unused}
-use Rattle.capnp_values.proofs.row.used.Goals as goal
+use Rattle.capnp_values.proofs.SectionLemmas.{here_used, here_unused}
+use Rattle.capnp_values.proofs.sections.used.Goals as goal
 
 pub returns-then-words-left-ne0 : goal.returns-then-words-left-ne0
 returns-then-words-left-ne0 c =

@@ -1,11 +1,12 @@
-//! The own words of structs: their data words, and their pointers.
+//! The sections of structs: their data words, and their pointers.
 ghost use Rattle.std.specs.Prelude.{◌≡◌, ◌↔◌, ◌+◌, ◌-◌, ◌*◌, ◌/◌, ◌%◌, ◌<◌, ◌≤◌, ◌^◌, ◌++◌, ◌==◌, if◌then◌else◌, ℕ, All, IsTrue, length, replicate, MatchResult};
 ghost use Rattle.capnp_wire.specs.Pointer.{words_of};
 ghost use Rattle.capnp_wire.specs.Tree.{Trees, count};
 ghost use Rattle.capnp_wire.specs.Trim.{cut_zeros, first};
 ghost use Rattle.capnp_wire.specs.Layout.{struct_pointer, minus_one, run, pointers_to, body, formed};
 ghost use Rattle.capnp_wire.specs.Values.{too_large};
-ghost use Rattle.capnp_values.specs.Rows.{CanWriteRow, kept_row, kept_words};
+ghost use Rattle.capnp_values.specs.Fields.{CanWriteRow, kept_row};
+ghost use Rattle.capnp_values.specs.Structs.{kept_words};
 
 use crate::fields::Fields;
 use capnp_frame::{Error, ErrorKind, Result};
@@ -103,31 +104,31 @@ pub(crate) fn struct_word(words: usize, pointers: u32) -> u64
     4 * offset + (1 << 32) * words as u64 + (1 << 48) * pointers as u64
 }
 
-/// Writes data words and behind them the first pointers of a row, and what these lead to into a block
-/// of zeros, which begins so many words behind the last of the pointers.
-pub(crate) fn write_row<F: Fields>(
+/// Writes data words and after them the first pointers of a row, and what these lead to into a block
+/// of zeros, which begins so many words after the last of the pointers.
+pub(crate) fn write_sections<F: Fields>(
     words: &[u64],
     fields: &F,
     canonical: bool,
     gap: u32,
     own: &mut [u8],
-    behind: &mut [u8],
+    held: &mut [u8],
 )
     requires row { CanWriteRow (F.has_trees fields.now) canonical
-        (length own.old / 8 - length words.now) (length behind.old) }
+        (length own.old / 8 - length words.now) (length held.old) }
     requires room { 8 * length words.now ≤ length own.old }
     requires whole { length own.old % 8 ≡ 0 }
-    requires zero { behind.old ≡ replicate (length behind.old) 0 }
-    requires near { gap + length own.old / 8 + length behind.old / 8 < 2 ^ 29 }
+    requires zero { held.old ≡ replicate (length held.old) 0 }
+    requires near { gap + length own.old / 8 + length held.old / 8 < 2 ^ 29 }
     ensures own { (trees : Trees) (start : ℕ) → F.has_trees fields.now trees →
         let n = length own.old / 8 - length words.now in
         words_of own.new ≡ words.now
         ++ pointers_to (run start n) (start + n + gap) (first n (formed canonical trees)) }
-    ensures behind { (trees : Trees) → F.has_trees fields.now trees →
+    ensures held { (trees : Trees) → F.has_trees fields.now trees →
         let n = length own.old / 8 - length words.now in
-        words_of behind.new ≡ body (first n (formed canonical trees)) }
+        words_of held.new ≡ body (first n (formed canonical trees)) }
 {
     let (data, pointers) = own.split_at_mut(8 * words.len());
     put_words(words, data);
-    fields.write(canonical, gap, pointers, behind);
+    fields.write(canonical, gap, pointers, held);
 }
