@@ -2,3 +2,4 @@
 pub mod Reading
 pub mod Roots
 pub mod Streaming
+pub mod People

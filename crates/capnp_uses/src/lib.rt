@@ -12,3 +12,4 @@ pub mod reading;
 pub mod record_log;
 pub mod setting;
 pub mod streaming;
+pub mod values;
