@@ -47,7 +47,7 @@ pub fn person_is_read_back<A: Allocator>(
     city: &str,
     options: ReaderOptions,
 ) -> Result<Reader<OwnedSegments>>
-    ensures { IfOk result (λ reader. HasRootTree reader.segments
+    ensures back { IfOk result (λ reader. HasRootTree reader.segments
         (person_tree id name.now city.now)) }
 {
     let value = person(id, name, city);
@@ -62,7 +62,7 @@ pub fn person_is_canonical<A: Allocator>(
     city: &str,
 ) -> Result<()>
     requires { built.old.spaces ≡ [] }
-    ensures { OnOk result (message built.new.spaces
+    ensures form { OnOk result (message built.new.spaces
         ≡ canon (person_tree id name.now city.now) ∷ []) }
 {
     let value = person(id, name, city);

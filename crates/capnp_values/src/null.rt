@@ -2,8 +2,7 @@
 use capnp_frame::{Result, Word, word};
 use capnp_wire::traits::SetterInput;
 
-/// A null pointer, as a value of each type of a schema (encoding document, "Structs": a pointer that is
-/// null stands for the default value of its field).
+/// A null pointer, as a value of each type of a schema.
 #[derive(Clone, Copy)]
 pub struct Null;
 
