@@ -12,3 +12,5 @@ mod hostile_messages;
 mod regions;
 #[cfg(test)]
 mod roots;
+#[cfg(test)]
+mod values;

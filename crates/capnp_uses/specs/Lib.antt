@@ -2,3 +2,4 @@
 pub mod Regions
 pub mod Roots
 pub mod Streaming
+pub mod People

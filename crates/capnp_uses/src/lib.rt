@@ -15,3 +15,4 @@ pub mod regions;
 pub mod roots;
 pub mod setting;
 pub mod streaming;
+pub mod values;

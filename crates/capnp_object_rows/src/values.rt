@@ -1,0 +1,153 @@
+//! Composed values that are set at the root of a message, by bytes worked from the encoding document,
+//! "Structs", "Lists" and "Canonicalization".
+use capnp_build::allocator::Allocator;
+use capnp_frame::message::ReaderSegments;
+use capnp_frame::{ErrorKind, Result};
+use capnp_message::{Builder, HeapAllocator, ScratchSpaceHeapAllocator, SingleSegmentAllocator};
+use capnp_rows::retried;
+use capnp_values::{Borrowed, Field, NoFields, Null, StructValue};
+use capnp_wire::traits::SetterInput;
+use capnp_wire::{any_struct, data, text};
+use std::process::Abort;
+
+// A number and a name: the root's pointer, the number, the pointer to four bytes, and these.
+const NAMED: &[u8] = b"\0\0\0\0\x01\0\x01\0\x07\0\0\0\0\0\0\0\x01\0\0\0\x22\0\0\0Ann\0\0\0\0\0";
+
+// A number, and pointers to such a struct, to nothing and to a text: the first leads over the two after
+// it, the last over the struct with its name.
+#[rattlefmt::skip]
+const NESTED: &[u8] = b"\0\0\0\0\x01\0\x03\0\x09\0\0\0\0\0\0\0\
+    \x08\0\0\0\x01\0\x01\0\0\0\0\0\0\0\0\0\x0d\0\0\0\x1a\0\0\0\
+    \x07\0\0\0\0\0\0\0\x01\0\0\0\x22\0\0\0Ann\0\0\0\0\0Bo\0\0\0\0\0\0";
+
+// Two data words and pointers to a struct of a zero and a null, to a text and to nothing.
+#[rattlefmt::skip]
+const LOOSE: &[u8] = b"\0\0\0\0\x02\0\x03\0\x07\0\0\0\0\0\0\0\0\0\0\0\0\0\0\0\
+    \x08\0\0\0\x01\0\x01\0\x0d\0\0\0\x22\0\0\0\0\0\0\0\0\0\0\0\
+    \0\0\0\0\0\0\0\0\0\0\0\0\0\0\0\0Ann\0\0\0\0\0";
+
+// The same in canonical form: a data word and two pointers, the first to an empty struct.
+#[rattlefmt::skip]
+const TIGHT: &[u8] = b"\0\0\0\0\x01\0\x02\0\x07\0\0\0\0\0\0\0\
+    \xfc\xff\xff\xff\0\0\0\0\x01\0\0\0\x22\0\0\0Ann\0\0\0\0\0";
+
+const EMPTY: &[u8] = b"\xfc\xff\xff\xff\0\0\0\0";
+
+const NULL: &[u8] = b"\0\0\0\0\0\0\0\0";
+
+type Named<'a> = StructValue<1, Field<text::Owned, &'a str, NoFields>>;
+
+type AfterInner<'a> = Field<data::Owned, Null, Field<text::Owned, &'a str, NoFields>>;
+
+type Nested<'a> = StructValue<1, Field<any_struct::Owned, Named<'a>, AfterInner<'a>>>;
+
+type Hollow = StructValue<1, Field<text::Owned, Null, NoFields>>;
+
+type AfterHollow<'a> = Field<text::Owned, &'a str, Field<data::Owned, Null, NoFields>>;
+
+type Loose<'a> = StructValue<2, Field<any_struct::Owned, Hollow, AfterHollow<'a>>>;
+
+fn named<'a>(number: u64, name: &'a str) -> Named<'a> {
+    StructValue::new([number], Field::new(name, NoFields))
+}
+
+fn nested<'a>() -> Nested<'a> {
+    let after = Field::new(Null, Field::new("Bo", NoFields));
+    StructValue::new([9], Field::new(named(7, "Ann"), after))
+}
+
+fn loose<'a>() -> Loose<'a> {
+    let hollow = StructValue::new([0], Field::new(Null, NoFields));
+    let after = Field::new("Ann", Field::new(Null, NoFields));
+    StructValue::new([7, 0], Field::new(hollow, after))
+}
+
+// Sets the root, and compares the segment where the value stands.
+fn compare<T, V: SetterInput<T>, A: Allocator>(
+    rt: &impl Abort,
+    message: &mut Builder<A>,
+    value: &V,
+    segment: u32,
+    expected: &[u8],
+) -> Result<()> {
+    retried!(message.set_root::<T, Borrowed<'_, V>>(Borrowed::new(value)))?;
+    assert!(rt;
+        message
+            .get_segment(segment)
+            .is_some_and(|bytes| bytes == expected)
+    );
+    Ok(())
+}
+
+// The same by each allocator. A heap whose first segment has the root alone has the value in the next
+// one, behind a landing pad that is as the root's pointer would be.
+fn compare_by_each<T, V: SetterInput<T>>(
+    rt: &(impl Abort + AllocGlobal),
+    value: &V,
+    expected: &[u8],
+) -> Result<()> {
+    let mut message = Builder::new_default(rt.alloc());
+    compare::<T, V, HeapAllocator>(rt, &mut message, value, 0, expected)?;
+    let small = HeapAllocator::new(rt.alloc()).first_segment_words(1);
+    let mut message = Builder::new(rt.alloc(), small);
+    let near = expected.len() == 8;
+    let segment = if near { 0 } else { 1 };
+    compare::<T, V, HeapAllocator>(rt, &mut message, value, segment, expected)?;
+    let mut region = [7; 80];
+    let mut single = SingleSegmentAllocator::new(&mut region);
+    let mut message = Builder::new(rt.alloc(), &mut single);
+    compare::<T, V, _>(rt, &mut message, value, 0, expected)?;
+    drop(message);
+    drop(single);
+    let mut scratch = ScratchSpaceHeapAllocator::new(rt.alloc(), &mut region);
+    let mut message = Builder::new(rt.alloc(), &mut scratch);
+    compare::<T, V, _>(rt, &mut message, value, 0, expected)
+}
+
+#[test]
+fn values_stand_at_the_root(rt: HostRuntime) -> Result<()> {
+    compare_by_each::<any_struct::Owned, Named<'_>>(&rt, &named(7, "Ann"), NAMED)?;
+    compare_by_each::<any_struct::Owned, Nested<'_>>(&rt, &nested(), NESTED)?;
+    compare_by_each::<any_struct::Owned, Loose<'_>>(&rt, &loose(), LOOSE)?;
+    let empty = StructValue::new([], NoFields);
+    compare_by_each::<any_struct::Owned, StructValue<0, NoFields>>(&rt, &empty, EMPTY)?;
+    compare_by_each::<text::Owned, Null>(&rt, &Null, NULL)
+}
+
+// Makes a value the root in canonical form, and compares the one segment.
+fn compare_canonical<T, V: SetterInput<T>>(
+    rt: &(impl Abort + AllocGlobal),
+    value: &V,
+    expected: &[u8],
+) -> Result<()> {
+    let mut message = Builder::new_default(rt.alloc());
+    retried!(message.set_root_canonical::<T, Borrowed<'_, V>>(Borrowed::new(value)))?;
+    assert!(rt;
+        message
+            .get_segment(0)
+            .is_some_and(|bytes| bytes == expected)
+    );
+    Ok(())
+}
+
+#[test]
+fn canonical_forms_are_trimmed(rt: HostRuntime) -> Result<()> {
+    compare_canonical::<any_struct::Owned, Loose<'_>>(&rt, &loose(), TIGHT)?;
+    compare_canonical::<any_struct::Owned, Nested<'_>>(&rt, &nested(), NESTED)?;
+    let zeros = StructValue::new([0, 0], Field::new(Null, NoFields));
+    compare_canonical::<any_struct::Owned, StructValue<2, Field<text::Owned, Null, NoFields>>>(
+        &rt, &zeros, EMPTY,
+    )
+}
+
+// A pointer can tell 65,535 data words.
+#[test]
+fn too_many_words_are_refused(rt: HostRuntime) -> Result<()> {
+    let most = StructValue::new([0; 65535], NoFields);
+    assert!(rt; SetterInput::<any_struct::Owned>::measure(&most, false).is_ok_and(|n| n == 65535));
+    assert!(rt; SetterInput::<any_struct::Owned>::measure(&most, true).is_ok_and(|n| n == 0));
+    let more = StructValue::new([0; 65536], NoFields);
+    let refusal = SetterInput::<any_struct::Owned>::measure(&more, true).err();
+    assert!(rt; refusal.is_some_and(|error| error.kind == ErrorKind::AllocationTooLarge(65536)));
+    Ok(())
+}

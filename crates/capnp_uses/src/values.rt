@@ -1,0 +1,70 @@
+//! Values that are composed: a person is set as the root of a message, written and read back.
+ghost use Rattle.std.specs.Prelude.{◌≡◌, ◌∷◌, [], IfOk, OnOk};
+ghost use Rattle.capnp_wire.specs.Layout.{canon};
+ghost use Rattle.capnp_build.specs.Built.{message};
+ghost use Rattle.capnp.specs.Roots.{HasRootTree};
+ghost use Rattle.capnp_uses.specs.People.{person_tree};
+
+use capnp::roots::set_and_read_back;
+use capnp::streams::Format;
+use capnp_build::allocator::Allocator;
+use capnp_frame::Result;
+use capnp_frame::message::ReaderOptions;
+use capnp_frame::serialize::OwnedSegments;
+use capnp_message::{Builder, Reader};
+use capnp_values::{Field, NoFields, StructValue};
+use capnp_wire::{any_struct, text};
+use std::alloc::Global;
+
+/// A struct of no data words and a text.
+pub type Address<'a> = StructValue<0, Field<text::Owned, &'a str, NoFields>>;
+
+/// What a person has after his name.
+pub type AfterName<'a> = Field<any_struct::Owned, Address<'a>, NoFields>;
+
+/// A struct of a number, a text and an address.
+pub type Person<'a> = StructValue<1, Field<text::Owned, &'a str, AfterName<'a>>>;
+
+/// A person as a value.
+pub fn person<'a>(id: u64, name: &'a str, city: &'a str) -> Person<'a>
+    ensures id { result.words ≡ id ∷ [] }
+    ensures name { result.fields.value.now ≡ name.now }
+    ensures address { result.fields.rest.value.words ≡ [] }
+    ensures city { result.fields.rest.value.fields.value.now ≡ city.now }
+{
+    let address = StructValue::new([], Field::new(city, NoFields));
+    StructValue::new([id], Field::new(name, Field::new(address, NoFields)))
+}
+
+/// Sets the root of a message to a person, writes the message framed or packed and reads it back: its
+/// root is that person.
+pub fn person_is_read_back<A: Allocator>(
+    alloc: Global,
+    format: Format,
+    message: &mut Builder<A>,
+    id: u64,
+    name: &str,
+    city: &str,
+    options: ReaderOptions,
+) -> Result<Reader<OwnedSegments>>
+    ensures back { IfOk result (λ reader. HasRootTree reader.segments
+        (person_tree id name.now city.now)) }
+{
+    let value = person(id, name, city);
+    set_and_read_back::<any_struct::Owned, Person<'_>, A>(alloc, format, message, value, options)
+}
+
+/// Makes a message of no segments the canonical form of a person.
+pub fn person_is_canonical<A: Allocator>(
+    built: &mut Builder<A>,
+    id: u64,
+    name: &str,
+    city: &str,
+) -> Result<()>
+    requires { built.old.spaces ≡ [] }
+    ensures form { OnOk result (message built.new.spaces
+        ≡ canon (person_tree id name.now city.now) ∷ []) }
+{
+    let value = person(id, name, city);
+    built.set_root_canonical::<any_struct::Owned, Person<'_>>(value)
+}

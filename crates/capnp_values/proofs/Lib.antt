@@ -1,0 +1,8 @@
+-- The lemmas, by subject.
+pub mod PartLemmas
+pub mod ReachLemmas
+pub mod AnswerLemmas
+pub mod RowLemmas
+pub mod StructLemmas
+pub mod SectionLemmas
+pub mod NullLemmas

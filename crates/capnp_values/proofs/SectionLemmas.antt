@@ -1,0 +1,60 @@
+-- The data section and the pointer section of a struct.
+use Rattle.std.proofs.Common.{◌≡◌, ℕ, zero, suc, ◌+◌, ◌-◌, ◌*◌, ◌<◌, ◌≤◌, ◌^◌, List, [], ◌∷◌, ◌++◌, length, take, drop, refl, sym, ◌∙◌, ap, arith}
+use Rattle.std.proofs.Common.{Some, slice_get, slice_index_or, length-take, w64}
+use Rattle.std.specs.Int.{to_le_bytes}
+use Rattle.std.proofs.lemmas.List.{take_all}
+use Rattle.capnp_wire.specs.Block.{put}
+use Rattle.capnp_wire.proofs.layouts.BlockLemmas.{put_both}
+use Rattle.capnp_wire.proofs.words.UsedLemmas.{take_more, last_used, last_unused}
+use Rattle.capnp_wire.proofs.views.ValueLemmas.{put_whole}
+use Rattle.capnp_values.proofs.PartLemmas.{one_word}
+use Rattle.capnp_wire.specs.Pointer.{words_of, words_from}
+use Rattle.capnp_wire.specs.Tree.{Trees}
+use Rattle.capnp_wire.specs.Trim.{first, cut_zeros}
+use Rattle.capnp_wire.specs.Layout.{run, pointers_to}
+use Rattle.capnp_wire.proofs.words.PutLemmas.{words_split, put_mid_words}
+
+-- words that are put one after the other
+same_there : (xs : List ℕ) (k e : ℕ) → k < length xs → slice_get xs k ≡ Some (slice_index_or xs k e)
+same_there [] k e within = absurd (omega arith)
+same_there (x ∷ xs) zero e within = refl
+same_there (x ∷ xs) (suc k) e within = same_there xs k e (omega arith)
+
+pub word_put : (i k : ℕ) (block w old words : List ℕ) (x : ℕ) → k ≡ 8 → w ≡ to_le_bytes w64 x → length w ≡ 8 → x < 2 ^ 64 → slice_get words i ≡ Some x → i < length words
+    → length block ≡ 8 * length words → length old ≡ length words → words_of block ≡ put 0 (take i words) old
+    → words_of (take (8 * i) block ++ (w ++ drop k (drop (8 * i) block))) ≡ put 0 (take (i + 1) words) old
+word_put i k block w old words x k_is w_is eight small there within long old_long so_far =
+    let one : words_of w ≡ x ∷ [] = one_word w x small w_is eight in
+    let front : length (take i words) ≡ i = omega (arith, length-take i words) in
+    let next : suc i ≡ i + 1 = omega arith in
+    ap (λ (n : ℕ). words_of (take (8 * i) block ++ (w ++ drop n (drop (8 * i) block)))) (k_is ∙ sym eight)
+    ∙ put_mid_words i block w (omega arith) (omega arith)
+    ∙ ap (λ (l : List ℕ). put i l (words_of block)) one
+    ∙ ap (λ (l : List ℕ). put i (x ∷ []) l) so_far
+    ∙ ap (λ (n : ℕ). put n (x ∷ []) (put 0 (take i words) old)) (omega arith)
+    ∙ put_both 0 (take i words) (x ∷ []) old (omega arith)
+    ∙ ap (λ (l : List ℕ). put 0 l old) (sym (take_more i words x there) ∙ ap (λ (n : ℕ). take n words) next)
+
+pub there_is : (xs : List ℕ) (k e x : ℕ) → k < length xs → x ≡ slice_index_or xs k e → slice_get xs k ≡ Some x
+there_is xs k e x within is = same_there xs k e within ∙ ap (λ (n : ℕ). Some n) (sym is)
+
+pub all_put : (words old block : List ℕ) (i : ℕ) → length old ≡ length words → length words ≤ i → words_of block ≡ put 0 (take i words) old → words_of block ≡ words
+all_put words old block i long past is = is ∙ ap (λ (l : List ℕ). put 0 l old) (take_all i words past) ∙ put_whole words old (sym long)
+
+-- data words, with the pointers after them
+pub own_written : (words own_data pointers : List ℕ) (start n m gap : ℕ) (t : Trees) → words_of own_data ≡ words → length own_data ≡ 8 * length words → n ≡ m
+    → words_of pointers ≡ pointers_to (run start m) (start + m + gap) (first m t) → words_of (own_data ++ pointers) ≡ words ++ pointers_to (run start n) (start + n + gap) (first n t)
+own_written words own_data pointers start n m gap t data_there long same links =
+    words_split (length words) own_data pointers long ∙ ap (λ (l : List ℕ). l ++ words_of pointers) data_there ∙ ap (λ (l : List ℕ). words ++ l) links
+    ∙ ap (λ (k : ℕ). words ++ pointers_to (run start k) (start + k + gap) (first k t)) (sym same)
+
+pub here_used : (words : List ℕ) (left w : ℕ) → 0 < left → left ≤ length words → w ≡ slice_index_or words (left - 1) 0 → 0 < w → left ≡ length (cut_zeros (words_from words 0 left))
+here_used words left w some room is positive =
+    let at : left - 1 ≡ 0 + left - 1 = omega arith in
+    last_used words 0 left w some (omega arith) (ap (λ (n : ℕ). slice_get words n) (sym at) ∙ there_is words (left - 1) 0 w (omega arith) is) positive
+
+pub here_unused : (words : List ℕ) (left : ℕ) → 0 < left → left ≤ length words → 0 ≡ slice_index_or words (left - 1) 0
+    → length (cut_zeros (words_from words 0 (left - 1))) ≡ length (cut_zeros (words_from words 0 left))
+here_unused words left some room is =
+    let at : left - 1 ≡ 0 + left - 1 = omega arith in
+    last_unused words 0 left some (ap (λ (n : ℕ). slice_get words n) (sym at) ∙ there_is words (left - 1) 0 0 (omega arith) is)

@@ -1,0 +1,34 @@
+-- A struct is its own words, and what its pointers lead to.
+use Rattle.std.proofs.Common.{◌≡◌, ◌+◌, ◌-◌, ◌/◌, ◌*◌, length, length-take, take, ◌∙◌, arith}
+use Rattle.capnp_values.proofs.PartLemmas.{rest_zero}
+use Rattle.capnp_values.proofs.StructLemmas.{kept_within, struct_row, struct_written_at}
+use Rattle.capnp_values.proofs.struct_value.StructValueSetterInputOwned.write.Goals as goal
+
+pub write_sections-requires-clause-row : goal.write_sections-requires-clause-row
+write_sections-requires-clause-row g c =
+    let w = c.requires.words in
+    struct_row c.args.canonical c.args.self.now.words g.F.Fields.size (g.F.Fields.has_trees c.args.self.now.fields) (length c.args.block.now) (length c.split_at_mut-own.result.0.now)
+    (length c.split_at_mut-own.result.1.now) c.kept_data-data.result c.kept_pointers-pointers.result w c.requires.whole c.split_at_mut-own.ensures.front_len
+    (omega (arith, c.split_at_mut-own.ensures.front_len, c.split_at_mut-own.ensures.back_len)) c.kept_data-data.ensures.value
+    (c.kept_pointers-pointers.ensures w.tree_is.held w.tree_is.held_is)
+
+pub write_sections-requires-clause-zero : goal.write_sections-requires-clause-zero
+write_sections-requires-clause-zero g c =
+    rest_zero c.args.block.now c.split_at_mut-own.result.1.now (8 * (c.kept_data-data.result + c.kept_pointers-pointers.result)) c.requires.zero c.split_at_mut-own.ensures.back
+
+pub struct_word-requires-clause-pointers : goal.struct_word-requires-clause-pointers
+struct_word-requires-clause-pointers g c =
+    let w = c.requires.words in
+    let s = g.met.F.Fields.settled c.args.self.now.fields w.tree_is.held w.tree_is.held_is in
+    omega (arith, c.kept_pointers-pointers.ensures w.tree_is.held w.tree_is.held_is, kept_within c.args.canonical w.tree_is.held, s.many, w.tree_is.few_pointers)
+
+pub returns-clause-written : goal.returns-clause-written
+returns-clause-written g c trees is =
+    let d = c.kept_data-data.result in
+    let front = length-take c.kept_data-data.result c.args.self.now.words in
+    let m : length c.split_at_mut-own.result.0.now / 8 - length (take c.kept_data-data.result c.args.self.now.words) ≡ c.kept_pointers-pointers.result =
+    omega (arith, front, c.kept_data-data.ensures.bound, c.split_at_mut-own.ensures.front_len) in
+    struct_written_at c.args.canonical c.args.self.now.words is.held trees c.word_of.result c.kept_data-data.result c.kept_pointers-pointers.result
+    (length c.split_at_mut-own.result.0.now / 8 - length (take c.kept_data-data.result c.args.self.now.words)) c.write_sections.new.own c.write_sections.new.held is.whole c.kept_data-data.ensures.value
+    (c.kept_pointers-pointers.ensures is.held is.held_is) m (c.word_of.ensures ∙ c.struct_word.ensures)
+    (omega (arith, c.write_sections.auto.own, c.split_at_mut-own.ensures.front_len)) (c.write_sections.ensures.own is.held c.kept_data-data.result is.held_is) (c.write_sections.ensures.held is.held is.held_is)

@@ -1,0 +1,4 @@
+-- What composed values are.
+pub mod Fields
+pub mod FieldLaws
+pub mod Structs

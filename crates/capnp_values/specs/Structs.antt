@@ -1,0 +1,26 @@
+-- Structs of data words and of a row of pointer fields (src/struct_value.rt).
+-- Encoding document, "Structs".
+use Rattle.std.specs.Prelude.{◌≡◌, ◌⊎◌, ℕ, ◌^◌, ◌<◌, ◌≤◌, Bool, true, false, List, length}
+use Rattle.capnp_frame.specs.declared.error.ErrorKind.{ErrorKind}
+use Rattle.capnp_frame.specs.declared.error.ErrorKind.TheVariants.{AllocationTooLarge}
+use Rattle.capnp_wire.specs.Tree.{struct, Trees, none, tree}
+use Rattle.capnp_wire.specs.Trim.{cut_zeros}
+
+-- data words, and a row of so many pointers
+pub record IsStruct (words : List ℕ) (size : ℕ) (has_trees : Trees → Type 0) (trees : Trees) : Type 0 where
+  pub held : Trees
+  pub held_is : has_trees held
+  pub few_words : length words < 2 ^ 16
+  pub few_pointers : size < 2 ^ 16
+  pub whole : trees ≡ tree (struct words) held none
+
+-- a pointer can't tell so many words or pointers, or the row is refused
+abbrev pub RefusesStruct : ℕ → ℕ → (ErrorKind → Type 0) → ErrorKind → Type 0
+RefusesStruct words size refuses kind =
+    ((2 ^ 16 ≤ words ⊎ 2 ^ 16 ≤ size) × (kind ≡ AllocationTooLarge (2 ^ 16)))
+    ⊎ ((words < 2 ^ 16) × (size < 2 ^ 16) × refuses kind)
+
+-- the data words that are kept
+abbrev pub kept_words : Bool → List ℕ → List ℕ
+kept_words true words = cut_zeros words
+kept_words false words = words

@@ -1,0 +1,38 @@
+//! Values that are borrowed.
+ghost use Rattle.std.specs.Prelude.{◌≡◌};
+
+use capnp_frame::{Result, Word};
+use capnp_wire::traits::SetterInput;
+
+/// A value that is borrowed, so that it can be set more than once, or stand in more than one place.
+#[derive(Clone, Copy)]
+pub struct Borrowed<'a, V> {
+    /// The value.
+    pub value: &'a V,
+}
+
+impl<'a, V> Borrowed<'a, V> {
+    /// A value that is borrowed.
+    pub fn new(value: &'a V) -> Borrowed<'a, V>
+        ensures { result.value.now ≡ value.now }
+    {
+        Borrowed { value }
+    }
+}
+
+// What the value is.
+impl<'a, T, V: SetterInput<T>> SetterInput<T> for Borrowed<'a, V> {
+    ghost has_tree = { λ value trees. V.has_tree value.value.now trees };
+
+    ghost refuses = { λ value kind. V.refuses value.value.now kind };
+
+    ghost one = { λ value trees is. V.one value.value.now trees is };
+
+    fn measure(&self, canonical: bool) -> Result<u32> {
+        self.value.measure(canonical)
+    }
+
+    fn write(&self, canonical: bool, block: &mut [u8]) -> Word {
+        self.value.write(canonical, block)
+    }
+}

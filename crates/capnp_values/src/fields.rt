@@ -1,0 +1,72 @@
+//! Rows of pointer fields: the pointer sections of structs (encoding document, "Structs").
+ghost use Rattle.std.specs.Prelude.{◌≡◌, ◌+◌, ◌/◌, ◌%◌, ◌<◌, ◌^◌, ℕ, length, min, replicate, Ok, MatchResult};
+ghost use Rattle.std.specs.Result.{IsErrAnd};
+ghost use Rattle.capnp_frame.specs.declared.error.ErrorKind.{ErrorKind};
+ghost use Rattle.capnp_wire.specs.Pointer.{words_of};
+ghost use Rattle.capnp_wire.specs.Tree.{Trees};
+ghost use Rattle.capnp_wire.specs.Trim.{first};
+ghost use Rattle.capnp_wire.specs.Layout.{run, pointers_to, body, formed};
+ghost use Rattle.capnp_values.specs.Fields.{IsSettled, HasExtent, extent_of, CanWriteRow};
+
+mod field;
+mod no_fields;
+
+use capnp_frame::Result;
+pub use field::Field;
+pub use no_fields::NoFields;
+
+/// How far a row reaches: its pointers, and the words that these lead to.
+#[derive(Clone, Copy)]
+pub struct Extent {
+    /// How many pointers it keeps.
+    pub pointers: u32,
+
+    /// The words of all that these lead to.
+    pub words: u64,
+}
+
+/// A row of pointer fields, each set to a value of its own.
+pub trait Fields {
+    /// How many there are.
+    ghost size: { ℕ };
+
+    /// The values are these trees, in order.
+    ghost has_trees: { Self → Trees → Type 0 };
+
+    /// One of the values has no tree, or a tree of 2^29 words or more.
+    ghost refuses: { Self → ErrorKind → Type 0 };
+
+    /// How many there are, where a struct may have so many.
+    fn count() -> u32
+        ensures { result ≡ min size (2 ^ 16) };
+
+    /// How far the row reaches, as it stands or in canonical form.
+    fn measure(&self, canonical: bool) -> Result<Extent>
+        requires { size < 2 ^ 16 }
+        ensures answer { MatchResult result
+            (λ extent. HasExtent (has_trees self.now) canonical extent)
+            (λ error. refuses self.now error.kind) }
+        ensures found { (trees : Trees) → has_trees self.now trees →
+            result ≡ Ok (extent_of canonical trees) }
+        ensures exact { (kind : ErrorKind) → refuses self.now kind →
+            IsErrAnd result (λ error. error.kind ≡ kind) };
+
+    /// Writes the first pointers of the row, and what they lead to into a block of zeros of just its
+    /// words, which begins so many words after the last of the pointers.
+    fn write(&self, canonical: bool, gap: u32, pointers: &mut [u8], block: &mut [u8])
+        requires row { CanWriteRow (has_trees self.now) canonical (length pointers.old / 8)
+            (length block.old) }
+        requires whole { length pointers.old % 8 ≡ 0 }
+        requires zero { block.old ≡ replicate (length block.old) 0 }
+        requires near { gap + length pointers.old / 8 + length block.old / 8 < 2 ^ 29 }
+        ensures pointers { (trees : Trees) (start : ℕ) → has_trees self.now trees →
+            let n = length pointers.old / 8 in
+            words_of pointers.new
+            ≡ pointers_to (run start n) (start + n + gap) (first n (formed canonical trees)) }
+        ensures body { (trees : Trees) → has_trees self.now trees →
+            words_of block.new
+            ≡ body (first (length pointers.old / 8) (formed canonical trees)) };
+
+    /// The trees have room, and each has fewer than 2^29 words.
+    ghost settled: { (row : Self) (trees : Trees) → has_trees row trees → IsSettled size trees };
+}

@@ -1,0 +1,22 @@
+//! Values that are composed: structs of data words and of further values.
+//!
+//! A [`StructValue`] has the words of a struct's data section, and [`Fields`] for its pointer section
+//! ([encoding document], "Structs"). Each is a [`SetterInput`](capnp_wire::traits::SetterInput), so the
+//! root of a message is set to it as to any other value. A value borrows what it holds, and takes no
+//! memory.
+//!
+//! [encoding document]: https://capnproto.org/encoding.html
+#![tactic(auto)]
+
+pub mod borrowed;
+pub mod fields;
+pub mod null;
+mod part;
+mod pointer_word;
+mod sections;
+pub mod struct_value;
+
+pub use borrowed::Borrowed;
+pub use fields::{Field, Fields, NoFields};
+pub use null::Null;
+pub use struct_value::StructValue;

@@ -1,0 +1,28 @@
+//! Null pointers.
+use capnp_frame::{Result, Word, word};
+use capnp_wire::traits::SetterInput;
+
+/// A null pointer, as a value of each type of a schema.
+#[derive(Clone, Copy)]
+pub struct Null;
+
+// It leads to no words, and is a word of zeros.
+impl<T> SetterInput<T> for Null {
+    ghost use Rattle.std.specs.Prelude.{◌≡◌};
+    ghost use Rattle.capnp_wire.specs.Tree.{null, none, tree, count};
+    ghost use Rattle.std.proofs.Common.{ap};
+
+    ghost has_tree = { λ value trees. trees ≡ tree null none none };
+
+    ghost refuses = { λ value kind. ⊥ };
+
+    ghost one = { λ value trees is. ap count is };
+
+    fn measure(&self, _canonical: bool) -> Result<u32> {
+        Ok(0)
+    }
+
+    fn write(&self, _canonical: bool, _block: &mut [u8]) -> Word {
+        word(0, 0, 0, 0, 0, 0, 0, 0)
+    }
+}
