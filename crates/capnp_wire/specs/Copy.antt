@@ -1,4 +1,4 @@
--- Objects that are copied, as they stand or in canonical form (src/layout/copy.rt).
+-- Objects that are copied, as they stand or in canonical form (src/layout/copy.rt, src/layout/copy_rows.rt).
 use Rattle.std.specs.Prelude.{◌≡◌, ℕ, ◌+◌, ◌-◌, ◌*◌, ◌≤◌, ◌==◌, if◌then◌else◌, Bool, true, List, [], ◌∷◌}
 use Rattle.capnp_wire.specs.Pointer.{words_from}
 use Rattle.capnp_wire.specs.Element.{code_of}

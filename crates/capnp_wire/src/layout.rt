@@ -2,6 +2,7 @@
 pub(crate) mod block;
 pub(crate) mod canonical;
 pub(crate) mod copy;
+pub(crate) mod copy_rows;
 pub(crate) mod element;
 pub(crate) mod formed;
 pub(crate) mod landing;

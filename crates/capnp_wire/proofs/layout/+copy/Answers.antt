@@ -14,20 +14,20 @@ use Rattle.capnp_wire.proofs.pointers.NearLemmas.{word_there}
 use Rattle.capnp_wire.proofs.pointers.NullRunLemmas.{struct_of_nulls}
 use Rattle.std.proofs.lemmas.List.{append-nil}
 use Rattle.capnp_wire.proofs.layouts.NumberCopyLemmas.{number_list_opened, number_list_copied}
-use Rattle.capnp_wire.proofs.layout.copy.+copy.Goals as goal
+use Rattle.capnp_wire.proofs.layout.+copy.Goals as goal
 
-pub copy-returns-in_default-clause-copied : goal.copy-returns-in_default-clause-copied
-copy-returns-in_default-clause-copied g t c = λ trees charge stand. null_is_copied c.args.canonical c.in_default.ensures stand
+pub copy::copy-returns-in_default-clause-copied : goal.copy::copy-returns-in_default-clause-copied
+copy::copy-returns-in_default-clause-copied g t c = λ trees charge stand. null_is_copied c.args.canonical c.in_default.ensures stand
 
-pub copy-put_own_words-requires-clause-many : goal.copy-put_own_words-requires-clause-many
-copy-put_own_words-requires-clause-many g t c = (opened_here c.requires.there c.in-Some.ensures.0 c.formed_as-copied.ensures.body).few_elements
+pub copy::copy-put_own_words-requires-clause-many : goal.copy::copy-put_own_words-requires-clause-many
+copy::copy-put_own_words-requires-clause-many g t c = (opened_here c.requires.there c.in-Some.ensures.0 c.formed_as-copied.ensures.body).few_elements
 
-pub copy-put_own_words-requires-clause-fits : goal.copy-put_own_words-requires-clause-fits
-copy-put_own_words-requires-clause-fits g t c =
+pub copy::copy-put_own_words-requires-clause-fits : goal.copy::copy-put_own_words-requires-clause-fits
+copy::copy-put_own_words-requires-clause-fits g t c =
     let o = opened_here c.requires.there c.in-Some.ensures.0 c.formed_as-copied.ensures.body in omega (arith, o.kept.fits)
 
-pub copy-copy_pointers-free-requires : goal.copy-copy_pointers-free-requires
-copy-copy_pointers-free-requires g t c κs within =
+pub copy::copy-copy_pointers-free-requires : goal.copy::copy-copy_pointers-free-requires
+copy::copy-copy_pointers-free-requires g t c κs within =
     let object = c.in-Some.ensures.0 in
     let o = opened_here c.requires.there object c.formed_as-copied.ensures.body in (
       omega (arith, c.in-Some.ensures.1),
@@ -55,34 +55,34 @@ copy-copy_pointers-free-requires g t c κs within =
       ),
     )
 
-pub copy-pointer_word-pointer-requires-clause-length : goal.copy-pointer_word-pointer-requires-clause-length
-copy-pointer_word-pointer-requires-clause-length g t c = (opened_here c.requires.there c.in-Some.ensures.0 c.formed_as-copied.ensures.body).few
+pub copy::copy-pointer_word-pointer-requires-clause-length : goal.copy::copy-pointer_word-pointer-requires-clause-length
+copy::copy-pointer_word-pointer-requires-clause-length g t c = (opened_here c.requires.there c.in-Some.ensures.0 c.formed_as-copied.ensures.body).few
 
-pub copy-returns-clause-copied : goal.copy-returns-clause-copied
-copy-returns-clause-copied g t c =
+pub copy::copy-returns-clause-copied : goal.copy::copy-returns-clause-copied
+copy::copy-returns-clause-copied g t c =
     object_is_copied c.requires.there (opened_here c.requires.there c.in-Some.ensures.0 c.formed_as-copied.ensures.body) refl
     c.put_own_words.ensures.words c.copy_pointers-free.ensures.words c.copy_pointers-free.ensures.next c.pointer_word-pointer.ensures
 
-pub copy-copy_run-free-requires : goal.copy-copy_run-free-requires
-copy-copy_run-free-requires g t c κs within =
+pub copy::copy-copy_run-free-requires : goal.copy::copy-copy_run-free-requires
+copy::copy-copy_run-free-requires g t c κs within =
     let is = c.in-Some.ensures.0 in
     let k = pointers_kept c.requires.there is c.in-Pointers.is in
     let room_is = ap room_of c.in-Pointers.is in
     (omega (arith, c.in-Some.ensures.1), (within.0, (within.1, (omega (arith, is.room, room_is, c.words_fit.ensures.length), (k, (is.content, (omega arith, c.requires.small)))))))
 
-pub copy-returns-in-Pointers-clause-copied : goal.copy-returns-in-Pointers-clause-copied
-copy-returns-in-Pointers-clause-copied g t c =
+pub copy::copy-returns-in-Pointers-clause-copied : goal.copy::copy-returns-in-Pointers-clause-copied
+copy::copy-returns-in-Pointers-clause-copied g t c =
     let is = c.in-Some.ensures.0 in
     pointers_are_copied c.requires.there is c.in-Pointers.is c.formed_as-copied.ensures.body refl c.copy_run-free.ensures.words c.copy_run-free.ensures.next c.pointer_word-pointer.ensures
 
-pub copy_pointers-of-from-requires-clause-kept : goal.copy_pointers-of-from-requires-clause-kept
-copy_pointers-of-from-requires-clause-kept g t c = rw c.row_size-kept.ensures (fewer_pointers _ _ c.requires.narrower)
+pub copy_rows::copy_pointers-of-from-requires-clause-kept : goal.copy_rows::copy_pointers-of-from-requires-clause-kept
+copy_rows::copy_pointers-of-from-requires-clause-kept g t c = rw c.row_size-kept.ensures (fewer_pointers _ _ c.requires.narrower)
 
-pub copy_pointers-of-to-requires-clause-kept : goal.copy_pointers-of-to-requires-clause-kept
-copy_pointers-of-to-requires-clause-kept g t c = rw c.row_size-kept.ensures (omega arith)
+pub copy_rows::copy_pointers-of-to-requires-clause-kept : goal.copy_rows::copy_pointers-of-to-requires-clause-kept
+copy_rows::copy_pointers-of-to-requires-clause-kept g t c = rw c.row_size-kept.ensures (omega arith)
 
-pub copy_pointers-copy_rows-requires : goal.copy_pointers-copy_rows-requires
-copy_pointers-copy_rows-requires g t c κs within =
+pub copy_rows::copy_pointers-copy_rows-requires : goal.copy_rows::copy_pointers-copy_rows-requires
+copy_rows::copy_pointers-copy_rows-requires g t c κs within =
     let from_are = rw c.row_size-kept.ensures at c.of-from.ensures.places in
     let to_are = rw c.row_size-kept.ensures at c.of-to.ensures.places in (
       omega arith,
@@ -104,39 +104,39 @@ copy_pointers-copy_rows-requires g t c κs within =
       ),
     )
 
-pub copy_pointers-returns-clause-words : goal.copy_pointers-returns-clause-words
-copy_pointers-returns-clause-words g t c = λ trees charge stand.
+pub copy_rows::copy_pointers-returns-clause-words : goal.copy_rows::copy_pointers-returns-clause-words
+copy_rows::copy_pointers-returns-clause-words g t c = λ trees charge stand.
     let from_are = rw c.row_size-kept.ensures at c.of-from.ensures.places in
     let slots_are = c.of-to.ensures.slots (ap (λ (r : RowSize). r.pointers) c.row_size-kept.ensures) in
     rw (← slots_are, ← c.words.ensures) (c.copy_rows.ensures.words trees charge (rw from_are stand))
 
-pub copy_pointers-returns-clause-next : goal.copy_pointers-returns-clause-next
-copy_pointers-returns-clause-next g t c = λ trees charge stand.
+pub copy_rows::copy_pointers-returns-clause-next : goal.copy_rows::copy_pointers-returns-clause-next
+copy_rows::copy_pointers-returns-clause-next g t c = λ trees charge stand.
     let from_are = rw c.row_size-kept.ensures at c.of-from.ensures.places in
     rw (← c.words.ensures) (c.copy_rows.ensures.next trees charge (rw from_are stand))
 
-pub copy_rows-pointers-init : goal.copy_rows-pointers-init
-copy_rows-pointers-init g t c = (copying_begins refl refl c.requires.there, refl, c.requires.before, c.requires.as_many, c.requires.content)
+pub copy_rows::copy_rows-pointers-init : goal.copy_rows::copy_rows-pointers-init
+copy_rows::copy_rows-pointers-init g t c = (copying_begins refl refl c.requires.there, refl, c.requires.before, c.requires.as_many, c.requires.content)
 
-pub copy_rows-take-slot-requires : goal.copy_rows-take-slot-requires
-copy_rows-take-slot-requires g t c none = absurd (omega (arith, c.pointers.invariant.3, ap length c.take-source.ensures.taken.places_are, ap length none))
+pub copy_rows::copy_rows-take-slot-requires : goal.copy_rows::copy_rows-take-slot-requires
+copy_rows::copy_rows-take-slot-requires g t c none = absurd (omega (arith, c.pointers.invariant.3, ap length c.take-source.ensures.taken.places_are, ap length none))
 
-pub copy_rows-copy_target-inner-requires : goal.copy_rows-copy_target-inner-requires
-copy_rows-copy_target-inner-requires g t c κs within =
+pub copy_rows::copy_rows-copy_target-inner-requires : goal.copy_rows::copy_rows-copy_target-inner-requires
+copy_rows::copy_rows-copy_target-inner-requires g t c κs within =
     let so_far = c.pointers.invariant in
     let can = copying_first c.take-source.ensures.taken.places_are so_far.0 in
     let room : length (g.T.BlockItem.as_words c.args.block.now) ≡ length (g.T.BlockItem.as_words c.pointers.block) = omega (arith, so_far.1) in
     let there = so_far.4 (λ none. absurd (omega (arith, ap length c.take-source.ensures.taken.places_are, ap length none))) in
     (omega arith, (within.0, (within.1, (rw (← room) can, (rw c.take-source.ensures.segment there, (omega (arith, so_far.2, c.take-slot.ensures.within), omega (arith, so_far.1, c.requires.small)))))))
 
-pub copy_rows-put_word-requires : goal.copy_rows-put_word-requires
-copy_rows-put_word-requires g t c =
+pub copy_rows::copy_rows-put_word-requires : goal.copy_rows::copy_rows-put_word-requires
+copy_rows::copy_rows-put_word-requires g t c =
     let so_far = c.pointers.invariant in
     let can = copying_first c.take-source.ensures.taken.places_are so_far.0 in
     omega (arith, so_far.1, so_far.2, can.fits, c.take-slot.ensures.within, c.copy_target-inner.ensures.len)
 
-pub copy_rows-pointers-preserved : goal.copy_rows-pointers-preserved
-copy_rows-pointers-preserved g t c =
+pub copy_rows::copy_rows-pointers-preserved : goal.copy_rows::copy_rows-pointers-preserved
+copy_rows::copy_rows-pointers-preserved g t c =
     let so_far = c.pointers.invariant in
     let from = c.take-source.ensures.taken in
     let to = c.take-slot.ensures.taken in
@@ -149,62 +149,62 @@ copy_rows-pointers-preserved g t c =
       λ some. rw c.take-source.ensures.same_segment (so_far.4 (λ none. absurd (omega (arith, ap length from.places_are, ap length none)))),
     )
 
-pub copy_rows-returns-clause-words : goal.copy_rows-returns-clause-words
-copy_rows-returns-clause-words g t c = λ trees charge stand. (copying_ends (c.is_empty.ensures.0 c.pointers-test.false) c.pointers.invariant.0 trees charge stand).0
+pub copy_rows::copy_rows-returns-clause-words : goal.copy_rows::copy_rows-returns-clause-words
+copy_rows::copy_rows-returns-clause-words g t c = λ trees charge stand. (copying_ends (c.is_empty.ensures.0 c.pointers-test.false) c.pointers.invariant.0 trees charge stand).0
 
-pub copy_rows-returns-clause-next : goal.copy_rows-returns-clause-next
-copy_rows-returns-clause-next g t c = λ trees charge stand. (copying_ends (c.is_empty.ensures.0 c.pointers-test.false) c.pointers.invariant.0 trees charge stand).1
+pub copy_rows::copy_rows-returns-clause-next : goal.copy_rows::copy_rows-returns-clause-next
+copy_rows::copy_rows-returns-clause-next g t c = λ trees charge stand. (copying_ends (c.is_empty.ensures.0 c.pointers-test.false) c.pointers.invariant.0 trees charge stand).1
 
-pub copy_target-returns-then-is_null-clause-copied : goal.copy_target-returns-then-is_null-clause-copied
-copy_target-returns-then-is_null-clause-copied g t c = λ trees charge stand.
+pub copy::copy_target-returns-then-is_null-clause-copied : goal.copy::copy_target-returns-then-is_null-clause-copied
+copy::copy_target-returns-then-is_null-clause-copied g t c = λ trees charge stand.
     null_is_copied c.args.canonical (word_there _ c.args.place (words_of c.args.segment.now) 0 c.requires.content (c.is_null.ensures c.if-is_null.true)) stand
 
-pub copy_target-copy_struct-requires : goal.copy_target-copy_struct-requires
-copy_target-copy_struct-requires g t c κs within =
+pub copy::copy_target-copy_struct-requires : goal.copy::copy_target-copy_struct-requires
+copy::copy_target-copy_struct-requires g t c κs within =
     let is = c.in-Some.ensures _ c.requires.content in
     (omega arith, (within.0, (within.1, (is.1, ((c.args.place, c.requires.there, is.0), (c.requires.behind, c.requires.small))))))
 
-pub copy_target-put_elements-requires : goal.copy_target-put_elements-requires
-copy_target-put_elements-requires g t c =
+pub copy::copy_target-put_elements-requires : goal.copy::copy_target-put_elements-requires
+copy::copy_target-put_elements-requires g t c =
     let is = (c.in-Some-near_list.ensures _ c.requires.content).0 in
     let o = number_list_opened c.in-Some-near_list.list c.requires.there is in
     record { there = is.room; room = omega (arith, o.kept.fits); bound = c.requires.small }
 
-pub copy_target-list_word-requires : goal.copy_target-list_word-requires
-copy_target-list_word-requires g t c =
+pub copy::copy_target-list_word-requires : goal.copy::copy_target-list_word-requires
+copy::copy_target-list_word-requires g t c =
     let o = number_list_opened c.in-Some-near_list.list c.requires.there (c.in-Some-near_list.ensures _ c.requires.content).0 in
     record { offset = omega (arith, c.requires.small, o.kept.fits); code = omega (arith, c.code.ensures.few); count = o.few }
 
-pub copy_target-returns-clause-copied : goal.copy_target-returns-clause-copied
-copy_target-returns-clause-copied g t c =
+pub copy::copy_target-returns-clause-copied : goal.copy::copy_target-returns-clause-copied
+copy::copy_target-returns-clause-copied g t c =
     number_list_copied c.in-Some-near_list.list c.requires.there (c.in-Some-near_list.ensures _ c.requires.content).0 refl c.put_elements.ensures.words (rw c.code.ensures.code at c.list_word.ensures)
     (omega (arith, c.words.ensures))
 
-pub copy_struct-struct_pointer_word-pointer-requires : goal.copy_struct-struct_pointer_word-pointer-requires
-copy_struct-struct_pointer_word-pointer-requires g t c =
+pub copy::copy_struct-struct_pointer_word-pointer-requires : goal.copy::copy_struct-struct_pointer_word-pointer-requires
+copy::copy_struct-struct_pointer_word-pointer-requires g t c =
     let is = c.requires.there.2 in
     let o = opened_here c.requires.there.1 is c.formed-size.ensures.body in
     omega (arith, o.kept.fits, c.requires.small)
 
-pub copy_struct-put_words-requires : goal.copy_struct-put_words-requires
-copy_struct-put_words-requires g t c =
+pub copy::copy_struct-put_words-requires : goal.copy::copy_struct-put_words-requires
+copy::copy_struct-put_words-requires g t c =
     let is = c.requires.there.2 in
     let o = opened_here c.requires.there.1 is c.formed-size.ensures.body in
     record { there = omega (arith, is.room, c.words-words.ensures, c.formed-size.ensures.narrower.0, c.formed-size.ensures.narrower.1); room = omega (arith, o.kept.fits, c.words-words.ensures) }
 
-pub copy_struct-returns-then-holds_nulls-clause-copied : goal.copy_struct-returns-then-holds_nulls-clause-copied
-copy_struct-returns-then-holds_nulls-clause-copied g t c place can is =
+pub copy::copy_struct-returns-then-holds_nulls-clause-copied : goal.copy::copy_struct-returns-then-holds_nulls-clause-copied
+copy::copy_struct-returns-then-holds_nulls-clause-copied g t c place can is =
     struct_of_nulls can is c.formed-size.ensures.body c.formed-size.ensures.narrower.0 c.formed-size.ensures.narrower.1 (c.holds_nulls.ensures.0 c.if-holds_nulls.true) refl
     (rw c.words-words.ensures at c.put_words.ensures.words) c.struct_pointer_word-pointer.ensures (omega (arith, c.words-words.ensures))
 
-pub copy_struct-put_words-requires-2 : goal.copy_struct-put_words-requires-2
-copy_struct-put_words-requires-2 g t c =
+pub copy::copy_struct-put_words-requires-2 : goal.copy::copy_struct-put_words-requires-2
+copy::copy_struct-put_words-requires-2 g t c =
     let is = c.requires.there.2 in
     let o = opened_here c.requires.there.1 is c.formed-size.ensures.body in
     record { there = omega (arith, is.room, c.formed-size.ensures.narrower.0); room = omega (arith, o.kept.fits) }
 
-pub copy_struct-copy_run-free-requires : goal.copy_struct-copy_run-free-requires
-copy_struct-copy_run-free-requires g t c κs within =
+pub copy::copy_struct-copy_run-free-requires : goal.copy::copy_struct-copy_run-free-requires
+copy::copy_struct-copy_run-free-requires g t c κs within =
     let is = c.requires.there.2 in
     let o = opened_here c.requires.there.1 is c.formed-size.ensures.body in
     let first = c.first_pointer.ensures in (
@@ -224,8 +224,8 @@ copy_struct-copy_run-free-requires g t c κs within =
       ),
     )
 
-pub copy_struct-returns-clause-copied : goal.copy_struct-returns-clause-copied
-copy_struct-returns-clause-copied g t c place can is =
+pub copy::copy_struct-returns-clause-copied : goal.copy::copy_struct-returns-clause-copied
+copy::copy_struct-returns-clause-copied g t c place can is =
     let o = opened_here can is c.formed-size.ensures.body in
     let first = c.first_pointer.ensures in
     let from_are : places c.first_pointer.result.segment c.first_pointer.result.word c.formed-size.result.pointers
@@ -238,8 +238,8 @@ copy_struct-returns-clause-copied g t c place can is =
     (λ trees charge stand. rw (← c.words-words.ensures) (c.copy_run-free.ensures.next trees charge (rw from_are stand)))
     c.struct_pointer_word-pointer.ensures
 
-pub copy_run-copy_rows-requires : goal.copy_run-copy_rows-requires
-copy_run-copy_rows-requires g t c κs within =
+pub copy_rows::copy_run-copy_rows-requires : goal.copy_rows::copy_run-copy_rows-requires
+copy_rows::copy_run-copy_rows-requires g t c κs within =
     let from_are = c.run-from.ensures.places in
     let to_are = c.run-to.ensures.places in (
       omega arith,
@@ -261,8 +261,8 @@ copy_run-copy_rows-requires g t c κs within =
       ),
     )
 
-pub copy_run-returns-clause-words : goal.copy_run-returns-clause-words
-copy_run-returns-clause-words g t c = λ trees charge stand. rw (← c.run-to.ensures.slots) (c.copy_rows.ensures.words trees charge (rw c.run-from.ensures.places stand))
+pub copy_rows::copy_run-returns-clause-words : goal.copy_rows::copy_run-returns-clause-words
+copy_rows::copy_run-returns-clause-words g t c = λ trees charge stand. rw (← c.run-to.ensures.slots) (c.copy_rows.ensures.words trees charge (rw c.run-from.ensures.places stand))
 
-pub copy_run-returns-clause-next : goal.copy_run-returns-clause-next
-copy_run-returns-clause-next g t c = λ trees charge stand. c.copy_rows.ensures.next trees charge (rw c.run-from.ensures.places stand)
+pub copy_rows::copy_run-returns-clause-next : goal.copy_rows::copy_run-returns-clause-next
+copy_rows::copy_run-returns-clause-next g t c = λ trees charge stand. c.copy_rows.ensures.next trees charge (rw c.run-from.ensures.places stand)
