@@ -1,20 +1,17 @@
 //! Copies of what the pointers of an object lead to, row by row.
-ghost use Rattle.std.specs.Prelude.{◌≡◌, ◌≢◌, ◌+◌, ◌/◌, ◌^◌, ◌<◌, ◌≤◌, ℕ, [], length, slice_get, Some};
+ghost use Rattle.std.specs.Prelude.{◌≡◌, ◌≢◌, ◌+◌, ◌/◌, ◌^◌, ◌<◌, ◌≤◌, [], length, slice_get, Some};
 ghost use Rattle.capnp_wire.specs.Pointer.{words_of};
-ghost use Rattle.capnp_wire.specs.Tree.{Trees, total_words};
 ghost use Rattle.capnp_wire.specs.Object.{message_of, places};
 ghost use Rattle.capnp_wire.specs.Landing.{room_of, words_in};
-ghost use Rattle.capnp_wire.specs.Reached.{At};
-ghost use Rattle.capnp_wire.specs.Layout.{formed, run};
-ghost use Rattle.capnp_wire.specs.Block.{fill};
-ghost use Rattle.capnp_wire.specs.Rows.{row_size, kept_in, slots_of, places_in, slots_in, end_of};
-ghost use Rattle.capnp_wire.specs.Copy.{CanCopy, IsNarrower};
+ghost use Rattle.capnp_wire.specs.Layout.{run};
+ghost use Rattle.capnp_wire.specs.Rows.{row_size, kept_in, slots_of, places_in, slots_in};
+ghost use Rattle.capnp_wire.specs.Copy.{CanCopy, CanCopyRows, CopiesAll, IsNarrower};
 
 use crate::layout::block::{BlockItem, put_word};
 use crate::layout::copy::copy_target;
-use crate::layout::object::{Body, Object};
+use crate::layout::object::{Body, Object, words_fit};
 use crate::layout::place::Place;
-use crate::layout::rows::PointerRows;
+use crate::layout::row_pair::RowPair;
 use capnp_frame::message::ReaderSegments;
 
 /// Copies what the pointers of an object lead to, one behind the other behind its own copy, which
@@ -42,28 +39,32 @@ pub(crate) fn copy_pointers<S: ReaderSegments, T: BlockItem>(
         ≤ length object.now.segment.now / 8 }
     requires elements { words_in object.now.body ≤ room_of object.now.body }
     requires small { length (T.as_words block.old) < 2 ^ 29 }
-    ensures words { let m = message_of (S.segments segments.now) in (trees : Trees) (charge : ℕ) →
-        At m (kept_in object.now.start object.now.body (row_size copied).pointers) trees charge →
-        T.as_words block.new ≡ fill (slots_of next copied) (next + words_in copied)
-        (formed canonical trees) (T.as_words block.old) }
-    ensures next { let m = message_of (S.segments segments.now) in (trees : Trees) (charge : ℕ) →
-        At m (kept_in object.now.start object.now.body (row_size copied).pointers) trees charge →
-        result ≡ next + words_in copied + total_words (formed canonical trees) }
+    ensures copied { CopiesAll (message_of (S.segments segments.now))
+        (kept_in object.now.start object.now.body (row_size copied).pointers) canonical
+        (slots_of next copied) (next + words_in copied)
+        (T.as_words block.old) (T.as_words block.new) result }
     ensures len { length (T.as_words block.new) ≡ length (T.as_words block.old) }
 {
-    let kept = copied.row_size().pointers;
-    let from = PointerRows::of(object.start, object.body, kept);
-    let begin = Place {
-        segment: 0,
-        word: next,
-    };
-    let to = PointerRows::of(begin, copied, kept);
+    if let Body::Pointers(count) = object.body {
+        words_fit(object.segment);
+        return copy_run(
+            segments,
+            object.segment,
+            object.start,
+            count,
+            level,
+            canonical,
+            block,
+            next,
+            next + count as usize,
+        );
+    }
     let free = next + copied.words() as usize;
+    let rows = RowPair::of(object, copied, next);
     copy_rows(
         segments,
         object.segment,
-        from,
-        to,
+        rows,
         level,
         canonical,
         block,
@@ -72,40 +73,28 @@ pub(crate) fn copy_pointers<S: ReaderSegments, T: BlockItem>(
 }
 
 // Copies what these pointers of a segment lead to, one behind the other from the word `next` on, and
-// puts the pointers to these copies where `to` says. Answers the first free word.
+// puts the pointers to these copies into their slots. Answers the first free word.
 #[inline(always)]
 #[cycle(copy)]
 fn copy_rows<S: ReaderSegments, T: BlockItem>(
     segments: &S,
     segment: &[u8],
-    mut from: PointerRows,
-    mut to: PointerRows,
+    mut rows: RowPair,
     level: u32,
     canonical: bool,
     block: &mut [T],
     next: usize,
 ) -> usize
-    requires there { CanCopy (message_of (S.segments segments.now)) (places_in from)
+    requires there { CanCopyRows (message_of (S.segments segments.now)) (words_of segment.now) rows
         level canonical next (length (T.as_words block.old)) }
-    requires content { places_in from ≢ [] →
-        slice_get (message_of (S.segments segments.now)) from.next.segment
-        ≡ Some (words_of segment.now) }
-    requires as_many { length (places_in from) ≡ length (places_in to) }
-    requires before { end_of to ≤ next }
     requires small { length (T.as_words block.old) < 2 ^ 29 }
-    ensures words { let m = message_of (S.segments segments.now) in (trees : Trees) (charge : ℕ) →
-        At m (places_in from) trees charge →
-        T.as_words block.new ≡ fill (slots_in to) next (formed canonical trees)
-        (T.as_words block.old) }
-    ensures next { let m = message_of (S.segments segments.now) in (trees : Trees) (charge : ℕ) →
-        At m (places_in from) trees charge →
-        result ≡ next + total_words (formed canonical trees) }
+    ensures copied { CopiesAll (message_of (S.segments segments.now)) (places_in rows.from) canonical
+        (slots_in rows.to) next (T.as_words block.old) (T.as_words block.new) result }
     ensures len { length (T.as_words block.new) ≡ length (T.as_words block.old) }
 {
     let mut free = next;
-    'pointers: while !from.is_empty() {
-        let source = from.take();
-        let slot = to.take().word;
+    'pointers: while !rows.is_empty() {
+        let (source, slot) = rows.take();
         let inner = copy_target(
             segments,
             segment,
@@ -140,24 +129,16 @@ pub(crate) fn copy_run<S: ReaderSegments, T: BlockItem>(
     requires there { CanCopy (message_of (S.segments segments.now))
         (places first.segment first.word count) level canonical
         next (length (T.as_words block.old)) }
-    requires content { slice_get (message_of (S.segments segments.now)) first.segment
+    requires content { places first.segment first.word count ≢ [] →
+        slice_get (message_of (S.segments segments.now)) first.segment
         ≡ Some (words_of segment.now) }
     requires before { slot + count ≤ next }
     requires small { length (T.as_words block.old) < 2 ^ 29 }
-    ensures words { let m = message_of (S.segments segments.now) in (trees : Trees) (charge : ℕ) →
-        At m (places first.segment first.word count) trees charge →
-        T.as_words block.new ≡ fill (run slot count) next (formed canonical trees)
-        (T.as_words block.old) }
-    ensures next { let m = message_of (S.segments segments.now) in (trees : Trees) (charge : ℕ) →
-        At m (places first.segment first.word count) trees charge →
-        result ≡ next + total_words (formed canonical trees) }
+    ensures copied { CopiesAll (message_of (S.segments segments.now))
+        (places first.segment first.word count) canonical (run slot count) next
+        (T.as_words block.old) (T.as_words block.new) result }
     ensures len { length (T.as_words block.new) ≡ length (T.as_words block.old) }
 {
-    let from = PointerRows::run(first, count);
-    let begin = Place {
-        segment: 0,
-        word: slot,
-    };
-    let to = PointerRows::run(begin, count);
-    copy_rows(segments, segment, from, to, level, canonical, block, next)
+    let rows = RowPair::run(first, count, slot);
+    copy_rows(segments, segment, rows, level, canonical, block, next)
 }
