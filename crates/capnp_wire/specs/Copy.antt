@@ -1,4 +1,4 @@
--- Objects that are copied, as they stand or in canonical form (src/layout/copy.rt, src/layout/copy_rows.rt).
+-- Objects that are copied, as they stand or in canonical form (src/layout/copy.rt and begun.rt, copy_rows.rt, row_pair.rt beside it).
 use Rattle.std.specs.Prelude.{◌≡◌, ◌≢◌, ℕ, ◌+◌, ◌-◌, ◌*◌, ◌/◌, ◌<◌, ◌≤◌, ◌^◌, ◌==◌, if◌then◌else◌, Bool, true, List, [], ◌∷◌, length, Some, slice_get}
 use Rattle.capnp_wire.specs.Pointer.{words_of, words_from}
 use Rattle.capnp_wire.specs.Element.{code_of}
