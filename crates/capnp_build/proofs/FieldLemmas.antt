@@ -58,29 +58,31 @@ pub field_laid : (spaces last : List Space) (spot : Spot) (fields : List ℕ) (h
     → last ≡ slice_set spaces spot.segment (with_bytes (space_at spaces spot.segment) (8 * (spot.start + i)) w) → IsLaid last spot (struct (slice_set fields i x)) held
 field_laid spaces last spot fields held i x w r within small is eight e =
     let old : List ℕ = (space_at spaces spot.segment).used in
-    let a = set_used spaces last spot.segment (with_bytes (space_at spaces spot.segment) (8 * (spot.start + i)) w) r.within e in
+    let a = set_used spaces last spot.segment (with_bytes (space_at spaces spot.segment) (8 * (spot.start + i)) w) r.body_is.within e in
     let used : (space_at last spot.segment).used ≡ written old (8 * (spot.start + i)) w = ap (λ (s : Space). s.used) a.1 in
-    let room : 8 * (spot.start + i) + length w ≤ length old = omega (arith, eight, r.room, r.size, within) in
+    let room : 8 * (spot.start + i) + length w ≤ length old = omega (arith, eight, r.body_is.room, r.body_is.size, within) in
     let long : length (space_at last spot.segment).used ≡ length old = ap length used ∙ written_length (8 * (spot.start + i)) old w room in
     let wide : length (slice_set fields i x) ≡ length fields = length-set fields i x in
     let inside : spot.start + i < length (words_of old) = omega (arith, room, eight, length-words_of old) in
     let words : words_of (space_at last spot.segment).used ≡ slice_set (words_of old) (spot.start + i) x = ap words_of used ∙ words_set old (spot.start + i) x w inside small is eight in
     record {
-      within = omega (arith, a.0, r.within);
-      room = omega (arith, long, r.room);
-      behind = r.behind;
-      near = r.near;
-      rooms = ((omega (arith, wide, r.rooms.0.0), r.rooms.0.1, All-set (λ (v : ℕ). v < 2 ^ 64) fields i x small r.rooms.0.2), r.rooms.1, tt);
-      size = r.size ∙ ap (λ (n : ℕ). n + count held + total_words held + 0) (sym wide);
-      few = r.few;
-      tag = r.tag ∙ ap (λ (n : ℕ). struct_pointer (if n + count held == 0 then minus_one else 0) n (count held)) (sym wide);
-      laid = subst (λ (l : List ℕ). Laid l spot.start (tree (struct (slice_set fields i x)) held none)) (sym words) (set_laid (words_of old) spot.start i x fields held within r.laid);
-      root_is = ap (λ (l : List Space). word_at (message l) root) e ∙ root_kept spaces spot.segment (8 * (spot.start + i)) w r.within (omega (arith, r.behind)) room ∙ r.root_is
+      body_is = record {
+        within = omega (arith, a.0, r.body_is.within);
+        room = omega (arith, long, r.body_is.room);
+        behind = r.body_is.behind;
+        near = r.body_is.near;
+        rooms = ((omega (arith, wide, r.body_is.rooms.0.0), r.body_is.rooms.0.1, All-set (λ (v : ℕ). v < 2 ^ 64) fields i x small r.body_is.rooms.0.2), r.body_is.rooms.1, tt);
+        size = r.body_is.size ∙ ap (λ (n : ℕ). n + count held + total_words held + 0) (sym wide);
+        few = r.body_is.few;
+        tag = r.body_is.tag ∙ ap (λ (n : ℕ). struct_pointer (if n + count held == 0 then minus_one else 0) n (count held)) (sym wide);
+        laid = subst (λ (l : List ℕ). Laid l spot.start (tree (struct (slice_set fields i x)) held none)) (sym words) (set_laid (words_of old) spot.start i x fields held within r.body_is.laid);
+      };
+      root_is = ap (λ (l : List Space). word_at (message l) root) e ∙ root_kept spaces spot.segment (8 * (spot.start + i)) w r.body_is.within (omega (arith, r.body_is.behind)) room ∙ r.root_is
           ∙ ap Some (sym (root_same spot.segment spot.start fields held i x));
       pad_is = λ p. (
         (r.pad_is p).0,
         ap (λ (l : List Space). word_at (message l) (pad_of spot)) e
-            ∙ word_kept spaces spot.segment (spot.start - 1) (8 * (spot.start + i)) w r.within (omega (arith, r.behind)) room ∙ (r.pad_is p).1,
+            ∙ word_kept spaces spot.segment (spot.start - 1) (8 * (spot.start + i)) w r.body_is.within (omega (arith, r.body_is.behind)) room ∙ (r.pad_is p).1,
       );
     }
 

@@ -63,22 +63,22 @@ content spaces i within = segment_stands (map used_of spaces) i (space_at spaces
 rooted : (spaces : List Space) (k start n tag : ℕ) (form : Form) (held : Trees) → (let spot : Spot = record { segment = k; start = start; words = n; tag = tag } in IsLaid spaces spot form held)
     → (charge : ℕ) × At (message spaces) (root ∷ []) (tree form held none) charge
 rooted spaces zero start n tag form held r =
-    let back : start ≡ 0 + 1 + (start - 1) = omega (arith, r.behind) in
+    let back : start ≡ 0 + 1 + (start - 1) = omega (arith, r.body_is.behind) in
     let words : List ℕ = words_of (space_at spaces 0).used in
-    near_tree (message spaces) 0 0 (start - 1) words form held (content spaces 0 r.within) r.rooms (omega (arith, r.size, r.few)) (omega (arith, r.near, r.behind))
-    (word_of (message spaces) root words _ (content spaces 0 r.within) r.root_is) (subst (λ (x : ℕ). Laid words x (tree form held none)) back r.laid)
+    near_tree (message spaces) 0 0 (start - 1) words form held (content spaces 0 r.body_is.within) r.body_is.rooms (omega (arith, r.body_is.size, r.body_is.few)) (omega (arith, r.body_is.near, r.body_is.behind))
+    (word_of (message spaces) root words _ (content spaces 0 r.body_is.within) r.root_is) (subst (λ (x : ℕ). Laid words x (tree form held none)) back r.body_is.laid)
 rooted spaces (suc k) start n tag form held r =
-    let back : start ≡ start - 1 + 1 = omega (arith, r.behind) in
+    let back : start ≡ start - 1 + 1 = omega (arith, r.body_is.behind) in
     let words : List ℕ = words_of (space_at spaces (suc k)).used in
     let place : Place = record { segment = suc k; word = start - 1 } in
     let pad = r.pad_is (omega arith) in
-    far_tree (message spaces) root (suc k) (start - 1) words form held (content spaces (suc k) r.within) r.rooms (omega (arith, r.size, r.few)) (some_form form held r.rooms (omega (
+    far_tree (message spaces) root (suc k) (start - 1) words form held (content spaces (suc k) r.body_is.within) r.body_is.rooms (omega (arith, r.body_is.size, r.body_is.few)) (some_form form held r.body_is.rooms (omega (
       arith,
-      r.size,
+      r.body_is.size,
       pad.0,
     )))
-    (omega (arith, r.near, r.behind)) r.root_is (word_of (message spaces) place words _ (content spaces (suc k) r.within) (pad.1 ∙ ap Some r.tag))
-    (subst (λ (x : ℕ). Laid words x (tree form held none)) back r.laid)
+    (omega (arith, r.body_is.near, r.body_is.behind)) r.root_is (word_of (message spaces) place words _ (content spaces (suc k) r.body_is.within) (pad.1 ∙ ap Some r.body_is.tag))
+    (subst (λ (x : ℕ). Laid words x (tree form held none)) back r.body_is.laid)
 
 pub laid_root : (spaces : List Space) (spot : Spot) (form : Form) (held : Trees) → IsLaid spaces spot form held → (charge : ℕ) × At (message spaces) (root ∷ []) (tree form held none) charge
 laid_root spaces spot form held r = rooted spaces spot.segment spot.start spot.words spot.tag form held r

@@ -23,19 +23,7 @@ use Rattle.capnp_build.proofs.LaidLemmas.{pointer_small, laid_behind, far_root_i
 
 laid_of : (spaces : List Space) (spot : Spot) (form : Form) (held : Trees) → HasBody spaces spot form held → word_at (message spaces) root ≡ Some (root_word spot.segment spot.start form held)
     → (0 < spot.segment → (0 < spot.words) × (word_at (message spaces) (pad_of spot) ≡ Some spot.tag)) → IsLaid spaces spot form held
-laid_of spaces spot form held b root_is pad_is = record {
-  within = b.within;
-  room = b.room;
-  behind = b.behind;
-  near = b.near;
-  rooms = b.rooms;
-  size = b.size;
-  few = b.few;
-  tag = b.tag;
-  laid = b.laid;
-  root_is = root_is;
-  pad_is = pad_is;
-}
+laid_of spaces spot form held b root_is pad_is = record { body_is = b; root_is = root_is; pad_is = pad_is }
 
 -- a block behind the used words is a body
 pub block_there : (spaces last : List Space) (i start n tag : ℕ) (block : List ℕ) (form : Form) (held : Trees) → i < length spaces → last ≡ slice_set spaces i (with_more (space_at spaces i) block)

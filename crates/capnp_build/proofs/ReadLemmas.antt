@@ -36,16 +36,16 @@ list_body values all =
 body_words : (spaces : List Space) (spot : Spot) (form : Form) (held : Trees) → IsLaid spaces spot form held → words_of (body_bytes spaces spot) ≡ body (tree form held none)
 body_words spaces spot form held r =
     let old : List ℕ = (space_at spaces spot.segment).used in
-    sym (part_words spot.start spot.words old r.room) ∙ ap (words_from (words_of old) spot.start) r.size ∙ r.laid.words_are
+    sym (part_words spot.start spot.words old r.body_is.room) ∙ ap (words_from (words_of old) spot.start) r.body_is.size ∙ r.body_is.laid.words_are
 
 pub body_long : (spaces : List Space) (spot : Spot) (form : Form) (held : Trees) → IsLaid spaces spot form held → length (body_bytes spaces spot) ≡ 8 * spot.words
 body_long spaces spot form held r =
     let old : List ℕ = (space_at spaces spot.segment).used in
-    omega (arith, r.room, length-take (8 * spot.words) (drop (8 * spot.start) old), length-drop (8 * spot.start) old)
+    omega (arith, r.body_is.room, length-take (8 * spot.words) (drop (8 * spot.start) old), length-drop (8 * spot.start) old)
 
 -- the numbers of a list of words
 list_there : (spaces : List Space) (spot : Spot) (values : List ℕ) → IsLaid spaces spot (numbers 5 values) none → words_of (body_bytes spaces spot) ≡ values
-list_there spaces spot values r = body_words spaces spot (numbers 5 values) none r ∙ list_body values r.rooms.0.3
+list_there spaces spot values r = body_words spaces spot (numbers 5 values) none r ∙ list_body values r.body_is.rooms.0.3
 
 first_words : (n : ℕ) (bytes : List ℕ) → 8 * n ≤ length bytes → words_of (take (8 * n) bytes) ≡ take n (words_of bytes)
 first_words n bytes room = sym (part_words 0 n bytes (omega (arith, room)))
@@ -55,7 +55,7 @@ fields_there : (spaces : List Space) (spot : Spot) (words : List ℕ) (held : Tr
 fields_there spaces spot words held r =
     let links : List ℕ = pointers_to (slots (struct words) (count held)) (own_words (struct words) (count held)) held in
     let bytes : List ℕ = body_bytes spaces spot in
-    first_words (length words) bytes (omega (arith, body_long spaces spot (struct words) held r, r.size)) ∙ ap (take (length words)) (body_words spaces spot (struct words) held r)
+    first_words (length words) bytes (omega (arith, body_long spaces spot (struct words) held r, r.body_is.size)) ∙ ap (take (length words)) (body_words spaces spot (struct words) held r)
     ∙ take-append-le (length words) ((words ++ links) ++ body held) [] (omega (arith, length-append (words ++ links) (body held), length-append words links))
     ∙ take-append-le (length words) (words ++ links) (body held) (omega (arith, length-append words links)) ∙ take-append_seam words links
 
@@ -65,7 +65,7 @@ none_held (tree form inner rest) e = absurd (omega (arith, e))
 
 code_is : (spaces : List Space) (spot : Spot) (c d : ℕ) (values : List ℕ) (held : Trees) → c ≡ d → IsLaid spaces spot (numbers c values) held → IsLaid spaces spot (numbers d values) none
 code_is spaces spot c d values held e r =
-    subst (λ (t : Trees). IsLaid spaces spot (numbers d values) t) (none_held held r.rooms.0.2) (subst (λ (k : ℕ). IsLaid spaces spot (numbers k values) held) e r)
+    subst (λ (t : Trees). IsLaid spaces spot (numbers d values) t) (none_held held r.body_is.rooms.0.2) (subst (λ (k : ℕ). IsLaid spaces spot (numbers k values) held) e r)
 
 bytes_read : (spaces : List Space) (spot : Spot) (values : List ℕ) → IsLaid spaces spot (numbers 2 values) none → ((i : ℕ) → slice_index_or (space_at spaces spot.segment).used i 0 < 256)
     → take (length values) (body_bytes spaces spot) ≡ values
@@ -74,7 +74,7 @@ bytes_read spaces spot values r low = ap (take (length values)) (bytes_there spa
 words_read : (spaces : List Space) (spot : Spot) (values : List ℕ) → IsLaid spaces spot (numbers 5 values) none → words_of (take (8 * length values) (body_bytes spaces spot)) ≡ values
 words_read spaces spot values r =
     let long = body_long spaces spot (numbers 5 values) none r in
-    ap words_of (take_all (8 * length values) (body_bytes spaces spot) (omega (arith, long, r.size))) ∙ list_there spaces spot values r
+    ap words_of (take_all (8 * length values) (body_bytes spaces spot) (omega (arith, long, r.body_is.size))) ∙ list_there spaces spot values r
 
 pub holds_form : (spaces : List Space) (spot : Spot) (form : Form) (held : Trees) → IsLaid spaces spot form held → ((i : ℕ) → slice_index_or (space_at spaces spot.segment).used i 0 < 256)
     → HoldsForm (body_bytes spaces spot) form
@@ -93,14 +93,14 @@ pub number_laid : (spaces last : List Space) (spot : Spot) (values : List ℕ) (
     → last ≡ slice_set spaces spot.segment (with_bytes (space_at spaces spot.segment) (8 * spot.start + 8 * i) w) → IsLaid last spot (numbers 5 (slice_set values i x)) none
 number_laid spaces last spot values i x w r within small is eight e =
     let wide : length (slice_set values i x) ≡ length values = length-set values i x in
-    let all : All (λ v. v < 2 ^ 64) (slice_set values i x) = All-set (λ (v : ℕ). v < 2 ^ 64) values i x small r.rooms.0.3 in
+    let all : All (λ v. v < 2 ^ 64) (slice_set values i x) = All-set (λ (v : ℕ). v < 2 ^ 64) values i x small r.body_is.rooms.0.3 in
     let there = list_there spaces spot values r in
     let inside : i < length (words_of (body_bytes spaces spot)) = omega (arith, within, ap length there) in
     let words : words_of (written (body_bytes spaces spot) (8 * i) w) ≡ body (tree (numbers 5 (slice_set values i x)) none none) =
     words_set (body_bytes spaces spot) i x w inside small is eight ∙ ap (λ (l : List ℕ). slice_set l i x) there ∙ sym (list_body (slice_set values i x) all) in
-    rewritten spaces last spot (numbers 5 values) (numbers 5 (slice_set values i x)) none (8 * i) w r (omega (arith, eight, within, r.size)) e
+    rewritten spaces last spot (numbers 5 values) (numbers 5 (slice_set values i x)) none (8 * i) w r (omega (arith, eight, within, r.body_is.size)) e
     (λ offset. ap (λ (n : ℕ). 1 + 4 * offset + 2 ^ 32 * 5 + 2 ^ 35 * n) wide) (ap (λ (n : ℕ). words_for n 64) wide)
-    (omega arith, omega (arith, wide, r.rooms.0.1), refl, all) words
+    (omega arith, omega (arith, wide, r.body_is.rooms.0.1), refl, all) words
 
 -- a root has so many values
 pub same_numbers : (spaces : List Space) (c : ℕ) (values others : List ℕ) (charge more : ℕ) → At (message spaces) (root ∷ []) (tree (numbers c values) none none) charge

@@ -90,10 +90,10 @@ value_whole has_tree c spaces last spot v laid one first start_is long =
     let head : slice_get words 0 ≡ Some (root_word spot.segment spot.start v.form v.held) = ap (λ (m : List (List ℕ)). word_at m root) (sym message_is) ∙ laid.root_is in
     let near : root_word spot.segment spot.start v.form v.held ≡ pointer v.form (count v.held) 0 =
     ap (λ (k : ℕ). root_word k spot.start v.form v.held) first ∙ ap (λ (n : ℕ). root_word 0 n v.form v.held) start_is in
-    let many : length words ≡ 1 + total_words (tree v.form v.held none) = omega (arith, long, laid.size, length-words_of (space_at last 0).used) in
+    let many : length words ≡ 1 + total_words (tree v.form v.held none) = omega (arith, long, laid.body_is.size, length-words_of (space_at last 0).used) in
     let rest : words_from words 1 (total_words (tree v.form v.held none)) ≡ body (tree v.form v.held none) =
     ap (λ (n : ℕ). words_from words n (total_words (tree v.form v.held none))) (sym start_is)
-    ∙ ap (λ (k : ℕ). words_from (words_of (space_at last k).used) spot.start (total_words (tree v.form v.held none))) (sym first) ∙ laid.laid.words_are in
+    ∙ ap (λ (k : ℕ). words_from (words_of (space_at last k).used) spot.start (total_words (tree v.form v.held none))) (sym first) ∙ laid.body_is.laid.words_are in
     record {
       trees = v.trees;
       tree_is = v.tree_is;

@@ -37,35 +37,37 @@ pub rewritten : (spaces last : List Space) (spot : Spot) (form f : Form) (held :
 rewritten spaces last spot form f held start w r inside e alike wide room_is body_is =
     let old : List ℕ = (space_at spaces spot.segment).used in
     let first : ℕ = 8 * spot.start + start in
-    let a = set_used spaces last spot.segment (with_bytes (space_at spaces spot.segment) (8 * spot.start + start) w) r.within e in
+    let a = set_used spaces last spot.segment (with_bytes (space_at spaces spot.segment) (8 * spot.start + start) w) r.body_is.within e in
     let used : (space_at last spot.segment).used ≡ written old (8 * spot.start + start) w = ap (λ (s : Space). s.used) a.1 in
-    let room : 8 * spot.start + start + length w ≤ length old = omega (arith, r.room, inside) in
+    let room : 8 * spot.start + start + length w ≤ length old = omega (arith, r.body_is.room, inside) in
     let long : length (space_at last spot.segment).used ≡ length old = ap length used ∙ written_length (8 * spot.start + start) old w room in
-    let total : total_words (tree f held none) ≡ spot.words = omega (arith, wide, r.size) in
-    let fits : 8 * spot.start + 8 * spot.words ≤ length old = omega (arith, r.room) in
+    let total : total_words (tree f held none) ≡ spot.words = omega (arith, wide, r.body_is.size) in
+    let fits : 8 * spot.start + 8 * spot.words ≤ length old = omega (arith, r.body_is.room) in
     let part : words_from (words_of (space_at last spot.segment).used) spot.start spot.words ≡ body (tree f held none) =
-    part_words spot.start spot.words (space_at last spot.segment).used (omega (arith, long, r.room))
+    part_words spot.start spot.words (space_at last spot.segment).used (omega (arith, long, r.body_is.room))
     ∙ ap (λ (l : List ℕ). words_of (take (8 * spot.words) (drop (8 * spot.start) l))) used
     ∙ ap words_of (part_written (8 * spot.start) (8 * spot.words) start old w fits inside) ∙ body_is in
     record {
-      within = omega (arith, a.0, r.within);
-      room = omega (arith, long, r.room);
-      behind = r.behind;
-      near = r.near;
-      rooms = (room_is, r.rooms.1, tt);
-      size = sym total;
-      few = r.few;
-      tag = r.tag ∙ sym (alike 0);
-      laid = record {
-        within = omega (arith, total, long, r.room, length-words_of (space_at last spot.segment).used);
-        words_are = ap (words_from (words_of (space_at last spot.segment).used) spot.start) total ∙ part;
+      body_is = record {
+        within = omega (arith, a.0, r.body_is.within);
+        room = omega (arith, long, r.body_is.room);
+        behind = r.body_is.behind;
+        near = r.body_is.near;
+        rooms = (room_is, r.body_is.rooms.1, tt);
+        size = sym total;
+        few = r.body_is.few;
+        tag = r.body_is.tag ∙ sym (alike 0);
+        laid = record {
+          within = omega (arith, total, long, r.body_is.room, length-words_of (space_at last spot.segment).used);
+          words_are = ap (words_from (words_of (space_at last spot.segment).used) spot.start) total ∙ part;
+        };
       };
-      root_is = ap (λ (l : List Space). word_at (message l) root) e ∙ root_kept spaces spot.segment (8 * spot.start + start) w r.within (omega (arith, r.behind)) room ∙ r.root_is
+      root_is = ap (λ (l : List Space). word_at (message l) root) e ∙ root_kept spaces spot.segment (8 * spot.start + start) w r.body_is.within (omega (arith, r.body_is.behind)) room ∙ r.root_is
           ∙ ap Some (root_alike spot.segment spot.start form f held alike);
       pad_is = λ p. (
         (r.pad_is p).0,
         ap (λ (l : List Space). word_at (message l) (pad_of spot)) e
-            ∙ word_kept spaces spot.segment (spot.start - 1) (8 * spot.start + start) w r.within (omega (arith, r.behind)) room ∙ (r.pad_is p).1,
+            ∙ word_kept spaces spot.segment (spot.start - 1) (8 * spot.start + start) w r.body_is.within (omega (arith, r.body_is.behind)) room ∙ (r.pad_is p).1,
       );
     }
 
@@ -109,14 +111,14 @@ bytes_there spaces spot values r low =
     let old : List ℕ = (space_at spaces spot.segment).used in
     let k : ℕ = spot.words in
     let p : ℕ = 8 * spot.words - length values in
-    let size : spot.words ≡ words_for (length values) 8 = omega (arith, r.size) in
-    let fits : 8 * (spot.start + spot.words) ≤ length old = r.room in
+    let size : spot.words ≡ words_for (length values) 8 = omega (arith, r.body_is.size) in
+    let fits : 8 * (spot.start + spot.words) ≤ length old = r.body_is.room in
     let long : length (body_bytes spaces spot) ≡ 8 * spot.words = omega (arith, fits, length-take (8 * spot.words) (drop (8 * spot.start) old), length-drop (8 * spot.start) old) in
     let whole : length values + p ≡ 8 * spot.words = omega (arith, size) in
     let also : length (values ++ replicate p 0) ≡ 8 * spot.words = omega (arith, whole, length-append values (replicate p 0), length-replicate {A = ℕ} p 0) in
-    let fine = low_all values r.rooms.0.3 in
+    let fine = low_all values r.body_is.rooms.0.3 in
     let same : words_of (body_bytes spaces spot) ≡ words_of (values ++ replicate p 0) =
-    sym (part_words spot.start spot.words old fits) ∙ ap (words_from (words_of old) spot.start) r.size ∙ r.laid.words_are ∙ numbers_body values
+    sym (part_words spot.start spot.words old fits) ∙ ap (words_from (words_of old) spot.start) r.body_is.size ∙ r.body_is.laid.words_are ∙ numbers_body values
     ∙ ap (λ (n : ℕ). digits (2 ^ 64) n (number_of 256 values)) (sym size) ∙ sym (padded values p spot.words fine whole) in
     words_tell spot.words (body_bytes spaces spot) (values ++ replicate p 0) long also (low_take (8 * spot.words) (drop (8 * spot.start) old) (low_drop (8 * spot.start) old low))
     (λ i. below_zeros values p i fine) same
@@ -138,11 +140,11 @@ pub bytes_laid : (spaces last : List Space) (spot : Spot) (values : List ℕ) (i
     → last ≡ slice_set spaces spot.segment (with_bytes (space_at spaces spot.segment) (8 * spot.start + i) w) → IsLaid last spot (numbers 2 (written values i w)) none
 bytes_laid spaces last spot values i w r low small within e =
     let p : ℕ = 8 * spot.words - length values in
-    let size : spot.words ≡ words_for (length values) 8 = omega (arith, r.size) in
+    let size : spot.words ≡ words_for (length values) 8 = omega (arith, r.body_is.size) in
     let wide : length (written values i w) ≡ length values = written_length i values w within in
     let all : All (λ v. v < 2 ^ 8) (written values i w) =
-    All-append (λ v. v < 2 ^ 8) (take i values) (w ++ drop (i + length w) values) (All-take (λ v. v < 2 ^ 8) i values r.rooms.0.3)
-    (All-append (λ v. v < 2 ^ 8) w (drop (i + length w) values) (all_low w small) (All-drop (λ v. v < 2 ^ 8) (i + length w) values r.rooms.0.3)) in
+    All-append (λ v. v < 2 ^ 8) (take i values) (w ++ drop (i + length w) values) (All-take (λ v. v < 2 ^ 8) i values r.body_is.rooms.0.3)
+    (All-append (λ v. v < 2 ^ 8) w (drop (i + length w) values) (all_low w small) (All-drop (λ v. v < 2 ^ 8) (i + length w) values r.body_is.rooms.0.3)) in
     let there = bytes_there spaces spot values r low in
     let bytes : written (body_bytes spaces spot) i w ≡ written values i w ++ replicate p 0 =
     ap (λ (l : List ℕ). written l i w) there ∙ written_front i values (replicate p 0) w within in
@@ -151,4 +153,4 @@ bytes_laid spaces last spot values i w r low small within e =
     ∙ ap (λ (n : ℕ). digits (2 ^ 64) n (number_of 256 (written values i w))) (size ∙ ap (λ (n : ℕ). words_for n 8) (sym wide)) ∙ sym (numbers_body (written values i w)) in
     rewritten spaces last spot (numbers 2 values) (numbers 2 (written values i w)) none i w r (omega (arith, within, size)) e
     (λ offset. ap (λ (n : ℕ). 1 + 4 * offset + 2 ^ 32 * 2 + 2 ^ 35 * n) wide) (ap (λ (n : ℕ). words_for n 8) wide)
-    (omega arith, omega (arith, wide, r.rooms.0.1), refl, all) words
+    (omega arith, omega (arith, wide, r.body_is.rooms.0.1), refl, all) words

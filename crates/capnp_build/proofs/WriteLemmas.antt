@@ -51,7 +51,7 @@ field_known spaces spot index f p = laid_as spaces spot p.0 (struct f.words) p.1
 
 pub field_room : (spaces : List Space) (spot : Spot) (index n : ℕ) (f : HasField spaces index) → IsBuilt spaces (Some spot) → n ≡ 8
     → 8 * (spot.start + index) + n ≤ length (space_at spaces spot.segment).used
-field_room spaces spot index n f p eight = let r = field_known spaces spot index f p in omega (arith, eight, r.room, r.size, f.within)
+field_room spaces spot index n f p eight = let r = field_known spaces spot index f p in omega (arith, eight, r.body_is.room, r.body_is.size, f.within)
 
 pub field_set : (spaces last : List Space) (spot : Spot) (index x : ℕ) (w : List ℕ) (f : HasField spaces index) → IsBuilt spaces (Some spot) → x < 2 ^ 64 → w ≡ to_le_bytes w64 x → length w ≡ 8
     → last ≡ slice_set spaces spot.segment (with_bytes (space_at spaces spot.segment) (8 * (spot.start + index)) w) → IsFieldSet spaces last index x
@@ -70,7 +70,7 @@ number_known spaces spot index f p = laid_as spaces spot p.0 (numbers 5 f.values
 
 pub number_room : (spaces : List Space) (spot : Spot) (index n : ℕ) (f : HasNumber spaces index) → IsBuilt spaces (Some spot) → n ≡ 8
     → 8 * spot.start + 8 * index + n ≤ length (space_at spaces spot.segment).used
-number_room spaces spot index n f p eight = let r = number_known spaces spot index f p in omega (arith, eight, r.room, r.size, f.within)
+number_room spaces spot index n f p eight = let r = number_known spaces spot index f p in omega (arith, eight, r.body_is.room, r.body_is.size, f.within)
 
 pub number_set : (spaces last : List Space) (spot : Spot) (index x : ℕ) (w : List ℕ) (f : HasNumber spaces index) → IsBuilt spaces (Some spot) → x < 2 ^ 64 → w ≡ to_le_bytes w64 x → length w ≡ 8
     → last ≡ slice_set spaces spot.segment (with_bytes (space_at spaces spot.segment) (8 * spot.start + 8 * index) w) → IsNumberSet spaces last index x
@@ -88,7 +88,7 @@ bytes_known spaces spot index n f p = laid_as spaces spot p.0 (numbers 2 f.value
 
 pub bytes_room : (spaces : List Space) (spot : Spot) (index n : ℕ) (f : HasBytes spaces index n) → IsBuilt spaces (Some spot)
     → 8 * spot.start + index + n ≤ length (space_at spaces spot.segment).used
-bytes_room spaces spot index n f p = let r = bytes_known spaces spot index n f p in omega (arith, r.room, r.size, f.within)
+bytes_room spaces spot index n f p = let r = bytes_known spaces spot index n f p in omega (arith, r.body_is.room, r.body_is.size, f.within)
 
 pub no_bytes : (values : List ℕ) → numbers 2 values ≡ null → ⊥
 no_bytes values e = cc

@@ -87,15 +87,7 @@ pub record HasValue (has_tree : Trees → Type 0) (canonical : Bool) (spaces : L
 
 -- a tree's body stands there, and the root leads to it
 pub record IsLaid (spaces : List Space) (spot : Spot) (form : Form) (held : Trees) : Type 0 where
-  pub within : spot.segment < length spaces
-  pub room : 8 * (spot.start + spot.words) ≤ length (space_at spaces spot.segment).used
-  pub behind : 0 < spot.start
-  pub near : spot.start ≤ 2 ^ 29
-  pub rooms : AllHaveRoom (tree form held none)
-  pub size : spot.words ≡ total_words (tree form held none)
-  pub few : spot.words < 2 ^ 29
-  pub tag : spot.tag ≡ pointer form (count held) 0
-  pub laid : Laid (words_of (space_at spaces spot.segment).used) spot.start (tree form held none)
+  pub body_is : HasBody spaces spot form held
   pub root_is : word_at (message spaces) root ≡ Some (root_word spot.segment spot.start form held)
   pub pad_is : 0 < spot.segment → (0 < spot.words) × (word_at (message spaces) (pad_of spot) ≡ Some spot.tag)
 

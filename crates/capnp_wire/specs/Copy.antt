@@ -1,15 +1,25 @@
--- Objects that are copied, as they stand or in canonical form (src/layout/copy.rt).
-use Rattle.std.specs.Prelude.{◌≡◌, ℕ, ◌+◌, ◌-◌, ◌*◌, ◌≤◌, ◌==◌, if◌then◌else◌, Bool, true, List, [], ◌∷◌}
-use Rattle.capnp_wire.specs.Pointer.{words_from}
+-- Objects that are copied, as they stand or in canonical form (src/layout/copy.rt and begun.rt, copy_rows.rt, row_pair.rt beside it).
+use Rattle.std.specs.Prelude.{◌≡◌, ◌≢◌, ℕ, ◌+◌, ◌-◌, ◌*◌, ◌/◌, ◌<◌, ◌≤◌, ◌^◌, ◌==◌, if◌then◌else◌, Bool, true, List, [], ◌∷◌, length, Some, slice_get}
+use Rattle.capnp_wire.specs.Pointer.{words_of, words_from}
 use Rattle.capnp_wire.specs.Element.{code_of}
 use Rattle.capnp_wire.specs.Tree.{numbers, Trees, depth, total_words}
 use Rattle.capnp_wire.specs.Object.{elements as numerals, rows_from}
 use Rattle.capnp_wire.specs.Layout.{own, body, pointer_to, AllHaveRoom, formed, struct_pointer, list_pointer, minus_one}
-use Rattle.capnp_wire.specs.Block.{put, put_rows, most_used}
+use Rattle.capnp_wire.specs.Landing.{IsObject, room_of, words_in}
+use Rattle.capnp_wire.specs.Block.{put, put_rows, fill, most_used}
+use Rattle.capnp_wire.specs.Object.{places}
+use Rattle.capnp_wire.specs.Layout.{run}
+use Rattle.capnp_wire.specs.Rows.{row_size, kept_in, slots_of, places_in, slots_in, end_of, Takes}
 use Rattle.capnp_wire.specs.Reached.{At}
 use Rattle.capnp_wire.specs.declared.layout.place.Place.{Place}
 use Rattle.capnp_wire.specs.declared.layout.pointer.StructSize.{StructSize}
 use Rattle.capnp_wire.specs.declared.layout.copy.Copied.{Copied}
+use Rattle.capnp_wire.specs.declared.layout.row_pair.RowPair.{RowPair}
+use Rattle.capnp_wire.specs.declared.layout.begun.BegunCopy.{BegunCopy}
+use Rattle.capnp_wire.specs.declared.layout.begun.LeftRun.{LeftRun}
+use Rattle.capnp_wire.specs.declared.layout.begun.StructCopy.{StructCopy}
+use Rattle.capnp_wire.specs.declared.layout.begun.StructCopy.TheVariants.{Whole, Begun}
+use Rattle.capnp_wire.specs.declared.layout.object.Object.{Object}
 use Rattle.capnp_wire.specs.declared.layout.object.Body.{Body}
 use Rattle.capnp_wire.specs.declared.layout.object.Body.TheVariants.{Struct, Numbers, Pointers, Structs}
 
@@ -81,3 +91,74 @@ pub record IsCopied (trees : Trees) (gap next : ℕ) (old new : List ℕ) (copie
   pub words_are : new ≡ put next (body trees) old
   pub pointer_is : copied.pointer ≡ pointer_to trees gap
   pub next_is : copied.next ≡ next + total_words trees
+
+-- what the pointer at a place leads to is copied
+pub record Copies (m : List (List ℕ)) (place : Place) (canonical : Bool) (gap next : ℕ) (old new : List ℕ) (copied : Copied) : Type 0 where
+  pub is : (trees : Trees) (charge : ℕ) → At m (place ∷ []) trees charge → IsCopied (formed canonical trees) gap next old new copied
+
+-- what some pointers lead to is copied, from a word of a block up to the first free one, and the pointers to that stand in these slots
+pub record CopiesAll (m : List (List ℕ)) (at : List Place) (canonical : Bool) (slots : List ℕ) (next : ℕ) (old new : List ℕ) (free : ℕ) : Type 0 where
+  pub words_are : (trees : Trees) (charge : ℕ) → At m at trees charge → new ≡ fill slots next (formed canonical trees) old
+  pub next_is : (trees : Trees) (charge : ℕ) → At m at trees charge → free ≡ next + total_words (formed canonical trees)
+
+-- what pointers of a segment lead to can be copied from a word on, behind the slots of their copies
+pub record CanCopyRows (m : List (List ℕ)) (words : List ℕ) (rows : RowPair) (level : ℕ) (canonical : Bool) (next room : ℕ) : Type 0 where
+  pub there : CanCopy m (places_in rows.from) level canonical next room
+  pub content : places_in rows.from ≢ [] → slice_get m rows.from.next.segment ≡ Some words
+  pub as_many : length (places_in rows.from) ≡ length (places_in rows.to)
+  pub before : end_of rows.to ≤ next
+
+-- Rows are those of pointers at some places of a segment and of some slots, which end before a word: what these lead to can
+-- be copied by the rows, and is copied so.
+pub record ArePaired (rows : RowPair) (at : List Place) (segment : ℕ) (slots : List ℕ) (end : ℕ) : Type 0 where
+  pub can : (m : List (List ℕ)) (words : List ℕ) (level : ℕ) (canonical : Bool) (next room : ℕ) → CanCopy m at level canonical next room
+      → (at ≢ [] → slice_get m segment ≡ Some words) → end ≤ next → CanCopyRows m words rows level canonical next room
+  pub copied : (m : List (List ℕ)) (canonical : Bool) (next : ℕ) (old new : List ℕ) (free : ℕ)
+      → CopiesAll m (places_in rows.from) canonical (slots_in rows.to) next old new free → CopiesAll m at canonical slots next old new free
+
+-- the first of the pointers that are left is taken, and its slot
+pub record TakesPair (old new : RowPair) (place : Place) (slot : ℕ) : Type 0 where
+  pub from : Takes old.from new.from place
+  pub slots_are : slots_in old.to ≡ slot ∷ slots_in new.to
+  pub as_many : length (places_in old.to) ≡ length (places_in new.to) + 1
+  pub before : slot < end_of old.to
+  pub same_end : end_of new.to ≡ end_of old.to
+  pub in_segment : place.segment ≡ old.from.next.segment
+  pub same_segment : new.from.next.segment ≡ old.from.next.segment
+
+-- some pointer that can be copied leads to an object
+pub record IsCopyable (object : Object) (canonical : Bool) (next room : ℕ) : Type 0 where
+  pub m : List (List ℕ)
+  pub place : Place
+  pub level : ℕ
+  pub can : CanCopy m (place ∷ []) level canonical next room
+  pub is : IsObject m place object
+
+-- A copy is begun: what the object's own pointers lead to can be copied yet, and then the copy is one.
+pub record Begins (m : List (List ℕ)) (place : Place) (at : List Place) (slots : List ℕ) (level : ℕ) (canonical : Bool) (gap next behind : ℕ)
+    (old mid : List ℕ) (pointer : ℕ) : Type 0 where
+  pub there : CanCopy m at (level - 1) canonical behind (length mid)
+  pub ends : (new : List ℕ) (free : ℕ) → CopiesAll m at canonical slots behind mid new free
+      → Copies m place canonical gap next old new (record { pointer = pointer; next = free })
+
+-- The copy of an object is begun, and its pointers are left.
+pub record BeginsObject (m : List (List ℕ)) (place : Place) (level : ℕ) (canonical : Bool) (gap next : ℕ) (old mid : List ℕ) (begun : BegunCopy) : Type 0 where
+  pub begins : Begins m place (kept_in begun.object.start begun.object.body (row_size begun.body).pointers) (slots_of next begun.body) level canonical gap next
+      (next + words_in begun.body) old mid begun.pointer
+  pub content : slice_get m begun.object.start.segment ≡ Some (words_of begun.object.segment.now)
+  pub narrower : IsNarrower begun.object.body begun.body
+  pub room : begun.object.start.word + room_of begun.object.body ≤ length begun.object.segment.now / 8
+  pub elements : words_in begun.object.body ≤ room_of begun.object.body
+  pub deep : 0 < level
+
+-- The copy of a struct is begun whose pointers stand one behind the other, as their copies do.
+pub record BeginsRun (m : List (List ℕ)) (place : Place) (words : List ℕ) (level : ℕ) (canonical : Bool) (gap next : ℕ) (old mid : List ℕ) (left : LeftRun) : Type 0 where
+  pub begins : Begins m place (places left.first.segment left.first.word left.count) (run left.slot left.count) level canonical gap next left.next old mid left.pointer
+  pub content : slice_get m left.first.segment ≡ Some words
+  pub bound : left.first.word + left.count < 2 ^ 61
+  pub before : left.slot + left.count ≤ left.next
+
+-- a struct is copied, or its copy is begun
+abbrev pub BeginsStruct : List (List ℕ) → Place → List ℕ → ℕ → Bool → ℕ → ℕ → List ℕ → List ℕ → StructCopy → Type 0
+BeginsStruct m place words level canonical gap next old new (Whole copied) = Copies m place canonical gap next old new copied
+BeginsStruct m place words level canonical gap next old new (Begun left) = BeginsRun m place words level canonical gap next old new left

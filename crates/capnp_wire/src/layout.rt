@@ -1,7 +1,9 @@
 //! The wire layout: pointer words, the objects that they lead to, and what a walk over these costs.
+pub(crate) mod begun;
 pub(crate) mod block;
 pub(crate) mod canonical;
 pub(crate) mod copy;
+pub(crate) mod copy_rows;
 pub(crate) mod element;
 pub(crate) mod formed;
 pub(crate) mod landing;
@@ -12,6 +14,7 @@ pub(crate) mod own_words;
 pub(crate) mod place;
 pub(crate) mod pointer;
 pub(crate) mod pointer_word;
+pub(crate) mod row_pair;
 pub(crate) mod rows;
 pub(crate) mod struct_value;
 pub(crate) mod tested;

@@ -1,8 +1,8 @@
 -- What a pointer leads to that is copied.
-use Rattle.std.proofs.Common.{◌≡◌, ℕ, zero, suc, ◌+◌, ◌-◌, ◌*◌, ◌≤◌, Bool, true, false, if◌then◌else◌, List, [], ◌∷◌, length, Some, refl, sym, ◌∙◌, ap, subst, arith, length-append}
+use Rattle.std.proofs.Common.{◌≡◌, ℕ, zero, suc, ◌+◌, ◌-◌, ◌*◌, ◌≤◌, Bool, true, false, if◌then◌else◌, List, [], ◌∷◌, ◌++◌, ◌<◌, ◌^◌, length, Some, slice_get, refl, sym, ◌∙◌, ap, subst, arith, length-append}
 use Rattle.std.proofs.lemmas.List.{append-nil}
 use Rattle.capnp_frame.specs.declared.error.ErrorKind.{ErrorKind}
-use Rattle.capnp_wire.specs.Pointer.{words_of}
+use Rattle.capnp_wire.specs.Pointer.{words_of, words_from}
 use Rattle.capnp_wire.specs.Tree.{null, Trees, none, tree, depth, is_null, total_words}
 use Rattle.capnp_wire.specs.Object.{nothing, places, word_at, is_null as null_there}
 use Rattle.capnp_wire.specs.Landing.{IsObject, words_in}
@@ -11,8 +11,11 @@ use Rattle.capnp_wire.specs.Faults.{Fault}
 use Rattle.capnp_wire.specs.Layout.{body, run, pointer_to, formed}
 use Rattle.capnp_wire.specs.Block.{put, fill}
 use Rattle.capnp_wire.specs.Rows.{row_size, row_count, first_row, kept_places, kept_in, slots_of}
-use Rattle.capnp_wire.specs.Copy.{CanCopy, IsCopied, IsNarrower, formed_body, pointer_of_body, put_own}
+use Rattle.capnp_wire.specs.Copy.{CanCopy, IsCopied, Copies, IsCopyable, Begins, BeginsRun, IsNarrower, formed_body, pointer_of_body, put_own}
 use Rattle.capnp_wire.specs.declared.layout.place.Place.{Place}
+use Rattle.capnp_wire.specs.Near.{struct_of}
+use Rattle.capnp_wire.specs.declared.layout.near.NearStruct.{NearStruct}
+use Rattle.capnp_wire.specs.declared.layout.pointer.StructSize.{StructSize}
 use Rattle.capnp_wire.specs.declared.layout.object.Body.{Body}
 use Rattle.capnp_wire.specs.declared.layout.object.Body.TheVariants.{Struct, Numbers, Pointers, Structs}
 use Rattle.capnp_wire.specs.declared.layout.object.Object.{Object as ReadObject}
@@ -24,7 +27,6 @@ use Rattle.capnp_wire.proofs.pointers.FaultLemmas.{refused_has_no_object}
 use Rattle.capnp_wire.proofs.layouts.CopyLemmas.{none_at}
 use Rattle.capnp_wire.proofs.layouts.OpenLemmas.{Opened, under}
 use Rattle.capnp_wire.proofs.layouts.OpenedLemmas.{opened}
-use Rattle.capnp_wire.proofs.pointers.NearLemmas.{list_formed}
 use Rattle.capnp_wire.proofs.pointers.PointerRowLemmas.{kept_held}
 
 -- the object that is read
@@ -40,12 +42,12 @@ opened_here {m} {place} {object} {copied} {level} {c} {next} {room} can is copie
     )) is.elements in
     subst (λ (b : Body). Opened m (words_of object.segment.now) object.start object.body b (level - 1) c next room can.trees) (sym copied_is) o
 
--- a copy has no more pointers in each row
-pub fewer_pointers : (from copied : Body) → IsNarrower from copied → (row_size copied).pointers ≤ (row_size from).pointers
-fewer_pointers (Struct from) (Struct size) is = is.1
-fewer_pointers (Numbers from n) (Numbers size k) is = omega arith
-fewer_pointers (Pointers n) (Pointers k) is = omega arith
-fewer_pointers (Structs from b) (Structs e w) is = is.2
+-- a copy has as many rows, with no more pointers in each
+pub fewer_pointers : (from copied : Body) → IsNarrower from copied → ((row_size copied).pointers ≤ (row_size from).pointers) × (row_count copied ≡ row_count from)
+fewer_pointers (Struct from) (Struct size) is = (is.1, refl)
+fewer_pointers (Numbers from n) (Numbers size k) is = (omega arith, refl)
+fewer_pointers (Pointers n) (Pointers k) is = (omega arith, refl)
+fewer_pointers (Structs from b) (Structs e w) is = (is.2, is.0)
 fewer_pointers (Struct from) (Numbers size k) is = absurd is
 fewer_pointers (Struct from) (Pointers k) is = absurd is
 fewer_pointers (Struct from) (Structs e w) is = absurd is
@@ -65,27 +67,9 @@ kept_many segment start d p q zero = omega arith
 kept_many segment start d p q (suc n) =
     omega (arith, length-append (places segment (start + d) q) (kept_places segment (start + d + p) d p q n), length-places segment (start + d) q, kept_many segment (start + d + p) d p q n)
 
-same_rows : (from copied : Body) → IsNarrower from copied → row_count copied ≡ row_count from
-same_rows (Struct from) (Struct size) is = refl
-same_rows (Numbers from n) (Numbers size k) is = refl
-same_rows (Pointers n) (Pointers k) is = refl
-same_rows (Structs from b) (Structs e w) is = is.0
-same_rows (Struct from) (Numbers size k) is = absurd is
-same_rows (Struct from) (Pointers k) is = absurd is
-same_rows (Struct from) (Structs e w) is = absurd is
-same_rows (Numbers from n) (Struct size) is = absurd is
-same_rows (Numbers from n) (Pointers k) is = absurd is
-same_rows (Numbers from n) (Structs e w) is = absurd is
-same_rows (Pointers n) (Struct size) is = absurd is
-same_rows (Pointers n) (Numbers size k) is = absurd is
-same_rows (Pointers n) (Structs e w) is = absurd is
-same_rows (Structs from b) (Struct size) is = absurd is
-same_rows (Structs from b) (Numbers size k) is = absurd is
-same_rows (Structs from b) (Pointers k) is = absurd is
-
 pub as_many : (start begin : Place) (from copied : Body) (q : ℕ) → IsNarrower from copied → length (kept_in start from q) ≡ length (kept_in begin copied q)
 as_many start begin from copied q is =
-    let rows : row_count copied ≡ row_count from = same_rows from copied is in
+    let rows : row_count copied ≡ row_count from = (fewer_pointers from copied is).1 in
     kept_many start.segment (first_row from start.word) (row_size from).data_words (row_size from).pointers q (row_count from)
     ∙ ap (λ (n : ℕ). n * q) (sym rows)
     ∙ sym (kept_many begin.segment (first_row copied begin.word) (row_size copied).data_words (row_size copied).pointers q (row_count copied))
@@ -110,58 +94,92 @@ fault_no_tree m place level kind trees charge fault (at {shape = s} {held = h} o
     omega arith)
 
 -- a null pointer is copied
-pub null_is_copied : {m : List (List ℕ)} {place : Place} {trees : Trees} {charge gap next : ℕ} {block : List ℕ} (c : Bool) → word_at m place ≡ Some 0 → At m (place ∷ []) trees charge
-    → IsCopied (formed c trees) gap next block block (record { pointer = 0; next = next })
-null_is_copied {m} {place} {trees} {charge} {gap} {next} {block} c word stand =
-    let is = null_copied m place c trees charge word stand in
+pub null_is_copied : {m : List (List ℕ)} {place : Place} {gap next : ℕ} {block : List ℕ} (c : Bool) → word_at m place ≡ Some 0
+    → Copies m place c gap next block block (record { pointer = 0; next = next })
+null_is_copied {m} {place} {gap} {next} {block} c word = record {
+  is = λ trees charge stand.
+      let is = null_copied m place c trees charge word stand in
+      record {
+        words_are = sym (ap (λ (t : Trees). put next (body t) block) is ∙ put_none next block);
+        pointer_is = sym (ap (λ (t : Trees). pointer_to t gap) is);
+        next_is = omega (arith, ap total_words is);
+      };
+}
+
+-- an object's own words are copied, and then what its pointers lead to
+pub object_begins : {m : List (List ℕ)} {place : Place} {words : List ℕ} {start : Place} {from copied : Body} {level : ℕ} {c : Bool} {gap next pointer : ℕ}
+    {old mid : List ℕ} (can : CanCopy m (place ∷ []) level c next (length old))
+    → Opened m words start from copied (level - 1) c next (length old) can.trees → mid ≡ put_own words start.word from copied next old → length mid ≡ length old
+    → pointer ≡ pointer_of_body copied gap
+    → Begins m place (kept_in start from (row_size copied).pointers) (slots_of next copied) level c gap next (next + words_in copied) old mid pointer
+object_begins {m} {place} {words} {start} {from} {copied} {level} {c} {gap} {next} {pointer} {old} {mid} can o mid_is mid_long pointer_is =
+    let k = o.kept in
     record {
-      words_are = sym (ap (λ (t : Trees). put next (body t) block) is ∙ put_none next block);
-      pointer_is = sym (ap (λ (t : Trees). pointer_to t gap) is);
-      next_is = omega (arith, ap total_words is);
+      there = subst (λ (n : ℕ). CanCopy m (kept_in start from (row_size copied).pointers) (level - 1) c (next + words_in copied) n) (sym mid_long) k;
+      ends = λ new free done. record {
+        is = λ trees charge stand.
+            let same = one_tree m (place ∷ []) can.trees trees can.charge charge can.stand stand in
+            subst (λ (t : Trees). IsCopied (formed c t) gap next old new (record { pointer = pointer; next = free })) same.0 (record {
+              words_are = done.words_are k.trees k.charge k.stand ∙ ap (λ (b : List ℕ). fill (slots_of next copied) (next + words_in copied) (formed c k.trees) b) mid_is ∙ o.fills old refl;
+              pointer_is = pointer_is ∙ o.pointers_are gap;
+              next_is = omega (arith, done.next_is k.trees k.charge k.stand, o.totals);
+            });
+      };
     }
 
--- an object is copied: its own words, then what its pointers lead to
-pub object_is_copied : {m : List (List ℕ)} {place : Place} {words : List ℕ} {start : Place} {from copied : Body} {level inner : ℕ} {c : Bool} {gap next room free pointer : ℕ}
-    {old mid new : List ℕ} (can : CanCopy m (place ∷ []) level c next room)
-    → Opened m words start from copied inner c next room can.trees → length old ≡ room → mid ≡ put_own words start.word from copied next old
-    → ((trees : Trees) (charge : ℕ) → At m (kept_in start from (row_size copied).pointers) trees charge → new ≡ fill (slots_of next copied) (next + words_in copied) (formed c trees) mid)
-    → ((trees : Trees) (charge : ℕ) → At m (kept_in start from (row_size copied).pointers) trees charge → free ≡ next + words_in copied + total_words (formed c trees))
-    → pointer ≡ pointer_of_body copied gap → (trees : Trees) (charge : ℕ) → At m (place ∷ []) trees charge → IsCopied (formed c trees) gap next old new (record { pointer = pointer; next = free })
-object_is_copied {m} {place} {words} {start} {from} {copied} {level} {inner} {c} {gap} {next} {room} {free} {pointer} {old} {mid} {new} can o long mid_is filled nexts pointer_is trees charge stand =
-    let same = one_tree m (place ∷ []) can.trees trees can.charge charge can.stand stand in
-    let k = o.kept in
-    subst (λ (t : Trees). IsCopied (formed c t) gap next old new (record { pointer = pointer; next = free })) same.0 (record {
-      words_are = filled k.trees k.charge k.stand ∙ ap (λ (b : List ℕ). fill (slots_of next copied) (next + words_in copied) (formed c k.trees) b) mid_is ∙ o.fills old long;
-      pointer_is = pointer_is ∙ o.pointers_are gap;
-      next_is = omega (arith, nexts k.trees k.charge k.stand, o.totals);
+-- a struct's, and then what its pointers lead to, which stand one behind the other
+pub struct_begins : {m : List (List ℕ)} {place : Place} {found : NearStruct} {size : StructSize} {level : ℕ} {c : Bool} {gap next behind pointer : ℕ} {first : Place} {old mid : List ℕ}
+    (can : CanCopy m (place ∷ []) level c next (length old)) → IsObject m place (struct_of found)
+    → Struct size ≡ formed_body c (words_of found.segment.now) found.start.word (Struct found.size) → size.pointers ≤ found.size.pointers
+    → mid ≡ put next (words_from (words_of found.segment.now) found.start.word size.data_words) old → length mid ≡ length old → pointer ≡ pointer_of_body (Struct size) gap
+    → first.segment ≡ found.start.segment → first.word ≡ found.start.word + found.size.data_words → first.word + found.size.pointers < 2 ^ 61 → behind ≡ next + (size.data_words + size.pointers)
+    → BeginsRun m place (words_of found.segment.now) level c gap next old mid (record {
+      pointer = pointer;
+      first = first;
+      count = size.pointers;
+      slot = next + size.data_words;
+      next = behind;
     })
+struct_begins {m} {place} {found} {size} {level} {c} {gap} {next} {behind} {pointer} {first} {old} {mid} can is size_is fewer mid_is long pointer_is segment_is word_is bound behind_is =
+    let b = object_begins can (opened_here can is size_is) mid_is long pointer_is in
+    let e : ℕ = size.data_words in
+    let q : ℕ = size.pointers in
+    let at_is : places found.start.segment (found.start.word + found.size.data_words) size.pointers ++ [] ≡ places first.segment first.word size.pointers =
+    append-nil (places found.start.segment (found.start.word + found.size.data_words) size.pointers)
+    ∙ ap (λ (w : ℕ). places found.start.segment w size.pointers) (sym word_is) ∙ ap (λ (s : ℕ). places s first.word size.pointers) (sym segment_is) in
+    record {
+      begins = subst (λ (n : ℕ). Begins m place (places first.segment first.word q) (run (next + e) q) level c gap next n old mid pointer) (sym behind_is)
+          (subst (λ (l : List Place). Begins m place l (run (next + e) q) level c gap next (next + (e + q)) old mid pointer) at_is
+          (subst (λ (l : List ℕ). Begins m place (places found.start.segment (found.start.word + found.size.data_words) q ++ []) l level c gap next (next + (e + q)) old mid pointer)
+          (append-nil (run (next + e) q)) b));
+      content = ap (slice_get m) segment_is ∙ is.content;
+      bound = omega (arith, bound, fewer);
+      before = omega (arith, behind_is);
+    }
 
--- a list of pointers, which has no words of its own but these
-list_opened : {m : List (List ℕ)} {place : Place} {object : ReadObject} {n level : ℕ} {c : Bool} {next room : ℕ} (can : CanCopy m (place ∷ []) level c next room)
-    → IsObject m place object → object.body ≡ Pointers n
-    → Opened m (words_of object.segment.now) object.start (Pointers n) (Pointers n) (level - 1) c next room can.trees
-list_opened {m} {place} {object} {n} {level} {c} {next} {room} can is body_is =
-    subst (λ (b : Body). Opened m (words_of object.segment.now) object.start b (Pointers n) (level - 1) c next room can.trees) body_is
-    (opened_here can is (list_formed c (words_of object.segment.now) object.start.word (Pointers n) tt ∙ ap (formed_body c (words_of object.segment.now) object.start.word) (sym body_is)))
+pub copyable : {m : List (List ℕ)} {place : Place} {object : ReadObject} {level : ℕ} {c : Bool} {next room : ℕ} → CanCopy m (place ∷ []) level c next room → IsObject m place object
+    → IsCopyable object c next room
+copyable {m} {place} {object} {level} can is = record { m = m; place = place; level = level; can = can; is = is }
 
-pub pointers_kept : {m : List (List ℕ)} {place : Place} {object : ReadObject} {n level : ℕ} {c : Bool} {next room : ℕ} (can : CanCopy m (place ∷ []) level c next room)
-    → IsObject m place object → object.body ≡ Pointers n → CanCopy m (places object.start.segment object.start.word n) (level - 1) c (next + n) room
-pointers_kept {m} {place} {object} {n} {level} {c} {next} {room} can is body_is =
-    subst (λ (l : List Place). CanCopy m l (level - 1) c (next + n) room) (kept_held (words_of object.segment.now) object.start (Pointers n)) (list_opened can is body_is).kept
+-- The pointers of a list of pointers stand one behind the other, as their copies do.
+pub record AreInRun (start : Place) (from copied : Body) (next n : ℕ) : Type 0 where
+  pub places_are : kept_in start from (row_size copied).pointers ≡ places start.segment start.word n
+  pub slots_are : slots_of next copied ≡ run next n
+  pub words_are : words_in copied ≡ n
 
-pub pointers_are_copied : {m : List (List ℕ)} {place : Place} {object : ReadObject} {copied : Body} {n level : ℕ} {c : Bool} {gap next room free pointer : ℕ} {old new : List ℕ}
-    (can : CanCopy m (place ∷ []) level c next room) → IsObject m place object → object.body ≡ Pointers n → copied ≡ formed_body c (words_of object.segment.now) object.start.word object.body
-    → length old ≡ room
-    → ((trees : Trees) (charge : ℕ) → At m (places object.start.segment object.start.word n) trees charge → new ≡ fill (run next n) (next + n) (formed c trees) old)
-    → ((trees : Trees) (charge : ℕ) → At m (places object.start.segment object.start.word n) trees charge → free ≡ next + n + total_words (formed c trees))
-    → pointer ≡ pointer_of_body copied gap → (trees : Trees) (charge : ℕ) → At m (place ∷ []) trees charge → IsCopied (formed c trees) gap next old new (record { pointer = pointer; next = free })
-pointers_are_copied {m} {place} {object} {copied} {n} {level} {c} {gap} {next} {room} {free} {pointer} {old} {new} can is body_is copied_is long filled nexts pointer_is =
-    let list_is : copied ≡ Pointers n = copied_is ∙ ap (formed_body c (words_of object.segment.now) object.start.word) body_is ∙ sym (list_formed c (words_of object.segment.now) object.start.word (Pointers n) tt) in
+list_narrower : (n : ℕ) (copied : Body) → IsNarrower (Pointers n) copied → copied ≡ Pointers n
+list_narrower n (Struct size) is = absurd is
+list_narrower n (Numbers size k) is = absurd is
+list_narrower n (Pointers k) is = ap Pointers is
+list_narrower n (Structs elements behind) is = absurd is
+
+pub in_run : (start : Place) (from copied : Body) (next n : ℕ) → from ≡ Pointers n → IsNarrower from copied → AreInRun start from copied next n
+in_run start from copied next n from_is narrower =
+    let copied_is : copied ≡ Pointers n = list_narrower n copied (subst (λ (b : Body). IsNarrower b copied) from_is narrower) in
     let here : next + 0 ≡ next = omega arith in
-    let slots_are : run next n ≡ slots_of next (Pointers n) = sym (append-nil (run (next + 0) n) ∙ ap (λ (k : ℕ). run k n) here) in
-    object_is_copied can (list_opened can is body_is) long refl
-    (λ trees charge stand.
-    filled trees charge (subst (λ (l : List Place). At m l trees charge) (kept_held (words_of object.segment.now) object.start (Pointers n)) stand)
-    ∙ ap (λ (l : List ℕ). fill l (next + n) (formed c trees) old) slots_are)
-    (λ trees charge stand. nexts trees charge (subst (λ (l : List Place). At m l trees charge) (kept_held (words_of object.segment.now) object.start (Pointers n)) stand))
-    (pointer_is ∙ ap (λ (b : Body). pointer_of_body b gap) list_is)
+    record {
+      places_are = ap (λ (b : Body). kept_in start b (row_size copied).pointers) from_is ∙ ap (λ (b : Body). kept_in start (Pointers n) (row_size b).pointers) copied_is
+          ∙ kept_held [] start (Pointers n);
+      slots_are = ap (slots_of next) copied_is ∙ append-nil (run (next + 0) n) ∙ ap (λ (k : ℕ). run k n) here;
+      words_are = ap words_in copied_is;
+    }

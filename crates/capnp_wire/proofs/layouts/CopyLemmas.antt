@@ -1,11 +1,13 @@
 -- Trees that are copied one after the other.
-use Rattle.std.proofs.Common.{◌≡◌, ℕ, ◌+◌, ◌-◌, ◌≤◌, Bool, true, false, List, [], ◌∷◌, refl, sym, ◌∙◌, ap, subst, arith}
+use Rattle.std.proofs.Common.{◌≡◌, ◌≢◌, ℕ, ◌+◌, ◌-◌, ◌<◌, ◌≤◌, Bool, true, false, List, [], ◌∷◌, length, Some, slice_get, refl, sym, ◌∙◌, ap, subst, arith}
 use Rattle.capnp_wire.specs.Tree.{Form, Trees, none, tree, count, depth, own_words, total_words}
 use Rattle.capnp_wire.specs.Trim.{trim, trim_form, trim_held}
 use Rattle.capnp_wire.specs.Reached.{At, nowhere, at}
 use Rattle.capnp_wire.specs.Layout.{pointer, body, pointer_to, formed, AllHaveRoom}
 use Rattle.capnp_wire.specs.Block.{put, fill}
-use Rattle.capnp_wire.specs.Copy.{CanCopy, IsCopied}
+use Rattle.capnp_wire.specs.Rows.{places_in, slots_in, end_of}
+use Rattle.capnp_wire.specs.Copy.{CanCopy, Copies, CopiesAll, CanCopyRows, ArePaired, TakesPair}
+use Rattle.capnp_wire.specs.declared.layout.row_pair.RowPair.{RowPair}
 use Rattle.capnp_wire.specs.declared.layout.place.Place.{Place}
 use Rattle.capnp_wire.specs.declared.layout.copy.Copied.{Copied}
 use Rattle.capnp_wire.proofs.objects.ObjectLemmas.{one_tree}
@@ -69,63 +71,119 @@ pub fill_nothing : (next : ℕ) (trees : Trees) (block : List ℕ) → fill [] n
 fill_nothing next none block = refl
 fill_nothing next (tree form held rest) block = refl
 
--- How far the copying of what some pointers lead to has come: which pointers are left, and their slots.
-pub record Copying (m : List (List ℕ)) (whole : List Place) (level : ℕ) (c : Bool) (slots : List ℕ) (start : ℕ) (before_it : List ℕ)
-    (others : List Place) (slots_left : List ℕ) (free : ℕ) (block : List ℕ) (room : ℕ) : Type 0 where
-  pub rest : CanCopy m others level c free room
-  pub fills : (trees : Trees) (charge : ℕ) → At m whole trees charge → fill slots_left free (formed c rest.trees) block ≡ fill slots start (formed c trees) before_it
-  pub totals : (trees : Trees) (charge : ℕ) → At m whole trees charge → free + total_words (formed c rest.trees) ≡ start + total_words (formed c trees)
-
-pub copying_begins : {m : List (List ℕ)} {whole places : List Place} {level : ℕ} {c : Bool} {slots slots_left : List ℕ} {start : ℕ} {block : List ℕ} {room : ℕ}
-    → places ≡ whole → slots_left ≡ slots → CanCopy m whole level c start room → Copying m whole level c slots start block places slots_left start block room
-copying_begins {m} {whole} {places} {level} {c} {slots} {slots_left} {start} {block} {room} all all_slots can =
-    let begin : Copying m whole level c slots start block whole slots start block room = record {
-      rest = can;
-      fills = λ trees charge stand. ap (λ (t : Trees). fill slots start (formed c t) block) (one_tree m whole can.trees trees can.charge charge can.stand stand).0;
-      totals = λ trees charge stand. ap (λ (t : Trees). start + total_words (formed c t)) (one_tree m whole can.trees trees can.charge charge can.stand stand).0;
-    } in
-    subst (λ (l : List Place). Copying m whole level c slots start block l slots_left start block room) (sym all)
-    (subst (λ (l : List ℕ). Copying m whole level c slots start block whole l start block room) (sym all_slots) begin)
-
-copying_at : {m : List (List ℕ)} {whole : List Place} {level : ℕ} {c : Bool} {slots : List ℕ} {start : ℕ} {before_it : List ℕ} {left others : List Place} {slots_left slots_then : List
-    ℕ} {free : ℕ} {block : List ℕ} {room : ℕ}
-    → left ≡ others → slots_left ≡ slots_then → Copying m whole level c slots start before_it left slots_left free block room
-    → Copying m whole level c slots start before_it others slots_then free block room
-copying_at {m} {whole} {level} {c} {slots} {start} {before_it} {left} {others} {slots_left} {slots_then} {free} {block} {room} is slots_are r =
-    subst (λ (l : List Place). Copying m whole level c slots start before_it l slots_then free block room) is
-    (subst (λ (l : List ℕ). Copying m whole level c slots start before_it left l free block room) slots_are r)
-
-pub copying_first : {m : List (List ℕ)} {whole : List Place} {level : ℕ} {c : Bool} {slots : List ℕ} {start : ℕ} {before_it : List ℕ} {left others : List Place} {place : Place} {slots_left : List
-    ℕ} {free : ℕ} {block : List ℕ} {room : ℕ}
-    → left ≡ place ∷ others → Copying m whole level c slots start before_it left slots_left free block room → CanCopy m (place ∷ []) level c free room
-copying_first {m} {whole} {level} {c} {slots} {start} {before_it} {left} {others} {place} {slots_left} {free} {block} {room} is r =
-    (split_first m place others level c free room (copying_at is refl r).rest).first
-
-pub copying_next : {m : List (List ℕ)} {whole : List Place} {level : ℕ} {c : Bool} {slots : List ℕ} {start : ℕ} {before_it : List ℕ} {left others : List Place} {place : Place} {slots_left
-    slots_then : List ℕ} {slot free : ℕ} {block : List ℕ} {room : ℕ}
-    {copied now : List ℕ} {inner : Copied} → left ≡ place ∷ others → slots_left ≡ slot ∷ slots_then → Copying m whole level c slots start before_it left slots_left free block room
-    → ((trees : Trees) (charge : ℕ) → At m (place ∷ []) trees charge → IsCopied (formed c trees) (free - (slot + 1)) free block copied inner)
-    → now ≡ put slot (inner.pointer ∷ []) copied → Copying m whole level c slots start before_it others slots_then inner.next now room
-copying_next {m} {whole} {level} {c} {slots} {start} {before_it} {left} {others} {place} {slots_left} {slots_then} {slot} {free} {block} {room} {copied} {now} {inner} is slots_are r done now_is =
-    let so_far = copying_at is slots_are r in
-    let s = split_first m place others level c free room so_far.rest in
-    let d = done s.first.trees s.first.charge s.first.stand in
-    let words_are : copied ≡ put free (body (formed c s.first.trees)) block = d.words_are in
-    let pointer_there : inner.pointer ≡ pointer_to (formed c s.first.trees) (free - (slot + 1)) = d.pointer_is in
-    let next_is : inner.next ≡ free + total_words (formed c s.first.trees) = d.next_is in
+-- where no pointers are, nothing is copied
+pub copies_none : {m : List (List ℕ)} {at : List Place} {c : Bool} {slots : List ℕ} {next free : ℕ} {block : List ℕ} → at ≡ [] → free ≡ next → CopiesAll m at c slots next block block free
+copies_none {m} {at} {c} {slots} {next} {free} {block} none_there free_is =
+    let is : (trees : Trees) (charge : ℕ) → At m at trees charge → formed c trees ≡ none = λ trees charge stand.
+    ap (formed c) (none_at m trees charge (subst (λ (l : List Place). At m l trees charge) none_there stand)) ∙ none_formed c in
     record {
-      rest = record { trees = s.behind.trees; charge = s.behind.charge; stand = s.behind.stand; shallow = s.behind.shallow; rooms = s.behind.rooms; fits = omega (arith, s.behind.fits, next_is) };
-      fills = λ trees charge stand.
-          rw (now_is, words_are, pointer_there, next_is) (sym (s.fills slot slots_then block)) ∙ so_far.fills trees charge stand;
-      totals = λ trees charge stand. omega (arith, so_far.totals trees charge stand, s.totals, next_is);
+      words_are = λ trees charge stand. sym (ap (λ (t : Trees). fill slots next t block) (is trees charge stand));
+      next_is = λ trees charge stand. omega (arith, free_is, ap total_words (is trees charge stand));
     }
 
-pub copying_ends : {m : List (List ℕ)} {whole : List Place} {level : ℕ} {c : Bool} {slots : List ℕ} {start : ℕ} {before_it : List ℕ} {left : List Place} {slots_left : List
-    ℕ} {free : ℕ} {block : List ℕ} {room : ℕ}
-    → left ≡ [] → Copying m whole level c slots start before_it left slots_left free block room → (trees : Trees) (charge : ℕ) → At m whole trees charge
-    → (block ≡ fill slots start (formed c trees) before_it) × (free ≡ start + total_words (formed c trees))
-copying_ends {m} {whole} {level} {c} {slots} {start} {before_it} {left} {slots_left} {free} {block} {room} done r trees charge stand =
-    let so_far = copying_at done refl r in
-    let none_left : formed c so_far.rest.trees ≡ none = ap (formed c) (none_at m so_far.rest.trees so_far.rest.charge so_far.rest.stand) ∙ none_formed c in
-    let nothing : fill slots_left free (formed c so_far.rest.trees) block ≡ block = ap (λ (t : Trees). fill slots_left free t block) none_left in
-    (sym nothing ∙ so_far.fills trees charge stand, omega (arith, so_far.totals trees charge stand, ap total_words none_left))
+-- the first is copied, and then the others
+copies_both : {m : List (List ℕ)} {place : Place} {others : List Place} {level : ℕ} {c : Bool} {slot : ℕ} {slots : List ℕ} {free room after : ℕ} {now mid new last : List ℕ} {inner : Copied}
+    → CanCopy m (place ∷ others) level c free room → Copies m place c (free - (slot + 1)) free now mid inner → new ≡ put slot (inner.pointer ∷ []) mid
+    → CopiesAll m others c slots inner.next new last after → CopiesAll m (place ∷ others) c (slot ∷ slots) free now last after
+copies_both {m} {place} {others} {level} {c} {slot} {slots} {free} {room} {after} {now} {mid} {new} {last} {inner} can first new_is rest =
+    let s = split_first m place others level c free room can in
+    let d = first.is s.first.trees s.first.charge s.first.stand in
+    let words_are : mid ≡ put free (body (formed c s.first.trees)) now = d.words_are in
+    let pointer_there : inner.pointer ≡ pointer_to (formed c s.first.trees) (free - (slot + 1)) = d.pointer_is in
+    let next_is : inner.next ≡ free + total_words (formed c s.first.trees) = d.next_is in
+    let filled : fill slots inner.next (formed c s.behind.trees) new ≡ fill (slot ∷ slots) free (formed c can.trees) now =
+    rw (new_is, words_are, pointer_there, next_is) (sym (s.fills slot slots now)) in
+    let same : (trees : Trees) (charge : ℕ) → At m (place ∷ others) trees charge → can.trees ≡ trees = λ trees charge stand.
+    (one_tree m (place ∷ others) can.trees trees can.charge charge can.stand stand).0 in
+    record {
+      words_are = λ trees charge stand. rest.words_are s.behind.trees s.behind.charge s.behind.stand ∙ filled ∙ ap (λ (t : Trees). fill (slot ∷ slots) free (formed c t) now) (same trees charge stand);
+      next_is = λ trees charge stand. omega (
+        arith,
+        rest.next_is s.behind.trees s.behind.charge s.behind.stand,
+        next_is,
+        s.totals,
+        ap (λ (t : Trees). total_words (formed c t)) (same trees charge stand),
+      );
+    }
+
+-- How far the copying of what some pointers lead to has come: those that are left can be copied, and with them all is.
+pub record Copying (m : List (List ℕ)) (words : List ℕ) (level : ℕ) (c : Bool) (whole : RowPair) (start : ℕ) (old : List ℕ) (rows : RowPair) (free : ℕ) (now : List ℕ) : Type 0 where
+  pub can : CanCopyRows m words rows level c free (length now)
+  pub long : length now ≡ length old
+  pub ends : (new : List ℕ) (after : ℕ) → CopiesAll m (places_in rows.from) c (slots_in rows.to) free now new after
+      → CopiesAll m (places_in whole.from) c (slots_in whole.to) start old new after
+
+pub copying_begins : {m : List (List ℕ)} {words : List ℕ} {level : ℕ} {c : Bool} {rows : RowPair} {start : ℕ} {old : List ℕ} → CanCopyRows m words rows level c start (length old)
+    → Copying m words level c rows start old rows start old
+copying_begins can = record { can = can; long = refl; ends = λ new after done. done }
+
+some_left : {place : Place} {rest others : List Place} → rest ≡ place ∷ others → rest ≢ []
+some_left is nothing = absurd (omega (arith, ap length is, ap length nothing))
+
+-- what is to be copied next
+pub record CanCopyNext (m : List (List ℕ)) (words : List ℕ) (place : Place) (level : ℕ) (c : Bool) (slot free room : ℕ) : Type 0 where
+  pub there : CanCopy m (place ∷ []) level c free room
+  pub content : slice_get m place.segment ≡ Some words
+  pub behind : slot + 1 ≤ free
+  pub within : slot < room
+
+left_at : {m : List (List ℕ)} {words : List ℕ} {level : ℕ} {c : Bool} {rows others : RowPair} {place : Place} {slot free room : ℕ}
+    → TakesPair rows others place slot → CanCopyRows m words rows level c free room → CanCopy m (place ∷ places_in others.from) level c free room
+left_at {m} {level = level} {c = c} {free = free} {room = room} takes can = subst (λ (l : List Place). CanCopy m l level c free room) takes.from.places_are can.there
+
+pub copying_first : {m : List (List ℕ)} {words : List ℕ} {level : ℕ} {c : Bool} {whole rows others : RowPair} {place : Place} {slot start free : ℕ} {old now : List ℕ}
+    → Copying m words level c whole start old rows free now → TakesPair rows others place slot → CanCopyNext m words place level c slot free (length now)
+copying_first {m} {words} {level} {c} {whole} {rows} {others} {place} {slot} {start} {free} {old} {now} so_far takes =
+    let s = split_first m place (places_in others.from) level c free (length now) (left_at takes so_far.can) in
+    record {
+      there = s.first;
+      content = ap (slice_get m) takes.in_segment ∙ so_far.can.content (some_left takes.from.places_are);
+      behind = omega (arith, takes.before, so_far.can.before);
+      within = omega (arith, takes.before, so_far.can.before, s.first.fits);
+    }
+
+pub copying_next : {m : List (List ℕ)} {words : List ℕ} {level : ℕ} {c : Bool} {whole rows others : RowPair} {place : Place} {slot start free : ℕ} {old now mid new : List ℕ} {inner : Copied}
+    → Copying m words level c whole start old rows free now → TakesPair rows others place slot → Copies m place c (free - (slot + 1)) free now mid inner → length mid ≡ length now
+    → new ≡ put slot (inner.pointer ∷ []) mid → length new ≡ length mid → Copying m words level c whole start old others inner.next new
+copying_next {m} {words} {level} {c} {whole} {rows} {others} {place} {slot} {start} {free} {old} {now} {mid} {new} {inner} so_far takes copied mid_long new_is new_long =
+    let left = left_at takes so_far.can in
+    let s = split_first m place (places_in others.from) level c free (length now) left in
+    let next_is : inner.next ≡ free + total_words (formed c s.first.trees) = (copied.is s.first.trees s.first.charge s.first.stand).next_is in
+    record {
+      can = record {
+        there = record {
+          trees = s.behind.trees;
+          charge = s.behind.charge;
+          stand = s.behind.stand;
+          shallow = s.behind.shallow;
+          rooms = s.behind.rooms;
+          fits = omega (arith, s.behind.fits, next_is, mid_long, new_long);
+        };
+        content = λ some. ap (slice_get m) takes.same_segment ∙ so_far.can.content (some_left takes.from.places_are);
+        as_many = omega (arith, so_far.can.as_many, ap length takes.from.places_are, takes.as_many);
+        before = omega (arith, takes.same_end, so_far.can.before, next_is);
+      };
+      long = new_long ∙ mid_long ∙ so_far.long;
+      ends = λ last after rest.
+          let both = copies_both left copied new_is rest in
+          so_far.ends last after (subst (λ (l : List Place). CopiesAll m l c (slots_in rows.to) free now last after) (sym takes.from.places_are)
+          (subst (λ (l : List ℕ). CopiesAll m (place ∷ places_in others.from) c l free now last after) (sym takes.slots_are) both));
+    }
+
+pub copying_ends : {m : List (List ℕ)} {words : List ℕ} {level : ℕ} {c : Bool} {whole rows : RowPair} {start free : ℕ} {old now : List ℕ}
+    → Copying m words level c whole start old rows free now → places_in rows.from ≡ [] → CopiesAll m (places_in whole.from) c (slots_in whole.to) start old now free
+copying_ends {free = free} {now = now} so_far done = so_far.ends now free (copies_none done refl)
+
+-- rows by the places and the slots that they go over
+pub paired : {rows : RowPair} {at : List Place} {segment : ℕ} {slots : List ℕ} {end : ℕ} → places_in rows.from ≡ at → slots_in rows.to ≡ slots → length at ≡ length (places_in rows.to)
+    → rows.from.next.segment ≡ segment → end_of rows.to ≤ end → ArePaired rows at segment slots end
+paired {rows} {at} {segment} {slots} {end} places_are slots_are many segment_is ends = record {
+  can = λ m words level c next room can content behind. record {
+    there = subst (λ (l : List Place). CanCopy m l level c next room) (sym places_are) can;
+    content = λ some. ap (slice_get m) segment_is ∙ content (subst (λ (l : List Place). l ≢ []) places_are some);
+    as_many = ap length places_are ∙ many;
+    before = omega arith;
+  };
+  copied = λ m c next old new free done. subst (λ (l : List ℕ). CopiesAll m at c l next old new free) slots_are
+      (subst (λ (l : List Place). CopiesAll m l c (slots_in rows.to) next old new free) places_are done);
+}

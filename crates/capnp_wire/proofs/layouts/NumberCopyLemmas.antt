@@ -1,18 +1,15 @@
 -- A list of numbers that is copied: nothing is below it.
-use Rattle.std.proofs.Common.{◌≡◌, ℕ, ◌+◌, ◌-◌, Bool, List, [], ◌∷◌, length, sym, ◌∙◌, ap, arith}
+use Rattle.std.proofs.Common.{◌≡◌, ℕ, ◌+◌, ◌-◌, Bool, List, [], ◌∷◌, length, refl}
 use Rattle.capnp_wire.specs.Pointer.{words_of}
 use Rattle.capnp_wire.specs.Element.{code_of, width, words_for}
-use Rattle.capnp_wire.specs.Tree.{Trees, total_words}
 use Rattle.capnp_wire.specs.Landing.{IsObject}
 use Rattle.capnp_wire.specs.Near.{object_of}
-use Rattle.capnp_wire.specs.Reached.{At}
-use Rattle.capnp_wire.specs.Layout.{formed}
-use Rattle.capnp_wire.specs.Copy.{CanCopy, IsCopied, pointer_of_body, put_own}
+use Rattle.capnp_wire.specs.Copy.{CanCopy, Copies, pointer_of_body, put_own}
 use Rattle.capnp_wire.specs.declared.layout.place.Place.{Place}
 use Rattle.capnp_wire.specs.declared.layout.number_list.NumberList.{NumberList}
 use Rattle.capnp_wire.specs.declared.layout.object.Body.TheVariants.{Numbers}
-use Rattle.capnp_wire.proofs.layouts.CopyLemmas.{none_at, none_formed, fill_nothing}
-use Rattle.capnp_wire.proofs.layouts.CopiedLemmas.{opened_here, object_is_copied}
+use Rattle.capnp_wire.proofs.layouts.CopyLemmas.{copies_none}
+use Rattle.capnp_wire.proofs.layouts.CopiedLemmas.{opened_here, object_begins}
 use Rattle.capnp_wire.proofs.pointers.NearLemmas.{list_formed}
 use Rattle.capnp_wire.proofs.layouts.OpenLemmas.{Opened}
 
@@ -22,16 +19,11 @@ pub number_list_opened : {m : List (List ℕ)} {place : Place} {level : ℕ} {c 
 number_list_opened {c = c} list can is = opened_here can is (list_formed c (words_of list.segment.now) list.start.word (Numbers list.size list.count) tt)
 
 -- it holds no pointers, so its own words are its copy
-pub number_list_copied : {m : List (List ℕ)} {place : Place} {level : ℕ} {c : Bool} {gap next room free pointer : ℕ} {old new : List ℕ}
-    (list : NumberList) (can : CanCopy m (place ∷ []) level c next room)
-    → IsObject m place (object_of list) → length old ≡ room
-    → new ≡ put_own (words_of list.segment.now) list.start.word (Numbers list.size list.count) (Numbers list.size list.count) next old
-    → pointer ≡ pointer_of_body (Numbers list.size list.count) gap
+pub number_list_copied : {m : List (List ℕ)} {place : Place} {level : ℕ} {c : Bool} {gap next free pointer : ℕ} {old new : List ℕ}
+    (list : NumberList) (can : CanCopy m (place ∷ []) level c next (length old))
+    → IsObject m place (object_of list) → new ≡ put_own (words_of list.segment.now) list.start.word (Numbers list.size list.count) (Numbers list.size list.count) next old
+    → length new ≡ length old → pointer ≡ pointer_of_body (Numbers list.size list.count) gap
     → free ≡ next + words_for list.count (width (code_of list.size))
-    → (trees : Trees) (charge : ℕ) → At m (place ∷ []) trees charge → IsCopied (formed c trees) gap next old new (record { pointer = pointer; next = free })
-number_list_copied {m} {place} {level} {c} {gap} {next} {room} {free} {pointer} {old} {new} list can is long new_is pointer_is free_is =
-    let words = words_for list.count (width (code_of list.size)) in
-    object_is_copied can (number_list_opened list can is) long new_is
-    (λ trees charge stand. sym (fill_nothing (next + words) (formed c trees) new))
-    (λ trees charge stand. omega (arith, free_is, ap total_words (ap (formed c) (none_at m trees charge stand) ∙ none_formed c)))
-    pointer_is
+    → Copies m place c gap next old new (record { pointer = pointer; next = free })
+number_list_copied {free = free} {new = new} list can is new_is long pointer_is free_is =
+    (object_begins can (number_list_opened list can is) new_is long pointer_is).ends new free (copies_none refl free_is)

@@ -13,7 +13,7 @@ use Rattle.capnp_wire.specs.Layout.{formed, run, AllHaveRoom}
 use Rattle.capnp_wire.specs.Block.{put, fill}
 use Rattle.capnp_wire.specs.Near.{AreNull, struct_of}
 use Rattle.capnp_wire.specs.Charge.{WalkedAll}
-use Rattle.capnp_wire.specs.Copy.{CanCopy, IsCopied, least_size, formed_body, pointer_of_body}
+use Rattle.capnp_wire.specs.Copy.{CanCopy, Copies, least_size, formed_body, pointer_of_body}
 use Rattle.capnp_wire.specs.declared.layout.place.Place.{Place}
 use Rattle.capnp_wire.specs.declared.layout.near.NearStruct.{NearStruct}
 use Rattle.capnp_wire.specs.declared.layout.pointer.StructSize.{StructSize}
@@ -26,7 +26,7 @@ use Rattle.capnp_wire.proofs.words.UsedLemmas.{most_within}
 use Rattle.capnp_wire.proofs.forms.TightLemmas.{drop_first}
 use Rattle.capnp_wire.proofs.objects.ObjectLemmas.{one_tree}
 use Rattle.capnp_wire.proofs.pointers.NearLemmas.{word_there}
-use Rattle.capnp_wire.proofs.layouts.CopiedLemmas.{opened_here, object_is_copied}
+use Rattle.capnp_wire.proofs.layouts.CopiedLemmas.{opened_here, object_begins}
 use Rattle.capnp_wire.proofs.trees.StandLemmas.{within_none, less_none, counts_none}
 
 -- so many nulls
@@ -137,14 +137,14 @@ seam words start d e q (inr all_data) =
     ∙ ap (λ (k : ℕ). words_from words start e ++ words_from words (start + k) q) all_data
 
 -- Its words are its copy then.
-pub struct_of_nulls : {m : List (List ℕ)} {place : Place} {found : NearStruct} {size : StructSize} {level : ℕ} {c : Bool} {gap next room free pointer : ℕ} {old new : List ℕ}
-    (can : CanCopy m (place ∷ []) level c next room) → IsObject m place (struct_of found)
+pub struct_of_nulls : {m : List (List ℕ)} {place : Place} {found : NearStruct} {size : StructSize} {level : ℕ} {c : Bool} {gap next free pointer : ℕ} {old new : List ℕ}
+    (can : CanCopy m (place ∷ []) level c next (length old)) → IsObject m place (struct_of found)
     → Struct size ≡ formed_body c (words_of found.segment.now) found.start.word (Struct found.size) → size.data_words ≤ found.size.data_words → size.pointers ≤ found.size.pointers
-    → AreNull (words_of found.segment.now) (found.start.word + found.size.data_words) size.pointers → length old ≡ room
+    → AreNull (words_of found.segment.now) (found.start.word + found.size.data_words) size.pointers
     → new ≡ put next (words_from (words_of found.segment.now) found.start.word (size.data_words + size.pointers)) old
     → pointer ≡ pointer_of_body (Struct size) gap → free ≡ next + (size.data_words + size.pointers)
-    → (trees : Trees) (charge : ℕ) → At m (place ∷ []) trees charge → IsCopied (formed c trees) gap next old new (record { pointer = pointer; next = free })
-struct_of_nulls {m} {place} {found} {size} {level} {c} {gap} {next} {room} {free} {pointer} {old} {new} can is size_is less fewer are long new_is pointer_is free_is =
+    → Copies m place c gap next old new (record { pointer = pointer; next = free })
+struct_of_nulls {m} {place} {found} {size} {level} {c} {gap} {next} {free} {pointer} {old} {new} can is size_is less fewer are new_is pointer_is free_is =
     let words : List ℕ = words_of found.segment.now in
     let start : ℕ = found.start.word in
     let d : ℕ = found.size.data_words in
@@ -169,17 +169,17 @@ struct_of_nulls {m} {place} {found} {size} {level} {c} {gap} {next} {room} {free
     subst (λ (l : List Place). At m l trees charge) (append-nil (places found.start.segment (found.start.word + found.size.data_words) size.pointers)) stand in
     ap (formed c) (one_tree m (places found.start.segment (found.start.word + found.size.data_words) size.pointers) trees (nulls size.pointers) charge 0 plain there).0 ∙ nulls_formed c size.pointers in
     let put_data : length (put next (words_from (words_of found.segment.now) found.start.word size.data_words) old) ≡ length old =
-    length-put next (words_from (words_of found.segment.now) found.start.word size.data_words) old (omega (arith, o.kept.fits, long, long_data)) in
+    length-put next (words_from (words_of found.segment.now) found.start.word size.data_words) old (omega (arith, o.kept.fits, long_data)) in
     let filled : new ≡ fill (run (next + size.data_words) size.pointers) (next + (size.data_words + size.pointers)) (nulls size.pointers)
     (put next (words_from (words_of found.segment.now) found.start.word size.data_words) old) =
     new_is
     ∙ ap (λ (l : List ℕ). put next l old) (seam words start d e q (none_or_whole c words start found.size size size_is are))
-    ∙ sym (put_both next own (words_from words (start + d) q) old (omega (arith, o.kept.fits, long, long_data, length-take size.pointers (drop (found.start.word + found.size.data_words) (words_of found.segment.now)))))
+    ∙ sym (put_both next own (words_from words (start + d) q) old (omega (arith, o.kept.fits, long_data, length-take size.pointers (drop (found.start.word + found.size.data_words) (words_of found.segment.now)))))
     ∙ ap (λ (k : ℕ). put (next + k) (words_from words (start + d) q) (put next own old)) long_data
-    ∙ sym (nulls_filled words (start + d) q (next + e) (next + (e + q)) (put next own old) room_there are (omega (arith, put_data, o.kept.fits, long))) in
-    object_is_copied can o long refl
-    (λ trees charge stand.
-    filled ∙ ap (λ (l : List ℕ). fill l (next + (e + q)) (nulls q) (put next own old)) (sym (append-nil (run (next + e) q)))
-    ∙ ap (λ (t : Trees). fill (run (next + e) q ++ []) (next + (e + q)) t (put next own old)) (sym (held_is trees charge stand)))
-    (λ trees charge stand. omega (arith, free_is, ap total_words (held_is trees charge stand), no_words size.pointers))
-    pointer_is
+    ∙ sym (nulls_filled words (start + d) q (next + e) (next + (e + q)) (put next own old) room_there are (omega (arith, put_data, o.kept.fits))) in
+    (object_begins can o refl put_data pointer_is).ends new free (record {
+      words_are = λ trees charge stand.
+          filled ∙ ap (λ (l : List ℕ). fill l (next + (e + q)) (nulls q) (put next own old)) (sym (append-nil (run (next + e) q)))
+          ∙ ap (λ (t : Trees). fill (run (next + e) q ++ []) (next + (e + q)) t (put next own old)) (sym (held_is trees charge stand));
+      next_is = λ trees charge stand. omega (arith, free_is, ap total_words (held_is trees charge stand), no_words size.pointers);
+    })

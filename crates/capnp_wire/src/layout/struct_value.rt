@@ -6,7 +6,7 @@ ghost use Rattle.capnp_wire.specs.Object.{message_of};
 ghost use Rattle.capnp_wire.specs.Layout.{layout, formed};
 ghost use Rattle.capnp_wire.specs.Values.{HasWords, LacksWords, IsTreeOf, StopsInside, HoldsPointers, fields_at};
 
-use crate::layout::copy::copy_pointers;
+use crate::layout::copy_rows::copy_pointers;
 use crate::layout::formed::formed_as;
 use crate::layout::object::{Body, Object, words_fit};
 use crate::layout::own_words::put_own_words;

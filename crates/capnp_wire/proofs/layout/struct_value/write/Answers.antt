@@ -41,7 +41,7 @@ returns-clause-written g c limit trees is =
     c.requires.content (omega (arith, c.requires.room, length-words_of c.args.segment.now)) c.formed_as-copied.ensures.body full in
     struct_written m (words_of c.args.segment.now) c.args.start c.args.size c.formed_as-copied.result c.args.level c.args.canonical (length (words_of c.args.block.now)) full.trees (words_of c.args.block.now)
     (words_of c.put_own_words.new.block) (words_of c.copy_pointers.new.block) c.pointer_word.result o full.rooms full.words_are refl c.put_own_words.ensures.words
-    c.copy_pointers.ensures.words c.pointer_word.ensures
+    c.copy_pointers.ensures.copied.words_are c.pointer_word.ensures
     ∙ ap (λ (t : Trees). layout (formed c.args.canonical t)) (same_struct m (words_of c.args.segment.now) c.args.start c.args.size c.args.level c.requires.words.0 limit w.trees trees w.tree_is is)
 
 pub put_own_words-requires-clause-bound : goal.put_own_words-requires-clause-bound
@@ -53,4 +53,4 @@ copy_pointers-requires-clause-small g c = omega (arith, c.requires.words.1.few, 
 pub copy_pointers-requires-clause-content : goal.copy_pointers-requires-clause-content
 copy_pointers-requires-clause-content g c =
     struct_held (message_of (g.S.ReaderSegments.segments c.args.segments.now)) (words_of c.args.segment.now) c.args.start c.args.size _ c.requires.content
-    (fewer_pointers (Struct c.args.size) c.formed_as-copied.result c.formed_as-copied.ensures.narrower)
+    (fewer_pointers (Struct c.args.size) c.formed_as-copied.result c.formed_as-copied.ensures.narrower).0

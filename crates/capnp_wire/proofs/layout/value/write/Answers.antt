@@ -10,4 +10,4 @@ copy-requires-clause-there g c = can_copy (message_of (g.S.ReaderSegments.segmen
 pub returns-clause-written : goal.returns-clause-written
 returns-clause-written g c =
     written (message_of (g.S.ReaderSegments.segments c.args.segments.now)) c.args.place c.args.level c.args.canonical (g.T.BlockItem.as_words c.args.block.now) (g.T.BlockItem.as_words c.copy.new.block) c.copy.result.pointer c.requires
-    (λ trees charge stand. (c.copy.ensures.copied trees charge stand).words_are) (λ trees charge stand. (c.copy.ensures.copied trees charge stand).pointer_is)
+    (λ trees charge stand. (c.copy.ensures.copied.is trees charge stand).words_are) (λ trees charge stand. (c.copy.ensures.copied.is trees charge stand).pointer_is)

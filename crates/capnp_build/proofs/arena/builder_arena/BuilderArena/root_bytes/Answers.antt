@@ -32,7 +32,7 @@ pub returns-in_default-get : goal.returns-in_default-get
 returns-in_default-get g c =
     let spaces : List Space = c.self.inside.segments.spaces in
     let p : IsBuilt spaces (Some c.in-Some.spot) = subst (λ (o : Option Spot). IsBuilt spaces o) c.in-Some.is c.self.invariant in
-    absurd (got_none spaces c.in-Some.spot.segment (option_copied c.get.result) p.2.within c.get.ensures (ap option_copied c.in_default-get.is))
+    absurd (got_none spaces c.in-Some.spot.segment (option_copied c.get.result) p.2.body_is.within c.get.ensures (ap option_copied c.in_default-get.is))
 
 pub stretch-requires : goal.stretch-requires
 stretch-requires g c =
@@ -40,8 +40,8 @@ stretch-requires g c =
     let spot : Spot = c.in-Some.spot in
     let p : IsBuilt spaces (Some spot) = subst (λ (o : Option Spot). IsBuilt spaces o) c.in-Some.is c.self.invariant in
     let same : c.in-Some-get.used.now ≡ (space_at spaces spot.segment).used =
-    got_used spaces spot.segment (option_copied c.get.result) c.in-Some-get.used.now p.2.within c.get.ensures (ap option_copied c.in-Some-get.is) in
-    omega (arith, p.2.room, ap length same)
+    got_used spaces spot.segment (option_copied c.get.result) c.in-Some-get.used.now p.2.body_is.within c.get.ensures (ap option_copied c.in-Some-get.is) in
+    omega (arith, p.2.body_is.room, ap length same)
 
 pub returns : goal.returns
 returns g c = λ form held charge there.
@@ -49,7 +49,7 @@ returns g c = λ form held charge there.
     let spot : Spot = c.in-Some.spot in
     let p : IsBuilt spaces (Some spot) = subst (λ (o : Option Spot). IsBuilt spaces o) c.in-Some.is c.self.invariant in
     let same : c.in-Some-get.used.now ≡ (space_at spaces spot.segment).used =
-    got_used spaces spot.segment (option_copied c.get.result) c.in-Some-get.used.now p.2.within c.get.ensures (ap option_copied c.in-Some-get.is) in
+    got_used spaces spot.segment (option_copied c.get.result) c.in-Some-get.used.now p.2.body_is.within c.get.ensures (ap option_copied c.in-Some-get.is) in
     let low : (j : ℕ) → slice_index_or (space_at spaces spot.segment).used j 0 < 256 = subst (λ (l : List ℕ). (j : ℕ) → slice_index_or l j 0 < 256) same c.each_is_a_byte.ensures in
     subst (λ (l : List ℕ). HoldsForm l form) (sym c.stretch.ensures)
     (holds_there spaces spot c.in-Some-get.used.now p low same form held charge (subst (λ (v : Built g.row.A.Denot). Root (message v.spaces) form held charge) (sym c.self.view_is) there))

@@ -16,7 +16,7 @@ use Rattle.capnp_build.proofs.arena.builder_arena.BuilderArena.root_shown.Goals 
 shown_of : (spaces : List Space) (spot : Spot) (s : Shown) → IsBuilt spaces (Some spot) → ((form : Form) (n : ℕ) → HasRoom form n → spot.tag ≡ pointer form n 0 → Shows s form)
     → (form : Form) (held : Trees) (charge : ℕ) → Root (message spaces) form held charge → Shows s form
 shown_of spaces spot s p read form held charge there =
-    let r = laid_as spaces spot p.0 form p.1 held charge p.2 there in read form (count held) r.rooms.0 r.tag
+    let r = laid_as spaces spot p.0 form p.1 held charge p.2 there in read form (count held) r.body_is.rooms.0 r.body_is.tag
 
 pub returns-in-None-clause-form : goal.returns-in-None-clause-form
 returns-in-None-clause-form g c = λ form held charge there.
@@ -35,4 +35,4 @@ returns-in-Some-clause-stands g c =
     let spaces : List Space = c.self.inside.segments.spaces in
     let p : IsBuilt spaces (Some c.in-Some.spot) = subst (λ (o : Option Spot). IsBuilt spaces o) c.in-Some.is c.self.invariant in
     subst (λ (v : Built g.row.A.Denot). IsShown c.read_tag.result v.spaces) c.self.view_is
-    (shown_there spaces c.in-Some.spot c.read_tag.result p.0 p.1 p.2 (c.read_tag.ensures p.0 (count p.1) p.2.rooms.0 p.2.tag))
+    (shown_there spaces c.in-Some.spot c.read_tag.result p.0 p.1 p.2 (c.read_tag.ensures p.0 (count p.1) p.2.body_is.rooms.0 p.2.body_is.tag))

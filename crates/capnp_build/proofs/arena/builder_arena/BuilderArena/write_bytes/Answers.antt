@@ -24,7 +24,7 @@ pub returns-in_default-get : goal.returns-in_default-get
 returns-in_default-get g c =
     let spaces : List Space = c.self.inside.segments.spaces in
     let p : IsBuilt spaces (Some c.in-Some.spot) = subst (λ (o : Option Spot). IsBuilt spaces o) c.in-Some.is c.self.invariant in
-    absurd (got_none spaces c.in-Some.spot.segment (option_copied c.get.result) p.2.within c.get.ensures (ap option_copied c.in_default-get.is))
+    absurd (got_none spaces c.in-Some.spot.segment (option_copied c.get.result) p.2.body_is.within c.get.ensures (ap option_copied c.in_default-get.is))
 
 pub write_at-requires-clause-room : goal.write_at-requires-clause-room
 write_at-requires-clause-room g c =
@@ -41,7 +41,7 @@ invariant_of-self g c =
     let w : List ℕ = c.args.bytes.now in
     let f : HasBytes spaces c.args.index (length w) = subst (λ (v : Built g.row.A.Denot). HasBytes v.spaces c.args.index (length w)) (sym c.self.view_is) c.requires in
     let p : IsBuilt spaces (Some spot) = subst (λ (o : Option Spot). IsBuilt spaces o) c.in-Some.is c.self.invariant in
-    let low = got_low spaces spot.segment (option_copied c.get.result) c.in-Some-get.used.now p.2.within c.get.ensures (ap option_copied c.in-Some-get.is) c.each_is_a_byte.ensures in
+    let low = got_low spaces spot.segment (option_copied c.get.result) c.in-Some-get.used.now p.2.body_is.within c.get.ensures (ap option_copied c.in-Some-get.is) c.each_is_a_byte.ensures in
     subst (λ (o : Option Spot). IsBuilt c.write_at.new.self.spaces o) (sym c.in-Some.is)
     (bytes_rewritten spaces c.write_at.new.self.spaces spot c.args.index w f p low c.each_is_a_byte-2.ensures (ap (λ (h : Held g.row.A.Denot). h.spaces) c.write_at.ensures))
 
@@ -52,7 +52,7 @@ returns g c =
     let w : List ℕ = c.args.bytes.now in
     let f : HasBytes spaces c.args.index (length w) = subst (λ (v : Built g.row.A.Denot). HasBytes v.spaces c.args.index (length w)) (sym c.self.view_is) c.requires in
     let p : IsBuilt spaces (Some spot) = subst (λ (o : Option Spot). IsBuilt spaces o) c.in-Some.is c.self.invariant in
-    let low = got_low spaces spot.segment (option_copied c.get.result) c.in-Some-get.used.now p.2.within c.get.ensures (ap option_copied c.in-Some-get.is) c.each_is_a_byte.ensures in
+    let low = got_low spaces spot.segment (option_copied c.get.result) c.in-Some-get.used.now p.2.body_is.within c.get.ensures (ap option_copied c.in-Some-get.is) c.each_is_a_byte.ensures in
     let new : Built g.row.A.Denot = record { spaces = c.write_at.new.self.spaces; spot = c.self.inside.spot; allocator = c.write_at.new.self.allocator } in
     record {
       set = subst (λ (v : Built g.row.A.Denot). IsBytesSet v.spaces c.write_at.new.self.spaces c.args.index w) c.self.view_is

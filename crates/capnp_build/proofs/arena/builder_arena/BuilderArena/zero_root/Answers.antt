@@ -20,7 +20,7 @@ use Rattle.capnp_build.proofs.arena.builder_arena.BuilderArena.zero_root.Goals a
 -- the body's zeros lie in its segment
 fits : (spaces : List Space) (spot : Spot) (form : Form) (held : Trees) → IsLaid spaces spot form held
     → 8 * spot.start + length {A = ℕ} (replicate (8 * spot.start + 8 * spot.words - 8 * spot.start) 0) ≤ length (space_at spaces spot.segment).used
-fits spaces spot form held r = omega (arith, r.room, length-replicate {A = ℕ} (8 * spot.start + 8 * spot.words - 8 * spot.start) 0)
+fits spaces spot form held r = omega (arith, r.body_is.room, length-replicate {A = ℕ} (8 * spot.start + 8 * spot.words - 8 * spot.start) 0)
 
 pub returns-in-Some-clause-null_word : goal.returns-in-Some-clause-null_word
 returns-in-Some-clause-null_word g c =
@@ -96,7 +96,7 @@ returns-in-Some-clause-zero g c =
     let same : c.args.self.now.spot ≡ Some spot = ap (λ (v : Built g.row.A.Denot). v.spot) (sym c.self.view_is) ∙ c.in-Some.is in
     subst (λ (o : Option Spot). MatchOption o ⊤ (IsZeroAt c.zero-in-Some.new.self.spaces)) (sym same)
     (wiped spaces c.zero.new.self.spaces c.zero-in-Some.new.self.spaces spot.segment (8 * spot.start) (8 * spot.words) (8 * spot.start + 8 * spot.words - 8 * spot.start)
-    p.2.within (omega (arith, p.2.behind)) (omega arith) (omega (arith, p.2.room))
+    p.2.body_is.within (omega (arith, p.2.body_is.behind)) (omega arith) (omega (arith, p.2.body_is.room))
     (ap (λ (h : Held g.row.A.Denot). h.spaces) c.zero.ensures) (ap (λ (h : Held g.row.A.Denot). h.spaces) c.zero-in-Some.ensures))
 
 pub returns-in_err-add-clause-home : goal.returns-in_err-add-clause-home

@@ -1,0 +1,30 @@
+-- How far the copying of what an object's pointers lead to has come.
+use Rattle.std.proofs.Common.{◌+◌, ◌*◌, length}
+use Rattle.capnp_wire.specs.Pointer.{words_of}
+use Rattle.capnp_wire.specs.Object.{message_of}
+use Rattle.capnp_wire.specs.Rows.{places_in}
+use Rattle.capnp_wire.proofs.layouts.CopyLemmas.{Copying}
+use Rattle.capnp_wire.proofs.layout.+copy.Given as goal
+
+abbrev pub decreases-copy::copy : goal.decreases-copy::copy
+decreases-copy::copy g l = 5 * l.level
+
+abbrev pub decreases-copy::copy_target : goal.decreases-copy::copy_target
+decreases-copy::copy_target g l = 5 * l.level + 1
+
+abbrev pub decreases-copy_rows::copy_rows : goal.decreases-copy_rows::copy_rows
+decreases-copy_rows::copy_rows g l = 5 * l.level + 2
+
+abbrev pub decreases-copy_rows::copy_run : goal.decreases-copy_rows::copy_run
+decreases-copy_rows::copy_run g l = 5 * l.level + 3
+
+abbrev pub decreases-copy_rows::copy_pointers : goal.decreases-copy_rows::copy_pointers
+decreases-copy_rows::copy_pointers g l = 5 * l.level + 4
+
+abbrev pub invariant-copy_rows::copy_rows-pointers : goal.invariant-copy_rows::copy_rows-pointers
+invariant-copy_rows::copy_rows-pointers g l =
+    Copying (message_of (g.S.ReaderSegments.segments l.segments)) (words_of l.segment) l.level l.canonical l.fn.rows l.fn.next (g.T.BlockItem.as_words l.fn.block) l.rows l.free
+    (g.T.BlockItem.as_words l.block)
+
+abbrev pub decreases-copy_rows::copy_rows-pointers : goal.decreases-copy_rows::copy_rows-pointers
+decreases-copy_rows::copy_rows-pointers g l = length (places_in l.rows.from)

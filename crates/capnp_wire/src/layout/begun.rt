@@ -1,0 +1,149 @@
+//! Copies that are begun: an object's own words stand in the block, and its pointers are left.
+ghost use Rattle.std.specs.Prelude.{◌≡◌, ◌+◌, ◌-◌, ◌^◌, ◌<◌, ◌≤◌, Bool, ℕ, List, [], ◌∷◌, length, MatchOption};
+ghost use Rattle.capnp_wire.specs.Pointer.{words_of};
+ghost use Rattle.capnp_wire.specs.Object.{message_of};
+ghost use Rattle.capnp_wire.specs.Landing.{IsObject};
+ghost use Rattle.capnp_wire.specs.Near.{object_of, struct_of};
+ghost use Rattle.capnp_wire.specs.Copy.{CanCopy, Copies, IsCopyable, BeginsObject, BeginsStruct};
+ghost use Rattle.capnp_wire.specs.declared.layout.copy.Copied.{Copied};
+
+use crate::layout::block::{BlockItem, put_elements, put_words};
+use crate::layout::copy::Copied;
+use crate::layout::formed::formed_as;
+use crate::layout::near::NearStruct;
+use crate::layout::number_list::NumberList;
+use crate::layout::object::{Body, Object, object_there};
+use crate::layout::own_words::put_own_words;
+use crate::layout::place::Place;
+use crate::layout::pointer_word::{list_word, pointer_word, struct_pointer_word};
+use capnp_frame::message::ReaderSegments;
+
+/// An object whose copy is begun, what it is once it is copied, and the pointer to it.
+#[derive(Drop)]
+pub(crate) struct BegunCopy<'a> {
+    pub object: Object<'a>,
+    pub body: Body,
+    pub pointer: u64,
+}
+
+/// The copy of a struct.
+#[derive(Clone, Copy)]
+pub(crate) enum StructCopy {
+    Whole(Copied),
+    Begun(LeftRun),
+}
+
+/// The pointer to a struct's copy, and what is left of that: so many pointers, whose copies stand
+/// one behind the other. What they lead to goes from the word `next` on.
+#[derive(Clone, Copy)]
+pub(crate) struct LeftRun {
+    pub pointer: u64,
+    pub first: Place,
+    pub count: u32,
+    pub slot: usize,
+    pub next: usize,
+}
+
+/// Begins the copy of the object that the pointer at a place leads to, at the word `next` of a block;
+/// `None` for null. The pointer to the copy stands just before the word `behind`.
+#[inline(always)]
+pub(crate) fn begin<'a, S: ReaderSegments, T: BlockItem>(
+    segments: &'a S,
+    place: Place,
+    level: u32,
+    canonical: bool,
+    block: &mut [T],
+    behind: usize,
+    next: usize,
+) -> Option<BegunCopy<'a>>
+    requires there { CanCopy (message_of (S.segments segments.now)) (place ∷ []) level canonical
+        next (length (T.as_words block.old)) }
+    requires behind { behind ≤ next }
+    requires small { length (T.as_words block.old) < 2 ^ 29 }
+    ensures begun { let m = message_of (S.segments segments.now) in
+        let gap = next - behind in
+        let nothing : Copied = record { pointer = 0; next = next } in
+        MatchOption result
+        (Copies m place canonical gap next (T.as_words block.old) (T.as_words block.new) nothing)
+        (λ begun. BeginsObject m place level canonical gap next
+        (T.as_words block.old) (T.as_words block.new) begun) }
+    ensures len { length (T.as_words block.new) ≡ length (T.as_words block.old) }
+{
+    let Some(object) = object_there(segments, place, level) else {
+        return None;
+    };
+    let body = formed_as(&object, canonical);
+    put_own_words(&object, body, block, next);
+    let pointer = pointer_word(body, (next - behind) as u64);
+    Some(BegunCopy {
+        object,
+        body,
+        pointer,
+    })
+}
+
+/// Begins the copy of a struct in the same way, which is whole where the pointers that it keeps are null.
+#[inline(always)]
+pub(crate) fn begin_struct<T: BlockItem>(
+    found: &NearStruct<'_>,
+    canonical: bool,
+    block: &mut [T],
+    behind: usize,
+    next: usize,
+) -> StructCopy
+    requires there { IsCopyable (struct_of found.now) canonical
+        next (length (T.as_words block.old)) }
+    requires behind { behind ≤ next }
+    requires small { length (T.as_words block.old) < 2 ^ 29 }
+    ensures begun { (m : List (List ℕ)) (place : Place) (level : ℕ) →
+        CanCopy m (place ∷ []) level canonical next (length (T.as_words block.old)) →
+        IsObject m place (struct_of found.now) →
+        BeginsStruct m place (words_of found.now.segment.now) level canonical
+        (next - behind) next (T.as_words block.old) (T.as_words block.new) result }
+    ensures len { length (T.as_words block.new) ≡ length (T.as_words block.old) }
+{
+    let size = found.formed(canonical);
+    let words = size.words() as usize;
+    let pointer = struct_pointer_word(size, (next - behind) as u64);
+    if found.holds_nulls(size.pointers) {
+        put_words(block, next, found.segment, found.start.word, words);
+        return StructCopy::Whole(Copied {
+            pointer,
+            next: next + words,
+        });
+    }
+    let data_words = size.data_words as usize;
+    put_words(block, next, found.segment, found.start.word, data_words);
+    StructCopy::Begun(LeftRun {
+        pointer,
+        first: found.first_pointer(),
+        count: size.pointers as u32,
+        slot: next + data_words,
+        next: next + words,
+    })
+}
+
+/// Copies a list of numbers, which holds no pointers, in the same way.
+#[inline(always)]
+pub(crate) fn copy_list<T: BlockItem>(
+    list: &NumberList<'_>,
+    block: &mut [T],
+    behind: usize,
+    next: usize,
+) -> Copied
+    requires there { (canonical : Bool)
+        × IsCopyable (object_of list.now) canonical next (length (T.as_words block.old)) }
+    requires behind { behind ≤ next }
+    requires small { length (T.as_words block.old) < 2 ^ 29 }
+    ensures copied { (m : List (List ℕ)) (place : Place) (level : ℕ) (canonical : Bool) →
+        CanCopy m (place ∷ []) level canonical next (length (T.as_words block.old)) →
+        IsObject m place (object_of list.now) → Copies m place canonical
+        (next - behind) next (T.as_words block.old) (T.as_words block.new) result }
+    ensures len { length (T.as_words block.new) ≡ length (T.as_words block.old) }
+{
+    put_elements(block, next, list);
+    Copied {
+        pointer: list_word((next - behind) as u64, list.size.code(), list.count as u64),
+        next: next + list.words() as usize,
+    }
+}

@@ -1,0 +1,144 @@
+//! Copies of what the pointers of an object lead to, row by row.
+ghost use Rattle.std.specs.Prelude.{◌≡◌, ◌≢◌, ◌+◌, ◌/◌, ◌^◌, ◌<◌, ◌≤◌, [], length, slice_get, Some};
+ghost use Rattle.capnp_wire.specs.Pointer.{words_of};
+ghost use Rattle.capnp_wire.specs.Object.{message_of, places};
+ghost use Rattle.capnp_wire.specs.Landing.{room_of, words_in};
+ghost use Rattle.capnp_wire.specs.Layout.{run};
+ghost use Rattle.capnp_wire.specs.Rows.{row_size, kept_in, slots_of, places_in, slots_in};
+ghost use Rattle.capnp_wire.specs.Copy.{CanCopy, CanCopyRows, CopiesAll, IsNarrower};
+
+use crate::layout::block::{BlockItem, put_word};
+use crate::layout::copy::copy_target;
+use crate::layout::object::{Body, Object, words_fit};
+use crate::layout::place::Place;
+use crate::layout::row_pair::RowPair;
+use capnp_frame::message::ReaderSegments;
+
+/// Copies what the pointers of an object lead to, one behind the other behind its own copy, which
+/// begins at the word `next`, and puts the pointers to these copies into that. Answers the first
+/// free word.
+#[inline(always)]
+#[cycle(copy)]
+pub(crate) fn copy_pointers<S: ReaderSegments, T: BlockItem>(
+    segments: &S,
+    object: &Object<'_>,
+    copied: Body,
+    level: u32,
+    canonical: bool,
+    block: &mut [T],
+    next: usize,
+) -> usize
+    requires there { CanCopy (message_of (S.segments segments.now))
+        (kept_in object.now.start object.now.body (row_size copied).pointers)
+        level canonical (next + words_in copied) (length (T.as_words block.old)) }
+    requires content { let m = message_of (S.segments segments.now) in
+        kept_in object.now.start object.now.body (row_size copied).pointers ≢ [] →
+        slice_get m object.now.start.segment ≡ Some (words_of object.now.segment.now) }
+    requires narrower { IsNarrower object.now.body copied }
+    requires room { object.now.start.word + room_of object.now.body
+        ≤ length object.now.segment.now / 8 }
+    requires elements { words_in object.now.body ≤ room_of object.now.body }
+    requires small { length (T.as_words block.old) < 2 ^ 29 }
+    ensures copied { CopiesAll (message_of (S.segments segments.now))
+        (kept_in object.now.start object.now.body (row_size copied).pointers) canonical
+        (slots_of next copied) (next + words_in copied)
+        (T.as_words block.old) (T.as_words block.new) result }
+    ensures len { length (T.as_words block.new) ≡ length (T.as_words block.old) }
+{
+    if let Body::Pointers(count) = object.body {
+        words_fit(object.segment);
+        return copy_run(
+            segments,
+            object.segment,
+            object.start,
+            count,
+            level,
+            canonical,
+            block,
+            next,
+            next + count as usize,
+        );
+    }
+    let free = next + copied.words() as usize;
+    let rows = RowPair::of(object, copied, next);
+    copy_rows(
+        segments,
+        object.segment,
+        rows,
+        level,
+        canonical,
+        block,
+        free,
+    )
+}
+
+// Copies what these pointers of a segment lead to, one behind the other from the word `next` on, and
+// puts the pointers to these copies into their slots. Answers the first free word.
+#[inline(always)]
+#[cycle(copy)]
+fn copy_rows<S: ReaderSegments, T: BlockItem>(
+    segments: &S,
+    segment: &[u8],
+    mut rows: RowPair,
+    level: u32,
+    canonical: bool,
+    block: &mut [T],
+    next: usize,
+) -> usize
+    requires there { CanCopyRows (message_of (S.segments segments.now)) (words_of segment.now) rows
+        level canonical next (length (T.as_words block.old)) }
+    requires small { length (T.as_words block.old) < 2 ^ 29 }
+    ensures copied { CopiesAll (message_of (S.segments segments.now)) (places_in rows.from) canonical
+        (slots_in rows.to) next (T.as_words block.old) (T.as_words block.new) result }
+    ensures len { length (T.as_words block.new) ≡ length (T.as_words block.old) }
+{
+    let mut free = next;
+    'pointers: while !rows.is_empty() {
+        let (source, slot) = rows.take();
+        let inner = copy_target(
+            segments,
+            segment,
+            source,
+            level,
+            canonical,
+            block,
+            slot + 1,
+            free,
+        );
+        put_word(block, slot, inner.pointer);
+        free = inner.next;
+    }
+    free
+}
+
+// As `copy_rows`, of so many pointers that stand one behind the other, as their copies do. All that
+// it is told fits registers.
+#[cycle(copy)]
+pub(crate) fn copy_run<S: ReaderSegments, T: BlockItem>(
+    segments: &S,
+    segment: &[u8],
+    first: Place,
+    count: u32,
+    level: u32,
+    canonical: bool,
+    block: &mut [T],
+    slot: usize,
+    next: usize,
+) -> usize
+    requires bound { first.word + count < 2 ^ 61 }
+    requires there { CanCopy (message_of (S.segments segments.now))
+        (places first.segment first.word count) level canonical
+        next (length (T.as_words block.old)) }
+    requires content { places first.segment first.word count ≢ [] →
+        slice_get (message_of (S.segments segments.now)) first.segment
+        ≡ Some (words_of segment.now) }
+    requires before { slot + count ≤ next }
+    requires small { length (T.as_words block.old) < 2 ^ 29 }
+    ensures copied { CopiesAll (message_of (S.segments segments.now))
+        (places first.segment first.word count) canonical (run slot count) next
+        (T.as_words block.old) (T.as_words block.new) result }
+    ensures len { length (T.as_words block.new) ≡ length (T.as_words block.old) }
+{
+    let rows = RowPair::run(first, count, slot);
+    copy_rows(segments, segment, rows, level, canonical, block, next)
+}

@@ -1,0 +1,80 @@
+//! The pointers of an object beside those of its copy.
+ghost use Rattle.std.specs.Prelude.{◌≡◌, ◌≢◌, ◌↔◌, ◌+◌, ◌/◌, ◌^◌, ◌<◌, ◌≤◌, [], length, IsTrue};
+ghost use Rattle.capnp_wire.specs.Object.{places};
+ghost use Rattle.capnp_wire.specs.Landing.{room_of, words_in};
+ghost use Rattle.capnp_wire.specs.Layout.{run};
+ghost use Rattle.capnp_wire.specs.Rows.{row_size, kept_in, slots_of, places_in};
+ghost use Rattle.capnp_wire.specs.Copy.{IsNarrower, ArePaired, TakesPair};
+
+use crate::layout::object::{Body, Object, words_fit};
+use crate::layout::place::Place;
+use crate::layout::rows::PointerRows;
+
+/// The pointers that are left to copy, and the slots of their copies.
+#[derive(Drop)]
+pub(crate) struct RowPair {
+    from: PointerRows,
+    to: PointerRows,
+}
+
+impl RowPair {
+    /// The pointers of an object that its copy keeps, which begins at the word `next` of a block.
+    #[inline(always)]
+    pub(crate) fn of(object: &Object<'_>, copied: Body, next: usize) -> RowPair
+        requires narrower { IsNarrower object.now.body copied }
+        requires room { object.now.start.word + room_of object.now.body
+            ≤ length object.now.segment.now / 8 }
+        requires elements { words_in object.now.body ≤ room_of object.now.body }
+        requires bound { next + words_in copied < 2 ^ 61 }
+        ensures { let q = (row_size copied).pointers in
+            ArePaired result (kept_in object.now.start object.now.body q)
+            object.now.start.segment (slots_of next copied) (next + words_in copied) }
+    {
+        words_fit(object.segment);
+        let kept = copied.row_size().pointers;
+        let begin = Place {
+            segment: 0,
+            word: next,
+        };
+        let from = PointerRows::of(object.start, object.body, kept);
+        let to = PointerRows::of(begin, copied, kept);
+        RowPair { from, to }
+    }
+
+    /// So many pointers, one behind the other, as their slots are.
+    #[inline(always)]
+    pub(crate) fn run(first: Place, count: u32, slot: usize) -> RowPair
+        requires there { first.word + count < 2 ^ 61 }
+        requires room { slot + count < 2 ^ 61 }
+        ensures { ArePaired result (places first.segment first.word count)
+            first.segment (run slot count) (slot + count) }
+    {
+        let begin = Place {
+            segment: 0,
+            word: slot,
+        };
+        let from = PointerRows::run(first, count);
+        let to = PointerRows::run(begin, count);
+        RowPair { from, to }
+    }
+
+    /// Whether no pointer is left.
+    #[inline(always)]
+    pub(crate) fn is_empty(&self) -> bool
+        ensures { IsTrue result ↔ (places_in self.now.from ≡ []) }
+    {
+        self.from.is_empty()
+    }
+
+    /// Where the next pointer stands, and its slot, which are not left then.
+    #[inline(always)]
+    pub(crate) fn take(&mut self) -> (Place, usize)
+        requires some { places_in self.old.from ≢ [] }
+        requires as_many { length (places_in self.old.from) ≡ length (places_in self.old.to) }
+        ensures { TakesPair self.old self.new result.0 result.1 }
+    {
+        let source = self.from.take();
+        let slot = self.to.take().word;
+        (source, slot)
+    }
+}
