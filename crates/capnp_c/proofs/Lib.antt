@@ -1,3 +1,5 @@
 -- The lemmas.
 pub mod FrontLemmas
+pub mod MessageLemmas
 pub mod PackedLemmas
+pub mod PiecesLemmas
