@@ -31,8 +31,7 @@ front_table bytes segments rest front =
     let long = length-table table (lengths segments) frame.lengths_told in
     let many = length-lengths segments in
     let size : length table ≡ table_size (length segments) = omega arith in
-    let spelled : bytes ≡ table ++ (concat segments ++ rest) = front.spelled ∙ ap (λ l. l ++ rest) frame.spelled ∙ append_assoc table (concat segments) rest in
-    (
+    let spelled : bytes ≡ table ++ (concat segments ++ rest) = front.spelled ∙ ap (λ l. l ++ rest) frame.spelled ∙ append_assoc table (concat segments) rest in (
       ap (take (table_size (length segments))) spelled ∙ take_at table (concat segments ++ rest) (table_size (length segments)) size
           ∙ zero_table table (lengths segments) frame.lengths_told,
       omega (arith, ap length spelled, length-append table (concat segments ++ rest), length-append (concat segments) rest),

@@ -88,11 +88,7 @@ fn table_of<'a>(framed: &'a [u8], segments: &NoAllocSliceSegments<'a>) -> &'a [u
 }
 
 // Packs the first word of a table, its other words, and each segment into a sink.
-fn pack_pieces<W: Write, S: ReaderSegments>(
-    sink: &mut W,
-    table: &[u8],
-    segments: &S,
-) -> Result<()>
+fn pack_pieces<W: Write, S: ReaderSegments>(sink: &mut W, table: &[u8], segments: &S) -> Result<()>
     requires word { 8 ≤ length table.now }
     requires few { length (S.segments segments.now) < 2 ^ 32 }
     ensures { PacksPieces W.Write sink.old sink.new

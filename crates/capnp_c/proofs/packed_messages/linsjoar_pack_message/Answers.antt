@@ -16,14 +16,14 @@ returns-in-Err-clause-refused c kind refused = c.number.ensures ∙ ap number_of
 pub returns-in-Ok-pack_pieces-clause-packed : goal.returns-in-Ok-pack_pieces-clause-packed
 returns-in-Ok-pack_pieces-clause-packed c zero =
     let own = c.in-Ok.segments.segments in
-    let text = message_alone own c.table_of.result.now _ _ _ _ c.table_of.ensures.table c.new-text.ensures.used c.in-Ok-pack_pieces.ensures.packed in
+    let text = message_alone own c.table_of-table.result.now _ _ _ _ c.table_of-table.ensures.table c.new-text.ensures.used c.in-Ok-pack_pieces.ensures.packed in
     (own, c.in-Ok.ensures.whole, search (rules, text))
 
 pub returns-in-Ok-pack_pieces-clause-short : goal.returns-in-Ok-pack_pieces-clause-short
 returns-in-Ok-pack_pieces-clause-short c segments text message packed short =
     let own = c.in-Ok.segments.segments in
     let same : own ≡ segments = one_front c.args.framed.now [] [] own segments c.in-Ok.ensures.whole message in
-    let written = message_alone own c.table_of.result.now _ _ _ _ c.table_of.ensures.table c.new-text.ensures.used c.in-Ok-pack_pieces.ensures.packed in
+    let written = message_alone own c.table_of-table.result.now _ _ _ _ c.table_of-table.ensures.table c.new-text.ensures.used c.in-Ok-pack_pieces.ensures.packed in
     absurd (message_fits own text _ c.len.result (subst (λ s. IsPackedText text s) (sym same) packed) short (search (rules, written)))
 
 pub returns-in-Ok-pack_pieces-clause-trailing : goal.returns-in-Ok-pack_pieces-clause-trailing
@@ -37,7 +37,7 @@ pub returns-in-Err-pack_pieces-clause-accepted : goal.returns-in-Err-pack_pieces
 returns-in-Err-pack_pieces-clause-accepted c segments text message packed fits =
     let own = c.in-Ok.segments.segments in
     let same : own ≡ segments = one_front c.args.framed.now [] [] own segments c.in-Ok.ensures.whole message in
-    let parts = text_of_parts own c.table_of.result.now text c.table_of.ensures.table (subst (λ s. IsPackedText text s) (sym same) packed) in
+    let parts = text_of_parts own c.table_of-table.result.now text c.table_of-table.ensures.table (subst (λ s. IsPackedText text s) (sym same) packed) in
     let block : length text ≤ length c.pack_pieces.new.sink.block.now = search (rules, fits) in
     let kept = c.in-Err-pack_pieces.ensures.grows.same_sink.1 in
     let room : c.new-text.result.used + (length text + 0) ≤ length c.new-text.result.block.now = omega (arith, block, kept, c.new-text.ensures.used) in
@@ -48,7 +48,7 @@ returns-in-Err-pack_pieces-clause-short c segments text message packed short =
     let own = c.in-Ok.segments.segments in
     let same : own ≡ segments = one_front c.args.framed.now [] [] own segments c.in-Ok.ensures.whole message in
     let told = c.in-Err-pack_pieces.ensures in
-    c.number-in-Err-pack_pieces.ensures ∙ ap number_of (message_refused own c.table_of.result.now text _ c.table_of.ensures.table
+    c.number-in-Err-pack_pieces.ensures ∙ ap number_of (message_refused own c.table_of-table.result.now text _ c.table_of-table.ensures.table
     (subst (λ s. IsPackedText text s) (sym same) packed) told.refused told.failed)
 
 pub returns-in-Err-pack_pieces-clause-trailing : goal.returns-in-Err-pack_pieces-clause-trailing
