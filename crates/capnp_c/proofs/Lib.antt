@@ -3,3 +3,4 @@ pub mod FrontLemmas
 pub mod MessageLemmas
 pub mod PackedLemmas
 pub mod PiecesLemmas
+pub mod UnpackedLemmas

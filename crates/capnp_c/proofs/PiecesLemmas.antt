@@ -4,7 +4,6 @@ use Rattle.std.proofs.lemmas.List.{take-append-drop}
 use Rattle.std.proofs.lemmas.Bool.{false≢true}
 use Rattle.std.specs.Prelude.{slice_get}
 use Rattle.capnp_frame.specs.declared.error.Error.{Error}
-use Rattle.capnp_frame.specs.declared.error.ErrorKind.{ErrorKind}
 use Rattle.capnp_frame.specs.declared.error.ErrorKind.TheVariants.{DeviceFailed}
 use Rattle.capnp_frame.specs.declared.io.Write.{Ghosts}
 use Rattle.capnp_frame.specs.Sink.{Adds, AppendsAll, DeclinesSome, Grows}

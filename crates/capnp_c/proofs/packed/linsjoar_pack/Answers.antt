@@ -1,5 +1,5 @@
 -- Where the packed text has no room, that is the refusal.
-use Rattle.std.proofs.Common.{rules, arith, ◌≡◌, ◌≤◌, ◌+◌, length, ap, ◌∙◌}
+use Rattle.std.proofs.Common.{rules, arith, ◌≤◌, ◌+◌, length, ap, ◌∙◌}
 use Rattle.std.proofs.lemmas.Bool.{false≢true}
 use Rattle.capnp_frame.specs.Numbers.{number_of}
 use Rattle.capnp_c.proofs.PackedLemmas.{packed_alone, block_refused, packed_fits}
