@@ -1,6 +1,8 @@
-/* Packs, unpacks, lists or canonicalizes the message on standard input, by crates/capnp_c.
+/* Packs, unpacks, lists or canonicalizes the messages on standard input, by crates/capnp_c.
  *
- * Its status is the number of the refusal, 0 without one. */
+ * `list` prints a line a message: its index, how many segments it has, how many words in all, and the
+ * words of each segment. `canonical` takes one message. The status is the number of the refusal, 0
+ * without one. */
 #include "capnp_c.h"
 
 #include <stdio.h>
@@ -16,73 +18,66 @@ static int write_out(const uint8_t *bytes, size_t len) {
     return fwrite(bytes, 1, len, stdout) == len && fflush(stdout) == 0 ? 0 : 255;
 }
 
-static uint8_t add_packed(const uint8_t *words, size_t len, size_t *used) {
-    size_t written;
-    uint8_t refusal = linsjoar_pack(words, len, output + *used, sizeof output - *used, &written);
-    *used += written;
-    return refusal;
+/* Each framed message is packed by itself. */
+static int pack(size_t len) {
+    size_t at = 0, used = 0;
+    while (at < len) {
+        size_t message_len, packed_len;
+        uint8_t refusal = linsjoar_next_message(input + at, len - at, &message_len);
+        if (refusal == 0)
+            refusal = linsjoar_pack_message(input + at, message_len, output + used,
+                                            sizeof output - used, &packed_len);
+        if (refusal)
+            return refusal;
+        at += message_len;
+        used += packed_len;
+    }
+    return write_out(output, used);
 }
 
-/* The table's first word, its other words and each segment are packed by themselves. */
-static int pack(size_t len) {
+static int unpack(size_t len) {
+    size_t at = 0, used = 0;
+    while (at < len) {
+        size_t framed_len, packed_read;
+        uint8_t refusal = linsjoar_unpack_message(input + at, len - at, output + used,
+                                                  sizeof output - used, &framed_len, &packed_read);
+        if (refusal)
+            return refusal;
+        at += packed_read;
+        used += framed_len;
+    }
+    return write_out(output, used);
+}
+
+/* Prints the line of a message. */
+static uint8_t list_message(const uint8_t *bytes, size_t len, size_t index) {
     struct linsjoar_message message;
-    size_t used = 0;
-    uint8_t refusal = linsjoar_message(input, len, &message);
-    if (refusal == 0)
-        refusal = add_packed(input, 8, &used);
-    if (refusal == 0)
-        refusal = add_packed(input + 8, message.start - 8, &used);
-    size_t start = message.start;
+    uint8_t refusal = linsjoar_message(bytes, len, &message);
+    if (refusal)
+        return refusal;
+    printf("%zu %zu %zu", index, message.segments, (message.end - message.start) / 8);
     for (uint32_t id = 0; refusal == 0 && id < message.segments; id++) {
         size_t words;
-        refusal = linsjoar_segment(input, len, id, &words);
+        refusal = linsjoar_segment(bytes, len, id, &words);
         if (refusal == 0)
-            refusal = add_packed(input + start, 8 * words, &used);
-        start += 8 * words;
+            printf(" %zu", words);
     }
-    return refusal ? refusal : write_out(output, used);
-}
-
-/* The first word tells how many others the table has, and the table how many words follow. */
-static int unpack(size_t len) {
-    size_t at = 0, filled = 0, read;
-    uint8_t refusal = linsjoar_unpack(input, len, output, 8, &read);
-    if (refusal)
-        return refusal;
-    at += read;
-    filled = 8;
-    uint32_t others;
-    memcpy(&others, output, 4);
-    if (others >= 511)
-        return 5;
-    size_t rest = 8 * ((others + 1) / 2);
-    refusal = linsjoar_unpack(input + at, len - at, output + filled, rest, &read);
-    if (refusal)
-        return refusal;
-    at += read;
-    filled += rest;
-    size_t body = 0;
-    for (uint32_t id = 0; id <= others; id++) {
-        uint32_t words;
-        memcpy(&words, output + 4 + 4 * id, 4);
-        body += 8 * (size_t)words;
-    }
-    if (body > sizeof output - filled)
-        return 8;
-    refusal = linsjoar_unpack(input + at, len - at, output + filled, body, &read);
-    return refusal ? refusal : write_out(output, filled + body);
+    putchar('\n');
+    return refusal;
 }
 
 static int list(size_t len) {
-    struct linsjoar_message message;
-    uint8_t refusal = linsjoar_message(input, len, &message);
-    for (uint32_t id = 0; refusal == 0 && id < message.segments; id++) {
-        size_t words;
-        refusal = linsjoar_segment(input, len, id, &words);
+    size_t at = 0;
+    for (size_t index = 0; at < len; index++) {
+        size_t message_len;
+        uint8_t refusal = linsjoar_next_message(input + at, len - at, &message_len);
         if (refusal == 0)
-            printf("%zu\n", words);
+            refusal = list_message(input + at, message_len, index);
+        if (refusal)
+            return refusal;
+        at += message_len;
     }
-    return refusal;
+    return 0;
 }
 
 static int canonical(size_t len) {

@@ -1,3 +1,6 @@
 -- The lemmas.
 pub mod FrontLemmas
+pub mod MessageLemmas
 pub mod PackedLemmas
+pub mod PiecesLemmas
+pub mod UnpackedLemmas

@@ -1,2 +1,3 @@
 -- What the exports say.
 pub mod Fronts
+pub mod Packing

@@ -1,5 +1,5 @@
 //! Framed messages that are checked and listed.
-ghost use Rattle.std.specs.Prelude.{◌≡◌, ◌+◌, ◌*◌, ◌<◌, ◌≤◌, ℕ, List, length, slice_get, Some};
+ghost use Rattle.std.specs.Prelude.{◌≡◌, ◌⊎◌, ◌+◌, ◌*◌, ◌<◌, ◌≤◌, ℕ, List, [], length, slice_get, Some};
 ghost use Rattle.capnp_frame.specs.declared.serialize.segment_table.Padding.TheVariants.{Zero};
 ghost use Rattle.capnp_frame.specs.FlatRefusals.{by_fields, RefusesFlat};
 ghost use Rattle.capnp_frame.specs.Message.{lengths};
@@ -80,6 +80,33 @@ pub extern "C" fn linsjoar_segment(bytes: &[u8], id: u32, words: &mut usize) -> 
             }
             None => ErrorKind::InvalidSegmentId(id).number(),
         },
+        Err(error) => error.kind.number(),
+    }
+}
+
+/// How many bytes the framed message at the front of these bytes takes, so that a caller steps from
+/// one message to the next. Where there are no bytes it takes none.
+#[unsafe(no_mangle)]
+pub extern "C" fn linsjoar_next_message(bytes: &[u8], message_len: &mut usize) -> u8
+    ensures found { result ≡ 0 → (bytes.now ≡ []) ⊎ ((segments : List (List ℕ)) × (rest : List ℕ)
+        × IsAtFront bytes.now segments rest × (message_len.new + length rest ≡ length bytes.now)) }
+    ensures end { bytes.now ≡ [] → (result ≡ 0) × (message_len.new ≡ 0) }
+    ensures accepted { (segments : List (List ℕ)) (rest : List ℕ) →
+        IsAtFront bytes.now segments rest → (result ≡ 0) × (0 < message_len.new) }
+    ensures refused { (kind : ErrorKind) → 0 < length bytes.now →
+        RefusesFlat by_fields Zero default_limit kind bytes.now → result ≡ number_of kind }
+    ensures stays { 0 < result → message_len.new ≡ 0 }
+{
+    *message_len = 0;
+    if bytes.is_empty() {
+        return 0;
+    }
+    let mut rest = bytes;
+    match NoAllocBufferSegments::from_slice(&mut rest, DEFAULT_READER_OPTIONS) {
+        Ok(_) => {
+            *message_len = bytes.len() - rest.len();
+            0
+        }
         Err(error) => error.kind.number(),
     }
 }

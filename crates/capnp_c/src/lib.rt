@@ -8,3 +8,4 @@ mod canonical;
 mod framed;
 mod lent_text;
 mod packed;
+mod packed_messages;

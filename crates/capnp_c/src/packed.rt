@@ -3,7 +3,7 @@ ghost use Rattle.std.specs.Prelude.{◌≡◌, ◌⊎◌, ◌<◌, ◌≤◌, �
 ghost use Rattle.std.specs.Result.{IsErrAnd};
 ghost use Rattle.capnp_frame.specs.Message.{IsWholeWords};
 ghost use Rattle.capnp_frame.specs.Numbers.{number_of};
-ghost use Rattle.capnp_frame.specs.Sink.{Adds};
+ghost use Rattle.capnp_frame.specs.Sink.{Adds, Grows};
 ghost use Rattle.capnp_frame.specs.Source.{IfKnown, IsRefused, Fails};
 ghost use Rattle.capnp_frame.specs.declared.error.ErrorKind.{ErrorKind};
 ghost use Rattle.capnp_pack.specs.Packed.{Packs};
@@ -43,7 +43,7 @@ pub extern "C" fn linsjoar_pack(words: &[u8], text: &mut [u8], written: &mut usi
 }
 
 // Packs words into a sink.
-fn pack_into<W: Write>(sink: &mut W, words: &[u8]) -> Result<()>
+pub(crate) fn pack_into<W: Write>(sink: &mut W, words: &[u8]) -> Result<()>
     ensures packed { OnOk result (IfKnown (W.written sink.old) (W.written sink.new)
         (Adds (AppendsPacked W.appends words.now))) }
     ensures failed { IfErr result (λ error. error.kind ≡ ErrorKind.DeviceFailed →
@@ -52,9 +52,9 @@ fn pack_into<W: Write>(sink: &mut W, words: &[u8]) -> Result<()>
         ⊎ DeclinesPacked W.refuses words.now error.kind) }
     ensures part { (IsWholeWords words.now → ⊥) →
         IsErrAnd result (λ error. error.kind ≡ ErrorKind.NotWholeWords) }
-    ensures granted { (packed : List ℕ) → Packs words.now packed →
-        W.grants sink.old (length packed + 0) → IsOk result }
-    ensures same { W.same sink.old sink.new }
+    ensures granted { (packed : List ℕ) (more : ℕ) → Packs words.now packed →
+        W.grants sink.old (length packed + more) → IsOk result × W.grants sink.new more }
+    ensures grows { Grows W.written W.failures W.same sink.old sink.new }
 {
     let mut packed = PackedWrite::new(sink);
     packed.write_all(words)

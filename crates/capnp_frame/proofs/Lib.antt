@@ -20,6 +20,7 @@ pub mod FlatLemmas
 pub mod HeldLemmas
 pub mod FlatReaderLemmas
 pub mod LentLemmas
+pub mod TextIntoLemmas
 pub mod TableReading
 pub mod AgreementLemmas
 pub mod AnswerLemmas

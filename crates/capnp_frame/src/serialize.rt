@@ -12,6 +12,7 @@ mod segment_lengths;
 mod segment_table;
 mod segment_table_info;
 mod stream;
+mod text;
 mod writing;
 
 pub use buffer_segments::{BufferSegments, take_segments, take_segments_lenient};
@@ -25,4 +26,5 @@ pub use stream::{
     try_read_segments, try_read_segments_lenient, try_read_segments_reusing,
     try_read_segments_reusing_lenient,
 };
+pub use text::try_read_text_into;
 pub use writing::{segments_to_words, serialized_size_in_words, write_segments};

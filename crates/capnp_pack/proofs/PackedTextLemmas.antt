@@ -24,7 +24,7 @@ packed_over_plain piece text = (
   λ packed. (text ∷ [], subst (Packs piece) (sym (append-nil text)) packed, (text, [], refl, refl, sym (append-nil text))),
 )
 
-each_packed : (pieces : List (List ℕ)) (text : List ℕ) → AppendsAll (AppendsPacked AppendsSame) pieces text ↔ AppendsAll Packs pieces text
+pub each_packed : (pieces : List (List ℕ)) (text : List ℕ) → AppendsAll (AppendsPacked AppendsSame) pieces text ↔ AppendsAll Packs pieces text
 each_packed pieces text = (there pieces text, back pieces text)
   where
     there : (pieces : List (List ℕ)) (text : List ℕ) → AppendsAll (AppendsPacked AppendsSame) pieces text → AppendsAll Packs pieces text
@@ -35,7 +35,7 @@ each_packed pieces text = (there pieces text, back pieces text)
     back [] text all = all
     back (p ∷ ps) text (first, others, packed, more, e) = (first, others, (packed_over_plain p first).1 packed, back ps others more, e)
 
-packed_message : (segments : List (List ℕ)) (text : List ℕ) → AppendsAll (AppendsPacked AppendsSame) (table_first segments ∷ table_others segments ∷ segments) text ↔ IsPackedText text segments
+pub packed_message : (segments : List (List ℕ)) (text : List ℕ) → AppendsAll (AppendsPacked AppendsSame) (table_first segments ∷ table_others segments ∷ segments) text ↔ IsPackedText text segments
 packed_message segments text = (
   λ all. there ((each_packed (table_first segments ∷ table_others segments ∷ segments) text).0 all),
   λ packed. (each_packed (table_first segments ∷ table_others segments ∷ segments) text).1 (back packed),

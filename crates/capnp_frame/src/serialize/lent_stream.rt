@@ -81,7 +81,7 @@ fn next_into<'b, R: Read>(
 }
 
 // Reads the next message of a source into a buffer, or none at the source's end.
-fn read_into<R: Read>(
+pub(crate) fn read_into<R: Read>(
     source: &mut R,
     buffer: &mut [u8],
     limit: Option<usize>,

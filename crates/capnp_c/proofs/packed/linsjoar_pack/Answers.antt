@@ -1,5 +1,5 @@
 -- Where the packed text has no room, that is the refusal.
-use Rattle.std.proofs.Common.{rules, arith, ◌≡◌, ◌≤◌, ◌+◌, length, ap, ◌∙◌}
+use Rattle.std.proofs.Common.{rules, arith, ◌≤◌, ◌+◌, length, ap, ◌∙◌}
 use Rattle.std.proofs.lemmas.Bool.{false≢true}
 use Rattle.capnp_frame.specs.Numbers.{number_of}
 use Rattle.capnp_c.proofs.PackedLemmas.{packed_alone, block_refused, packed_fits}
@@ -22,6 +22,6 @@ returns-in-Err-clause-short c packed packs short =
 pub returns-in-Err-clause-accepted : goal.returns-in-Err-clause-accepted
 returns-in-Err-clause-accepted c packed packs fits =
     let block : length packed ≤ length c.pack_into.new.sink.block.now = search (rules, fits) in
-    let same = c.in-Err.ensures.same.1 in
+    let same = c.in-Err.ensures.grows.same_sink.1 in
     let room : c.new-sink.result.used + (length packed + 0) ≤ length c.new-sink.result.block.now = omega (arith, block, same, c.new-sink.ensures.used) in
-    absurd (false≢true (c.in-Err.ensures.granted packed packs room))
+    absurd (false≢true (c.in-Err.ensures.granted packed 0 packs room).0)

@@ -1,0 +1,41 @@
+-- Messages that are unpacked into a buffer.
+use Rattle.std.proofs.Common.{◌≡◌, ℕ, ◌+◌, ◌≤◌, ◌⊎◌, inl, inr, List, [], ◌++◌, length, take, drop, sym, ap, ◌∙◌, subst, arith, length-append, length-drop}
+use Rattle.std.proofs.lemmas.List.{append-nil, take_at}
+use Rattle.capnp_frame.specs.declared.error.ErrorKind.{ErrorKind}
+use Rattle.capnp_frame.specs.declared.error.ErrorKind.TheVariants.{DeviceFailed}
+use Rattle.capnp_frame.specs.declared.serialize.segment_table.Padding.TheVariants.{Zero}
+use Rattle.capnp_frame.specs.Front.{HasFrame}
+use Rattle.capnp_frame.specs.Limits.{IsWithin}
+use Rattle.capnp_frame.specs.Source.{Fails}
+use Rattle.capnp_frame.proofs.AskLemmas.{never_fails}
+use Rattle.capnp_pack.specs.PackedFrame.{PackedStands}
+use Rattle.capnp_pack.specs.PackedSource.{Unpacks}
+use Rattle.capnp_pack.specs.UnpackingLaws.{none_unpacked}
+use Rattle.capnp_pack.proofs.PackedFrameLemmas.{packed_requests}
+use Rattle.capnp_c.specs.Fronts.{default_limit}
+use Rattle.capnp_c.specs.Packing.{IsMessage}
+
+-- the first bytes of a buffer are a framed text, and no more
+pub front_message : (bytes : List ℕ) (segments : List (List ℕ)) (n : ℕ) → HasFrame Zero bytes segments (drop n bytes) → n ≤ length bytes
+    → IsWithin segments default_limit → IsMessage (take n bytes) segments
+front_message bytes segments n (text, frame, e) room within =
+    let long : length text ≡ n = omega (arith, ap length e, length-append text (drop n bytes), length-drop n bytes) in
+    let front : take n bytes ≡ text = ap (take n) e ∙ take_at text (drop n bytes) n long in
+    record { text = text; is_text = frame; within = within; spelled = front ∙ sym (append-nil text) }
+
+-- how many packed bytes it took
+pub taken : (segments : List (List ℕ)) (packed rest : List ℕ) → PackedStands Zero segments packed rest → length rest ≤ length packed
+taken segments packed rest (text, frame, e) = omega (arith, ap length e, length-append text rest)
+
+-- no packed message stands where there are no bytes
+pub none_stands : (segments : List (List ℕ)) (packed rest : List ℕ) → PackedStands Zero segments packed rest → packed ≡ [] → ⊥
+none_stands segments packed rest stands none =
+    let requests = (packed_requests Zero segments packed rest).1 stands in
+    let first = requests.table.first_given in
+    let some = none_unpacked 8 requests.table.first requests.table.between (subst (λ raw. Unpacks raw 8 requests.table.first requests.table.between) none first) in
+    absurd (omega (arith, some))
+
+-- a slice is refused by the first line that holds
+pub own_kind : (own kind : ErrorKind) → (own ≡ DeviceFailed) ⊎ (own ≡ kind) → (own ≡ DeviceFailed → Fails 0 0) → own ≡ kind
+own_kind own kind (inl device) failed = absurd (never_fails own failed device)
+own_kind own kind (inr same) failed = same

@@ -1,0 +1,33 @@
+-- What is packed of a message, and what the steps keep that pack its pieces.
+use Rattle.std.specs.Prelude.{◌≡◌, ℕ, ◌+◌, ◌⊎◌, List, [], ◌∷◌, length, Result, OnOk, IfErr, IsOk}
+use Rattle.capnp_frame.specs.declared.error.Error.{Error}
+use Rattle.capnp_frame.specs.declared.error.ErrorKind.TheVariants.{DeviceFailed}
+use Rattle.capnp_frame.specs.declared.io.Write.{Ghosts}
+use Rattle.capnp_frame.specs.Sink.{Adds, AppendsAll, DeclinesSome, Grows}
+use Rattle.capnp_frame.specs.Source.{IfKnown, Fails}
+use Rattle.capnp_pack.specs.Packed.{Packs}
+use Rattle.capnp_pack.specs.PackedFrame.{table_first, table_others}
+use Rattle.capnp_pack.specs.PackedSink.{AppendsPacked, DeclinesPacked}
+use Rattle.capnp_c.specs.Fronts.{IsAtFront}
+
+-- the bytes are a framed text of the message, and no more
+abbrev pub IsMessage : List ℕ → List (List ℕ) → Type 0
+IsMessage bytes segments = IsAtFront bytes segments []
+
+-- what is packed of a message, piece by piece: the first word of its table, the table's other words, and each segment
+abbrev pub packed_pieces : List (List ℕ) → List (List ℕ)
+packed_pieces segments = table_first segments ∷ table_others segments ∷ segments
+
+-- What a step keeps that packs pieces into a sink, one after the other. `sink` is what is seen of the sink (the members of the
+-- trait Write), `old` and `new` are the sink before the call and after it.
+pub record PacksPieces {S X : Type 0} (sink : Ghosts S) (old new : S) (pieces : List (List ℕ)) (result : Result X Error) : Type 0 where
+  -- where it succeeds, what each piece is packed to is added
+  pub packed : OnOk result (IfKnown (sink.written old) (sink.written new) (Adds (AppendsAll (AppendsPacked sink.appends) pieces)))
+  -- it fails with the device's failure, or as one of the pieces is refused
+  pub refused : IfErr result (λ error. (error.kind ≡ DeviceFailed) ⊎ DeclinesSome (DeclinesPacked sink.refuses) pieces error.kind)
+  -- the device is blamed only where it failed
+  pub failed : IfErr result (λ error. error.kind ≡ DeviceFailed → Fails (sink.failures old) (sink.failures new))
+  -- where the sink grants the packed text, the step succeeds
+  pub granted : (text : List ℕ) (more : ℕ) → AppendsAll Packs pieces text → sink.grants old (length text + more)
+      → IsOk result × sink.grants new more
+  pub grows : Grows sink.written sink.failures sink.same old new
