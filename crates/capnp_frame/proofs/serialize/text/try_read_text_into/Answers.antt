@@ -19,13 +19,14 @@ returns-in_err-info-clause-reads g c =
 pub returns-clause-reads : goal.returns-clause-reads
 returns-clause-reads g c =
     let told = c.in_ok-info.ensures in
-    let holds = rw c.in-Some.is at c.in_ok-info.ensures.holds in
+    let message = rw c.in-Some.is at told.message in
+    let holds = message.holds in
     let size = c.table_len-segment_table_length_bytes.ensures in
     let few = holds.table.few in
     let zeros = c.fill.ensures.after (λ y e. e) in
     let zero = padding_zeroed c.read_into.new.buffer c.fill.new.self c.in-Some.info.segments_count _ _ holds refl (omega arith) (search (rules, zeros)) in
-    let keeps = rw c.in-Some.is at told.within in
-    let stands = rw c.in-Some.is at told.found in
+    let keeps = message.within in
+    let stands = message.found in
     let limit = c.args.options.traversal_limit_in_words in
     reads_into Zero g.R.Read g.met.R.Read.lawful _ _ limit (length c.args.buffer.now) _
     c.in-Some.info.segments_count _ zero.holds refl (search rules)
@@ -35,8 +36,9 @@ returns-clause-reads g c =
 
 pub returns-clause-text : goal.returns-clause-text
 returns-clause-text g c =
-    let total = rw c.in-Some.is at c.in_ok-info.ensures.total in
-    let holds = rw c.in-Some.is at c.in_ok-info.ensures.holds in
+    let message = rw c.in-Some.is at c.in_ok-info.ensures.message in
+    let total = message.total_is in
+    let holds = message.holds in
     let size = c.table_len-segment_table_length_bytes.ensures in
     let few = holds.table.few in
     let zeros = c.fill.ensures.after (λ y e. e) in
