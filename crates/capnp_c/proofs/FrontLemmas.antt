@@ -16,7 +16,8 @@ use Rattle.capnp_wire.specs.Views.{Pointer}
 use Rattle.capnp_wire.specs.Faults.{NoWord, no_word, at_pointer}
 use Rattle.capnp_wire.specs.Values.{IsCanonicalForm, LeadsToTree, StopsWalkFrom}
 use Rattle.capnp_wire.proofs.views.OneValueLemmas.{one_of_pointer, measured_exactly, measured_found}
-use Rattle.capnp_c.specs.Fronts.{IsAtFront, HasForm, LacksForm, IsShort, root_pointer}
+use Rattle.capnp_wire.specs.Readers.{default_root}
+use Rattle.capnp_c.specs.Fronts.{IsAtFront, HasForm, LacksForm, IsShort}
 
 pub one_front : (bytes rest left : List ℕ) (segments others : List (List ℕ)) → IsAtFront bytes segments rest → IsAtFront bytes others left → segments ≡ others
 one_front bytes rest left segments others p q = (frames_part p.text q.text rest left segments others p.is_text q.is_text (sym p.spelled ∙ q.spelled)).1
@@ -49,16 +50,16 @@ root_lacks segments kind none = inl (root, refl, at_pointer (no_word none))
 -- and one that has a form does not lack it
 pub has_or_lacks : (segments : List (List ℕ)) (words : ℕ) (kind : ErrorKind) → HasForm segments words → LacksForm segments kind → ⊥
 has_or_lacks segments words kind has lacks =
-    measured_exactly (LeadsToTree (root_pointer segments)) (StopsWalkFrom (root_pointer segments)) (one_of_pointer (root_pointer segments)) true (Ok has.0) has.1 kind lacks
+    measured_exactly (LeadsToTree (default_root segments)) (StopsWalkFrom (default_root segments)) (one_of_pointer (default_root segments)) true (Ok has.0) has.1 kind lacks
 
 -- the reason is one, and so is the size
 pub one_reason : (segments : List (List ℕ)) (a b : ErrorKind) → LacksForm segments a → LacksForm segments b → a ≡ b
 one_reason segments a b x y =
-    measured_exactly (LeadsToTree (root_pointer segments)) (StopsWalkFrom (root_pointer segments)) (one_of_pointer (root_pointer segments)) true (Err (record { kind = a })) x b y
+    measured_exactly (LeadsToTree (default_root segments)) (StopsWalkFrom (default_root segments)) (one_of_pointer (default_root segments)) true (Err (record { kind = a })) x b y
 
 pub one_size : (segments : List (List ℕ)) (a b : ℕ) → HasForm segments a → HasForm segments b → a ≡ b
 one_size segments a b x y =
-    let same = measured_found (LeadsToTree (root_pointer segments)) (StopsWalkFrom (root_pointer segments)) (one_of_pointer (root_pointer segments)) true (Ok x.0) x.1 y.0 y.1 in
+    let same = measured_found (LeadsToTree (default_root segments)) (StopsWalkFrom (default_root segments)) (one_of_pointer (default_root segments)) true (Ok x.0) x.1 y.0 y.1 in
     let behind : x.0 ≡ y.0 = cc in
     x.2 ∙ ap (λ n. n + 1) behind ∙ sym y.2
 

@@ -5,14 +5,13 @@ use Rattle.capnp_frame.specs.declared.error.ErrorKind.{ErrorKind}
 use Rattle.capnp_frame.specs.declared.error.ErrorKind.TheVariants.{DeviceFailed}
 use Rattle.capnp_frame.specs.declared.serialize.segment_table.Padding.TheVariants.{Zero}
 use Rattle.capnp_frame.specs.Front.{HasFrame}
-use Rattle.capnp_frame.specs.Limits.{IsWithin}
+use Rattle.capnp_frame.specs.Limits.{IsWithin, default_limit}
 use Rattle.capnp_frame.specs.Source.{Fails}
 use Rattle.capnp_frame.proofs.AskLemmas.{never_fails}
 use Rattle.capnp_pack.specs.PackedFrame.{PackedStands}
 use Rattle.capnp_pack.specs.PackedSource.{Unpacks}
 use Rattle.capnp_pack.specs.UnpackingLaws.{none_unpacked}
 use Rattle.capnp_pack.proofs.PackedFrameLemmas.{packed_requests}
-use Rattle.capnp_c.specs.Fronts.{default_limit}
 use Rattle.capnp_c.specs.Packing.{IsMessage}
 
 -- the first bytes of a buffer are a framed text, and no more

@@ -1,36 +1,27 @@
 -- Messages at the front of a buffer, as readers of the default options find them.
-use Rattle.std.specs.Prelude.{◌≡◌, ◌+◌, ◌*◌, ◌<◌, ℕ, true, List, Option, Some}
+use Rattle.std.specs.Prelude.{◌≡◌, ◌+◌, ◌*◌, ◌<◌, ℕ, true, List}
 use Rattle.capnp_frame.specs.declared.error.ErrorKind.{ErrorKind}
 use Rattle.capnp_frame.specs.declared.error.ErrorKind.TheVariants.{BufferNotLargeEnough}
 use Rattle.capnp_frame.specs.declared.serialize.segment_table.Padding.TheVariants.{Zero}
 use Rattle.capnp_frame.specs.FlatRefusals.{by_fields, RefusesFlat}
 use Rattle.capnp_frame.specs.Frame.{IsFrame}
+use Rattle.capnp_frame.specs.Limits.{default_limit}
 use Rattle.capnp_frame.specs.Numbers.{number_of}
 use Rattle.capnp_frame.specs.Texts.{BeginsWith}
-use Rattle.capnp_wire.specs.Object.{message_of}
-use Rattle.capnp_wire.specs.Reached.{root}
-use Rattle.capnp_wire.specs.Views.{Pointer}
+use Rattle.capnp_wire.specs.Readers.{default_root}
 use Rattle.capnp_wire.specs.Values.{HasWords, LacksWords, LeadsToTree, StopsWalkFrom}
-
--- how many words a reader accepts by default
-abbrev pub default_limit : Option ℕ
-default_limit = Some 8388608
 
 -- a framed text of the message stands there, and the message is within that limit
 abbrev pub IsAtFront : List ℕ → List (List ℕ) → List ℕ → Type 0
 IsAtFront bytes segments rest = BeginsWith (IsFrame Zero) default_limit segments bytes rest
 
--- its root pointer, within the default limits
-abbrev pub root_pointer : List (List ℕ) → Pointer
-root_pointer segments = record { message = message_of segments; place = Some root; level = 64; limit = default_limit }
-
 -- a canonical form of so many words, with its root pointer
 abbrev pub HasForm : List (List ℕ) → ℕ → Type 0
-HasForm segments words = (behind : ℕ) × HasWords (LeadsToTree (root_pointer segments)) true behind × (words ≡ behind + 1)
+HasForm segments words = (behind : ℕ) × HasWords (LeadsToTree (default_root segments)) true behind × (words ≡ behind + 1)
 
 -- It has none: a walk over the root's tree stops, for this reason, or the form has too many words.
 abbrev pub LacksForm : List (List ℕ) → ErrorKind → Type 0
-LacksForm segments kind = LacksWords (LeadsToTree (root_pointer segments)) (StopsWalkFrom (root_pointer segments)) true kind
+LacksForm segments kind = LacksWords (LeadsToTree (default_root segments)) (StopsWalkFrom (default_root segments)) true kind
 
 -- it has one, and a block of so many bytes has no room for it
 abbrev pub IsShort : List (List ℕ) → ℕ → ErrorKind → Type 0

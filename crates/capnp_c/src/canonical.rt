@@ -5,9 +5,10 @@ ghost use Rattle.capnp_frame.specs.FlatRefusals.{by_fields, RefusesFlat};
 ghost use Rattle.capnp_frame.specs.declared.serialize.segment_table.Padding.TheVariants.{Zero};
 ghost use Rattle.capnp_frame.specs.declared.error.ErrorKind.{ErrorKind};
 ghost use Rattle.capnp_wire.specs.Pointer.{words_of};
-ghost use Rattle.capnp_wire.specs.Readers.{pointer_of};
+ghost use Rattle.capnp_wire.specs.Readers.{pointer_of, default_root};
 ghost use Rattle.capnp_wire.specs.Values.{IsCanonicalForm};
-ghost use Rattle.capnp_c.specs.Fronts.{IsAtFront, HasForm, LacksForm, IsShort, AnswersForm, default_limit, root_pointer};
+ghost use Rattle.capnp_frame.specs.Limits.{default_limit};
+ghost use Rattle.capnp_c.specs.Fronts.{IsAtFront, HasForm, LacksForm, IsShort, AnswersForm};
 
 use capnp_frame::message::{DEFAULT_READER_OPTIONS, ReaderSegments};
 use capnp_frame::serialize::{NoAllocBufferSegments, NoAllocSliceSegments};
@@ -39,7 +40,7 @@ pub extern "C" fn linsjoar_canonical_size(bytes: &[u8], words: &mut usize) -> u8
 pub extern "C" fn linsjoar_canonical(bytes: &[u8], block: &mut [u8], words: &mut usize) -> u8
     ensures form { (segments : List (List ℕ)) (rest : List ℕ) →
         IsAtFront bytes.now segments rest → result ≡ 0 → (8 * words.new ≤ length block.new)
-        × IsCanonicalForm (root_pointer segments) (words_of (take (8 * words.new) block.new)) }
+        × IsCanonicalForm (default_root segments) (words_of (take (8 * words.new) block.new)) }
     ensures short { (segments : List (List ℕ)) (rest : List ℕ) (size : ℕ) →
         IsAtFront bytes.now segments rest → HasForm segments size →
         length block.new < 8 * size → result ≡ 2 }
@@ -78,7 +79,7 @@ fn measured_root<'a, S: ReaderSegments>(
     requires nesting { arena.now.nesting_limit ≡ pos 64 }
     requires limit { arena.now.limiter.limit ≡ default_limit }
     ensures root { IfOk result (λ (root, size).
-        pointer_of S.segments root ≡ root_pointer (S.segments arena.now.segments)) }
+        pointer_of S.segments root ≡ default_root (S.segments arena.now.segments)) }
     ensures size { IfOk result (λ (root, size). HasForm (S.segments arena.now.segments) size) }
     ensures lacks { IfErr result (λ error. LacksForm (S.segments arena.now.segments) error.kind) }
 {
@@ -103,7 +104,7 @@ fn measured(bytes: &[u8]) -> Result<usize>
 fn written(bytes: &[u8], block: &mut [u8]) -> Result<usize>
     ensures form { (segments : List (List ℕ)) (rest : List ℕ) →
         IsAtFront bytes.now segments rest → IfOk result (λ words. (8 * words ≤ length block.new)
-        × IsCanonicalForm (root_pointer segments) (words_of (take (8 * words) block.new))) }
+        × IsCanonicalForm (default_root segments) (words_of (take (8 * words) block.new))) }
     ensures size { (segments : List (List ℕ)) (rest : List ℕ) →
         IsAtFront bytes.now segments rest → IfOk result (λ words. HasForm segments words) }
     ensures lacks { (segments : List (List ℕ)) (rest : List ℕ) →

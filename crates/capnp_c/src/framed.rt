@@ -6,7 +6,8 @@ ghost use Rattle.capnp_frame.specs.Message.{lengths};
 ghost use Rattle.capnp_frame.specs.Numbers.{number_of};
 ghost use Rattle.capnp_frame.specs.SegmentTable.{table_size};
 ghost use Rattle.capnp_frame.specs.declared.error.ErrorKind.{ErrorKind};
-ghost use Rattle.capnp_c.specs.Fronts.{IsAtFront, default_limit};
+ghost use Rattle.capnp_frame.specs.Limits.{default_limit};
+ghost use Rattle.capnp_c.specs.Fronts.{IsAtFront};
 
 use capnp_frame::ErrorKind;
 use capnp_frame::message::{DEFAULT_READER_OPTIONS, ReaderSegments};

@@ -4,7 +4,7 @@ ghost use Rattle.std.specs.Result.{IsErrAnd};
 ghost use Rattle.capnp_frame.specs.declared.serialize.segment_table.Padding.TheVariants.{Zero};
 ghost use Rattle.capnp_frame.specs.FlatRefusals.{by_fields, RefusesFlat};
 ghost use Rattle.capnp_frame.specs.Front.{HasFrame, told_segments};
-ghost use Rattle.capnp_frame.specs.Limits.{IsWithin};
+ghost use Rattle.capnp_frame.specs.Limits.{IsWithin, default_limit};
 ghost use Rattle.capnp_frame.specs.Message.{lengths, size_in_words};
 ghost use Rattle.capnp_frame.specs.Numbers.{number_of};
 ghost use Rattle.capnp_frame.specs.Refusals.{RefusesStream};
@@ -14,7 +14,7 @@ ghost use Rattle.capnp_frame.specs.declared.error.ErrorKind.{ErrorKind};
 ghost use Rattle.capnp_pack.specs.PackedFrame.{IsPackedText, PackedStands};
 ghost use Rattle.capnp_pack.specs.PackedSource.{Unpacks, RefusesPiece};
 ghost use Rattle.capnp_pack.specs.PackedStreams.{packed_rules};
-ghost use Rattle.capnp_c.specs.Fronts.{IsAtFront, default_limit};
+ghost use Rattle.capnp_c.specs.Fronts.{IsAtFront};
 ghost use Rattle.capnp_c.specs.Packing.{IsMessage, PacksPieces, packed_pieces};
 
 use crate::lent_text::LentText;

@@ -3,7 +3,8 @@ use Rattle.std.proofs.Common.{◌≡◌, ◌*◌, inl, inr, length, subst, arith
 use Rattle.std.proofs.lemmas.Result.{err_from_is_err_and}
 use Rattle.capnp_wire.specs.Pointer.{words_of}
 use Rattle.capnp_wire.specs.Values.{IsCanonicalForm}
-use Rattle.capnp_c.specs.Fronts.{HasForm, LacksForm, root_pointer}
+use Rattle.capnp_wire.specs.Readers.{default_root}
+use Rattle.capnp_c.specs.Fronts.{HasForm, LacksForm}
 use Rattle.capnp_c.proofs.FrontLemmas.{front_form}
 use Rattle.capnp_c.proofs.canonical.written.Goals as goal
 
@@ -27,8 +28,8 @@ pub returns-clause-form : goal.returns-clause-form
 returns-clause-form c segments rest front =
     let long : length c.write_form.new.bytes ≡ 8 * c.in_ok-root.words =
     omega (arith, c.write_form.ensures.len, length-take (8 * c.in_ok-root.words) c.args.block.now) in
-    front_form (root_pointer segments) (8 * c.in_ok-root.words) c.write_form.new.bytes _ long
-    (subst (λ s. IsCanonicalForm (root_pointer s) (words_of c.write_form.new.bytes)) (c.in_ok-arena.ensures.front segments rest front)
+    front_form (default_root segments) (8 * c.in_ok-root.words) c.write_form.new.bytes _ long
+    (subst (λ s. IsCanonicalForm (default_root s) (words_of c.write_form.new.bytes)) (c.in_ok-arena.ensures.front segments rest front)
     (subst (λ p. IsCanonicalForm p (words_of c.write_form.new.bytes)) c.in_ok-root.ensures.root c.write_form.ensures.form))
 
 pub returns-clause-size : goal.returns-clause-size

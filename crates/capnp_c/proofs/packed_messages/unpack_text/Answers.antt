@@ -2,7 +2,7 @@
 use Rattle.std.proofs.Common.{rules, ◌≡◌, length}
 use Rattle.capnp_frame.specs.declared.serialize.segment_table.Padding.TheVariants.{Zero}
 use Rattle.capnp_pack.proofs.PackedStreamLemmas.{packed_reads_into}
-use Rattle.capnp_c.specs.Fronts.{default_limit}
+use Rattle.capnp_frame.specs.Limits.{default_limit}
 use Rattle.capnp_c.proofs.packed_messages.unpack_text.Goals as goal
 
 pub returns-clause-reads : goal.returns-clause-reads
