@@ -1,15 +1,16 @@
 -- Messages that are unpacked into a buffer.
-use Rattle.std.proofs.Common.{◌≡◌, ℕ, ◌+◌, ◌≤◌, ◌⊎◌, inl, inr, List, [], ◌++◌, length, take, drop, sym, ap, ◌∙◌, subst, arith, length-append, length-drop}
+use Rattle.std.proofs.Common.{◌≡◌, ℕ, ◌≤◌, ◌⊎◌, inl, inr, Some, List, [], length, take, drop, sym, ap, ◌∙◌, subst, arith, length-append, length-drop}
 use Rattle.std.proofs.lemmas.List.{append-nil, take_at}
 use Rattle.capnp_frame.specs.declared.error.ErrorKind.{ErrorKind}
 use Rattle.capnp_frame.specs.declared.error.ErrorKind.TheVariants.{DeviceFailed}
 use Rattle.capnp_frame.specs.declared.serialize.segment_table.Padding.TheVariants.{Zero}
 use Rattle.capnp_frame.specs.Front.{HasFrame}
 use Rattle.capnp_frame.specs.Limits.{IsWithin, default_limit}
+use Rattle.capnp_frame.specs.Refusals.{RefusesStream}
 use Rattle.capnp_frame.specs.Source.{Fails}
 use Rattle.capnp_frame.proofs.AskLemmas.{never_fails}
 use Rattle.capnp_pack.specs.PackedFrame.{PackedStands}
-use Rattle.capnp_pack.specs.PackedSource.{Unpacks}
+use Rattle.capnp_pack.specs.PackedSource.{Unpacks, RefusesPiece}
 use Rattle.capnp_pack.specs.UnpackingLaws.{none_unpacked}
 use Rattle.capnp_pack.proofs.PackedFrameLemmas.{packed_requests}
 use Rattle.capnp_c.specs.Packing.{IsMessage}
@@ -38,3 +39,8 @@ none_stands segments packed rest stands none =
 pub own_kind : (own kind : ErrorKind) → (own ≡ DeviceFailed) ⊎ (own ≡ kind) → (own ≡ DeviceFailed → Fails 0 0) → own ≡ kind
 own_kind own kind (inl device) failed = absurd (never_fails own failed device)
 own_kind own kind (inr same) failed = same
+
+-- a buffer keeps its length
+pub in_room : (packed left : List ℕ) (kind : ErrorKind) (after before : ℕ) → after ≡ before
+    → RefusesStream Zero Unpacks RefusesPiece default_limit (Some after) kind packed left → RefusesStream Zero Unpacks RefusesPiece default_limit (Some before) kind packed left
+in_room packed left kind after before same refused = subst (λ room. RefusesStream Zero Unpacks RefusesPiece default_limit (Some room) kind packed left) same refused

@@ -6,6 +6,7 @@ use Rattle.capnp_frame.specs.declared.serialize.segment_table.Padding.TheVariant
 use Rattle.capnp_frame.specs.FlatRefusals.{by_fields, RefusesFlat}
 use Rattle.capnp_frame.specs.Frame.{IsFrame}
 use Rattle.capnp_frame.specs.Limits.{default_limit}
+use Rattle.capnp_frame.specs.Limits.{default_limit}
 use Rattle.capnp_frame.specs.Numbers.{number_of}
 use Rattle.capnp_frame.specs.Texts.{BeginsWith}
 use Rattle.capnp_wire.specs.Readers.{default_root}

@@ -3,29 +3,24 @@ ghost use Rattle.std.specs.Prelude.{◌≡◌, ◌⊎◌, ◌*◌, ◌/◌, ◌<
 ghost use Rattle.std.specs.Result.{IsErrAnd};
 ghost use Rattle.capnp_frame.specs.declared.serialize.segment_table.Padding.TheVariants.{Zero};
 ghost use Rattle.capnp_frame.specs.FlatRefusals.{by_fields, RefusesFlat};
-ghost use Rattle.capnp_frame.specs.Front.{HasFrame, told_segments};
 ghost use Rattle.capnp_frame.specs.Limits.{IsWithin, default_limit};
 ghost use Rattle.capnp_frame.specs.Message.{lengths, size_in_words};
 ghost use Rattle.capnp_frame.specs.Numbers.{number_of};
 ghost use Rattle.capnp_frame.specs.Refusals.{RefusesStream};
 ghost use Rattle.capnp_frame.specs.SegmentTable.{table_size, zero_padded_table};
-ghost use Rattle.capnp_frame.specs.Streams.{next_in, ReadsStreamInto};
 ghost use Rattle.capnp_frame.specs.declared.error.ErrorKind.{ErrorKind};
 ghost use Rattle.capnp_pack.specs.PackedFrame.{IsPackedText, PackedStands};
 ghost use Rattle.capnp_pack.specs.PackedSource.{Unpacks, RefusesPiece};
-ghost use Rattle.capnp_pack.specs.PackedStreams.{packed_rules};
 ghost use Rattle.capnp_c.specs.Fronts.{IsAtFront};
 ghost use Rattle.capnp_c.specs.Packing.{IsMessage, PacksPieces, packed_pieces};
 
 use crate::lent_text::LentText;
 use crate::packed::pack_into;
-use capnp_frame::io::{BufRead, Write};
+use capnp_frame::io::Write;
 use capnp_frame::message::{DEFAULT_READER_OPTIONS, ReaderSegments};
-use capnp_frame::serialize::{
-    NoAllocBufferSegments, NoAllocSegmentTableInfo, NoAllocSliceSegments, try_read_text_into,
-};
+use capnp_frame::serialize::{NoAllocBufferSegments, NoAllocSliceSegments};
 use capnp_frame::{Error, ErrorKind, Result};
-use capnp_pack::PackedRead;
+use capnp_pack::stream::try_read_packed_text_into;
 
 /// Packs a framed message, and tells how many bytes that took: the first word of its table, the
 /// table's other words, and each segment are packed one by one.
@@ -93,7 +88,7 @@ pub extern "C" fn linsjoar_unpack_message(
     *framed_len = 0;
     *packed_read = 0;
     let mut source = packed;
-    match unpack_text(&mut source, framed) {
+    match try_read_packed_text_into(&mut source, framed, DEFAULT_READER_OPTIONS) {
         Ok(Some(info)) => {
             *framed_len = info.segment_table_length_bytes + info.total_segments_length_bytes;
             *packed_read = packed.len() - source.len();
@@ -102,24 +97,6 @@ pub extern "C" fn linsjoar_unpack_message(
         Ok(None) => ErrorKind::PrematureEndOfFile.number(),
         Err(error) => error.kind.number(),
     }
-}
-
-// Unpacks the next message of a source into its framed text, or none where nothing is unread.
-fn unpack_text<R: BufRead>(
-    source: &mut R,
-    framed: &mut [u8],
-) -> Result<Option<NoAllocSegmentTableInfo>>
-    ensures reads { ReadsStreamInto R.Read source.old source.new (packed_rules Zero) default_limit
-        (length framed.old)
-        (next_in (λ info. told_segments info.segments_count framed.new) result) }
-    ensures text { IfOk result (λ found. IfSome found (λ info. HasFrame Zero framed.new
-        (told_segments info.segments_count framed.new)
-        (drop (info.segment_table_length_bytes + info.total_segments_length_bytes) framed.new))) }
-    ensures room { IfOk result (λ found. IfSome found (λ info. info.segment_table_length_bytes
-        + info.total_segments_length_bytes ≤ length framed.new)) }
-{
-    let mut packed = PackedRead::new(source);
-    try_read_text_into(&mut packed, framed, DEFAULT_READER_OPTIONS)
 }
 
 // The message that these bytes are. Bytes after it are refused by the kind of a message that is cut.

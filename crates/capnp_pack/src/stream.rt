@@ -3,6 +3,7 @@ ghost use Rattle.capnp_frame.specs.Streams.{ReadsStream};
 ghost use Rattle.capnp_pack.specs.PackedStreams.{packed_rules};
 
 mod lent;
+mod text;
 
 use crate::packed_read::PackedRead;
 use capnp_frame::Result;
@@ -14,6 +15,7 @@ use capnp_frame::serialize::{
 };
 pub use lent::{try_read_packed_segments_into, try_read_packed_segments_into_lenient};
 use std::alloc::Global;
+pub use text::try_read_packed_text_into;
 
 /// Reads the next packed message of a source, or answers `None` where nothing is unread.
 ///

@@ -2,12 +2,11 @@
 use Rattle.std.proofs.Common.{rules, ◌≡◌, length}
 use Rattle.capnp_frame.specs.declared.serialize.segment_table.Padding.TheVariants.{Zero}
 use Rattle.capnp_pack.proofs.PackedStreamLemmas.{packed_reads_into}
-use Rattle.capnp_frame.specs.Limits.{default_limit}
-use Rattle.capnp_c.proofs.packed_messages.unpack_text.Goals as goal
+use Rattle.capnp_pack.proofs.stream.text.try_read_packed_text_into.Goals as goal
 
 pub returns-clause-reads : goal.returns-clause-reads
 returns-clause-reads g c =
     let told = c.try_read_text_into.ensures.reads in
     let after : c.source-1.given.0 ≡ c.try_read_text_into.new.source.source.now = search rules in
-    let reads = packed_reads_into Zero (λ p. p.source.now) g.R.Read _ _ _ default_limit (length c.args.framed.now) _ told.advances.same_source.1 told in
+    let reads = packed_reads_into Zero (λ p. p.source.now) g.R.Read _ _ _ c.args.options.traversal_limit_in_words (length c.args.buffer.now) _ told.advances.same_source.1 told in
     rw after (rw c.new-packed.ensures.source at reads)
