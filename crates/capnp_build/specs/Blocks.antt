@@ -9,7 +9,8 @@ use Rattle.capnp_build.specs.declared.arena.spot.Spot.{Spot}
 use Rattle.capnp_build.specs.Bytes.{Space}
 use Rattle.capnp_build.specs.Out.{Out, HasLarge, MayRefuse}
 use Rattle.capnp_build.specs.Held.{Held, space_at, pairs, KeepsOthers}
-use Rattle.capnp_build.specs.Built.{Built, held_of, message, size_in_words, IsSet, IsAtEnd, IsPlaced, HasNoRoom, HasBody, IsLaid, IsRewritten, KeepsBytes}
+use Rattle.capnp_build.specs.Built.{Built, held_of, message, size_in_words, IsSet, HasBody, IsLaid, IsRewritten, KeepsBytes}
+use Rattle.capnp_build.specs.Placed.{IsAtEnd, IsPlaced, HasNoRoom}
 
 -- a new object stands at the root
 abbrev pub IsNew : Form → List Space → Type 0

@@ -1,7 +1,8 @@
 //! Blocks of values behind the used words of segments, and the root's pointer to them.
 ghost use Rattle.std.specs.Prelude.{◌≡◌, ℕ, ◌+◌, ◌-◌, ◌*◌, ◌^◌, ◌<◌, ◌≤◌, length, Some};
 ghost use Rattle.capnp_build.specs.Held.{space_at, room_of};
-ghost use Rattle.capnp_build.specs.Built.{HasSomeBody, HasValue, IsAtEnd, IsLonger};
+ghost use Rattle.capnp_build.specs.Built.{HasSomeBody, HasValue, IsLonger};
+ghost use Rattle.capnp_build.specs.Placed.{IsAtEnd};
 ghost use Rattle.capnp_wire.specs.Values.{HasWords};
 ghost use Rattle.capnp_build.specs.Blocks.{PointsRoot};
 

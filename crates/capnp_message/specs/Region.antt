@@ -3,7 +3,8 @@ use Rattle.std.specs.Prelude.{◌≡◌, ℕ, ◌+◌, ◌/◌, ◌≤◌, true,
 use Rattle.std.specs.Borrow.{MutBor}
 use Rattle.capnp_build.specs.Bytes.{ZeroFrom}
 use Rattle.capnp_build.specs.Out.{Out, lent_of}
-use Rattle.capnp_build.specs.Built.{Built, StandsAt, size_in_words}
+use Rattle.capnp_build.specs.Built.{Built, size_in_words}
+use Rattle.capnp_build.specs.Placed.{StandsAt}
 
 -- a region of so many bytes, as a segment that is out
 abbrev pub region_out : ℕ → Out

@@ -2,7 +2,8 @@
 ghost use Rattle.std.specs.Prelude.{◌≡◌, ◌⊎◌, ℕ, ◌/◌, ◌^◌, ◌<◌, false, true, length, IfOk, IfErr, IsOk, OnOk, OnErr};
 ghost use Rattle.capnp_frame.specs.declared.error.ErrorKind.TheVariants.{SegmentTaken};
 ghost use Rattle.capnp_wire.specs.Values.{HasWords, LacksWords, LeadsToTree, IsTextOf};
-ghost use Rattle.capnp_build.specs.Built.{IsSet, IsCleared};
+ghost use Rattle.capnp_build.specs.Built.{IsSet};
+ghost use Rattle.capnp_build.specs.Placed.{IsCleared};
 ghost use Rattle.capnp_message.specs.Seen.{root_of};
 ghost use Rattle.capnp_message.specs.Region.{IsHome, StandsAlone};
 

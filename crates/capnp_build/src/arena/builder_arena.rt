@@ -2,7 +2,8 @@
 ghost use Rattle.std.specs.Prelude.{⊤, MatchOption, ◌≡◌, ℕ, ◌+◌, ◌-◌, ◌*◌, ◌/◌, ◌<◌, ◌≤◌, [], ◌∷◌, length, map, max, slice_index_or, take, drop, Some, None, IfErr, IsOk, OnOk, OnErr};
 ghost use Rattle.capnp_build.specs.Out.{MayRefuse};
 ghost use Rattle.capnp_build.specs.Held.{used_of, space_at};
-ghost use Rattle.capnp_build.specs.Built.{held_of, ForRoot, IsShown, size_in_words, message, HasNullRoot, HasRootAlone, Built, IsZeroAt, KeepsRooms};
+ghost use Rattle.capnp_build.specs.Built.{held_of, ForRoot, IsShown, size_in_words, message, HasNullRoot, Built};
+ghost use Rattle.capnp_build.specs.Placed.{HasRootAlone, IsZeroAt, KeepsRooms};
 ghost use Rattle.capnp_build.specs.Shown.{Shows, HoldsForm};
 ghost use Rattle.capnp_build.specs.Output.{CanBeWritten};
 ghost use Rattle.capnp_wire.specs.Tree.{Form, Trees, none, tree, count};

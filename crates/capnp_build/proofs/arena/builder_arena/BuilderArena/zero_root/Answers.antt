@@ -7,7 +7,8 @@ use Rattle.capnp_wire.specs.Reached.{root}
 use Rattle.capnp_build.specs.Bytes.{Space, with_bytes}
 use Rattle.capnp_build.specs.Out.{HasLarge}
 use Rattle.capnp_build.specs.Held.{Held, space_at, pairs}
-use Rattle.capnp_build.specs.Built.{IsZeroAt, HasNullRoot, message, size_in_words, Built, IsLaid, IsBuilt, KeepsRooms, root_word}
+use Rattle.capnp_build.specs.Built.{HasNullRoot, message, size_in_words, Built, IsLaid, IsBuilt, root_word}
+use Rattle.capnp_build.specs.Placed.{IsZeroAt, KeepsRooms}
 use Rattle.capnp_wire.specs.Tree.{Form, Trees}
 use Rattle.capnp_build.specs.declared.arena.spot.Spot.{Spot}
 use Rattle.capnp_build.proofs.NullLemmas.{old_cleared, old_size, first_cleared, root_stands, root_room}
