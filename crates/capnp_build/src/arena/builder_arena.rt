@@ -80,15 +80,8 @@ impl<A: Allocator> BuilderArena<A> {
             self.segments.grow(0, 1);
             return Ok(());
         }
-        if let Some(spot) = self.spot {
-            let from = 8 * spot.start as usize;
-            let to = from + 8 * spot.words as usize;
-            self.segments.zero(spot.segment, from, to);
-            self.segments.zero(0, 0, 8);
-            self.spot = None;
-            return Ok(());
-        }
-        self.segments.zero(0, 0, 8);
+        self.segments.wipe(self.spot);
+        self.spot = None;
         Ok(())
     }
 
