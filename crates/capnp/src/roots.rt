@@ -5,7 +5,7 @@ ghost use Rattle.capnp_frame.specs.Limits.{KeepsLimit};
 ghost use Rattle.capnp_frame.specs.Message.{lengths};
 ghost use Rattle.capnp_frame.specs.Writing.{HasFew, RefusesMany};
 ghost use Rattle.capnp_wire.specs.Values.{HasWords, LacksWords};
-ghost use Rattle.capnp_build.specs.Built.{IsCrowded};
+ghost use Rattle.capnp_build.specs.Placed.{IsCrowded};
 ghost use Rattle.capnp_build.specs.Out.{MayRefuse};
 ghost use Rattle.capnp.specs.Written.{output_of};
 ghost use Rattle.capnp.specs.Roots.{HasRootOf, RefusesSize, ReadsWritten};

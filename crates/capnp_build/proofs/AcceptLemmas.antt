@@ -5,7 +5,8 @@ use Rattle.capnp_frame.specs.declared.error.ErrorKind.{ErrorKind}
 use Rattle.capnp_wire.specs.Tree.{Form, null, struct, numbers, Trees, none, tree}
 use Rattle.capnp_wire.specs.Reached.{Root, root}
 use Rattle.capnp_build.specs.Bytes.{Space}
-use Rattle.capnp_build.specs.Built.{message, ForRoot, IsShown, DeclinesRoot}
+use Rattle.capnp_build.specs.Built.{message, ForRoot, IsShown}
+use Rattle.capnp_build.specs.Placed.{DeclinesRoot}
 use Rattle.capnp_build.specs.Shown.{Shows, HoldsForm}
 use Rattle.capnp_build.specs.declared.shown.Shown.{Shown}
 use Rattle.capnp_build.specs.declared.shown.Shown.TheVariants.{Null, Bytes, Words, Struct, Other}

@@ -3,7 +3,8 @@ use Rattle.std.proofs.Common.{◌≡◌, inl, inr, ℕ, ◌+◌, ◌/◌, ◌^�
 use Rattle.capnp_build.specs.Bytes.{Space}
 use Rattle.capnp_build.specs.Out.{HasLarge}
 use Rattle.capnp_build.specs.Held.{space_at, pairs}
-use Rattle.capnp_build.specs.Built.{Built, size_in_words, HasRootAlone, HasNoRoom, IsPlaced, IsFirst, most_words}
+use Rattle.capnp_build.specs.Built.{Built, size_in_words}
+use Rattle.capnp_build.specs.Placed.{HasRootAlone, HasNoRoom, IsPlaced, IsFirst, most_words}
 use Rattle.capnp_build.proofs.SpaceLemmas.{past_all}
 
 one_word : (spaces : List Space) → HasRootAlone spaces → size_in_words spaces ≡ 1

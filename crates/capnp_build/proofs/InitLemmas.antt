@@ -5,8 +5,9 @@ use Rattle.capnp_wire.specs.Tree.{Form, null}
 use Rattle.capnp_build.specs.declared.allocator.Allocator as allocator
 use Rattle.capnp_build.specs.declared.owned_builder.OwnedBuilder as owned_builder
 use Rattle.capnp_build.specs.Bytes.{Space}
-use Rattle.capnp_build.specs.Out.{IsPreorder}
-use Rattle.capnp_build.specs.Built.{Built, HasNoRoom, NewWords}
+use Rattle.capnp_frame.specs.Source.{IsPreorder}
+use Rattle.capnp_build.specs.Built.{Built}
+use Rattle.capnp_build.specs.Placed.{HasNoRoom, NewWords}
 use Rattle.capnp_build.specs.Blocks.{IsNew, PutsBlock}
 use Rattle.capnp_build.specs.Outcomes.{InitsRoot, ClearsRoot}
 use Rattle.capnp_build.proofs.NullLemmas.{null_root}

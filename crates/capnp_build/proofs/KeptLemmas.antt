@@ -6,7 +6,8 @@ use Rattle.std.proofs.lemmas.Bool.{cases_lt}
 use Rattle.std.proofs.lemmas.List.{drop-take, take-append-le, drop-append-le, length-replicate}
 use Rattle.capnp_build.specs.Bytes.{Space, written, with_bytes}
 use Rattle.capnp_build.specs.Held.{space_at}
-use Rattle.capnp_build.specs.Built.{KeepsBytes, IsAdded, IsZeroAt}
+use Rattle.capnp_build.specs.Built.{KeepsBytes}
+use Rattle.capnp_build.specs.Placed.{IsAdded, IsZeroAt}
 use Rattle.capnp_build.specs.declared.arena.spot.Spot.{Spot}
 use Rattle.capnp_build.proofs.ByteLemmas.{front_same}
 use Rattle.capnp_build.proofs.UsedLemmas.{written_zero}

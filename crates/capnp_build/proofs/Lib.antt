@@ -6,6 +6,7 @@ pub mod ByteLemmas
 pub mod HeldLemmas
 pub mod SpaceLemmas
 pub mod NullLemmas
+pub mod WipeLemmas
 pub mod KeptLemmas
 pub mod LaidLemmas
 pub mod PointLemmas

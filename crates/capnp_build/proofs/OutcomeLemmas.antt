@@ -8,9 +8,11 @@ use Rattle.capnp_build.specs.declared.allocator.Allocator as allocator
 use Rattle.capnp_build.specs.declared.owned_builder.OwnedBuilder as owned_builder
 use Rattle.capnp_build.specs.declared.shown.Shown.{Shown}
 use Rattle.capnp_build.specs.Bytes.{Space}
-use Rattle.capnp_build.specs.Out.{Out, IsPreorder, HasLarge}
+use Rattle.capnp_frame.specs.Source.{IsPreorder}
+use Rattle.capnp_build.specs.Out.{Out, HasLarge}
 use Rattle.capnp_build.specs.Held.{pairs, space_at, room_of}
-use Rattle.capnp_build.specs.Built.{Built, HasNullRoot, ForRoot, DeclinesRoot, HasNoRoom, IsSet, IsPut, IsGranted, IsCleared}
+use Rattle.capnp_build.specs.Built.{Built, HasNullRoot, ForRoot, IsSet}
+use Rattle.capnp_build.specs.Placed.{DeclinesRoot, HasNoRoom, IsPut, IsGranted, IsCleared}
 use Rattle.capnp_build.specs.Blocks.{PutsBlock}
 use Rattle.capnp_build.specs.Outcomes.{SetsRoot, ClearsRoot, EnsuresRoot, LooksAtRoot, HasRoomFirst}
 use Rattle.capnp_build.specs.Shown.{Shows, HoldsForm}

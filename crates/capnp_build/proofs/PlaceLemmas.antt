@@ -7,8 +7,9 @@ use Rattle.capnp_frame.specs.declared.error.ErrorKind.{ErrorKind}
 use Rattle.capnp_build.specs.Bytes.{Space}
 use Rattle.capnp_build.specs.Held.{space_at, room_of, KeepsOthers}
 use Rattle.capnp_build.specs.declared.allocator.Allocator.{Ghosts}
-use Rattle.capnp_build.specs.Built.{Built, size_in_words, HasNullRoot, IsAdded, IsAtEnd, IsPlaced, IsZeroAt, IsCleared, IsCrowded, WasCrowded, KeepsRooms, HasRootAlone, held_of}
-use Rattle.capnp_build.specs.Out.{IsPreorder}
+use Rattle.capnp_build.specs.Built.{Built, size_in_words, HasNullRoot, held_of}
+use Rattle.capnp_build.specs.Placed.{IsAdded, IsAtEnd, IsPlaced, IsZeroAt, IsCleared, IsCrowded, WasCrowded, KeepsRooms, HasRootAlone}
+use Rattle.capnp_frame.specs.Source.{IsPreorder}
 use Rattle.capnp_build.proofs.SpaceLemmas.{size_added, past_all, added_there}
 
 -- a place in a segment that is new

@@ -7,7 +7,8 @@ use Rattle.capnp_wire.specs.Object.{word_at}
 use Rattle.capnp_wire.specs.Reached.{root}
 use Rattle.capnp_build.specs.Bytes.{Space, written, with_bytes}
 use Rattle.capnp_build.specs.Held.{used_of, space_at, room_of}
-use Rattle.capnp_build.specs.Built.{message, size_in_words, KeepsRooms}
+use Rattle.capnp_build.specs.Built.{message, size_in_words}
+use Rattle.capnp_build.specs.Placed.{KeepsRooms}
 use Rattle.capnp_build.proofs.UsedLemmas.{written_length, written_zero}
 use Rattle.capnp_build.proofs.ByteLemmas.{used_at, set_here, part_here}
 

@@ -1,5 +1,5 @@
 -- What the steps keep by which a value is placed at a null root (src/arena/placing.rt, src/pointing.rt).
-use Rattle.std.specs.Prelude.{◌≡◌, ℕ, ◌+◌, ◌*◌, Bool, ◌<◌, ◌≤◌, take, drop, List, length, None, Result, IfErr, OnOk, OnErr}
+use Rattle.std.specs.Prelude.{⊤, ◌≡◌, ℕ, ◌+◌, ◌*◌, Bool, ◌<◌, ◌≤◌, max, take, drop, List, length, Option, None, MatchOption, Result, IfErr, OnOk, OnErr}
 use Rattle.capnp_frame.specs.declared.error.Error.{Error}
 use Rattle.capnp_frame.specs.declared.error.ErrorKind.TheVariants.{SegmentTaken}
 use Rattle.capnp_wire.specs.Tree.{Form, Trees, none}
@@ -9,7 +9,8 @@ use Rattle.capnp_build.specs.declared.arena.spot.Spot.{Spot}
 use Rattle.capnp_build.specs.Bytes.{Space}
 use Rattle.capnp_build.specs.Out.{Out, HasLarge, MayRefuse}
 use Rattle.capnp_build.specs.Held.{Held, space_at, pairs, KeepsOthers}
-use Rattle.capnp_build.specs.Built.{Built, held_of, message, size_in_words, IsSet, IsAtEnd, IsPlaced, HasNoRoom, HasBody, IsLaid, IsRewritten, KeepsBytes}
+use Rattle.capnp_build.specs.Built.{Built, held_of, message, size_in_words, HasNullRoot, IsSet, HasBody, IsLaid, IsRewritten, KeepsBytes}
+use Rattle.capnp_build.specs.Placed.{IsAtEnd, IsPlaced, HasNoRoom, IsZeroAt, KeepsRooms}
 
 -- a new object stands at the root
 abbrev pub IsNew : Form → List Space → Type 0
@@ -52,6 +53,18 @@ pub record PointsRoot {A : Type 0} (spot : Spot) (old new : Held A) : Type 0 whe
   -- the used bytes before the body and its pad stay, but for the root's word
   pub bytes : (i from n : ℕ) → (i ≡ 0 → 8 ≤ from) → (0 < i → i ≡ spot.segment → from + n + 8 ≤ 8 * spot.start) → from + n ≤ length (space_at old.spaces i).used
       → take n (drop from (space_at new.spaces i).used) ≡ take n (drop from (space_at old.spaces i).used)
+
+-- The root's word and the block that it leads to become zero; no segment becomes longer.
+pub record WipesRoot {A S : Type 0} (alloc : Ghosts A S) (spot : Option Spot) (old new : Held A) : Type 0 where
+  pub null_word : HasNullRoot new.spaces
+  pub zero : MatchOption spot ⊤ (IsZeroAt new.spaces)
+  pub behind : MatchOption spot ⊤ (λ place. 0 < place.start)
+  pub count : length new.spaces ≡ length old.spaces
+  pub size : size_in_words new.spaces ≡ max 1 (size_in_words old.spaces)
+  pub rooms : KeepsRooms old.spaces new.spaces
+  pub allocator : new.allocator ≡ old.allocator
+  -- what else the allocator has out stays out
+  pub others : KeepsOthers alloc.out old new
 
 -- A step leaves the root null.
 pub record LeavesNull {A S : Type 0} (alloc : Ghosts A S) (old new : Built A) : Type 0 where

@@ -6,6 +6,7 @@ pub mod Held
 pub mod Body
 pub mod Shown
 pub mod Built
+pub mod Placed
 pub mod Written
 pub mod Output
 pub mod Blocks

@@ -14,8 +14,9 @@ use Rattle.capnp_build.specs.declared.owned_builder.OwnedBuilder as owned_builde
 use Rattle.capnp_build.specs.Bytes.{Space}
 use Rattle.capnp_build.specs.Out.{MayRefuse}
 use Rattle.capnp_build.specs.Held.{space_at, room_of, Held, KeepsOthers, BringsHome, ReturnsEach}
-use Rattle.capnp_build.specs.Built.{Built, held_of, message, size_in_words, HasNullRoot, ForRoot, DeclinesRoot, IsSet, IsWhole, IsPut, IsInit}
-use Rattle.capnp_build.specs.Built.{InitWords, IsCrowded, IsCleared, IsZeroAt, KeepsRooms, HasRootAlone, IsLookedAt}
+use Rattle.capnp_build.specs.Built.{Built, held_of, message, size_in_words, HasNullRoot, ForRoot, IsSet, IsWhole}
+use Rattle.capnp_build.specs.Placed.{DeclinesRoot, IsPut, IsInit}
+use Rattle.capnp_build.specs.Placed.{InitWords, IsCrowded, IsCleared, IsZeroAt, KeepsRooms, HasRootAlone, IsLookedAt}
 
 -- there is no segment yet, and the allocator fails to hand out the first one
 abbrev pub LacksFirst : List Space → ErrorKind → Type 0

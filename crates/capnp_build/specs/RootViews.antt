@@ -14,7 +14,8 @@ use Rattle.capnp_build.specs.declared.allocator.Allocator as allocator
 use Rattle.capnp_build.specs.declared.owned_builder.OwnedBuilder as owned_builder
 use Rattle.capnp_build.specs.Bytes.{Space}
 use Rattle.capnp_build.specs.Held.{used_of, KeepsOthers}
-use Rattle.capnp_build.specs.Built.{Built, held_of, message as words_of_message, ForRoot, DeclinesRoot, InitWords, IsInit, WasCrowded, IsLookedAt}
+use Rattle.capnp_build.specs.Built.{Built, held_of, message as words_of_message, ForRoot}
+use Rattle.capnp_build.specs.Placed.{DeclinesRoot, InitWords, IsInit, WasCrowded, IsLookedAt}
 use Rattle.capnp_build.specs.Written.{IsWritten}
 use Rattle.capnp_build.specs.Outcomes.{LacksFirst}
 

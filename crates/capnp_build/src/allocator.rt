@@ -1,7 +1,8 @@
 //! What hands out segments and takes them back.
 ghost use Rattle.std.specs.Prelude.{◌≡◌, ℕ, ◌+◌, ◌*◌, ◌/◌, ◌^◌, ◌<◌, ◌≤◌, ◌⊎◌, List, length};
+ghost use Rattle.capnp_frame.specs.Source.{IsPreorder};
 ghost use Rattle.capnp_build.specs.Bytes.{ZeroFrom};
-ghost use Rattle.capnp_build.specs.Out.{Out, IsOut, IsPreorder};
+ghost use Rattle.capnp_build.specs.Out.{Out, IsOut};
 ghost use Rattle.capnp_build.specs.Allocating.{HandsOut, TakesBack};
 
 use crate::segment_space::SegmentSpace;

@@ -1,7 +1,8 @@
 //! The root of a message that is built.
 ghost use Rattle.std.specs.Prelude.{◌≡◌, ◌↔◌, ⊤, ◌<◌, false, length, IsTrue, IfOk, IfErr};
 ghost use Rattle.capnp_wire.specs.Tree.{null};
-ghost use Rattle.capnp_build.specs.Built.{message, ForRoot, DeclinesRoot};
+ghost use Rattle.capnp_build.specs.Built.{message, ForRoot};
+ghost use Rattle.capnp_build.specs.Placed.{DeclinesRoot};
 ghost use Rattle.capnp_build.specs.Outcomes.{SetsRoot, InitsRoot};
 ghost use Rattle.capnp_build.specs.RootViews.{InitsView, SizesRoot};
 

@@ -1,9 +1,10 @@
 //! Blocks of values behind the used words of segments, and the root's pointer to them.
 ghost use Rattle.std.specs.Prelude.{◌≡◌, ℕ, ◌+◌, ◌-◌, ◌*◌, ◌^◌, ◌<◌, ◌≤◌, length, Some};
 ghost use Rattle.capnp_build.specs.Held.{space_at, room_of};
-ghost use Rattle.capnp_build.specs.Built.{HasSomeBody, HasValue, IsAtEnd, IsLonger};
+ghost use Rattle.capnp_build.specs.Built.{HasSomeBody, HasValue, IsBuilt, IsLonger};
+ghost use Rattle.capnp_build.specs.Placed.{IsAtEnd};
 ghost use Rattle.capnp_wire.specs.Values.{HasWords};
-ghost use Rattle.capnp_build.specs.Blocks.{PointsRoot};
+ghost use Rattle.capnp_build.specs.Blocks.{PointsRoot, WipesRoot};
 
 use crate::allocator::Allocator;
 use crate::arena::spot::{Spot, far, moved};
@@ -11,6 +12,22 @@ use crate::segments::Segments;
 use capnp_wire::traits::SetterInput;
 
 impl<A: Allocator> Segments<A> {
+    /// Makes the root's word zero, and the block that it leads to.
+    pub fn wipe(&mut self, spot: Option<Spot>)
+        requires there { 0 < length self.old.spaces }
+        requires built { IsBuilt self.old.spaces spot }
+        ensures { WipesRoot A.Allocator spot self.old self.new }
+    {
+        if let Some(spot) = spot {
+            let from = 8 * spot.start as usize;
+            let to = from + 8 * spot.words as usize;
+            self.zero(spot.segment, from, to);
+            self.zero(0, 0, 8);
+            return;
+        }
+        self.zero(0, 0, 8);
+    }
+
     /// Fills a block behind the used words of a segment with a value, and answers where it stands.
     pub fn fill<T, V: SetterInput<T>>(
         &mut self,

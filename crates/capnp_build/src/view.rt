@@ -3,7 +3,7 @@ ghost use Rattle.std.specs.Prelude.{◌≡◌, ◌⊎◌, ◌<◌, List, length,
 ghost use Rattle.capnp_wire.specs.Tree.{Trees, none};
 ghost use Rattle.capnp_build.specs.Built.{Built, ForRoot, IsShown};
 ghost use Rattle.capnp_build.specs.Written.{HasField, IsFieldSet, HasBytes, IsBytesSet, HasNumber, IsNumberSet};
-ghost use Rattle.capnp_build.specs.Built.{DeclinesRoot, InitWords, WasCrowded};
+ghost use Rattle.capnp_build.specs.Placed.{DeclinesRoot, InitWords, WasCrowded};
 ghost use Rattle.capnp_build.specs.Shown.{Shows, HoldsForm};
 ghost use Rattle.capnp_build.specs.Outcomes.{SetsRoot, InitsRoot, LacksFirst};
 ghost use Rattle.capnp_build.specs.RootViews.{WritesRoot, SizesRoot};

@@ -1,7 +1,8 @@
 //! The object at the root of a message that is built, as a view that writes it.
 ghost use Rattle.std.specs.Prelude.{length};
 ghost use Rattle.std.specs.Borrow.{RestsIfErr, sem};
-ghost use Rattle.capnp_build.specs.Built.{message, IsCleared, IsLookedAt};
+ghost use Rattle.capnp_build.specs.Built.{message};
+ghost use Rattle.capnp_build.specs.Placed.{IsCleared, IsLookedAt};
 ghost use Rattle.capnp_build.specs.RootViews.{InitsView, GetsView};
 
 use crate::builder::Builder;

@@ -3,7 +3,8 @@ ghost use Rattle.std.specs.Prelude.{◌≡◌, ◌+◌, ◌^◌, ◌-◌, length
 ghost use Rattle.std.specs.Borrow.{RestsIfErr, sem};
 ghost use Rattle.capnp_wire.specs.Readers.{unlimited_root};
 ghost use Rattle.capnp_build.specs.Held.{used_of};
-ghost use Rattle.capnp_build.specs.Built.{Built, message, IsCleared, IsLookedAt};
+ghost use Rattle.capnp_build.specs.Built.{Built, message};
+ghost use Rattle.capnp_build.specs.Placed.{IsCleared, IsLookedAt};
 ghost use Rattle.capnp_build.specs.Outcomes.{SetsRoot, IsNewMessage};
 ghost use Rattle.capnp_build.specs.RootViews.{InitsView, GetsView};
 ghost use Rattle.capnp_wire.specs.Views.{IsViewOf};

@@ -1,6 +1,7 @@
 -- What stands in a region that the caller provides.
 use Rattle.std.specs.Prelude.{◌≡◌, ℕ, ◌+◌, length}
-use Rattle.capnp_build.specs.Built.{Built, StandsAt, size_in_words}
+use Rattle.capnp_build.specs.Built.{Built, size_in_words}
+use Rattle.capnp_build.specs.Placed.{StandsAt}
 
 -- a block of so many words stands just behind the root's word in the one segment, and nothing else
 abbrev pub StandsAlone : {A : Type 0} → Built A → ℕ → Type 0

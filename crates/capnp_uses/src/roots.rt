@@ -1,7 +1,8 @@
 //! Roots that are copied from a message that is read, and texts that are set and read back.
 ghost use Rattle.std.specs.Prelude.{◌≡◌, false, true, IfOk, OnOk, OnErr};
 ghost use Rattle.capnp_wire.specs.Values.{LeadsToTree, IsTextOf};
-ghost use Rattle.capnp_build.specs.Built.{IsSet, IsCleared};
+ghost use Rattle.capnp_build.specs.Built.{IsSet};
+ghost use Rattle.capnp_build.specs.Placed.{IsCleared};
 ghost use Rattle.capnp_message.specs.Seen.{root_of};
 
 use capnp_build::allocator::Allocator;

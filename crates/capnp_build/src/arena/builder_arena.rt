@@ -2,7 +2,8 @@
 ghost use Rattle.std.specs.Prelude.{⊤, MatchOption, ◌≡◌, ℕ, ◌+◌, ◌-◌, ◌*◌, ◌/◌, ◌<◌, ◌≤◌, [], ◌∷◌, length, map, max, slice_index_or, take, drop, Some, None, IfErr, IsOk, OnOk, OnErr};
 ghost use Rattle.capnp_build.specs.Out.{MayRefuse};
 ghost use Rattle.capnp_build.specs.Held.{used_of, space_at};
-ghost use Rattle.capnp_build.specs.Built.{held_of, ForRoot, IsShown, size_in_words, message, HasNullRoot, HasRootAlone, Built, IsZeroAt, KeepsRooms};
+ghost use Rattle.capnp_build.specs.Built.{held_of, ForRoot, IsShown, size_in_words, message, HasNullRoot, Built};
+ghost use Rattle.capnp_build.specs.Placed.{HasRootAlone, IsZeroAt, KeepsRooms};
 ghost use Rattle.capnp_build.specs.Shown.{Shows, HoldsForm};
 ghost use Rattle.capnp_build.specs.Output.{CanBeWritten};
 ghost use Rattle.capnp_wire.specs.Tree.{Form, Trees, none, tree, count};
@@ -79,15 +80,8 @@ impl<A: Allocator> BuilderArena<A> {
             self.segments.grow(0, 1);
             return Ok(());
         }
-        if let Some(spot) = self.spot {
-            let from = 8 * spot.start as usize;
-            let to = from + 8 * spot.words as usize;
-            self.segments.zero(spot.segment, from, to);
-            self.segments.zero(0, 0, 8);
-            self.spot = None;
-            return Ok(());
-        }
-        self.segments.zero(0, 0, 8);
+        self.segments.wipe(self.spot);
+        self.spot = None;
         Ok(())
     }
 

@@ -3,7 +3,8 @@ ghost use Rattle.std.specs.Prelude.{◌≡◌, ℕ, ◌+◌, ◌-◌, ◌*◌, �
 ghost use Rattle.capnp_frame.specs.declared.error.ErrorKind.TheVariants.{SegmentTaken};
 ghost use Rattle.capnp_build.specs.Out.{Out, HasLarge, MayRefuse};
 ghost use Rattle.capnp_build.specs.Held.{space_at, room_of, pairs};
-ghost use Rattle.capnp_build.specs.Built.{IsSet, IsWhole, IsAdded};
+ghost use Rattle.capnp_build.specs.Built.{IsSet, IsWhole};
+ghost use Rattle.capnp_build.specs.Placed.{IsAdded};
 ghost use Rattle.capnp_wire.specs.Tree.{count};
 ghost use Rattle.capnp_wire.specs.Reached.{root};
 ghost use Rattle.capnp_wire.specs.Layout.{pointer};

@@ -1,6 +1,7 @@
 //! The root of a message, set to a value or to a new object.
 ghost use Rattle.std.specs.Prelude.{◌≡◌, ℕ, ◌-◌, ◌/◌, ◌<◌, length, false, true, Some, None};
-ghost use Rattle.capnp_build.specs.Built.{message, Built, NewWords};
+ghost use Rattle.capnp_build.specs.Built.{message, Built};
+ghost use Rattle.capnp_build.specs.Placed.{NewWords};
 ghost use Rattle.capnp_build.specs.Body.{Fits, zero_form};
 ghost use Rattle.capnp_wire.specs.Tree.{none};
 ghost use Rattle.capnp_wire.specs.Reached.{root};

@@ -1,7 +1,8 @@
 -- A tree stands behind the used words of the first segment, and the root leads to it.
 use Rattle.std.proofs.Common.{◌≡◌, ◌<◌, length, Option, Some, None, ap, sym, subst, ◌∙◌, arith}
 use Rattle.capnp_build.specs.Held.{space_at, KeepsOthers}
-use Rattle.capnp_build.specs.Built.{size_in_words, Built, held_of, IsAtEnd, IsBuilt, KeepsBytes}
+use Rattle.capnp_build.specs.Built.{size_in_words, Built, held_of, IsBuilt, KeepsBytes}
+use Rattle.capnp_build.specs.Placed.{IsAtEnd}
 use Rattle.capnp_build.specs.declared.arena.spot.Spot.{Spot}
 use Rattle.capnp_build.proofs.NullLemmas.{root_room}
 use Rattle.capnp_build.proofs.PointLemmas.{keeps_of}

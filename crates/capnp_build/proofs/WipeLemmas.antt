@@ -1,0 +1,58 @@
+-- The root's word made zero, and before it the block that it leads to.
+use Rattle.std.proofs.Common.{◌≡◌, inr, ℕ, ◌+◌, ◌*◌, ◌<◌, ◌≤◌, List, length, replicate, Some, None, slice_set, ap, sym, subst, ◌∙◌, refl, arith}
+use Rattle.std.proofs.lemmas.List.{length-replicate}
+use Rattle.capnp_wire.specs.Object.{word_at}
+use Rattle.capnp_wire.specs.Reached.{root}
+use Rattle.capnp_build.specs.Bytes.{Space, with_bytes}
+use Rattle.capnp_build.specs.Held.{Held, space_at, with_space}
+use Rattle.capnp_build.specs.Built.{message, size_in_words, HasNullRoot, IsBuilt, root_word}
+use Rattle.capnp_build.specs.Blocks.{WipesRoot}
+use Rattle.capnp_build.specs.declared.allocator.Allocator.{Ghosts}
+use Rattle.capnp_build.specs.declared.arena.spot.Spot.{Spot}
+use Rattle.capnp_build.proofs.HeldLemmas.{edit_keeps}
+use Rattle.capnp_build.proofs.NullLemmas.{old_cleared, old_size, first_cleared, first_size, root_stands, root_room}
+use Rattle.capnp_build.proofs.SpaceLemmas.{one_zeroed, two_zeroed, wiped}
+
+pub word_wiped : {A S : Type 0} (alloc : Ghosts A S) (old new : Held A) → 0 < length old.spaces → HasNullRoot old.spaces
+    → new ≡ with_space old 0 (with_bytes (space_at old.spaces 0) 0 (replicate 8 0)) → WipesRoot alloc None old new
+word_wiped {A = A} alloc old new there null e =
+    let spaces_are : new.spaces ≡ slice_set old.spaces 0 (with_bytes (space_at old.spaces 0) 0 (replicate 8 0)) = ap (λ (h : Held A). h.spaces) e in
+    let room : 8 ≤ length (space_at old.spaces 0).used = root_room old.spaces there null in
+    let kept = one_zeroed old.spaces new.spaces 0 0 (replicate 8 0) room spaces_are in
+    record {
+      null_word = subst HasNullRoot (sym spaces_are) (first_cleared old.spaces there null);
+      zero = tt;
+      behind = tt;
+      count = kept.0;
+      size = ap size_in_words spaces_are ∙ first_size old.spaces there null;
+      rooms = λ _. (kept.0, kept.1);
+      allocator = ap (λ (h : Held A). h.allocator) e;
+      others = edit_keeps alloc.out old new 0 _ refl e;
+    }
+
+pub body_wiped : {A S : Type 0} (alloc : Ghosts A S) (old between new : Held A) (spot : Spot) (k : ℕ) → IsBuilt old.spaces (Some spot) → k ≡ 8 * spot.words
+    → between ≡ with_space old spot.segment (with_bytes (space_at old.spaces spot.segment) (8 * spot.start) (replicate k 0))
+    → new ≡ with_space between 0 (with_bytes (space_at between.spaces 0) 0 (replicate 8 0)) → WipesRoot alloc (Some spot) old new
+body_wiped {A = A} alloc old between new spot k built long d e =
+    let spaces : List Space = old.spaces in
+    let laid = built.2 in
+    let zeros : List ℕ = replicate k 0 in
+    let word : ℕ = root_word spot.segment spot.start built.0 built.1 in
+    let fits : 8 * spot.start + length zeros ≤ length (space_at spaces spot.segment).used = omega (arith, laid.body_is.room, long, length-replicate {A = ℕ} k 0) in
+    let first = root_stands spaces word laid.root_is in
+    let between_is : between.spaces ≡ slice_set spaces spot.segment (with_bytes (space_at spaces spot.segment) (8 * spot.start) zeros) = ap (λ (h : Held A). h.spaces) d in
+    let new_is : new.spaces ≡ slice_set between.spaces 0 (with_bytes (space_at between.spaces 0) 0 (replicate 8 0)) = ap (λ (h : Held A). h.spaces) e in
+    let wipe = λ (l : List Space). slice_set l 0 (with_bytes (space_at l 0) 0 (replicate 8 0)) in
+    let kept = two_zeroed spaces between.spaces new.spaces spot.segment (8 * spot.start) zeros (replicate 8 0) fits first.1 between_is new_is in
+    record {
+      null_word = inr (ap (λ (l : List Space). word_at (message l) root) (new_is ∙ ap wipe between_is) ∙ old_cleared spaces spot.segment (8 * spot.start) zeros word laid.root_is fits);
+      zero =
+          wiped spaces between.spaces new.spaces spot.segment (8 * spot.start) (8 * spot.words) k laid.body_is.within (omega (arith, laid.body_is.behind)) long (omega (arith, laid.body_is.room)) between_is
+          new_is;
+      behind = laid.body_is.behind;
+      count = (kept first.0).0;
+      size = ap size_in_words (new_is ∙ ap wipe between_is) ∙ old_size spaces spot.segment (8 * spot.start) zeros word laid.root_is fits;
+      rooms = kept;
+      allocator = ap (λ (h : Held A). h.allocator) e ∙ ap (λ (h : Held A). h.allocator) d;
+      others = λ others is. edit_keeps alloc.out between new 0 _ refl e others (edit_keeps alloc.out old between spot.segment _ refl d others is);
+    }
