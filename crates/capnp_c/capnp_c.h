@@ -28,7 +28,8 @@ uint8_t linsjoar_pack_message(const uint8_t *framed, size_t framed_len, uint8_t 
 
 /* Unpacks the packed message at the front of a buffer into its framed text, and tells how many bytes that
  * has, and how many packed ones it took: what follows them may be the next message. It returns 0 wherever
- * one stands there and its framed text has room, 2 where it has not, and 9 where there are no bytes. */
+ * one stands there and its framed text has room, 2 where it has not, and before all else where there is
+ * no room for 8 bytes, and 9 where there are no packed bytes. */
 uint8_t linsjoar_unpack_message(const uint8_t *packed, size_t packed_len, uint8_t *framed,
                                 size_t framed_room, size_t *framed_len, size_t *packed_read);
 

@@ -63,7 +63,7 @@ pub extern "C" fn linsjoar_pack_message(
 
 /// Unpacks the packed message at the front of these bytes into its framed text, and tells how many
 /// bytes that has, and how many packed ones it took, so that a caller steps from one message to the
-/// next. Where there are no bytes it returns 9.
+/// next. Where there are no packed bytes it returns 9, and before all else 2 where there is no room for 8.
 #[unsafe(no_mangle)]
 pub extern "C" fn linsjoar_unpack_message(
     packed: &[u8],

@@ -5,7 +5,8 @@ use capnp_frame::serialize::{
     BufferSegments, NoAllocBufferSegments, NoAllocSegmentTableInfo, NoAllocSliceSegments,
     OwnedSegments, describes, segments_to_words, serialized_size_in_words, take_segments,
     take_segments_lenient, try_read_segments_into, try_read_segments_into_lenient,
-    try_read_segments_lenient, try_read_segments_reusing_lenient, write_segments,
+    try_read_segments_lenient, try_read_segments_reusing_lenient, try_read_text_into,
+    write_segments,
 };
 use capnp_frame::{Word, word};
 use std::test::Fail;
@@ -71,6 +72,19 @@ fn finds_without_memory(rt: HostRuntime) -> Result<(), Fail> {
     assert_eq!(rt; source.len(), 16);
     let read = read.ok_or("a message")?;
     assert!(rt; shows(&read, 1, &SECOND));
+    Ok(())
+}
+
+#[test]
+fn leaves_the_text_in_a_buffer(rt: HostRuntime) -> Result<(), Fail> {
+    let all = FRAME_AND_MORE;
+    let mut source: &[u8] = &all;
+    let mut room = [1; 48];
+    let read = try_read_text_into(&mut source, &mut room, ReaderOptions::new())?;
+    let info = read.ok_or("a message")?;
+    assert_eq!(rt; (info.segment_table_length_bytes, info.total_segments_length_bytes), (16, 24));
+    assert_eq!(rt; room[..40], all[..40]);
+    assert_eq!(rt; source.len(), 16);
     Ok(())
 }
 

@@ -7,6 +7,7 @@ use capnp_pack::PackedWrite;
 use capnp_pack::stream::{
     try_read_packed_segments, try_read_packed_segments_into, try_read_packed_segments_into_lenient,
     try_read_packed_segments_lenient, try_read_packed_segments_reusing_lenient,
+    try_read_packed_text_into,
 };
 
 #[test]
@@ -57,6 +58,18 @@ fn a_message_into_a_lent_buffer(rt: HostRuntime) -> Result<()> {
     let mut source: &[u8] = &[];
     let none = try_read_packed_segments_into(&mut source, &mut buffer, DEFAULT_READER_OPTIONS)?;
     assert!(rt; none.is_none());
+    Ok(())
+}
+
+// The framed text of that message, in a buffer that is a byte longer.
+#[test]
+fn a_text_into_a_buffer(rt: HostRuntime) -> Result<()> {
+    let mut source: &[u8] = &[0x10, 1, 0xff, 9, 9, 9, 9, 9, 9, 9, 9, 0, 7];
+    let mut buffer = [1; 17];
+    let found = try_read_packed_text_into(&mut source, &mut buffer, DEFAULT_READER_OPTIONS)?;
+    assert!(rt; found.is_some_and(|info| info.total_segments_length_bytes == 8));
+    assert_eq!(rt; buffer, [0, 0, 0, 0, 1, 0, 0, 0, 9, 9, 9, 9, 9, 9, 9, 9, 1]);
+    assert_eq!(rt; source, [7].as_slice());
     Ok(())
 }
 
