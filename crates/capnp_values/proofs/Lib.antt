@@ -6,3 +6,6 @@ pub mod RowLemmas
 pub mod StructLemmas
 pub mod SectionLemmas
 pub mod NullLemmas
+pub mod ItemLemmas
+pub mod ItemRowLemmas
+pub mod PointerListLemmas

@@ -2,3 +2,4 @@
 pub mod Fields
 pub mod FieldLaws
 pub mod Structs
+pub mod Lists

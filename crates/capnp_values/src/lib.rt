@@ -10,8 +10,10 @@
 
 pub mod borrowed;
 pub mod fields;
+mod items;
 pub mod null;
 mod part;
+pub mod pointer_list;
 mod pointer_word;
 mod sections;
 pub mod struct_value;
@@ -19,4 +21,5 @@ pub mod struct_value;
 pub use borrowed::Borrowed;
 pub use fields::{Field, Fields, NoFields};
 pub use null::Null;
+pub use pointer_list::PointerList;
 pub use struct_value::StructValue;
