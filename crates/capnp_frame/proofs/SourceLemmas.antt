@@ -98,9 +98,9 @@ Fails-join a b c p q = omega arith
 pub length-put_mid : (a : ℕ) (xs ys : List ℕ) → a ≤ length xs → length ys ≡ length xs - a → length (put_mid a (length xs - a) xs ys) ≡ length xs
 length-put_mid a xs ys within fits = simp (length-append, length-take, length-drop) (omega arith)
 
-pub put_mid_front : (a n : ℕ) (xs ys : List ℕ) → a ≤ length xs → n ≤ length ys → take (a + n) (put_mid a (length xs - a) xs ys) ≡ take a xs ++ take n ys
-put_mid_front a n xs ys within fits =
-    let post = post_of a (length xs - a) xs in
+pub put_mid_front : (a b n : ℕ) (xs ys : List ℕ) → a ≤ length xs → n ≤ length ys → take (a + n) (put_mid a b xs ys) ≡ take a xs ++ take n ys
+put_mid_front a b n xs ys within fits =
+    let post = post_of a b xs in
     take-add a n (take a xs ++ (ys ++ post))
     ∙ ap (λ l. l ++ take n (drop a (take a xs ++ (ys ++ post)))) (take_at (take a xs) (ys ++ post) a (length-take-le a xs within))
     ∙ ap (λ l. take a xs ++ take n l) (drop_at (take a xs) (ys ++ post) a (length-take-le a xs within))
@@ -117,7 +117,7 @@ pub AnswersPart-fill : (gives : Giving) (refuses : Refusing) (filled count : ℕ
 AnswersPart-fill gives refuses filled count buffer part old mid new within fits fewer p q =
     let after = put_mid filled (length buffer - filled) buffer part in
     let len : length after ≡ length buffer = length-put_mid filled buffer part within fits in
-    let front : take (filled + count) after ≡ take filled buffer ++ take count part = put_mid_front filled count buffer part within fewer in
+    let front : take (filled + count) after ≡ take filled buffer ++ take count part = put_mid_front filled (length buffer - filled) count buffer part within fewer in
     let left : length part ≡ length buffer - length (take filled buffer) = omega (arith, length-take-le filled buffer within) in
     let joined : IfKnown old new (AnswersPart gives refuses (length buffer) (take filled buffer ++ take count part)) =
     IfKnown-join old mid new (λ x y z s t. AnswersPart-join (length buffer) (take filled buffer) (take count part) x y

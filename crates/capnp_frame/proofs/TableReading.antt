@@ -19,7 +19,7 @@ completed word behind piece long fill =
     let there : 8 ≤ length all = omega (arith, length-append word behind) in
     let size = length-put_mid 8 all piece there fill in
     sym (take_all (8 + length piece) after (omega arith))
-    ∙ put_mid_front 8 (length piece) all piece there (omega arith)
+    ∙ put_mid_front 8 (length all - 8) (length piece) all piece there (omega arith)
     ∙ ap (λ l. l ++ take (length piece) piece) (take_at word behind 8 long)
     ∙ ap (λ l. word ++ l) (take_all (length piece) piece (omega arith))
 

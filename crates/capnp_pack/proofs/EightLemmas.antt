@@ -1,6 +1,6 @@
 -- Eight words that are looked at at once.
-use Rattle.std.proofs.Common.{◌≡◌, ℕ, zero, suc, ◌+◌, ◌*◌, ◌%◌, ◌^◌, ◌≤◌, List, [], ◌∷◌, ◌++◌, length, take, drop, replicate, refl, sym}
-use Rattle.std.proofs.Common.{ap, ◌∙◌, subst, arith, cond, not, eqb, map, length-append, get_or, drop-cons, ◌<◌, ◌/◌, inl, inr}
+use Rattle.std.proofs.Common.{◌≡◌, ℕ, zero, suc, ◌+◌, ◌%◌, ◌^◌, ◌≤◌, List, [], ◌∷◌, ◌++◌, length, take, drop, replicate, refl, sym}
+use Rattle.std.proofs.Common.{ap, ◌∙◌, subst, arith, cond, not, eqb, map, get_or, drop-cons, ◌<◌, ◌/◌, inl, inr}
 use Rattle.std.specs.Int.RustNames.{count_ones}
 use Rattle.std.specs.List.{concat, flat_map, AllByRecursion, prefix_len}
 use Rattle.std.proofs.Math.Dec.{eqb-suc-zero}
@@ -16,16 +16,13 @@ use Rattle.capnp_pack.specs.Steps.{IsZero, HasFewZeros, tag_of}
 use Rattle.capnp_pack.proofs.AllLemmas.{AllByRecursion-append}
 use lib.Count.{count_trailing_zeros}
 use Rattle.capnp_pack.proofs.LaneLemmas.{marks_lanes, zeros_lanes, trailing_tag}
+use Rattle.capnp_pack.specs.UnpackingLaws.{length-words}
 use Rattle.capnp_pack.proofs.TagLemmas.{tag_zero, tag_suc, zeros_cons}
-
-pub concat_len : (words : List (List ℕ)) → AllByRecursion IsWord words → length (concat words) ≡ 8 * length words
-concat_len [] all = refl
-concat_len (w ∷ words) all = omega (arith, length-append w (concat words), all.0, concat_len words all.1)
 
 flat_lanes : (words : List (List ℕ)) (flat : List ℕ) → AllByRecursion IsWord words → length words ≡ 8 → flat ≡ flat_map (λ x. x) words → (take 64 flat ≡ concat words) × (length (concat words) ≡ 64)
 flat_lanes words flat all eight is =
     let same : flat ≡ concat words = is ∙ sym (concat_is words) in
-    let long : length (concat words) ≡ 64 = omega (arith, concat_len words all) in
+    let long : length (concat words) ≡ 64 = omega (arith, length-words words all) in
     (ap (take 64) same ∙ take_all 64 (concat words) (omega (arith, long)), long)
 
 -- the bits of the bytes that aren't zero
@@ -117,7 +114,7 @@ some_front (suc b ∷ bytes) some =
 pub zeros_told : (words : List (List ℕ)) (marks : ℕ) → AllByRecursion IsWord words → length words ≡ 8 → marks ≡ tag_of (concat words) →
     (marks ≡ 0 → ⊥) → (count_trailing_zeros 64 marks / 8 < 8) × StandInFront words (count_trailing_zeros 64 marks / 8)
 zeros_told words marks all eight e some =
-    let long : length (concat words) ≡ 64 = omega (arith, concat_len words all) in
+    let long : length (concat words) ≡ 64 = omega (arith, length-words words all) in
     let more : 0 < tag_of (concat words) = omega (arith, e, positive marks some) in
     let told : count_trailing_zeros 64 marks ≡ prefix_len (λ x. not (not (eqb x 0))) (concat words) = ap (count_trailing_zeros 64) e ∙ trailing_tag (concat words) long more in
     (omega (arith, told, some_front (concat words) more, long), subst (λ n. StandInFront words (n / 8)) (sym told) (zero_words_front words all))

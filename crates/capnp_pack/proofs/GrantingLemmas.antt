@@ -1,5 +1,5 @@
 -- What a packer hands on to a sink that grants its text.
-use Rattle.std.proofs.Common.{◌≡◌, ℕ, ◌+◌, ◌<◌, ◌≤◌, List, [], ◌∷◌, ◌++◌, length, take, drop, refl, sym, ap, ◌∙◌, subst, arith, length-append}
+use Rattle.std.proofs.Common.{◌≡◌, ℕ, ◌+◌, ◌<◌, ◌≤◌, List, [], ◌∷◌, ◌++◌, length, take, drop, sym, ap, ◌∙◌, subst, arith, length-append}
 use Rattle.std.specs.List.{concat, flat_map, AllByRecursion}
 use Rattle.std.proofs.lemmas.List.{drop_all, drop-drop, length-take-le}
 use Rattle.std.proofs.lemmas.List.Concat.{concat_is}
@@ -10,7 +10,7 @@ use Rattle.capnp_pack.proofs.AllLemmas.{AllByRecursion-drop}
 use Rattle.capnp_pack.proofs.RunLemmas.{IsRun-once, IsRun-some, few_or_not}
 use Rattle.capnp_pack.proofs.PackerGroups.{IsGroupOf-some, IsGroupOf-once, IsGroupOf-literal}
 use Rattle.capnp_pack.proofs.PackerLemmas.{PacksWords, PacksTo, PacksWords-more, PacksWords-none, PacksWords-some, Packs-words, Packs-once}
-use Rattle.capnp_pack.proofs.PackingLemmas.{PacksTo-none, PacksTo-more}
+use Rattle.capnp_pack.proofs.PackingLemmas.{PacksTo-more}
 
 -- the words of a literal run have as many bytes as the piece that is written of them
 run_flat : (count words : ℕ) (flat : List ℕ) (os : List (List ℕ)) → IsRun HasFewZeros os count → IsRun HasFewZeros os words
@@ -63,9 +63,6 @@ literal_granted grants word os count more start end made old new is all full old
 abbrev pub GrantsRest : (ℕ → Type 0) → (ℕ → Type 0) → List (List ℕ) → List (List ℕ) → ℕ → Type 0
 GrantsRest first now words left used = (text : List ℕ) × PacksTo words text left
     × ((rest : List ℕ) (more : ℕ) → PacksWords left rest → first (length text + (length rest + more)) → now (used + (length rest + more)))
-
-pub grants_none : (first : ℕ → Type 0) (words : List (List ℕ)) → GrantsRest first first words words 0
-grants_none first words = ([], PacksTo-none words, λ rest more packs granted. granted)
 
 -- the next group of a piece
 pub grants_more : (first before after : ℕ → Type 0) (words : List (List ℕ)) (done n used next : ℕ) (w : List ℕ) (os : List (List ℕ)) (g : Group)

@@ -6,22 +6,19 @@ use Rattle.std.proofs.lemmas.List.Folds.{concat-append}
 use Rattle.std.proofs.lemmas.List.Concat.{concat_is}
 use Rattle.capnp_frame.specs.declared.error.ErrorKind.{ErrorKind}
 use Rattle.capnp_frame.specs.Source.{IfKnown}
-use Rattle.capnp_frame.specs.Sink.{DeclinesAny, Appending, Declining, Adds, AppendsAll}
+use Rattle.capnp_frame.specs.Sink.{DeclinesAny, Appending, Declining, Adds}
 use Rattle.capnp_frame.proofs.SourceLemmas.{IfKnown-join, IfKnown-weaker}
 use Rattle.capnp_pack.specs.PackedSink.{DeclinesPacked}
 use Rattle.capnp_frame.specs.declared.error.Error.{Error}
 use Rattle.capnp_frame.specs.Message.{IsWholeWords}
+use Rattle.capnp_frame.proofs.WritingLemmas.{AppendsAll-append}
 use Rattle.capnp_pack.specs.Steps.{Hands}
-
-AppendsAll-join : (appends : Appending) (xs ys : List (List ℕ)) (s t : List ℕ) → AppendsAll appends xs s → AppendsAll appends ys t → AppendsAll appends (xs ++ ys) (s ++ t)
-AppendsAll-join appends [] ys s t p q = subst (λ l. AppendsAll appends ys (l ++ t)) (sym p) q
-AppendsAll-join appends (x ∷ xs) ys s t p q = (p.0, p.1 ++ t, p.2, AppendsAll-join appends xs ys p.1 t p.3 q, ap (λ l. l ++ t) p.4 ∙ append_assoc p.0 p.1 t)
 
 pub Hands-join : (appends : Appending) (old s mid t new x y z : List ℕ) → Hands appends old s mid x y → Hands appends mid t new y z → Hands appends old (s ++ t) new x z
 Hands-join appends old s mid t new x y z p q = record {
   parts = p.parts ++ q.parts;
   handed = p.handed ++ q.handed;
-  told = AppendsAll-join appends p.parts q.parts p.handed q.handed p.told q.told;
+  told = AppendsAll-append appends p.parts q.parts p.handed q.handed p.told q.told;
   added = q.added ∙ ap (λ l. l ++ q.handed) p.added ∙ append_assoc x p.handed q.handed;
   kept = sym (append_assoc old s t) ∙ ap (λ l. l ++ t) p.kept ∙ append_assoc (concat p.parts) mid t ∙ ap (λ l. concat p.parts ++ l) q.kept
       ∙ sym (append_assoc (concat p.parts) (concat q.parts) new) ∙ ap (λ l. l ++ new) (sym (concat-append p.parts q.parts));

@@ -1,17 +1,17 @@
 -- What a packer leaves at a sink where a call fails.
-use Rattle.std.proofs.Common.{◌≡◌, ℕ, ◌+◌, ◌≤◌, ◌⊎◌, inl, inr, Option, List, [], ◌∷◌, ◌++◌, length, take, drop, refl, sym, ap, ◌∙◌, subst, append_assoc}
+use Rattle.std.proofs.Common.{◌≡◌, ℕ, ◌≤◌, inl, inr, Option, List, [], ◌∷◌, ◌++◌, length, take, drop, refl, sym, ap, ◌∙◌, subst, append_assoc}
 use Rattle.std.specs.List.{concat, flat_map, AllByRecursion}
 use Rattle.std.proofs.lemmas.List.{append-nil, drop_all, length-take-le}
 use Rattle.std.proofs.lemmas.List.Folds.{concat-append}
 use Rattle.std.proofs.lemmas.List.Concat.{concat_is}
 use Rattle.capnp_frame.specs.Source.{IfKnown}
-use Rattle.capnp_frame.specs.Sink.{Appending, Leaving, Adds, AppendsAll, LeavesSome}
+use Rattle.capnp_frame.specs.Sink.{Appending, Leaving, Adds}
 use Rattle.capnp_frame.proofs.SourceLemmas.{IfKnown-join, IfKnown-weaker}
 use Rattle.capnp_frame.proofs.SinkLemmas.{left_front, left_after}
-use Rattle.capnp_pack.specs.Group.{Group, literal, IsWord, group_text}
+use Rattle.capnp_pack.specs.Group.{literal, IsWord, group_text}
 use Rattle.capnp_pack.specs.Packed.{Packs}
 use Rattle.capnp_pack.specs.PackedSink.{LeavesPacked}
-use Rattle.capnp_pack.specs.Steps.{HasFewZeros, IsRun, IsGroupOf, Hands, LeavesParts, LiteralAfter, GroupAfter, tag_of}
+use Rattle.capnp_pack.specs.Steps.{HasFewZeros, IsRun, Hands, LeavesParts, LiteralAfter, GroupAfter, tag_of}
 use Rattle.capnp_pack.proofs.AllLemmas.{AllByRecursion-drop}
 use Rattle.capnp_pack.proofs.PackerGroups.{IsGroupOf-some, IsGroupOf-literal}
 use Rattle.capnp_pack.proofs.PackerLemmas.{PacksWords, PacksTo, PacksWords-more, PacksWords-none, PacksWords-some, Packs-words}

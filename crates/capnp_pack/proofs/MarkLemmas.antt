@@ -17,6 +17,7 @@ use Rattle.capnp_pack.specs.Group.{IsWord, marked}
 use Rattle.capnp_pack.specs.Steps.{tag_of, nonzero}
 use Rattle.capnp_pack.proofs.TagLemmas.{marked_tag, tag_below, top_word, tag_suc, nonzero_suc}
 use Rattle.capnp_pack.proofs.PlaceLemmas.{IsPlace, later, lane_at}
+use Rattle.std.proofs.lemmas.List.{take-take}
 use Rattle.capnp_pack.proofs.LaneLemmas.{marks_lanes}
 
 -- the places from i on of the bits that are set
@@ -100,12 +101,6 @@ ones_tag (suc b ∷ w) =
     let more : ones (1 + 2 * tag_of w) ≡ suc (length (nonzero w)) = omega (arith, ones_step (1 + 2 * tag_of w), ap ones half, ones_tag w) in
     ap ones (tag_suc b w) ∙ more ∙ sym (ap length (nonzero_suc b w))
 
-take_fewer : (n m : ℕ) (xs : List ℕ) → n ≤ m → take n (take m xs) ≡ take n xs
-take_fewer zero m xs few = refl
-take_fewer (suc n) zero xs few = absurd (omega arith)
-take_fewer (suc n) (suc m) [] few = refl
-take_fewer (suc n) (suc m) (x ∷ xs) few = ap (λ l. x ∷ l) (take_fewer n m xs (omega arith))
-
 abbrev pub padded : List ℕ → List ℕ
 padded word = get_or word 0 0 ∷ get_or word 1 0 ∷ get_or word 2 0 ∷ get_or word 3 0 ∷ get_or word 4 0 ∷ get_or word 5 0 ∷ get_or word 6 0 ∷ get_or word 7 0 ∷ replicate 8 0
 
@@ -139,7 +134,7 @@ marks_word word is = marks_lanes 16 (padded word) refl (omega arith) ∙ padded_
 pub nonzero_lanes : (tag : ℕ) (word : List ℕ) → IsWord word → tag ≡ tag_of word → take (ones tag) (take 8 (swz_l w8 16 (padded word) 0 (mark_row tag))) ≡ nonzero word
 nonzero_lanes tag word is e =
     let low : tag < 2 ^ 8 = omega (arith, tag_below word, top_word word is) in
-    take_fewer (ones tag) 8 (swz_l w8 16 (padded word) 0 (mark_row tag)) (ones-le 8 tag low)
+    take-take (ones tag) 8 (swz_l w8 16 (padded word) 0 (mark_row tag)) (ones-le 8 tag low)
     ∙ gather 8 0 tag 0 word (padded word) (replicate (16 - length (marks 8 0 tag)) 128) refl is (padded_at word) (omega arith) low
     ∙ ap (λ t. marked t word) e
     ∙ marked_tag word

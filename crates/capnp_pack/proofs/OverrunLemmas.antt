@@ -1,16 +1,15 @@
 -- What is consumed where a count is larger than what is asked.
-use Rattle.std.proofs.Common.{◌≡◌, ℕ, ◌+◌, ◌-◌, ◌*◌, ◌<◌, ◌≤◌, ◌⊎◌, inl, inr, Option, Some, None, List, [], ◌∷◌, ◌++◌, length, replicate, refl, sym, ap, ◌∙◌, subst, arith, append_assoc, length-append}
-use Rattle.std.specs.List.{concat, AllByRecursion}
-use Rattle.std.proofs.lemmas.List.{length-replicate}
+use Rattle.std.proofs.Common.{◌≡◌, ℕ, ◌+◌, ◌*◌, ◌<◌, ◌⊎◌, inl, inr, Option, Some, None, List, [], ◌∷◌, ◌++◌, length, replicate, sym, ap, ◌∙◌, arith, append_assoc, length-append}
+use Rattle.std.specs.List.{concat}
 use Rattle.std.proofs.lemmas.List.Folds.{concat-append}
 use Rattle.std.proofs.lemmas.List.Concat.{flat_map-append}
 use Rattle.capnp_frame.specs.declared.error.ErrorKind.{ErrorKind}
 use Rattle.capnp_frame.specs.declared.error.ErrorKind.TheVariants.{DeviceFailed, PackedInputDidNotEndCleanlyOnASegmentBoundary}
 use Rattle.capnp_frame.specs.Source.{IfKnown, IsRefused, RunsShort}
 use Rattle.capnp_frame.proofs.SourceLemmas.{IfKnown-join, IfKnown-weaker}
-use Rattle.capnp_pack.specs.Group.{Group, IsGroup, zeros, literal, IsWord, group_text, group_words, marked, zero_word}
+use Rattle.capnp_pack.specs.Group.{IsGroup, zeros, literal, IsWord, group_text, group_words, marked, zero_word}
 use Rattle.capnp_pack.specs.Piece.{text_of, words_of_groups}
-use Rattle.capnp_pack.specs.PackedSource.{LeavesOverrun, head_text, group_size}
+use Rattle.capnp_pack.specs.PackedSource.{LeavesOverrun, head_text}
 use Rattle.capnp_pack.specs.Steps.{HasTaken, HeadOver, CountOver, MarkedAt, Lacks}
 use Rattle.capnp_pack.proofs.AllLemmas.{AllByRecursion-append}
 use Rattle.capnp_pack.proofs.FaultLemmas.{literal_head, literal_size, zeros_size}

@@ -2,7 +2,6 @@
 use Rattle.std.proofs.Common.{◌≡◌, ℕ, List, [], ◌∷◌, ◌++◌, refl, sym, ap, ◌∙◌, subst, ◌↔◌, inl, inr, ◌≤◌, length, drop, arith, length-drop, append_assoc}
 use Rattle.std.proofs.lemmas.Bool.{cases_lt}
 use Rattle.std.proofs.lemmas.List.{append-nil, nil_from_length}
-use Rattle.std.specs.List.{concat}
 use Rattle.capnp_frame.specs.Message.{lengths}
 use Rattle.capnp_frame.specs.SegmentTable.{zero_padded_table}
 use Rattle.capnp_frame.specs.Sink.{AppendsAll, AppendsSame}
@@ -11,16 +10,13 @@ use Rattle.capnp_frame.proofs.WritingLemmas.{parts_one, parts_two}
 use Rattle.capnp_pack.specs.Packed.{Packs}
 use Rattle.capnp_pack.specs.PackedFrame.{IsPackedText, table_first, table_others}
 use Rattle.capnp_pack.specs.PackedSink.{AppendsPacked}
+use Rattle.capnp_frame.proofs.TextLemmas.{pieces_joined}
 use Rattle.capnp_pack.proofs.PackerLemmas.{Packs-once}
 
 -- over a plain sink the parts are joined
-all_same : (parts : List (List ℕ)) (text : List ℕ) → AppendsAll AppendsSame parts text → text ≡ concat parts
-all_same [] text all = all
-all_same (p ∷ ps) text all = all.4 ∙ ap (λ l. l ++ all.1) all.2 ∙ ap (λ l. p ++ l) (all_same ps all.1 all.3)
-
 pub packed_over_plain : (piece text : List ℕ) → AppendsPacked AppendsSame piece text ↔ Packs piece text
 packed_over_plain piece text = (
-  λ (parts, packed, all). subst (Packs piece) (sym (all_same parts text all)) packed,
+  λ (parts, packed, all). subst (Packs piece) (sym ((pieces_joined parts text).0 all)) packed,
   λ packed. (text ∷ [], subst (Packs piece) (sym (append-nil text)) packed, (text, [], refl, refl, sym (append-nil text))),
 )
 

@@ -1,5 +1,5 @@
 -- The text that a packer makes of some words: there is one, and one alone.
-use Rattle.std.proofs.Common.{◌≡◌, ℕ, zero, suc, ◌/◌, ◌%◌, ◌≤◌, List, [], ◌∷◌, ◌++◌, length, take, drop, replicate, refl, sym, ap, ◌∙◌, subst, arith, length-append}
+use Rattle.std.proofs.Common.{◌≡◌, ℕ, zero, suc, ◌/◌, ◌%◌, ◌≤◌, List, [], ◌∷◌, ◌++◌, length, drop, replicate, refl, sym, ap, ◌∙◌, subst, arith, length-append}
 use Rattle.std.specs.List.{concat, AllByRecursion}
 use Rattle.std.specs.Simd.{first_chunks}
 use Rattle.std.proofs.lemmas.List.{length-drop, take-append-drop, take_at, drop_at}
@@ -66,18 +66,12 @@ group_parts (tagged tag word) = refl
 group_parts (zeros more) = refl
 group_parts (literal word further) = refl
 
-take_front : (xs ys : List (List ℕ)) → take (length xs) (xs ++ ys) ≡ xs
-take_front xs ys = take_at xs ys (length xs) refl
-
-drop_front : (xs ys : List (List ℕ)) → drop (length xs) (xs ++ ys) ≡ ys
-drop_front xs ys = drop_at xs ys (length xs) refl
-
 made_of : (g : Group) (left : List (List ℕ)) → IsGroup g → IsLongest g left → IsGroupOf (first_word g) (others g ++ left) (length (others g)) g
 made_of g left is longest = record {
   within = omega (arith, length-append (others g) left);
   is = is;
-  words = group_parts g ∙ ap (λ l. first_word g ∷ l) (sym (take_front (others g) left));
-  longest = subst (IsLongest g) (sym (drop_front (others g) left)) longest;
+  words = group_parts g ∙ ap (λ l. first_word g ∷ l) (sym (take_at (others g) left _ refl));
+  longest = subst (IsLongest g) (sym (drop_at (others g) left _ refl)) longest;
 }
 
 -- and one alone
@@ -92,8 +86,8 @@ groups_once (g ∷ gs) (h ∷ hs) p q r s e =
     let here = made_of g (words_of_groups gs) p.0 r.0 in
     let moved = subst (λ l. IsGroupOf (first_word h) l (length (others g)) g) parts.1 (subst (λ w. IsGroupOf w (others g ++ words_of_groups gs) (length (others g)) g) parts.0 here) in
     let one = IsGroupOf-once (first_word h) (others h ++ words_of_groups hs) (length (others g)) (length (others h)) g h moved (made_of h (words_of_groups hs) q.0 s.0) in
-    let left : words_of_groups gs ≡ words_of_groups hs = sym (drop_front (others g) (words_of_groups gs)) ∙ ap (drop (length (others g))) parts.1
-    ∙ ap (λ k. drop k (others h ++ words_of_groups hs)) one.0 ∙ drop_front (others h) (words_of_groups hs) in
+    let left : words_of_groups gs ≡ words_of_groups hs = sym (drop_at (others g) (words_of_groups gs) _ refl) ∙ ap (drop (length (others g))) parts.1
+    ∙ ap (λ k. drop k (others h ++ words_of_groups hs)) one.0 ∙ drop_at (others h) (words_of_groups hs) _ refl in
     ap (λ k. k ∷ gs) one.1 ∙ ap (λ l. h ∷ l) (groups_once gs hs p.1 q.1 r.1 s.1 left)
 
 group_whole : (g : Group) → IsGroup g → AllByRecursion IsWord (group_words g)

@@ -6,7 +6,7 @@ use Rattle.capnp_frame.specs.Source.{IfKnown}
 use Rattle.capnp_frame.specs.Sink.{Appending, Adds}
 use Rattle.capnp_frame.proofs.SourceLemmas.{IfKnown-join, IfKnown-weaker}
 use Rattle.capnp_frame.specs.declared.error.Error.{Error}
-use Rattle.capnp_pack.specs.Group.{Group, tagged, zeros, literal, IsWord, group_text, zero_bytes, zero_word, marked}
+use Rattle.capnp_pack.specs.Group.{Group, tagged, zeros, literal, IsWord, group_text, zero_bytes, zero_word}
 use Rattle.capnp_pack.specs.Packed.{IfFirst, Packs}
 use Rattle.capnp_pack.specs.PackedSink.{AppendsPacked}
 use Rattle.capnp_pack.specs.Steps.{IsZero, HasFewZeros, tag_of, nonzero, IsRun, IsGroupOf, EndsGroup, Hands}
@@ -82,9 +82,6 @@ made_literal words new appends word os tag old roomy filled a b c (Ok v) is all 
     )
 
 -- the whole piece
-
-pub PacksTo-none : (words : List (List ℕ)) → PacksTo words [] words
-PacksTo-none words = λ more p. p
 
 pub PacksTo-more : (words : List (List ℕ)) (text : List ℕ) (done next n : ℕ) (w : List ℕ) (os : List (List ℕ)) (g : Group) →
     drop done words ≡ w ∷ os → drop n os ≡ drop next words → IsGroupOf w os n g → PacksTo words text (drop done words) → PacksTo words (text ++ group_text g) (drop next words)

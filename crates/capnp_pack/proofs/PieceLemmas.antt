@@ -5,7 +5,7 @@ use borrow.Rule.Slice.PartMut.{put_mid}
 use Rattle.capnp_frame.specs.declared.error.ErrorKind.{ErrorKind}
 use Rattle.capnp_frame.specs.declared.error.ErrorKind.TheVariants.{FailedToFillTheWholeBuffer, PrematureEndOfPackedInput, NotWholeWords, DeviceFailed}
 use Rattle.capnp_frame.specs.Source.{IfKnown, IsTail, AnswersPart, IsRefused}
-use Rattle.capnp_frame.proofs.SourceLemmas.{IfKnown-weaker, AnswersPart-none, AnswersPart-filled, AnswersPart-given, length-put_mid}
+use Rattle.capnp_frame.proofs.SourceLemmas.{IfKnown-weaker, IsRefused-fill, refused_fill, AnswersPart-none, AnswersPart-filled, AnswersPart-given, length-put_mid}
 use Rattle.capnp_pack.specs.Group.{zeros}
 use Rattle.capnp_pack.specs.PackedSource.{Unpacks, IsFault, MeetsFault, RefusesPiece}
 use Rattle.capnp_pack.specs.UnpackingLaws.{takes_no_group, unpack_nothing, unpack_once}
@@ -13,7 +13,7 @@ use Rattle.capnp_pack.specs.RefusingLaws.{packed_apart}
 use Rattle.capnp_pack.proofs.FaultLemmas.{fault_here, no_count, long_run}
 
 -- a later group is missing
-pub end_refused : (n : ℕ) (old : Option (List ℕ)) → 0 < n → IfSome old (λ raw. raw ≡ []) → IsRefused MeetsFault n old PrematureEndOfPackedInput
+end_refused : (n : ℕ) (old : Option (List ℕ)) → 0 < n → IfSome old (λ raw. raw ≡ []) → IsRefused MeetsFault n old PrematureEndOfPackedInput
 end_refused n None some end = (0 ∷ [], n, no_count n some)
 end_refused n (Some x) some end =
     subst (λ l. MeetsFault l n PrematureEndOfPackedInput) (sym end)
@@ -28,7 +28,7 @@ part_refused n (Some raw) kind part is = inl (part, is)
 start_refused : (raw : List ℕ) (n : ℕ) → 0 < n → n % 8 ≡ 0 → raw ≡ [] → RefusesPiece raw n FailedToFillTheWholeBuffer
 start_refused raw n some whole none = inr (λ part. part whole, inl (none, (some, refl)))
 
-pub none_refused : (n : ℕ) (old : Option (List ℕ)) → 0 < n → n % 8 ≡ 0 → IfSome old (λ raw. raw ≡ []) → IsRefused RefusesPiece n old FailedToFillTheWholeBuffer
+none_refused : (n : ℕ) (old : Option (List ℕ)) → 0 < n → n % 8 ≡ 0 → IfSome old (λ raw. raw ≡ []) → IsRefused RefusesPiece n old FailedToFillTheWholeBuffer
 none_refused n None some whole end = ([], n, start_refused [] n some whole refl)
 none_refused n (Some raw) some whole end = start_refused raw n some whole end
 
@@ -41,11 +41,11 @@ some_piece left n kind (inl p) = (0 ∷ [], 8, subst (RefusesPiece (0 ∷ []) 8)
 some_piece left n kind (inr (inl p)) = (0 ∷ 1 ∷ [], 8, subst (RefusesPiece (0 ∷ 1 ∷ []) 8) (sym p.1) (later_refused (0 ∷ 1 ∷ []) 8 _ refl (λ e. cc) (long_run 1 8 [] (lit< tt) (lit< tt) (lit< tt))))
 some_piece left n kind (inr (inr p)) = ([], 8, subst (RefusesPiece [] 8) (sym p.1) (start_refused [] 8 (lit< tt) refl refl))
 
-pub piece_refused : (n : ℕ) (old : Option (List ℕ)) (kind : ErrorKind) → n % 8 ≡ 0 → IfSome old (λ raw. raw ≡ [] → ⊥) → IsRefused MeetsFault n old kind → IsRefused RefusesPiece n old kind
+piece_refused : (n : ℕ) (old : Option (List ℕ)) (kind : ErrorKind) → n % 8 ≡ 0 → IfSome old (λ raw. raw ≡ [] → ⊥) → IsRefused MeetsFault n old kind → IsRefused RefusesPiece n old kind
 piece_refused n None kind whole more p = some_piece p.2.left _ kind p.2.fault
 piece_refused n (Some raw) kind whole more p = later_refused raw n kind whole more p
 
-pub group_error : (n filled : ℕ) (old mid : Option (List ℕ)) (kind : ErrorKind) → n % 8 ≡ 0 → (0 < filled → IfSome old (λ raw. raw ≡ [] → ⊥)) →
+group_error : (n filled : ℕ) (old mid : Option (List ℕ)) (kind : ErrorKind) → n % 8 ≡ 0 → (0 < filled → IfSome old (λ raw. raw ≡ [] → ⊥)) →
     (filled ≡ 0 → mid ≡ old) → (mid ≡ Some [] → kind ≡ DeviceFailed) → (kind ≡ DeviceFailed) ⊎ IsRefused MeetsFault n old kind →
     (kind ≡ DeviceFailed) ⊎ IsRefused RefusesPiece n old kind
 group_error n filled old mid kind whole more same end (inl p) = inl p
@@ -75,10 +75,36 @@ pub none_taken : (n : ℕ) (old mid new : Option (List ℕ)) → mid ≡ old →
 none_taken n old mid new same end tail = subst (λ o. IfKnown o new (AnswersPart Unpacks RefusesPiece n [])) same (none_left n mid new end tail)
 
 -- the buffer stays whole words
-pub whole_fill : (filled n : ℕ) (buffer part : List ℕ) → filled ≤ length buffer → length part ≡ length buffer - filled → length buffer ≡ n →
+whole_fill : (filled n : ℕ) (buffer part : List ℕ) → filled ≤ length buffer → length part ≡ length buffer - filled → length buffer ≡ n →
     n % 8 ≡ 0 → length (put_mid filled (length buffer - filled) buffer part) % 8 ≡ 0
 whole_fill filled n buffer part within fits same whole = ap (λ k. k % 8) (length-put_mid filled buffer part within fits ∙ same) ∙ whole
+
+-- a group fails behind the front of the buffer
+pub group_failed : (filled n : ℕ) (buffer part : List ℕ) (old mid : Option (List ℕ)) (kind : ErrorKind) → filled ≤ length buffer
+    → length part ≡ length buffer - filled → length buffer ≡ n → n % 8 ≡ 0 → (0 < filled → IfSome old (λ raw. raw ≡ [] → ⊥))
+    → (filled ≡ 0 → mid ≡ old) → IfKnown old mid (AnswersPart Unpacks MeetsFault (length buffer) (take filled buffer))
+    → (mid ≡ Some [] → kind ≡ DeviceFailed) → (kind ≡ DeviceFailed) ⊎ IsRefused MeetsFault (length part) mid kind
+    → (kind ≡ DeviceFailed) ⊎ IsRefused RefusesPiece (length (put_mid filled (length buffer - filled) buffer part)) old kind
+group_failed filled n buffer part old mid kind within fits same whole more start taken end refused =
+    group_error _ filled old mid kind (whole_fill filled n buffer part within fits same whole) more start end
+    (refused_fill _ Unpacks MeetsFault filled buffer part old mid kind within fits taken refused)
+
+-- or is missing there
+pub group_missing : (filled n : ℕ) (buffer part : List ℕ) (old mid : Option (List ℕ)) → filled ≤ length buffer → length part ≡ length buffer - filled
+    → length buffer ≡ n → n % 8 ≡ 0 → IfSome old (λ raw. raw ≡ [] → ⊥) → IfKnown old mid (AnswersPart Unpacks MeetsFault (length buffer) (take filled buffer))
+    → 0 < length part → IfSome mid (λ raw. raw ≡ [])
+    → IsRefused RefusesPiece (length (put_mid filled (length buffer - filled) buffer part)) old PrematureEndOfPackedInput
+group_missing filled n buffer part old mid within fits same whole more taken some none =
+    piece_refused _ old PrematureEndOfPackedInput (whole_fill filled n buffer part within fits same whole) more
+    (IsRefused-fill Unpacks MeetsFault filled buffer part old mid PrematureEndOfPackedInput within fits taken (end_refused (length part) mid some none))
 
 -- nothing was unread before the first group either
 pub end_before : (old mid : Option (List ℕ)) → mid ≡ old → IfSome mid (λ raw. raw ≡ []) → IfSome old (λ raw. raw ≡ [])
 end_before old mid same end = subst (λ o. IfSome o (λ raw. raw ≡ [])) same end
+
+-- none is there, nor was one before
+pub first_missing : (filled n : ℕ) (buffer part : List ℕ) (old mid : Option (List ℕ)) → filled ≤ length buffer → length part ≡ length buffer - filled
+    → length buffer ≡ n → n % 8 ≡ 0 → mid ≡ old → IfSome mid (λ raw. raw ≡ []) → 0 < length (put_mid filled (length buffer - filled) buffer part)
+    → IsRefused RefusesPiece (length (put_mid filled (length buffer - filled) buffer part)) old FailedToFillTheWholeBuffer
+first_missing filled n buffer part old mid within fits same whole start none some =
+    none_refused _ old some (whole_fill filled n buffer part within fits same whole) (end_before old mid start none)

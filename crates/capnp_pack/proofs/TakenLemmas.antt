@@ -1,21 +1,16 @@
 -- Whole groups that are taken from the front.
-use Rattle.std.proofs.Common.{◌≡◌, ℕ, ◌+◌, ◌<◌, ◌≤◌, Option, Some, None, IfSome, List, [], ◌∷◌, ◌++◌, length, take, drop, refl, sym, ap, ◌∙◌, subst, append_assoc, length-append}
-use Rattle.std.specs.List.{concat, AllByRecursion}
+use Rattle.std.proofs.Common.{◌≡◌, ℕ, ◌+◌, ◌≤◌, Option, Some, None, IfSome, List, [], ◌∷◌, ◌++◌, length, take, drop, sym, ap, ◌∙◌, subst, append_assoc, length-append}
+use Rattle.std.specs.List.{concat}
 use Rattle.std.proofs.lemmas.List.{append-nil, length-take-le, take-append-drop}
 use Rattle.std.proofs.lemmas.List.Folds.{concat-append}
 use Rattle.std.proofs.lemmas.List.Concat.{flat_map-append}
 use lib.Seq.{take-append-le}
 use Rattle.capnp_frame.specs.Source.{IfKnown, IsFront}
 use Rattle.capnp_frame.proofs.SourceLemmas.{IfKnown-join}
-use Rattle.capnp_pack.specs.Group.{Group, IsGroup, group_text, group_words}
+use Rattle.capnp_pack.specs.Group.{IsGroup, group_text, group_words}
 use Rattle.capnp_pack.specs.Piece.{text_of, words_of_groups}
 use Rattle.capnp_pack.specs.Steps.{HasTaken, GroupAt, Unpacked}
 use Rattle.capnp_pack.proofs.AllLemmas.{AllByRecursion-append}
-
--- none
-pub none_taken_yet : (a : Option (List ℕ)) → IfKnown a a (HasTaken 0)
-none_taken_yet None = tt
-none_taken_yet (Some x) = ([], tt, refl, refl)
 
 pub more_taken : (j k : ℕ) (a b c : Option (List ℕ)) → IfKnown a b (HasTaken j) → IfKnown b c (HasTaken k) → IfKnown a c (HasTaken (j + k))
 more_taken j k a b c = IfKnown-join a b c (λ x y z (groups, each, spelled, counted) (more, also, rest, further). (

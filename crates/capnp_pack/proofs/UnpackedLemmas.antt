@@ -2,12 +2,12 @@
 use Rattle.std.proofs.Common.{◌≡◌, ℕ, zero, suc, ◌+◌, ◌-◌, ◌*◌, ◌%◌, ◌/◌, ◌<◌, ◌≤◌, Option, Some, None, IfSome, List, [], ◌∷◌, ◌++◌}
 use Rattle.std.proofs.Common.{length, take, drop, get_or, replicate, refl, sym, ap, ◌∙◌, subst, arith, append_assoc, length-append}
 use Rattle.std.proofs.Common.{length-drop, drop-cons, add-one}
-use Rattle.std.proofs.lemmas.List.{append-nil, take_at, drop_at, take-append-drop, drop-drop, length-take-le, take-append-le}
+use Rattle.std.proofs.lemmas.List.{append-nil, take_at, take-append-drop, drop-drop, length-take-le, take-append-le}
 use Rattle.std.proofs.lemmas.List.Concat.{flat_map-append}
 use Rattle.std.proofs.lemmas.List.Folds.{concat-append}
 use Rattle.std.proofs.Math.Seq.{take-add}
 use Rattle.std.specs.List.{concat, AllByRecursion}
-use borrow.Rule.Slice.PartMut.{put_mid, post_of}
+use borrow.Rule.Slice.PartMut.{put_mid}
 use Rattle.capnp_frame.specs.Source.{IfKnown, IsFront, AnswersPart}
 use Rattle.capnp_frame.proofs.SourceLemmas.{AnswersPart-join, AnswersPart-none, length-put_mid}
 use Rattle.capnp_pack.specs.Group.{Group, tagged, zeros, literal, IsGroup, IsWord, AreZero, group_text, group_words, marked, unmarked}
@@ -17,6 +17,7 @@ use Rattle.capnp_pack.specs.Steps.{MarkedAt, RunAt, GroupBehind, Unpacked}
 use Rattle.capnp_pack.proofs.AllLemmas.{AllByRecursion-append}
 use Rattle.capnp_pack.proofs.GroupLemmas.{group_takes, zeros_at}
 use Rattle.capnp_pack.proofs.WordLemmas.{MarksTo, MarksTo-more, clear_byte, set_byte, full_word}
+use Rattle.capnp_frame.proofs.SourceLemmas.{put_mid_front}
 use Rattle.capnp_pack.proofs.WordGroups.{tagged_found, literal_found}
 
 -- a byte by its bit, in a text from `used` on
@@ -129,27 +130,6 @@ group_unpacked tag used filled shown behind buffer e g =
       };
     }
 
-pub nothing_unpacked : (text buffer : List ℕ) → Unpacked text buffer 0 0
-nothing_unpacked text buffer = record {
-  used_within = omega arith;
-  some = λ none. absurd (omega arith);
-  filled_within = omega arith;
-  whole = refl;
-  piece = record { groups = []; each = tt; spelled = refl; unpacked = refl };
-}
-
--- the front of a buffer of which the part from `a` on is filled
-pub put_part : (a b n : ℕ) (xs ys : List ℕ) → a ≤ length xs → n ≤ length ys → take (a + n) (put_mid a b xs ys) ≡ take a xs ++ take n ys
-put_part a b n xs ys within fits =
-    let post = post_of a b xs in
-    take-add a n (take a xs ++ (ys ++ post))
-    ∙ ap (λ l. l ++ take n (drop a (take a xs ++ (ys ++ post)))) (take_at (take a xs) (ys ++ post) a (length-take-le a xs within))
-    ∙ ap (λ l. take a xs ++ take n l) (drop_at (take a xs) (ys ++ post) a (length-take-le a xs within))
-    ∙ ap (λ l. take a xs ++ l) (take-append-le n ys post fits)
-
-pub put_front : (a n : ℕ) (xs ys : List ℕ) → a ≤ length xs → n ≤ length ys → take (a + n) (put_mid a (length xs - a) xs ys) ≡ take a xs ++ take n ys
-put_front a n xs ys within fits = put_part a (length xs - a) n xs ys within fits
-
 either_some : (filled used count more : ℕ) → (0 < filled → 0 < used) → (0 < count → 0 < more) → 0 < filled + count → 0 < used + more
 either_some zero used count more a b s = let some : 0 < more = b (omega arith) in omega arith
 either_some (suc filled) used count more a b s = let some : 0 < used = a (omega arith) in omega arith
@@ -178,7 +158,7 @@ unpacked_more used filled more count shown rest buffer part e fits p q =
         each = AllByRecursion-append IsGroup gs hs p.piece.each q.piece.each;
         spelled = take-add used more shown ∙ ap (λ l. take used shown ++ take more l) (sym e) ∙ ap (λ l. l ++ take more rest) p.piece.spelled
             ∙ ap (λ l. text_of gs ++ l) q.piece.spelled ∙ sym (flat_map-append group_text gs hs);
-        unpacked = put_front filled count buffer part before inside ∙ ap (λ l. l ++ take count part) p.piece.unpacked
+        unpacked = put_mid_front filled (length buffer - filled) count buffer part before inside ∙ ap (λ l. l ++ take count part) p.piece.unpacked
             ∙ ap (λ l. concat (words_of_groups gs) ++ l) q.piece.unpacked ∙ sym (concat-append (words_of_groups gs) (words_of_groups hs))
             ∙ ap concat (sym (flat_map-append group_words gs hs));
       };

@@ -15,15 +15,6 @@ pub record MarksTo (tag bits : ℕ) (front raw left : List ℕ) : Type 0 where
   pub joins : (others after : List ℕ) → MarkedAt bits others left after → MarkedAt tag (front ++ others) raw after
   pub counts : (n : ℕ) → marked_count tag (length front + n) + length left ≡ length raw + marked_count bits n
 
-pub MarksTo-none : (tag : ℕ) (raw : List ℕ) → MarksTo tag tag [] raw raw
-MarksTo-none tag raw = record { joins = λ others after at. at; counts = λ n. both (marked_count tag (length {A = ℕ} [] + n)) (marked_count tag n) (length raw) (ap (marked_count tag) (no_more n)) }
-  where
-    no_more : (n : ℕ) → length {A = ℕ} [] + n ≡ n
-    no_more n = omega arith
-
-    both : (k m n : ℕ) → k ≡ m → k + n ≡ n + m
-    both k m n same = omega arith
-
 abbrev one_at : ℕ → ℕ → ℕ → List ℕ
 one_at bit bits byte = if bits % 2 == bit then byte ∷ [] else []
 
@@ -96,13 +87,6 @@ set_byte bits byte old new set found = IfKnown-weaker old new (λ x y e. (
   e ∙ ap (λ k. ((if k == 1 then byte ∷ [] else []) ++ []) ++ y) (sym (odd_bit bits set)),
   subst (λ k. AreZero ((if k == 0 then byte ∷ [] else []) ++ [])) (sym (odd_bit bits set)) tt,
 )) found
-
-marked_count-set : (bits : ℕ) → (bits % 2 ≡ 0 → ⊥) → marked_count bits 1 ≡ 1
-marked_count-set bits set = ap (λ k. length {A = ℕ} ((if k == 1 then 0 ∷ [] else []) ++ [])) (odd_bit bits set)
-
-pub byte_lacking : (F : Type 0) (bits : ℕ) (old : Option (List ℕ)) (kind : ErrorKind) → (bits % 2 ≡ 0 → ⊥) → F ⊎ Lacks 1 old kind → F ⊎ Lacks (marked_count bits 1) old kind
-byte_lacking F bits old kind set (inl failed) = inl failed
-byte_lacking F bits old kind set (inr lacks) = inr (subst (λ k. Lacks k old kind) (sym (marked_count-set bits set)) lacks)
 
 -- a tag of some bit marks a byte
 

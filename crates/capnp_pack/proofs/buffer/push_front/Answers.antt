@@ -2,7 +2,7 @@
 use Rattle.std.proofs.Common.{rules, ◌≡◌, ◌+◌, ◌-◌, ◌≤◌, [], ◌∷◌, ◌++◌, ◌∙◌, ap, take, length, append_assoc}
 use lib.Count.{ones}
 use Rattle.capnp_pack.specs.Steps.{nonzero}
-use Rattle.capnp_pack.proofs.UnpackedLemmas.{put_part}
+use Rattle.capnp_frame.proofs.SourceLemmas.{put_mid_front}
 use Rattle.capnp_pack.proofs.buffer.push_front.Goals as goal
 
 pub returns-clause-word : goal.returns-clause-word
@@ -15,7 +15,7 @@ returns-clause-word c =
     let within : at ≤ length bytes = search rules in
     let room : count ≤ length part = search rules in
     let front : take count part ≡ text = ap (take count) c.copy_from_slice.ensures.after ∙ c.nonzero_front-front.ensures.front in
-    put_part at (at + 8 - at) count bytes part within room
+    put_mid_front at (at + 8 - at) count bytes part within room
     ∙ ap (λ l. l ++ take count part) c.push-at.ensures.added
     ∙ ap (λ l. (take c.args.used c.args.bytes.now ++ c.args.tag ∷ []) ++ l) front
     ∙ append_assoc (take c.args.used c.args.bytes.now) (c.args.tag ∷ []) text

@@ -1,5 +1,5 @@
 -- The tag says which group it is.
-use Rattle.std.proofs.Common.{rules, arith, ◌≡◌, ◌<◌, ◌∙◌}
+use Rattle.std.proofs.Common.{rules, arith, ◌≡◌, ◌<◌}
 use Rattle.capnp_pack.proofs.PackingLemmas.{ends_zeros, ends_tagged, run_of_none}
 use Rattle.capnp_pack.proofs.packed_write.end_group.Goals as goal
 

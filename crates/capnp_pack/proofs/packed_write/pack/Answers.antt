@@ -1,33 +1,26 @@
 -- Each group packs the front of what is left.
-use Rattle.std.proofs.Common.{arith, ◌+◌, ◌/◌, ◌≡◌, length, drop, get_or, [], ◌∷◌, ◌<◌, ap, sym, ◌∙◌, add-one, drop-cons, length-drop, ◌-◌, take, refl, subst}
-use Rattle.std.proofs.lemmas.List.{take_all}
-use Rattle.std.specs.List.{concat, AllByRecursion}
+use Rattle.std.proofs.Common.{arith, ◌+◌, length, get_or, [], ap, length-drop, take, refl}
 use Rattle.capnp_frame.proofs.SourceLemmas.{Grows-join}
 use Rattle.capnp_pack.proofs.CallLemmas.{hands_last, hands_stopped}
 use Rattle.capnp_pack.proofs.PackingLemmas.{next_words, other_words, packed_more, packed_all}
 use Rattle.capnp_pack.proofs.Chunks.{whole_words}
 use Rattle.capnp_pack.proofs.GrantingLemmas.{grants_more, grants_group, grants_last}
 use Rattle.capnp_pack.proofs.LeavingLemmas.{left_group, left_last}
-use Rattle.capnp_pack.specs.Group.{IsWord}
 use Rattle.capnp_pack.proofs.packed_write.pack.Goals as goal
 
 pub loop-done-preserved : goal.loop-done-preserved
 loop-done-preserved g c =
     let words = c.as_chunks.result.0.now in
     let done = c.loop-done.done in
-    let within : done < length words = c.loop-done-test.true in
-    let others = take (length words - (done + 1)) (drop (done + 1) words) in
     let all = other_words words done in
-    let front = next_words words done within in
-    let rest = c.in_ok-packed.ensures.hands.handed.1.within in
-    let more = packed_more g.W.Write.appends words done c.in_ok-packed.packed.words (get_or words done []) others _ _ _ _ _ front all c.loop-done.invariant.2 c.in_ok-packed.ensures.hands.handed in (
-      omega (arith, length-drop (done + 1) words, ap length all, rest),
+    let front = next_words words done c.loop-done-test.true in
+    let handed = c.in_ok-packed.ensures.hands.handed in (
+      omega (arith, length-drop (done + 1) words, ap length all, handed.1.within),
       c.in_ok-packed.ensures.used,
-      more,
+      packed_more g.W.Write.appends words done c.in_ok-packed.packed.words _ _ _ _ _ _ _ front all c.loop-done.invariant.2 handed,
       Grows-join _ _ _ (g.met.W.Write.keeps.transitive _ _ _) c.loop-done.invariant.3 c.in_ok-packed.ensures.hands.grows,
-      grants_more (g.W.Write.grants c.args.sink.now) (g.W.Write.grants c.loop-done.sink) (g.W.Write.grants c.pack_group.new.sink) words done c.in_ok-packed.packed.words c.loop-done.used c.in_ok-packed.packed.used
-          (get_or words done []) others _ front all c.in_ok-packed.ensures.hands.handed.1
-          c.loop-done.invariant.4 c.in_ok-packed.ensures.granted,
+      grants_more (g.W.Write.grants c.args.sink.now) (g.W.Write.grants c.loop-done.sink) (g.W.Write.grants c.pack_group.new.sink) words done
+          c.in_ok-packed.packed.words c.loop-done.used c.in_ok-packed.packed.used _ _ _ front all handed.1 c.loop-done.invariant.4 c.in_ok-packed.ensures.granted,
     )
 
 pub returns-in_err-packed-clause-writes : goal.returns-in_err-packed-clause-writes

@@ -2,7 +2,8 @@
 use Rattle.std.proofs.Common.{rules, arith, ◌≡◌, ◌-◌, ◌*◌, ◌++◌, ◌∙◌, ap, refl, length, take, drop, get_or, length-drop}
 use Rattle.std.proofs.lemmas.List.{take_all}
 use Rattle.capnp_frame.proofs.SourceLemmas.{length-put_mid}
-use Rattle.capnp_pack.proofs.UnpackedLemmas.{literal_behind, put_front}
+use Rattle.capnp_pack.proofs.UnpackedLemmas.{literal_behind}
+use Rattle.capnp_frame.proofs.SourceLemmas.{put_mid_front}
 use Rattle.capnp_pack.proofs.unpack.unpack_literal.Goals as goal
 
 pub returns : goal.returns
@@ -14,6 +15,6 @@ returns c =
     let same : length word ≡ length c.args.buffer.now = search rules in
     let rest : length part ≡ length word - 8 = search rules in
     let all : take (length behind - 9) (drop 9 behind) ≡ drop 9 behind = take_all (length behind - 9) (drop 9 behind) (omega (arith, length-drop 9 behind)) in
-    let copied = put_front 8 run word part (omega arith) (omega arith) ∙ ap (λ l. l ++ take run part) c.copy_front.ensures
+    let copied = put_mid_front 8 _ run word part (omega arith) (omega arith) ∙ ap (λ l. l ++ take run part) c.copy_front.ensures
     ∙ ap (λ l. take 8 behind ++ l) (c.copy_front-2.ensures ∙ ap (take run) all) in
     literal_behind run behind _ (omega arith) (search rules) refl (omega (arith, length-put_mid 8 word part (omega arith) rest)) copied
