@@ -10,7 +10,7 @@ use Rattle.capnp_wire.specs.Copy.{formed_body}
 use Rattle.capnp_wire.specs.declared.layout.place.Place.{Place}
 use Rattle.capnp_wire.specs.declared.layout.walk.Walk.{Walk}
 use Rattle.capnp_wire.specs.declared.layout.near.NearStruct.{NearStruct}
-use Rattle.capnp_wire.specs.declared.layout.object.Body.TheVariants.{Struct}
+use Rattle.capnp_wire.specs.declared.layout.object.Object.{Object}
 
 -- a charge is within the limit, where there is one
 abbrev pub Within : Option ℕ → ℕ → Type 0
@@ -66,6 +66,14 @@ pub record WalkedAll (m : List (List ℕ)) (canonical : Bool) (at : List Place) 
 abbrev pub Walked : List (List ℕ) → Bool → Place → ℕ → Option ℕ → Option ℕ → Option ℕ → Option ℕ → Type 0
 Walked m canonical place = WalkedAll m canonical (place ∷ [])
 
+-- A walk has entered the object at a place, and nothing below it.
+pub record EntersObject (m : List (List ℕ)) (canonical : Bool) (place : Place) (object : Object) (level : ℕ) (limit left words_before words_now : Option ℕ) : Type 0 where
+  pub there : IsObject m place object
+  pub deep : 0 < level
+  pub within : Within limit object.charge
+  pub left_is : left ≡ less limit object.charge
+  pub counted : CountsMore words_before words_now (words_in (formed_body canonical (words_of object.segment.now) object.start.word object.body))
+
 -- What a walk over the pointers at some places finds up to a struct that holds others, with `rest` behind it: all in
 -- front of it, and then its own words alone.
 pub record WalkedTo (m : List (List ℕ)) (canonical : Bool) (at rest : List Place) (parent : NearStruct) (level : ℕ) (limit left words_before words_now : Option ℕ) : Type 0 where
@@ -75,8 +83,4 @@ pub record WalkedTo (m : List (List ℕ)) (canonical : Bool) (at rest : List Pla
   pub left_there : Option ℕ
   pub words_there : Option ℕ
   pub in_front : WalkedAll m canonical front level limit left_there words_before words_there
-  pub there : IsObject m place (struct_of parent)
-  pub deep : 0 < level
-  pub within : Within left_there (parent.size.data_words + parent.size.pointers)
-  pub left_is : left ≡ less left_there (parent.size.data_words + parent.size.pointers)
-  pub counted : CountsMore words_there words_now (words_in (formed_body canonical (words_of parent.segment.now) parent.start.word (Struct parent.size)))
+  pub enters : EntersObject m canonical place (struct_of parent) level left_there left words_there words_now

@@ -11,6 +11,7 @@ pub(crate) mod near;
 pub(crate) mod number_list;
 pub(crate) mod object;
 pub(crate) mod own_words;
+pub(crate) mod passing;
 pub(crate) mod place;
 pub(crate) mod pointer;
 pub(crate) mod pointer_word;

@@ -7,7 +7,7 @@ use Rattle.capnp_wire.specs.Element.{code_of, width, words_for}
 use Rattle.capnp_wire.specs.Object.{word_at, near, behind, Target, Lands, Shape, ShapeStands, PointsTo, is_object}
 use Rattle.capnp_wire.specs.Landing.{IsObject, shape_of, room_of, words_in, charge_of}
 use Rattle.capnp_wire.specs.Near.{object_of, struct_of}
-use Rattle.capnp_wire.specs.Charge.{Within, CountsMore, Walked, less}
+use Rattle.capnp_wire.specs.Charge.{Within, CountsMore, EntersObject, Walked, less}
 use Rattle.capnp_wire.specs.Copy.{least_size, formed_body}
 use Rattle.capnp_wire.specs.declared.layout.place.Place.{Place}
 use Rattle.capnp_wire.specs.declared.layout.element.ElementSize.{ElementSize}
@@ -15,6 +15,7 @@ use Rattle.capnp_wire.specs.declared.layout.number_list.NumberList.{NumberList}
 use Rattle.capnp_wire.specs.declared.layout.pointer.NearShape.TheVariants.{Numbers as NearNumbers, Struct as NearStructShape}
 use Rattle.capnp_wire.specs.declared.layout.object.Body.{Body}
 use Rattle.capnp_wire.specs.declared.layout.pointer.StructSize.{StructSize}
+use Rattle.capnp_wire.specs.declared.layout.near.NearStruct.{NearStruct}
 use Rattle.capnp_wire.specs.declared.layout.object.Body.TheVariants.{Struct, Numbers, Pointers, Structs}
 use Rattle.capnp_wire.proofs.pointers.LandingLemmas.{struct_stands, numbers_stand}
 use Rattle.capnp_wire.proofs.trees.RoomLemmas.{stands_room}
@@ -87,15 +88,34 @@ list_formed true words start (Structs elements words_behind) plain = absurd plai
 list_formed false words start list plain = refl
 
 -- a walk that meets a list of numbers meets nothing below it
-pub number_list_walked : (m : List (List ℕ)) (c : Bool) (place : Place) (list : NumberList) (level : ℕ) (limit left counted_then counted_now : Option ℕ) (charge words : ℕ)
+pub number_list_walked : {m : List (List ℕ)} {c : Bool} {place : Place} {level : ℕ} {limit left counted_then counted_now : Option ℕ} {charge words : ℕ}
+    (list : NumberList)
     → IsObject m place (object_of list) → 0 < level → charge ≡ charge_of (Numbers list.size list.count) → words ≡ words_for list.count (width (code_of list.size))
     → Within limit charge → left ≡ less limit charge → CountsMore counted_then counted_now words → Walked m c place level limit left counted_then counted_now
-number_list_walked m c place list level limit left before now charge words is deep charge_is words_are within left_is counted =
+number_list_walked {c = c} {limit = limit} {left = left} {counted_then = before} {counted_now = now} list is deep charge_is words_are within left_is counted =
     let formed_words = words_are ∙ ap words_in (list_formed c (words_of list.segment.now) list.start.word (Numbers list.size list.count) tt) in
     walked_alone
-    (entered m c place (object_of list) level limit left before now is deep (subst (Within limit) charge_is within) (subst (λ (x : ℕ). left ≡ less limit x) charge_is left_is)
-    (subst (CountsMore before now) formed_words counted))
+    (entered (record {
+      there = is;
+      deep = deep;
+      within = subst (Within limit) charge_is within;
+      left_is = subst (λ (x : ℕ). left ≡ less limit x) charge_is left_is;
+      counted = subst (CountsMore before now) formed_words counted;
+    }))
     refl
+
+-- and one that meets a struct enters it
+pub struct_enters : {m : List (List ℕ)} {c : Bool} {place : Place} {found : NearStruct} {size : StructSize} {level : ℕ} {limit left counted_then counted_now : Option ℕ} {charge words : ℕ}
+    → IsObject m place (struct_of found) → 0 < level → charge ≡ found.size.data_words + found.size.pointers → words ≡ size.data_words + size.pointers
+    → Struct size ≡ formed_body c (words_of found.segment.now) found.start.word (Struct found.size)
+    → Within limit charge → left ≡ less limit charge → CountsMore counted_then counted_now words → EntersObject m c place (struct_of found) level limit left counted_then counted_now
+struct_enters {limit = limit} {left = left} {counted_then = before} {counted_now = now} is deep charge_is words_are formed within left_is counted = record {
+  there = is;
+  deep = deep;
+  within = subst (Within limit) charge_is within;
+  left_is = subst (λ (x : ℕ). left ≡ less limit x) charge_is left_is;
+  counted = subst (CountsMore before now) (words_are ∙ ap words_in formed) counted;
+}
 
 -- the word of a segment of the message
 pub word_there : (m : List (List ℕ)) (place : Place) (words : List ℕ) (word : ℕ) → slice_get m place.segment ≡ Some words → slice_get words place.word ≡ Some word → word_at m place ≡ Some word

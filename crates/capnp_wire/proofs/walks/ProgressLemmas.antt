@@ -1,16 +1,18 @@
 -- How far a walk over what an object holds has come.
-use Rattle.std.proofs.Common.{◌≡◌, ◌≢◌, arith, length, Bool, ℕ, ◌+◌, ◌-◌, ◌<◌, List, [], ◌∷◌, ◌++◌, Option, Result, Ok, Err, OnOk, IfErr, refl, sym, ◌∙◌, ap, subst, append_assoc}
+use Rattle.std.proofs.Common.{◌≡◌, ◌≢◌, arith, length, Bool, ℕ, ◌+◌, ◌-◌, ◌<◌, Some, slice_get, List, [], ◌∷◌, ◌++◌, Option, Result, Ok, Err, OnOk, IfErr, refl, sym, ◌∙◌, ap, subst, append_assoc}
 use Rattle.std.proofs.lemmas.List.{append-nil}
 use Rattle.capnp_frame.specs.declared.error.Error.{Error}
 use Rattle.capnp_frame.specs.declared.error.ErrorKind.{ErrorKind}
 use Rattle.capnp_wire.specs.Pointer.{words_of}
 use Rattle.capnp_wire.specs.Tree.{total_words}
 use Rattle.capnp_wire.specs.Object.{Shape, PointsTo, nothing}
-use Rattle.capnp_wire.specs.Landing.{IsObject, shape_of, words_in}
-use Rattle.capnp_wire.specs.Charge.{Within, CountsMore, Walked, WalkedAll, less, TreesWithRoom}
+use Rattle.capnp_wire.specs.Landing.{shape_of, words_in}
+use Rattle.capnp_wire.specs.Charge.{Within, CountsMore, EntersObject, Walked, WalkedAll, less, TreesWithRoom}
 use Rattle.capnp_wire.specs.Copy.{formed_body}
 use Rattle.capnp_wire.specs.Faults.{StopsWalk, inside}
+use Rattle.capnp_wire.specs.Rows.{places_in, Takes}
 use Rattle.capnp_wire.specs.declared.layout.place.Place.{Place}
+use Rattle.capnp_wire.specs.declared.layout.rows.PointerRows.{PointerRows}
 use Rattle.capnp_wire.specs.declared.layout.object.Object.{Object as ReadObject}
 use Rattle.capnp_wire.proofs.trees.StandLemmas.{within_none, less_none, within_both, less_both, counts_none, counts_both}
 use Rattle.capnp_wire.proofs.trees.StoodLemmas.{OwnOf, own_formed, stood_nowhere, stood_both, stood_over, stood_null, plain_stand}
@@ -90,6 +92,35 @@ progress_done {m} {c} {held} {rest} {level} {limit} {left} {counted_then} {count
     let all : held ≡ p.front = p.held_is ∙ ap (λ (l : List Place). p.front ++ l) done ∙ append-nil p.front in
     subst (λ (l : List Place). WalkedAll m c l level limit left counted_then counted_now) (sym all) (progress_front p)
 
+-- The walk is over some of an object's pointers in a segment; those that are left stand there, too.
+pub record Going (m : List (List ℕ)) (segment : List ℕ) (c : Bool) (whole rows : PointerRows) (level : ℕ) (limit left words_before words_now : Option ℕ) : Type 0 where
+  pub progress : Progress m c (places_in whole) (places_in rows) level limit left words_before words_now
+  pub content : places_in rows ≢ [] → slice_get m rows.next.segment ≡ Some segment
+  pub same_segment : rows.next.segment ≡ whole.next.segment
+
+pub going_begins : {m : List (List ℕ)} {segment : List ℕ} {c : Bool} {rows : PointerRows} {level : ℕ} {limit words : Option ℕ} → (places_in rows ≢ [] → slice_get m rows.next.segment ≡ Some segment)
+    → Going m segment c rows rows level limit limit words words
+going_begins {m} {segment} {c} {rows} {level} {limit} {words} content =
+    record { progress = progress_begins m c (places_in rows) level limit words; content = content; same_segment = refl }
+
+pub going_there : {m : List (List ℕ)} {segment : List ℕ} {c : Bool} {whole rows others : PointerRows} {place : Place} {level : ℕ} {limit left words_before words_now : Option ℕ}
+    → Going m segment c whole rows level limit left words_before words_now → Takes rows others place → place.segment ≡ rows.next.segment → slice_get m place.segment ≡ Some segment
+going_there {m} going takes segment_is = ap (slice_get m) segment_is ∙ going.content (some_left takes.places_are)
+
+pub going_on : {m : List (List ℕ)} {segment : List ℕ} {c : Bool} {whole rows others : PointerRows} {place : Place} {level : ℕ} {limit left after words_before words_now words_after : Option ℕ}
+    → Going m segment c whole rows level limit left words_before words_now → Takes rows others place → others.next.segment ≡ rows.next.segment
+    → Walked m c place level left after words_now words_after → Going m segment c whole others level limit after words_before words_after
+going_on {m} going takes same walked = record {
+  progress = progress_next takes.places_are going.progress walked;
+  content = λ some. ap (slice_get m) same ∙ going.content (some_left takes.places_are);
+  same_segment = same ∙ going.same_segment;
+}
+
+pub going_done : {m : List (List ℕ)} {segment : List ℕ} {c : Bool} {whole rows : PointerRows} {level : ℕ} {limit left after words_before words_now words_after : Option ℕ}
+    → Going m segment c whole rows level limit left words_before words_now → WalkedAll m c (places_in rows) level left after words_now words_after
+    → WalkedAll m c (places_in whole) level limit after words_before words_after
+going_done {rows = rows} going walked = progress_done refl (progress_over (sym (append-nil (places_in rows))) going.progress walked)
+
 pub walked_null : (m : List (List ℕ)) (c : Bool) (place : Place) (level : ℕ) (limit words : Option ℕ) → PointsTo m place nothing → Walked m c place level limit limit words words
 walked_null m c place level limit words object = record {
   charge = 0;
@@ -110,17 +141,17 @@ pub record Entered (m : List (List ℕ)) (c : Bool) (place : Place) (shape : Sha
   pub left_is : left ≡ less limit shape.charge
   pub counted : CountsMore words_before words_now own
 
-pub entered : (m : List (List ℕ)) (c : Bool) (place : Place) (object : ReadObject) (level : ℕ) (limit left counted_then counted_now : Option ℕ) → IsObject m place object → 0 < level
-    → Within limit object.charge → left ≡ less limit object.charge → CountsMore counted_then counted_now (words_in (formed_body c (words_of object.segment.now) object.start.word object.body))
+pub entered : {m : List (List ℕ)} {c : Bool} {place : Place} {object : ReadObject} {level : ℕ} {limit left counted_then counted_now : Option ℕ}
+    → EntersObject m c place object level limit left counted_then counted_now
     → Entered m c place (record (shape_of (words_of object.segment.now) object.start object.body) { charge = object.charge }) level limit left counted_then counted_now
-entered m c place object level limit left counted_then counted_now is deep within left_is counted = record {
-  object = is.object;
-  deep = deep;
+entered {m} {c} {place} {object} e = record {
+  object = e.there.object;
+  deep = e.deep;
   own = words_in (formed_body c (words_of object.segment.now) object.start.word object.body);
-  own_is = own_formed m object place c is;
-  within = within;
-  left_is = left_is;
-  counted = counted;
+  own_is = own_formed m object place c e.there;
+  within = e.within;
+  left_is = e.left_is;
+  counted = e.counted;
 }
 
 -- and then all below it

@@ -3,7 +3,7 @@ ghost use Rattle.std.specs.Prelude.{◌≡◌, ◌≢◌, ◌+◌, ◌-◌, ◌/
 ghost use Rattle.capnp_frame.specs.declared.error.ErrorKind.{ErrorKind};
 ghost use Rattle.capnp_wire.specs.Pointer.{words_of};
 ghost use Rattle.capnp_wire.specs.Object.{message_of, places};
-ghost use Rattle.capnp_wire.specs.Landing.{IsObject, room_of, words_in};
+ghost use Rattle.capnp_wire.specs.Landing.{room_of, words_in};
 ghost use Rattle.capnp_wire.specs.Charge.{counted, Within, Exceeds, CountsMore, Walked, WalkedAll, WalkedTo, less};
 ghost use Rattle.capnp_wire.specs.Faults.{StopsWalk};
 ghost use Rattle.capnp_wire.specs.Copy.{formed_body};
@@ -11,7 +11,7 @@ ghost use Rattle.capnp_wire.specs.Rows.{places_in};
 
 use crate::layout::formed::formed_as;
 use crate::layout::near::{NearStruct, is_null, near_list, near_struct};
-use crate::layout::object::{Object, object_at, words_fit};
+use crate::layout::object::Object;
 use crate::layout::place::Place;
 use crate::layout::rows::PointerRows;
 use capnp_frame::message::ReaderSegments;
@@ -70,9 +70,9 @@ impl Walk {
         Ok(())
     }
 
-    // Charges some words.
+    /// Charges some words.
     #[inline(always)]
-    fn pay(&mut self, words: u64) -> Result<()>
+    pub(crate) fn pay(&mut self, words: u64) -> Result<()>
         ensures within { OnOk result (Within self.old.left words) }
         ensures left { OnOk result (self.new.left ≡ less self.old.left words) }
         ensures words { counted self.new ≡ counted self.old }
@@ -115,10 +115,9 @@ impl Walk {
         ensures refused { let m = message_of (S.segments segments.now) in
             IfErr result (λ error. StopsWalk m (place ∷ []) level self.old.left error.kind) }
     {
-        let Some(object) = object_at(segments, place, level)? else {
+        let Some(object) = self.meet(segments, place, level, canonical)? else {
             return Ok(());
         };
-        self.enter(&object, canonical)?;
         self.walk_pointers(
             segments,
             object.segment,
@@ -198,11 +197,11 @@ impl Walk {
             (WalkedAll m canonical (places_in pointers.old) level
             self.old.left self.new.left (counted self.old) (counted self.new))
             (λ parent. WalkedTo m canonical (places_in pointers.old) (places_in pointers.new)
-            parent level self.old.left self.new.left (counted self.old) (counted self.new))) }
+            parent level self.old.left self.new.left (counted self.old) (counted self.new)
+            × (pointers.new.next.segment ≡ pointers.old.next.segment))) }
         ensures refused { let m = message_of (S.segments segments.now) in
             IfErr result (λ error.
             StopsWalk m (places_in pointers.old) level self.old.left error.kind) }
-        ensures segment { pointers.new.next.segment ≡ pointers.old.next.segment }
     {
         'pointers: while !pointers.is_empty() {
             let place = pointers.take();
@@ -211,14 +210,12 @@ impl Walk {
                 continue 'pointers;
             }
             if let Some(found) = near_struct(segment, place, level) {
-                self.pay(found.size.words())?;
-                self.count(found.formed(canonical).words());
-                if !found.holds_nulls(found.size.pointers) {
+                let alone = self.pass_struct(&found, canonical)?;
+                if !alone {
                     return Ok(Some(found));
                 }
             } else if let Some(list) = near_list(segment, place, level) {
-                self.pay(list.charge())?;
-                self.count(list.words());
+                self.pass_list(&list)?;
             } else {
                 self.walk(segments, place, level, canonical)?;
             }

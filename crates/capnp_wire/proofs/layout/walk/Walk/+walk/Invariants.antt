@@ -1,10 +1,10 @@
 -- How far a walk over the pointers of an object has come.
-use Rattle.std.proofs.Common.{◌≡◌, ◌≢◌, ◌+◌, ◌-◌, ◌*◌, [], length, slice_get, Some}
+use Rattle.std.proofs.Common.{◌+◌, ◌-◌, ◌*◌, length}
 use Rattle.capnp_wire.specs.Pointer.{words_of}
 use Rattle.capnp_wire.specs.Object.{message_of}
 use Rattle.capnp_wire.specs.Rows.{places_in}
 use Rattle.capnp_wire.specs.Charge.{counted}
-use Rattle.capnp_wire.proofs.walks.ProgressLemmas.{Progress}
+use Rattle.capnp_wire.proofs.walks.ProgressLemmas.{Going}
 use Rattle.capnp_wire.proofs.layout.walk.Walk.+walk.Given as goal
 
 abbrev pub decreases-walk : goal.decreases-walk
@@ -21,28 +21,22 @@ decreases-next_parent g l = 4 * l.level + 1
 
 abbrev pub invariant-next_parent-pointers : goal.invariant-next_parent-pointers
 invariant-next_parent-pointers g l =
-    Progress (message_of (g.S.ReaderSegments.segments l.segments)) l.canonical (places_in l.fn.pointers) (places_in l.pointers) l.level
-    l.fn.self.left l.self.left (counted l.fn.self) (counted l.self)
-    × (places_in l.pointers ≢ [] → slice_get (message_of (g.S.ReaderSegments.segments l.segments)) l.pointers.next.segment ≡ Some (words_of l.segment))
-    × (l.pointers.next.segment ≡ l.fn.pointers.next.segment)
+    Going (message_of (g.S.ReaderSegments.segments l.segments)) (words_of l.segment) l.canonical l.fn.pointers l.pointers l.level l.fn.self.left l.self.left (counted l.fn.self) (counted l.self)
 
 abbrev pub decreases-next_parent-pointers : goal.decreases-next_parent-pointers
 decreases-next_parent-pointers g l = length (places_in l.pointers)
 
 abbrev pub invariant-walk_pointers-parents : goal.invariant-walk_pointers-parents
 invariant-walk_pointers-parents g l =
-    Progress (message_of (g.S.ReaderSegments.segments l.segments)) l.canonical (places_in l.fn.pointers) (places_in l.pointers) l.level
-    l.fn.self.left l.self.left (counted l.fn.self) (counted l.self)
-    × (places_in l.pointers ≢ [] → slice_get (message_of (g.S.ReaderSegments.segments l.segments)) l.pointers.next.segment ≡ Some (words_of l.segment))
+    Going (message_of (g.S.ReaderSegments.segments l.segments)) (words_of l.segment) l.canonical l.fn.pointers l.pointers l.level l.fn.self.left l.self.left (counted l.fn.self) (counted l.self)
 
 abbrev pub decreases-walk_pointers-parents : goal.decreases-walk_pointers-parents
 decreases-walk_pointers-parents g l = length (places_in l.pointers)
 
 abbrev pub invariant-walk_pointers-children : goal.invariant-walk_pointers-children
 invariant-walk_pointers-children g l =
-    Progress (message_of (g.S.ReaderSegments.segments l.segments)) l.canonical (places_in l.initial.below) (places_in l.below) (l.level - 1)
-    l.initial.self.left l.self.left (counted l.initial.self) (counted l.self)
-    × (slice_get (message_of (g.S.ReaderSegments.segments l.segments)) l.below.next.segment ≡ Some (words_of l.parent.segment.now))
+    Going (message_of (g.S.ReaderSegments.segments l.segments)) (words_of l.parent.segment.now) l.canonical l.initial.below l.below (l.level - 1) l.initial.self.left l.self.left
+    (counted l.initial.self) (counted l.self)
 
 abbrev pub decreases-walk_pointers-children : goal.decreases-walk_pointers-children
 decreases-walk_pointers-children g l = length (places_in l.below)
