@@ -5,7 +5,7 @@ use capnp_frame::message::ReaderSegments;
 use capnp_frame::{ErrorKind, Result};
 use capnp_message::{Builder, HeapAllocator, ScratchSpaceHeapAllocator, SingleSegmentAllocator};
 use capnp_rows::retried;
-use capnp_values::{Borrowed, Field, NoFields, Null, StructValue};
+use capnp_values::{Borrowed, Field, NoFields, Null, PointerList, StructValue, pointer_list};
 use capnp_wire::traits::SetterInput;
 use capnp_wire::{any_struct, data, text};
 use std::process::Abort;
@@ -31,6 +31,23 @@ const LOOSE: &[u8] = b"\0\0\0\0\x02\0\x03\0\x07\0\0\0\0\0\0\0\0\0\0\0\0\0\0\0\
 const TIGHT: &[u8] = b"\0\0\0\0\x01\0\x02\0\x07\0\0\0\0\0\0\0\
     \xfc\xff\xff\xff\0\0\0\0\x01\0\0\0\x22\0\0\0Ann\0\0\0\0\0";
 
+// A list of three pointers, each over those after it and the texts before its own: of four bytes, of the
+// zero byte alone, and of three.
+#[rattlefmt::skip]
+const NAMES: &[u8] = b"\x01\0\0\0\x1e\0\0\0\
+    \x09\0\0\0\x22\0\0\0\x09\0\0\0\x0a\0\0\0\x09\0\0\0\x1a\0\0\0\
+    Ann\0\0\0\0\0\0\0\0\0\0\0\0\0Bo\0\0\0\0\0\0";
+
+// A struct of a number and of a list of two texts.
+#[rattlefmt::skip]
+const GROUP: &[u8] = b"\0\0\0\0\x01\0\x01\0\x07\0\0\0\0\0\0\0\x01\0\0\0\x16\0\0\0\
+    \x05\0\0\0\x22\0\0\0\x05\0\0\0\x1a\0\0\0Ann\0\0\0\0\0Bo\0\0\0\0\0\0";
+
+// A list of two null pointers, which canonical form keeps, and one of none.
+const NULLS: &[u8] = b"\x01\0\0\0\x16\0\0\0\0\0\0\0\0\0\0\0\0\0\0\0\0\0\0\0";
+
+const NO_POINTERS: &[u8] = b"\x01\0\0\0\x06\0\0\0";
+
 const EMPTY: &[u8] = b"\xfc\xff\xff\xff\0\0\0\0";
 
 const NULL: &[u8] = b"\0\0\0\0\0\0\0\0";
@@ -46,6 +63,10 @@ type Hollow = StructValue<1, Field<text::Owned, Null, NoFields>>;
 type AfterHollow<'a> = Field<text::Owned, &'a str, Field<data::Owned, Null, NoFields>>;
 
 type Loose<'a> = StructValue<2, Field<any_struct::Owned, Hollow, AfterHollow<'a>>>;
+
+type Texts<'a> = PointerList<'a, text::Owned, &'a str>;
+
+type Group<'a> = StructValue<1, Field<pointer_list::Owned<text::Owned>, Texts<'a>, NoFields>>;
 
 fn named<'a>(number: u64, name: &'a str) -> Named<'a> {
     StructValue::new([number], Field::new(name, NoFields))
@@ -112,6 +133,28 @@ fn values_stand_at_the_root(rt: HostRuntime) -> Result<()> {
     let empty = StructValue::new([], NoFields);
     compare_by_each::<any_struct::Owned, StructValue<0, NoFields>>(&rt, &empty, EMPTY)?;
     compare_by_each::<text::Owned, Null>(&rt, &Null, NULL)
+}
+
+#[test]
+fn lists_of_pointers_stand_at_the_root(rt: HostRuntime) -> Result<()> {
+    let names = ["Ann", "", "Bo"];
+    let list = PointerList::new(&names);
+    compare_by_each::<pointer_list::Owned<text::Owned>, Texts<'_>>(&rt, &list, NAMES)?;
+    let two = ["Ann", "Bo"];
+    let group = StructValue::new([7], Field::new(PointerList::new(&two), NoFields));
+    compare_by_each::<any_struct::Owned, Group<'_>>(&rt, &group, GROUP)?;
+    compare_canonical::<any_struct::Owned, Group<'_>>(&rt, &group, GROUP)?;
+    let nulls = [Null, Null];
+    let list = PointerList::new(&nulls);
+    compare_canonical::<pointer_list::Owned<text::Owned>, PointerList<'_, text::Owned, Null>>(
+        &rt, &list, NULLS,
+    )?;
+    let none = PointerList::new(&nulls[..0]);
+    compare_by_each::<pointer_list::Owned<text::Owned>, PointerList<'_, text::Owned, Null>>(
+        &rt,
+        &none,
+        NO_POINTERS,
+    )
 }
 
 // Makes a value the root in canonical form, and compares the one segment.
