@@ -1,8 +1,9 @@
 //! The files that are shown, one by one.
 use crate::counted::Counted;
-use crate::messages::{Showing, show_messages};
+use crate::messages::show_messages;
 use crate::refusals::{Stop, refused_line};
 use crate::settings::{Reading, Settings};
+use crate::shown::Showing;
 use capnp::Result;
 use capnp::devices::Input;
 use capnp::io::{BufRead, Write};
@@ -74,7 +75,8 @@ fn show_source<R: BufRead + Drop, W: Write>(
     let showing = Showing {
         settings,
         format,
-        name: if is_named { Some(name) } else { None },
+        name,
+        is_named,
     };
     match show_messages(alloc, showing, &mut source, sink) {
         Ok(()) => Ok(true),

@@ -7,10 +7,16 @@ ghost use Rattle.std.specs.Process.{exit_status};
 mod arguments;
 mod counted;
 mod files;
+mod hash;
+mod json;
 mod listing;
 mod messages;
 mod refusals;
 mod settings;
+mod shown;
+mod text;
+mod tree;
+mod words;
 
 use crate::files::show_files;
 use crate::refusals::unwritten_line;

@@ -5,24 +5,16 @@ ghost use Rattle.capnp.specs.Passed.{Padding, Zero};
 ghost use Rattle.capnp.specs.Streams.{rules_of};
 
 use crate::counted::Counted;
-use crate::listing::{Listed, push_count, push_listed};
+use crate::listing::Listed;
 use crate::refusals::Stop;
-use crate::settings::{Form, Settings};
+use crate::settings::Form;
+use crate::shown::{Showing, show_count, show_message};
 use capnp::io::{BufRead, Write};
 use capnp::message::{Reader, ReaderOptions, ReaderSegments};
 use capnp::serialize::OwnedSegments;
 use capnp::streams::Format;
 use capnp::{Result, serialize, serialize_packed};
 use std::alloc::Global;
-
-/// How an input is shown.
-#[derive(Clone, Copy)]
-pub struct Showing<'a> {
-    pub settings: Settings,
-    pub format: Format,
-    /// What stands in front of each line, where more than one input is shown.
-    pub name: Option<&'a str>,
-}
 
 /// Shows the messages of a source, each as soon as it is read.
 ///
@@ -43,9 +35,9 @@ pub fn show_messages<R: BufRead + Drop, W: Write>(
             Ok(Some(message)) => {
                 let bytes = source.taken().saturating_sub(offset);
                 let listed = listed(index, offset, bytes, message.get_segments());
-                if showing.settings.form != Form::Count
-                    && let Err(error) = show_message(showing, &listed, &mut text, sink)
-                {
+                if let Err(error) = show_message(
+                    alloc, showing, &listed, &message, &mut text, sink,
+                ) {
                     return Err(Stop::Unwritten(error));
                 }
                 count = index + 1;
@@ -103,29 +95,4 @@ fn listed<S: ReaderSegments>(index: u64, offset: u64, bytes: u64, segments: &S) 
         segments: count,
         words,
     }
-}
-
-// Shows one message.
-fn show_message<W: Write>(
-    showing: Showing<'_>,
-    listed: &Listed,
-    text: &mut String,
-    sink: &mut W,
-) -> Result<()> {
-    text.clear();
-    push_listed(text, showing.name, listed)?;
-    text.push('\n')?;
-    sink.write_all(text.as_bytes())
-}
-
-// Shows how many messages there are.
-fn show_count<W: Write>(
-    showing: Showing<'_>,
-    count: u64,
-    text: &mut String,
-    sink: &mut W,
-) -> Result<()> {
-    text.clear();
-    push_count(text, showing.name, count)?;
-    sink.write_all(text.as_bytes())
 }
