@@ -1,5 +1,6 @@
 //! The files that are shown, one by one.
 use crate::counted::Counted;
+use crate::detected::detect;
 use crate::messages::show_messages;
 use crate::refusals::{Stop, refused_line};
 use crate::settings::{Reading, Settings};
@@ -9,6 +10,7 @@ use capnp::devices::Input;
 use capnp::io::{BufRead, Write};
 use capnp::streams::Format;
 use std::fs;
+use std::io::Read;
 
 /// Shows the messages of the files of these names, or of standard input where none is named.
 ///
@@ -42,14 +44,10 @@ fn show_file<W: Write>(
     sink: &mut W,
 ) -> Result<bool> {
     if name == "-" {
-        let source = Input::new(rt.alloc(), rt.stdin())?;
-        return show_source(rt, settings, "standard input", is_named, source, sink);
+        return show_device(rt, settings, "standard input", is_named, rt.stdin(), sink);
     }
     match fs::open(&rt, name) {
-        Ok(file) => {
-            let source = Input::new(rt.alloc(), file)?;
-            show_source(rt, settings, name, is_named, source, sink)
-        }
+        Ok(file) => show_device(rt, settings, name, is_named, file, sink),
         Err(error) => {
             let _ = eprintln!(rt; "capnp_show: {name}: the file can't be opened: {error}");
             Ok(false)
@@ -57,20 +55,22 @@ fn show_file<W: Write>(
     }
 }
 
-// Shows the messages of a source, and says where it stops.
-fn show_source<R: BufRead + Drop, W: Write>(
+// Shows the messages of a device, in the format that was asked for.
+fn show_device<D: Read + Drop, W: Write>(
     rt: HostRuntime,
     settings: Settings,
     name: &str,
     is_named: bool,
-    source: R,
+    device: D,
     sink: &mut W,
 ) -> Result<bool> {
     let alloc = rt.alloc();
-    let mut source = Counted::new(source);
     let format = match settings.reading {
+        Reading::Framed => Format::Framed,
         Reading::Packed => Format::Packed,
-        _ => Format::Framed,
+        Reading::Detected => {
+            return show_detected(rt, settings, name, is_named, device, sink);
+        }
     };
     let showing = Showing {
         settings,
@@ -78,6 +78,46 @@ fn show_source<R: BufRead + Drop, W: Write>(
         name,
         is_named,
     };
+    show_source(rt, showing, Input::new(alloc, device)?, sink)
+}
+
+// Shows the messages of a device, in the format that its first bytes tell, and says which.
+fn show_detected<D: Read + Drop, W: Write>(
+    rt: HostRuntime,
+    settings: Settings,
+    name: &str,
+    is_named: bool,
+    device: D,
+    sink: &mut W,
+) -> Result<bool> {
+    let alloc = rt.alloc();
+    let mut device = device;
+    let mut front = Vec::new(alloc);
+    let format = detect(&mut device, &mut front, settings.limits)?;
+    let seen = match format {
+        Format::Framed => "framed",
+        Format::Packed => "packed",
+    };
+    let _ = eprintln!(rt; "capnp_show: {name}: {seen}");
+    let showing = Showing {
+        settings,
+        format,
+        name,
+        is_named,
+    };
+    let whole = front.as_slice().chain(device);
+    show_source(rt, showing, Input::new(alloc, whole)?, sink)
+}
+
+// Shows the messages of a source, and says where it stops.
+fn show_source<R: BufRead + Drop, W: Write>(
+    rt: HostRuntime,
+    showing: Showing<'_>,
+    source: R,
+    sink: &mut W,
+) -> Result<bool> {
+    let alloc = rt.alloc();
+    let mut source = Counted::new(source);
     match show_messages(alloc, showing, &mut source, sink) {
         Ok(()) => Ok(true),
         Err(
@@ -87,7 +127,7 @@ fn show_source<R: BufRead + Drop, W: Write>(
                 error,
             },
         ) => {
-            let line = refused_line(alloc, name, index, offset, &error)?;
+            let line = refused_line(alloc, showing.name, index, offset, &error)?;
             let _ = eprint!(rt; "{line}");
             Ok(false)
         }

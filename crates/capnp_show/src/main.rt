@@ -6,6 +6,7 @@ ghost use Rattle.std.specs.Process.{exit_status};
 
 mod arguments;
 mod counted;
+mod detected;
 mod files;
 mod hash;
 mod json;
@@ -14,6 +15,8 @@ mod messages;
 mod refusals;
 mod settings;
 mod shown;
+#[cfg(test)]
+mod tests;
 mod text;
 mod tree;
 mod words;

@@ -78,7 +78,9 @@ fn next_message<R: BufRead>(
 }
 
 // What is listed of a message.
-fn listed<S: ReaderSegments>(index: u64, offset: u64, bytes: u64, segments: &S) -> Listed {
+fn listed<S: ReaderSegments>(index: u64, offset: u64, bytes: u64, segments: &S) -> Listed
+    ensures { (result.index ≡ index) × (result.offset ≡ offset) × (result.bytes ≡ bytes) }
+{
     let mut count: u64 = 0;
     let mut words: u64 = 0;
     for id in 0..512 {

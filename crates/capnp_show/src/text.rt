@@ -1,5 +1,5 @@
 //! Texts, as they are shown.
-ghost use Rattle.std.specs.Prelude.{◌≡◌, ◌↔◌, ◌⊎◌, ◌≤◌};
+ghost use Rattle.std.specs.Prelude.{◌≡◌, ◌≤◌, ◌++◌, ◌∷◌, [], IfSome};
 ghost use Rattle.capnp_show.specs.declared.text.Escape.TheVariants.{Plain};
 
 use std::alloc::AllocError;
@@ -60,7 +60,9 @@ pub fn push_quoted(text: &mut String, shown: &str) -> Result<(), AllocError> {
 }
 
 /// The text that a list of bytes is: UTF-8, and a last zero byte, which doesn't belong to it.
-pub fn text_in(bytes: &[u8]) -> Option<&str> {
+pub fn text_in(bytes: &[u8]) -> Option<&str>
+    ensures { IfSome result (λ text. bytes.now ≡ text.now ++ 0 ∷ []) }
+{
     let (last, front) = bytes.split_last()?;
     if *last != 0 {
         return None;

@@ -2,6 +2,8 @@
 //!
 //! A walk ends whatever the pointers say: it goes no deeper than the nesting limit, and stops where
 //! the objects come to more words than the limit of words.
+ghost use Rattle.std.specs.Prelude.{◌≡◌, ◌↔◌, ◌≤◌, ◌-◌, IfSome, IsTrue, None, option_map};
+
 use crate::words::{ElementSize, Object, Place, Shape, StructSize, object_at};
 use capnp::ErrorKind;
 use capnp::message::{ReaderOptions, ReaderSegments};
@@ -143,7 +145,11 @@ impl Walk {
     }
 
     // Counts words against the limit; false where there are fewer left.
-    fn take(&mut self, words: u64) -> bool {
+    fn take(&mut self, words: u64) -> bool
+        ensures within { IfSome self.old.left (λ left. IsTrue result ↔ (words ≤ left)) }
+        ensures unlimited { self.old.left ≡ None → IsTrue result }
+        ensures taken { IsTrue result → self.new.left ≡ option_map (λ left. left - words) self.old.left }
+    {
         let Some(left) = self.left else {
             return true;
         };

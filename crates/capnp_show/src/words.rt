@@ -260,8 +260,7 @@ impl ElementSize {
             ElementSize::Byte => 8,
             ElementSize::TwoBytes => 16,
             ElementSize::FourBytes => 32,
-            ElementSize::EightBytes => 64,
-            ElementSize::Pointer => 64,
+            ElementSize::EightBytes | ElementSize::Pointer => 64,
         }
     }
 }
