@@ -2,7 +2,7 @@
 use crate::counted::Counted;
 use crate::detected::detect;
 use crate::messages::show_messages;
-use crate::refusals::{Stop, refused_line};
+use crate::refusals::{Stop, detected_line, refused_line, unopened_line};
 use crate::settings::{Reading, Settings};
 use crate::shown::Showing;
 use capnp::Result;
@@ -49,7 +49,8 @@ fn show_file<W: Write>(
     match fs::open(&rt, name) {
         Ok(file) => show_device(rt, settings, name, is_named, file, sink),
         Err(error) => {
-            let _ = eprintln!(rt; "capnp_show: {name}: the file can't be opened: {error}");
+            let line = unopened_line(rt.alloc(), name, &error)?;
+            let _ = eprint!(rt; "{line}");
             Ok(false)
         }
     }
@@ -98,7 +99,8 @@ fn show_detected<D: Read + Drop, W: Write>(
         Format::Framed => "framed",
         Format::Packed => "packed",
     };
-    let _ = eprintln!(rt; "capnp_show: {name}: {seen}");
+    let line = detected_line(alloc, name, seen)?;
+    let _ = eprint!(rt; "{line}");
     let showing = Showing {
         settings,
         format,

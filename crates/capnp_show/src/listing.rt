@@ -1,7 +1,7 @@
 //! Messages as lines.
 use crate::hash::Hash;
 use crate::refusals::sentence;
-use crate::text::{push_quoted, text_in};
+use crate::text::{push_escaped, push_quoted, text_in};
 use crate::tree::{Found, Label, Node};
 use crate::words::{ElementSize, Object, Place, Shape, StructSize, bytes_of};
 use capnp::message::ReaderSegments;
@@ -25,7 +25,8 @@ pub struct Listed {
 /// Adds what stands in front of a line.
 pub fn push_name(text: &mut String, name: Option<&str>) -> Result<(), AllocError> {
     if let Some(name) = name {
-        write!(text, "{name}: ")?;
+        push_escaped(text, name)?;
+        text.push_str(": ")?;
     }
     Ok(())
 }

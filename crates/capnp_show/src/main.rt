@@ -29,7 +29,13 @@ use std::process::ExitCode;
 
 fn main(rt: HostRuntime) -> anyhow::Result<ExitCode> {
     let alloc = rt.alloc();
-    let words: Vec<String> = env::args(&rt)?.collect(alloc)?;
+    let words: Vec<String> = match env::args(&rt) {
+        Ok(words) => words.collect(alloc)?,
+        Err(error) => {
+            let _ = eprintln!(rt; "capnp_show: the arguments can't be read: {error}");
+            return Ok(exit_code(false, 2));
+        }
+    };
     let command = arguments::command(alloc)?;
     let matches = match command.try_get_matches_from(words.as_slice()) {
         Ok(matches) => matches,

@@ -1,6 +1,9 @@
 //! What is said of refusals.
+use crate::text::push_escaped;
 use capnp::{Error, ErrorKind};
 use std::alloc::{AllocError, Global};
+use std::fmt::Write;
+use std::io;
 
 /// What is said of a refusal of this kind, in one sentence.
 pub fn sentence(kind: ErrorKind) -> &'static str {
@@ -60,7 +63,31 @@ pub fn refused_line(
     error: &Error,
 ) -> Result<String, AllocError> {
     let said = sentence(error.kind);
-    format!(in alloc; "capnp_show: {name}: message {index} at byte {offset}: {said} ({error})\n")
+    let mut line = named_line(alloc, name)?;
+    write!(line, "message {index} at byte {offset}: {said} ({error})\n")?;
+    Ok(line)
+}
+
+/// The line for a file that can't be opened.
+pub fn unopened_line(alloc: Global, name: &str, error: &io::Error) -> Result<String, AllocError> {
+    let mut line = named_line(alloc, name)?;
+    write!(line, "the file can't be opened: {error}\n")?;
+    Ok(line)
+}
+
+/// The line for an input of which was told how its messages stand.
+pub fn detected_line(alloc: Global, name: &str, seen: &str) -> Result<String, AllocError> {
+    let mut line = named_line(alloc, name)?;
+    write!(line, "{seen}\n")?;
+    Ok(line)
+}
+
+// The front of a line about an input.
+fn named_line(alloc: Global, name: &str) -> Result<String, AllocError> {
+    let mut line = String::from_str(alloc, "capnp_show: ")?;
+    push_escaped(&mut line, name)?;
+    line.push_str(": ")?;
+    Ok(line)
 }
 
 /// The line for output that is not written.
