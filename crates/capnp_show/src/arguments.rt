@@ -1,0 +1,136 @@
+//! The words that the program takes.
+use crate::settings::{Form, Reading, Settings};
+use capnp::message::{DEFAULT_READER_OPTIONS, ReaderOptions};
+use clap::builder::ValueParser;
+use clap::{Arg, ArgAction, ArgMatches, Command};
+use std::alloc::{AllocError, Global};
+
+/// The version of the program.
+pub const VERSION: &str = "0.1.0";
+
+const ABOUT: &str = "Shows the Cap'n Proto messages of files, without a schema";
+
+const EXAMPLES: &str = "Examples:
+  capnp_show log                     a line for each message of the file log
+  capnp_show --packed --tree < log   its objects, of packed messages
+  capnp_show --hash a b              the SHA-256 of each canonical form
+  capnp_show --json --first 1 log    the first message, as a JSON object";
+
+/// The program's command.
+pub fn command<'a>(alloc: Global) -> Result<Command<'a>, AllocError> {
+    let command = Command::new(alloc, "capnp_show")
+        .version(VERSION)
+        .about(ABOUT)
+        .after_help(EXAMPLES);
+    limited(alloc, formed(alloc, read(alloc, command)?)?)
+}
+
+// What is read.
+fn read<'a>(alloc: Global, command: Command<'a>) -> Result<Command<'a>, AllocError> {
+    let files = Arg::new(alloc, "FILE")
+        .action(ArgAction::Append)
+        .num_args(0..)
+        .help("Files to read; standard input where none is named, and for -");
+    let packed = flag(alloc, "packed", "The messages are packed");
+    let detect = flag(
+        alloc,
+        "detect",
+        "Tell by the first bytes whether they are packed",
+    )
+    .conflicts_with("packed")?;
+    command.arg(files)?.arg(packed)?.arg(detect)
+}
+
+// In which form it is shown.
+fn formed<'a>(alloc: Global, command: Command<'a>) -> Result<Command<'a>, AllocError> {
+    let hash = flag(alloc, "hash", "Show the SHA-256 of each canonical form");
+    let tree = flag(alloc, "tree", "Show the objects of each message");
+    let json = flag(
+        alloc,
+        "json",
+        "Show each message as a JSON object, on a line",
+    );
+    let count = flag(alloc, "count", "Show the number of messages alone");
+    command.arg(hash)?.arg(tree)?.arg(json)?.arg(count)
+}
+
+// How much of it.
+fn limited<'a>(alloc: Global, command: Command<'a>) -> Result<Command<'a>, AllocError> {
+    let first = number(
+        alloc,
+        "first",
+        u64::MAX,
+        "Stop after N messages of each file",
+    );
+    let words = number(
+        alloc,
+        "words",
+        u64::MAX,
+        "Refuse messages of more words [default: 8388608]",
+    );
+    let nesting = number(
+        alloc,
+        "nesting",
+        i32::MAX as u64,
+        "Follow pointers so deep [default: 64]",
+    );
+    command.arg(first)?.arg(words)?.arg(nesting)
+}
+
+fn flag<'a>(alloc: Global, name: &'a str, help: &'a str) -> Arg<'a> {
+    Arg::new(alloc, name)
+        .long(name)
+        .action(ArgAction::SetTrue)
+        .help(help)
+}
+
+fn number<'a>(alloc: Global, name: &'a str, most: u64, help: &'a str) -> Arg<'a> {
+    Arg::new(alloc, name)
+        .long(name)
+        .value_name("N")
+        .value_parser(ValueParser::unsigned(0, most))
+        .help(help)
+}
+
+/// What the words ask for.
+pub fn settings_of(matches: &ArgMatches<'_>) -> Settings {
+    Settings {
+        reading: reading_of(matches),
+        form: form_of(matches),
+        has_hash: matches.get_flag("hash"),
+        has_tree: matches.get_flag("tree"),
+        first: matches.get_one::<u64>("first").unwrap_or(u64::MAX),
+        limits: limits_of(matches),
+    }
+}
+
+fn reading_of(matches: &ArgMatches<'_>) -> Reading {
+    if matches.get_flag("packed") {
+        Reading::Packed
+    } else if matches.get_flag("detect") {
+        Reading::Detected
+    } else {
+        Reading::Framed
+    }
+}
+
+fn form_of(matches: &ArgMatches<'_>) -> Form {
+    if matches.get_flag("count") {
+        Form::Count
+    } else if matches.get_flag("json") {
+        Form::Json
+    } else {
+        Form::Lines
+    }
+}
+
+fn limits_of(matches: &ArgMatches<'_>) -> ReaderOptions {
+    let mut limits = DEFAULT_READER_OPTIONS;
+    if let Some(words) = matches.get_one::<usize>("words") {
+        limits.traversal_limit_in_words = Some(words);
+    }
+    if let Some(depth) = matches.get_one::<i32>("nesting") {
+        limits.nesting_limit = depth;
+    }
+    limits
+}

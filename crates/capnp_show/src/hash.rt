@@ -1,0 +1,44 @@
+//! The hash of a message's canonical form.
+ghost use Rattle.std.specs.Prelude.{◌≡◌, ◌⊎◌, ℕ, List, MatchResult, IfErr};
+ghost use Rattle.sha2.specs.Sha256.{sha256};
+ghost use Rattle.capnp.specs.Passed.{ErrorKind, LacksForm};
+ghost use Rattle.capnp_wire.specs.Pointer.{words_of};
+ghost use Rattle.capnp_wire.specs.Values.{IsCanonicalForm};
+ghost use Rattle.capnp_message.specs.Seen.{root_of};
+
+use capnp::message::{Reader, ReaderSegments};
+use capnp::{ErrorKind, Result};
+use sha2::{Digest, Sha256};
+use std::alloc::Global;
+
+/// The SHA-256 of the words of a message's canonical form, without a frame.
+pub fn canonical_hash<S: ReaderSegments>(alloc: Global, message: &Reader<S>) -> Result<[u8; 32]>
+    ensures { let pointer = root_of S.segments message.now in MatchResult result
+        (λ hash. (bytes : List ℕ) × IsCanonicalForm pointer (words_of bytes) × (hash ≡ sha256 bytes))
+        (λ error. LacksForm pointer error.kind ⊎ (error.kind ≡ ErrorKind.OutOfMemory)) }
+{
+    let bytes = message.canonical_segment(alloc)?;
+    Ok(Sha256::digest(bytes.as_slice()))
+}
+
+/// What is shown of a canonical form.
+#[derive(Drop)]
+pub enum Hash {
+    /// Its hash, in hexadecimal digits.
+    Of(String),
+    /// The message has none, for this reason.
+    Lacking(ErrorKind),
+}
+
+/// What is shown of a message's canonical form. The only refusal is `OutOfMemory`.
+pub fn hash_of<S: ReaderSegments>(alloc: Global, message: &Reader<S>) -> Result<Hash>
+    ensures { IfErr result (λ error. error.kind ≡ ErrorKind.OutOfMemory) }
+{
+    match canonical_hash(alloc, message) {
+        Ok(hash) => Ok(Hash::Of(hex::encode(alloc, hash.as_slice())?)),
+        Err(error) => match error.kind {
+            ErrorKind::OutOfMemory => Err(error),
+            kind => Ok(Hash::Lacking(kind)),
+        },
+    }
+}

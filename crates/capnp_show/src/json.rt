@@ -1,0 +1,135 @@
+//! Messages as JSON.
+use crate::hash::Hash;
+use crate::listing::{Listed, name_of};
+use crate::refusals::sentence;
+use crate::text::{push_quoted, text_in};
+use crate::tree::{Found, Label, Node};
+use crate::words::{Object, Place, Shape, StructSize, bytes_of};
+use capnp::message::ReaderSegments;
+use std::alloc::AllocError;
+use std::fmt::Write;
+
+/// Adds the front of an object: the file's name.
+pub fn push_file(text: &mut String, name: &str) -> Result<(), AllocError> {
+    text.push_str("{\"file\":")?;
+    push_quoted(text, name)
+}
+
+/// Adds what is listed of a message.
+pub fn push_listed(text: &mut String, listed: &Listed) -> Result<(), AllocError> {
+    push_number(text, "index", listed.index)?;
+    push_number(text, "offset", listed.offset)?;
+    push_number(text, "bytes", listed.bytes)?;
+    push_number(text, "segments", listed.segments)?;
+    push_number(text, "words", listed.words)
+}
+
+/// Adds the hash of a canonical form, or why there is none.
+pub fn push_hash(text: &mut String, hash: &Hash) -> Result<(), AllocError> {
+    match hash {
+        Hash::Of(hash) => write!(text, ",\"sha256\":\"{hash}\""),
+        Hash::Lacking(kind) => {
+            let said = sentence(*kind);
+            write!(
+                text,
+                ",\"sha256\":null,\"no_canonical_form\":\"{said} ({kind})\""
+            )
+        }
+    }
+}
+
+/// Adds a number behind what the object has already.
+pub fn push_number(text: &mut String, name: &str, number: u64) -> Result<(), AllocError> {
+    write!(text, ",\"{name}\":{number}")
+}
+
+/// Adds the object of a node.
+pub fn push_node<S: ReaderSegments>(
+    text: &mut String,
+    segments: &S,
+    node: &Node,
+) -> Result<(), AllocError> {
+    let depth = node.depth;
+    write!(text, "{{\"depth\":{depth}")?;
+    match node.label {
+        Label::Root => text.push_str(",\"label\":\"root\"")?,
+        Label::Pointer(index) => write!(text, ",\"label\":\"pointer\",\"index\":{index}")?,
+        Label::Element(index) => write!(text, ",\"label\":\"element\",\"index\":{index}")?,
+    }
+    push_found(text, segments, node.found)?;
+    text.push('}')
+}
+
+// Adds what stands at a node.
+fn push_found<S: ReaderSegments>(
+    text: &mut String,
+    segments: &S,
+    found: Found,
+) -> Result<(), AllocError> {
+    match found {
+        Found::Null => text.push_str(",\"kind\":\"null\""),
+        Found::Object(object) => push_object(text, segments, &object),
+        Found::Element(place, size) => {
+            text.push_str(",\"kind\":\"struct\"")?;
+            push_size(text, size)?;
+            push_place(text, place)
+        }
+        Found::Refused(kind) => {
+            let said = sentence(kind);
+            write!(text, ",\"kind\":\"refused\",\"why\":\"{said} ({kind})\"")
+        }
+    }
+}
+
+// Adds an object: what it is, where it begins, and the text that it is.
+fn push_object<S: ReaderSegments>(
+    text: &mut String,
+    segments: &S,
+    object: &Object,
+) -> Result<(), AllocError> {
+    match object.shape {
+        Shape::Struct(size) => {
+            text.push_str(",\"kind\":\"struct\"")?;
+            push_size(text, size)?;
+        }
+        Shape::List(size, count) => {
+            let element = name_of(size);
+            write!(
+                text,
+                ",\"kind\":\"list\",\"element\":\"{element}\",\"count\":{count}"
+            )?;
+        }
+        Shape::Structs(size, count, _) => {
+            write!(
+                text,
+                ",\"kind\":\"list\",\"element\":\"struct\",\"count\":{count}"
+            )?;
+            push_size(text, size)?;
+        }
+    }
+    push_place(text, object.start)?;
+    if let Some(landing_pad) = object.landing_pad {
+        text.push_str(",\"landing_pad\":{\"words\":")?;
+        let words = landing_pad.words;
+        write!(text, "{words}")?;
+        push_place(text, landing_pad.place)?;
+        text.push('}')?;
+    }
+    if let Some(shown) = bytes_of(segments, object).and_then(text_in) {
+        text.push_str(",\"text\":")?;
+        push_quoted(text, shown)?;
+    }
+    Ok(())
+}
+
+// Adds the words of a struct.
+fn push_size(text: &mut String, size: StructSize) -> Result<(), AllocError> {
+    push_number(text, "data", size.data_words)?;
+    push_number(text, "pointers", size.pointers)
+}
+
+// Adds a place, by its segment and its word.
+fn push_place(text: &mut String, place: Place) -> Result<(), AllocError> {
+    push_number(text, "segment", u64::from(place.segment))?;
+    push_number(text, "word", place.word)
+}

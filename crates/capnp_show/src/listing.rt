@@ -1,0 +1,160 @@
+//! Messages as lines.
+use crate::hash::Hash;
+use crate::refusals::sentence;
+use crate::text::{push_escaped, push_quoted, text_in};
+use crate::tree::{Found, Label, Node};
+use crate::words::{ElementSize, Object, Place, Shape, StructSize, bytes_of};
+use capnp::message::ReaderSegments;
+use std::alloc::AllocError;
+use std::fmt::Write;
+
+/// Where a message stands, and how large it is.
+#[derive(Clone, Copy)]
+pub struct Listed {
+    /// Its number in the input, from 0 on.
+    pub index: u64,
+    /// How many bytes of the input stand before it.
+    pub offset: u64,
+    /// How many bytes of the input it takes.
+    pub bytes: u64,
+    pub segments: u64,
+    /// The words of all segments.
+    pub words: u64,
+}
+
+/// Adds what stands in front of a line.
+pub fn push_name(text: &mut String, name: Option<&str>) -> Result<(), AllocError> {
+    if let Some(name) = name {
+        push_escaped(text, name)?;
+        text.push_str(": ")?;
+    }
+    Ok(())
+}
+
+/// Adds what is listed of a message, without the end of the line.
+pub fn push_listed(text: &mut String, listed: &Listed) -> Result<(), AllocError> {
+    let index = listed.index;
+    let offset = listed.offset;
+    let bytes = listed.bytes;
+    let segments = listed.segments;
+    let words = listed.words;
+    write!(
+        text,
+        "message {index}: offset {offset}, bytes {bytes}, segments {segments}, words {words}"
+    )
+}
+
+/// Adds the hash of a canonical form, or why there is none.
+pub fn push_hash(text: &mut String, hash: &Hash) -> Result<(), AllocError> {
+    match hash {
+        Hash::Of(hash) => write!(text, ", sha256 {hash}"),
+        Hash::Lacking(kind) => {
+            let said = sentence(*kind);
+            write!(text, ", no canonical form: {said} ({kind})")
+        }
+    }
+}
+
+/// Adds a number of messages.
+pub fn push_count(text: &mut String, count: u64) -> Result<(), AllocError> {
+    write!(text, "{count}")
+}
+
+/// Adds the line of a node, without its end.
+pub fn push_node<S: ReaderSegments>(
+    text: &mut String,
+    segments: &S,
+    node: &Node,
+) -> Result<(), AllocError> {
+    for _ in 0..node.depth.saturating_add(1) {
+        text.push_str("  ")?;
+    }
+    match node.label {
+        Label::Root => text.push_str("root: ")?,
+        Label::Pointer(index) => write!(text, "pointer {index}: ")?,
+        Label::Element(index) => write!(text, "element {index}: ")?,
+    }
+    push_found(text, segments, node.found)
+}
+
+// Adds what stands at a node.
+fn push_found<S: ReaderSegments>(
+    text: &mut String,
+    segments: &S,
+    found: Found,
+) -> Result<(), AllocError> {
+    match found {
+        Found::Null => text.push_str("null"),
+        Found::Object(object) => push_object(text, segments, &object),
+        Found::Element(place, size) => {
+            text.push_str("struct")?;
+            push_size(text, size)?;
+            push_place(text, place)
+        }
+        Found::Refused(kind) => {
+            let said = sentence(kind);
+            write!(text, "refused, since {said} ({kind})")
+        }
+    }
+}
+
+// Adds an object: what it is, where it begins, and the text that it is.
+fn push_object<S: ReaderSegments>(
+    text: &mut String,
+    segments: &S,
+    object: &Object,
+) -> Result<(), AllocError> {
+    match object.shape {
+        Shape::Struct(size) => {
+            text.push_str("struct")?;
+            push_size(text, size)?;
+        }
+        Shape::List(size, count) => {
+            let element = name_of(size);
+            write!(text, "list, element {element}, count {count}")?;
+        }
+        Shape::Structs(size, count, _) => {
+            write!(text, "list, element struct, count {count}")?;
+            push_size(text, size)?;
+        }
+    }
+    push_place(text, object.start)?;
+    if let Some(landing_pad) = object.landing_pad {
+        let segment = landing_pad.place.segment;
+        let word = landing_pad.place.word;
+        let words = landing_pad.words;
+        write!(text, ", landing pad {segment}:{word}, words {words}")?;
+    }
+    if let Some(shown) = bytes_of(segments, object).and_then(text_in) {
+        text.push_str(", text ")?;
+        push_quoted(text, shown)?;
+    }
+    Ok(())
+}
+
+/// The name of a list's elements.
+pub fn name_of(size: ElementSize) -> &'static str {
+    match size {
+        ElementSize::Void => "void",
+        ElementSize::Bit => "bit",
+        ElementSize::Byte => "byte",
+        ElementSize::TwoBytes => "2 bytes",
+        ElementSize::FourBytes => "4 bytes",
+        ElementSize::EightBytes => "8 bytes",
+        ElementSize::Pointer => "pointer",
+    }
+}
+
+// Adds the words of a struct.
+fn push_size(text: &mut String, size: StructSize) -> Result<(), AllocError> {
+    let data_words = size.data_words;
+    let pointers = size.pointers;
+    write!(text, ", data {data_words}, pointers {pointers}")
+}
+
+// Adds a place, by its segment and its word.
+fn push_place(text: &mut String, place: Place) -> Result<(), AllocError> {
+    let segment = place.segment;
+    let word = place.word;
+    write!(text, ", at {segment}:{word}")
+}

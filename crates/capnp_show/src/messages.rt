@@ -1,0 +1,100 @@
+//! The messages of an input, shown one by one.
+ghost use Rattle.std.specs.Prelude.{◌≡◌, IfOk, IfSome};
+ghost use Rattle.capnp_frame.specs.Streams.{ReadsStream, next_in};
+ghost use Rattle.capnp.specs.Passed.{Padding, Zero};
+ghost use Rattle.capnp.specs.Streams.{rules_of};
+
+use crate::counted::Counted;
+use crate::listing::Listed;
+use crate::refusals::Stop;
+use crate::settings::Form;
+use crate::shown::{Showing, show_count, show_message};
+use capnp::io::{BufRead, Write};
+use capnp::message::{Reader, ReaderOptions, ReaderSegments};
+use capnp::serialize::OwnedSegments;
+use capnp::streams::Format;
+use capnp::{Result, serialize, serialize_packed};
+use std::alloc::Global;
+
+/// Shows the messages of a source, each as soon as it is read.
+///
+/// What is shown of the messages before a refusal stays written.
+pub fn show_messages<R: BufRead + Drop, W: Write>(
+    alloc: Global,
+    showing: Showing<'_>,
+    source: &mut Counted<R>,
+    sink: &mut W,
+) -> std::result::Result<(), Stop> {
+    let mut text = String::new(alloc);
+    let mut outcome = Ok(());
+    let mut count = 0;
+    for index in 0..showing.settings.first {
+        let offset = source.taken();
+        match next_message(alloc, showing.format, source, showing.settings.limits) {
+            Ok(None) => break,
+            Ok(Some(message)) => {
+                let bytes = source.taken().saturating_sub(offset);
+                let listed = listed(index, offset, bytes, message.get_segments());
+                if let Err(error) = show_message(
+                    alloc, showing, &listed, &message, &mut text, sink,
+                ) {
+                    return Err(Stop::Unwritten(error));
+                }
+                count = index + 1;
+            }
+            Err(error) => {
+                outcome = Err(Stop::Refused {
+                    index,
+                    offset,
+                    error,
+                });
+                break;
+            }
+        }
+    }
+    if showing.settings.form == Form::Count
+        && let Err(error) = show_count(showing, count, &mut text, sink)
+    {
+        return Err(Stop::Unwritten(error));
+    }
+    outcome
+}
+
+/// Reads the next message of a stream of this format.
+fn next_message<R: BufRead>(
+    alloc: Global,
+    format: Format,
+    source: &mut R,
+    options: ReaderOptions,
+) -> Result<Option<Reader<OwnedSegments>>>
+    ensures reads { ReadsStream R.Read source.old source.new (rules_of Padding.Zero format)
+        options.traversal_limit_in_words (next_in (λ reader. reader.segments) result) }
+    ensures options { IfOk result (λ found. IfSome found (λ reader. reader.options ≡ options)) }
+{
+    match format {
+        Format::Framed => serialize::try_read_message(alloc, source, options),
+        Format::Packed => serialize_packed::try_read_message(alloc, source, options),
+    }
+}
+
+// What is listed of a message.
+fn listed<S: ReaderSegments>(index: u64, offset: u64, bytes: u64, segments: &S) -> Listed
+    ensures { (result.index ≡ index) × (result.offset ≡ offset) × (result.bytes ≡ bytes) }
+{
+    let mut count: u64 = 0;
+    let mut words: u64 = 0;
+    for id in 0..512 {
+        let Some(segment) = segments.get_segment(id) else {
+            break;
+        };
+        count = count.saturating_add(1);
+        words = words.saturating_add((segment.len() / 8) as u64);
+    }
+    Listed {
+        index,
+        offset,
+        bytes,
+        segments: count,
+        words,
+    }
+}

@@ -1,0 +1,36 @@
+//! What a run reads and shows.
+use capnp::message::ReaderOptions;
+
+/// How the messages of a file stand.
+#[derive(Clone, Copy, Debug, PartialEq, Eq)]
+pub enum Reading {
+    Framed,
+    Packed,
+    /// As the bytes at the front look.
+    Detected,
+}
+
+/// In which form messages are shown.
+#[derive(Clone, Copy, Debug, PartialEq, Eq)]
+pub enum Form {
+    /// A line for each message, and what was asked for below it.
+    Lines,
+    /// A JSON object for each message.
+    Json,
+    /// The number of messages alone.
+    Count,
+}
+
+/// What a run reads and shows.
+#[derive(Clone, Copy, Debug)]
+pub struct Settings {
+    pub reading: Reading,
+    pub form: Form,
+    /// Whether the hash of the canonical form is shown.
+    pub has_hash: bool,
+    /// Whether the objects are shown.
+    pub has_tree: bool,
+    /// How many messages of each file are shown at most.
+    pub first: u64,
+    pub limits: ReaderOptions,
+}

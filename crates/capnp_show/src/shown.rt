@@ -1,0 +1,137 @@
+//! What is shown of a message, and of an input.
+use crate::hash::hash_of;
+use crate::listing::Listed;
+use crate::settings::{Form, Settings};
+use crate::tree::Walk;
+use crate::{json, listing};
+use capnp::Result;
+use capnp::io::Write;
+use capnp::message::{Reader, ReaderSegments};
+use capnp::streams::Format;
+use std::alloc::Global;
+
+// From how many bytes on a text is written.
+const TEXT_BYTES: usize = 32768;
+
+/// How an input is shown.
+#[derive(Clone, Copy)]
+pub struct Showing<'a> {
+    pub settings: Settings,
+    pub format: Format,
+    pub name: &'a str,
+    /// Whether the name stands in front of each line.
+    pub is_named: bool,
+}
+
+impl<'a> Showing<'a> {
+    // What stands in front of each line.
+    fn front(self) -> Option<&'a str> {
+        if self.is_named { Some(self.name) } else { None }
+    }
+}
+
+/// Shows one message.
+pub fn show_message<S: ReaderSegments, W: Write>(
+    alloc: Global,
+    showing: Showing<'_>,
+    listed: &Listed,
+    message: &Reader<S>,
+    text: &mut String,
+    sink: &mut W,
+) -> Result<()> {
+    text.clear();
+    match showing.settings.form {
+        Form::Count => return Ok(()),
+        Form::Lines => show_lines(alloc, showing, listed, message, text, sink)?,
+        Form::Json => show_json(alloc, showing, listed, message, text, sink)?,
+    }
+    text.push('\n')?;
+    sink.write_all(text.as_bytes())
+}
+
+// Shows one message as lines, but for the end of the last.
+fn show_lines<S: ReaderSegments, W: Write>(
+    alloc: Global,
+    showing: Showing<'_>,
+    listed: &Listed,
+    message: &Reader<S>,
+    text: &mut String,
+    sink: &mut W,
+) -> Result<()> {
+    listing::push_name(text, showing.front())?;
+    listing::push_listed(text, listed)?;
+    if showing.settings.has_hash {
+        listing::push_hash(text, &hash_of(alloc, message)?)?;
+    }
+    if showing.settings.has_tree {
+        show_tree(alloc, showing.settings, message.get_segments(), text, sink)?;
+    }
+    Ok(())
+}
+
+// Shows one message as a JSON object.
+fn show_json<S: ReaderSegments, W: Write>(
+    alloc: Global,
+    showing: Showing<'_>,
+    listed: &Listed,
+    message: &Reader<S>,
+    text: &mut String,
+    sink: &mut W,
+) -> Result<()> {
+    json::push_file(text, showing.name)?;
+    json::push_listed(text, listed)?;
+    if showing.settings.has_hash {
+        json::push_hash(text, &hash_of(alloc, message)?)?;
+    }
+    if showing.settings.has_tree {
+        text.push_str(",\"tree\":[")?;
+        show_tree(alloc, showing.settings, message.get_segments(), text, sink)?;
+        text.push(']')?;
+    }
+    text.push('}')?;
+    Ok(())
+}
+
+// Shows the objects of a message, and writes them part by part.
+fn show_tree<S: ReaderSegments, W: Write>(
+    alloc: Global,
+    settings: Settings,
+    segments: &S,
+    text: &mut String,
+    sink: &mut W,
+) -> Result<()> {
+    let mut walk = Walk::new(alloc, settings.limits)?;
+    for count in 0..u64::MAX {
+        let Some(node) = walk.next(segments)? else {
+            break;
+        };
+        if settings.form == Form::Json {
+            if count > 0 {
+                text.push(',')?;
+            }
+            json::push_node(text, segments, &node)?;
+        } else {
+            text.push('\n')?;
+            listing::push_node(text, segments, &node)?;
+        }
+        if text.len() >= TEXT_BYTES {
+            sink.write_all(text.as_bytes())?;
+            text.clear();
+        }
+    }
+    Ok(())
+}
+
+/// Shows how many messages there are.
+pub fn show_count<W: Write>(
+    showing: Showing<'_>,
+    count: u64,
+    text: &mut String,
+    sink: &mut W,
+) -> Result<()> {
+    text.clear();
+    listing::push_name(text, showing.front())?;
+    listing::push_count(text, count)?;
+    text.push('\n')?;
+    sink.write_all(text.as_bytes())
+}

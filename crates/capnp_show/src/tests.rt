@@ -1,0 +1,198 @@
+//! What is shown of messages whose bytes are written out.
+use crate::counted::Counted;
+use crate::detected::{Look, look_at};
+use crate::messages::show_messages;
+use crate::refusals::{Stop, refused_line};
+use crate::settings::{Form, Reading, Settings};
+use crate::shown::Showing;
+use crate::text::push_quoted;
+use capnp::message::DEFAULT_READER_OPTIONS;
+use capnp::streams::Format;
+use std::alloc::Global;
+use std::test::Fail;
+
+// A text at the root.
+const HELLO: &[u8] = b"\0\0\0\0\x03\0\0\0\x01\0\0\0\x72\0\0\0Hello, World!\0\0\0";
+
+// The same, packed.
+const HELLO_PACKED: &[u8] = b"\x10\x03\x11\x01\x72\xffHello, W\0\x1forld!";
+
+// A struct whose pointer is far, of two segments.
+const FAR: &[u8] = b"\x01\0\0\0\x02\0\0\0\x02\0\0\0\0\0\0\0\0\0\0\0\0\0\x01\0\
+\x02\0\0\0\x01\0\0\0\x01\0\0\0\x1a\0\0\0hi\0\0\0\0\0\0";
+
+// Two structs of a list, each a number and a text.
+const STRUCTS: &[u8] = b"\0\0\0\0\x07\0\0\0\x01\0\0\0\x27\0\0\0\x08\0\0\0\x01\0\x01\0\
+\x07\0\0\0\0\0\0\0\0\0\0\0\0\0\0\0\x08\0\0\0\0\0\0\0\x01\0\0\0\x12\0\0\0a\0\0\0\0\0\0\0";
+
+// A struct whose pointer leads to the struct that it stands in.
+const CYCLE: &[u8] = b"\0\0\0\0\x02\0\0\0\0\0\0\0\0\0\x01\0\xfc\xff\xff\xff\0\0\x01\0";
+
+fn plain() -> Settings {
+    Settings {
+        reading: Reading::Framed,
+        form: Form::Lines,
+        has_hash: false,
+        has_tree: true,
+        first: 9,
+        limits: DEFAULT_READER_OPTIONS,
+    }
+}
+
+// Shows the messages of these bytes.
+fn show(
+    alloc: Global,
+    settings: Settings,
+    format: Format,
+    bytes: &[u8],
+    shown: &mut Vec<u8>,
+) -> Result<(), Stop> {
+    let showing = Showing {
+        settings,
+        format,
+        name: "log",
+        is_named: false,
+    };
+    let mut source = Counted::new(bytes);
+    show_messages(alloc, showing, &mut source, shown)
+}
+
+#[test]
+fn shows_objects_as_lines(rt: HostRuntime) -> Result<(), Fail> {
+    let mut shown = Vec::new(rt.alloc());
+    show(rt.alloc(), plain(), Format::Framed, FAR, &mut shown)?;
+    show(rt.alloc(), plain(), Format::Framed, STRUCTS, &mut shown)?;
+    let wanted: &[u8] = b"message 0: offset 0, bytes 48, segments 2, words 4
+  root: struct, data 0, pointers 1, at 0:1
+    pointer 0: list, element byte, count 3, at 1:1, landing pad 1:0, words 1, text \"hi\"
+message 0: offset 0, bytes 64, segments 1, words 7
+  root: list, element struct, count 2, data 1, pointers 1, at 0:1
+    element 0: struct, data 1, pointers 1, at 0:2
+      pointer 0: null
+    element 1: struct, data 1, pointers 1, at 0:4
+      pointer 0: list, element byte, count 2, at 0:6, text \"a\"
+";
+    assert_eq!(rt; shown.as_slice(), wanted);
+    Ok(())
+}
+
+#[test]
+fn shows_a_json_object(rt: HostRuntime) -> Result<(), Fail> {
+    let mut settings = plain();
+    settings.form = Form::Json;
+    settings.has_hash = true;
+    let mut shown = Vec::new(rt.alloc());
+    show(
+        rt.alloc(),
+        settings,
+        Format::Packed,
+        HELLO_PACKED,
+        &mut shown,
+    )?;
+    let wanted: &[u8] =
+        b"{\"file\":\"log\",\"index\":0,\"offset\":0,\"bytes\":21,\"segments\":1,\"words\":3,\
+\"sha256\":\"761b8e3a3c1b60eef738be817129f1fee3b1696d5ccd9224c06875442cb8cfd7\",\
+\"tree\":[{\"depth\":0,\"label\":\"root\",\"kind\":\"list\",\"element\":\"byte\",\"count\":14,\
+\"segment\":0,\"word\":1,\"text\":\"Hello, World!\"}]}\n";
+    assert_eq!(rt; shown.as_slice(), wanted);
+    Ok(())
+}
+
+#[test]
+fn keeps_to_the_limits(rt: HostRuntime) -> Result<(), Fail> {
+    let mut settings = plain();
+    settings.has_hash = true;
+    settings.limits.nesting_limit = 1;
+    let mut shown = Vec::new(rt.alloc());
+    show(rt.alloc(), settings, Format::Framed, CYCLE, &mut shown)?;
+    settings.has_hash = false;
+    settings.limits.nesting_limit = 64;
+    settings.limits.traversal_limit_in_words = Some(2);
+    show(rt.alloc(), settings, Format::Framed, CYCLE, &mut shown)?;
+    let wanted: &[u8] = b"message 0: offset 0, bytes 24, segments 1, words 2, no canonical form: \
+objects are nested deeper than --nesting allows (NestingLimitExceeded)
+  root: struct, data 0, pointers 1, at 0:1
+    pointer 0: refused, since objects are nested deeper than --nesting allows (NestingLimitExceeded)
+message 0: offset 0, bytes 24, segments 1, words 2
+  root: struct, data 0, pointers 1, at 0:1
+    pointer 0: struct, data 0, pointers 1, at 0:1
+      pointer 0: refused, since the objects have more words than --words allows (ReadLimitExceeded)
+";
+    assert_eq!(rt; shown.as_slice(), wanted);
+    Ok(())
+}
+
+#[test]
+fn counts_and_stops(rt: HostRuntime) -> Result<(), Fail> {
+    let alloc = rt.alloc();
+    let mut settings = plain();
+    settings.form = Form::Count;
+    let mut shown = Vec::new(alloc);
+    show(alloc, settings, Format::Framed, b"", &mut shown)?;
+    let mut bytes = Vec::from_slice(alloc, HELLO)?;
+    bytes.extend_from_slice(FAR)?;
+    show(
+        alloc,
+        settings,
+        Format::Framed,
+        bytes.as_slice(),
+        &mut shown,
+    )?;
+    settings.first = 1;
+    show(
+        alloc,
+        settings,
+        Format::Framed,
+        bytes.as_slice(),
+        &mut shown,
+    )?;
+    settings.first = 9;
+    let cut = &HELLO[..30];
+    for (format, bytes, wanted) in [
+        (
+            Format::Framed,
+            cut,
+            "the input ends within a message (FailedToFillTheWholeBuffer)",
+        ),
+        (
+            Format::Framed,
+            HELLO_PACKED,
+            "the segment table has a number of segments that is not from 1 to 511 (InvalidNumberOfSegments(17892113))",
+        ),
+    ] {
+        let line = match show(alloc, settings, format, bytes, &mut shown) {
+            Err(
+                Stop::Refused {
+                    index,
+                    offset,
+                    error,
+                },
+            ) => { refused_line(alloc, "log", index, offset, &error)? }
+            _ => return Err(Fail::new("no refusal")),
+        };
+        let wanted = format!(in alloc; "capnp_show: log: message 0 at byte 0: {wanted}\n")?;
+        assert_eq!(rt; line.as_str(), wanted.as_str());
+    }
+    assert_eq!(rt; shown.as_slice(), b"0\n2\n1\n0\n0\n".as_slice());
+    Ok(())
+}
+
+#[test]
+fn escapes_and_looks(rt: HostRuntime) -> Result<(), Fail> {
+    let mut text = String::new(rt.alloc());
+    push_quoted(&mut text, "a\"\\\n\u{1b}\u{7f}é")?;
+    assert_eq!(rt; text.as_str(), "\"a\\\"\\\\\\n\\u001b\\u007fé\"");
+    for (bytes, wanted) in [
+        (HELLO, "framed"),
+        (HELLO_PACKED, "packed"),
+        (&HELLO[..9], "more"),
+    ] {
+        let seen = match look_at(bytes, DEFAULT_READER_OPTIONS) {
+            Look::Is(Format::Framed) => "framed",
+            Look::Is(Format::Packed) => "packed",
+            Look::More => "more",
+        };
+        assert_eq!(rt; seen, wanted);
+    }
+    Ok(())
+}

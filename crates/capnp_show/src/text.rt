@@ -1,0 +1,71 @@
+//! Texts, as they are shown.
+ghost use Rattle.std.specs.Prelude.{◌≡◌, ◌≤◌, ◌++◌, ◌∷◌, [], IfSome};
+ghost use Rattle.capnp_show.specs.declared.text.Escape.TheVariants.{Plain};
+
+use std::alloc::AllocError;
+use std::fmt::Write;
+use std::str::from_utf8;
+
+/// How a character is shown within quotation marks.
+#[derive(Clone, Copy)]
+pub enum Escape {
+    /// As it is.
+    Plain,
+    /// After a backslash, by this letter.
+    Letter(char),
+    /// By its number, in four hexadecimal digits.
+    Number,
+}
+
+/// How a character is shown, as in JSON. Beyond that the control characters from U+007F to U+009F are
+/// shown by their numbers, since terminals may act on them.
+pub fn escape_of(character: char) -> Escape
+    ensures control { result ≡ Plain → (character ≤ 31 → ⊥) × (127 ≤ character → character ≤ 159 → ⊥) }
+    ensures quoted { result ≡ Plain → (character ≡ 34 → ⊥) × (character ≡ 92 → ⊥) }
+{
+    match character {
+        '"' => Escape::Letter('"'),
+        '\\' => Escape::Letter('\\'),
+        '\n' => Escape::Letter('n'),
+        '\r' => Escape::Letter('r'),
+        '\t' => Escape::Letter('t'),
+        character if character.is_control() => Escape::Number,
+        _ => Escape::Plain,
+    }
+}
+
+/// Adds a text, escaped.
+pub fn push_escaped(text: &mut String, shown: &str) -> Result<(), AllocError> {
+    for character in shown.chars() {
+        match escape_of(character) {
+            Escape::Plain => text.push(character)?,
+            Escape::Letter(letter) => {
+                text.push('\\')?;
+                text.push(letter)?;
+            }
+            Escape::Number => {
+                let number = character as u32;
+                write!(text, "\\u{number:04x}")?;
+            }
+        }
+    }
+    Ok(())
+}
+
+/// Adds a text, escaped and within quotation marks: a JSON string.
+pub fn push_quoted(text: &mut String, shown: &str) -> Result<(), AllocError> {
+    text.push('"')?;
+    push_escaped(text, shown)?;
+    text.push('"')
+}
+
+/// The text that a list of bytes is: UTF-8, and a last zero byte, which doesn't belong to it.
+pub fn text_in(bytes: &[u8]) -> Option<&str>
+    ensures { IfSome result (λ text. bytes.now ≡ text.now ++ 0 ∷ []) }
+{
+    let (last, front) = bytes.split_last()?;
+    if *last != 0 {
+        return None;
+    }
+    from_utf8(front).ok()
+}

@@ -1,0 +1,226 @@
+//! The objects of a message, one by one, each before those that it leads to.
+//!
+//! A walk ends whatever the pointers say: it goes no deeper than the nesting limit, and stops where
+//! the objects come to more words than the limit of words.
+ghost use Rattle.std.specs.Prelude.{◌≡◌, ◌↔◌, ◌≤◌, ◌-◌, IfSome, IsTrue, None, option_map};
+
+use crate::words::{ElementSize, Object, Place, Shape, StructSize, object_at};
+use capnp::ErrorKind;
+use capnp::message::{ReaderOptions, ReaderSegments};
+use std::alloc::{AllocError, Global};
+
+/// Which place in its parent a node has.
+#[derive(Clone, Copy)]
+pub enum Label {
+    Root,
+    Pointer(u64),
+    Element(u64),
+}
+
+/// What stands at a node.
+#[derive(Clone, Copy)]
+pub enum Found {
+    Null,
+    Object(Object),
+    /// A struct of a list of structs.
+    Element(Place, StructSize),
+    /// Nothing that could be shown, by this kind.
+    Refused(ErrorKind),
+}
+
+/// A pointer of a message, or an element of a list of structs.
+#[derive(Clone, Copy)]
+pub struct Node {
+    pub label: Label,
+    /// How many nodes lead to it.
+    pub depth: u64,
+    pub found: Found,
+}
+
+// Nodes that are still to come, one after the other.
+#[derive(Clone, Copy)]
+struct Row {
+    // The next node, and how many there are.
+    index: u64,
+    count: u64,
+    // Where the next node is.
+    next: Place,
+    // What each node is.
+    kind: RowKind,
+    depth: u64,
+    // How many objects may still be nested below.
+    level: u64,
+}
+
+#[derive(Clone, Copy)]
+enum RowKind {
+    Root,
+    Pointers,
+    Elements(StructSize),
+}
+
+/// A walk over the objects of a message.
+#[derive(Drop)]
+pub struct Walk {
+    rows: Vec<Row>,
+    // The words that objects may still have, where there is a limit.
+    left: Option<u64>,
+}
+
+impl Walk {
+    /// A walk from the root pointer on.
+    pub fn new(alloc: Global, limits: ReaderOptions) -> Result<Walk, AllocError> {
+        let mut rows = Vec::new(alloc);
+        rows.push(Row {
+            index: 0,
+            count: 1,
+            next: Place {
+                segment: 0,
+                word: 0,
+            },
+            kind: RowKind::Root,
+            depth: 0,
+            level: u64::try_from(limits.nesting_limit).unwrap_or(0),
+        })?;
+        let left = match limits.traversal_limit_in_words {
+            Some(words) => Some(words as u64),
+            None => None,
+        };
+        Ok(Walk { rows, left })
+    }
+
+    /// The next node; `None` at the end.
+    pub fn next<S: ReaderSegments>(&mut self, segments: &S) -> Result<Option<Node>, AllocError> {
+        for _ in 0..u64::MAX {
+            let Some(row) = self.rows.pop() else {
+                break;
+            };
+            if row.index < row.count {
+                self.rows.push(row.after())?;
+                return Ok(Some(self.node(segments, row)?));
+            }
+        }
+        Ok(None)
+    }
+
+    // The next node of a row.
+    fn node<S: ReaderSegments>(&mut self, segments: &S, row: Row) -> Result<Node, AllocError> {
+        let label = match row.kind {
+            RowKind::Root => Label::Root,
+            RowKind::Pointers => Label::Pointer(row.index),
+            RowKind::Elements(_) => Label::Element(row.index),
+        };
+        let found = match row.kind {
+            RowKind::Elements(size) => {
+                self.rows.push(row.pointers_of(row.next, size, row.level))?;
+                Found::Element(row.next, size)
+            }
+            _ => self.follow(segments, row)?,
+        };
+        Ok(Node {
+            label,
+            depth: row.depth,
+            found,
+        })
+    }
+
+    // What the next pointer of a row leads to.
+    fn follow<S: ReaderSegments>(&mut self, segments: &S, row: Row) -> Result<Found, AllocError> {
+        let object = match object_at(segments, row.next) {
+            Ok(Some(object)) => object,
+            Ok(None) => return Ok(Found::Null),
+            Err(kind) => return Ok(Found::Refused(kind)),
+        };
+        if row.level == 0 {
+            return Ok(Found::Refused(ErrorKind::NestingLimitExceeded));
+        }
+        if !self.take(object.traversed()) {
+            self.rows.clear();
+            return Ok(Found::Refused(ErrorKind::ReadLimitExceeded));
+        }
+        if let Some(below) = row.below(&object) {
+            self.rows.push(below)?;
+        }
+        Ok(Found::Object(object))
+    }
+
+    // Counts words against the limit; false where there are fewer left.
+    fn take(&mut self, words: u64) -> bool
+        ensures within { IfSome self.old.left (λ left. IsTrue result ↔ (words ≤ left)) }
+        ensures unlimited { self.old.left ≡ None → IsTrue result }
+        ensures taken { IsTrue result → self.new.left ≡ option_map (λ left. left - words) self.old.left }
+    {
+        let Some(left) = self.left else {
+            return true;
+        };
+        match left.checked_sub(words) {
+            Some(less) => {
+                self.left = Some(less);
+                true
+            }
+            None => false,
+        }
+    }
+}
+
+impl Row {
+    // The row once its next node has come.
+    fn after(self) -> Row {
+        let words = match self.kind {
+            RowKind::Elements(size) => size.words(),
+            _ => 1,
+        };
+        Row {
+            index: self.index.saturating_add(1),
+            count: self.count,
+            next: self.next.moved(words),
+            kind: self.kind,
+            depth: self.depth,
+            level: self.level,
+        }
+    }
+
+    // The nodes below an object that this row leads to.
+    fn below(self, object: &Object) -> Option<Row> {
+        let level = self.level.saturating_sub(1);
+        match object.shape {
+            Shape::Struct(size) => Some(self.pointers_of(object.start, size, level)),
+            Shape::List(ElementSize::Pointer, count) => {
+                Some(self.row(RowKind::Pointers, object.start, count, level))
+            }
+            Shape::List(_, _) => None,
+            Shape::Structs(size, _, _) if size.pointers == 0 => None,
+            Shape::Structs(size, count, _) => {
+                Some(self.row(RowKind::Elements(size), object.start.moved(1), count, level))
+            }
+        }
+    }
+
+    // The pointers of a struct at a place.
+    fn pointers_of(self, start: Place, size: StructSize, level: u64) -> Row {
+        let first = start.moved(size.data_words);
+        self.row(RowKind::Pointers, first, size.pointers, level)
+    }
+
+    // Nodes one deeper than those of this row.
+    fn row(self, kind: RowKind, next: Place, count: u64, level: u64) -> Row {
+        Row {
+            index: 0,
+            count,
+            next,
+            kind,
+            depth: self.depth.saturating_add(1),
+            level,
+        }
+    }
+}
+
+impl Place {
+    // The place so many words further.
+    fn moved(self, words: u64) -> Place {
+        Place {
+            segment: self.segment,
+            word: self.word.saturating_add(words),
+        }
+    }
+}
