@@ -155,14 +155,22 @@ def try_devices():
     os.close(end)
     result.stdout = b""
     expect("a closed pipe", result, 1, "", "capnp_show: standard output can't be written\n")
-    # each message is shown as soon as it is there, however its bytes come
-    process = subprocess.Popen([PROGRAM], stdin=subprocess.PIPE, stdout=subprocess.PIPE, bufsize=0)
-    for byte in hello:
+    for args, seen in (([], ""), (["--detect"], "capnp_show: standard input: framed\n")):
+        try_slow_pipe(args, hello, lines_of(row, []), seen)
+
+
+def try_slow_pipe(args, text, out, err):
+    """Each message is shown as soon as it is there, however its bytes come."""
+    pipes = {"stdin": subprocess.PIPE, "stdout": subprocess.PIPE, "stderr": subprocess.PIPE}
+    process = subprocess.Popen([PROGRAM, *args], bufsize=0, **pipes)
+    for byte in text:
         process.stdin.write(bytes([byte]))
-    shown = process.stdout.readline().decode()
+    shown = process.stdout.readline()
     process.stdin.close()
-    result = subprocess.CompletedProcess([], process.wait(), shown.encode() + process.stdout.read(), b"")
-    expect("a slow pipe", result, 0, lines_of(row, []), "")
+    shown += process.stdout.read()
+    said = process.stderr.read()
+    result = subprocess.CompletedProcess([], process.wait(), shown, said)
+    expect(f"a slow pipe {args}", result, 0, out, err)
 
 
 def try_words():

@@ -123,7 +123,7 @@ message 0: offset 0, bytes 24, segments 1, words 2
 }
 
 #[test]
-fn counts_and_stops(rt: HostRuntime) -> Result<(), Fail> {
+fn counts_messages(rt: HostRuntime) -> Result<(), Fail> {
     let alloc = rt.alloc();
     let mut settings = plain();
     settings.form = Form::Count;
@@ -131,49 +131,43 @@ fn counts_and_stops(rt: HostRuntime) -> Result<(), Fail> {
     show(alloc, settings, Format::Framed, b"", &mut shown)?;
     let mut bytes = Vec::from_slice(alloc, HELLO)?;
     bytes.extend_from_slice(FAR)?;
-    show(
-        alloc,
-        settings,
-        Format::Framed,
-        bytes.as_slice(),
-        &mut shown,
-    )?;
+    let both = bytes.as_slice();
+    show(alloc, settings, Format::Framed, both, &mut shown)?;
     settings.first = 1;
-    show(
-        alloc,
-        settings,
-        Format::Framed,
-        bytes.as_slice(),
-        &mut shown,
-    )?;
-    settings.first = 9;
-    let cut = &HELLO[..30];
-    for (format, bytes, wanted) in [
-        (
-            Format::Framed,
-            cut,
-            "the input ends within a message (FailedToFillTheWholeBuffer)",
-        ),
-        (
-            Format::Framed,
-            HELLO_PACKED,
-            "the segment table has a number of segments that is not from 1 to 511 (InvalidNumberOfSegments(17892113))",
-        ),
-    ] {
-        let line = match show(alloc, settings, format, bytes, &mut shown) {
-            Err(
-                Stop::Refused {
-                    index,
-                    offset,
-                    error,
-                },
-            ) => { refused_line(alloc, "log", index, offset, &error)? }
-            _ => return Err(Fail::new("no refusal")),
-        };
-        let wanted = format!(in alloc; "capnp_show: log: message 0 at byte 0: {wanted}\n")?;
-        assert_eq!(rt; line.as_str(), wanted.as_str());
+    show(alloc, settings, Format::Framed, both, &mut shown)?;
+    assert_eq!(rt; shown.as_slice(), b"0\n2\n1\n".as_slice());
+    Ok(())
+}
+
+// The line for the refusal of the first message of these bytes.
+fn refusal(alloc: Global, bytes: &[u8]) -> Result<String, Fail> {
+    let mut shown = Vec::new(alloc);
+    match show(alloc, plain(), Format::Framed, bytes, &mut shown) {
+        Err(
+            Stop::Refused {
+                index,
+                offset,
+                error,
+            },
+        ) => { Ok(refused_line(alloc, "log", index, offset, &error)?) }
+        _ => Err(Fail::new("no refusal")),
     }
-    assert_eq!(rt; shown.as_slice(), b"0\n2\n1\n0\n0\n".as_slice());
+}
+
+#[test]
+fn says_why_a_message_is_refused(rt: HostRuntime) -> Result<(), Fail> {
+    let cut = refusal(rt.alloc(), &HELLO[..30])?;
+    assert_eq!(rt;
+        cut.as_str(),
+        "capnp_show: log: message 0 at byte 0: \
+the input ends within a message (FailedToFillTheWholeBuffer)\n"
+    );
+    let packed = refusal(rt.alloc(), HELLO_PACKED)?;
+    assert_eq!(rt;
+        packed.as_str(),
+        "capnp_show: log: message 0 at byte 0: \
+the segment table has a number of segments that is not from 1 to 511 (InvalidNumberOfSegments(17892113))\n"
+    );
     Ok(())
 }
 
