@@ -1,11 +1,11 @@
 // Objects of a message, their canonical form, and whether a message is canonical, by the encoding
-// document and the default options' levels and charges.
+// document and the default options' levels and words counted.
 #pragma once
 #include "rules.h"
 
 const int LEVELS = 64;
 
-// Objects of a message, by the levels and charges of the default options.
+// Objects of a message, by the nesting limit and words counted of the default options.
 struct Object {
     enum { NONE, STRUCT, LIST } shape = NONE;
     unsigned code = 0, data = 0, pointers = 0; // of a struct, or of the rows of a list of structs
@@ -17,7 +17,7 @@ struct Object {
 struct Walk {
     const Message &message;
     // As the C++ library reads: an object of no words may stand outside its segment, and the first word
-    // of a pad of two words may be any far pointer, but an empty segment is none, and of the number of
+    // of a landing pad of two words may be any far pointer, but an empty segment is none, and of the number of
     // elements in a tag just 29 bits count. Its limit is larger.
     bool loose = false;
     uint64_t charged = 0;
@@ -47,7 +47,7 @@ struct Walk {
         return {};
     }
 
-    // A far pointer: the pad, and then where the object's own pointer or content is.
+    // A far pointer: the landing pad, and then where the object's own pointer or content is.
     std::optional<Refusal> land(uint64_t pointer, size_t &segment, size_t &at, uint64_t &shape, int64_t &start,
             bool &placed, uint64_t &pads) {
         bool wide = pointer >> 2 & 1;

@@ -35,7 +35,7 @@ inline capnp::ReaderOptions peer_options() {
     return options;
 }
 
-// Segments behind the library's own readers: each may be asked for once, so they are copied first.
+// Segments after the library's own readers: each may be asked for once, so they are copied first.
 struct PeerSegments final : capnp::MessageReader {
     const Message &message;
     PeerSegments(const Message &message, capnp::ReaderOptions options) : MessageReader(options), message(message) {}
@@ -47,7 +47,7 @@ struct PeerSegments final : capnp::MessageReader {
     }
 };
 
-// The library charges a copy otherwise, so its own limit is out of the way.
+// The library words counted a copy otherwise, so its own limit is out of the way.
 inline PeerRoot root_by_peer(const Message &message) {
     PeerRoot found;
     capnp::ReaderOptions options;
@@ -97,7 +97,7 @@ inline Bytes compare_roots(const Message &message, Allowed &allowed) {
 }
 
 // The library's next message, or nothing where it throws. An empty segment is told from none only by
-// a later one that isn't empty, so so many are asked for as are wanted.
+// a later one that isn't empty, so a given number of are asked for as are wanted.
 template <typename Reader, typename Source> std::optional<Message> next_by_peer(Source &source, size_t wanted) {
     std::optional<Message> found;
     auto thrown = kj::runCatchingExceptions([&] {

@@ -1,5 +1,5 @@
 // The rules of framing and packing, written by themselves: what the program and its readers have to
-// answer. Nothing here, nor in objects.h, is shared with the Rattle code.
+// return. Nothing here, nor in objects.h, is shared with the Rattle code.
 #pragma once
 #include <cstdint>
 #include <cstring>
@@ -45,7 +45,7 @@ inline Bytes bytes_of(const Words &words) {
     return bytes;
 }
 
-// A stream of bytes whose requests are plain, or packed pieces.
+// A stream of bytes whose requests are plain, or packed chunks.
 struct Stream {
     const Bytes &text;
     bool packed;
@@ -103,7 +103,7 @@ inline Message cut(const Bytes &bytes, const std::vector<uint64_t> &lengths) {
 
 enum class Found { MESSAGE, END, REFUSED };
 
-// The next message of a stream; `room` bounds a lent buffer. By the strict grammar padding has to be zero,
+// The next message of a stream; `room` bounds a caller-provided buffer. By the strict grammar padding has to be zero,
 // by the other it may be any.
 inline Found next_message(Stream &stream, std::optional<size_t> room, bool strict, Message &message, Refusal &why) {
     if (room && *room < 8) return why = refusal(2), Found::REFUSED;
@@ -176,7 +176,7 @@ inline Bytes framed(const Message &message) {
     return text;
 }
 
-// The packed text of a piece: marked are just the bytes that aren't zero, and runs are the longest.
+// The packed text of a chunk: marked are just the bytes that aren't zero, and runs are the longest.
 inline Bytes pack(const Bytes &piece) {
     size_t words = piece.size() / 8;
     auto zeros = [&](size_t word) {

@@ -45,7 +45,7 @@ texts_next rule format limit segments xs ys x old mid new e texts begins =
     subst (λ ms. IfKnown old new (AreTexts (grammar_of rule format) limit ms)) (sym both)
     (IfKnown-join old mid new (AreTexts-push (grammar_of rule format) limit (map segments xs) (segments x)) texts begins)
 
--- behind fewer texts a next one stands
+-- after fewer texts a next one stands
 texts_further : {IsText : Grammar} {rule : Padding} {gives : Giving} {refuses : Refusing} {limit : Option ℕ}
     → PartsStreams IsText rule gives refuses limit
     → (ns ms : List (List (List ℕ))) (raw mid rest : List ℕ) → AreTexts IsText limit ns raw mid
@@ -177,7 +177,7 @@ read_same rule format limit segments of xs ms raw left had texts many =
     texts_same (format_parts rule format limit) (map segments xs) (map of ms) raw left [] had texts
     (length-map xs segments ∙ many ∙ sym (length-map ms of))
 
--- behind them none is
+-- after them none is
 pub none_left : {X : Type 0} (rule : Padding) (format : Format) (limit : Option ℕ) (segments : X → List (List ℕ)) (end : Option X)
     (left : List ℕ) (new : Option (List ℕ)) → left ≡ []
     → IfSome (option_map segments end) (λ m. IfKnown (Some left) new (StandsNext rule format limit m)) → end ≡ None
@@ -189,7 +189,7 @@ pub appending_memory : {M : Type 0} (kind : ErrorKind) → M ⊎ RefusesAppendin
 appending_memory kind (inl many) failed = inl many
 appending_memory kind (inr (inl device)) failed = absurd (never_fails kind failed device)
 appending_memory kind (inr (inr (inl memory))) failed = inr memory
-appending_memory kind (inr (inr (inr (piece, memory)))) failed = inr memory
+appending_memory kind (inr (inr (inr (chunk, memory)))) failed = inr memory
 
 pub memory_only : (kind : ErrorKind) → (kind ≡ DeviceFailed) ⊎ (kind ≡ OutOfMemory) → (kind ≡ DeviceFailed → min (0 + 1) (2 ^ 64 - 1) ≤ 0) → kind ≡ OutOfMemory
 memory_only kind (inl device) failed = let fails = failed device in absurd (omega arith)

@@ -2,8 +2,8 @@
 use Rattle.std.proofs.Common.{◌≡◌, ◌⊎◌, ℕ, List, Option, inl, inr}
 use Rattle.capnp_frame.specs.declared.error.ErrorKind.{ErrorKind}
 use Rattle.capnp_frame.specs.declared.error.ErrorKind.TheVariants.{DeviceFailed, OutOfMemory}
-use Rattle.capnp_wire.specs.Faults.{NoWord, no_segment, past_segment, BadPad, no_pad, far_again, pad_capability, no_tag, not_far, no_content, far_tag, capability_tag, Misfits}
-use Rattle.capnp_wire.specs.Faults.{struct_outside, list_outside, structs_outside, odd_tag, many_elements, Fault, no_word, capability, bad_pad, too_deep, no_start, misfits}
+use Rattle.capnp_wire.specs.Faults.{NoWord, no_segment, past_segment, BadLandingPad, no_landing_pad, far_again, landing_pad_capability, no_tag, not_far, no_content, far_tag, capability_tag, Misfits}
+use Rattle.capnp_wire.specs.Faults.{struct_outside, list_outside, structs_outside, odd_tag, many_elements, Fault, no_word, capability, bad_landing_pad, too_deep, no_start, misfits}
 use Rattle.capnp_wire.specs.Faults.{StopsWalk, at_pointer, over_limit, inside, later}
 use Rattle.capnp_wire.specs.Views.{Pointer}
 use Rattle.capnp_wire.specs.declared.layout.place.Place.{Place}
@@ -13,15 +13,15 @@ word_blames_none : (m : List (List ℕ)) (place : Place) (kind : ErrorKind) → 
 word_blames_none m place _ (no_segment _) is = cc
 word_blames_none m place _ (past_segment _ _) is = cc
 
-pad_blames_none : (m : List (List ℕ)) (word : ℕ) (kind : ErrorKind) → BadPad m word kind → kind ≡ DeviceFailed → ⊥
-pad_blames_none m word kind (no_pad none) is = word_blames_none m _ kind none is
-pad_blames_none m word _ (far_again _ _ _) is = cc
-pad_blames_none m word _ (pad_capability _ _ _) is = cc
-pad_blames_none m word _ (no_tag _ _ _) is = cc
-pad_blames_none m word _ (not_far _ _ _ _) is = cc
-pad_blames_none m word _ (no_content _ _ _ _ _) is = cc
-pad_blames_none m word _ (far_tag _ _ _ _ _ _) is = cc
-pad_blames_none m word _ (capability_tag _ _ _ _ _ _) is = cc
+landing_pad_blames_none : (m : List (List ℕ)) (word : ℕ) (kind : ErrorKind) → BadLandingPad m word kind → kind ≡ DeviceFailed → ⊥
+landing_pad_blames_none m word kind (no_landing_pad none) is = word_blames_none m _ kind none is
+landing_pad_blames_none m word _ (far_again _ _ _) is = cc
+landing_pad_blames_none m word _ (landing_pad_capability _ _ _) is = cc
+landing_pad_blames_none m word _ (no_tag _ _ _) is = cc
+landing_pad_blames_none m word _ (not_far _ _ _ _) is = cc
+landing_pad_blames_none m word _ (no_content _ _ _ _ _) is = cc
+landing_pad_blames_none m word _ (far_tag _ _ _ _ _ _) is = cc
+landing_pad_blames_none m word _ (capability_tag _ _ _ _ _ _) is = cc
 
 misfit_blames_none : (words : List ℕ) (start tag : ℕ) (kind : ErrorKind) → Misfits words start tag kind → kind ≡ DeviceFailed → ⊥
 misfit_blames_none words start tag _ (struct_outside _ _) is = cc
@@ -30,24 +30,24 @@ misfit_blames_none words start tag _ (structs_outside _ _ _) is = cc
 misfit_blames_none words start tag _ (odd_tag _ _ _ _ _) is = cc
 misfit_blames_none words start tag _ (many_elements _ _ _ _ _ _) is = cc
 
-fault_blames_none : (m : List (List ℕ)) (place : Place) (level : ℕ) (kind : ErrorKind) → Fault m place level kind → kind ≡ DeviceFailed → ⊥
-fault_blames_none m place level kind (no_word none) is = word_blames_none m place kind none is
-fault_blames_none m place level _ (capability _ _) is = cc
-fault_blames_none m place level kind (bad_pad _ _ bad) is = pad_blames_none m _ kind bad is
-fault_blames_none m place level _ (too_deep _ _) is = cc
-fault_blames_none m place level _ (no_start _ _ _) is = cc
-fault_blames_none m place level kind (misfits _ _ _ _ misfit) is = misfit_blames_none _ _ _ kind misfit is
+fault_blames_none : (m : List (List ℕ)) (place : Place) (nesting : ℕ) (kind : ErrorKind) → Fault m place nesting kind → kind ≡ DeviceFailed → ⊥
+fault_blames_none m place nesting kind (no_word none) is = word_blames_none m place kind none is
+fault_blames_none m place nesting _ (capability _ _) is = cc
+fault_blames_none m place nesting kind (bad_landing_pad _ _ bad) is = landing_pad_blames_none m _ kind bad is
+fault_blames_none m place nesting _ (too_deep _ _) is = cc
+fault_blames_none m place nesting _ (no_start _ _ _) is = cc
+fault_blames_none m place nesting kind (misfits _ _ _ _ misfit) is = misfit_blames_none _ _ _ kind misfit is
 
-walk_blames_none : (m : List (List ℕ)) (places : List Place) (level : ℕ) (limit : Option ℕ) (kind : ErrorKind) → StopsWalk m places level limit kind → kind ≡ DeviceFailed → ⊥
-walk_blames_none m _ level limit kind (at_pointer fault) is = fault_blames_none m _ level kind fault is
-walk_blames_none m _ level _ _ (over_limit _ _ _) is = cc
-walk_blames_none m _ level limit kind (inside _ _ _ stops) is = walk_blames_none m _ _ _ kind stops is
-walk_blames_none m _ level limit kind (later _ _ stops) is = walk_blames_none m _ level _ kind stops is
+walk_blames_none : (m : List (List ℕ)) (places : List Place) (nesting : ℕ) (limit : Option ℕ) (kind : ErrorKind) → StopsWalk m places nesting limit kind → kind ≡ DeviceFailed → ⊥
+walk_blames_none m _ nesting limit kind (at_pointer fault) is = fault_blames_none m _ nesting kind fault is
+walk_blames_none m _ nesting _ _ (over_limit _ _ _) is = cc
+walk_blames_none m _ nesting limit kind (inside _ _ _ stops) is = walk_blames_none m _ _ _ kind stops is
+walk_blames_none m _ nesting limit kind (later _ _ stops) is = walk_blames_none m _ nesting _ kind stops is
 
 pub form_blames_none : (pointer : Pointer) (kind : ErrorKind) → LacksForm pointer kind → kind ≡ DeviceFailed → ⊥
 form_blames_none pointer kind (inl (place, there, stops)) is = walk_blames_none _ _ _ _ kind stops is
 form_blames_none pointer kind (inr large) is = cc
 
-pub answer_blames_none : (pointer : Pointer) (kind : ErrorKind) → LacksForm pointer kind ⊎ (kind ≡ OutOfMemory) → kind ≡ DeviceFailed → ⊥
-answer_blames_none pointer kind (inl lacks) is = form_blames_none pointer kind lacks is
-answer_blames_none pointer kind (inr memory) is = cc
+pub result_blames_none : (pointer : Pointer) (kind : ErrorKind) → LacksForm pointer kind ⊎ (kind ≡ OutOfMemory) → kind ≡ DeviceFailed → ⊥
+result_blames_none pointer kind (inl lacks) is = form_blames_none pointer kind lacks is
+result_blames_none pointer kind (inr memory) is = cc

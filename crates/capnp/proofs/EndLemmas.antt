@@ -1,4 +1,4 @@
--- How the stream of a run ends, by what the run answers.
+-- How the stream of a run ends, by what the run returns.
 use Rattle.std.proofs.Common.{◌≡◌, ◌⊎◌, inl, inr, ℕ, ◌<◌, Option, Some, None, IfSome, Result, Ok, Err, List, length, sym, ap, ◌∙◌, subst, arith}
 use Rattle.capnp_frame.specs.declared.serialize.segment_table.Padding.{Padding}
 use Rattle.capnp_frame.specs.declared.error.ErrorKind.{ErrorKind}
@@ -7,7 +7,7 @@ use Rattle.capnp_frame.proofs.TextLemmas.{AreTexts-once, AreTexts-most, Ends-onc
 use Rattle.capnp.specs.declared.streams.Format.{Format}
 use Rattle.capnp.specs.declared.streams.StoppedAt.{StoppedAt}
 use Rattle.capnp.specs.Streams.{RefusesNext, EndsBy, IsStream}
-use Rattle.capnp.specs.Runs.{Writing, DecliningWriting, IsRunFault, LacksWriting, most_messages, RanOut, StoppedReading, HasStopped, HasRun, IsAnswerTo, IsFaulted}
+use Rattle.capnp.specs.Runs.{Writing, DecliningWriting, IsRunFault, LacksWriting, most_messages, RanOut, StoppedReading, HasStopped, HasRun, IsResultOf, IsFaulted}
 use Rattle.capnp.proofs.RunLemmas.{format_lawful, format_parts, writing_faulted}
 
 pub ran_out_ends : (rule : Padding) (format : Format) (limit : Option ℕ) (Writes : Writing) (left before after : Option (List ℕ))
@@ -49,35 +49,35 @@ lacking_faulted : (rule : Padding) (format : Format) (limit : Option ℕ) (Decli
 lacking_faulted rule format limit Declines index kind rest None lacks = absurd lacks
 lacking_faulted rule format limit Declines index kind rest (Some left) lacks = writing_faulted Declines index lacks.message kind lacks.writable lacks.fault
 
-pub stopped_answers : (rule : Padding) (format : Format) (limit : Option ℕ) (Writes : Writing) (Declines : DecliningWriting) (count : ℕ)
+pub stopped_returns : (rule : Padding) (format : Format) (limit : Option ℕ) (Writes : Writing) (Declines : DecliningWriting) (count : ℕ)
     (kind : ErrorKind) (left before after : Option (List ℕ)) (raw : List ℕ)
     → HasStopped rule format limit Writes Declines count kind left before after raw
     → (messages : List (List (List ℕ))) (ending : Option ErrorKind) → IsStream rule format limit messages ending raw
     → ((ending ≡ Some kind) × (count ≡ length messages)) ⊎ IsRunFault Declines count kind
-stopped_answers rule format limit Writes Declines count kind left before after raw (inl stopped) messages ending stream = elim (stopped.fault) [
+stopped_returns rule format limit Writes Declines count kind left before after raw (inl stopped) messages ending stream = elim (stopped.fault) [
   | inl device ↦ inr (inl device)
   | inr (inl memory) ↦ inr (inr (inl memory.0))
   | inr (inr line) ↦ inl (stopped_ends rule format limit Writes count kind left before after raw stopped (refused_ends rule format limit kind stopped.rest left line) messages ending stream)
 ]
-stopped_answers rule format limit Writes Declines count kind left before after raw (inr stopped) messages ending stream = inr (lacking_faulted rule format limit Declines count kind stopped.rest left stopped.lacks)
+stopped_returns rule format limit Writes Declines count kind left before after raw (inr stopped) messages ending stream = inr (lacking_faulted rule format limit Declines count kind stopped.rest left stopped.lacks)
 
-answered : (rule : Padding) (format : Format) (limit : Option ℕ) (Writes : Writing) (Declines : DecliningWriting)
+returned : (rule : Padding) (format : Format) (limit : Option ℕ) (Writes : Writing) (Declines : DecliningWriting)
     (result : Result (Unit {0}) StoppedAt) (left before after : Option (List ℕ)) (raw : List ℕ)
     → HasRun rule format limit Writes Declines result left before after raw
     → (messages : List (List (List ℕ))) (ending : Option ErrorKind) → IsStream rule format limit messages ending raw
-    → length messages < most_messages → IsAnswerTo result messages ending ⊎ IsFaulted Declines result
-answered rule format limit Writes Declines (Ok done) left before after raw ran messages ending stream few = inl (ran_out_ends rule format limit Writes left before after raw ran messages ending stream few)
-answered rule format limit Writes Declines (Err stop) left before after raw ran messages ending stream few =
-    stopped_answers rule format limit Writes Declines stop.message stop.error.kind left before after raw ran messages ending stream
+    → length messages < most_messages → IsResultOf result messages ending ⊎ IsFaulted Declines result
+returned rule format limit Writes Declines (Ok done) left before after raw ran messages ending stream few = inl (ran_out_ends rule format limit Writes left before after raw ran messages ending stream few)
+returned rule format limit Writes Declines (Err stop) left before after raw ran messages ending stream few =
+    stopped_returns rule format limit Writes Declines stop.message stop.error.kind left before after raw ran messages ending stream
 
-pub answered_known : (rule : Padding) (format : Format) (limit : Option ℕ) (Writes : Writing) (Declines : DecliningWriting)
+pub returned_known : (rule : Padding) (format : Format) (limit : Option ℕ) (Writes : Writing) (Declines : DecliningWriting)
     (result : Result (Unit {0}) StoppedAt) (old left before after : Option (List ℕ))
     → IfSome old (HasRun rule format limit Writes Declines result left before after)
     → IfSome old (λ raw. (messages : List (List (List ℕ))) (ending : Option ErrorKind)
     → IsStream rule format limit messages ending raw → length messages < most_messages
-    → IsAnswerTo result messages ending ⊎ IsFaulted Declines result)
-answered_known rule format limit Writes Declines result None left before after ran = tt
-answered_known rule format limit Writes Declines result (Some raw) left before after ran = answered rule format limit Writes Declines result left before after raw ran
+    → IsResultOf result messages ending ⊎ IsFaulted Declines result)
+returned_known rule format limit Writes Declines result None left before after ran = tt
+returned_known rule format limit Writes Declines result (Some raw) left before after ran = returned rule format limit Writes Declines result left before after raw ran
 
 -- a stream is one list of messages, and ends in one way
 pub stream_once : (rule : Padding) (format : Format) (limit : Option ℕ) (messages others : List (List (List ℕ)))

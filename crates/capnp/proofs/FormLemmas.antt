@@ -9,7 +9,7 @@ use Rattle.capnp_frame.specs.Sink.{Declining, Adds, AppendsAll, LeavesSome, Decl
 use Rattle.capnp_frame.specs.Asking.{FailsOr}
 use Rattle.capnp_frame.specs.Source.{IsPreorder, Fails}
 use Rattle.capnp_frame.specs.Writers.{WritesTo, WritesSegments}
-use Rattle.capnp_frame.specs.Writing.{IsWritable, pieces}
+use Rattle.capnp_frame.specs.Writing.{IsWritable, chunks}
 use Rattle.capnp_frame.proofs.AskLemmas.{passed_on}
 use Rattle.capnp_frame.proofs.SourceLemmas.{Grows-refl, IfKnown-refl, IfKnown-weaker}
 use Rattle.std.proofs.lemmas.List.{append-nil}
@@ -25,7 +25,7 @@ use Rattle.capnp_wire.proofs.words.WordLemmas.{length-words_of}
 use Rattle.capnp_message.specs.Canonical.{LacksForm}
 use Rattle.capnp.specs.Canonical.{IsForm, AppendsForm, LeavesForm, BreaksForm, DeclinesForm}
 use Rattle.capnp.specs.Written.{RefusesWriter}
-use Rattle.capnp.proofs.BlameLemmas.{answer_blames_none}
+use Rattle.capnp.proofs.BlameLemmas.{result_blames_none}
 
 -- a form has fewer words than a segment may
 pub form_is_small : (pointer : Pointer) (form : List ℕ) → IsCanonicalForm pointer (words_of form) → length form / 8 < 2 ^ 32
@@ -48,7 +48,7 @@ declines_reading : (pointer : Pointer) (refuses : Declining) (kind : ErrorKind) 
 declines_reading pointer refuses kind (inl lacks) = inr (inr (inl lacks))
 declines_reading pointer refuses kind (inr memory) = inr (inl memory)
 
--- what is refused behind a call is refused as that
+-- what is refused after a call is refused as that
 pub refused_on : {Y : Type 0} {error : Error} (P : Error → Type 0) (result : Result Y Error) → IsErrAnd result (λ y. y ≡ error) → P error → IsErrAnd result P
 refused_on P (Ok y) is p = is
 refused_on P (Err e) is p = subst P (sym is) p
@@ -58,7 +58,7 @@ declines_writing : (pointer : Pointer) (refuses : Declining) (form : List ℕ) (
     → RefusesWriter refuses segments kind → (kind ≡ DeviceFailed) ⊎ (kind ≡ OutOfMemory) ⊎ DeclinesForm pointer refuses kind
 declines_writing pointer refuses form segments kind stands is (inl failed) = inl failed
 declines_writing pointer refuses form segments kind stands is (inr (inl declined)) =
-    inr (inr (inr (form, stands, subst (λ (s : List (List ℕ)). DeclinesSome refuses (pieces s) kind) is declined)))
+    inr (inr (inr (form, stands, subst (λ (s : List (List ℕ)). DeclinesSome refuses (chunks s) kind) is declined)))
 declines_writing pointer refuses form segments kind stands is (inr (inr (inl many))) = absurd (omega (arith, many.0, ap length is))
 declines_writing pointer refuses form segments kind stands is (inr (inr (inr memory))) = inr (inl memory.1)
 
@@ -73,7 +73,7 @@ form_lacking {X = X} sink keeps s pointer e (Err o) is lacks = record {
   refused = passed_on {Y = X} {error = e} (λ (y : Error). (y.kind ≡ DeviceFailed) ⊎ (y.kind ≡ OutOfMemory) ⊎ DeclinesForm pointer sink.refuses y.kind)
       (Err o) is (declines_reading pointer sink.refuses e.kind lacks);
   failed = passed_on {Y = X} {error = e} (λ (y : Error). y.kind ≡ DeviceFailed → Fails (sink.failures s) (sink.failures s)) (Err o) is
-      (λ device. absurd (answer_blames_none pointer e.kind lacks device));
+      (λ device. absurd (result_blames_none pointer e.kind lacks device));
   grows = Grows-refl s (keeps.reflexive s);
 }
 
@@ -83,7 +83,7 @@ pub form_written : {S X : Type 0} (sink : Ghosts S) (old new : S) (pointer : Poi
     → WritesTo sink old new (AppendsForm pointer sink.appends) (LeavesForm pointer sink.appends sink.leaves) (λ kind. (kind ≡ OutOfMemory) ⊎ DeclinesForm pointer sink.refuses kind) r
 form_written sink old new pointer form segments (Ok x) stands is told = record {
   written = IfKnown-weaker (sink.written old) (sink.written new) (λ before after (text, p, e).
-      (text, (form, stands, subst (λ (s : List (List ℕ)). AppendsAll sink.appends (pieces s) text) is p), e)) told.parts.written;
+      (text, (form, stands, subst (λ (s : List (List ℕ)). AppendsAll sink.appends (chunks s) text) is p), e)) told.parts.written;
   left = tt;
   refused = tt;
   failed = tt;
@@ -92,18 +92,18 @@ form_written sink old new pointer form segments (Ok x) stands is told = record {
 form_written sink old new pointer form segments (Err e) stands is told = record {
   written = tt;
   left = IfKnown-weaker (sink.written old) (sink.written new) (λ before after (text, p, e).
-      (text, inr (form, stands, subst (λ (s : List (List ℕ)). LeavesSome sink.appends sink.leaves (pieces s) text) is p), e)) told.parts.left;
+      (text, inr (form, stands, subst (λ (s : List (List ℕ)). LeavesSome sink.appends sink.leaves (chunks s) text) is p), e)) told.parts.left;
   refused = declines_writing pointer sink.refuses form segments e.kind stands is told.parts.refused;
   failed = told.parts.failed;
   grows = told.parts.grows;
 }
 
--- nothing of it is written unless the sink refuses a piece
+-- nothing of it is written unless the sink refuses a chunk
 pub form_untouched : {S X : Type 0} (sink : Ghosts S) (old new : S) (pointer : Pointer) (form : List ℕ) (segments : List (List ℕ)) (r : Result X Error)
     → IsForm pointer form → segments ≡ form ∷ [] → WritesSegments sink old new segments r → FailsOr r (λ kind. BreaksForm pointer sink.refuses kind ⊎ (new ≡ old))
 form_untouched sink old new pointer form segments (Ok x) stands is told = tt
 form_untouched sink old new pointer form segments (Err e) stands is told = elim told.parts.untouched [
   | inl failed ↦ inl failed
-  | inr (inl declined) ↦ inr (inl (form, stands, subst (λ (s : List (List ℕ)). DeclinesSome sink.refuses (pieces s) e.kind) is declined))
+  | inr (inl declined) ↦ inr (inl (form, stands, subst (λ (s : List (List ℕ)). DeclinesSome sink.refuses (chunks s) e.kind) is declined))
   | inr (inr same) ↦ inr (inr same)
 ]

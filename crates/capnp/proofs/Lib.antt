@@ -5,7 +5,7 @@ pub mod WriterLemmas
 pub mod RunLemmas
 pub mod EndLemmas
 pub mod TranscodingLemmas
-pub mod PieceLemmas
+pub mod ChunkLemmas
 pub mod AppendedLemmas
 pub mod Passed
 pub mod BlameLemmas

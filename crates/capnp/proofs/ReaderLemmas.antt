@@ -16,7 +16,7 @@ use Rattle.capnp_frame.proofs.RequestLemmas.{MessageStands-map}
 use Rattle.capnp_frame.proofs.FrameLemmas.{plain_requests}
 use Rattle.capnp_frame.proofs.TextLemmas.{AreRequested}
 use Rattle.capnp.specs.Streams.{IsPlainSource}
-use Rattle.capnp.specs.Headline.{IsFault, HasRoom, ReturnsTexts, ReturnsTextsInto}
+use Rattle.capnp.specs.Headline.{IsFault, BufferHasRoom, ReturnsTexts, ReturnsTextsInto}
 
 -- the requests of a plain source take just the frames
 pub frames_requested : (rule : Padding) (gives : Giving) (refuses : Refusing) → IsPlainSource gives refuses → AreRequested (IsFrame rule) rule gives
@@ -64,7 +64,7 @@ pub returns_texts_into : {S : Type 0} (source : Ghosts S) (old new : S) (rules :
     → ReturnsTextsInto IsText limit room (source.unread old) (source.unread new) r
 returns_texts_into source old new rules IsText limit room r texts reads = record {
   found = begins_next IsText rules limit _ _ r texts reads.within reads.found;
-  accepted = accepts_next IsText rules limit (λ m. HasRoom room m → IfErr r (λ error. error.kind ≡ DeviceFailed)) _ texts reads.accepted;
+  accepted = accepts_next IsText rules limit (λ m. BufferHasRoom room m → IfErr r (λ error. error.kind ≡ DeviceFailed)) _ texts reads.accepted;
 }
 
 -- no message stands where nothing is unread
@@ -105,5 +105,5 @@ pub ends_texts_into : {IsText : Grammar} (rule : Padding) {gives : Giving} {refu
     → IfSome old (λ raw. raw ≡ []) → ReturnsTextsInto IsText limit room old new (Err error)
 ends_texts_into rule laws texts limit room old new error none = record {
   found = tt;
-  accepted = nothing_begins rule laws texts limit (λ m. HasRoom room m → error.kind ≡ DeviceFailed) old none;
+  accepted = nothing_begins rule laws texts limit (λ m. BufferHasRoom room m → error.kind ≡ DeviceFailed) old none;
 }

@@ -32,8 +32,8 @@ use Rattle.capnp.proofs.RunLemmas.{format_lawful, format_requested, format_parts
 use Rattle.capnp.proofs.WriterLemmas.{IsWithin-written}
 
 -- where a tree stands at the root, there is a segment
-pub has_segment : (spaces : List Space) (trees : Trees) (charge : ℕ) → At (message spaces) (root ∷ []) trees charge → 0 < length spaces
-has_segment spaces trees charge (at points inside behind) =
+pub has_segment : (spaces : List Space) (trees : Trees) (traversed : ℕ) → At (message spaces) (root ∷ []) trees traversed → 0 < length spaces
+has_segment spaces trees traversed (at points inside following) =
     let word = word_stands (message spaces) root _ points in (root_stands spaces word.0 word.1).0
 
 -- the text of a message stands for it before any rest

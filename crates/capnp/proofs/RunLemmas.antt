@@ -104,7 +104,7 @@ writing_faulted Declines index message kind writable (inl device) = inl device
 writing_faulted Declines index message kind writable (inr (inl memory)) = inr (inl memory)
 writing_faulted Declines index message kind writable (inr (inr declined)) = inr (inr (message, writable, declined))
 
--- the same of a message that a reader accepts
+-- a run stops by a fault of writing also where a reader accepts the message
 pub message_faulted : (limit : Option ℕ) (Declines : DecliningWriting) (index : ℕ) (message : List (List ℕ))
     (kind : ErrorKind) → IsWithin message limit → AllByRecursion IsWholeWords message
     → IsWritingFault Declines index message kind → IsRunFault Declines index kind

@@ -11,17 +11,17 @@ use Rattle.capnp_frame.specs.Asking.{FailsOr}
 use Rattle.capnp_frame.specs.Source.{IfKnown, Fails}
 use Rattle.capnp_frame.specs.Sink.{Appending, Declining, DeclinesSome, Adds, AppendsAll, AppendsSame, Grows}
 use Rattle.capnp_frame.specs.Writers.{KeepsCount, WritesSegments}
-use Rattle.capnp_frame.specs.Writing.{IsWritable, HasFew, HasMany, pieces, serialized_words}
+use Rattle.capnp_frame.specs.Writing.{IsWritable, HasFew, HasMany, chunks, serialized_words}
 use Rattle.capnp_frame.proofs.SourceLemmas.{IfKnown-weaker}
-use Rattle.capnp_frame.proofs.SizeLemmas.{concat-pieces, length-frame_text}
-use Rattle.capnp_frame.proofs.TextLemmas.{pieces_joined}
+use Rattle.capnp_frame.proofs.SizeLemmas.{concat-chunks, length-frame_text}
+use Rattle.capnp_frame.proofs.TextLemmas.{chunks_joined}
 use Rattle.capnp_frame.proofs.WritingLemmas.{length-lengths}
 use Rattle.capnp_pack.specs.PackedSink.{AppendsPacked, DeclinesPacked}
-use Rattle.capnp_pack.proofs.PackedTextLemmas.{packed_pieces}
+use Rattle.capnp_pack.proofs.PackedTextLemmas.{packed_chunks}
 use Rattle.capnp.specs.declared.streams.Format.TheVariants.{Framed, Packed}
 use Rattle.capnp.specs.Written.{IsPlainSink, IsFrameText, IsPackedTextOf, RefusesWriter, WritesMessage}
 
--- a plain sink gets the pieces themselves
+-- a plain sink gets the chunks themselves
 AppendsAll-plain : (appends : Appending) (xs : List (List ℕ)) (text : List ℕ) → IsPlainSink appends → AppendsAll appends xs text → AppendsAll AppendsSame xs text
 AppendsAll-plain appends [] text plain all = all
 AppendsAll-plain appends (x ∷ xs) text plain (first, others, here, more, e) = (first, others, plain x first here, AppendsAll-plain appends xs others plain more, e)
@@ -32,11 +32,11 @@ AppendsAll-packed appends (x ∷ xs) text plain (first, others, here, more, e) =
     (first, others, (here.0, here.1, AppendsAll-plain appends here.0 first plain here.2), AppendsAll-packed appends xs others plain more, e)
 
 -- so it gets the text of a message, framed and packed
-pub frame_text_added : (appends : Appending) → IsPlainSink appends → (message : List (List ℕ)) (text : List ℕ) → AppendsAll appends (pieces message) text → IsFrameText message text
-frame_text_added appends plain message text all = (pieces_joined (pieces message) text).0 (AppendsAll-plain appends (pieces message) text plain all) ∙ concat-pieces message
+pub frame_text_added : (appends : Appending) → IsPlainSink appends → (message : List (List ℕ)) (text : List ℕ) → AppendsAll appends (chunks message) text → IsFrameText message text
+frame_text_added appends plain message text all = (chunks_joined (chunks message) text).0 (AppendsAll-plain appends (chunks message) text plain all) ∙ concat-chunks message
 
-pub packed_text_added : (appends : Appending) → IsPlainSink appends → (message : List (List ℕ)) (text : List ℕ) → AppendsAll (AppendsPacked appends) (pieces message) text → IsPackedTextOf message text
-packed_text_added appends plain message text all = (packed_pieces message text).0 (AppendsAll-packed appends (pieces message) text plain all)
+pub packed_text_added : (appends : Appending) → IsPlainSink appends → (message : List (List ℕ)) (text : List ℕ) → AppendsAll (AppendsPacked appends) (chunks message) text → IsPackedTextOf message text
+packed_text_added appends plain message text all = (packed_chunks message text).0 (AppendsAll-packed appends (chunks message) text plain all)
 
 -- what is added is what is weaker
 pub Adds-weaker : {X : Type 0} {P Q : List ℕ → Type 0} (r : Result X Error) (old new : Option (List ℕ)) → ((text : List ℕ) → P text → Q text) → OnOk r (IfKnown old new (Adds P)) → OnOk r (IfKnown old new (Adds Q))
@@ -68,7 +68,7 @@ IsWithin-written message limit writable few size =
 -- where a message was read, a writer's failure is a fault of the run: it has not too many segments
 pub writer_fault : {X : Type 0} (L : Type 0) (refuses : Declining) (message : List (List ℕ)) (limit : Option ℕ) (r : Result X Error) → IsWithin message limit
     → IfErr r (λ e. RefusesWriter refuses message e.kind)
-    → IfErr r (λ e. (e.kind ≡ DeviceFailed) ⊎ (e.kind ≡ OutOfMemory) ⊎ L ⊎ DeclinesSome refuses (pieces message) e.kind)
+    → IfErr r (λ e. (e.kind ≡ DeviceFailed) ⊎ (e.kind ≡ OutOfMemory) ⊎ L ⊎ DeclinesSome refuses (chunks message) e.kind)
 writer_fault L refuses message limit (Ok x) within refused = tt
 writer_fault L refuses message limit (Err e) within (inl device) = inl device
 writer_fault L refuses message limit (Err e) within (inr (inl declined)) = inr (inr (inr declined))
@@ -106,9 +106,9 @@ kept_below see Declines old new (Err e) (inr (inr same)) = inr (inr (ap see same
 
 -- and packed, by a packer in which the sink is seen
 pub packed_written : {S P X : Type 0} (sink : Ghosts S) (see : P → S) (old new : P) (message : List (List ℕ)) (r : Result X Error)
-    → KeepsCount message r → (HasMany message → new ≡ old) → OnOk r (IfKnown (sink.written (see old)) (sink.written (see new)) (Adds (AppendsAll (AppendsPacked sink.appends) (pieces message))))
+    → KeepsCount message r → (HasMany message → new ≡ old) → OnOk r (IfKnown (sink.written (see old)) (sink.written (see new)) (Adds (AppendsAll (AppendsPacked sink.appends) (chunks message))))
     → IfErr r (λ e. RefusesWriter (DeclinesPacked sink.refuses) message e.kind)
-    → FailsOr r (λ kind. DeclinesSome (DeclinesPacked sink.refuses) (pieces message) kind ⊎ (new ≡ old))
+    → FailsOr r (λ kind. DeclinesSome (DeclinesPacked sink.refuses) (chunks message) kind ⊎ (new ≡ old))
     → IfErr r (λ e. e.kind ≡ DeviceFailed → Fails (sink.failures (see old)) (sink.failures (see new)))
     → Grows sink.written sink.failures sink.same (see old) (see new) → WritesMessage Packed sink (see old) (see new) message r
 packed_written sink see old new message r count unwritten written refused untouched failed grows = record {
@@ -117,7 +117,7 @@ packed_written sink see old new message r count unwritten written refused untouc
   text = λ plain. Adds-weaker r _ _ (packed_text_added sink.appends plain message) written;
   written = written;
   refused = refused;
-  untouched = kept_below see (DeclinesSome (DeclinesPacked sink.refuses) (pieces message)) old new r untouched;
+  untouched = kept_below see (DeclinesSome (DeclinesPacked sink.refuses) (chunks message)) old new r untouched;
   failed = failed;
   grows = grows;
 }

@@ -10,7 +10,7 @@ use Rattle.capnp_frame.specs.Message.{IsWholeWords}
 use Rattle.capnp_frame.specs.Sink.{Appending, Leaving, AppendsAll, LeavesSome, Declining, DeclinesSome, Adds}
 use Rattle.capnp_frame.specs.Source.{IfKnown}
 use Rattle.capnp_frame.specs.Writers.{WritesTo}
-use Rattle.capnp_frame.specs.Writing.{pieces}
+use Rattle.capnp_frame.specs.Writing.{chunks}
 use Rattle.capnp_wire.specs.Pointer.{words_of}
 use Rattle.capnp_wire.specs.Views.{Pointer}
 use Rattle.capnp_wire.specs.Values.{IsCanonicalForm}
@@ -28,28 +28,28 @@ IsCanonicalText pointer text = (form : List ℕ) × IsForm pointer form × IsFra
 
 -- what a sink adds for it
 abbrev pub AppendsForm : Pointer → Appending → List ℕ → Type 0
-AppendsForm pointer appends text = (form : List ℕ) × IsForm pointer form × AppendsAll appends (pieces (form ∷ [])) text
+AppendsForm pointer appends text = (form : List ℕ) × IsForm pointer form × AppendsAll appends (chunks (form ∷ [])) text
 
--- what a call that fails leaves of it: nothing, or its first pieces and what the sink leaves of the next one
+-- what a call that fails leaves of it: nothing, or its first chunks and what the sink leaves of the next one
 abbrev pub LeavesForm : Pointer → Appending → Leaving → List ℕ → Type 0
-LeavesForm pointer appends leaves text = (text ≡ []) ⊎ ((form : List ℕ) × IsForm pointer form × LeavesSome appends leaves (pieces (form ∷ [])) text)
+LeavesForm pointer appends leaves text = (text ≡ []) ⊎ ((form : List ℕ) × IsForm pointer form × LeavesSome appends leaves (chunks (form ∷ [])) text)
 
--- the sink refuses a piece of it
+-- the sink refuses a chunk of it
 abbrev pub BreaksForm : Pointer → Declining → ErrorKind → Type 0
-BreaksForm pointer refuses kind = (form : List ℕ) × IsForm pointer form × DeclinesSome refuses (pieces (form ∷ [])) kind
+BreaksForm pointer refuses kind = (form : List ℕ) × IsForm pointer form × DeclinesSome refuses (chunks (form ∷ [])) kind
 
--- why it is not written, beside the device and want of memory: there is no such form, or the sink refuses a piece of it
+-- why it is not written, beside the device and want of memory: there is no such form, or the sink refuses a chunk of it
 abbrev pub DeclinesForm : Pointer → Declining → ErrorKind → Type 0
 DeclinesForm pointer refuses kind = LacksForm pointer kind ⊎ BreaksForm pointer refuses kind
 
--- What a call does to its sink that writes the canonical form of this root. `sink` is what is seen of the sink (the members of the trait
--- Write), `old` and `new` are the sink before the call and after it.
+-- What a call does to its sink that writes the canonical form of this root. `sink` is what is seen of the sink (the members
+-- of the trait Write), `old` and `new` are the sink before the call and after it.
 pub record WritesForm {S X : Type 0} (sink : Ghosts S) (old new : S) (pointer : Pointer) (result : Result X Error) : Type 0 where
   -- a plain sink gets the framed text of the form
   pub text : IsPlainSink sink.appends → OnOk result (IfKnown (sink.written old) (sink.written new) (Adds (IsCanonicalText pointer)))
   -- where there is no form, the call says why, and the sink is as it was
   pub lacks : (kind : ErrorKind) → LacksForm pointer kind → IsErrAnd result (λ error. error.kind ≡ kind) × (new ≡ old)
-  -- every sink gets what the pieces of the form add
+  -- every sink gets what the chunks of the form add
   pub writes : WritesTo sink old new (AppendsForm pointer sink.appends) (LeavesForm pointer sink.appends sink.leaves)
       (λ kind. (kind ≡ OutOfMemory) ⊎ DeclinesForm pointer sink.refuses kind) result
   -- a failure that isn't the sink's leaves the sink as it was

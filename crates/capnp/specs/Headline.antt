@@ -13,8 +13,8 @@ abbrev pub IsFault : ErrorKind → Type 0
 IsFault kind = (kind ≡ DeviceFailed) ⊎ (kind ≡ OutOfMemory)
 
 -- a caller-provided buffer has room for the message
-abbrev pub HasRoom : ℕ → List (List ℕ) → Type 0
-HasRoom room message = table_size (length message) + 8 * size_in_words message ≤ room
+abbrev pub BufferHasRoom : ℕ → List (List ℕ) → Type 0
+BufferHasRoom room message = table_size (length message) + 8 * size_in_words message ≤ room
 
 -- What a reader that grows returns of a stream in a grammar: `old` is unread before the call, and `new` after it.
 pub record ReturnsTexts (IsText : Grammar) (limit : Option ℕ) (old new : Option (List ℕ))
@@ -33,7 +33,7 @@ pub record ReturnsTextsInto (IsText : Grammar) (limit : Option ℕ) (room : ℕ)
   -- where the text of a message within the limit stands, and the buffer has room for it, the call fails only with the
   -- device's failure
   pub accepted : IfSome old (λ raw. (message : List (List ℕ)) (rest : List ℕ) → BeginsWith IsText limit message raw rest
-      → HasRoom room message → IfErr result (λ error. error.kind ≡ DeviceFailed))
+      → BufferHasRoom room message → IfErr result (λ error. error.kind ≡ DeviceFailed))
 
 -- As the form that may return None; where that does, the call fails with PrematureEndOfFile.
 abbrev pub OrFailsAtEnd : (Result (Option (List (List ℕ))) Error → Type 0) → Result (Option (List (List ℕ))) Error → Type 0

@@ -5,13 +5,13 @@ pub use Rattle.capnp_frame.specs.declared.serialize.segment_table.Padding.{Paddi
 pub use Rattle.capnp_frame.specs.declared.serialize.segment_table.Padding.TheVariants.{Any, Zero}
 pub use Rattle.capnp_frame.specs.Limits.{IsWithin, default_limit}
 pub use Rattle.capnp_frame.specs.Message.{IsWholeWords, word_count, lengths, size_in_words}
-pub use Rattle.capnp_frame.specs.Numbers.{number_of}
+pub use Rattle.capnp_frame.specs.Numbers.{kind_number}
 pub use Rattle.capnp_frame.specs.Refusals.{IsReaderKind}
 pub use Rattle.capnp_frame.specs.SegmentTable.{FitsField}
 pub use Rattle.capnp_frame.specs.Source.{Giving, Refusing, Splits, RunsShort, IsSource, IsPreorder, IfKnown, IsFront, IsRefused, Advances, Fails, Fills}
 pub use Rattle.capnp_frame.specs.SplittingLaws.{splitting, always}
 pub use Rattle.capnp_frame.specs.Sink.{Appending, AppendsSame, Leaving, LeavesNothing, LeavesFront, Declining, DeclinesSome, Adds, AppendsAll, Grows}
-pub use Rattle.capnp_frame.specs.Writing.{IsWritable, pieces}
+pub use Rattle.capnp_frame.specs.Writing.{IsWritable, chunks}
 pub use Rattle.capnp_wire.specs.Object.{message_of}
 pub use Rattle.capnp_wire.specs.Reached.{root}
 pub use Rattle.capnp_wire.specs.Readers.{default_root}

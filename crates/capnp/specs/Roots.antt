@@ -14,7 +14,7 @@ use Rattle.capnp_wire.specs.Reached.{At, root}
 
 -- these trees stand at the root
 abbrev pub HasRootTree : List (List ℕ) → Trees → Type 0
-HasRootTree segments trees = (charge : ℕ) × At (message_of segments) (root ∷ []) trees charge
+HasRootTree segments trees = (traversed : ℕ) × At (message_of segments) (root ∷ []) trees traversed
 
 -- the tree of a value does
 abbrev pub HasRootOf : (Trees → Type 0) → List (List ℕ) → Type 0

@@ -1,4 +1,4 @@
--- What a run over the messages of a stream reads, writes and answers (src/streams.rt).
+-- What a run over the messages of a stream reads, writes and returns (src/streams.rt).
 use Rattle.std.specs.Prelude.{◌≡◌, ◌<◌, ◌⊎◌, ◌+◌, ◌-◌, ◌^◌, ℕ, List, [], ◌∷◌, ◌++◌, length, Option, Some, None, IfSome, Result, Ok, Err, IfErr}
 use Rattle.capnp_frame.specs.declared.error.Error.{Error}
 use Rattle.capnp_frame.specs.declared.error.ErrorKind.{ErrorKind}
@@ -40,7 +40,7 @@ pub record HasWrittenNext (rule : Padding) (format : Format) (limit : Option ℕ
   pub stands : StandsNext rule format limit message raw rest
   pub written : IfKnown before after (Adds (Writes index message))
 
--- So many messages from the front of raw were written, and then rest is unread.
+-- A given number of messages from the front of raw were written, and then rest is unread.
 pub record HasWritten (rule : Padding) (format : Format) (limit : Option ℕ) (Writes : Writing) (count : ℕ) (before after : Option (List ℕ)) (raw rest : List ℕ) : Type 0 where
   pub messages : List (List (List ℕ))
   pub counted : length messages ≡ count
@@ -92,14 +92,14 @@ pub record RanOut (rule : Padding) (format : Format) (limit : Option ℕ) (Write
   pub written : HasWritten rule format limit Writes count before after raw rest
   pub done : (rest ≡ []) ⊎ (count ≡ most_messages)
 
--- So many messages are written and nothing more, since the next one was not read.
+-- A given number of messages are written and nothing more, since the next one was not read.
 pub record StoppedReading (rule : Padding) (format : Format) (limit : Option ℕ) (Writes : Writing) (count : ℕ) (kind : ErrorKind) (left before after : Option (List ℕ)) (raw : List ℕ) : Type 0 where
   pub rest : List ℕ
   pub written : HasWritten rule format limit Writes count before after raw rest
   pub fault : IsReadingFault rule format limit kind (Some rest) left
 
--- So many messages are written, and the next one was read and not written as a whole. Nothing of it is written unless the sink
--- broke it off.
+-- A given number of messages are written, and the next one was read and not written as a whole. Nothing of it is written
+-- unless the sink broke it off.
 pub record StoppedWriting (rule : Padding) (format : Format) (limit : Option ℕ) (Writes : Writing) (Declines : DecliningWriting) (count : ℕ) (kind : ErrorKind) (left before after : Option (List ℕ)) (raw : List ℕ) : Type 0 where
   pub rest : List ℕ
   pub between : Option (List ℕ)
@@ -108,23 +108,23 @@ pub record StoppedWriting (rule : Padding) (format : Format) (limit : Option ℕ
   pub front : IfKnown between after IsFront
   pub untouched : (message : List (List ℕ)) × BreaksOffOr Declines count message (after ≡ between) kind
 
--- it stopped by this kind after so many messages
+-- it stopped by this kind after a given number of messages
 abbrev pub HasStopped : Padding → Format → Option ℕ → Writing → DecliningWriting → ℕ → ErrorKind → Option (List ℕ) → Option (List ℕ) → Option (List ℕ) → List ℕ → Type 0
 HasStopped rule format limit Writes Declines count kind left before after raw =
     StoppedReading rule format limit Writes count kind left before after raw
     ⊎ StoppedWriting rule format limit Writes Declines count kind left before after raw
 
--- what the answer of a run says that it did
+-- what the result of a run says that it did
 abbrev pub HasRun : Padding → Format → Option ℕ → Writing → DecliningWriting → Result (Unit {0}) StoppedAt → Option (List ℕ) → Option (List ℕ) → Option (List ℕ) → List ℕ → Type 0
 HasRun rule format limit Writes Declines (Ok done) left before after raw = RanOut rule format limit Writes left before after raw
 HasRun rule format limit Writes Declines (Err stop) left before after raw = HasStopped rule format limit Writes Declines stop.message stop.error.kind left before after raw
 
--- the answer says that the stream is these messages, and ends so
-abbrev pub IsAnswerTo : Result (Unit {0}) StoppedAt → List (List (List ℕ)) → Option ErrorKind → Type 0
-IsAnswerTo (Ok done) messages ending = ending ≡ None
-IsAnswerTo (Err stop) messages ending = (ending ≡ Some stop.error.kind) × (stop.message ≡ length messages)
+-- the result says that the stream is these messages, and ends so
+abbrev pub IsResultOf : Result (Unit {0}) StoppedAt → List (List (List ℕ)) → Option ErrorKind → Type 0
+IsResultOf (Ok done) messages ending = ending ≡ None
+IsResultOf (Err stop) messages ending = (ending ≡ Some stop.error.kind) × (stop.message ≡ length messages)
 
--- the answer is a refusal by a fault
+-- the result is a refusal by a fault
 abbrev pub IsFaulted : DecliningWriting → Result (Unit {0}) StoppedAt → Type 0
 IsFaulted Declines (Ok done) = ⊥
 IsFaulted Declines (Err stop) = IsRunFault Declines stop.message stop.error.kind
@@ -140,7 +140,7 @@ pub record WritesEach {S T : Type 0} (source : Ghosts S) (old new : S) (sink : S
   -- what is returned says how the stream ends, and after how many messages, but for a fault
   pub exact : IfSome (source.unread old) (λ raw. (messages : List (List (List ℕ))) (ending : Option ErrorKind)
       → IsStream rule format limit messages ending raw → length messages < most_messages
-      → IsAnswerTo result messages ending ⊎ IsFaulted Declines result)
+      → IsResultOf result messages ending ⊎ IsFaulted Declines result)
   -- it fails with one of the reader's kinds, or with a fault at the message of that index
   pub kinds : IfErr result (λ stop. IsReaderKind rule (refuses_of format) stop.error.kind ⊎ IsRunFault Declines stop.message stop.error.kind)
   -- a device is blamed only where one of the two failed

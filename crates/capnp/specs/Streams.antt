@@ -1,14 +1,14 @@
--- Streams of either format: texts of messages behind one another.
+-- Streams of either format: texts of messages after one another.
 use Rattle.std.specs.Prelude.{◌≡◌, ℕ, List, ◌++◌, Option, None, ◌↔◌}
 use Rattle.capnp_frame.specs.declared.error.ErrorKind.{ErrorKind}
 use Rattle.capnp_frame.specs.declared.serialize.segment_table.Padding.{Padding}
 use Rattle.capnp_frame.specs.Frame.{IsFrame}
 use Rattle.capnp_frame.specs.Source.{Giving, Refusing, Splits, RunsShort}
-use Rattle.capnp_frame.specs.Texts.{Grammar, BeginsWith, AreTexts, Ends}
-use Rattle.capnp_frame.specs.Refusals.{RefusesStream, TakesMemory, IsReaderKind, IsLentReaderKind}
+use Rattle.capnp_frame.specs.Texts.{Grammar, BeginsWith, AreTexts, EndsTexts}
+use Rattle.capnp_frame.specs.Refusals.{RefusesStream, TakesMemory, IsReaderKind, IsProvidedReaderKind}
 use Rattle.capnp_frame.specs.Streams.{StreamRules}
 use Rattle.capnp_pack.specs.PackedFrame.{IsPackedFrame}
-use Rattle.capnp_pack.specs.PackedSource.{Unpacks, RefusesPiece}
+use Rattle.capnp_pack.specs.PackedSource.{Unpacks, RefusesChunk}
 use Rattle.capnp.specs.declared.streams.Format.{Format}
 use Rattle.capnp.specs.declared.streams.Format.TheVariants.{Framed, Packed}
 
@@ -37,7 +37,7 @@ gives_of Packed = Unpacks
 
 abbrev pub refuses_of : Format → Refusing
 refuses_of Framed = RunsShort
-refuses_of Packed = RefusesPiece
+refuses_of Packed = RefusesChunk
 
 -- what the readers of a format go by, over a source of plain bytes
 abbrev pub rules_of : Padding → Format → StreamRules
@@ -46,7 +46,7 @@ rules_of rule format = record {
   takes_memory = TakesMemory rule (gives_of format);
   refuses = RefusesStream rule (gives_of format) (refuses_of format);
   kinds = IsReaderKind rule (refuses_of format);
-  provided_kinds = IsLentReaderKind rule (refuses_of format);
+  provided_kinds = IsProvidedReaderKind rule (refuses_of format);
 }
 
 -- a text of the message in this format stands at the front, and the message is within the limit
@@ -59,7 +59,7 @@ RefusesNext rule format limit kind rest left = RefusesStream rule (gives_of form
 
 -- why no text of a message stands there: nothing is left, or the reader refuses by this kind
 abbrev pub EndsBy : Padding → Format → Option ℕ → Option ErrorKind → List ℕ → Type 0
-EndsBy rule format limit ending rest = Ends rule (gives_of format) (refuses_of format) limit ending rest
+EndsBy rule format limit ending rest = EndsTexts rule (gives_of format) (refuses_of format) limit ending rest
 
 -- The stream is texts of these messages, each within the limit, and then ends so.
 pub record IsStream (rule : Padding) (format : Format) (limit : Option ℕ) (messages : List (List (List ℕ))) (ending : Option ErrorKind) (raw : List ℕ) : Type 0 where

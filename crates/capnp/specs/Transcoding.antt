@@ -5,7 +5,7 @@ use Rattle.capnp_frame.specs.declared.io.Read.{Ghosts}
 use Rattle.capnp_frame.specs.declared.io.Write.{Ghosts as SinkGhosts}
 use Rattle.capnp_frame.specs.declared.serialize.segment_table.Padding.{Padding}
 use Rattle.capnp_frame.specs.Sink.{Appending, AppendsAll, Declining, DeclinesSome}
-use Rattle.capnp_frame.specs.Writing.{pieces}
+use Rattle.capnp_frame.specs.Writing.{chunks}
 use Rattle.capnp_pack.specs.PackedSink.{AppendsPacked, DeclinesPacked}
 use Rattle.capnp.specs.declared.streams.Format.{Format}
 use Rattle.capnp.specs.declared.streams.Format.TheVariants.{Framed, Packed}
@@ -19,29 +19,29 @@ abbrev pub input_of : Way → Format
 input_of Pack = Framed
 input_of Unpack = Packed
 
--- What a sink adds for a message: its pieces, packed or as they are.
+-- What a sink adds for a message: its chunks, packed or as they are.
 abbrev pub Transcodes : Way → Appending → Writing
-Transcodes Pack appends index message text = AppendsAll (AppendsPacked appends) (pieces message) text
-Transcodes Unpack appends index message text = AppendsAll appends (pieces message) text
+Transcodes Pack appends index message text = AppendsAll (AppendsPacked appends) (chunks message) text
+Transcodes Unpack appends index message text = AppendsAll appends (chunks message) text
 
 -- and by which kinds it refuses this message
 abbrev pub DeclinesTranscoded : Way → Declining → DecliningWriting
-DeclinesTranscoded Pack refuses = record { lacks = λ index message kind. ⊥; breaks = λ index message. DeclinesSome (DeclinesPacked refuses) (pieces message) }
-DeclinesTranscoded Unpack refuses = record { lacks = λ index message kind. ⊥; breaks = λ index message. DeclinesSome refuses (pieces message) }
+DeclinesTranscoded Pack refuses = record { lacks = λ index message kind. ⊥; breaks = λ index message. DeclinesSome (DeclinesPacked refuses) (chunks message) }
+DeclinesTranscoded Unpack refuses = record { lacks = λ index message kind. ⊥; breaks = λ index message. DeclinesSome refuses (chunks message) }
 
 -- the text of a message in the other format
 abbrev pub IsOtherText : Way → Writing
 IsOtherText Pack index message text = IsPackedTextOf message text
 IsOtherText Unpack index message text = IsFrameText message text
 
--- What a call does that writes each message of a stream, its padding by the rule, in the other format. `source` and `sink` are what is
--- seen of them (the members of the traits Read and Write); the source is `old` before the call and `new` after it, the sink `before`
--- and `after`.
+-- What a call does that writes each message of a stream, its padding by the rule, in the other format. `source` and `sink`
+-- are what is seen of them (the members of the traits Read and Write); the source is `old` before the call and `new` after
+-- it, the sink `before` and `after`.
 pub record TranscodesEach {S T : Type 0} (source : Ghosts S) (old new : S) (sink : SinkGhosts T) (before after : T)
     (rule : Padding) (way : Way) (limit : Option ℕ) (result : Result (Unit {0}) Error) : Type 0 where
   -- a plain sink gets the texts in the other format
   pub texts : IsPlainSink sink.appends → WithoutCount (WritesEach source old new sink before after rule (input_of way) limit
       (IsOtherText way) (DeclinesTranscoded way sink.refuses)) result
-  -- and every sink what the pieces of the messages add
+  -- and every sink what the chunks of the messages add
   pub runs : WithoutCount (WritesEach source old new sink before after rule (input_of way) limit
       (Transcodes way sink.appends) (DeclinesTranscoded way sink.refuses)) result

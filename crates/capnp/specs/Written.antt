@@ -9,7 +9,7 @@ use Rattle.capnp_frame.specs.Frame.{frame_text}
 use Rattle.capnp_frame.specs.Sink.{Appending, Declining, DeclinesAny, DeclinesSome, Adds, AppendsAll, Grows}
 use Rattle.capnp_frame.specs.Source.{IfKnown, Fails}
 use Rattle.capnp_frame.specs.Writers.{KeepsCount, RefusesUnwritten}
-use Rattle.capnp_frame.specs.Writing.{HasMany, RefusesMany, pieces}
+use Rattle.capnp_frame.specs.Writing.{HasMany, RefusesMany, chunks}
 use Rattle.capnp_build.specs.Built.{Built}
 use Rattle.capnp_build.specs.Held.{used_of}
 use Rattle.capnp_pack.specs.PackedFrame.{IsPackedText}
@@ -17,9 +17,9 @@ use Rattle.capnp_pack.specs.PackedSink.{AppendsPacked, DeclinesPacked}
 use Rattle.capnp.specs.declared.streams.Format.{Format}
 use Rattle.capnp.specs.declared.streams.Format.TheVariants.{Framed, Packed}
 
--- a plain sink adds just the piece
+-- a plain sink adds just the chunk
 abbrev pub IsPlainSink : Appending → Type 0
-IsPlainSink appends = (piece text : List ℕ) → appends piece text → text ≡ piece
+IsPlainSink appends = (chunk text : List ℕ) → appends chunk text → text ≡ chunk
 
 -- the text that is written of a message, framed and packed
 abbrev pub IsFrameText : List (List ℕ) → List ℕ → Type 0
@@ -36,12 +36,12 @@ IsTextOf Packed = IsPackedTextOf
 abbrev pub output_of : {A : Type 0} → Built A → List (List ℕ)
 output_of built = map used_of built.spaces
 
--- why a writer fails: by the device, as its sink refuses one of the pieces, or before it writes, for more segments than a reader
+-- why a writer fails: by the device, as its sink refuses one of the chunks, or before it writes, for more segments than a reader
 -- accepts or, from four on, for want of memory
 abbrev pub RefusesWriter : Declining → List (List ℕ) → ErrorKind → Type 0
-RefusesWriter refuses message kind = (kind ≡ DeviceFailed) ⊎ DeclinesSome refuses (pieces message) kind ⊎ RefusesUnwritten message kind
+RefusesWriter refuses message kind = (kind ≡ DeviceFailed) ⊎ DeclinesSome refuses (chunks message) kind ⊎ RefusesUnwritten message kind
 
--- what a piece adds to a sink in this format, and by which kinds it may be refused
+-- what a chunk adds to a sink in this format, and by which kinds it may be refused
 abbrev pub AppendsAs : Format → Appending → Appending
 AppendsAs Framed appends = appends
 AppendsAs Packed appends = AppendsPacked appends
@@ -59,12 +59,12 @@ pub record WritesMessage {S X : Type 0} (format : Format) (sink : Ghosts S) (old
   pub unwritten : HasMany message → new ≡ old
   -- to a plain sink the text of the message is added
   pub text : IsPlainSink sink.appends → OnOk result (IfKnown (sink.written old) (sink.written new) (Adds (IsTextOf format message)))
-  -- and to every sink what its pieces add, one after the other
+  -- and to every sink what its chunks add, one after the other
   pub written : OnOk result (IfKnown (sink.written old) (sink.written new)
-      (Adds (AppendsAll (AppendsAs format sink.appends) (pieces message))))
+      (Adds (AppendsAll (AppendsAs format sink.appends) (chunks message))))
   pub refused : IfErr result (λ error. RefusesWriter (DeclinesAs format sink.refuses) message error.kind)
   -- a failure that isn't the sink's leaves the sink as it was
-  pub untouched : FailsOr result (λ kind. DeclinesSome (DeclinesAs format sink.refuses) (pieces message) kind ⊎ (new ≡ old))
+  pub untouched : FailsOr result (λ kind. DeclinesSome (DeclinesAs format sink.refuses) (chunks message) kind ⊎ (new ≡ old))
   -- the device is blamed only where it failed
   pub failed : IfErr result (λ error. error.kind ≡ DeviceFailed → Fails (sink.failures old) (sink.failures new))
   -- what was written before stays at the front, also where the call fails
@@ -75,7 +75,8 @@ abbrev pub RefusesManyOf : List (List (List ℕ)) → ErrorKind → Type 0
 RefusesManyOf [] kind = ⊥
 RefusesManyOf (m ∷ ms) kind = RefusesMany m kind ⊎ RefusesManyOf ms kind
 
--- why messages are not written one after the other beside that: by the device, for want of memory, or as the sink refuses some piece
+-- why messages are not written one after the other beside that: by the device, for want of memory, or as the sink refuses
+-- some chunk
 abbrev pub RefusesAppending : Declining → ErrorKind → Type 0
 RefusesAppending refuses kind = (kind ≡ DeviceFailed) ⊎ (kind ≡ OutOfMemory) ⊎ DeclinesAny refuses kind
 

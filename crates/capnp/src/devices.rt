@@ -34,7 +34,7 @@ impl Failures {
         Failures { count: 0 }
     }
 
-    /// Counts a failure, and answers the error that it is refused by.
+    /// Counts a failure, and returns the error that it fails with.
     fn add(&mut self) -> Error
         ensures kind { result.kind ≡ ErrorKind.DeviceFailed }
         ensures counted { self.new.count ≡ min (self.old.count + 1) (2 ^ 64 - 1) }

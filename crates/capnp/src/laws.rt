@@ -18,7 +18,7 @@ ghost use Rattle.capnp.specs.Written.{IsTextOf, AppendsEach};
 use capnp_frame::serialize::Padding;
 
 /// A stream begins with one message at most, and where it does one rest is left. So all readers of a
-/// format answer the same message.
+/// format return the same message.
 pub fn one_message_begins_a_stream()
     ensures { (rule : Padding) (format : Format) (limit : Option ℕ) (message other : List (List ℕ))
         (raw rest left : List ℕ) → StandsNext rule format limit message raw rest →

@@ -1,6 +1,6 @@
 //! Messages of Cap'n Proto in both formats: framed, and packed.
 //!
-//! A reader answers a message exactly where the unread bytes begin with a text of it, within the
+//! A reader returns a message exactly where the unread bytes begin with a text of it, within the
 //! limits, and leaves what follows. Writers add the text of a message. `specs/Headline.antt` and
 //! `specs/Streams.antt` say so, over the grammars of the crates below.
 #![tactic(auto)]

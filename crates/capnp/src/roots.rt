@@ -5,7 +5,7 @@ ghost use Rattle.capnp_frame.specs.Limits.{KeepsLimit};
 ghost use Rattle.capnp_frame.specs.Message.{lengths};
 ghost use Rattle.capnp_frame.specs.Writing.{HasFew, RefusesMany};
 ghost use Rattle.capnp_wire.specs.Values.{HasWords, LacksWords};
-ghost use Rattle.capnp_build.specs.Placed.{IsCrowded};
+ghost use Rattle.capnp_build.specs.Placed.{FindsNoRoom};
 ghost use Rattle.capnp_build.specs.Out.{MayRefuse};
 ghost use Rattle.capnp.specs.Written.{output_of};
 ghost use Rattle.capnp.specs.Roots.{HasRootOf, RefusesSize, ReadsWritten};
@@ -42,7 +42,7 @@ pub fn set_and_read_back<T, V: SetterInput<T> + Drop, A: Allocator>(
         ⊎ (error.kind ≡ ErrorKind.OutOfMemory)
         ⊎ LacksWords (V.has_tree value) (V.refuses value) false error.kind
         ⊎ ((length message.old.spaces ≡ 0) × MayRefuse 1 error.kind)
-        ⊎ IsCrowded (HasWords (V.has_tree value) false) message.new.spaces error.kind) }
+        ⊎ FindsNoRoom (HasWords (V.has_tree value) false) message.new.spaces error.kind) }
 {
     message.set_root::<T, V>(value)?;
     write_and_read_back(alloc, format, message, options)

@@ -50,7 +50,7 @@ pub trait MessageWriter {
     /// Writes what there is to write of a message of this index.
     ///
     /// The message has 1 to 511 segments, each of whole words and fewer than 2^32 of them. `memory`
-    /// is lent: what it holds is open, before and after.
+    /// is caller-provided: what it holds is open, before and after.
     fn write_message<W: Write>(
         &self,
         alloc: Global,
@@ -130,7 +130,8 @@ fn write_all<R: BufRead, W: Write, M: MessageWriter>(
     Ok(())
 }
 
-// Reads the next message of a stream of this format, its padding by the rule, into the memory of the one before.
+// Reads the next message of a stream of this format, its padding by the rule, into the memory of the
+// one before.
 fn read_next<R: BufRead>(
     format: Format,
     padding: Padding,

@@ -72,31 +72,31 @@ eight_before p at xs w le fits =
 pub word_back : (word : ℕ) (bytes : List ℕ) → word < 2 ^ 64 → bytes ≡ to_le_bytes w64 word → length bytes ≡ 8 → number_of 256 bytes ≡ word
 word_back word bytes small is eight = number_of_eight bytes eight ∙ ap (from_le_bytes w64) is ∙ from_le_bytes-to_le_bytes_8 word small
 
--- a write behind the root's word keeps it
+-- a write after the root's word keeps it
 pub root_kept : (spaces : List Space) (i at : ℕ) (w : List ℕ) → i < length spaces → 8 ≤ at → at + length w ≤ length (space_at spaces i).used
     → word_at (message (slice_set spaces i (with_bytes (space_at spaces i) at w))) root ≡ word_at (message spaces) root
-root_kept [] i at w within behind room = absurd (omega (arith, within))
-root_kept (s ∷ spaces) zero at w within behind room =
+root_kept [] i at w within following room = absurd (omega (arith, within))
+root_kept (s ∷ spaces) zero at w within following room =
     let long : length (written s.used at w) ≡ length s.used = written_length at s.used w room in
-    word_there (with_bytes s at w ∷ spaces) root (omega arith) (omega (arith, long, room, behind))
-    ∙ ap (λ (b : List ℕ). Some (number_of 256 b)) (eight_before 0 at s.used w (omega (arith, behind)) (omega (arith, room)))
-    ∙ sym (word_there (s ∷ spaces) root (omega arith) (omega (arith, room, behind)))
-root_kept (s ∷ spaces) (suc i) at w within behind room = refl
+    word_there (with_bytes s at w ∷ spaces) root (omega arith) (omega (arith, long, room, following))
+    ∙ ap (λ (b : List ℕ). Some (number_of 256 b)) (eight_before 0 at s.used w (omega (arith, following)) (omega (arith, room)))
+    ∙ sym (word_there (s ∷ spaces) root (omega arith) (omega (arith, room, following)))
+root_kept (s ∷ spaces) (suc i) at w within following room = refl
 
--- so does one behind a word of the same segment
+-- so does one after a word of the same segment
 pub word_kept : (spaces : List Space) (i p at : ℕ) (w : List ℕ) → i < length spaces → 8 * p + 8 ≤ at → at + length w ≤ length (space_at spaces i).used
     → (let place : Place = record { segment = i; word = p } in word_at (message (slice_set spaces i (with_bytes (space_at spaces i) at w))) place ≡ word_at (message spaces) place)
-word_kept spaces i p at w within behind room =
+word_kept spaces i p at w within following room =
     let place : Place = record { segment = i; word = p } in
     let new : List Space = slice_set spaces i (with_bytes (space_at spaces i) at w) in
     let here : space_at new i ≡ with_bytes (space_at spaces i) at w = set_here spaces i (with_bytes (space_at spaces i) at w) within in
     let used : (space_at new i).used ≡ written (space_at spaces i).used at w = ap (λ (s : Space). s.used) here in
     let long : length (space_at new i).used ≡ length (space_at spaces i).used = ap length used ∙ written_length at (space_at spaces i).used w room in
     let count : length new ≡ length spaces = length-set spaces i (with_bytes (space_at spaces i) at w) in
-    word_there new place (omega (arith, count, within)) (omega (arith, long, room, behind))
+    word_there new place (omega (arith, count, within)) (omega (arith, long, room, following))
     ∙ ap (λ (b : List ℕ). Some (number_of 256 (take 8 (drop (8 * p) b)))) used
-    ∙ ap (λ (b : List ℕ). Some (number_of 256 b)) (eight_before (8 * p) at (space_at spaces i).used w behind (omega (arith, room)))
-    ∙ sym (word_there spaces place within (omega (arith, room, behind)))
+    ∙ ap (λ (b : List ℕ). Some (number_of 256 b)) (eight_before (8 * p) at (space_at spaces i).used w following (omega (arith, room)))
+    ∙ sym (word_there spaces place within (omega (arith, room, following)))
 
 -- what is written into a part of some bytes
 written_suc : (s a : ℕ) (x : ℕ) (xs w : List ℕ) → written (x ∷ xs) (suc s + a) w ≡ x ∷ written xs (s + a) w

@@ -14,8 +14,8 @@ use Rattle.capnp_wire.specs.Layout.{struct_pointer, minus_one, body, pointers_to
 use Rattle.capnp_wire.proofs.words.WordLemmas.{length-words_of}
 use Rattle.capnp_build.specs.Bytes.{Space, written, with_bytes}
 use Rattle.capnp_build.specs.Held.{space_at}
-use Rattle.capnp_build.specs.Built.{message, root_word, pad_of, IsLaid}
-use Rattle.capnp_build.specs.declared.arena.spot.Spot.{Spot}
+use Rattle.capnp_build.specs.Built.{message, root_word, landing_pad_of, IsLaid}
+use Rattle.capnp_build.specs.declared.arena.location.RootLocation.{RootLocation}
 use Rattle.capnp_build.proofs.WordLemmas.{words_set}
 use Rattle.capnp_build.proofs.SpaceLemmas.{set_used}
 use Rattle.capnp_build.proofs.UsedLemmas.{written_length}
@@ -53,44 +53,44 @@ root_same : (k start : ℕ) (fields : List ℕ) (held : Trees) (i x : ℕ) → r
 root_same zero start fields held i x = ap (λ (n : ℕ). struct_pointer (if n + count held == 0 then minus_one else start - 1) n (count held)) (length-set fields i x)
 root_same (suc k) start fields held i x = refl
 
-pub field_laid : (spaces last : List Space) (spot : Spot) (fields : List ℕ) (held : Trees) (i x : ℕ) (w : List ℕ) → IsLaid spaces spot (struct fields) held → i < length fields
+pub field_laid : (spaces last : List Space) (location : RootLocation) (fields : List ℕ) (held : Trees) (i x : ℕ) (w : List ℕ) → IsLaid spaces location (struct fields) held → i < length fields
     → x < 2 ^ 64 → w ≡ to_le_bytes w64 x → length w ≡ 8
-    → last ≡ slice_set spaces spot.segment (with_bytes (space_at spaces spot.segment) (8 * (spot.start + i)) w) → IsLaid last spot (struct (slice_set fields i x)) held
-field_laid spaces last spot fields held i x w r within small is eight e =
-    let old : List ℕ = (space_at spaces spot.segment).used in
-    let a = set_used spaces last spot.segment (with_bytes (space_at spaces spot.segment) (8 * (spot.start + i)) w) r.body_is.within e in
-    let used : (space_at last spot.segment).used ≡ written old (8 * (spot.start + i)) w = ap (λ (s : Space). s.used) a.1 in
-    let room : 8 * (spot.start + i) + length w ≤ length old = omega (arith, eight, r.body_is.room, r.body_is.size, within) in
-    let long : length (space_at last spot.segment).used ≡ length old = ap length used ∙ written_length (8 * (spot.start + i)) old w room in
+    → last ≡ slice_set spaces location.segment (with_bytes (space_at spaces location.segment) (8 * (location.start + i)) w) → IsLaid last location (struct (slice_set fields i x)) held
+field_laid spaces last location fields held i x w r within small is eight e =
+    let old : List ℕ = (space_at spaces location.segment).used in
+    let a = set_used spaces last location.segment (with_bytes (space_at spaces location.segment) (8 * (location.start + i)) w) r.body_is.within e in
+    let used : (space_at last location.segment).used ≡ written old (8 * (location.start + i)) w = ap (λ (s : Space). s.used) a.1 in
+    let room : 8 * (location.start + i) + length w ≤ length old = omega (arith, eight, r.body_is.room, r.body_is.size, within) in
+    let long : length (space_at last location.segment).used ≡ length old = ap length used ∙ written_length (8 * (location.start + i)) old w room in
     let wide : length (slice_set fields i x) ≡ length fields = length-set fields i x in
-    let inside : spot.start + i < length (words_of old) = omega (arith, room, eight, length-words_of old) in
-    let words : words_of (space_at last spot.segment).used ≡ slice_set (words_of old) (spot.start + i) x = ap words_of used ∙ words_set old (spot.start + i) x w inside small is eight in
+    let inside : location.start + i < length (words_of old) = omega (arith, room, eight, length-words_of old) in
+    let words : words_of (space_at last location.segment).used ≡ slice_set (words_of old) (location.start + i) x = ap words_of used ∙ words_set old (location.start + i) x w inside small is eight in
     record {
       body_is = record {
         within = omega (arith, a.0, r.body_is.within);
         room = omega (arith, long, r.body_is.room);
-        behind = r.body_is.behind;
+        following = r.body_is.following;
         near = r.body_is.near;
         rooms = ((omega (arith, wide, r.body_is.rooms.0.0), r.body_is.rooms.0.1, All-set (λ (v : ℕ). v < 2 ^ 64) fields i x small r.body_is.rooms.0.2), r.body_is.rooms.1, tt);
         size = r.body_is.size ∙ ap (λ (n : ℕ). n + count held + total_words held + 0) (sym wide);
         few = r.body_is.few;
         tag = r.body_is.tag ∙ ap (λ (n : ℕ). struct_pointer (if n + count held == 0 then minus_one else 0) n (count held)) (sym wide);
-        laid = subst (λ (l : List ℕ). Laid l spot.start (tree (struct (slice_set fields i x)) held none)) (sym words) (set_laid (words_of old) spot.start i x fields held within r.body_is.laid);
+        laid = subst (λ (l : List ℕ). Laid l location.start (tree (struct (slice_set fields i x)) held none)) (sym words) (set_laid (words_of old) location.start i x fields held within r.body_is.laid);
       };
-      root_is = ap (λ (l : List Space). word_at (message l) root) e ∙ root_kept spaces spot.segment (8 * (spot.start + i)) w r.body_is.within (omega (arith, r.body_is.behind)) room ∙ r.root_is
-          ∙ ap Some (sym (root_same spot.segment spot.start fields held i x));
-      pad_is = λ p. (
-        (r.pad_is p).0,
-        ap (λ (l : List Space). word_at (message l) (pad_of spot)) e
-            ∙ word_kept spaces spot.segment (spot.start - 1) (8 * (spot.start + i)) w r.body_is.within (omega (arith, r.body_is.behind)) room ∙ (r.pad_is p).1,
+      root_is = ap (λ (l : List Space). word_at (message l) root) e ∙ root_kept spaces location.segment (8 * (location.start + i)) w r.body_is.within (omega (arith, r.body_is.following)) room ∙ r.root_is
+          ∙ ap Some (sym (root_same location.segment location.start fields held i x));
+      landing_pad_is = λ p. (
+        (r.landing_pad_is p).0,
+        ap (λ (l : List Space). word_at (message l) (landing_pad_of location)) e
+            ∙ word_kept spaces location.segment (location.start - 1) (8 * (location.start + i)) w r.body_is.within (omega (arith, r.body_is.following)) room ∙ (r.landing_pad_is p).1,
       );
     }
 
--- a root has so many data words
-pub same_fields : (spaces : List Space) (words others : List ℕ) (held h : Trees) (charge c : ℕ) → At (message spaces) (root ∷ []) (tree (struct words) held none) charge
+-- a root has a given number of data words
+pub same_fields : (spaces : List Space) (words others : List ℕ) (held h : Trees) (traversed c : ℕ) → At (message spaces) (root ∷ []) (tree (struct words) held none) traversed
     → At (message spaces) (root ∷ []) (tree (struct others) h none) c
     → length words ≡ length others
-same_fields spaces words others held h charge c one other =
+same_fields spaces words others held h traversed c one other =
     let same : tree (struct words) held none ≡ tree (struct others) h none = (one_tree (message spaces) (root ∷ []) (tree (struct words) held none) (tree
-    (struct others) h none) charge c one other).0 in
+    (struct others) h none) traversed c one other).0 in
     let forms : words ≡ others = cc in ap length forms

@@ -15,7 +15,7 @@ one_word (s ∷ t ∷ spaces) alone = absurd (omega (arith, alone.0))
 nothing_past : (spaces : List Space) (i : ℕ) → i ≡ length spaces → length (space_at spaces i).used ≡ 0
 nothing_past spaces i e = ap (λ (k : ℕ). length (space_at spaces k).used) e ∙ ap (λ (l : List ℕ). length l) (past_all spaces)
 
--- a block that is placed behind the root's word alone
+-- a block that is placed after the root's word alone
 pub first_put : {A : Type 0} (cleared new : Built A) (words : ℕ) → HasRootAlone cleared.spaces → IsPlaced cleared.spaces new words
     → (space_at new.spaces 0).size ≡ (space_at cleared.spaces 0).size → IsFirst new words
 first_put cleared new words alone placed size =

@@ -26,7 +26,7 @@ within_others : (first : Option Space) (others : List Space) (i : ℕ) → i < l
 within_others None others i within other = absurd (omega (arith, within))
 within_others (Some s) others i within other = omega (arith, within, other)
 
--- another segment behind the first, as long as the one in its place
+-- another segment after the first, as long as the one in its place
 other_pairs : (first : Option Space) (others : List Space) (k : ℕ) (part new : Space) (rest : List Out) → MatchOption first (others ≡ []) (λ _. ⊤) → k < length others
     → part ≡ slice_index_or others k part → pair new ≡ pair part → pairs (spaces_of first (slice_set others k new)) rest ≡ pairs (spaces_of first others) rest
 other_pairs None others k part new rest alone within is same = refl
@@ -48,7 +48,7 @@ other_edit Outs first others i part new alone out few within other is same =
       (rw length-set few),
     )
 
--- a segment more behind the first keeps what else is out
+-- a segment more after the first keeps what else is out
 pub other_keeps : (Before After : List Out → Type 0) (first : Option Space) (others more : List Space) (o : Out) (new : Space) (rest : List Out)
     → MatchOption first ⊥ (λ _. ⊤) → ((list : List Out) → Before list → After (o ∷ list)) → o ≡ pair new → more ≡ others ++ new ∷ []
     → Before (pairs (spaces_of first others) rest) → After (pairs (spaces_of first more) rest)
@@ -58,7 +58,7 @@ other_keeps Before After (Some s) others more o new rest some adds is e out =
     ap (λ (xs : List Space). pairs xs (pair s ∷ rest)) e ∙ pairs_more others new (pair s ∷ rest) ∙ ap (λ (q : Out). q ∷ pairs others (pair s ∷ rest)) (sym is) in
     subst After (sym p) (adds (pairs others (pair s ∷ rest)) out)
 
--- a segment more behind the first
+-- a segment more after the first
 pub other_added : (Before After : List Out → Type 0) (first : Option Space) (others more : List Space) (o : Out) (new : Space)
     → MatchOption first ⊥ (λ _. ⊤) → AreOut Before (spaces_of first others) → length others + 2 < 2 ^ 32
     → ((list : List Out) → Before list → After (o ∷ list)) → o ≡ pair new → more ≡ others ++ new ∷ []
@@ -115,7 +115,7 @@ none_left old new n z r e = let k : n - 1 ≡ 0 = omega (arith, z) in e ∙ (rw 
 pub only_first : (first : Option Space) (others : List Space) (p : Space) (rest : List Out) → first ≡ Some p → others ≡ [] → pairs (spaces_of first others) rest ≡ pair p ∷ rest
 only_first first others p rest e f = rw (e, f) refl
 
-pub same_pair : (m n : ℕ) (a b : Bool) → m ≡ n → a ≡ b → (let left : Out = record { length = m; is_lent = a } in let right : Out = record { length = n; is_lent = b } in left ≡ right)
+pub same_pair : (m n : ℕ) (a b : Bool) → m ≡ n → a ≡ b → (let left : Out = record { length = m; is_provided = a } in let right : Out = record { length = n; is_provided = b } in left ≡ right)
 same_pair m n a b e f = cc
 
 -- a segment that is written keeps the others out

@@ -27,9 +27,9 @@ inits_root alloc schema n form old cleared new (Ok done) keeps clear inits told 
       placed = record {
         cleared = cleared;
         is_cleared = cleared_root alloc old cleared clear;
-        block = inr (told.0, (form, inits, told.1), told.2.placed, λ empty. first_put cleared new told.0 (clear.fresh empty) told.2.placed (told.2.sizes 0 clear.there));
+        block = inr (told.0, (form, inits, told.1), told.2.placed, λ empty. first_put cleared new told.0 (clear.new_object empty) told.2.placed (told.2.sizes 0 clear.there));
         granted = still_granted alloc old cleared new.spaces clear (told.2.sizes 0 clear.there);
-        zero = zero_stays old.spot cleared.spaces new.spaces clear.behind clear.zero told.2.bytes;
+        zero = zero_stays old.location cleared.spaces new.spaces clear.following clear.zero told.2.bytes;
       };
       nulled = tt;
       kind = tt;

@@ -8,7 +8,7 @@ use Rattle.capnp_build.specs.Bytes.{Space, written, with_bytes}
 use Rattle.capnp_build.specs.Held.{space_at}
 use Rattle.capnp_build.specs.Built.{KeepsBytes}
 use Rattle.capnp_build.specs.Placed.{IsAdded, IsZeroAt}
-use Rattle.capnp_build.specs.declared.arena.spot.Spot.{Spot}
+use Rattle.capnp_build.specs.declared.arena.location.RootLocation.{RootLocation}
 use Rattle.capnp_build.proofs.ByteLemmas.{front_same}
 use Rattle.capnp_build.proofs.UsedLemmas.{written_zero}
 
@@ -36,12 +36,12 @@ set_longer (x ∷ spaces) zero (suc j) s e = omega arith
 set_longer (x ∷ spaces) (suc i) zero s e = omega arith
 set_longer (x ∷ spaces) (suc i) (suc j) s e = set_longer spaces i j s e
 
--- bytes behind these
-pub part_behind : (from n : ℕ) (xs ys : List ℕ) → from + n ≤ length xs → take n (drop from (xs ++ ys)) ≡ take n (drop from xs)
-part_behind from n xs ys fits =
+-- bytes after these
+pub part_after : (from n : ℕ) (xs ys : List ℕ) → from + n ≤ length xs → take n (drop from (xs ++ ys)) ≡ take n (drop from xs)
+part_after from n xs ys fits =
     ap (take n) (drop-append-le from xs ys (omega (arith, fits))) ∙ take-append-le n (drop from xs) ys (omega (arith, fits, length-drop from xs))
 
--- a write behind these bytes, and one before them
+-- a write after these bytes, and one before them
 part_before : (from n at : ℕ) (xs w : List ℕ) → from + n ≤ at → at ≤ length xs → take n (drop from (written xs at w)) ≡ take n (drop from xs)
 part_before from n at xs w le fits =
     sym (drop-take from n (written xs at w)) ∙ ap (drop from) (front_same (from + n) at xs (w ++ drop (at + length w) xs) le fits) ∙ drop-take from n xs
@@ -102,8 +102,8 @@ part_zero zero from xs ys is keeps = refl
 part_zero (suc n) from xs ys is keeps =
     keeps (omega (arith, ap length is, length-replicate {A = ℕ} (suc n) 0, length-take (suc n) (drop from xs), length-drop from xs)) ∙ is
 
-pub zero_stays : (old : Option Spot) (mid new : List Space) → MatchOption old ⊤ (λ spot. 0 < spot.start) → MatchOption old ⊤ (IsZeroAt mid) → KeepsBytes mid new → MatchOption old ⊤ (IsZeroAt new)
-zero_stays None mid new behind is keeps = tt
-zero_stays (Some spot) mid new behind is keeps =
-    part_zero (8 * spot.words) (8 * spot.start) (space_at mid spot.segment).used (space_at new spot.segment).used is
-    (λ fits. keeps spot.segment (8 * spot.start) (8 * spot.words) (λ first. omega (arith, behind)) fits)
+pub zero_stays : (old : Option RootLocation) (mid new : List Space) → MatchOption old ⊤ (λ location. 0 < location.start) → MatchOption old ⊤ (IsZeroAt mid) → KeepsBytes mid new → MatchOption old ⊤ (IsZeroAt new)
+zero_stays None mid new following is keeps = tt
+zero_stays (Some location) mid new following is keeps =
+    part_zero (8 * location.words) (8 * location.start) (space_at mid location.segment).used (space_at new location.segment).used is
+    (λ fits. keeps location.segment (8 * location.start) (8 * location.words) (λ first. omega (arith, following)) fits)

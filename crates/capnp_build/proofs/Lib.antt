@@ -20,5 +20,5 @@ pub mod OutcomeLemmas
 pub mod CanonicalLemmas
 pub mod InitLemmas
 pub mod WriteLemmas
-pub mod FreshLemmas
+pub mod NewObjectLemmas
 pub mod OutputLemmas

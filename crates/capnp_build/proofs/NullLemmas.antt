@@ -16,7 +16,7 @@ use Rattle.capnp_build.proofs.ByteLemmas.{word_there, eight_here}
 
 -- a tree of one object
 abbrev pub IsTree : List (List ℕ) → Form → Type 0
-IsTree m form = (charge : ℕ) × Root m form none charge
+IsTree m form = (traversed : ℕ) × Root m form none traversed
 
 pub null_tree : (spaces : List Space) → 0 < length spaces → HasNullRoot spaces → IsTree (message spaces) null
 null_tree spaces there r = elim r [
@@ -38,9 +38,9 @@ object_there [] place shape (is_null e) = absurd (no_word place 0 e)
 object_there [] place shape (is_object {landing = l} lands content begins stand) = lands_there [] place l lands
 object_there (s ∷ spaces) place shape o = omega arith
 
-pub root_there : (spaces : List Space) (places : List Place) (trees : Trees) (charge : ℕ) → places ≡ root ∷ [] → At (message spaces) places trees charge → 0 < length spaces
-root_there spaces places trees charge e nowhere = cc
-root_there spaces places trees charge e (at {place = p} {shape = s} object inner rest) = object_there spaces p s object
+pub root_there : (spaces : List Space) (places : List Place) (trees : Trees) (traversed : ℕ) → places ≡ root ∷ [] → At (message spaces) places trees traversed → 0 < length spaces
+root_there spaces places trees traversed e nowhere = cc
+root_there spaces places trees traversed e (at {place = p} {shape = s} object inner rest) = object_there spaces p s object
 
 -- where the root's word stands, the first segment has it
 some_word : (xs : List ℕ) (x : ℕ) → slice_get xs 0 ≡ Some x → 0 < length xs
@@ -73,7 +73,7 @@ pub size_least : (spaces : List Space) → 0 < length spaces → 8 ≤ length (s
 size_least [] there room = absurd (omega (arith, there))
 size_least (s ∷ spaces) there room = omega (arith, room)
 
--- the object made zero, and the root's word behind it
+-- the object made zero, and the root's word after it
 pub old_cleared : (spaces : List Space) (i from : ℕ) (zs : List ℕ) (x : ℕ) → word_at (message spaces) root ≡ Some x → from + length zs ≤ length (space_at spaces i).used
     → (let wiped : List Space = slice_set spaces i (with_bytes (space_at spaces i) from zs) in
     word_at (message (slice_set wiped 0 (with_bytes (space_at wiped 0) 0 (replicate 8 0)))) root ≡ Some 0)
@@ -110,12 +110,12 @@ first_size spaces there r =
     size_set spaces 0 (with_bytes (space_at spaces 0) 0 (replicate 8 0)) (written_length 0 (space_at spaces 0).used (replicate 8 0) (omega (arith, room))) in
     omega (arith, one, size_least spaces there room)
 
-pub null_root : (spaces : List Space) → 0 < length spaces → HasNullRoot spaces → (charge : ℕ) × At (message spaces) (root ∷ []) (tree null none none) charge
+pub null_root : (spaces : List Space) → 0 < length spaces → HasNullRoot spaces → (traversed : ℕ) × At (message spaces) (root ∷ []) (tree null none none) traversed
 null_root spaces there r = null_tree spaces there r
 
-pub null_only : (spaces : List Space) (f : Form) (h : Trees) (charge : ℕ) → HasNullRoot spaces → At (message spaces) (root ∷ []) (tree f h none) charge → f ≡ null
-null_only spaces f h charge r there =
-    let some : 0 < length spaces = root_there spaces (root ∷ []) (tree f h none) charge refl there in
+pub null_only : (spaces : List Space) (f : Form) (h : Trees) (traversed : ℕ) → HasNullRoot spaces → At (message spaces) (root ∷ []) (tree f h none) traversed → f ≡ null
+null_only spaces f h traversed r there =
+    let some : 0 < length spaces = root_there spaces (root ∷ []) (tree f h none) traversed refl there in
     let t = null_tree spaces some r in
-    let same : tree null none none ≡ tree f h none = (one_tree (message spaces) (root ∷ []) (tree null none none) (tree f h none) t.0 charge t.1 there).0 in
+    let same : tree null none none ≡ tree f h none = (one_tree (message spaces) (root ∷ []) (tree null none none) (tree f h none) t.0 traversed t.1 there).0 in
     let forms : null ≡ f = cc in sym forms

@@ -6,16 +6,16 @@ use Rattle.capnp_wire.specs.Tree.{Form, null, Trees, none}
 use Rattle.capnp_wire.specs.Values.{HasWords, LacksWords}
 use Rattle.capnp_build.specs.declared.allocator.Allocator as allocator
 use Rattle.capnp_build.specs.declared.owned_builder.OwnedBuilder as owned_builder
-use Rattle.capnp_build.specs.declared.shown.Shown.{Shown}
+use Rattle.capnp_build.specs.declared.root_kind.RootKind.{RootKind}
 use Rattle.capnp_build.specs.Bytes.{Space}
 use Rattle.capnp_frame.specs.Source.{IsPreorder}
 use Rattle.capnp_build.specs.Out.{Out, HasLarge}
-use Rattle.capnp_build.specs.Held.{pairs, space_at, room_of}
+use Rattle.capnp_build.specs.Held.{pairs, space_at, free_words_of}
 use Rattle.capnp_build.specs.Built.{Built, HasNullRoot, ForRoot, IsSet}
 use Rattle.capnp_build.specs.Placed.{DeclinesRoot, HasNoRoom, IsPut, IsGranted, IsCleared}
 use Rattle.capnp_build.specs.Blocks.{PutsBlock}
 use Rattle.capnp_build.specs.Outcomes.{SetsRoot, ClearsRoot, EnsuresRoot, LooksAtRoot, HasRoomFirst}
-use Rattle.capnp_build.specs.Shown.{Shows, HoldsForm}
+use Rattle.capnp_build.specs.RootKind.{ShowsRoot, HoldsForm}
 use Rattle.capnp_build.proofs.NullLemmas.{null_root}
 use Rattle.capnp_build.proofs.PlaceLemmas.{still_cleared}
 use Rattle.capnp_build.proofs.FirstLemmas.{first_put, no_large}
@@ -28,17 +28,17 @@ cleared_root alloc old last told = record {
   zero = told.zero;
   size = omega (arith, told.size);
   rooms = told.rooms;
-  fresh = λ empty. inr (told.fresh empty);
+  new_object = λ empty. inr (told.new_object empty);
   same_allocator = told.same;
   others = told.others;
 }
 
 -- a block finds the room that the first segment has
 pub room_first : {A S : Type 0} (alloc : allocator.Ghosts A S) (old cleared : Built A) (words : ℕ) {done : Unit {0}} → ClearsRoot alloc old cleared (Ok done) → words < 2 ^ 29
-    → HasRoomFirst alloc old words → words ≤ room_of (space_at cleared.spaces 0)
+    → HasRoomFirst alloc old words → words ≤ free_words_of (space_at cleared.spaces 0)
 room_first alloc old cleared words told few room = elim room [
   | inl there ↦ (let same = (told.rooms there.0).1 0 in omega (arith, there.1, same))
-  | inr fresh ↦ (let size = (told.granted fresh.0 fresh.1.0 fresh.1.1).1 in let alone = told.fresh fresh.0 in omega (arith, size, alone.1, fresh.1.2, few))
+  | inr new_object ↦ (let size = (told.granted new_object.0 new_object.1.0 new_object.1.1).1 in let alone = told.new_object new_object.0 in omega (arith, size, alone.1, new_object.1.2, few))
 ]
 
 pub sets_root_unmeasured : {A S : Type 0} (alloc : allocator.Ghosts A S) (has_tree : Trees → Type 0) (refuses : ErrorKind → Type 0) (old new : Built A) (error : Error)
@@ -63,7 +63,7 @@ pub home_alone : {A S : Type 0} (alloc : allocator.Ghosts A S) (old cleared : Bu
     → HasNoRoom cleared.spaces words → ((others : List Out) → alloc.out cleared.allocator (pairs cleared.spaces others) → HasLarge (words + 1) (pairs cleared.spaces others))
     → old.spaces ≡ [] → alloc.out old.allocator [] → ⊥
 home_alone alloc old cleared words clear few full taken empty out =
-    no_large cleared.spaces words (clear.fresh empty) full few
+    no_large cleared.spaces words (clear.new_object empty) full few
     (taken [] (clear.others [] (subst (λ (l : List Space). alloc.out old.allocator (pairs l [])) (sym empty) out)))
 
 -- the first segment stays the granted one
@@ -80,9 +80,9 @@ is_put alloc stands measured old cleared new words clear has told = record {
   is_cleared = cleared_root alloc old cleared clear;
   words_are = has;
   placed = told.placed;
-  first = λ empty. first_put cleared new words (clear.fresh empty) told.placed (told.sizes 0 clear.there);
+  first = λ empty. first_put cleared new words (clear.new_object empty) told.placed (told.sizes 0 clear.there);
   granted = still_granted alloc old cleared new.spaces clear (told.sizes 0 clear.there);
-  zero = zero_stays old.spot cleared.spaces new.spaces clear.behind clear.zero told.bytes;
+  zero = zero_stays old.location cleared.spaces new.spaces clear.following clear.zero told.bytes;
 }
 
 -- a value's block is placed once the root is cleared
@@ -125,12 +125,12 @@ declined [] last declines kind stays null_word there is = let t = null_root last
 declined (s ∷ spaces) last declines kind stays null_word there is = subst (λ (l : List Space). ForRoot l (λ form. declines form kind)) (stays (omega arith)) is
 
 -- a type takes what is shown of the root, or declines it
-pub looks_at_root : {A S K : Type 0} (alloc : allocator.Ghosts A S) (schema : owned_builder.Ghosts K) (old last : Built A) (shown : Shown) (bytes : List ℕ) {done : Unit {0}}
-    (r : Result (Unit {0}) Error) → EnsuresRoot alloc old last (Ok done) → ForRoot last.spaces (Shows shown) → ForRoot last.spaces (HoldsForm bytes)
-    → OnOk r ((form : Form) → Shows shown form → HoldsForm bytes form → schema.takes form)
-    → IfErr r (λ error. (form : Form) → Shows shown form → HoldsForm bytes form → schema.declines form error.kind) → LooksAtRoot alloc schema old last r
+pub looks_at_root : {A S K : Type 0} (alloc : allocator.Ghosts A S) (schema : owned_builder.Ghosts K) (old last : Built A) (shown : RootKind) (bytes : List ℕ) {done : Unit {0}}
+    (r : Result (Unit {0}) Error) → EnsuresRoot alloc old last (Ok done) → ForRoot last.spaces (ShowsRoot shown) → ForRoot last.spaces (HoldsForm bytes)
+    → OnOk r ((form : Form) → ShowsRoot shown form → HoldsForm bytes form → schema.takes form)
+    → IfErr r (λ error. (form : Form) → ShowsRoot shown form → HoldsForm bytes form → schema.declines form error.kind) → LooksAtRoot alloc schema old last r
 looks_at_root alloc schema old last shown bytes (Ok done) told shows holds takes declines = record {
-  taken = λ form held charge root_is. takes form (shows form held charge root_is) (holds form held charge root_is);
+  taken = λ form held traversed root_is. takes form (shows form held traversed root_is) (holds form held traversed root_is);
   there = told.there;
   looked = told.looked;
   kind = tt;
@@ -139,7 +139,7 @@ looks_at_root alloc schema old last shown bytes (Ok done) told shows holds takes
 }
 looks_at_root {A} alloc schema old last shown bytes (Err error) told shows holds takes declines =
     let is = declined old.spaces last.spaces schema.declines error.kind (λ some. ap (λ (v : Built A). v.spaces) (told.looked.stays some)) told.looked.null_word told.there
-    (λ form held charge root_is. declines form (shows form held charge root_is) (holds form held charge root_is)) in
+    (λ form held traversed root_is. declines form (shows form held traversed root_is) (holds form held traversed root_is)) in
     record {
       taken = tt;
       there = tt;

@@ -8,18 +8,18 @@ use Rattle.capnp_frame.specs.SegmentTable.{FitsField}
 use Rattle.capnp_frame.specs.Writing.{IsWritable}
 use Rattle.capnp_build.specs.Bytes.{Space, with_block, with_bytes, written}
 use Rattle.capnp_build.specs.Filled.{with_more}
-use Rattle.capnp_build.specs.Held.{used_of, spaces_of, space_at, no_space, room_of}
+use Rattle.capnp_build.specs.Held.{used_of, spaces_of, space_at, no_space, free_words_of}
 use Rattle.capnp_build.specs.Output.{UsesWords}
 use Rattle.capnp_build.proofs.HeldLemmas.{same_at}
 use Rattle.capnp_build.proofs.UsedLemmas.{written_length}
 
 -- words more, as many as there is room for
-pub more_words : (space : Space) (block : List ℕ) (words : ℕ) → UsesWords space → length block ≡ 8 * words → words ≤ room_of space → UsesWords (with_more space block)
+pub more_words : (space : Space) (block : List ℕ) (words : ℕ) → UsesWords space → length block ≡ 8 * words → words ≤ free_words_of space → UsesWords (with_more space block)
 more_words space block words uses long room =
     let sum : length (space.used ++ block) ≡ length space.used + 8 * words = omega (arith, length-append space.used block, long) in
     (omega (arith, sum, uses.0), omega (arith, sum, uses.0, uses.1, room))
 
-pub zero_words : (space : Space) (words : ℕ) → UsesWords space → words ≤ room_of space → UsesWords (with_block space (8 * words))
+pub zero_words : (space : Space) (words : ℕ) → UsesWords space → words ≤ free_words_of space → UsesWords (with_block space (8 * words))
 zero_words space words uses room = more_words space (replicate (8 * words) 0) words uses (length-replicate {A = ℕ} (8 * words) 0) room
 
 pub other_bytes : (space : Space) (at_byte : ℕ) (w : List ℕ) → UsesWords space → at_byte + length w ≤ length space.used → UsesWords (with_bytes space at_byte w)
@@ -48,7 +48,7 @@ all_more : (spaces : List Space) (new : Space) → AllByRecursion UsesWords spac
 all_more [] new all uses = (uses, all)
 all_more (s ∷ spaces) new all uses = (all.0, all_more spaces new all.1 uses)
 
--- of a segment behind the first
+-- of a segment after the first
 part_at : (first : Option Space) (others : List Space) (i : ℕ) (part : Space) → i < length (spaces_of first others) → (i ≡ 0 → ⊥)
     → part ≡ slice_index_or others (i - 1) part → part ≡ space_at (spaces_of first others) i
 part_at None others i part within other is = absurd (omega (arith, within))

@@ -11,26 +11,26 @@ use Rattle.capnp_build.specs.Bytes.{Space, written, with_bytes}
 use Rattle.capnp_build.specs.Filled.{with_more}
 use Rattle.capnp_build.specs.Out.{Out}
 use Rattle.capnp_build.specs.Held.{Held, space_at, pairs, with_space, KeepsOthers}
-use Rattle.capnp_build.specs.Built.{message, size_in_words, root_word, pad_of, HasBody, HasSomeBody, IsLaid, IsLonger, IsRewritten}
-use Rattle.capnp_build.specs.declared.arena.spot.Spot.{Spot}
+use Rattle.capnp_build.specs.Built.{message, size_in_words, root_word, landing_pad_of, HasBody, HasSomeBody, IsLaid, IsLonger, IsRewritten}
+use Rattle.capnp_build.specs.declared.arena.location.RootLocation.{RootLocation}
 use Rattle.capnp_build.proofs.WordLemmas.{part_words}
 use Rattle.capnp_build.proofs.UsedLemmas.{written_length, written_zero}
 use Rattle.capnp_build.proofs.ByteLemmas.{word_there, eight_here, word_back}
 use Rattle.capnp_build.proofs.HeldLemmas.{pairs_set}
-use Rattle.capnp_build.proofs.KeptLemmas.{set_part, set_size, set_longer, part_behind}
+use Rattle.capnp_build.proofs.KeptLemmas.{set_part, set_size, set_longer, part_after}
 use Rattle.capnp_build.proofs.SpaceLemmas.{set_used, set_apart, set_room, size_set, size_longer}
-use Rattle.capnp_build.proofs.LaidLemmas.{pointer_small, laid_behind, far_root_is}
+use Rattle.capnp_build.proofs.LaidLemmas.{pointer_small, laid_after, far_root_is}
 
-laid_of : (spaces : List Space) (spot : Spot) (form : Form) (held : Trees) → HasBody spaces spot form held → word_at (message spaces) root ≡ Some (root_word spot.segment spot.start form held)
-    → (0 < spot.segment → (0 < spot.words) × (word_at (message spaces) (pad_of spot) ≡ Some spot.tag)) → IsLaid spaces spot form held
-laid_of spaces spot form held b root_is pad_is = record { body_is = b; root_is = root_is; pad_is = pad_is }
+laid_of : (spaces : List Space) (location : RootLocation) (form : Form) (held : Trees) → HasBody spaces location form held → word_at (message spaces) root ≡ Some (root_word location.segment location.start form held)
+    → (0 < location.segment → (0 < location.words) × (word_at (message spaces) (landing_pad_of location) ≡ Some location.tag)) → IsLaid spaces location form held
+laid_of spaces location form held b root_is landing_pad_is = record { body_is = b; root_is = root_is; landing_pad_is = landing_pad_is }
 
--- a block behind the used words is a body
+-- a block after the used words is a body
 pub block_there : (spaces last : List Space) (i start n tag : ℕ) (block : List ℕ) (form : Form) (held : Trees) → i < length spaces → last ≡ slice_set spaces i (with_more (space_at spaces i) block)
     → 8 * start ≡ length (space_at spaces i).used → 0 < start → start ≤ 2 ^ 29 → length block ≡ 8 * n → n ≡ total_words (tree form held none) → n < 2 ^ 29 → AllHaveRoom (tree form held none)
     → tag ≡ pointer form (count held) 0 → words_of block ≡ body (tree form held none)
-    → (let spot : Spot = record { segment = i; start = start; words = n; tag = tag } in HasBody last spot form held)
-block_there spaces last i start n tag block form held within e start_is behind near long size few rooms tag_is body_is =
+    → (let location : RootLocation = record { segment = i; start = start; words = n; tag = tag } in HasBody last location form held)
+block_there spaces last i start n tag block form held within e start_is following near long size few rooms tag_is body_is =
     let old : List ℕ = (space_at spaces i).used in
     let s = set_used spaces last i (with_more (space_at spaces i) block) within e in
     let used : (space_at last i).used ≡ old ++ block = ap (λ (x : Space). x.used) s.1 in
@@ -38,31 +38,31 @@ block_there spaces last i start n tag block form held within e start_is behind n
     record {
       within = omega (arith, s.0, within);
       room = omega (arith, ap length used, length-append old block, start_is, long);
-      behind = behind;
+      following = following;
       near = near;
       rooms = rooms;
       size = size;
       few = few;
       tag = tag_is;
       laid = subst (λ (l : List ℕ). Laid (words_of l) start (tree form held none)) (sym used)
-          (laid_behind 0 start n old block [] (tree form held none) (sym start_is) (omega (arith, nothing)) long size body_is);
+          (laid_after 0 start n old block [] (tree form held none) (sym start_is) (omega (arith, nothing)) long size body_is);
     }
 
 -- what is written before a body keeps it
-pub body_before : (spaces last : List Space) (spot : Spot) (form : Form) (held : Trees) (at : ℕ) (w : List ℕ) → HasBody spaces spot form held → at + length w ≤ 8 * spot.start
-    → last ≡ slice_set spaces spot.segment (with_bytes (space_at spaces spot.segment) at w) → HasBody last spot form held
-body_before spaces last spot form held at w b before e =
-    let old : List ℕ = (space_at spaces spot.segment).used in
-    let new : List ℕ = (space_at last spot.segment).used in
-    let s = set_used spaces last spot.segment (with_bytes (space_at spaces spot.segment) at w) b.within e in
+pub body_before : (spaces last : List Space) (location : RootLocation) (form : Form) (held : Trees) (at : ℕ) (w : List ℕ) → HasBody spaces location form held → at + length w ≤ 8 * location.start
+    → last ≡ slice_set spaces location.segment (with_bytes (space_at spaces location.segment) at w) → HasBody last location form held
+body_before spaces last location form held at w b before e =
+    let old : List ℕ = (space_at spaces location.segment).used in
+    let new : List ℕ = (space_at last location.segment).used in
+    let s = set_used spaces last location.segment (with_bytes (space_at spaces location.segment) at w) b.within e in
     let used : new ≡ written old at w = ap (λ (x : Space). x.used) s.1 in
     let long : length new ≡ length old = ap length used ∙ written_length at old w (omega (arith, before, b.room)) in
-    let past : drop (8 * spot.start) new ≡ drop (8 * spot.start) old =
-    ap (λ (l : List ℕ). drop (8 * spot.start) l) used ∙ written_zero at (8 * spot.start) old w before (omega (arith, b.room)) in
+    let past : drop (8 * location.start) new ≡ drop (8 * location.start) old =
+    ap (λ (l : List ℕ). drop (8 * location.start) l) used ∙ written_zero at (8 * location.start) old w before (omega (arith, b.room)) in
     record {
       within = omega (arith, s.0, b.within);
       room = omega (arith, long, b.room);
-      behind = b.behind;
+      following = b.following;
       near = b.near;
       rooms = b.rooms;
       size = b.size;
@@ -70,91 +70,91 @@ body_before spaces last spot form held at w b before e =
       tag = b.tag;
       laid = record {
         within = omega (arith, b.size, long, b.room, length-words_of new);
-        words_are = ap (words_from (words_of new) spot.start) (sym b.size) ∙ part_words spot.start spot.words new (omega (arith, long, b.room))
-            ∙ ap (λ (l : List ℕ). words_of (take (8 * spot.words) l)) past ∙ sym (part_words spot.start spot.words old b.room)
-            ∙ ap (words_from (words_of old) spot.start) b.size ∙ b.laid.words_are;
+        words_are = ap (words_from (words_of new) location.start) (sym b.size) ∙ part_words location.start location.words new (omega (arith, long, b.room))
+            ∙ ap (λ (l : List ℕ). words_of (take (8 * location.words) l)) past ∙ sym (part_words location.start location.words old b.room)
+            ∙ ap (words_from (words_of old) location.start) b.size ∙ b.laid.words_are;
       };
     }
 
 -- so does what is written into another segment
-body_apart : (spaces last : List Space) (spot : Spot) (form : Form) (held : Trees) (i : ℕ) (s : Space) → HasBody spaces spot form held → (i ≡ spot.segment → ⊥) → last ≡ slice_set spaces i s
-    → HasBody last spot form held
-body_apart spaces last spot form held i s b apart e =
-    let same : space_at last spot.segment ≡ space_at spaces spot.segment = ap (λ (l : List Space). space_at l spot.segment) e ∙ set_apart spaces i spot.segment s apart in
+body_apart : (spaces last : List Space) (location : RootLocation) (form : Form) (held : Trees) (i : ℕ) (s : Space) → HasBody spaces location form held → (i ≡ location.segment → ⊥) → last ≡ slice_set spaces i s
+    → HasBody last location form held
+body_apart spaces last location form held i s b apart e =
+    let same : space_at last location.segment ≡ space_at spaces location.segment = ap (λ (l : List Space). space_at l location.segment) e ∙ set_apart spaces i location.segment s apart in
     let many : length last ≡ length spaces = ap length e ∙ length-set spaces i s in
     record {
       within = omega (arith, many, b.within);
-      room = subst (λ (x : Space). 8 * (spot.start + spot.words) ≤ length x.used) (sym same) b.room;
-      behind = b.behind;
+      room = subst (λ (x : Space). 8 * (location.start + location.words) ≤ length x.used) (sym same) b.room;
+      following = b.following;
       near = b.near;
       rooms = b.rooms;
       size = b.size;
       few = b.few;
       tag = b.tag;
-      laid = subst (λ (x : Space). Laid (words_of x.used) spot.start (tree form held none)) (sym same) b.laid;
+      laid = subst (λ (x : Space). Laid (words_of x.used) location.start (tree form held none)) (sym same) b.laid;
     }
 
 -- the root's word is a pointer to a body in the first segment
-pub near_points : (spaces last : List Space) (spot : Spot) (form : Form) (held : Trees) (w : List ℕ) → spot.segment ≡ 0 → HasBody spaces spot form held
-    → w ≡ to_le_bytes w64 (pointer form (count held) (spot.start - 1)) → length w ≡ 8 → last ≡ slice_set spaces 0 (with_bytes (space_at spaces 0) 0 w) → IsLaid last spot form held
-near_points spaces last spot form held w first b is eight e =
+pub near_points : (spaces last : List Space) (location : RootLocation) (form : Form) (held : Trees) (w : List ℕ) → location.segment ≡ 0 → HasBody spaces location form held
+    → w ≡ to_le_bytes w64 (pointer form (count held) (location.start - 1)) → length w ≡ 8 → last ≡ slice_set spaces 0 (with_bytes (space_at spaces 0) 0 w) → IsLaid last location form held
+near_points spaces last location form held w first b is eight e =
     let there : 0 < length spaces = omega (arith, b.within) in
     let old : List ℕ = (space_at spaces 0).used in
-    let room : 8 * (spot.start + spot.words) ≤ length old = subst (λ (k : ℕ). 8 * (spot.start + spot.words) ≤ length (space_at spaces k).used) first b.room in
+    let room : 8 * (location.start + location.words) ≤ length old = subst (λ (k : ℕ). 8 * (location.start + location.words) ≤ length (space_at spaces k).used) first b.room in
     let s = set_used spaces last 0 (with_bytes (space_at spaces 0) 0 w) there e in
     let used : (space_at last 0).used ≡ written old 0 w = ap (λ (x : Space). x.used) s.1 in
-    let long : length (space_at last 0).used ≡ length old = ap length used ∙ written_length 0 old w (omega (arith, room, b.behind, eight)) in
-    let small : pointer form (count held) (spot.start - 1) < 2 ^ 64 = pointer_small form (count held) (spot.start - 1) b.rooms.0 (omega (arith, b.near, b.behind)) in
+    let long : length (space_at last 0).used ≡ length old = ap length used ∙ written_length 0 old w (omega (arith, room, b.following, eight)) in
+    let small : pointer form (count held) (location.start - 1) < 2 ^ 64 = pointer_small form (count held) (location.start - 1) b.rooms.0 (omega (arith, b.near, b.following)) in
     let front : take 8 (drop (8 * 0) (space_at last 0).used) ≡ w = ap (λ (l : List ℕ). take 8 (drop (8 * 0) l)) used ∙ eight_here 0 old w (omega arith) eight in
-    let there_too : last ≡ slice_set spaces spot.segment (with_bytes (space_at spaces spot.segment) 0 w) =
+    let there_too : last ≡ slice_set spaces location.segment (with_bytes (space_at spaces location.segment) 0 w) =
     e ∙ ap (λ (k : ℕ). slice_set spaces k (with_bytes (space_at spaces k) 0 w)) (sym first) in
-    laid_of last spot form held (body_before spaces last spot form held 0 w b (omega (arith, eight, b.behind)) there_too)
-    (word_there last root (omega (arith, s.0, there)) (omega (arith, long, room, b.behind)) ∙ ap (λ (l : List ℕ). Some (number_of 256 l)) front
-    ∙ ap Some (word_back (pointer form (count held) (spot.start - 1)) w small is eight) ∙ ap (λ (k : ℕ). Some (root_word k spot.start form held)) (sym first))
+    laid_of last location form held (body_before spaces last location form held 0 w b (omega (arith, eight, b.following)) there_too)
+    (word_there last root (omega (arith, s.0, there)) (omega (arith, long, room, b.following)) ∙ ap (λ (l : List ℕ). Some (number_of 256 l)) front
+    ∙ ap Some (word_back (pointer form (count held) (location.start - 1)) w small is eight) ∙ ap (λ (k : ℕ). Some (root_word k location.start form held)) (sym first))
     (λ p. absurd (omega (arith, p, first)))
 
 far_word : (k start : ℕ) (form : Form) (held : Trees) → 0 < k → far_pointer k (start - 1) ≡ root_word k start form held
 far_word zero start form held other = absurd (omega (arith, other))
 far_word (suc k) start form held other = refl
 
--- the word before a body in another segment is its pad, and the root's word leads there
-pub far_points : (spaces mid last : List Space) (spot : Spot) (form : Form) (held : Trees) (word : ℕ) (w v : List ℕ) → 0 < spot.segment → 0 < spot.words → spot.segment < 2 ^ 32
-    → HasBody spaces spot form held → 8 ≤ length (space_at spaces 0).used → w ≡ to_le_bytes w64 spot.tag → length w ≡ 8
-    → mid ≡ slice_set spaces spot.segment (with_bytes (space_at spaces spot.segment) (8 * (spot.start - 1)) w) → word ≡ far_pointer spot.segment (spot.start - 1)
-    → v ≡ to_le_bytes w64 word → length v ≡ 8 → last ≡ slice_set mid 0 (with_bytes (space_at mid 0) 0 v) → IsLaid last spot form held
-far_points spaces mid last spot form held word w v other some few b room is eight e word_is is_too eight_too f =
-    let old : List ℕ = (space_at spaces spot.segment).used in
-    let one = body_before spaces mid spot form held (8 * (spot.start - 1)) w b (omega (arith, eight, b.behind)) e in
-    let apart : 0 ≡ spot.segment → ⊥ = λ q. absurd (omega (arith, q, other)) in
-    let two = body_apart mid last spot form held 0 (with_bytes (space_at mid 0) 0 v) one apart f in
-    let back : spot.segment ≡ 0 → ⊥ = λ q. absurd (omega (arith, q, other)) in
+-- the word before a body in another segment is its landing pad, and the root's word leads there
+pub far_points : (spaces mid last : List Space) (location : RootLocation) (form : Form) (held : Trees) (word : ℕ) (w v : List ℕ) → 0 < location.segment → 0 < location.words → location.segment < 2 ^ 32
+    → HasBody spaces location form held → 8 ≤ length (space_at spaces 0).used → w ≡ to_le_bytes w64 location.tag → length w ≡ 8
+    → mid ≡ slice_set spaces location.segment (with_bytes (space_at spaces location.segment) (8 * (location.start - 1)) w) → word ≡ far_pointer location.segment (location.start - 1)
+    → v ≡ to_le_bytes w64 word → length v ≡ 8 → last ≡ slice_set mid 0 (with_bytes (space_at mid 0) 0 v) → IsLaid last location form held
+far_points spaces mid last location form held word w v other some few b room is eight e word_is is_too eight_too f =
+    let old : List ℕ = (space_at spaces location.segment).used in
+    let one = body_before spaces mid location form held (8 * (location.start - 1)) w b (omega (arith, eight, b.following)) e in
+    let apart : 0 ≡ location.segment → ⊥ = λ q. absurd (omega (arith, q, other)) in
+    let two = body_apart mid last location form held 0 (with_bytes (space_at mid 0) 0 v) one apart f in
+    let back : location.segment ≡ 0 → ⊥ = λ q. absurd (omega (arith, q, other)) in
     let top : space_at mid 0 ≡ space_at spaces 0 =
-    ap (λ (l : List Space). space_at l 0) e ∙ set_apart spaces spot.segment 0 (with_bytes (space_at spaces spot.segment) (8 * (spot.start - 1)) w) back in
-    let s = set_used spaces mid spot.segment (with_bytes (space_at spaces spot.segment) (8 * (spot.start - 1)) w) b.within e in
+    ap (λ (l : List Space). space_at l 0) e ∙ set_apart spaces location.segment 0 (with_bytes (space_at spaces location.segment) (8 * (location.start - 1)) w) back in
+    let s = set_used spaces mid location.segment (with_bytes (space_at spaces location.segment) (8 * (location.start - 1)) w) b.within e in
     let z = set_used mid last 0 (with_bytes (space_at mid 0) 0 v) (omega (arith, b.within, s.0)) f in
     let top_used : (space_at last 0).used ≡ written (space_at spaces 0).used 0 v = ap (λ (x : Space). x.used) z.1 ∙ ap (λ (x : Space). written x.used 0 v) top in
-    let used : (space_at last spot.segment).used ≡ written old (8 * (spot.start - 1)) w =
-    ap (λ (l : List Space). (space_at l spot.segment).used) f ∙ ap (λ (x : Space). x.used) (set_apart mid 0 spot.segment (with_bytes (space_at mid 0) 0 v) apart)
+    let used : (space_at last location.segment).used ≡ written old (8 * (location.start - 1)) w =
+    ap (λ (l : List Space). (space_at l location.segment).used) f ∙ ap (λ (x : Space). x.used) (set_apart mid 0 location.segment (with_bytes (space_at mid 0) 0 v) apart)
     ∙ ap (λ (x : Space). x.used) s.1 in
-    let long : length (space_at last spot.segment).used ≡ length old = ap length used ∙ written_length (8 * (spot.start - 1)) old w (omega (arith, eight, b.behind, b.room)) in
-    let small : spot.tag < 2 ^ 64 = omega (arith, b.tag, pointer_small form (count held) 0 b.rooms.0 (omega arith)) in
-    let front : take 8 (drop (8 * (spot.start - 1)) (space_at last spot.segment).used) ≡ w =
-    ap (λ (l : List ℕ). take 8 (drop (8 * (spot.start - 1)) l)) used ∙ eight_here (8 * (spot.start - 1)) old w (omega (arith, b.room)) eight in
-    laid_of last spot form held two
-    (far_root_is spaces last spot.segment (spot.start - 1) word v (omega (arith, z.0, s.0, b.within)) room top_used few (omega (arith, b.near, b.behind)) word_is is_too eight_too
-    ∙ ap Some (far_word spot.segment spot.start form held other))
+    let long : length (space_at last location.segment).used ≡ length old = ap length used ∙ written_length (8 * (location.start - 1)) old w (omega (arith, eight, b.following, b.room)) in
+    let small : location.tag < 2 ^ 64 = omega (arith, b.tag, pointer_small form (count held) 0 b.rooms.0 (omega arith)) in
+    let front : take 8 (drop (8 * (location.start - 1)) (space_at last location.segment).used) ≡ w =
+    ap (λ (l : List ℕ). take 8 (drop (8 * (location.start - 1)) l)) used ∙ eight_here (8 * (location.start - 1)) old w (omega (arith, b.room)) eight in
+    laid_of last location form held two
+    (far_root_is spaces last location.segment (location.start - 1) word v (omega (arith, z.0, s.0, b.within)) room top_used few (omega (arith, b.near, b.following)) word_is is_too eight_too
+    ∙ ap Some (far_word location.segment location.start form held other))
     (λ p. (
       some,
-      word_there last (pad_of spot) two.within (omega (arith, long, b.room, b.behind)) ∙ ap (λ (l : List ℕ). Some (number_of 256 l)) front
-          ∙ ap Some (word_back spot.tag w small is eight),
+      word_there last (landing_pad_of location) two.within (omega (arith, long, b.room, b.following)) ∙ ap (λ (l : List ℕ). Some (number_of 256 l)) front
+          ∙ ap Some (word_back location.tag w small is eight),
     ))
 
 -- the first segment has room for the root's word
-pub first_room : (spaces : List Space) (spot : Spot) → HasSomeBody spaces spot → spot.segment ≡ 0 → 8 ≤ length (space_at spaces 0).used
-first_room spaces spot p first =
+pub first_room : (spaces : List Space) (location : RootLocation) → HasSomeBody spaces location → location.segment ≡ 0 → 8 ≤ length (space_at spaces 0).used
+first_room spaces location p first =
     let b = p.2 in
-    let room : 8 * (spot.start + spot.words) ≤ length (space_at spaces 0).used = subst (λ (k : ℕ). 8 * (spot.start + spot.words) ≤ length (space_at spaces k).used) first b.room in
-    omega (arith, room, b.behind)
+    let room : 8 * (location.start + location.words) ≤ length (space_at spaces 0).used = subst (λ (k : ℕ). 8 * (location.start + location.words) ≤ length (space_at spaces k).used) first b.room in
+    omega (arith, room, b.following)
 
 -- segments after a block, and after a write
 pub longer_by : {A : Type 0} (old new : Held A) (i n : ℕ) (block : List ℕ) → i < length old.spaces → length block ≡ 8 * n → new ≡ with_space old i (with_more (space_at old.spaces i) block)
@@ -171,7 +171,7 @@ longer_by {A = A} old new i n block within long e =
       first = λ p. ap (λ (l : List Space). space_at l 0) there ∙ set_apart old.spaces i 0 s (λ q. absurd (omega (arith, q, p)));
       each = λ j. subst (λ (l : List Space). length (space_at old.spaces j).used ≤ length (space_at l j).used) (sym there) (set_longer old.spaces i j s (omega (arith, more)));
       bytes = λ j from m root fits. ap (λ (l : List Space). take m (drop from (space_at l j).used)) there
-          ∙ set_part old.spaces i j from m s (λ q. part_behind from m (space_at old.spaces i).used block
+          ∙ set_part old.spaces i j from m s (λ q. part_after from m (space_at old.spaces i).used block
           (subst (λ (k : ℕ). from + m ≤ length (space_at old.spaces k).used) (sym q) fits));
       sizes = λ j. ap (λ (l : List Space). (space_at l j).size) there ∙ set_size old.spaces i j s refl;
       allocator = ap (λ (h : Held A). h.allocator) e;

@@ -17,11 +17,11 @@ use Rattle.capnp_wire.proofs.words.WordLemmas.{length-words_of}
 use Rattle.capnp_wire.proofs.objects.ObjectLemmas.{one_tree}
 use Rattle.capnp_build.specs.Bytes.{Space, written, with_bytes}
 use Rattle.capnp_build.specs.Held.{space_at}
-use Rattle.capnp_build.specs.Built.{message, IsLaid, IsShown}
-use Rattle.capnp_build.specs.Shown.{Shows, HoldsForm}
-use Rattle.capnp_build.specs.declared.shown.Shown.{Shown}
-use Rattle.capnp_build.specs.declared.shown.Shown.TheVariants.{Null, Bytes, Words, Struct, Other}
-use Rattle.capnp_build.specs.declared.arena.spot.Spot.{Spot}
+use Rattle.capnp_build.specs.Built.{message, IsLaid, IsRootKind}
+use Rattle.capnp_build.specs.RootKind.{ShowsRoot, HoldsForm}
+use Rattle.capnp_build.specs.declared.root_kind.RootKind.{RootKind}
+use Rattle.capnp_build.specs.declared.root_kind.RootKind.TheVariants.{Null, Bytes, Words, Struct, Other}
+use Rattle.capnp_build.specs.declared.arena.location.RootLocation.{RootLocation}
 use Rattle.capnp_build.proofs.WordLemmas.{part_words, words_set}
 use Rattle.capnp_build.proofs.LaidLemmas.{laid_root}
 use Rattle.capnp_build.proofs.RewriteLemmas.{body_bytes, bytes_there, rewritten}
@@ -33,29 +33,29 @@ list_body values all =
     append-nil (own_is ++ []) ∙ append-nil own_is ∙ ap (λ (k : ℕ). digits (2 ^ 64) k (number_of (2 ^ 64) values)) n ∙ digits-number_of (2 ^ 64) values all
 
 -- the words of the body
-body_words : (spaces : List Space) (spot : Spot) (form : Form) (held : Trees) → IsLaid spaces spot form held → words_of (body_bytes spaces spot) ≡ body (tree form held none)
-body_words spaces spot form held r =
-    let old : List ℕ = (space_at spaces spot.segment).used in
-    sym (part_words spot.start spot.words old r.body_is.room) ∙ ap (words_from (words_of old) spot.start) r.body_is.size ∙ r.body_is.laid.words_are
+body_words : (spaces : List Space) (location : RootLocation) (form : Form) (held : Trees) → IsLaid spaces location form held → words_of (body_bytes spaces location) ≡ body (tree form held none)
+body_words spaces location form held r =
+    let old : List ℕ = (space_at spaces location.segment).used in
+    sym (part_words location.start location.words old r.body_is.room) ∙ ap (words_from (words_of old) location.start) r.body_is.size ∙ r.body_is.laid.words_are
 
-pub body_long : (spaces : List Space) (spot : Spot) (form : Form) (held : Trees) → IsLaid spaces spot form held → length (body_bytes spaces spot) ≡ 8 * spot.words
-body_long spaces spot form held r =
-    let old : List ℕ = (space_at spaces spot.segment).used in
-    omega (arith, r.body_is.room, length-take (8 * spot.words) (drop (8 * spot.start) old), length-drop (8 * spot.start) old)
+pub body_long : (spaces : List Space) (location : RootLocation) (form : Form) (held : Trees) → IsLaid spaces location form held → length (body_bytes spaces location) ≡ 8 * location.words
+body_long spaces location form held r =
+    let old : List ℕ = (space_at spaces location.segment).used in
+    omega (arith, r.body_is.room, length-take (8 * location.words) (drop (8 * location.start) old), length-drop (8 * location.start) old)
 
 -- the numbers of a list of words
-list_there : (spaces : List Space) (spot : Spot) (values : List ℕ) → IsLaid spaces spot (numbers 5 values) none → words_of (body_bytes spaces spot) ≡ values
-list_there spaces spot values r = body_words spaces spot (numbers 5 values) none r ∙ list_body values r.body_is.rooms.0.3
+list_there : (spaces : List Space) (location : RootLocation) (values : List ℕ) → IsLaid spaces location (numbers 5 values) none → words_of (body_bytes spaces location) ≡ values
+list_there spaces location values r = body_words spaces location (numbers 5 values) none r ∙ list_body values r.body_is.rooms.0.3
 
 first_words : (n : ℕ) (bytes : List ℕ) → 8 * n ≤ length bytes → words_of (take (8 * n) bytes) ≡ take n (words_of bytes)
 first_words n bytes room = sym (part_words 0 n bytes (omega (arith, room)))
 
 -- the data words of a struct
-fields_there : (spaces : List Space) (spot : Spot) (words : List ℕ) (held : Trees) → IsLaid spaces spot (struct words) held → words_of (take (8 * length words) (body_bytes spaces spot)) ≡ words
-fields_there spaces spot words held r =
+fields_there : (spaces : List Space) (location : RootLocation) (words : List ℕ) (held : Trees) → IsLaid spaces location (struct words) held → words_of (take (8 * length words) (body_bytes spaces location)) ≡ words
+fields_there spaces location words held r =
     let links : List ℕ = pointers_to (slots (struct words) (count held)) (own_words (struct words) (count held)) held in
-    let bytes : List ℕ = body_bytes spaces spot in
-    first_words (length words) bytes (omega (arith, body_long spaces spot (struct words) held r, r.body_is.size)) ∙ ap (take (length words)) (body_words spaces spot (struct words) held r)
+    let bytes : List ℕ = body_bytes spaces location in
+    first_words (length words) bytes (omega (arith, body_long spaces location (struct words) held r, r.body_is.size)) ∙ ap (take (length words)) (body_words spaces location (struct words) held r)
     ∙ take-append-le (length words) ((words ++ links) ++ body held) [] (omega (arith, length-append (words ++ links) (body held), length-append words links))
     ∙ take-append-le (length words) (words ++ links) (body held) (omega (arith, length-append words links)) ∙ take-append_seam words links
 
@@ -63,51 +63,51 @@ none_held : (held : Trees) → count held ≡ 0 → held ≡ none
 none_held none e = refl
 none_held (tree form inner rest) e = absurd (omega (arith, e))
 
-code_is : (spaces : List Space) (spot : Spot) (c d : ℕ) (values : List ℕ) (held : Trees) → c ≡ d → IsLaid spaces spot (numbers c values) held → IsLaid spaces spot (numbers d values) none
-code_is spaces spot c d values held e r =
-    subst (λ (t : Trees). IsLaid spaces spot (numbers d values) t) (none_held held r.body_is.rooms.0.2) (subst (λ (k : ℕ). IsLaid spaces spot (numbers k values) held) e r)
+code_is : (spaces : List Space) (location : RootLocation) (c d : ℕ) (values : List ℕ) (held : Trees) → c ≡ d → IsLaid spaces location (numbers c values) held → IsLaid spaces location (numbers d values) none
+code_is spaces location c d values held e r =
+    subst (λ (t : Trees). IsLaid spaces location (numbers d values) t) (none_held held r.body_is.rooms.0.2) (subst (λ (k : ℕ). IsLaid spaces location (numbers k values) held) e r)
 
-bytes_read : (spaces : List Space) (spot : Spot) (values : List ℕ) → IsLaid spaces spot (numbers 2 values) none → ((i : ℕ) → slice_index_or (space_at spaces spot.segment).used i 0 < 256)
-    → take (length values) (body_bytes spaces spot) ≡ values
-bytes_read spaces spot values r low = ap (take (length values)) (bytes_there spaces spot values r low) ∙ take-append_seam values _
+bytes_read : (spaces : List Space) (location : RootLocation) (values : List ℕ) → IsLaid spaces location (numbers 2 values) none → ((i : ℕ) → slice_index_or (space_at spaces location.segment).used i 0 < 256)
+    → take (length values) (body_bytes spaces location) ≡ values
+bytes_read spaces location values r low = ap (take (length values)) (bytes_there spaces location values r low) ∙ take-append_seam values _
 
-words_read : (spaces : List Space) (spot : Spot) (values : List ℕ) → IsLaid spaces spot (numbers 5 values) none → words_of (take (8 * length values) (body_bytes spaces spot)) ≡ values
-words_read spaces spot values r =
-    let long = body_long spaces spot (numbers 5 values) none r in
-    ap words_of (take_all (8 * length values) (body_bytes spaces spot) (omega (arith, long, r.body_is.size))) ∙ list_there spaces spot values r
+words_read : (spaces : List Space) (location : RootLocation) (values : List ℕ) → IsLaid spaces location (numbers 5 values) none → words_of (take (8 * length values) (body_bytes spaces location)) ≡ values
+words_read spaces location values r =
+    let long = body_long spaces location (numbers 5 values) none r in
+    ap words_of (take_all (8 * length values) (body_bytes spaces location) (omega (arith, long, r.body_is.size))) ∙ list_there spaces location values r
 
-pub holds_form : (spaces : List Space) (spot : Spot) (form : Form) (held : Trees) → IsLaid spaces spot form held → ((i : ℕ) → slice_index_or (space_at spaces spot.segment).used i 0 < 256)
-    → HoldsForm (body_bytes spaces spot) form
-holds_form spaces spot null held r low = tt
-holds_form spaces spot (struct words) held r low = fields_there spaces spot words held r
-holds_form spaces spot (numbers c values) held r low = (
-  λ e. bytes_read spaces spot values (code_is spaces spot c 2 values held e r) low,
-  λ e. words_read spaces spot values (code_is spaces spot c 5 values held e r),
+pub holds_form : (spaces : List Space) (location : RootLocation) (form : Form) (held : Trees) → IsLaid spaces location form held → ((i : ℕ) → slice_index_or (space_at spaces location.segment).used i 0 < 256)
+    → HoldsForm (body_bytes spaces location) form
+holds_form spaces location null held r low = tt
+holds_form spaces location (struct words) held r low = fields_there spaces location words held r
+holds_form spaces location (numbers c values) held r low = (
+  λ e. bytes_read spaces location values (code_is spaces location c 2 values held e r) low,
+  λ e. words_read spaces location values (code_is spaces location c 5 values held e r),
 )
-holds_form spaces spot pointers held r low = tt
-holds_form spaces spot (structs d p rows) held r low = tt
+holds_form spaces location pointers held r low = tt
+holds_form spaces location (structs d p rows) held r low = tt
 
 -- a number of a list of words is another one
-pub number_laid : (spaces last : List Space) (spot : Spot) (values : List ℕ) (i x : ℕ) (w : List ℕ) → IsLaid spaces spot (numbers 5 values) none → i < length values → x < 2 ^ 64
+pub number_laid : (spaces last : List Space) (location : RootLocation) (values : List ℕ) (i x : ℕ) (w : List ℕ) → IsLaid spaces location (numbers 5 values) none → i < length values → x < 2 ^ 64
     → w ≡ to_le_bytes w64 x → length w ≡ 8
-    → last ≡ slice_set spaces spot.segment (with_bytes (space_at spaces spot.segment) (8 * spot.start + 8 * i) w) → IsLaid last spot (numbers 5 (slice_set values i x)) none
-number_laid spaces last spot values i x w r within small is eight e =
+    → last ≡ slice_set spaces location.segment (with_bytes (space_at spaces location.segment) (8 * location.start + 8 * i) w) → IsLaid last location (numbers 5 (slice_set values i x)) none
+number_laid spaces last location values i x w r within small is eight e =
     let wide : length (slice_set values i x) ≡ length values = length-set values i x in
     let all : All (λ v. v < 2 ^ 64) (slice_set values i x) = All-set (λ (v : ℕ). v < 2 ^ 64) values i x small r.body_is.rooms.0.3 in
-    let there = list_there spaces spot values r in
-    let inside : i < length (words_of (body_bytes spaces spot)) = omega (arith, within, ap length there) in
-    let words : words_of (written (body_bytes spaces spot) (8 * i) w) ≡ body (tree (numbers 5 (slice_set values i x)) none none) =
-    words_set (body_bytes spaces spot) i x w inside small is eight ∙ ap (λ (l : List ℕ). slice_set l i x) there ∙ sym (list_body (slice_set values i x) all) in
-    rewritten spaces last spot (numbers 5 values) (numbers 5 (slice_set values i x)) none (8 * i) w r (omega (arith, eight, within, r.body_is.size)) e
+    let there = list_there spaces location values r in
+    let inside : i < length (words_of (body_bytes spaces location)) = omega (arith, within, ap length there) in
+    let words : words_of (written (body_bytes spaces location) (8 * i) w) ≡ body (tree (numbers 5 (slice_set values i x)) none none) =
+    words_set (body_bytes spaces location) i x w inside small is eight ∙ ap (λ (l : List ℕ). slice_set l i x) there ∙ sym (list_body (slice_set values i x) all) in
+    rewritten spaces last location (numbers 5 values) (numbers 5 (slice_set values i x)) none (8 * i) w r (omega (arith, eight, within, r.body_is.size)) e
     (λ offset. ap (λ (n : ℕ). 1 + 4 * offset + 2 ^ 32 * 5 + 2 ^ 35 * n) wide) (ap (λ (n : ℕ). words_for n 64) wide)
     (omega arith, omega (arith, wide, r.body_is.rooms.0.1), refl, all) words
 
--- a root has so many values
-pub same_numbers : (spaces : List Space) (c : ℕ) (values others : List ℕ) (charge more : ℕ) → At (message spaces) (root ∷ []) (tree (numbers c values) none none) charge
+-- a root has a given number of values
+pub same_numbers : (spaces : List Space) (c : ℕ) (values others : List ℕ) (traversed more : ℕ) → At (message spaces) (root ∷ []) (tree (numbers c values) none none) traversed
     → At (message spaces) (root ∷ []) (tree (numbers c others) none none) more → length values ≡ length others
-same_numbers spaces c values others charge more one other =
+same_numbers spaces c values others traversed more one other =
     let same : tree (numbers c values) none none ≡ tree (numbers c others) none none =
-    (one_tree (message spaces) (root ∷ []) (tree (numbers c values) none none) (tree (numbers c others) none none) charge more one other).0 in
+    (one_tree (message spaces) (root ∷ []) (tree (numbers c values) none none) (tree (numbers c others) none none) traversed more one other).0 in
     let forms : values ≡ others = cc in ap length forms
 
 no_first : (xs words : List ℕ) (i : ℕ) → xs ≡ [] → i < length (take (length words) xs) → ⊥
@@ -143,14 +143,14 @@ number_read pointers bytes words i holds has within = absurd has
 number_read (structs d p rows) bytes words i holds has within = absurd has
 
 -- what is shown stands there
-pub shown_there : (spaces : List Space) (spot : Spot) (shown : Shown) (form : Form) (held : Trees) → IsLaid spaces spot form held → Shows shown form → IsShown shown spaces
-shown_there spaces spot Null form held r shows = tt
-shown_there spaces spot (Bytes n) form held r shows =
-    let laid = code_is spaces spot 2 2 shows.0 held refl (subst (λ (f : Form). IsLaid spaces spot f held) shows.1 r) in
-    let t = laid_root spaces spot (numbers 2 shows.0) none laid in (shows.0, t.0, t.1, shows.2)
-shown_there spaces spot (Words n) form held r shows =
-    let laid = code_is spaces spot 5 5 shows.0 held refl (subst (λ (f : Form). IsLaid spaces spot f held) shows.1 r) in
-    let t = laid_root spaces spot (numbers 5 shows.0) none laid in (shows.0, t.0, t.1, shows.2)
-shown_there spaces spot (Struct n) form held r shows =
-    let t = laid_root spaces spot (struct shows.0) held (subst (λ (f : Form). IsLaid spaces spot f held) shows.1 r) in (shows.0, held, t.0, t.1, shows.2)
-shown_there spaces spot Other form held r shows = let t = laid_root spaces spot form held r in (form, held, t.0, t.1)
+pub shown_there : (spaces : List Space) (location : RootLocation) (shown : RootKind) (form : Form) (held : Trees) → IsLaid spaces location form held → ShowsRoot shown form → IsRootKind shown spaces
+shown_there spaces location Null form held r shows = tt
+shown_there spaces location (Bytes n) form held r shows =
+    let laid = code_is spaces location 2 2 shows.0 held refl (subst (λ (f : Form). IsLaid spaces location f held) shows.1 r) in
+    let t = laid_root spaces location (numbers 2 shows.0) none laid in (shows.0, t.0, t.1, shows.2)
+shown_there spaces location (Words n) form held r shows =
+    let laid = code_is spaces location 5 5 shows.0 held refl (subst (λ (f : Form). IsLaid spaces location f held) shows.1 r) in
+    let t = laid_root spaces location (numbers 5 shows.0) none laid in (shows.0, t.0, t.1, shows.2)
+shown_there spaces location (Struct n) form held r shows =
+    let t = laid_root spaces location (struct shows.0) held (subst (λ (f : Form). IsLaid spaces location f held) shows.1 r) in (shows.0, held, t.0, t.1, shows.2)
+shown_there spaces location Other form held r shows = let t = laid_root spaces location form held r in (form, held, t.0, t.1)

@@ -1,4 +1,4 @@
--- Values that are written behind a pointer.
+-- Values that are written after a pointer.
 use Rattle.std.proofs.Common.{◌≡◌, ℕ, ◌+◌, ◌*◌, ◌^◌, ◌<◌, Bool, true, false, List, [], ◌∷◌, length, take, Some, slice_get, refl, ap, sym, subst, ◌∙◌, arith}
 use Rattle.std.proofs.lemmas.List.{take_all}
 use Rattle.capnp_frame.specs.Words.{bytes_of}
@@ -16,7 +16,7 @@ use Rattle.capnp_build.specs.Bytes.{Space}
 use Rattle.capnp_build.specs.Filled.{IsBlockOf}
 use Rattle.capnp_build.specs.Held.{space_at}
 use Rattle.capnp_build.specs.Built.{message, root_word, HasValue, IsLaid, IsSet, IsWhole}
-use Rattle.capnp_build.specs.declared.arena.spot.Spot.{Spot}
+use Rattle.capnp_build.specs.declared.arena.location.RootLocation.{RootLocation}
 use Rattle.capnp_build.proofs.SpaceLemmas.{one_space}
 use Rattle.capnp_build.proofs.LaidLemmas.{laid_root}
 
@@ -68,10 +68,10 @@ ready has_tree c word n block one w holds =
     }
 
 -- the root is the value whose body it leads to
-pub value_set : (has_tree : Trees → Type 0) (c : Bool) (spaces last : List Space) (spot : Spot) (v : HasValue has_tree c spaces spot) → IsLaid last spot v.form v.held → IsSet has_tree c last
-value_set has_tree c spaces last spot v laid =
-    let t = laid_root last spot v.form v.held laid in
-    record { trees = v.trees; tree_is = v.tree_is; charge = t.0; stands = subst (λ (x : Trees). At (message last) (root ∷ []) x t.0) (sym v.same) t.1 }
+pub value_set : (has_tree : Trees → Type 0) (c : Bool) (spaces last : List Space) (location : RootLocation) (v : HasValue has_tree c spaces location) → IsLaid last location v.form v.held → IsSet has_tree c last
+value_set has_tree c spaces last location v laid =
+    let t = laid_root last location v.form v.held laid in
+    record { trees = v.trees; tree_is = v.tree_is; traversed = t.0; stands = subst (λ (x : Trees). At (message last) (root ∷ []) x t.0) (sym v.same) t.1 }
 
 first_and_rest : (words b : List ℕ) (x n : ℕ) → slice_get words 0 ≡ Some x → length words ≡ 1 + n → words_from words 1 n ≡ b → words ≡ x ∷ b
 first_and_rest [] b x n there long rest = absurd (omega (arith, long))
@@ -82,18 +82,18 @@ first_and_rest (y ∷ words) b x n there long rest =
     cc
 
 -- the one segment is the layout of the value whose body stands just after the root
-pub value_whole : (has_tree : Trees → Type 0) (c : Bool) (spaces last : List Space) (spot : Spot) (v : HasValue has_tree c spaces spot) → IsLaid last spot v.form v.held → length last ≡ 1
-    → spot.segment ≡ 0 → spot.start ≡ 1 → length (space_at last 0).used ≡ 8 * (1 + spot.words) → IsWhole has_tree c last
-value_whole has_tree c spaces last spot v laid one first start_is long =
+pub value_whole : (has_tree : Trees → Type 0) (c : Bool) (spaces last : List Space) (location : RootLocation) (v : HasValue has_tree c spaces location) → IsLaid last location v.form v.held → length last ≡ 1
+    → location.segment ≡ 0 → location.start ≡ 1 → length (space_at last 0).used ≡ 8 * (1 + location.words) → IsWhole has_tree c last
+value_whole has_tree c spaces last location v laid one first start_is long =
     let words : List ℕ = words_of (space_at last 0).used in
     let message_is : message last ≡ words ∷ [] = one_space last one in
-    let head : slice_get words 0 ≡ Some (root_word spot.segment spot.start v.form v.held) = ap (λ (m : List (List ℕ)). word_at m root) (sym message_is) ∙ laid.root_is in
-    let near : root_word spot.segment spot.start v.form v.held ≡ pointer v.form (count v.held) 0 =
-    ap (λ (k : ℕ). root_word k spot.start v.form v.held) first ∙ ap (λ (n : ℕ). root_word 0 n v.form v.held) start_is in
+    let head : slice_get words 0 ≡ Some (root_word location.segment location.start v.form v.held) = ap (λ (m : List (List ℕ)). word_at m root) (sym message_is) ∙ laid.root_is in
+    let near : root_word location.segment location.start v.form v.held ≡ pointer v.form (count v.held) 0 =
+    ap (λ (k : ℕ). root_word k location.start v.form v.held) first ∙ ap (λ (n : ℕ). root_word 0 n v.form v.held) start_is in
     let many : length words ≡ 1 + total_words (tree v.form v.held none) = omega (arith, long, laid.body_is.size, length-words_of (space_at last 0).used) in
     let rest : words_from words 1 (total_words (tree v.form v.held none)) ≡ body (tree v.form v.held none) =
     ap (λ (n : ℕ). words_from words n (total_words (tree v.form v.held none))) (sym start_is)
-    ∙ ap (λ (k : ℕ). words_from (words_of (space_at last k).used) spot.start (total_words (tree v.form v.held none))) (sym first) ∙ laid.body_is.laid.words_are in
+    ∙ ap (λ (k : ℕ). words_from (words_of (space_at last k).used) location.start (total_words (tree v.form v.held none))) (sym first) ∙ laid.body_is.laid.words_are in
     record {
       trees = v.trees;
       tree_is = v.tree_is;

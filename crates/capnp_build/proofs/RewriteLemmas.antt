@@ -14,60 +14,60 @@ use Rattle.capnp_wire.proofs.words.WordLemmas.{numbers_from, bytes_back, length-
 use Rattle.capnp_wire.proofs.words.BytesLemmas.{padded, below_zeros}
 use Rattle.capnp_build.specs.Bytes.{Space, written, with_bytes}
 use Rattle.capnp_build.specs.Held.{space_at}
-use Rattle.capnp_build.specs.Built.{message, root_word, pad_of, IsLaid}
-use Rattle.capnp_build.specs.declared.arena.spot.Spot.{Spot}
+use Rattle.capnp_build.specs.Built.{message, root_word, landing_pad_of, IsLaid}
+use Rattle.capnp_build.specs.declared.arena.location.RootLocation.{RootLocation}
 use Rattle.capnp_build.proofs.WordLemmas.{part_words}
 use Rattle.capnp_build.proofs.SpaceLemmas.{set_used}
 use Rattle.capnp_build.proofs.UsedLemmas.{written_length}
 use Rattle.capnp_build.proofs.ByteLemmas.{root_kept, word_kept, part_written}
 
 -- the bytes of the body
-abbrev pub body_bytes : List Space → Spot → List ℕ
-body_bytes spaces spot = take (8 * spot.words) (drop (8 * spot.start) (space_at spaces spot.segment).used)
+abbrev pub body_bytes : List Space → RootLocation → List ℕ
+body_bytes spaces location = take (8 * location.words) (drop (8 * location.start) (space_at spaces location.segment).used)
 
 root_alike : (k start : ℕ) (form f : Form) (held : Trees) → ((offset : ℕ) → pointer f (count held) offset ≡ pointer form (count held) offset) → root_word k start form held ≡ root_word k start f held
 root_alike zero start form f held alike = sym (alike (start - 1))
 root_alike (suc k) start form f held alike = refl
 
 -- where the new bytes are the body of a tree whose pointer is the same, it stands there
-pub rewritten : (spaces last : List Space) (spot : Spot) (form f : Form) (held : Trees) (start : ℕ) (w : List ℕ) → IsLaid spaces spot form held → start + length w ≤ 8 * spot.words
-    → last ≡ slice_set spaces spot.segment (with_bytes (space_at spaces spot.segment) (8 * spot.start + start) w)
+pub rewritten : (spaces last : List Space) (location : RootLocation) (form f : Form) (held : Trees) (start : ℕ) (w : List ℕ) → IsLaid spaces location form held → start + length w ≤ 8 * location.words
+    → last ≡ slice_set spaces location.segment (with_bytes (space_at spaces location.segment) (8 * location.start + start) w)
     → ((offset : ℕ) → pointer f (count held) offset ≡ pointer form (count held) offset) → own_words f (count held) ≡ own_words form (count held) → HasRoom f (count held)
-    → words_of (written (body_bytes spaces spot) start w) ≡ body (tree f held none) → IsLaid last spot f held
-rewritten spaces last spot form f held start w r inside e alike wide room_is body_is =
-    let old : List ℕ = (space_at spaces spot.segment).used in
-    let first : ℕ = 8 * spot.start + start in
-    let a = set_used spaces last spot.segment (with_bytes (space_at spaces spot.segment) (8 * spot.start + start) w) r.body_is.within e in
-    let used : (space_at last spot.segment).used ≡ written old (8 * spot.start + start) w = ap (λ (s : Space). s.used) a.1 in
-    let room : 8 * spot.start + start + length w ≤ length old = omega (arith, r.body_is.room, inside) in
-    let long : length (space_at last spot.segment).used ≡ length old = ap length used ∙ written_length (8 * spot.start + start) old w room in
-    let total : total_words (tree f held none) ≡ spot.words = omega (arith, wide, r.body_is.size) in
-    let fits : 8 * spot.start + 8 * spot.words ≤ length old = omega (arith, r.body_is.room) in
-    let part : words_from (words_of (space_at last spot.segment).used) spot.start spot.words ≡ body (tree f held none) =
-    part_words spot.start spot.words (space_at last spot.segment).used (omega (arith, long, r.body_is.room))
-    ∙ ap (λ (l : List ℕ). words_of (take (8 * spot.words) (drop (8 * spot.start) l))) used
-    ∙ ap words_of (part_written (8 * spot.start) (8 * spot.words) start old w fits inside) ∙ body_is in
+    → words_of (written (body_bytes spaces location) start w) ≡ body (tree f held none) → IsLaid last location f held
+rewritten spaces last location form f held start w r inside e alike wide room_is body_is =
+    let old : List ℕ = (space_at spaces location.segment).used in
+    let first : ℕ = 8 * location.start + start in
+    let a = set_used spaces last location.segment (with_bytes (space_at spaces location.segment) (8 * location.start + start) w) r.body_is.within e in
+    let used : (space_at last location.segment).used ≡ written old (8 * location.start + start) w = ap (λ (s : Space). s.used) a.1 in
+    let room : 8 * location.start + start + length w ≤ length old = omega (arith, r.body_is.room, inside) in
+    let long : length (space_at last location.segment).used ≡ length old = ap length used ∙ written_length (8 * location.start + start) old w room in
+    let total : total_words (tree f held none) ≡ location.words = omega (arith, wide, r.body_is.size) in
+    let fits : 8 * location.start + 8 * location.words ≤ length old = omega (arith, r.body_is.room) in
+    let part : words_from (words_of (space_at last location.segment).used) location.start location.words ≡ body (tree f held none) =
+    part_words location.start location.words (space_at last location.segment).used (omega (arith, long, r.body_is.room))
+    ∙ ap (λ (l : List ℕ). words_of (take (8 * location.words) (drop (8 * location.start) l))) used
+    ∙ ap words_of (part_written (8 * location.start) (8 * location.words) start old w fits inside) ∙ body_is in
     record {
       body_is = record {
         within = omega (arith, a.0, r.body_is.within);
         room = omega (arith, long, r.body_is.room);
-        behind = r.body_is.behind;
+        following = r.body_is.following;
         near = r.body_is.near;
         rooms = (room_is, r.body_is.rooms.1, tt);
         size = sym total;
         few = r.body_is.few;
         tag = r.body_is.tag ∙ sym (alike 0);
         laid = record {
-          within = omega (arith, total, long, r.body_is.room, length-words_of (space_at last spot.segment).used);
-          words_are = ap (words_from (words_of (space_at last spot.segment).used) spot.start) total ∙ part;
+          within = omega (arith, total, long, r.body_is.room, length-words_of (space_at last location.segment).used);
+          words_are = ap (words_from (words_of (space_at last location.segment).used) location.start) total ∙ part;
         };
       };
-      root_is = ap (λ (l : List Space). word_at (message l) root) e ∙ root_kept spaces spot.segment (8 * spot.start + start) w r.body_is.within (omega (arith, r.body_is.behind)) room ∙ r.root_is
-          ∙ ap Some (root_alike spot.segment spot.start form f held alike);
-      pad_is = λ p. (
-        (r.pad_is p).0,
-        ap (λ (l : List Space). word_at (message l) (pad_of spot)) e
-            ∙ word_kept spaces spot.segment (spot.start - 1) (8 * spot.start + start) w r.body_is.within (omega (arith, r.body_is.behind)) room ∙ (r.pad_is p).1,
+      root_is = ap (λ (l : List Space). word_at (message l) root) e ∙ root_kept spaces location.segment (8 * location.start + start) w r.body_is.within (omega (arith, r.body_is.following)) room ∙ r.root_is
+          ∙ ap Some (root_alike location.segment location.start form f held alike);
+      landing_pad_is = λ p. (
+        (r.landing_pad_is p).0,
+        ap (λ (l : List Space). word_at (message l) (landing_pad_of location)) e
+            ∙ word_kept spaces location.segment (location.start - 1) (8 * location.start + start) w r.body_is.within (omega (arith, r.body_is.following)) room ∙ (r.landing_pad_is p).1,
       );
     }
 
@@ -104,23 +104,23 @@ numbers_body values =
     let own_is : List ℕ = digits (2 ^ 64) (words_for (length values) 8) (number_of 256 values) in
     append-nil (own_is ++ []) ∙ append-nil own_is
 
--- the bytes of a list of bytes, with zeros behind them
-pub bytes_there : (spaces : List Space) (spot : Spot) (values : List ℕ) → IsLaid spaces spot (numbers 2 values) none → ((i : ℕ) → slice_index_or (space_at spaces spot.segment).used i 0 < 256)
-    → body_bytes spaces spot ≡ values ++ replicate (8 * spot.words - length values) 0
-bytes_there spaces spot values r low =
-    let old : List ℕ = (space_at spaces spot.segment).used in
-    let k : ℕ = spot.words in
-    let p : ℕ = 8 * spot.words - length values in
-    let size : spot.words ≡ words_for (length values) 8 = omega (arith, r.body_is.size) in
-    let fits : 8 * (spot.start + spot.words) ≤ length old = r.body_is.room in
-    let long : length (body_bytes spaces spot) ≡ 8 * spot.words = omega (arith, fits, length-take (8 * spot.words) (drop (8 * spot.start) old), length-drop (8 * spot.start) old) in
-    let whole : length values + p ≡ 8 * spot.words = omega (arith, size) in
-    let also : length (values ++ replicate p 0) ≡ 8 * spot.words = omega (arith, whole, length-append values (replicate p 0), length-replicate {A = ℕ} p 0) in
+-- the bytes of a list of bytes, with zeros after them
+pub bytes_there : (spaces : List Space) (location : RootLocation) (values : List ℕ) → IsLaid spaces location (numbers 2 values) none → ((i : ℕ) → slice_index_or (space_at spaces location.segment).used i 0 < 256)
+    → body_bytes spaces location ≡ values ++ replicate (8 * location.words - length values) 0
+bytes_there spaces location values r low =
+    let old : List ℕ = (space_at spaces location.segment).used in
+    let k : ℕ = location.words in
+    let p : ℕ = 8 * location.words - length values in
+    let size : location.words ≡ words_for (length values) 8 = omega (arith, r.body_is.size) in
+    let fits : 8 * (location.start + location.words) ≤ length old = r.body_is.room in
+    let long : length (body_bytes spaces location) ≡ 8 * location.words = omega (arith, fits, length-take (8 * location.words) (drop (8 * location.start) old), length-drop (8 * location.start) old) in
+    let whole : length values + p ≡ 8 * location.words = omega (arith, size) in
+    let also : length (values ++ replicate p 0) ≡ 8 * location.words = omega (arith, whole, length-append values (replicate p 0), length-replicate {A = ℕ} p 0) in
     let fine = low_all values r.body_is.rooms.0.3 in
-    let same : words_of (body_bytes spaces spot) ≡ words_of (values ++ replicate p 0) =
-    sym (part_words spot.start spot.words old fits) ∙ ap (words_from (words_of old) spot.start) r.body_is.size ∙ r.body_is.laid.words_are ∙ numbers_body values
-    ∙ ap (λ (n : ℕ). digits (2 ^ 64) n (number_of 256 values)) (sym size) ∙ sym (padded values p spot.words fine whole) in
-    words_tell spot.words (body_bytes spaces spot) (values ++ replicate p 0) long also (low_take (8 * spot.words) (drop (8 * spot.start) old) (low_drop (8 * spot.start) old low))
+    let same : words_of (body_bytes spaces location) ≡ words_of (values ++ replicate p 0) =
+    sym (part_words location.start location.words old fits) ∙ ap (words_from (words_of old) location.start) r.body_is.size ∙ r.body_is.laid.words_are ∙ numbers_body values
+    ∙ ap (λ (n : ℕ). digits (2 ^ 64) n (number_of 256 values)) (sym size) ∙ sym (padded values p location.words fine whole) in
+    words_tell location.words (body_bytes spaces location) (values ++ replicate p 0) long also (low_take (8 * location.words) (drop (8 * location.start) old) (low_drop (8 * location.start) old low))
     (λ i. below_zeros values p i fine) same
 
 written_front : (i : ℕ) (xs ys w : List ℕ) → i + length w ≤ length xs → written (xs ++ ys) i w ≡ written xs i w ++ ys
@@ -135,22 +135,22 @@ all_low [] low = λ k d h. absurd (omega (arith, h))
 all_low (x ∷ xs) low = All-cons (λ v. v < 2 ^ 8) x xs (low 0) (all_low xs (λ i. low (suc i)))
 
 -- some bytes are others
-pub bytes_laid : (spaces last : List Space) (spot : Spot) (values : List ℕ) (i : ℕ) (w : List ℕ) → IsLaid spaces spot (numbers 2 values) none
-    → ((j : ℕ) → slice_index_or (space_at spaces spot.segment).used j 0 < 256) → ((j : ℕ) → slice_index_or w j 0 < 256) → i + length w ≤ length values
-    → last ≡ slice_set spaces spot.segment (with_bytes (space_at spaces spot.segment) (8 * spot.start + i) w) → IsLaid last spot (numbers 2 (written values i w)) none
-bytes_laid spaces last spot values i w r low small within e =
-    let p : ℕ = 8 * spot.words - length values in
-    let size : spot.words ≡ words_for (length values) 8 = omega (arith, r.body_is.size) in
+pub bytes_laid : (spaces last : List Space) (location : RootLocation) (values : List ℕ) (i : ℕ) (w : List ℕ) → IsLaid spaces location (numbers 2 values) none
+    → ((j : ℕ) → slice_index_or (space_at spaces location.segment).used j 0 < 256) → ((j : ℕ) → slice_index_or w j 0 < 256) → i + length w ≤ length values
+    → last ≡ slice_set spaces location.segment (with_bytes (space_at spaces location.segment) (8 * location.start + i) w) → IsLaid last location (numbers 2 (written values i w)) none
+bytes_laid spaces last location values i w r low small within e =
+    let p : ℕ = 8 * location.words - length values in
+    let size : location.words ≡ words_for (length values) 8 = omega (arith, r.body_is.size) in
     let wide : length (written values i w) ≡ length values = written_length i values w within in
     let all : All (λ v. v < 2 ^ 8) (written values i w) =
     All-append (λ v. v < 2 ^ 8) (take i values) (w ++ drop (i + length w) values) (All-take (λ v. v < 2 ^ 8) i values r.body_is.rooms.0.3)
     (All-append (λ v. v < 2 ^ 8) w (drop (i + length w) values) (all_low w small) (All-drop (λ v. v < 2 ^ 8) (i + length w) values r.body_is.rooms.0.3)) in
-    let there = bytes_there spaces spot values r low in
-    let bytes : written (body_bytes spaces spot) i w ≡ written values i w ++ replicate p 0 =
+    let there = bytes_there spaces location values r low in
+    let bytes : written (body_bytes spaces location) i w ≡ written values i w ++ replicate p 0 =
     ap (λ (l : List ℕ). written l i w) there ∙ written_front i values (replicate p 0) w within in
-    let words : words_of (written (body_bytes spaces spot) i w) ≡ body (tree (numbers 2 (written values i w)) none none) =
-    ap words_of bytes ∙ padded (written values i w) p spot.words (low_all (written values i w) all) (omega (arith, wide, size))
+    let words : words_of (written (body_bytes spaces location) i w) ≡ body (tree (numbers 2 (written values i w)) none none) =
+    ap words_of bytes ∙ padded (written values i w) p location.words (low_all (written values i w) all) (omega (arith, wide, size))
     ∙ ap (λ (n : ℕ). digits (2 ^ 64) n (number_of 256 (written values i w))) (size ∙ ap (λ (n : ℕ). words_for n 8) (sym wide)) ∙ sym (numbers_body (written values i w)) in
-    rewritten spaces last spot (numbers 2 values) (numbers 2 (written values i w)) none i w r (omega (arith, within, size)) e
+    rewritten spaces last location (numbers 2 values) (numbers 2 (written values i w)) none i w r (omega (arith, within, size)) e
     (λ offset. ap (λ (n : ℕ). 1 + 4 * offset + 2 ^ 32 * 2 + 2 ^ 35 * n) wide) (ap (λ (n : ℕ). words_for n 8) wide)
     (omega arith, omega (arith, wide, r.body_is.rooms.0.1), refl, all) words

@@ -6,7 +6,7 @@ use Rattle.capnp_wire.specs.Pointer.{words_of}
 use Rattle.capnp_wire.specs.Object.{word_at}
 use Rattle.capnp_wire.specs.Reached.{root}
 use Rattle.capnp_build.specs.Bytes.{Space, written, with_bytes}
-use Rattle.capnp_build.specs.Held.{used_of, space_at, room_of}
+use Rattle.capnp_build.specs.Held.{used_of, space_at, free_words_of}
 use Rattle.capnp_build.specs.Built.{message, size_in_words}
 use Rattle.capnp_build.specs.Placed.{KeepsRooms}
 use Rattle.capnp_build.proofs.UsedLemmas.{written_length, written_zero}
@@ -65,7 +65,7 @@ one_space (s ∷ t ∷ rest) one = absurd (omega (arith, one))
 
 -- bytes that are written take no room
 set_rooms : (spaces : List Space) (i j : ℕ) (s : Space) → s.size ≡ (space_at spaces i).size → length s.used ≡ length (space_at spaces i).used
-    → room_of (space_at (slice_set spaces i s) j) ≡ room_of (space_at spaces j)
+    → free_words_of (space_at (slice_set spaces i s) j) ≡ free_words_of (space_at spaces j)
 set_rooms [] i j s e f = refl
 set_rooms (x ∷ spaces) zero zero s e f = ap (λ (n : ℕ). min (n / 8) (2 ^ 29) - length s.used / 8) e ∙ ap (λ (n : ℕ). min (x.size / 8) (2 ^ 29) - n / 8) f
 set_rooms (x ∷ spaces) zero (suc j) s e f = refl
@@ -73,11 +73,11 @@ set_rooms (x ∷ spaces) (suc i) zero s e f = refl
 set_rooms (x ∷ spaces) (suc i) (suc j) s e f = set_rooms spaces i j s e f
 
 pub one_zeroed : (spaces last : List Space) (i at_byte : ℕ) (w : List ℕ) → at_byte + length w ≤ length (space_at spaces i).used → last ≡ slice_set spaces i (with_bytes (space_at spaces i) at_byte w)
-    → (length last ≡ length spaces) × ((j : ℕ) → room_of (space_at last j) ≡ room_of (space_at spaces j)) × ((j : ℕ) → length (space_at last j).used ≡ length (space_at spaces j).used)
+    → (length last ≡ length spaces) × ((j : ℕ) → free_words_of (space_at last j) ≡ free_words_of (space_at spaces j)) × ((j : ℕ) → length (space_at last j).used ≡ length (space_at spaces j).used)
 one_zeroed spaces last i at_byte w room e =
     let long : length (written (space_at spaces i).used at_byte w) ≡ length (space_at spaces i).used = written_length at_byte (space_at spaces i).used w room in (
       ap length e ∙ length-set spaces i (with_bytes (space_at spaces i) at_byte w),
-      λ j. ap (λ (l : List Space). room_of (space_at l j)) e ∙ set_rooms spaces i j (with_bytes (space_at spaces i) at_byte w) refl long,
+      λ j. ap (λ (l : List Space). free_words_of (space_at l j)) e ∙ set_rooms spaces i j (with_bytes (space_at spaces i) at_byte w) refl long,
       λ j. ap (λ (l : List Space). length (space_at l j).used) e ∙ set_room spaces i j (with_bytes (space_at spaces i) at_byte w) long,
     )
 
@@ -94,7 +94,7 @@ size_more [] i within = absurd (omega (arith, within))
 size_more (s ∷ spaces) zero within = omega arith
 size_more (s ∷ spaces) (suc i) within = ap (λ (n : ℕ). length s.used / 8 + n) (size_more spaces i (omega (arith, within))) ∙ omega arith
 
--- a segment of which so many words more are used
+-- a segment of which a given number of words more are used
 pub size_longer : (spaces : List Space) (i n : ℕ) (s : Space) → i < length spaces → length s.used ≡ length (space_at spaces i).used + 8 * n
     → size_in_words (slice_set spaces i s) ≡ size_in_words spaces + n
 size_longer [] i n s within long = absurd (omega (arith, within))
@@ -118,11 +118,11 @@ added_there (x ∷ spaces) s = added_there spaces s
 
 past_root : (mid last : List Space) (i from n : ℕ) → 8 ≤ from → from + n ≤ length (space_at mid i).used → i < length mid → last ≡ slice_set mid 0 (with_bytes (space_at mid 0) 0 (replicate 8 0))
     → take n (drop from (space_at last i).used) ≡ take n (drop from (space_at mid i).used)
-past_root mid last zero from n behind room within f =
+past_root mid last zero from n following room within f =
     let b = set_used mid last 0 (with_bytes (space_at mid 0) 0 (replicate 8 0)) within f in
     let eight : length {A = ℕ} (replicate 8 0) ≡ 8 = refl in
-    ap (λ (s : Space). take n (drop from s.used)) b.1 ∙ ap (take n) (written_zero 0 from (space_at mid 0).used (replicate 8 0) (omega (arith, behind, eight)) (omega (arith, room)))
-past_root mid last (suc i) from n behind room within f =
+    ap (λ (s : Space). take n (drop from s.used)) b.1 ∙ ap (take n) (written_zero 0 from (space_at mid 0).used (replicate 8 0) (omega (arith, following, eight)) (omega (arith, room)))
+past_root mid last (suc i) from n following room within f =
     let apart : 0 ≡ suc i → ⊥ = λ q. absurd (omega (arith, q)) in
     ap (λ (l : List Space). take n (drop from (space_at l (suc i)).used)) f ∙ ap (λ (s : Space). take n (drop from s.used)) (set_apart mid 0 (suc i) (with_bytes (space_at mid 0) 0
     (replicate 8 0)) apart)
@@ -131,7 +131,7 @@ past_root mid last (suc i) from n behind room within f =
 pub wiped : (spaces mid last : List Space) (i from n k : ℕ) → i < length spaces → 8 ≤ from → k ≡ n → from + n ≤ length (space_at spaces i).used
     → mid ≡ slice_set spaces i (with_bytes (space_at spaces i) from (replicate k 0)) → last ≡ slice_set mid 0 (with_bytes (space_at mid 0) 0 (replicate 8 0))
     → take n (drop from (space_at last i).used) ≡ replicate n 0
-wiped spaces mid last i from n k within behind e room d f =
+wiped spaces mid last i from n k within following e room d f =
     let zs : List ℕ = replicate k 0 in
     let old : List ℕ = (space_at spaces i).used in
     let long : length zs ≡ n = omega (arith, e, length-replicate {A = ℕ} k 0) in
@@ -140,4 +140,4 @@ wiped spaces mid last i from n k within behind e room d f =
     ap (λ (s : Space). take n (drop from s.used)) a.1 ∙ ap (λ (m : ℕ). take m (drop from (written old from zs))) (sym long) ∙ part_here from old zs (omega (arith, room))
     ∙ ap (λ (m : ℕ). replicate m 0) e in
     let wide : length (space_at mid i).used ≡ length old = ap (λ (s : Space). length s.used) a.1 ∙ written_length from old zs (omega (arith, long, room)) in
-    past_root mid last i from n behind (omega (arith, wide, room)) (omega (arith, within, a.0)) f ∙ here
+    past_root mid last i from n following (omega (arith, wide, room)) (omega (arith, within, a.0)) f ∙ here

@@ -67,15 +67,15 @@ written_zero at used xs w inside fits =
     rw same (drop-append-drop (at + length w) xs (take at xs ++ w) used inside lb)
 
 pub same_space : (u v : List ℕ) (n m : ℕ) (a b : Bool) → u ≡ v → n ≡ m → a ≡ b
-    → (let left : Space = record { used = u; size = n; is_lent = a } in let right : Space = record { used = v; size = m; is_lent = b } in left ≡ right)
+    → (let left : Space = record { used = u; size = n; is_provided = a } in let right : Space = record { used = v; size = m; is_provided = b } in left ≡ right)
 same_space u v n m a b e f h = cc
 
--- a block behind the used bytes
-pub block_behind : (at n : ℕ) (xs w : List ℕ) → length w ≡ n → at + n ≤ length xs → take (at + n) (written xs at w) ≡ take at xs ++ w
-block_behind at n xs w long fits =
+-- a block after the used bytes
+pub block_after : (at n : ℕ) (xs w : List ℕ) → length w ≡ n → at + n ≤ length xs → take (at + n) (written xs at w) ≡ take at xs ++ w
+block_after at n xs w long fits =
     let front : length (take at xs ++ w) ≡ at + n = omega (arith, fits, long, length-append (take at xs) w, length-take at xs) in
     ap (take (at + n)) (sym (append_assoc (take at xs) w (drop (at + length w) xs)))
     ∙ ap (λ (k : ℕ). take k ((take at xs ++ w) ++ drop (at + length w) xs)) (sym front) ∙ take-append_seam (take at xs ++ w) (drop (at + length w) xs)
 
-pub zeros_behind : (used n : ℕ) (xs : List ℕ) → used + n ≤ length xs → ZeroFrom used xs → take n (drop used xs) ≡ replicate n 0
-zeros_behind used n xs fits clean = zeros n (drop used xs) (omega (arith, fits, length-drop used xs)) clean
+pub zeros_after : (used n : ℕ) (xs : List ℕ) → used + n ≤ length xs → ZeroFrom used xs → take n (drop used xs) ≡ replicate n 0
+zeros_after used n xs fits clean = zeros n (drop used xs) (omega (arith, fits, length-drop used xs)) clean

@@ -8,7 +8,7 @@ use Rattle.capnp_build.specs.Held.{Held, space_at, with_space}
 use Rattle.capnp_build.specs.Built.{message, size_in_words, HasNullRoot, IsBuilt, root_word}
 use Rattle.capnp_build.specs.Blocks.{WipesRoot}
 use Rattle.capnp_build.specs.declared.allocator.Allocator.{Ghosts}
-use Rattle.capnp_build.specs.declared.arena.spot.Spot.{Spot}
+use Rattle.capnp_build.specs.declared.arena.location.RootLocation.{RootLocation}
 use Rattle.capnp_build.proofs.HeldLemmas.{edit_keeps}
 use Rattle.capnp_build.proofs.NullLemmas.{old_cleared, old_size, first_cleared, first_size, root_stands, root_room}
 use Rattle.capnp_build.proofs.SpaceLemmas.{one_zeroed, two_zeroed, wiped}
@@ -22,7 +22,7 @@ word_wiped {A = A} alloc old new there null e =
     record {
       null_word = subst HasNullRoot (sym spaces_are) (first_cleared old.spaces there null);
       zero = tt;
-      behind = tt;
+      following = tt;
       count = kept.0;
       size = ap size_in_words spaces_are ∙ first_size old.spaces there null;
       rooms = λ _. (kept.0, kept.1);
@@ -30,29 +30,29 @@ word_wiped {A = A} alloc old new there null e =
       others = edit_keeps alloc.out old new 0 _ refl e;
     }
 
-pub body_wiped : {A S : Type 0} (alloc : Ghosts A S) (old between new : Held A) (spot : Spot) (k : ℕ) → IsBuilt old.spaces (Some spot) → k ≡ 8 * spot.words
-    → between ≡ with_space old spot.segment (with_bytes (space_at old.spaces spot.segment) (8 * spot.start) (replicate k 0))
-    → new ≡ with_space between 0 (with_bytes (space_at between.spaces 0) 0 (replicate 8 0)) → WipesRoot alloc (Some spot) old new
-body_wiped {A = A} alloc old between new spot k built long d e =
+pub body_wiped : {A S : Type 0} (alloc : Ghosts A S) (old between new : Held A) (location : RootLocation) (k : ℕ) → IsBuilt old.spaces (Some location) → k ≡ 8 * location.words
+    → between ≡ with_space old location.segment (with_bytes (space_at old.spaces location.segment) (8 * location.start) (replicate k 0))
+    → new ≡ with_space between 0 (with_bytes (space_at between.spaces 0) 0 (replicate 8 0)) → WipesRoot alloc (Some location) old new
+body_wiped {A = A} alloc old between new location k built long d e =
     let spaces : List Space = old.spaces in
     let laid = built.2 in
     let zeros : List ℕ = replicate k 0 in
-    let word : ℕ = root_word spot.segment spot.start built.0 built.1 in
-    let fits : 8 * spot.start + length zeros ≤ length (space_at spaces spot.segment).used = omega (arith, laid.body_is.room, long, length-replicate {A = ℕ} k 0) in
+    let word : ℕ = root_word location.segment location.start built.0 built.1 in
+    let fits : 8 * location.start + length zeros ≤ length (space_at spaces location.segment).used = omega (arith, laid.body_is.room, long, length-replicate {A = ℕ} k 0) in
     let first = root_stands spaces word laid.root_is in
-    let between_is : between.spaces ≡ slice_set spaces spot.segment (with_bytes (space_at spaces spot.segment) (8 * spot.start) zeros) = ap (λ (h : Held A). h.spaces) d in
+    let between_is : between.spaces ≡ slice_set spaces location.segment (with_bytes (space_at spaces location.segment) (8 * location.start) zeros) = ap (λ (h : Held A). h.spaces) d in
     let new_is : new.spaces ≡ slice_set between.spaces 0 (with_bytes (space_at between.spaces 0) 0 (replicate 8 0)) = ap (λ (h : Held A). h.spaces) e in
     let wipe = λ (l : List Space). slice_set l 0 (with_bytes (space_at l 0) 0 (replicate 8 0)) in
-    let kept = two_zeroed spaces between.spaces new.spaces spot.segment (8 * spot.start) zeros (replicate 8 0) fits first.1 between_is new_is in
+    let kept = two_zeroed spaces between.spaces new.spaces location.segment (8 * location.start) zeros (replicate 8 0) fits first.1 between_is new_is in
     record {
-      null_word = inr (ap (λ (l : List Space). word_at (message l) root) (new_is ∙ ap wipe between_is) ∙ old_cleared spaces spot.segment (8 * spot.start) zeros word laid.root_is fits);
+      null_word = inr (ap (λ (l : List Space). word_at (message l) root) (new_is ∙ ap wipe between_is) ∙ old_cleared spaces location.segment (8 * location.start) zeros word laid.root_is fits);
       zero =
-          wiped spaces between.spaces new.spaces spot.segment (8 * spot.start) (8 * spot.words) k laid.body_is.within (omega (arith, laid.body_is.behind)) long (omega (arith, laid.body_is.room)) between_is
+          wiped spaces between.spaces new.spaces location.segment (8 * location.start) (8 * location.words) k laid.body_is.within (omega (arith, laid.body_is.following)) long (omega (arith, laid.body_is.room)) between_is
           new_is;
-      behind = laid.body_is.behind;
+      following = laid.body_is.following;
       count = (kept first.0).0;
-      size = ap size_in_words (new_is ∙ ap wipe between_is) ∙ old_size spaces spot.segment (8 * spot.start) zeros word laid.root_is fits;
+      size = ap size_in_words (new_is ∙ ap wipe between_is) ∙ old_size spaces location.segment (8 * location.start) zeros word laid.root_is fits;
       rooms = kept;
       allocator = ap (λ (h : Held A). h.allocator) e ∙ ap (λ (h : Held A). h.allocator) d;
-      others = λ others is. edit_keeps alloc.out between new 0 _ refl e others (edit_keeps alloc.out old between spot.segment _ refl d others is);
+      others = λ others is. edit_keeps alloc.out between new 0 _ refl e others (edit_keeps alloc.out old between location.segment _ refl d others is);
     }

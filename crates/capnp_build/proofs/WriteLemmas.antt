@@ -13,96 +13,96 @@ use Rattle.capnp_build.specs.Built.{Built, IsLaid, IsBuilt, size_in_words}
 use Rattle.capnp_build.specs.Written.{IsWritten, HasField, IsFieldSet, HasNumber, IsNumberSet, HasBytes, IsBytesSet}
 use Rattle.capnp_build.specs.Bytes.{Space, written, with_bytes}
 use Rattle.capnp_build.specs.Held.{Held, space_at, with_space, pair, pairs}
-use Rattle.capnp_build.specs.declared.arena.spot.Spot.{Spot}
+use Rattle.capnp_build.specs.declared.arena.location.RootLocation.{RootLocation}
 
-written_by : {A : Type 0} (held last : Held A) (spot : Option Spot) (i : ℕ) (s : Space) → last ≡ with_space held i s → pair s ≡ pair (space_at held.spaces i)
+written_by : {A : Type 0} (held last : Held A) (location : Option RootLocation) (i : ℕ) (s : Space) → last ≡ with_space held i s → pair s ≡ pair (space_at held.spaces i)
     → length s.used ≡ length (space_at held.spaces i).used
-    → (let old : Built A = record { spaces = held.spaces; spot = spot; allocator = held.allocator } in let new : Built A = record {
+    → (let old : Built A = record { spaces = held.spaces; location = location; allocator = held.allocator } in let new : Built A = record {
       spaces = last.spaces;
-      spot = spot;
+      location = location;
       allocator =
           last.allocator;
     } in IsWritten old new)
-written_by {A = A} held last spot i s e same long = record {
-  spot = refl;
+written_by {A = A} held last location i s e same long = record {
+  location = refl;
   count = ap (λ (h : Held A). length h.spaces) e ∙ length-set held.spaces i s;
   size = ap (λ (h : Held A). size_in_words h.spaces) e ∙ size_set held.spaces i s long;
   allocator = ap (λ (h : Held A). h.allocator) e;
   pairs = λ others. ap (λ (h : Held A). pairs h.spaces others) e ∙ pairs_set held.spaces i s others same;
 }
 
-pub written_at : {A : Type 0} (held last : Held A) (spot : Option Spot) (i from : ℕ) (w : List ℕ) → last ≡ with_space held i (with_bytes (space_at held.spaces i) from w)
+pub written_at : {A : Type 0} (held last : Held A) (location : Option RootLocation) (i from : ℕ) (w : List ℕ) → last ≡ with_space held i (with_bytes (space_at held.spaces i) from w)
     → from + length w ≤ length (space_at held.spaces i).used
-    → (let old : Built A = record { spaces = held.spaces; spot = spot; allocator = held.allocator } in let new : Built A = record {
+    → (let old : Built A = record { spaces = held.spaces; location = location; allocator = held.allocator } in let new : Built A = record {
       spaces = last.spaces;
-      spot = spot;
+      location = location;
       allocator =
           last.allocator;
     } in IsWritten old new)
-written_at held last spot i from w e room =
-    written_by held last spot i (with_bytes (space_at held.spaces i) from w) e refl (written_length from (space_at held.spaces i).used w room)
+written_at held last location i from w e room =
+    written_by held last location i (with_bytes (space_at held.spaces i) from w) e refl (written_length from (space_at held.spaces i).used w room)
 
 pub unwritten : {A : Type 0} (old : Built A) → IsWritten old old
-unwritten old = record { spot = refl; count = refl; size = refl; allocator = refl; pairs = λ others. refl }
+unwritten old = record { location = refl; count = refl; size = refl; allocator = refl; pairs = λ others. refl }
 
 -- a data word of the struct at the root
-pub field_known : (spaces : List Space) (spot : Spot) (index : ℕ) (f : HasField spaces index) → IsBuilt spaces (Some spot) → IsLaid spaces spot (struct f.words) f.held
-field_known spaces spot index f p = laid_as spaces spot p.0 (struct f.words) p.1 f.held f.charge p.2 f.stands
+pub field_known : (spaces : List Space) (location : RootLocation) (index : ℕ) (f : HasField spaces index) → IsBuilt spaces (Some location) → IsLaid spaces location (struct f.words) f.held
+field_known spaces location index f p = laid_as spaces location p.0 (struct f.words) p.1 f.held f.traversed p.2 f.stands
 
-pub field_room : (spaces : List Space) (spot : Spot) (index n : ℕ) (f : HasField spaces index) → IsBuilt spaces (Some spot) → n ≡ 8
-    → 8 * (spot.start + index) + n ≤ length (space_at spaces spot.segment).used
-field_room spaces spot index n f p eight = let r = field_known spaces spot index f p in omega (arith, eight, r.body_is.room, r.body_is.size, f.within)
+pub field_room : (spaces : List Space) (location : RootLocation) (index n : ℕ) (f : HasField spaces index) → IsBuilt spaces (Some location) → n ≡ 8
+    → 8 * (location.start + index) + n ≤ length (space_at spaces location.segment).used
+field_room spaces location index n f p eight = let r = field_known spaces location index f p in omega (arith, eight, r.body_is.room, r.body_is.size, f.within)
 
-pub field_set : (spaces last : List Space) (spot : Spot) (index x : ℕ) (w : List ℕ) (f : HasField spaces index) → IsBuilt spaces (Some spot) → x < 2 ^ 64 → w ≡ to_le_bytes w64 x → length w ≡ 8
-    → last ≡ slice_set spaces spot.segment (with_bytes (space_at spaces spot.segment) (8 * (spot.start + index)) w) → IsFieldSet spaces last index x
-field_set spaces last spot index x w f p small is eight e words held charge there =
-    let r = laid_as spaces spot p.0 (struct words) p.1 held charge p.2 there in
-    let s = laid_as spaces spot p.0 (struct f.words) p.1 f.held f.charge p.2 f.stands in
-    let long : length words ≡ length f.words = same_fields spaces words f.words held f.held charge f.charge there f.stands in
-    laid_root last spot (struct (slice_set words index x)) held (field_laid spaces last spot words held index x w r (omega (arith, long, f.within)) small is eight e)
+pub field_set : (spaces last : List Space) (location : RootLocation) (index x : ℕ) (w : List ℕ) (f : HasField spaces index) → IsBuilt spaces (Some location) → x < 2 ^ 64 → w ≡ to_le_bytes w64 x → length w ≡ 8
+    → last ≡ slice_set spaces location.segment (with_bytes (space_at spaces location.segment) (8 * (location.start + index)) w) → IsFieldSet spaces last index x
+field_set spaces last location index x w f p small is eight e words held traversed there =
+    let r = laid_as spaces location p.0 (struct words) p.1 held traversed p.2 there in
+    let s = laid_as spaces location p.0 (struct f.words) p.1 f.held f.traversed p.2 f.stands in
+    let long : length words ≡ length f.words = same_fields spaces words f.words held f.held traversed f.traversed there f.stands in
+    laid_root last location (struct (slice_set words index x)) held (field_laid spaces last location words held index x w r (omega (arith, long, f.within)) small is eight e)
 
 pub no_struct : (words : List ℕ) → struct words ≡ null → ⊥
 no_struct words e = cc
 
 -- a number of the list of words at the root
-pub number_known : (spaces : List Space) (spot : Spot) (index : ℕ) (f : HasNumber spaces index) → IsBuilt spaces (Some spot) → IsLaid spaces spot (numbers 5 f.values) none
-number_known spaces spot index f p = laid_as spaces spot p.0 (numbers 5 f.values) p.1 none f.charge p.2 f.stands
+pub number_known : (spaces : List Space) (location : RootLocation) (index : ℕ) (f : HasNumber spaces index) → IsBuilt spaces (Some location) → IsLaid spaces location (numbers 5 f.values) none
+number_known spaces location index f p = laid_as spaces location p.0 (numbers 5 f.values) p.1 none f.traversed p.2 f.stands
 
-pub number_room : (spaces : List Space) (spot : Spot) (index n : ℕ) (f : HasNumber spaces index) → IsBuilt spaces (Some spot) → n ≡ 8
-    → 8 * spot.start + 8 * index + n ≤ length (space_at spaces spot.segment).used
-number_room spaces spot index n f p eight = let r = number_known spaces spot index f p in omega (arith, eight, r.body_is.room, r.body_is.size, f.within)
+pub number_room : (spaces : List Space) (location : RootLocation) (index n : ℕ) (f : HasNumber spaces index) → IsBuilt spaces (Some location) → n ≡ 8
+    → 8 * location.start + 8 * index + n ≤ length (space_at spaces location.segment).used
+number_room spaces location index n f p eight = let r = number_known spaces location index f p in omega (arith, eight, r.body_is.room, r.body_is.size, f.within)
 
-pub number_set : (spaces last : List Space) (spot : Spot) (index x : ℕ) (w : List ℕ) (f : HasNumber spaces index) → IsBuilt spaces (Some spot) → x < 2 ^ 64 → w ≡ to_le_bytes w64 x → length w ≡ 8
-    → last ≡ slice_set spaces spot.segment (with_bytes (space_at spaces spot.segment) (8 * spot.start + 8 * index) w) → IsNumberSet spaces last index x
-number_set spaces last spot index x w f p small is eight e values charge there =
-    let r = laid_as spaces spot p.0 (numbers 5 values) p.1 none charge p.2 there in
-    let long : length values ≡ length f.values = same_numbers spaces 5 values f.values charge f.charge there f.stands in
-    laid_root last spot (numbers 5 (slice_set values index x)) none (number_laid spaces last spot values index x w r (omega (arith, long, f.within)) small is eight e)
+pub number_set : (spaces last : List Space) (location : RootLocation) (index x : ℕ) (w : List ℕ) (f : HasNumber spaces index) → IsBuilt spaces (Some location) → x < 2 ^ 64 → w ≡ to_le_bytes w64 x → length w ≡ 8
+    → last ≡ slice_set spaces location.segment (with_bytes (space_at spaces location.segment) (8 * location.start + 8 * index) w) → IsNumberSet spaces last index x
+number_set spaces last location index x w f p small is eight e values traversed there =
+    let r = laid_as spaces location p.0 (numbers 5 values) p.1 none traversed p.2 there in
+    let long : length values ≡ length f.values = same_numbers spaces 5 values f.values traversed f.traversed there f.stands in
+    laid_root last location (numbers 5 (slice_set values index x)) none (number_laid spaces last location values index x w r (omega (arith, long, f.within)) small is eight e)
 
 pub no_list : (values : List ℕ) → numbers 5 values ≡ null → ⊥
 no_list values e = cc
 
 -- bytes of the list of bytes at the root
-pub bytes_known : (spaces : List Space) (spot : Spot) (index n : ℕ) (f : HasBytes spaces index n) → IsBuilt spaces (Some spot) → IsLaid spaces spot (numbers 2 f.values) none
-bytes_known spaces spot index n f p = laid_as spaces spot p.0 (numbers 2 f.values) p.1 none f.charge p.2 f.stands
+pub bytes_known : (spaces : List Space) (location : RootLocation) (index n : ℕ) (f : HasBytes spaces index n) → IsBuilt spaces (Some location) → IsLaid spaces location (numbers 2 f.values) none
+bytes_known spaces location index n f p = laid_as spaces location p.0 (numbers 2 f.values) p.1 none f.traversed p.2 f.stands
 
-pub bytes_room : (spaces : List Space) (spot : Spot) (index n : ℕ) (f : HasBytes spaces index n) → IsBuilt spaces (Some spot)
-    → 8 * spot.start + index + n ≤ length (space_at spaces spot.segment).used
-bytes_room spaces spot index n f p = let r = bytes_known spaces spot index n f p in omega (arith, r.body_is.room, r.body_is.size, f.within)
+pub bytes_room : (spaces : List Space) (location : RootLocation) (index n : ℕ) (f : HasBytes spaces index n) → IsBuilt spaces (Some location)
+    → 8 * location.start + index + n ≤ length (space_at spaces location.segment).used
+bytes_room spaces location index n f p = let r = bytes_known spaces location index n f p in omega (arith, r.body_is.room, r.body_is.size, f.within)
 
 pub no_bytes : (values : List ℕ) → numbers 2 values ≡ null → ⊥
 no_bytes values e = cc
 
-pub bytes_rewritten : (spaces last : List Space) (spot : Spot) (index : ℕ) (w : List ℕ) (f : HasBytes spaces index (length w)) → IsBuilt spaces (Some spot)
-    → ((j : ℕ) → slice_index_or (space_at spaces spot.segment).used j 0 < 256) → ((j : ℕ) → slice_index_or w j 0 < 256)
-    → last ≡ slice_set spaces spot.segment (with_bytes (space_at spaces spot.segment) (8 * spot.start + index) w) → IsBuilt last (Some spot)
-bytes_rewritten spaces last spot index w f p low small e =
-    (numbers 2 (written f.values index w), none, bytes_laid spaces last spot f.values index w (bytes_known spaces spot index (length w) f p) low small f.within e)
+pub bytes_rewritten : (spaces last : List Space) (location : RootLocation) (index : ℕ) (w : List ℕ) (f : HasBytes spaces index (length w)) → IsBuilt spaces (Some location)
+    → ((j : ℕ) → slice_index_or (space_at spaces location.segment).used j 0 < 256) → ((j : ℕ) → slice_index_or w j 0 < 256)
+    → last ≡ slice_set spaces location.segment (with_bytes (space_at spaces location.segment) (8 * location.start + index) w) → IsBuilt last (Some location)
+bytes_rewritten spaces last location index w f p low small e =
+    (numbers 2 (written f.values index w), none, bytes_laid spaces last location f.values index w (bytes_known spaces location index (length w) f p) low small f.within e)
 
-pub bytes_set : (spaces last : List Space) (spot : Spot) (index : ℕ) (w : List ℕ) (f : HasBytes spaces index (length w)) → IsBuilt spaces (Some spot)
-    → ((j : ℕ) → slice_index_or (space_at spaces spot.segment).used j 0 < 256) → ((j : ℕ) → slice_index_or w j 0 < 256)
-    → last ≡ slice_set spaces spot.segment (with_bytes (space_at spaces spot.segment) (8 * spot.start + index) w) → IsBytesSet spaces last index w
-bytes_set spaces last spot index w f p low small e values charge there =
-    let r = laid_as spaces spot p.0 (numbers 2 values) p.1 none charge p.2 there in
-    let long : length values ≡ length f.values = same_numbers spaces 2 values f.values charge f.charge there f.stands in
-    laid_root last spot (numbers 2 (written values index w)) none (bytes_laid spaces last spot values index w r low small (omega (arith, long, f.within)) e)
+pub bytes_set : (spaces last : List Space) (location : RootLocation) (index : ℕ) (w : List ℕ) (f : HasBytes spaces index (length w)) → IsBuilt spaces (Some location)
+    → ((j : ℕ) → slice_index_or (space_at spaces location.segment).used j 0 < 256) → ((j : ℕ) → slice_index_or w j 0 < 256)
+    → last ≡ slice_set spaces location.segment (with_bytes (space_at spaces location.segment) (8 * location.start + index) w) → IsBytesSet spaces last index w
+bytes_set spaces last location index w f p low small e values traversed there =
+    let r = laid_as spaces location p.0 (numbers 2 values) p.1 none traversed p.2 there in
+    let long : length values ≡ length f.values = same_numbers spaces 2 values f.values traversed f.traversed there f.stands in
+    laid_root last location (numbers 2 (written values index w)) none (bytes_laid spaces last location values index w r low small (omega (arith, long, f.within)) e)

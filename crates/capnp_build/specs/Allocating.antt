@@ -5,16 +5,16 @@ use Rattle.std.specs.Prelude.{ℕ, ◌/◌, ◌^◌, ◌<◌, ◌≤◌, ◌≡�
 use Rattle.capnp_frame.specs.declared.error.Error.{Error}
 use Rattle.capnp_frame.specs.declared.error.ErrorKind.TheVariants.{SegmentTaken}
 use Rattle.capnp_build.specs.Bytes.{ZeroFrom}
-use Rattle.capnp_build.specs.Out.{Out, Adds, TakesOff, HasLarge, MayRefuse}
+use Rattle.capnp_build.specs.Out.{Out, AddsOut, TakesOff, HasLarge, MayRefuse}
 
--- A segment of at least so many words is handed out, all zero; `content` is its bytes.
-pub record HandsOut {A S : Type 0} (out : A → List Out → Type 0) (keeps : A → A → Type 0) (grants : A → ℕ → ℕ → Type 0) (content : S → List ℕ) (is_lent : S → Bool)
+-- A segment of at least a given number of words is handed out, all zero; `content` is its bytes.
+pub record HandsOut {A S : Type 0} (out : A → List Out → Type 0) (keeps : A → A → Type 0) (grants : A → ℕ → ℕ → Type 0) (content : S → List ℕ) (is_provided : S → Bool)
     (asked : ℕ) (old new : A) (result : Result S Error) : Type 0 where
   pub room : IfOk result (λ s. asked ≤ length (content s) / 8)
   pub field : IfOk result (λ s. length (content s) / 8 < 2 ^ 32)
   pub zero : IfOk result (λ s. ZeroFrom 0 (content s))
-  pub adds : IfOk result (λ s. Adds (out old) (out new) (record { length = length (content s); is_lent = is_lent s }))
-  -- where it has to be granted, it is, by a segment of so many words
+  pub adds : IfOk result (λ s. AddsOut (out old) (out new) (record { length = length (content s); is_provided = is_provided s }))
+  -- where it has to be granted, it is, by a segment of a given number of words
   pub granted : (words : ℕ) → grants old asked words → IsOkAnd result (λ s. length (content s) / 8 ≡ words)
   pub refusal : IfErr result (λ error. MayRefuse asked error.kind)
   -- by SegmentTaken only while a segment that is large enough is out
@@ -23,7 +23,7 @@ pub record HandsOut {A S : Type 0} (out : A → List Out → Type 0) (keeps : A 
   pub refused : OnErr result ((list : List Out) → out old list → out new list)
   pub same : keeps old new
 
--- A segment of such a length is taken back, of which so many words were used.
+-- A segment of such a length is taken back, of which a given number of words were used.
 pub record TakesBack {A : Type 0} (out : A → List Out → Type 0) (keeps : A → A → Type 0) (returns : A → Out → ℕ → A → Type 0)
     (segment : Out) (words : ℕ) (old new : A) : Type 0 where
   pub takes_off : TakesOff (out old) (out new) segment

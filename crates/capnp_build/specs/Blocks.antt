@@ -5,7 +5,7 @@ use Rattle.capnp_frame.specs.declared.error.ErrorKind.TheVariants.{SegmentTaken}
 use Rattle.capnp_wire.specs.Tree.{Form, Trees, none}
 use Rattle.capnp_wire.specs.Reached.{Root}
 use Rattle.capnp_build.specs.declared.allocator.Allocator.{Ghosts}
-use Rattle.capnp_build.specs.declared.arena.spot.Spot.{Spot}
+use Rattle.capnp_build.specs.declared.arena.location.RootLocation.{RootLocation}
 use Rattle.capnp_build.specs.Bytes.{Space}
 use Rattle.capnp_build.specs.Out.{Out, HasLarge, MayRefuse}
 use Rattle.capnp_build.specs.Held.{Held, space_at, pairs, KeepsOthers}
@@ -14,9 +14,9 @@ use Rattle.capnp_build.specs.Placed.{IsAtEnd, IsPlaced, HasNoRoom, IsZeroAt, Kee
 
 -- a new object stands at the root
 abbrev pub IsNew : Form → List Space → Type 0
-IsNew form spaces = (charge : ℕ) × Root (message spaces) form none charge
+IsNew form spaces = (traversed : ℕ) × Root (message spaces) form none traversed
 
--- A block of so many words is placed at the null root, which is then such a root, or nothing changes.
+-- A block of a given number of words is placed at the null root, which is then such a root, or nothing changes.
 pub record PutsBlock {A S : Type 0} (alloc : Ghosts A S) (stands : List Space → Type 0) (words : ℕ) (old new : Built A)
     (result : Result (Unit {0}) Error) : Type 0 where
   pub set : OnOk result (stands new.spaces)
@@ -24,7 +24,7 @@ pub record PutsBlock {A S : Type 0} (alloc : Ghosts A S) (stands : List Space �
   pub there : OnOk result (0 < length new.spaces)
   pub bytes : OnOk result (KeepsBytes old.spaces new.spaces)
   pub sizes : OnOk result ((i : ℕ) → i < length old.spaces → (space_at new.spaces i).size ≡ (space_at old.spaces i).size)
-  pub refused : OnErr result (new.spot ≡ None)
+  pub refused : OnErr result (new.location ≡ None)
   pub kept : OnErr result (new.spaces ≡ old.spaces)
   pub kind : IfErr result (λ error. HasNoRoom old.spaces words × MayRefuse (words + 1) error.kind)
   pub taken : IfErr result (λ error. error.kind ≡ SegmentTaken → (others : List Out) → alloc.out old.allocator (pairs old.spaces others)
@@ -33,32 +33,32 @@ pub record PutsBlock {A S : Type 0} (alloc : Ghosts A S) (stands : List Space �
   -- what else the allocator has out stays out
   pub others : KeepsOthers alloc.out (held_of old) (held_of new)
 
--- A value's block is placed in a segment that has room for it, after so many words of a landing pad.
-pub record PlacesBlock {A S : Type 0} (alloc : Ghosts A S) (has_tree : Trees → Type 0) (canonical : Bool) (segment pad words : ℕ)
+-- A value's block is placed in a segment that has room for it, after a given number of words of a landing pad.
+pub record PlacesBlock {A S : Type 0} (alloc : Ghosts A S) (has_tree : Trees → Type 0) (canonical : Bool) (segment landing_pad words : ℕ)
     (old new : Built A) : Type 0 where
   pub set : IsSet has_tree canonical new.spaces
   pub count : length new.spaces ≡ length old.spaces
-  pub spot : IsAtEnd old.spaces new.spot segment pad words
-  pub size : size_in_words new.spaces ≡ size_in_words old.spaces + words + pad
+  pub location : IsAtEnd old.spaces new.location segment landing_pad words
+  pub size : size_in_words new.spaces ≡ size_in_words old.spaces + words + landing_pad
   pub bytes : KeepsBytes old.spaces new.spaces
   pub sizes : (i : ℕ) → (space_at new.spaces i).size ≡ (space_at old.spaces i).size
   pub same : new.allocator ≡ old.allocator
   -- what else the allocator has out stays out
   pub others : KeepsOthers alloc.out (held_of old) (held_of new)
 
--- The root's word leads to the body that stands at a spot; no segment becomes longer.
-pub record PointsRoot {A : Type 0} (spot : Spot) (old new : Held A) : Type 0 where
-  pub stands : (form : Form) (held : Trees) → HasBody old.spaces spot form held → IsLaid new.spaces spot form held
+-- The root's word leads to the body that stands at a location; no segment becomes longer.
+pub record PointsRoot {A : Type 0} (location : RootLocation) (old new : Held A) : Type 0 where
+  pub stands : (form : Form) (held : Trees) → HasBody old.spaces location form held → IsLaid new.spaces location form held
   pub rewritten : IsRewritten old new
-  -- the used bytes before the body and its pad stay, but for the root's word
-  pub bytes : (i from n : ℕ) → (i ≡ 0 → 8 ≤ from) → (0 < i → i ≡ spot.segment → from + n + 8 ≤ 8 * spot.start) → from + n ≤ length (space_at old.spaces i).used
+  -- the used bytes before the body and its landing pad stay, but for the root's word
+  pub bytes : (i from n : ℕ) → (i ≡ 0 → 8 ≤ from) → (0 < i → i ≡ location.segment → from + n + 8 ≤ 8 * location.start) → from + n ≤ length (space_at old.spaces i).used
       → take n (drop from (space_at new.spaces i).used) ≡ take n (drop from (space_at old.spaces i).used)
 
 -- The root's word and the block that it leads to become zero; no segment becomes longer.
-pub record WipesRoot {A S : Type 0} (alloc : Ghosts A S) (spot : Option Spot) (old new : Held A) : Type 0 where
+pub record WipesRoot {A S : Type 0} (alloc : Ghosts A S) (location : Option RootLocation) (old new : Held A) : Type 0 where
   pub null_word : HasNullRoot new.spaces
-  pub zero : MatchOption spot ⊤ (IsZeroAt new.spaces)
-  pub behind : MatchOption spot ⊤ (λ place. 0 < place.start)
+  pub zero : MatchOption location ⊤ (IsZeroAt new.spaces)
+  pub following : MatchOption location ⊤ (λ place. 0 < place.start)
   pub count : length new.spaces ≡ length old.spaces
   pub size : size_in_words new.spaces ≡ max 1 (size_in_words old.spaces)
   pub rooms : KeepsRooms old.spaces new.spaces
@@ -68,7 +68,7 @@ pub record WipesRoot {A S : Type 0} (alloc : Ghosts A S) (spot : Option Spot) (o
 
 -- A step leaves the root null.
 pub record LeavesNull {A S : Type 0} (alloc : Ghosts A S) (old new : Built A) : Type 0 where
-  pub null : new.spot ≡ None
+  pub null : new.location ≡ None
   pub same : alloc.same old.allocator new.allocator
   -- what else the allocator has out stays out
   pub others : KeepsOthers alloc.out (held_of old) (held_of new)

@@ -6,10 +6,10 @@ use Rattle.capnp_build.specs.declared.object.Body.{Body}
 use Rattle.capnp_build.specs.declared.object.Body.TheVariants.{Bytes, Words, Struct}
 
 -- the words of an object
-abbrev pub words_in : Body → ℕ
-words_in (Bytes n) = words_for n 8
-words_in (Words n) = n
-words_in (Struct d) = d
+abbrev pub words_of_body : Body → ℕ
+words_of_body (Bytes n) = words_for n 8
+words_of_body (Words n) = n
+words_of_body (Struct d) = d
 
 -- each number has room in its field
 abbrev pub Fits : Body → Type 0
@@ -17,13 +17,13 @@ Fits (Bytes n) = n < 2 ^ 29
 Fits (Words n) = n < 2 ^ 29
 Fits (Struct d) = d < 2 ^ 16
 
--- the pointer to an object that begins so many words behind it
-abbrev pub tag_of : ℕ → Body → ℕ
-tag_of offset (Bytes n) = 1 + 4 * offset + 2 * 2 ^ 32 + n * 2 ^ 35
-tag_of offset (Words n) = 1 + 4 * offset + 5 * 2 ^ 32 + n * 2 ^ 35
+-- the pointer to an object that begins a given number of words after it
+abbrev pub body_tag : ℕ → Body → ℕ
+body_tag offset (Bytes n) = 1 + 4 * offset + 2 * 2 ^ 32 + n * 2 ^ 35
+body_tag offset (Words n) = 1 + 4 * offset + 5 * 2 ^ 32 + n * 2 ^ 35
 -- of a struct of no words it leads to itself, since a word of zeros is null
-tag_of offset (Struct zero) = 4 * (2 ^ 30 - 1)
-tag_of offset (Struct (suc n)) = 4 * offset + suc n * 2 ^ 32
+body_tag offset (Struct zero) = 4 * (2 ^ 30 - 1)
+body_tag offset (Struct (suc n)) = 4 * offset + suc n * 2 ^ 32
 
 -- a new object
 abbrev pub zero_form : Body → Form
@@ -40,6 +40,6 @@ OptionFits None = ⊤
 OptionFits (Some body) = Fits body
 
 -- in canonical form a new struct has no data words
-abbrev pub formed_body : Bool → Body → Body
-formed_body true (Struct d) = Struct 0
-formed_body canonical body = body
+abbrev pub formed_new_object : Bool → Body → Body
+formed_new_object true (Struct d) = Struct 0
+formed_new_object canonical body = body

@@ -10,9 +10,9 @@ use Rattle.capnp_wire.specs.declared.layout.place.Place.{Place}
 use Rattle.capnp_build.specs.Bytes.{Space}
 use Rattle.capnp_build.specs.Out.{Out}
 use Rattle.capnp_build.specs.Held.{Held, pairs as pairs_of, used_of, space_at}
-use Rattle.capnp_build.specs.declared.arena.spot.Spot.{Spot}
-use Rattle.capnp_build.specs.declared.shown.Shown.{Shown}
-use Rattle.capnp_build.specs.declared.shown.Shown.TheVariants.{Null, Bytes, Words, Struct, Other}
+use Rattle.capnp_build.specs.declared.arena.location.RootLocation.{RootLocation}
+use Rattle.capnp_build.specs.declared.root_kind.RootKind.{RootKind}
+use Rattle.capnp_build.specs.declared.root_kind.RootKind.TheVariants.{Null, Bytes, Words, Struct, Other}
 
 -- the message that the segments show, by their used words
 abbrev pub message : List Space → List (List ℕ)
@@ -30,7 +30,7 @@ HasNullRoot spaces = (spaces ≡ []) ⊎ (word_at (message spaces) root ≡ Some
 -- the segments in order, where the root's tree stands, and the allocator as it is
 pub record Built (A : Type 0) : Type 0 where
   pub spaces : List Space
-  pub spot : Option Spot
+  pub location : Option RootLocation
   pub allocator : A
 
 -- its segments, and the allocator that they come from
@@ -39,54 +39,54 @@ held_of built = record { spaces = built.spaces; allocator = built.allocator }
 
 -- what holds of the form of the root's tree
 abbrev pub ForRoot : List Space → (Form → Type 0) → Type 0
-ForRoot spaces fact = (form : Form) (held : Trees) (charge : ℕ) → Root (message spaces) form held charge → fact form
+ForRoot spaces fact = (form : Form) (held : Trees) (traversed : ℕ) → Root (message spaces) form held traversed → fact form
 
 -- the root's object is the one that is shown, unless nothing or another one is
-abbrev pub IsShown : Shown → List Space → Type 0
-IsShown Null spaces = ⊤
-IsShown (Bytes n) spaces = (values : List ℕ) × (charge : ℕ) × Root (message spaces) (numbers 2 values) none charge × (length values ≡ n)
-IsShown (Words n) spaces = (values : List ℕ) × (charge : ℕ) × Root (message spaces) (numbers 5 values) none charge × (length values ≡ n)
-IsShown (Struct n) spaces = (words : List ℕ) × (held : Trees) × (charge : ℕ) × Root (message spaces) (struct words) held charge × (length words ≡ n)
-IsShown Other spaces = (form : Form) × (held : Trees) × (charge : ℕ) × Root (message spaces) form held charge
+abbrev pub IsRootKind : RootKind → List Space → Type 0
+IsRootKind Null spaces = ⊤
+IsRootKind (Bytes n) spaces = (values : List ℕ) × (traversed : ℕ) × Root (message spaces) (numbers 2 values) none traversed × (length values ≡ n)
+IsRootKind (Words n) spaces = (values : List ℕ) × (traversed : ℕ) × Root (message spaces) (numbers 5 values) none traversed × (length values ≡ n)
+IsRootKind (Struct n) spaces = (words : List ℕ) × (held : Trees) × (traversed : ℕ) × Root (message spaces) (struct words) held traversed × (length words ≡ n)
+IsRootKind Other spaces = (form : Form) × (held : Trees) × (traversed : ℕ) × Root (message spaces) form held traversed
 
--- the root's own word, to a body in the first segment, or behind its pad in another one
+-- the root's own word, to a body in the first segment, or after its landing pad in another one
 abbrev pub root_word : ℕ → ℕ → Form → Trees → ℕ
 root_word zero start form held = pointer form (count held) (start - 1)
 root_word (suc k) start form held = far_pointer (suc k) (start - 1)
 
-abbrev pub pad_of : Spot → Place
-pad_of spot = record { segment = spot.segment; word = spot.start - 1 }
+abbrev pub landing_pad_of : RootLocation → Place
+landing_pad_of location = record { segment = location.segment; word = location.start - 1 }
 
 -- a tree's body stands there
-pub record HasBody (spaces : List Space) (spot : Spot) (form : Form) (held : Trees) : Type 0 where
-  pub within : spot.segment < length spaces
-  pub room : 8 * (spot.start + spot.words) ≤ length (space_at spaces spot.segment).used
-  pub behind : 0 < spot.start
-  pub near : spot.start ≤ 2 ^ 29
+pub record HasBody (spaces : List Space) (location : RootLocation) (form : Form) (held : Trees) : Type 0 where
+  pub within : location.segment < length spaces
+  pub room : 8 * (location.start + location.words) ≤ length (space_at spaces location.segment).used
+  pub following : 0 < location.start
+  pub near : location.start ≤ 2 ^ 29
   pub rooms : AllHaveRoom (tree form held none)
-  pub size : spot.words ≡ total_words (tree form held none)
-  pub few : spot.words < 2 ^ 29
-  pub tag : spot.tag ≡ pointer form (count held) 0
-  pub laid : Laid (words_of (space_at spaces spot.segment).used) spot.start (tree form held none)
+  pub size : location.words ≡ total_words (tree form held none)
+  pub few : location.words < 2 ^ 29
+  pub tag : location.tag ≡ pointer form (count held) 0
+  pub laid : Laid (words_of (space_at spaces location.segment).used) location.start (tree form held none)
 
 -- some tree's body stands there
-abbrev pub HasSomeBody : List Space → Spot → Type 0
-HasSomeBody spaces spot = (form : Form) × (held : Trees) × HasBody spaces spot form held
+abbrev pub HasSomeBody : List Space → RootLocation → Type 0
+HasSomeBody spaces location = (form : Form) × (held : Trees) × HasBody spaces location form held
 
 -- the body of a value's tree stands there
-pub record HasValue (has_tree : Trees → Type 0) (canonical : Bool) (spaces : List Space) (spot : Spot) : Type 0 where
+pub record HasValue (has_tree : Trees → Type 0) (canonical : Bool) (spaces : List Space) (location : RootLocation) : Type 0 where
   pub trees : Trees
   pub tree_is : has_tree trees
   pub form : Form
   pub held : Trees
   pub same : formed canonical trees ≡ tree form held none
-  pub body_is : HasBody spaces spot form held
+  pub body_is : HasBody spaces location form held
 
 -- a tree's body stands there, and the root leads to it
-pub record IsLaid (spaces : List Space) (spot : Spot) (form : Form) (held : Trees) : Type 0 where
-  pub body_is : HasBody spaces spot form held
-  pub root_is : word_at (message spaces) root ≡ Some (root_word spot.segment spot.start form held)
-  pub pad_is : 0 < spot.segment → (0 < spot.words) × (word_at (message spaces) (pad_of spot) ≡ Some spot.tag)
+pub record IsLaid (spaces : List Space) (location : RootLocation) (form : Form) (held : Trees) : Type 0 where
+  pub body_is : HasBody spaces location form held
+  pub root_is : word_at (message spaces) root ≡ Some (root_word location.segment location.start form held)
+  pub landing_pad_is : 0 < location.segment → (0 < location.words) × (word_at (message spaces) (landing_pad_of location) ≡ Some location.tag)
 
 -- the used bytes of these segments stay, but for the root's word
 abbrev pub KeepsBytes : List Space → List Space → Type 0
@@ -102,7 +102,7 @@ pub record IsRewritten {A : Type 0} (old new : Held A) : Type 0 where
   pub allocator : new.allocator ≡ old.allocator
   pub pairs : (others : List Out) → pairs_of new.spaces others ≡ pairs_of old.spaces others
 
--- the same segments, of which one has so many used words more
+-- the same segments, of which one has a given number of used words more
 pub record IsLonger {A : Type 0} (old new : Held A) (segment words : ℕ) : Type 0 where
   pub count : length new.spaces ≡ length old.spaces
   pub size : size_in_words new.spaces ≡ size_in_words old.spaces + words
@@ -115,16 +115,16 @@ pub record IsLonger {A : Type 0} (old new : Held A) (segment words : ℕ) : Type
   pub pairs : (others : List Out) → pairs_of new.spaces others ≡ pairs_of old.spaces others
 
 -- the root is null, also where there is no segment yet, or a tree stands there
-abbrev pub IsBuilt : List Space → Option Spot → Type 0
+abbrev pub IsBuilt : List Space → Option RootLocation → Type 0
 IsBuilt spaces None = HasNullRoot spaces
-IsBuilt spaces (Some spot) = (form : Form) × (held : Trees) × IsLaid spaces spot form held
+IsBuilt spaces (Some location) = (form : Form) × (held : Trees) × IsLaid spaces location form held
 
 -- the root is a value's tree
 pub record IsSet (has_tree : Trees → Type 0) (canonical : Bool) (spaces : List Space) : Type 0 where
   pub trees : Trees
   pub tree_is : has_tree trees
-  pub charge : ℕ
-  pub stands : At (message spaces) (root ∷ []) (formed canonical trees) charge
+  pub traversed : ℕ
+  pub stands : At (message spaces) (root ∷ []) (formed canonical trees) traversed
 
 -- the one segment is a value's layout and nothing else: in canonical form, its canonical form
 pub record IsWhole (has_tree : Trees → Type 0) (canonical : Bool) (spaces : List Space) : Type 0 where

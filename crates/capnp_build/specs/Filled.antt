@@ -6,7 +6,7 @@ use Rattle.capnp_wire.specs.Layout.{layout, formed}
 use Rattle.capnp_wire.specs.Values.{pointed}
 use Rattle.capnp_build.specs.Bytes.{Space, written}
 
--- a pointer and the block behind it are the value's tree
+-- a pointer and the block after it are the value's tree
 abbrev pub IsBlockOf : (Trees → Type 0) → Bool → Word → List ℕ → Type 0
 IsBlockOf has_tree canonical word block = (trees : Trees) → has_tree trees → pointed word block ≡ layout (formed canonical trees)
 
@@ -19,9 +19,9 @@ pub record IsFilled (has_tree : Trees → Type 0) (canonical : Bool) (word : Wor
 
 -- with more bytes used
 abbrev pub with_more : Space → List ℕ → Space
-with_more space block = record { used = space.used ++ block; size = space.size; is_lent = space.is_lent }
+with_more space block = record { used = space.used ++ block; size = space.size; is_provided = space.is_provided }
 
--- so many words more are used, which are the block of a value
+-- a given number of words more are used, which are the block of a value
 pub record IsAppended (has_tree : Trees → Type 0) (canonical : Bool) (word : Word) (words : ℕ) (old new : Space) : Type 0 where
   pub block : List ℕ
   pub len : length block ≡ 8 * words

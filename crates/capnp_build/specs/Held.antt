@@ -20,7 +20,7 @@ used_of space = space.used
 
 -- what a segment is to the allocator
 abbrev pub pair : Space → Out
-pair space = record { length = space.size; is_lent = space.is_lent }
+pair space = record { length = space.size; is_provided = space.is_provided }
 
 -- the pairs of segments, the last one first, before others
 abbrev pub pairs : List Space → List Out → List Out
@@ -45,19 +45,19 @@ ReturnsEach returns [] old new = new ≡ old
 ReturnsEach {A = A} returns (space ∷ spaces) old new = (between : A) × ReturnsEach returns spaces old between × returns between (pair space) (length space.used / 8) new
 
 abbrev pub no_space : Space
-no_space = record { used = []; size = 0; is_lent = false }
+no_space = record { used = []; size = 0; is_provided = false }
 
 abbrev pub space_at : List Space → ℕ → Space
 space_at spaces index = slice_index_or spaces index no_space
 
 -- the words that are free, as far as they may be used
-abbrev pub room_of : Space → ℕ
-room_of space = min (space.size / 8) (2 ^ 29) - length space.used / 8
+abbrev pub free_words_of : Space → ℕ
+free_words_of space = min (space.size / 8) (2 ^ 29) - length space.used / 8
 
 abbrev pub with_space : {A : Type 0} → Held A → ℕ → Space → Held A
 with_space held index space = record { spaces = slice_set held.spaces index space; allocator = held.allocator }
 
--- the block of a value behind the used words of a segment
+-- the block of a value after the used words of a segment
 pub record IsAppendedAt {A : Type 0} (has_tree : Trees → Type 0) (canonical : Bool) (word : Word) (words index : ℕ) (old new : Held A) : Type 0 where
   pub block : List ℕ
   pub len : length block ≡ 8 * words

@@ -4,7 +4,7 @@ pub mod Allocating
 pub mod Filled
 pub mod Held
 pub mod Body
-pub mod Shown
+pub mod RootKind
 pub mod Built
 pub mod Placed
 pub mod Written

@@ -13,21 +13,21 @@ use Rattle.capnp_build.specs.declared.allocator.Allocator as allocator
 use Rattle.capnp_build.specs.declared.owned_builder.OwnedBuilder as owned_builder
 use Rattle.capnp_build.specs.Bytes.{Space}
 use Rattle.capnp_build.specs.Out.{MayRefuse}
-use Rattle.capnp_build.specs.Held.{space_at, room_of, Held, KeepsOthers, BringsHome, ReturnsEach}
+use Rattle.capnp_build.specs.Held.{space_at, free_words_of, Held, KeepsOthers, BringsHome, ReturnsEach}
 use Rattle.capnp_build.specs.Built.{Built, held_of, message, size_in_words, HasNullRoot, ForRoot, IsSet, IsWhole}
 use Rattle.capnp_build.specs.Placed.{DeclinesRoot, IsPut, IsInit}
-use Rattle.capnp_build.specs.Placed.{InitWords, IsCrowded, IsCleared, IsZeroAt, KeepsRooms, HasRootAlone, IsLookedAt}
+use Rattle.capnp_build.specs.Placed.{InitWords, FindsNoRoom, IsCleared, IsZeroAt, KeepsRooms, HasRootAlone, IsLookedAt}
 
 -- there is no segment yet, and the allocator fails to hand out the first one
 abbrev pub LacksFirst : List Space → ErrorKind → Type 0
 LacksFirst spaces kind = (length spaces ≡ 0) × MayRefuse 1 kind
 
--- the first segment has room for a block of so many words, or has to be granted with that room
+-- the first segment has room for a block of a given number of words, or has to be granted with that room
 abbrev pub HasRoomFirst : {A S : Type 0} → allocator.Ghosts A S → Built A → ℕ → Type 0
-HasRoomFirst alloc old words = ((0 < length old.spaces) × (words ≤ room_of (space_at old.spaces 0)))
+HasRoomFirst alloc old words = ((0 < length old.spaces) × (words ≤ free_words_of (space_at old.spaces 0)))
     ⊎ ((old.spaces ≡ []) × ((most : ℕ) × alloc.grants old.allocator 1 most × (words < most)))
 
--- as the first action, over an allocator that has nothing out, a call is not refused by SegmentTaken, but where `refuses` says so
+-- as the first action, over an allocator that has nothing out, a call does not fail with SegmentTaken, but where `refuses` says so
 abbrev pub NotTakenAtHome : {A S : Type 0} → allocator.Ghosts A S → (ErrorKind → Type 0) → Built A → Result (Unit {0}) Error → Type 0
 NotTakenAtHome alloc refuses old result = old.spaces ≡ [] → alloc.out old.allocator [] → IfErr result (λ error. error.kind ≡ SegmentTaken → refuses error.kind)
 
@@ -39,7 +39,7 @@ RefusesCanonical has_tree refuses spaces kind =
     -- `measure` fails
     ⊎ ((length spaces ≡ 1) × LacksWords has_tree refuses true kind)
     -- the segment has no room
-    ⊎ ((length spaces ≡ 1) × (kind ≡ NotOneSegment) × ((words : ℕ) × HasWords has_tree true words × (room_of (space_at spaces 0) < words)))
+    ⊎ ((length spaces ≡ 1) × (kind ≡ NotOneSegment) × ((words : ℕ) × HasWords has_tree true words × (free_words_of (space_at spaces 0) < words)))
 
 -- What setting the root to a value keeps: to a value that is such a tree, and of which `measure` fails so.
 pub record SetsRoot {A S : Type 0} (alloc : allocator.Ghosts A S) (has_tree : Trees → Type 0) (refuses : ErrorKind → Type 0)
@@ -53,10 +53,10 @@ pub record SetsRoot {A S : Type 0} (alloc : allocator.Ghosts A S) (has_tree : Tr
   pub nulled : OnErr result (IsCleared alloc old new)
   -- it fails as `measure` does, as the allocator fails to hand out the first segment, or where no segment has room
   pub kind : IfErr result (λ error. LacksWords has_tree refuses false error.kind ⊎ LacksFirst old.spaces error.kind
-      ⊎ IsCrowded (HasWords has_tree false) new.spaces error.kind)
+      ⊎ FindsNoRoom (HasWords has_tree false) new.spaces error.kind)
   -- the first segment is asked for before the value is measured
   pub none : new.spaces ≡ [] → IfErr result (λ error. LacksFirst old.spaces error.kind)
-  -- what `measure` fails with is answered
+  -- what `measure` fails with is returned
   pub exact : (kind : ErrorKind) → LacksWords has_tree refuses false kind → IsErrAnd result (λ error. (error.kind ≡ kind) ⊎ LacksFirst old.spaces error.kind)
   -- a value is set where the first segment has room
   pub fits : (words : ℕ) → HasWords has_tree false words → HasRoomFirst alloc old words → IsOk result
@@ -79,9 +79,9 @@ pub record SetsRootCanonical {A S : Type 0} (alloc : allocator.Ghosts A S) (has_
   pub nulled : OnErr result (IsCleared alloc old new)
   -- it fails as the allocator fails to hand out the first segment; once that is there, by the first line that holds
   pub kind : IfErr result (λ error. ((new.spaces ≡ []) × LacksFirst old.spaces error.kind) ⊎ RefusesCanonical has_tree refuses new.spaces error.kind)
-  -- where there was a segment, the first line that holds is answered
+  -- where there was a segment, the first line that holds is returned
   pub exact : (kind : ErrorKind) → RefusesCanonical has_tree refuses old.spaces kind → IsErrAnd result (λ error. error.kind ≡ kind)
-  -- what `measure` fails with is answered, once the first segment is there
+  -- what `measure` fails with is returned, once the first segment is there
   pub lacks : old.spaces ≡ [] → (kind : ErrorKind) → LacksWords has_tree refuses true kind → IsErrAnd result (λ error. (error.kind ≡ kind) ⊎ LacksFirst old.spaces error.kind)
   -- a value is set where the one segment has room
   pub fits : length old.spaces ≤ 1 → (words : ℕ) → HasWords has_tree true words → HasRoomFirst alloc old words → IsOk result
@@ -94,7 +94,7 @@ pub record SetsRootCanonical {A S : Type 0} (alloc : allocator.Ghosts A S) (has_
 -- trait OwnedBuilder).
 pub record InitsRoot {A S K : Type 0} (alloc : allocator.Ghosts A S) (schema : owned_builder.Ghosts K) (n : ℕ) (old new : Built A)
     (result : Result (Unit {0}) Error) : Type 0 where
-  pub inits : OnOk result ((form : Form) × (charge : ℕ) × schema.inits n form × Root (message new.spaces) form none charge)
+  pub inits : OnOk result ((form : Form) × (traversed : ℕ) × schema.inits n form × Root (message new.spaces) form none traversed)
   -- there is a segment, so the message can be written
   pub there : OnOk result (0 < length new.spaces)
   -- which words it takes, once the old root is cleared
@@ -104,7 +104,7 @@ pub record InitsRoot {A S K : Type 0} (alloc : allocator.Ghosts A S) (schema : o
   -- it fails as the type has no such object, as the allocator fails to hand out the first segment, or where no segment
   -- has room
   pub kind : IfErr result (λ error. schema.refuses n error.kind ⊎ LacksFirst old.spaces error.kind
-      ⊎ IsCrowded (InitWords schema.inits n) new.spaces error.kind)
+      ⊎ FindsNoRoom (InitWords schema.inits n) new.spaces error.kind)
   -- the first segment is asked for before the type is
   pub none : new.spaces ≡ [] → IfErr result (λ error. LacksFirst old.spaces error.kind)
   pub home : NotTakenAtHome alloc (schema.refuses n) old result
@@ -114,10 +114,10 @@ pub record InitsRoot {A S K : Type 0} (alloc : allocator.Ghosts A S) (schema : o
 
 -- What making the root null, and the old body zero, keeps.
 pub record ClearsRoot {A S : Type 0} (alloc : allocator.Ghosts A S) (old new : Built A) (result : Result (Unit {0}) Error) : Type 0 where
-  pub null : new.spot ≡ None
+  pub null : new.location ≡ None
   pub null_word : HasNullRoot new.spaces
-  pub zero : MatchOption old.spot ⊤ (IsZeroAt new.spaces)
-  pub behind : MatchOption old.spot ⊤ (λ spot. 0 < spot.start)
+  pub zero : MatchOption old.location ⊤ (IsZeroAt new.spaces)
+  pub following : MatchOption old.location ⊤ (λ location. 0 < location.start)
   pub there : OnOk result (0 < length new.spaces)
   pub none : OnErr result (new.spaces ≡ [])
   -- it fails as the allocator fails to hand out the first segment
@@ -128,8 +128,8 @@ pub record ClearsRoot {A S : Type 0} (alloc : allocator.Ghosts A S) (old new : B
   pub size : OnOk result (size_in_words new.spaces ≡ max 1 (size_in_words old.spaces))
   -- no room is lost
   pub rooms : KeepsRooms old.spaces new.spaces
-  pub fresh : old.spaces ≡ [] → OnOk result (HasRootAlone new.spaces)
-  -- where it has to be granted, the first segment is, with so many words
+  pub new_object : old.spaces ≡ [] → OnOk result (HasRootAlone new.spaces)
+  -- where it has to be granted, the first segment is, with a given number of words
   pub granted : old.spaces ≡ [] → (most : ℕ) → alloc.grants old.allocator 1 most → IsOk result × ((space_at new.spaces 0).size / 8 ≡ most)
   pub home : NotTakenAtHome alloc (λ kind. ⊥) old result
 
@@ -159,7 +159,7 @@ pub record LooksAtRoot {A S K : Type 0} (alloc : allocator.Ghosts A S) (schema :
 -- A message of no segments, whose root is null, and of whose allocator a fact holds.
 pub record IsNewMessage {A : Type 0} (fact : A → Type 0) (built : Built A) : Type 0 where
   pub spaces : built.spaces ≡ []
-  pub spot : built.spot ≡ None
+  pub location : built.location ≡ None
   pub allocator : fact built.allocator
 
 -- What the allocator that comes back keeps: each segment has gone back to it with its used words.

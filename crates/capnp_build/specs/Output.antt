@@ -12,7 +12,7 @@ UsesWords space = (length space.used % 8 ≡ 0) × (length space.used ≤ 8 * 2 
 abbrev pub CanBeWritten : List Space → Type 0
 CanBeWritten spaces = 0 < length spaces → IsWritable (map used_of spaces)
 
--- so many words are used
-pub record CountsWords (count : ℕ) (used : List ℕ) : Type 0 where
+-- a given number of words are used
+pub record CountsUsedWords (count : ℕ) (used : List ℕ) : Type 0 where
   pub words : 8 * count ≡ length used
   pub bound : count ≤ 2 ^ 29

@@ -6,19 +6,19 @@ use Rattle.capnp_wire.specs.Tree.{Form, null, none, tree}
 use Rattle.capnp_wire.specs.Values.{HasWords}
 use Rattle.capnp_build.specs.Bytes.{Space}
 use Rattle.capnp_build.specs.Out.{MayRefuse}
-use Rattle.capnp_build.specs.Held.{space_at, room_of, KeepsOthers}
+use Rattle.capnp_build.specs.Held.{space_at, free_words_of, KeepsOthers}
 use Rattle.capnp_build.specs.declared.allocator.Allocator.{Ghosts}
-use Rattle.capnp_build.specs.declared.arena.spot.Spot.{Spot}
+use Rattle.capnp_build.specs.declared.arena.location.RootLocation.{RootLocation}
 use Rattle.capnp_build.specs.Built.{size_in_words, HasNullRoot, Built, held_of, ForRoot}
 
--- no segment has room for a block of so many words, nor one behind the first for it and its pad
+-- no segment has room for a block of a given number of words, nor one after the first for it and its landing pad
 pub record HasNoRoom (spaces : List Space) (words : ℕ) : Type 0 where
-  pub first : room_of (space_at spaces 0) < words
-  pub others : (i : ℕ) → 0 < i → i < length spaces → room_of (space_at spaces i) < words + 1
+  pub first : free_words_of (space_at spaces 0) < words
+  pub others : (i : ℕ) → 0 < i → i < length spaces → free_words_of (space_at spaces i) < words + 1
 
--- want of room: the value has so many words, and no segment has room for them
-abbrev pub IsCrowded : (ℕ → Type 0) → List Space → ErrorKind → Type 0
-IsCrowded measured spaces kind = (words : ℕ) × measured words × HasNoRoom spaces words × MayRefuse (words + 1) kind
+-- want of room: the value has a given number of words, and no segment has room for them
+abbrev pub FindsNoRoom : (ℕ → Type 0) → List Space → ErrorKind → Type 0
+FindsNoRoom measured spaces kind = (words : ℕ) × measured words × HasNoRoom spaces words × MayRefuse (words + 1) kind
 
 -- the words of a new object, and of one that an init gives
 abbrev pub NewWords : Form → ℕ → Type 0
@@ -31,30 +31,30 @@ InitWords inits n words = (form : Form) × inits n form × NewWords form words
 abbrev pub IsAdded : List Space → List Space → Type 0
 IsAdded old new = (space : Space) × (new ≡ old ++ space ∷ []) × (space.used ≡ [])
 
--- a block of so many words stands behind the used words of a segment and a pad of so many
-pub record IsAtEnd (old : List Space) (spot : Option Spot) (segment pad words : ℕ) : Type 0 where
-  pub place : Spot
-  pub place_is : spot ≡ Some place
+-- a block of a given number of words stands after the used words of a segment and a landing pad of as many
+pub record IsAtEnd (old : List Space) (location : Option RootLocation) (segment landing_pad words : ℕ) : Type 0 where
+  pub place : RootLocation
+  pub place_is : location ≡ Some place
   pub segment_is : place.segment ≡ segment
   pub words_are : place.words ≡ words
-  pub start_is : 8 * place.start ≡ length (space_at old segment).used + 8 * pad
+  pub start_is : 8 * place.start ≡ length (space_at old segment).used + 8 * landing_pad
 
--- a block of so many words stands in the first segment where that has room, else behind a pad in the first one
+-- a block of a given number of words stands in the first segment where that has room, else after a landing pad in the first one
 -- with room for both, else in a new one; no other words are taken
 pub record IsPlaced {A : Type 0} (old : List Space) (new : Built A) (words : ℕ) : Type 0 where
-  pub near : words ≤ room_of (space_at old 0) → IsAtEnd old new.spot 0 0 words × (length new.spaces ≡ length old)
+  pub near : words ≤ free_words_of (space_at old 0) → IsAtEnd old new.location 0 0 words × (length new.spaces ≡ length old)
       × (size_in_words new.spaces ≡ size_in_words old + words)
-  pub far : room_of (space_at old 0) < words → (segment : ℕ) × (0 < segment) × IsAtEnd old new.spot segment 1 words
-      × ((i : ℕ) → 0 < i → i < segment → room_of (space_at old i) < words + 1) × (segment ≤ length old)
+  pub far : free_words_of (space_at old 0) < words → (segment : ℕ) × (0 < segment) × IsAtEnd old new.location segment 1 words
+      × ((i : ℕ) → 0 < i → i < segment → free_words_of (space_at old i) < words + 1) × (segment ≤ length old)
       × (length new.spaces ≡ max (length old) (segment + 1)) × (size_in_words new.spaces ≡ size_in_words old + words + 1)
 
 -- the same segments with as many free words, where there were some
 abbrev pub KeepsRooms : List Space → List Space → Type 0
-KeepsRooms old last = 0 < length old → (length last ≡ length old) × ((i : ℕ) → room_of (space_at last i) ≡ room_of (space_at old i))
+KeepsRooms old last = 0 < length old → (length last ≡ length old) × ((i : ℕ) → free_words_of (space_at last i) ≡ free_words_of (space_at old i))
 
 -- all bytes of a block are zero
-abbrev pub IsZeroAt : List Space → Spot → Type 0
-IsZeroAt spaces spot = take (8 * spot.words) (drop (8 * spot.start) (space_at spaces spot.segment).used) ≡ replicate (8 * spot.words) 0
+abbrev pub IsZeroAt : List Space → RootLocation → Type 0
+IsZeroAt spaces location = take (8 * location.words) (drop (8 * location.start) (space_at spaces location.segment).used) ≡ replicate (8 * location.words) 0
 
 -- one segment, of which the root's word alone is used
 abbrev pub HasRootAlone : List Space → Type 0
@@ -62,21 +62,21 @@ HasRootAlone spaces = (length spaces ≡ 1) × (length (space_at spaces 0).used 
 
 -- after a refusal: a null root, the old block zero, and no words taken but the root's own
 pub record IsCleared {A S : Type 0} (alloc : Ghosts A S) (old last : Built A) : Type 0 where
-  pub null : last.spot ≡ None
+  pub null : last.location ≡ None
   pub null_word : HasNullRoot last.spaces
-  pub zero : MatchOption old.spot ⊤ (IsZeroAt last.spaces)
+  pub zero : MatchOption old.location ⊤ (IsZeroAt last.spaces)
   pub size : size_in_words last.spaces ≤ max 1 (size_in_words old.spaces)
   pub rooms : KeepsRooms old.spaces last.spaces
   -- where there was no segment, there is none yet, or one with the root's word alone
-  pub fresh : old.spaces ≡ [] → (last.spaces ≡ []) ⊎ HasRootAlone last.spaces
+  pub new_object : old.spaces ≡ [] → (last.spaces ≡ []) ⊎ HasRootAlone last.spaces
   pub same_allocator : alloc.same old.allocator last.allocator
   -- what else the allocator has out stays out
   pub others : KeepsOthers alloc.out (held_of old) (held_of last)
 
--- a block of so many words stands in a segment from a word on
-pub record StandsAt (spot : Option Spot) (segment start words : ℕ) : Type 0 where
-  pub place : Spot
-  pub place_is : spot ≡ Some place
+-- a block of a given number of words stands in a segment from a word on
+pub record StandsAt (location : Option RootLocation) (segment start words : ℕ) : Type 0 where
+  pub place : RootLocation
+  pub place_is : location ≡ Some place
   pub segment_is : place.segment ≡ segment
   pub start_is : place.start ≡ start
   pub words_are : place.words ≡ words
@@ -85,13 +85,13 @@ pub record StandsAt (spot : Option Spot) (segment start words : ℕ) : Type 0 wh
 abbrev pub most_words : Space → ℕ
 most_words space = min (space.size / 8) (2 ^ 29)
 
--- a block of so many words as the first one: just behind the root's word where the first segment has room, else behind
--- its pad at the front of a second one; no other words are used
+-- a block of a given number of words as the first one: just after the root's word where the first segment has room, else after
+-- its landing pad at the front of a second one; no other words are used
 pub record IsFirst {A : Type 0} (new : Built A) (words : ℕ) : Type 0 where
-  pub near : words < most_words (space_at new.spaces 0) → StandsAt new.spot 0 1 words × (length new.spaces ≡ 1) × (size_in_words new.spaces ≡ 1 + words)
-  pub far : most_words (space_at new.spaces 0) ≤ words → StandsAt new.spot 1 1 words × (length new.spaces ≡ 2) × (size_in_words new.spaces ≡ 2 + words)
+  pub near : words < most_words (space_at new.spaces 0) → StandsAt new.location 0 1 words × (length new.spaces ≡ 1) × (size_in_words new.spaces ≡ 1 + words)
+  pub far : most_words (space_at new.spaces 0) ≤ words → StandsAt new.location 1 1 words × (length new.spaces ≡ 2) × (size_in_words new.spaces ≡ 2 + words)
 
--- where the first segment has to be granted, it is the granted one, of so many words
+-- where the first segment has to be granted, it is the granted one, of a given number of words
 abbrev pub IsGranted : {A S : Type 0} → Ghosts A S → Built A → List Space → Type 0
 IsGranted alloc old spaces = old.spaces ≡ [] → (most : ℕ) → alloc.grants old.allocator 1 most → (space_at spaces 0).size / 8 ≡ most
 
@@ -105,7 +105,7 @@ pub record IsPut {A S : Type 0} (alloc : Ghosts A S) (measured : ℕ → Type 0)
   pub first : old.spaces ≡ [] → IsFirst new words
   pub granted : IsGranted alloc old new.spaces
   -- the old block stays zero
-  pub zero : MatchOption old.spot ⊤ (IsZeroAt new.spaces)
+  pub zero : MatchOption old.location ⊤ (IsZeroAt new.spaces)
 
 -- a new object of such words is placed once the old root is cleared, or the root is the null that this leaves
 pub record IsInit {A S : Type 0} (alloc : Ghosts A S) (measured : ℕ → Type 0) (old new : Built A) : Type 0 where
@@ -114,13 +114,13 @@ pub record IsInit {A S : Type 0} (alloc : Ghosts A S) (measured : ℕ → Type 0
   pub block : (new ≡ cleared) ⊎ ((words : ℕ) × measured words × IsPlaced cleared.spaces new words × (old.spaces ≡ [] → IsFirst new words))
   pub granted : IsGranted alloc old new.spaces
   -- the old block stays zero
-  pub zero : MatchOption old.spot ⊤ (IsZeroAt new.spaces)
+  pub zero : MatchOption old.location ⊤ (IsZeroAt new.spaces)
 
 -- want of room: once the old root is cleared, no segment has room for a block of such words
-pub record WasCrowded {A S : Type 0} (alloc : Ghosts A S) (measured : ℕ → Type 0) (old : Built A) (kind : ErrorKind) : Type 0 where
+pub record FoundNoRoom {A S : Type 0} (alloc : Ghosts A S) (measured : ℕ → Type 0) (old : Built A) (kind : ErrorKind) : Type 0 where
   pub cleared : Built A
   pub is_cleared : IsCleared alloc old cleared
-  pub crowded : IsCrowded measured cleared.spaces kind
+  pub no_room : FindsNoRoom measured cleared.spaces kind
 
 -- after a look at the root: all is as it was, but that there is a null root where there was no segment
 pub record IsLookedAt {A S : Type 0} (alloc : Ghosts A S) (old last : Built A) : Type 0 where

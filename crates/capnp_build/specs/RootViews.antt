@@ -1,5 +1,5 @@
 -- What the calls keep that return a view of the root's object, or write through one (src/arena/root.rt, src/any_pointer.rt
--- and the views). `message` is the reference that a view holds, and `built` what is seen of the message behind it.
+-- and the views). `message` is the reference that a view holds, and `built` what is seen of the message after it.
 use Rattle.std.specs.Prelude.{◌≡◌, ◌⊎◌, ℕ, ◌^◌, ◌<◌, List, length, map, Result, IfOk, IfErr, IsOk, MatchResult}
 use Rattle.std.specs.Borrow.{MutBor}
 use Rattle.std.specs.Result.{IsErrAnd}
@@ -15,7 +15,7 @@ use Rattle.capnp_build.specs.declared.owned_builder.OwnedBuilder as owned_builde
 use Rattle.capnp_build.specs.Bytes.{Space}
 use Rattle.capnp_build.specs.Held.{used_of, KeepsOthers}
 use Rattle.capnp_build.specs.Built.{Built, held_of, message as words_of_message, ForRoot}
-use Rattle.capnp_build.specs.Placed.{DeclinesRoot, InitWords, IsInit, WasCrowded, IsLookedAt}
+use Rattle.capnp_build.specs.Placed.{DeclinesRoot, InitWords, IsInit, FoundNoRoom, IsLookedAt}
 use Rattle.capnp_build.specs.Written.{IsWritten}
 use Rattle.capnp_build.specs.Outcomes.{LacksFirst}
 
@@ -24,8 +24,8 @@ pub record InitsView {A S K M V : Type 0} (alloc : allocator.Ghosts A S) (schema
     (message : V → MutBor M) (old : MutBor M) (result : Result V Error) : Type 0 where
   -- the view writes the message that was borrowed
   pub same : IfOk result (λ view. (message view).ghost_name ≡ old.ghost_name)
-  pub inits : IfOk result (λ view. (form : Form) × (charge : ℕ) × schema.inits n form
-      × Root (words_of_message (built (message view).now).spaces) form none charge)
+  pub inits : IfOk result (λ view. (form : Form) × (traversed : ℕ) × schema.inits n form
+      × Root (words_of_message (built (message view).now).spaces) form none traversed)
   -- there is a segment, so the message can be written
   pub there : IfOk result (λ view. 0 < length (built (message view).now).spaces)
   -- which words it takes, once the old root is cleared
@@ -33,7 +33,7 @@ pub record InitsView {A S K M V : Type 0} (alloc : allocator.Ghosts A S) (schema
   -- it fails as the type has no such object, as the allocator fails to hand out the first segment, or where no segment
   -- had room once the old root was cleared
   pub kind : IfErr result (λ error. schema.refuses n error.kind ⊎ LacksFirst (built old.now).spaces error.kind
-      ⊎ WasCrowded alloc (InitWords schema.inits n) (built old.now) error.kind)
+      ⊎ FoundNoRoom alloc (InitWords schema.inits n) (built old.now) error.kind)
   pub allocator : IfOk result (λ view. alloc.same (built old.now).allocator (built (message view).now).allocator)
   -- what else the allocator has out stays out
   pub others : IfOk result (λ view. KeepsOthers alloc.out (held_of (built old.now)) (held_of (built (message view).now)))
@@ -65,9 +65,9 @@ pub record WritesView {A M : Type 0} (built : M → Built A) (writes : List Spac
   pub set : writes (built old.now).spaces (built new.now).spaces
   pub written : IsWritten (built old.now) (built new.now)
 
--- What the size of the tree at the root keeps: it is what a reading pointer to it answers.
+-- What the size of the tree at the root keeps: it is what a reading pointer to it returns.
 pub record SizesRoot (spaces : List Space) (result : Result MessageSize Error) : Type 0 where
-  pub answer : let pointer : Pointer = unlimited_root (map used_of spaces) in MatchResult result
+  pub returned : let pointer : Pointer = unlimited_root (map used_of spaces) in MatchResult result
       (λ size. Measures pointer size.word_count × (size.cap_count ≡ 0)) (λ error. Unmeasured pointer error.kind)
   pub measured : (words : ℕ) → Measures (unlimited_root (map used_of spaces)) words → words < 2 ^ 64 → IsOk result
   pub exact : (kind : ErrorKind) → Unmeasured (unlimited_root (map used_of spaces)) kind → IsErrAnd result (λ error. error.kind ≡ kind)

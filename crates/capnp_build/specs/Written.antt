@@ -11,45 +11,45 @@ use Rattle.capnp_build.specs.Built.{Built, message, size_in_words}
 pub record HasField (spaces : List Space) (index : ℕ) : Type 0 where
   pub words : List ℕ
   pub held : Trees
-  pub charge : ℕ
-  pub stands : At (message spaces) (root ∷ []) (tree (struct words) held none) charge
+  pub traversed : ℕ
+  pub stands : At (message spaces) (root ∷ []) (tree (struct words) held none) traversed
   pub within : index < length words
 
 -- one of the root's data words is another one, and all else is as it was
 abbrev pub IsFieldSet : List Space → List Space → ℕ → ℕ → Type 0
 IsFieldSet spaces last index word =
-    (words : List ℕ) (held : Trees) (charge : ℕ) → At (message spaces) (root ∷ []) (tree (struct words) held none) charge
+    (words : List ℕ) (held : Trees) (traversed : ℕ) → At (message spaces) (root ∷ []) (tree (struct words) held none) traversed
     → (after : ℕ) × At (message last) (root ∷ []) (tree (struct (slice_set words index word)) held none) after
 
--- the root is a list of bytes with so many of them from an index on
+-- the root is a list of bytes with a given number of them from an index on
 pub record HasBytes (spaces : List Space) (index n : ℕ) : Type 0 where
   pub values : List ℕ
-  pub charge : ℕ
-  pub stands : At (message spaces) (root ∷ []) (tree (numbers 2 values) none none) charge
+  pub traversed : ℕ
+  pub stands : At (message spaces) (root ∷ []) (tree (numbers 2 values) none none) traversed
   pub within : index + n ≤ length values
 
 -- some of the root's bytes are others, and all else is as it was
 abbrev pub IsBytesSet : List Space → List Space → ℕ → List ℕ → Type 0
 IsBytesSet spaces last index bytes =
-    (values : List ℕ) (charge : ℕ) → At (message spaces) (root ∷ []) (tree (numbers 2 values) none none) charge
+    (values : List ℕ) (traversed : ℕ) → At (message spaces) (root ∷ []) (tree (numbers 2 values) none none) traversed
     → (after : ℕ) × At (message last) (root ∷ []) (tree (numbers 2 (written values index bytes)) none none) after
 
 -- the root is a list of words with such a number
 pub record HasNumber (spaces : List Space) (index : ℕ) : Type 0 where
   pub values : List ℕ
-  pub charge : ℕ
-  pub stands : At (message spaces) (root ∷ []) (tree (numbers 5 values) none none) charge
+  pub traversed : ℕ
+  pub stands : At (message spaces) (root ∷ []) (tree (numbers 5 values) none none) traversed
   pub within : index < length values
 
 -- one of the root's numbers is another one, and all else is as it was
 abbrev pub IsNumberSet : List Space → List Space → ℕ → ℕ → Type 0
 IsNumberSet spaces last index number =
-    (values : List ℕ) (charge : ℕ) → At (message spaces) (root ∷ []) (tree (numbers 5 values) none none) charge
+    (values : List ℕ) (traversed : ℕ) → At (message spaces) (root ∷ []) (tree (numbers 5 values) none none) traversed
     → (after : ℕ) × At (message last) (root ∷ []) (tree (numbers 5 (slice_set values index number)) none none) after
 
 -- what a write through a view keeps
 pub record IsWritten {A : Type 0} (old new : Built A) : Type 0 where
-  pub spot : new.spot ≡ old.spot
+  pub location : new.location ≡ old.location
   pub count : length new.spaces ≡ length old.spaces
   pub size : size_in_words new.spaces ≡ size_in_words old.spaces
   pub allocator : new.allocator ≡ old.allocator

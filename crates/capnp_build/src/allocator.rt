@@ -10,11 +10,12 @@ use capnp_frame::Result;
 
 /// What hands out segments and takes them back.
 ///
-/// For implementers: `out` says which segments may be out, each by its length in bytes and whether it
-/// is lent; `same` what each call keeps, as the region that an allocator lends; `grants` which requests
-/// have to be granted, where an allocator can say that: memory is never sure to be there; `returns` what
-/// a return does, by the segment and its used words. Where nothing depends on these it says nothing, and
-/// code over any allocator still shows it by returns of just these words alone.
+/// For implementers: `out` says which segments may be out, each by its length in bytes and whether
+/// it is caller-provided; `same` what each call keeps, as the region that an allocator lends;
+/// `grants` which requests have to be granted, where an allocator can say that: memory is never sure
+/// to be there; `returns` what a return does, by the segment and its used words. Where nothing
+/// depends on these it says nothing, and code over any allocator still shows it by returns of just
+/// these words alone.
 pub trait Allocator: Drop {
     /// The bytes of what it hands out.
     type Segment: SegmentSpace;
@@ -25,26 +26,27 @@ pub trait Allocator: Drop {
     /// What each call keeps.
     ghost same: { Self → Self → Type 0 };
 
-    /// A request of so many words has to be granted, by a segment of so many words.
+    /// A request of a given number of words has to be granted, by a segment of a given number of words.
     ghost grants: { Self → ℕ → ℕ → Type 0 };
 
-    /// A return of a segment, of which so many words were used, leads from the one to the other.
+    /// A return of a segment, of which a given number of words were used, leads from the one to the
+    /// other.
     ghost returns: { Self → Out → ℕ → Self → Type 0 };
 
-    /// Hands out a segment of at least so many words and fewer than 2^32, all zero. It is refused by
-    /// `OutOfMemory`, `AllocationTooLarge` with the words asked, or `SegmentTaken` alone, by the last only
-    /// while a segment is out that is large enough.
+    /// Hands out a segment of at least a given number of words and fewer than 2^32, all zero. It
+    /// fails with `OutOfMemory`, `AllocationTooLarge` with the words asked, or `SegmentTaken` alone,
+    /// by the last only while a segment is out that is large enough.
     fn allocate_segment(&mut self, minimum_size: u32) -> Result<Self::Segment>
-        ensures { HandsOut out same grants Self.Segment.content Self.Segment.is_lent
+        ensures { HandsOut out same grants Self.Segment.content Self.Segment.is_provided
             minimum_size self.old self.new result };
 
     /// Takes a segment back, of which the first words were used. What lies past these is zero.
     fn deallocate_segment(&mut self, segment: Self::Segment, words_used: u32)
-        requires is_out { IsOut (out self.old) (record { length = length (Self.Segment.content segment); is_lent = Self.Segment.is_lent segment }) }
+        requires is_out { IsOut (out self.old) (record { length = length (Self.Segment.content segment); is_provided = Self.Segment.is_provided segment }) }
         requires used { 8 * words_used ≤ length (Self.Segment.content segment) }
         requires zero { ZeroFrom (8 * words_used) (Self.Segment.content segment) }
         ensures { TakesBack out same returns
-            (record { length = length (Self.Segment.content segment); is_lent = Self.Segment.is_lent segment })
+            (record { length = length (Self.Segment.content segment); is_provided = Self.Segment.is_provided segment })
             words_used self.old self.new };
 
     /// What each call keeps, the calls together keep.

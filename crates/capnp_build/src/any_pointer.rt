@@ -8,7 +8,7 @@ ghost use Rattle.capnp_build.specs.RootViews.{InitsView, SizesRoot};
 
 use crate::object::Body;
 use crate::owned_builder::OwnedBuilder;
-use crate::shown::Shown;
+use crate::root_kind::RootKind;
 use crate::view::{Building, View, accept, init};
 use capnp_frame::Result;
 use capnp_wire::MessageSize;
@@ -31,7 +31,7 @@ impl OwnedBuilder for Owned {
 
     ghost declines = { λ form kind. ⊥ };
 
-    fn accept(shown: Shown, bytes: &[u8]) -> Result<()> {
+    fn accept(shown: RootKind, bytes: &[u8]) -> Result<()> {
         Ok(())
     }
 }
@@ -41,14 +41,14 @@ impl<'a, M: Building> View<'a, M, Owned> {
     pub fn is_null(&self) -> bool
         ensures { ForRoot (M.built self.now.message.now).spaces (λ form. IsTrue result ↔ (form ≡ null)) }
     {
-        match self.message.root_shown() {
-            Shown::Null => true,
+        match self.message.root_kind() {
+            RootKind::Null => true,
             _ => false,
         }
     }
 
-    /// The size of the root's object with all below it, without pads. The walk has no traversal limit,
-    /// and is refused where a reading pointer to the root refuses it.
+    /// The size of the root's object with all below it, without landing pads. The walk has no
+    /// traversal limit, and is refused where a reading pointer to the root refuses it.
     pub fn target_size(&self) -> Result<MessageSize>
         ensures { SizesRoot (M.built self.now.message.now).spaces result }
     {
@@ -73,8 +73,8 @@ impl<'a, M: Building> View<'a, M, Owned> {
         self.message.init_object::<K>(n)
     }
 
-    /// The root as a view of a type, where it takes what stands there. Nothing changes, also where it is
-    /// refused.
+    /// The root as a view of a type, where it takes what stands there. Nothing changes, also where
+    /// it is refused.
     pub fn get_as<K: OwnedBuilder>(self) -> Result<View<'a, M, K>>
         ensures same { IfOk result (λ view. view.message.ghost_name ≡ self.entry.message.ghost_name) }
         ensures looked { IfOk result (λ view. view.message.now ≡ self.entry.message.now) }
@@ -86,8 +86,8 @@ impl<'a, M: Building> View<'a, M, Owned> {
         Ok(View::new(message))
     }
 
-    /// Makes the root a new object of some length, all zero, and answers a view that writes it. Where it
-    /// is refused, the root is null.
+    /// Makes the root a new object of some length, all zero, and returns a view that writes it.
+    /// Where it is refused, the root is null.
     pub fn initn_as<K: OwnedBuilder>(self, n: u32) -> Result<View<'a, M, K>>
         ensures { InitsView M.Allocator.Allocator K.OwnedBuilder n M.built
             (λ view. view.message) self.entry.message result }

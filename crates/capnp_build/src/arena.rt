@@ -1,7 +1,7 @@
 //! The arena that a message is built in.
 pub mod builder_arena;
+pub mod location;
 mod placing;
 mod root;
 mod setting;
-pub mod spot;
 mod writing;

@@ -10,7 +10,7 @@ ghost use Rattle.capnp_build.specs.RootViews.{WritesView};
 
 use crate::object::Body;
 use crate::owned_builder::OwnedBuilder;
-use crate::shown::Shown;
+use crate::root_kind::RootKind;
 use crate::view::{Building, View};
 use capnp_frame::{Error, ErrorKind, Result};
 pub use capnp_wire::data::Owned;
@@ -34,9 +34,9 @@ impl OwnedBuilder for Owned {
 
     ghost declines = { DeclinesNumbers 2 };
 
-    fn accept(shown: Shown, bytes: &[u8]) -> Result<()> {
+    fn accept(shown: RootKind, bytes: &[u8]) -> Result<()> {
         match shown {
-            Shown::Null | Shown::Bytes(_) => Ok(()),
+            RootKind::Null | RootKind::Bytes(_) => Ok(()),
             _ => Err(Error::from_kind(ErrorKind::WrongPointerKind)),
         }
     }
@@ -65,8 +65,8 @@ impl<'a, M: Building> View<'a, M, Owned> {
     pub fn as_bytes(&self) -> &[u8]
         ensures { ForRoot (M.built self.now.message.now).spaces (λ form. (bytes : List ℕ) → IsData form bytes → result.now ≡ bytes) }
     {
-        match self.message.root_shown() {
-            Shown::Bytes(n) => first_of(self.message.root_bytes(), n),
+        match self.message.root_kind() {
+            RootKind::Bytes(n) => first_of(self.message.root_bytes(), n),
             _ => &[],
         }
     }
@@ -76,8 +76,8 @@ impl<'a, M: Building> View<'a, M, Owned> {
         ensures count { ForRoot (M.built self.now.message.now).spaces (λ form. (bytes : List ℕ) → IsData form bytes → result ≡ length bytes) }
         ensures each { (index count : ℕ) → 0 < count → index + count ≤ result → HasBytes (M.built self.now.message.now).spaces index count }
     {
-        match self.message.root_shown() {
-            Shown::Bytes(n) => n,
+        match self.message.root_kind() {
+            RootKind::Bytes(n) => n,
             _ => 0,
         }
     }

@@ -1,6 +1,6 @@
 //! Objects that are built.
 ghost use Rattle.std.specs.Prelude.{◌≡◌, ℕ, ◌+◌, ◌*◌, ◌^◌, ◌<◌, ◌≤◌};
-ghost use Rattle.capnp_build.specs.Body.{words_in, Fits, tag_of};
+ghost use Rattle.capnp_build.specs.Body.{words_of_body, Fits, body_tag};
 
 /// An object without pointers.
 #[derive(Clone, Copy)]
@@ -16,7 +16,7 @@ pub enum Body {
 impl Body {
     pub fn words(self) -> u32
         requires { Fits self }
-        ensures words { result ≡ words_in self }
+        ensures words { result ≡ words_of_body self }
         ensures bound { result < 2 ^ 29 }
     {
         match self {
@@ -26,11 +26,11 @@ impl Body {
         }
     }
 
-    /// The pointer to it, so many words before it.
+    /// The pointer to it, a given number of words before it.
     pub fn tag(self, offset: u32) -> u64
         requires fits { Fits self }
         requires near { offset < 2 ^ 29 }
-        ensures word { result ≡ tag_of offset self }
+        ensures word { result ≡ body_tag offset self }
     {
         let low = 4 * offset as u64;
         match self {

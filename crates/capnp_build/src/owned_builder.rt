@@ -3,10 +3,10 @@ ghost use Rattle.std.specs.Prelude.{◌≡◌, ℕ, List, IfOk, IfErr, OnOk};
 ghost use Rattle.capnp_frame.specs.declared.error.ErrorKind.{ErrorKind};
 ghost use Rattle.capnp_wire.specs.Tree.{Form};
 ghost use Rattle.capnp_build.specs.Body.{new_form, OptionFits};
-ghost use Rattle.capnp_build.specs.Shown.{Shows, HoldsForm};
+ghost use Rattle.capnp_build.specs.RootKind.{ShowsRoot, HoldsForm};
 
 use crate::object::Body;
-use crate::shown::Shown;
+use crate::root_kind::RootKind;
 use capnp_frame::Result;
 
 /// A type of a schema, as far as it is built.
@@ -30,7 +30,7 @@ pub trait OwnedBuilder {
     ghost declines: { Form → ErrorKind → Type 0 };
 
     /// Whether there is a view of the object of which this is shown, and whose bytes are these.
-    fn accept(shown: Shown, bytes: &[u8]) -> Result<()>
-        ensures taken { OnOk result ((form : Form) → Shows shown form → HoldsForm bytes.now form → takes form) }
-        ensures declined { IfErr result (λ error. (form : Form) → Shows shown form → HoldsForm bytes.now form → declines form error.kind) };
+    fn accept(shown: RootKind, bytes: &[u8]) -> Result<()>
+        ensures taken { OnOk result ((form : Form) → ShowsRoot shown form → HoldsForm bytes.now form → takes form) }
+        ensures declined { IfErr result (λ error. (form : Form) → ShowsRoot shown form → HoldsForm bytes.now form → declines form error.kind) };
 }

@@ -9,7 +9,7 @@ ghost use Rattle.capnp_build.specs.RootViews.{WritesView};
 
 use crate::object::Body;
 use crate::owned_builder::OwnedBuilder;
-use crate::shown::{Shown, word_at};
+use crate::root_kind::{RootKind, word_at};
 use crate::view::{Building, View};
 use capnp_frame::{Error, ErrorKind, Result};
 pub use capnp_wire::primitive_list::Owned;
@@ -33,9 +33,9 @@ impl OwnedBuilder for Owned<u64> {
 
     ghost declines = { DeclinesNumbers 5 };
 
-    fn accept(shown: Shown, bytes: &[u8]) -> Result<()> {
+    fn accept(shown: RootKind, bytes: &[u8]) -> Result<()> {
         match shown {
-            Shown::Null | Shown::Words(_) => Ok(()),
+            RootKind::Null | RootKind::Words(_) => Ok(()),
             _ => Err(Error::from_kind(ErrorKind::WrongPointerKind)),
         }
     }
@@ -66,8 +66,8 @@ impl<'a, M: Building> View<'a, M, Owned<u64>> {
         ensures count { ForRoot (M.built self.now.message.now).spaces (λ form. (words : List ℕ) → IsWords form words → result ≡ length words) }
         ensures each { (index : ℕ) → index < result → HasNumber (M.built self.now.message.now).spaces index }
     {
-        match self.message.root_shown() {
-            Shown::Words(n) => n,
+        match self.message.root_kind() {
+            RootKind::Words(n) => n,
             _ => 0,
         }
     }

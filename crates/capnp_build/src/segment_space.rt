@@ -7,13 +7,13 @@ ghost use Rattle.capnp_build.specs.Filled.{IsFilled};
 use capnp_frame::Word;
 use capnp_wire::traits::SetterInput;
 
-/// The bytes of a segment. How many there are, and whether they are lent, stays as it is.
+/// The bytes of a segment. How many there are, and whether they are caller-provided, stays as it is.
 pub trait SegmentSpace: Drop {
     /// The bytes.
     ghost content: { Self → List ℕ };
 
-    /// Whether they are a region that the caller of an allocator lent it.
-    ghost is_lent: { Self → Bool };
+    /// Whether they are a region that the caller of an allocator provided.
+    ghost is_provided: { Self → Bool };
 
     /// The bytes, to read.
     fn bytes(&self) -> &[u8]
@@ -22,16 +22,16 @@ pub trait SegmentSpace: Drop {
     /// Writes bytes from an index on.
     fn write_at(&mut self, at: usize, bytes: &[u8])
         requires { at + length bytes.now ≤ length (content self.old) }
-        ensures { IsOverwritten content is_lent at bytes.now self.old self.new };
+        ensures { IsOverwritten content is_provided at bytes.now self.old self.new };
 
     /// Makes the bytes between two indexes zero.
     fn zero(&mut self, from: usize, to: usize)
         requires order { from ≤ to }
         requires within { to ≤ length (content self.old) }
-        ensures { IsOverwritten content is_lent from (replicate (to - from) 0) self.old self.new };
+        ensures { IsOverwritten content is_provided from (replicate (to - from) 0) self.old self.new };
 
-    /// Writes a value into the bytes between two indexes, which are zero and just its words, and answers
-    /// the pointer to it for a block that follows this pointer at once.
+    /// Writes a value into the bytes between two indexes, which are zero and just its words, and
+    /// returns the pointer to it for a block that follows this pointer at once.
     fn write_value<T, V: SetterInput<T>>(
         &mut self,
         from: usize,
@@ -45,13 +45,13 @@ pub trait SegmentSpace: Drop {
         requires zero { take (to - from) (drop from (content self.old)) ≡ replicate (to - from) 0 }
         requires words { HasWords (V.has_tree value.now) canonical ((to - from) / 8) }
         ensures filled { IsFilled (V.has_tree value.now) canonical result from (to - from) (content self.old) (content self.new) }
-        ensures lent { is_lent self.new ≡ is_lent self.old };
+        ensures provided { is_provided self.new ≡ is_provided self.old };
 }
 
 impl SegmentSpace for Vec<u8> {
     ghost content = { λ vector. vector.items };
 
-    ghost is_lent = { λ vector. false };
+    ghost is_provided = { λ vector. false };
 
     fn bytes(&self) -> &[u8] {
         self.as_slice()
@@ -79,7 +79,7 @@ impl SegmentSpace for Vec<u8> {
 impl<'a> SegmentSpace for &'a mut [u8] {
     ghost content = { λ slice. slice.now };
 
-    ghost is_lent = { λ slice. true };
+    ghost is_provided = { λ slice. true };
 
     fn bytes(&self) -> &[u8] {
         &**self

@@ -6,14 +6,14 @@ ghost use Rattle.capnp_frame.specs.declared.error.ErrorKind.TheVariants.{Segment
 ghost use Rattle.capnp_build.specs.Bytes.{Space, with_block, with_bytes};
 ghost use Rattle.capnp_build.specs.Out.{Out, HasLarge, MayRefuse, IsOut};
 ghost use Rattle.capnp_build.specs.Built.{size_in_words};
-ghost use Rattle.capnp_build.specs.Held.{IsAppendedAt, Held, pair, pairs, spaces_of, used_of, space_at, room_of, with_space, KeepsOthers};
-ghost use Rattle.capnp_build.specs.Output.{CanBeWritten, CountsWords};
+ghost use Rattle.capnp_build.specs.Held.{IsAppendedAt, Held, pair, pairs, spaces_of, used_of, space_at, free_words_of, with_space, KeepsOthers};
+ghost use Rattle.capnp_build.specs.Output.{CanBeWritten, CountsUsedWords};
 ghost use Rattle.capnp_wire.specs.Values.{HasWords};
 ghost use Rattle.capnp_build.specs.Allocating.{TakesBack};
 ghost use Rattle.capnp_build.specs.Outcomes.{GivesBack};
 
 use crate::allocator::Allocator;
-use crate::part::Part;
+use crate::builder_segment::BuilderSegment;
 use capnp_frame::{Error, ErrorKind, Result, Word, word};
 use capnp_wire::traits::SetterInput;
 use std::alloc::Global;
@@ -22,8 +22,8 @@ use std::marker::Model;
 /// The segments of a message: the first one in place, the others in a vector.
 pub struct Segments<A: Allocator> {
     allocator: A,
-    first: Option<Part<A::Segment>>,
-    others: Vec<Part<A::Segment>>,
+    first: Option<BuilderSegment<A::Segment>>,
+    others: Vec<BuilderSegment<A::Segment>>,
 }
 
 impl<A: Allocator> Model for Segments<A> {
@@ -83,7 +83,7 @@ impl<A: Allocator> Segments<A> {
     /// The words that are free in a segment.
     pub fn room(&self, index: u32) -> u32
         requires { index < length self.now.spaces }
-        ensures { result ≡ room_of (space_at self.now.spaces index) }
+        ensures { result ≡ free_words_of (space_at self.now.spaces index) }
     {
         match &self.first {
             None => 0,
@@ -99,7 +99,7 @@ impl<A: Allocator> Segments<A> {
     /// The words that are used of a segment.
     pub fn words(&self, index: u32) -> u32
         requires { index < length self.now.spaces }
-        ensures { CountsWords result (space_at self.now.spaces index).used }
+        ensures { CountsUsedWords result (space_at self.now.spaces index).used }
     {
         match &self.first {
             None => 0,
@@ -130,10 +130,10 @@ impl<A: Allocator> Segments<A> {
         words
     }
 
-    /// Uses so many words more of a segment.
+    /// Uses a given number of words more of a segment.
     pub fn grow(&mut self, index: u32, words: u32)
         requires within { index < length self.old.spaces }
-        requires room { words ≤ room_of (space_at self.old.spaces index) }
+        requires room { words ≤ free_words_of (space_at self.old.spaces index) }
         ensures { self.new ≡ with_space self.old index (with_block (space_at self.old.spaces index) (8 * words)) }
     {
         if index == 0 {
@@ -179,7 +179,7 @@ impl<A: Allocator> Segments<A> {
         part.zero(from, to);
     }
 
-    /// A value written behind the used words of a segment, in so many words.
+    /// A value written after the used words of a segment, in a given number of words.
     pub fn append<T, V: SetterInput<T>>(
         &mut self,
         index: u32,
@@ -188,7 +188,7 @@ impl<A: Allocator> Segments<A> {
         words: u32,
     ) -> Word
         requires within { index < length self.old.spaces }
-        requires room { words ≤ room_of (space_at self.old.spaces index) }
+        requires room { words ≤ free_words_of (space_at self.old.spaces index) }
         requires words { HasWords (V.has_tree value.now) canonical words }
         ensures { IsAppendedAt (V.has_tree value.now) canonical result words index self.old self.new }
     {
@@ -202,7 +202,7 @@ impl<A: Allocator> Segments<A> {
         part.append(canonical, value, words)
     }
 
-    /// A further segment, of at least so many words, of which nothing is used.
+    /// A further segment, of at least a given number of words, of which nothing is used.
     pub fn add(&mut self, words: u32) -> Result<()>
         ensures added { OnOk result ((space : Space) × (self.new.spaces ≡ self.old.spaces ++ space ∷ []) × (space.used ≡ []) × (words ≤ space.size / 8)) }
         ensures refused { OnErr result (self.new.spaces ≡ self.old.spaces) }
@@ -217,7 +217,7 @@ impl<A: Allocator> Segments<A> {
     {
         if self.first.is_none() {
             let segment = self.allocator.allocate_segment(words)?;
-            self.first = Some(Part::new(segment));
+            self.first = Some(BuilderSegment::new(segment));
             return Ok(());
         }
         if self.others.len() as u64 + 2 >= 1 << 32 {
@@ -227,7 +227,7 @@ impl<A: Allocator> Segments<A> {
             return Err(Error::from_kind(ErrorKind::OutOfMemory));
         }
         let segment = self.allocator.allocate_segment(words)?;
-        self.others.push_reserved(Part::new(segment));
+        self.others.push_reserved(BuilderSegment::new(segment));
         Ok(())
     }
 
@@ -252,7 +252,7 @@ impl<A: Allocator> Segments<A> {
 }
 
 // Returns a segment with the words that are used of it.
-fn give_back<A: Allocator>(allocator: &mut A, part: Part<A::Segment>)
+fn give_back<A: Allocator>(allocator: &mut A, part: BuilderSegment<A::Segment>)
     requires { IsOut (A.out allocator.old) (pair part) }
     ensures { TakesBack A.out A.same A.returns (pair part) (length part.used / 8) allocator.old allocator.new }
 {

@@ -9,7 +9,7 @@ ghost use Rattle.capnp_build.specs.RootViews.{WritesView};
 
 use crate::object::Body;
 use crate::owned_builder::OwnedBuilder;
-use crate::shown::Shown;
+use crate::root_kind::RootKind;
 use crate::view::{Building, View};
 use capnp_frame::{Error, ErrorKind, Result};
 pub use capnp_wire::text::Owned;
@@ -33,10 +33,10 @@ impl OwnedBuilder for Owned {
 
     ghost declines = { DeclinesText };
 
-    fn accept(shown: Shown, bytes: &[u8]) -> Result<()> {
+    fn accept(shown: RootKind, bytes: &[u8]) -> Result<()> {
         match shown {
-            Shown::Null => Ok(()),
-            Shown::Bytes(n) => {
+            RootKind::Null => Ok(()),
+            RootKind::Bytes(n) => {
                 let end = bytes.len().min(n as usize);
                 if ends_with_zero(&bytes[..end]) {
                     return Ok(());
@@ -71,8 +71,8 @@ impl<'a, M: Building> View<'a, M, Owned> {
     pub fn as_bytes(&self) -> &[u8]
         ensures { ForRoot (M.built self.now.message.now).spaces (λ form. (bytes : List ℕ) → IsText form bytes → result.now ≡ bytes) }
     {
-        match self.message.root_shown() {
-            Shown::Bytes(n) => before_the_last(self.message.root_bytes(), n),
+        match self.message.root_kind() {
+            RootKind::Bytes(n) => before_the_last(self.message.root_bytes(), n),
             _ => &[],
         }
     }
@@ -82,8 +82,8 @@ impl<'a, M: Building> View<'a, M, Owned> {
         ensures count { ForRoot (M.built self.now.message.now).spaces (λ form. (bytes : List ℕ) → IsText form bytes → result ≡ length bytes) }
         ensures each { (index count : ℕ) → 0 < count → index + count ≤ result → HasBytes (M.built self.now.message.now).spaces index (count + 1) }
     {
-        match self.message.root_shown() {
-            Shown::Bytes(n) => n.saturating_sub(1),
+        match self.message.root_kind() {
+            RootKind::Bytes(n) => n.saturating_sub(1),
             _ => 0,
         }
     }

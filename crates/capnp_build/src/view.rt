@@ -1,17 +1,17 @@
 //! Views of the object at the root of a message that is built.
 ghost use Rattle.std.specs.Prelude.{◌≡◌, ◌⊎◌, ◌<◌, List, length, IfErr, OnOk};
 ghost use Rattle.capnp_wire.specs.Tree.{Trees, none};
-ghost use Rattle.capnp_build.specs.Built.{Built, ForRoot, IsShown};
+ghost use Rattle.capnp_build.specs.Built.{Built, ForRoot, IsRootKind};
 ghost use Rattle.capnp_build.specs.Written.{HasField, IsFieldSet, HasBytes, IsBytesSet, HasNumber, IsNumberSet};
-ghost use Rattle.capnp_build.specs.Placed.{DeclinesRoot, InitWords, WasCrowded};
-ghost use Rattle.capnp_build.specs.Shown.{Shows, HoldsForm};
+ghost use Rattle.capnp_build.specs.Placed.{DeclinesRoot, InitWords, FoundNoRoom};
+ghost use Rattle.capnp_build.specs.RootKind.{ShowsRoot, HoldsForm};
 ghost use Rattle.capnp_build.specs.Outcomes.{SetsRoot, InitsRoot, LacksFirst};
 ghost use Rattle.capnp_build.specs.RootViews.{WritesRoot, SizesRoot};
 
 use crate::allocator::Allocator;
 use crate::arena::builder_arena::BuilderArena;
 use crate::owned_builder::OwnedBuilder;
-use crate::shown::Shown;
+use crate::root_kind::RootKind;
 use capnp_frame::Result;
 use capnp_wire::MessageSize;
 use capnp_wire::traits::SetterInput;
@@ -25,11 +25,11 @@ pub trait Building: Drop {
     ghost built: { Self → Built Self.Allocator };
 
     /// What the object at the root is.
-    fn root_shown(&self) -> Shown
-        ensures form { ForRoot (built self.now).spaces (Shows result) }
-        ensures stands { IsShown result (built self.now).spaces };
+    fn root_kind(&self) -> RootKind
+        ensures form { ForRoot (built self.now).spaces (ShowsRoot result) }
+        ensures stands { IsRootKind result (built self.now).spaces };
 
-    /// The words of the tree at the root, behind its pointer; none where it is null.
+    /// The words of the tree at the root, after its pointer; none where it is null.
     fn root_bytes(&self) -> &[u8]
         ensures { ForRoot (built self.now).spaces (HoldsForm result.now) };
 
@@ -51,7 +51,7 @@ pub trait Building: Drop {
         ensures { WritesRoot (λ old new. IsBytesSet old new index bytes.now)
             (built self.old) (built self.new) };
 
-    /// The size of the tree at the root, as a reading pointer to it answers.
+    /// The size of the tree at the root, as a reading pointer to it returns.
     fn target_size(&self) -> Result<MessageSize>
         ensures { SizesRoot (built self.now).spaces result };
 
@@ -71,8 +71,8 @@ impl<A: Allocator> Building for BuilderArena<A> {
 
     ghost built = { λ arena. arena };
 
-    fn root_shown(&self) -> Shown {
-        BuilderArena::root_shown(self)
+    fn root_kind(&self) -> RootKind {
+        BuilderArena::root_kind(self)
     }
 
     fn root_bytes(&self) -> &[u8] {
@@ -128,10 +128,10 @@ impl<'a, M: Building, K> View<'a, M, K> {
 pub fn init<M: Building, K: OwnedBuilder>(message: &mut M, n: u32) -> Result<()>
     ensures inits { InitsRoot M.Allocator.Allocator K.OwnedBuilder n
         (M.built message.old) (M.built message.new) result }
-    // The same of the message before the call alone.
-    ensures crowded { IfErr result (λ error. K.refuses n error.kind
+    // The refusal by what the message was before the call.
+    ensures no_room { IfErr result (λ error. K.refuses n error.kind
         ⊎ LacksFirst (M.built message.old).spaces error.kind
-        ⊎ WasCrowded M.Allocator.Allocator (InitWords K.inits n) (M.built message.old) error.kind) }
+        ⊎ FoundNoRoom M.Allocator.Allocator (InitWords K.inits n) (M.built message.old) error.kind) }
 {
     message.init_object::<K>(n)
 }
@@ -141,5 +141,5 @@ pub(crate) fn accept<M: Building, K: OwnedBuilder>(message: &M) -> Result<()>
     ensures taken { OnOk result (ForRoot (M.built message.now).spaces K.takes) }
     ensures kind { IfErr result (λ error. DeclinesRoot K.declines (M.built message.now).spaces error.kind) }
 {
-    K::accept(message.root_shown(), message.root_bytes())
+    K::accept(message.root_kind(), message.root_bytes())
 }

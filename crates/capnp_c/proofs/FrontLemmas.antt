@@ -17,7 +17,7 @@ use Rattle.capnp_wire.specs.Faults.{NoWord, no_word, at_pointer}
 use Rattle.capnp_wire.specs.Values.{IsCanonicalForm, LeadsToTree, StopsWalkFrom}
 use Rattle.capnp_wire.proofs.views.OneValueLemmas.{one_of_pointer, measured_exactly, measured_found}
 use Rattle.capnp_wire.specs.Readers.{default_root}
-use Rattle.capnp_c.specs.Fronts.{IsAtFront, HasForm, LacksForm, IsShort}
+use Rattle.capnp_c.specs.Fronts.{IsAtFront, FrontHasForm, FrontLacksForm, IsShort}
 
 pub one_front : (bytes rest left : List ℕ) (segments others : List (List ℕ)) → IsAtFront bytes segments rest → IsAtFront bytes others left → segments ≡ others
 one_front bytes rest left segments others p q = (frames_part p.text q.text rest left segments others p.is_text q.is_text (sym p.spelled ∙ q.spelled)).1
@@ -26,7 +26,7 @@ pub segment_words : (segments others : List (List ℕ)) (id : ℕ) (segment : Li
 segment_words segments others id segment same is =
     slice_get-map word_count segments id ∙ ap (λ l. option_map word_count (slice_get l id)) (sym same) ∙ ap (option_map word_count) is
 
--- where a segment is answered its number is below their count
+-- where a segment is returned its number is below their count
 pub segment_there : (segments others : List (List ℕ)) (id : ℕ) (segment : List ℕ) → others ≡ segments → slice_get others id ≡ Some segment → length segments ≤ id → ⊥
 segment_there segments others id segment same is outside = absurd (omega (arith, outside, slice_get_within others id segment is, ap length same))
 
@@ -36,43 +36,43 @@ no_segment_there segments others id same is inside =
     absurd (cc)
 
 -- a form that fills the front of a block
-pub front_form : (p : Pointer) (n : ℕ) (new behind : List ℕ) → length new ≡ n → IsCanonicalForm p (words_of new) → (n ≤ length (new ++ behind)) × IsCanonicalForm p (words_of (take n (new ++ behind)))
-front_form p n new behind long form =
-    let front : take n (new ++ behind) ≡ new = ap (λ k. take k (new ++ behind)) (sym long) ∙ take-append_seam new behind in
-    (omega (arith, long, length-append new behind), subst (λ l. IsCanonicalForm p (words_of l)) (sym front) form)
+pub front_form : (p : Pointer) (n : ℕ) (new following : List ℕ) → length new ≡ n → IsCanonicalForm p (words_of new) → (n ≤ length (new ++ following)) × IsCanonicalForm p (words_of (take n (new ++ following)))
+front_form p n new following long form =
+    let front : take n (new ++ following) ≡ new = ap (λ k. take k (new ++ following)) (sym long) ∙ take-append_seam new following in
+    (omega (arith, long, length-append new following), subst (λ l. IsCanonicalForm p (words_of l)) (sym front) form)
 
 -- Which messages have a form
 
 -- one whose root has no word has none
-pub root_lacks : (segments : List (List ℕ)) (kind : ErrorKind) → NoWord (message_of segments) root kind → LacksForm segments kind
+pub root_lacks : (segments : List (List ℕ)) (kind : ErrorKind) → NoWord (message_of segments) root kind → FrontLacksForm segments kind
 root_lacks segments kind none = inl (root, refl, at_pointer (no_word none))
 
 -- and one that has a form does not lack it
-pub has_or_lacks : (segments : List (List ℕ)) (words : ℕ) (kind : ErrorKind) → HasForm segments words → LacksForm segments kind → ⊥
+pub has_or_lacks : (segments : List (List ℕ)) (words : ℕ) (kind : ErrorKind) → FrontHasForm segments words → FrontLacksForm segments kind → ⊥
 has_or_lacks segments words kind has lacks =
     measured_exactly (LeadsToTree (default_root segments)) (StopsWalkFrom (default_root segments)) (one_of_pointer (default_root segments)) true (Ok has.0) has.1 kind lacks
 
 -- the reason is one, and so is the size
-pub one_reason : (segments : List (List ℕ)) (a b : ErrorKind) → LacksForm segments a → LacksForm segments b → a ≡ b
+pub one_reason : (segments : List (List ℕ)) (a b : ErrorKind) → FrontLacksForm segments a → FrontLacksForm segments b → a ≡ b
 one_reason segments a b x y =
     measured_exactly (LeadsToTree (default_root segments)) (StopsWalkFrom (default_root segments)) (one_of_pointer (default_root segments)) true (Err (record { kind = a })) x b y
 
-pub one_size : (segments : List (List ℕ)) (a b : ℕ) → HasForm segments a → HasForm segments b → a ≡ b
+pub one_size : (segments : List (List ℕ)) (a b : ℕ) → FrontHasForm segments a → FrontHasForm segments b → a ≡ b
 one_size segments a b x y =
     let same = measured_found (LeadsToTree (default_root segments)) (StopsWalkFrom (default_root segments)) (one_of_pointer (default_root segments)) true (Ok x.0) x.1 y.0 y.1 in
-    let behind : x.0 ≡ y.0 = cc in
-    x.2 ∙ ap (λ n. n + 1) behind ∙ sym y.2
+    let following : x.0 ≡ y.0 = cc in
+    x.2 ∙ ap (λ n. n + 1) following ∙ sym y.2
 
--- A refusal of a form that is to be written into so many bytes
+-- A refusal of a form that is to be written into a given number of bytes
 
-pub form_fits : (segments : List (List ℕ)) (room size : ℕ) (kind : ErrorKind) → LacksForm segments kind ⊎ IsShort segments room kind → HasForm segments size → 8 * size ≤ room → ⊥
+pub form_fits : (segments : List (List ℕ)) (room size : ℕ) (kind : ErrorKind) → FrontLacksForm segments kind ⊎ IsShort segments room kind → FrontHasForm segments size → 8 * size ≤ room → ⊥
 form_fits segments room size kind (inl lacks) has fits = has_or_lacks segments size kind has lacks
 form_fits segments room size kind (inr (other, form, short, is)) has fits = absurd (omega (arith, fits, short, one_size segments other size form has))
 
-pub form_is_short : (segments : List (List ℕ)) (room size : ℕ) (kind : ErrorKind) → LacksForm segments kind ⊎ IsShort segments room kind → HasForm segments size → kind ≡ BufferNotLargeEnough
+pub form_is_short : (segments : List (List ℕ)) (room size : ℕ) (kind : ErrorKind) → FrontLacksForm segments kind ⊎ IsShort segments room kind → FrontHasForm segments size → kind ≡ BufferNotLargeEnough
 form_is_short segments room size kind (inl lacks) has = absurd (has_or_lacks segments size kind has lacks)
 form_is_short segments room size kind (inr (other, form, short, is)) has = is
 
-pub form_is_lacked : (segments : List (List ℕ)) (room : ℕ) (own kind : ErrorKind) → LacksForm segments own ⊎ IsShort segments room own → LacksForm segments kind → own ≡ kind
+pub form_is_lacked : (segments : List (List ℕ)) (room : ℕ) (own kind : ErrorKind) → FrontLacksForm segments own ⊎ IsShort segments room own → FrontLacksForm segments kind → own ≡ kind
 form_is_lacked segments room own kind (inl lacks) other = one_reason segments own kind lacks other
 form_is_lacked segments room own kind (inr (size, form, short, is)) other = absurd (has_or_lacks segments size kind form other)

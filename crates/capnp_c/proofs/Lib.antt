@@ -2,5 +2,5 @@
 pub mod FrontLemmas
 pub mod MessageLemmas
 pub mod PackedLemmas
-pub mod PiecesLemmas
+pub mod ChunksLemmas
 pub mod UnpackedLemmas

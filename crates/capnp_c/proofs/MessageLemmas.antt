@@ -19,7 +19,7 @@ use Rattle.capnp_pack.specs.PackedSink.{AppendsPacked, DeclinesPacked}
 use Rattle.capnp_pack.proofs.PackedTextLemmas.{packed_message, each_packed}
 use Rattle.capnp_pack.proofs.PackerLemmas.{Packs-once, Packs-whole}
 use Rattle.capnp_c.specs.Fronts.{IsAtFront}
-use Rattle.capnp_c.specs.Packing.{packed_pieces}
+use Rattle.capnp_c.specs.Packing.{packed_chunks}
 
 -- its table stands at the front
 pub front_table : (bytes : List ℕ) (segments : List (List ℕ)) (rest : List ℕ) → IsAtFront bytes segments rest
@@ -43,15 +43,15 @@ one_rest bytes rest left segments others p q = (frames_part p.text q.text rest l
 
 -- The packed text
 
--- it is what the pieces are packed to
-pub text_of_pieces : (segments : List (List ℕ)) (text : List ℕ) → IsPackedText text segments → AppendsAll Packs (packed_pieces segments) text
-text_of_pieces segments text packed = (each_packed (packed_pieces segments) text).0 ((packed_message segments text).1 packed)
+-- it is what the chunks are packed to
+pub text_of_chunks : (segments : List (List ℕ)) (text : List ℕ) → IsPackedText text segments → AppendsAll Packs (packed_chunks segments) text
+text_of_chunks segments text packed = (each_packed (packed_chunks segments) text).0 ((packed_message segments text).1 packed)
 
 -- and there is one
-pub pieces_once : (pieces : List (List ℕ)) (text other : List ℕ) → AppendsAll Packs pieces text → AppendsAll Packs pieces other → text ≡ other
-pieces_once [] text other p q = p ∙ sym q
-pieces_once (piece ∷ pieces) text other (s, t, first, more, e) (u, v, also, others, is) =
-    e ∙ ap (λ l. l ++ t) (Packs-once piece s u first also) ∙ ap (λ l. u ++ l) (pieces_once pieces t v more others) ∙ sym is
+pub chunks_once : (chunks : List (List ℕ)) (text other : List ℕ) → AppendsAll Packs chunks text → AppendsAll Packs chunks other → text ≡ other
+chunks_once [] text other p q = p ∙ sym q
+chunks_once (chunk ∷ chunks) text other (s, t, first, more, e) (u, v, also, others, is) =
+    e ∙ ap (λ l. l ++ t) (Packs-once chunk s u first also) ∙ ap (λ l. u ++ l) (chunks_once chunks t v more others) ∙ sym is
 
 -- what was added to nothing is that text
 pub message_alone : (segments : List (List ℕ)) (table old new : List ℕ) (n used : ℕ) → table ≡ zero_padded_table (lengths segments) → n ≡ 0
@@ -59,32 +59,32 @@ pub message_alone : (segments : List (List ℕ)) (table old new : List ℕ) (n u
     → IsPackedText (take used new) segments
 message_alone segments table old new n used is none (text, all, e) =
     let alone : take used new ≡ text = e ∙ ap (λ k. take k old ++ text) none in
-    let pieces = subst (λ l. AppendsAll (AppendsPacked AppendsSame) (take 8 l ∷ drop 8 l ∷ segments) text) is all in
-    subst (λ l. IsPackedText l segments) (sym alone) ((packed_message segments text).0 pieces)
+    let chunks = subst (λ l. AppendsAll (AppendsPacked AppendsSame) (take 8 l ∷ drop 8 l ∷ segments) text) is all in
+    subst (λ l. IsPackedText l segments) (sym alone) ((packed_message segments text).0 chunks)
 
 -- so a block that is shorter does not hold it
 pub message_fits : (segments : List (List ℕ)) (text block : List ℕ) (n : ℕ) → IsPackedText text segments → length block < length text → IsPackedText (take n block) segments → ⊥
 message_fits segments text block n packed short written =
-    let same = pieces_once (packed_pieces segments) text (take n block) (text_of_pieces segments text packed) (text_of_pieces segments (take n block) written) in
+    let same = chunks_once (packed_chunks segments) text (take n block) (text_of_chunks segments text packed) (text_of_chunks segments (take n block) written) in
     absurd (omega (arith, short, ap length same, length-take n block))
 
--- pieces of whole words are refused by the block alone
-pieces_refused : (pieces : List (List ℕ)) (text : List ℕ) (kind : ErrorKind) → AppendsAll Packs pieces text
-    → DeclinesSome (DeclinesPacked (ByKind BufferNotLargeEnough)) pieces kind → kind ≡ BufferNotLargeEnough
-pieces_refused [] text kind all refused = absurd refused
-pieces_refused (piece ∷ pieces) text kind (s, t, first, more, e) (inl (inl (part, is))) = absurd (part (Packs-whole piece s first))
-pieces_refused (piece ∷ pieces) text kind (s, t, first, more, e) (inl (inr (whole, (any, is)))) = is
-pieces_refused (piece ∷ pieces) text kind (s, t, first, more, e) (inr refused) = pieces_refused pieces t kind more refused
+-- chunks of whole words fail for want of room in the block alone
+chunks_refused : (chunks : List (List ℕ)) (text : List ℕ) (kind : ErrorKind) → AppendsAll Packs chunks text
+    → DeclinesSome (DeclinesPacked (ByKind BufferNotLargeEnough)) chunks kind → kind ≡ BufferNotLargeEnough
+chunks_refused [] text kind all refused = absurd refused
+chunks_refused (chunk ∷ chunks) text kind (s, t, first, more, e) (inl (inl (part, is))) = absurd (part (Packs-whole chunk s first))
+chunks_refused (chunk ∷ chunks) text kind (s, t, first, more, e) (inl (inr (whole, (any, is)))) = is
+chunks_refused (chunk ∷ chunks) text kind (s, t, first, more, e) (inr refused) = chunks_refused chunks t kind more refused
 
 pub message_refused : (segments : List (List ℕ)) (table text : List ℕ) (kind : ErrorKind) → table ≡ zero_padded_table (lengths segments) → IsPackedText text segments
     → (kind ≡ DeviceFailed) ⊎ DeclinesSome (DeclinesPacked (ByKind BufferNotLargeEnough)) (take 8 table ∷ drop 8 table ∷ segments) kind
     → (kind ≡ DeviceFailed → Fails 0 0) → kind ≡ BufferNotLargeEnough
 message_refused segments table text kind is packed (inl device) failed = absurd (never_fails kind failed device)
 message_refused segments table text kind is packed (inr refused) failed =
-    pieces_refused (packed_pieces segments) text kind (text_of_pieces segments text packed)
+    chunks_refused (packed_chunks segments) text kind (text_of_chunks segments text packed)
     (subst (λ l. DeclinesSome (DeclinesPacked (ByKind BufferNotLargeEnough)) (take 8 l ∷ drop 8 l ∷ segments) kind) is refused)
 
--- the text of the pieces, by the table that is there
+-- the text of the chunks, by the table that is there
 pub text_of_parts : (segments : List (List ℕ)) (table text : List ℕ) → table ≡ zero_padded_table (lengths segments) → IsPackedText text segments
     → AppendsAll Packs (take 8 table ∷ drop 8 table ∷ segments) text
-text_of_parts segments table text is packed = subst (λ l. AppendsAll Packs (take 8 l ∷ drop 8 l ∷ segments) text) (sym is) (text_of_pieces segments text packed)
+text_of_parts segments table text is packed = subst (λ l. AppendsAll Packs (take 8 l ∷ drop 8 l ∷ segments) text) (sym is) (text_of_chunks segments text packed)

@@ -1,4 +1,4 @@
--- Words that are packed and unpacked over lent buffers, which no device stands behind.
+-- Words that are packed and unpacked over caller-provided buffers, of which none is a device.
 use Rattle.std.proofs.Common.{◌≡◌, ◌⊎◌, ◌<◌, ℕ, List, ◌++◌, length, take, inl, inr, sym, ap, ◌∙◌, subst, arith, length-take}
 use Rattle.capnp_frame.specs.declared.error.ErrorKind.{ErrorKind}
 use Rattle.capnp_frame.specs.declared.error.ErrorKind.TheVariants.{DeviceFailed, BufferNotLargeEnough}
@@ -7,21 +7,21 @@ use Rattle.capnp_frame.specs.Source.{Fails}
 use Rattle.capnp_frame.proofs.AskLemmas.{never_fails}
 use Rattle.capnp_pack.specs.Packed.{Packs}
 use Rattle.capnp_pack.specs.PackedSink.{AppendsPacked, DeclinesPacked}
-use Rattle.capnp_pack.specs.PackedSource.{RefusesPiece}
+use Rattle.capnp_pack.specs.PackedSource.{RefusesChunk}
 use Rattle.capnp_pack.proofs.PackedTextLemmas.{packed_over_plain}
 use Rattle.capnp_pack.proofs.PackerLemmas.{Packs-once, Packs-whole}
 
 -- a refusal of a slice is a line of the table
-pub piece_refused : (raw : List ℕ) (n : ℕ) (kind : ErrorKind) → (kind ≡ DeviceFailed) ⊎ RefusesPiece raw n kind → (kind ≡ DeviceFailed → Fails 0 0) → RefusesPiece raw n kind
-piece_refused raw n kind (inl device) failed = absurd (never_fails kind failed device)
-piece_refused raw n kind (inr line) failed = line
+pub chunk_refused : (raw : List ℕ) (n : ℕ) (kind : ErrorKind) → (kind ≡ DeviceFailed) ⊎ RefusesChunk raw n kind → (kind ≡ DeviceFailed → Fails 0 0) → RefusesChunk raw n kind
+chunk_refused raw n kind (inl device) failed = absurd (never_fails kind failed device)
+chunk_refused raw n kind (inr line) failed = line
 
--- whole words are refused by the block alone
+-- whole words fail for want of room in the block alone
 pub block_refused : (words packed : List ℕ) (kind : ErrorKind) → Packs words packed → (kind ≡ DeviceFailed) ⊎ DeclinesPacked (ByKind BufferNotLargeEnough) words kind
     → (kind ≡ DeviceFailed → Fails 0 0) → kind ≡ BufferNotLargeEnough
 block_refused words packed kind packs (inl device) failed = absurd (never_fails kind failed device)
 block_refused words packed kind packs (inr (inl (part, is))) failed = absurd (part (Packs-whole words packed packs))
-block_refused words packed kind packs (inr (inr (whole, (piece, is)))) failed = is
+block_refused words packed kind packs (inr (inr (whole, (chunk, is)))) failed = is
 
 -- and what was written is their one text
 pub packed_fits : (words packed block : List ℕ) (n : ℕ) → Packs words packed → length block < length packed → Packs words (take n block) → ⊥

@@ -10,7 +10,7 @@ use Rattle.capnp_frame.specs.Refusals.{RefusesStream}
 use Rattle.capnp_frame.specs.Source.{Fails}
 use Rattle.capnp_frame.proofs.AskLemmas.{never_fails}
 use Rattle.capnp_pack.specs.PackedFrame.{PackedStands}
-use Rattle.capnp_pack.specs.PackedSource.{Unpacks, RefusesPiece}
+use Rattle.capnp_pack.specs.PackedSource.{Unpacks, RefusesChunk}
 use Rattle.capnp_pack.specs.UnpackingLaws.{none_unpacked}
 use Rattle.capnp_pack.proofs.PackedFrameLemmas.{packed_requests}
 use Rattle.capnp_c.specs.Packing.{IsMessage}
@@ -35,12 +35,12 @@ none_stands segments packed rest stands none =
     let some = none_unpacked 8 requests.table.first requests.table.between (subst (λ raw. Unpacks raw 8 requests.table.first requests.table.between) none first) in
     absurd (omega (arith, some))
 
--- a slice is refused by the first line that holds
+-- a slice fails with the first line that holds
 pub own_kind : (own kind : ErrorKind) → (own ≡ DeviceFailed) ⊎ (own ≡ kind) → (own ≡ DeviceFailed → Fails 0 0) → own ≡ kind
 own_kind own kind (inl device) failed = absurd (never_fails own failed device)
 own_kind own kind (inr same) failed = same
 
 -- a buffer keeps its length
 pub in_room : (packed left : List ℕ) (kind : ErrorKind) (after before : ℕ) → after ≡ before
-    → RefusesStream Zero Unpacks RefusesPiece default_limit (Some after) kind packed left → RefusesStream Zero Unpacks RefusesPiece default_limit (Some before) kind packed left
-in_room packed left kind after before same refused = subst (λ room. RefusesStream Zero Unpacks RefusesPiece default_limit (Some room) kind packed left) same refused
+    → RefusesStream Zero Unpacks RefusesChunk default_limit (Some after) kind packed left → RefusesStream Zero Unpacks RefusesChunk default_limit (Some before) kind packed left
+in_room packed left kind after before same refused = subst (λ room. RefusesStream Zero Unpacks RefusesChunk default_limit (Some room) kind packed left) same refused

@@ -7,7 +7,7 @@ use Rattle.capnp_frame.specs.FlatRefusals.{by_fields, RefusesFlat}
 use Rattle.capnp_frame.specs.Frame.{IsFrame}
 use Rattle.capnp_frame.specs.Limits.{default_limit}
 use Rattle.capnp_frame.specs.Limits.{default_limit}
-use Rattle.capnp_frame.specs.Numbers.{number_of}
+use Rattle.capnp_frame.specs.Numbers.{kind_number}
 use Rattle.capnp_frame.specs.Texts.{BeginsWith}
 use Rattle.capnp_wire.specs.Readers.{default_root}
 use Rattle.capnp_wire.specs.Values.{HasWords, LacksWords, LeadsToTree, StopsWalkFrom}
@@ -16,26 +16,26 @@ use Rattle.capnp_wire.specs.Values.{HasWords, LacksWords, LeadsToTree, StopsWalk
 abbrev pub IsAtFront : List ℕ → List (List ℕ) → List ℕ → Type 0
 IsAtFront bytes segments rest = BeginsWith (IsFrame Zero) default_limit segments bytes rest
 
--- a canonical form of so many words, with its root pointer
-abbrev pub HasForm : List (List ℕ) → ℕ → Type 0
-HasForm segments words = (behind : ℕ) × HasWords (LeadsToTree (default_root segments)) true behind × (words ≡ behind + 1)
+-- a canonical form of a given number of words, with its root pointer
+abbrev pub FrontHasForm : List (List ℕ) → ℕ → Type 0
+FrontHasForm segments words = (following : ℕ) × HasWords (LeadsToTree (default_root segments)) true following × (words ≡ following + 1)
 
 -- It has none: a walk over the root's tree stops, for this reason, or the form has too many words.
-abbrev pub LacksForm : List (List ℕ) → ErrorKind → Type 0
-LacksForm segments kind = LacksWords (LeadsToTree (default_root segments)) (StopsWalkFrom (default_root segments)) true kind
+abbrev pub FrontLacksForm : List (List ℕ) → ErrorKind → Type 0
+FrontLacksForm segments kind = LacksWords (LeadsToTree (default_root segments)) (StopsWalkFrom (default_root segments)) true kind
 
--- it has one, and a block of so many bytes has no room for it
+-- it has one, and a block of a given number of bytes has no room for it
 abbrev pub IsShort : List (List ℕ) → ℕ → ErrorKind → Type 0
-IsShort segments room kind = (size : ℕ) × HasForm segments size × (room < 8 * size) × (kind ≡ BufferNotLargeEnough)
+IsShort segments room kind = (size : ℕ) × FrontHasForm segments size × (room < 8 * size) × (kind ≡ BufferNotLargeEnough)
 
 -- Which number an export returns that measures or writes the canonical form of the message at the front of these bytes.
--- `has_room` says whether there is room for a form of so many words.
-pub record AnswersForm (bytes : List ℕ) (has_room : ℕ → Type 0) (result : ℕ) : Type 0 where
+-- `has_room` says whether there is room for a form of a given number of words.
+pub record ReturnsFrontForm (bytes : List ℕ) (has_room : ℕ → Type 0) (result : ℕ) : Type 0 where
   -- 0 where there is a message that has a form, and room for it
-  pub accepted : (segments : List (List ℕ)) (rest : List ℕ) (size : ℕ) → IsAtFront bytes segments rest → HasForm segments size
+  pub accepted : (segments : List (List ℕ)) (rest : List ℕ) (size : ℕ) → IsAtFront bytes segments rest → FrontHasForm segments size
       → has_room size → result ≡ 0
   -- where the message has no form the number of the reason
-  pub refused : (segments : List (List ℕ)) (rest : List ℕ) (kind : ErrorKind) → IsAtFront bytes segments rest → LacksForm segments kind
-      → result ≡ number_of kind
+  pub refused : (segments : List (List ℕ)) (rest : List ℕ) (kind : ErrorKind) → IsAtFront bytes segments rest → FrontLacksForm segments kind
+      → result ≡ kind_number kind
   -- and where no message stands there, that of the first line of the table of refusals that holds
-  pub unreadable : (kind : ErrorKind) → RefusesFlat by_fields Zero default_limit kind bytes → result ≡ number_of kind
+  pub unreadable : (kind : ErrorKind) → RefusesFlat by_fields Zero default_limit kind bytes → result ≡ kind_number kind

@@ -1,4 +1,4 @@
--- What is packed of a message, and what the steps keep that pack its pieces.
+-- What is packed of a message, and what the steps keep that pack its chunks.
 use Rattle.std.specs.Prelude.{◌≡◌, ℕ, ◌+◌, ◌⊎◌, List, [], ◌∷◌, length, Result, OnOk, IfErr, IsOk}
 use Rattle.capnp_frame.specs.declared.error.Error.{Error}
 use Rattle.capnp_frame.specs.declared.error.ErrorKind.TheVariants.{DeviceFailed}
@@ -14,20 +14,20 @@ use Rattle.capnp_c.specs.Fronts.{IsAtFront}
 abbrev pub IsMessage : List ℕ → List (List ℕ) → Type 0
 IsMessage bytes segments = IsAtFront bytes segments []
 
--- what is packed of a message, piece by piece: the first word of its table, the table's other words, and each segment
-abbrev pub packed_pieces : List (List ℕ) → List (List ℕ)
-packed_pieces segments = table_first segments ∷ table_others segments ∷ segments
+-- what is packed of a message, chunk by chunk: the first word of its table, the table's other words, and each segment
+abbrev pub packed_chunks : List (List ℕ) → List (List ℕ)
+packed_chunks segments = table_first segments ∷ table_others segments ∷ segments
 
--- What a step keeps that packs pieces into a sink, one after the other. `sink` is what is seen of the sink (the members of the
+-- What a step keeps that packs chunks into a sink, one after the other. `sink` is what is seen of the sink (the members of the
 -- trait Write), `old` and `new` are the sink before the call and after it.
-pub record PacksPieces {S X : Type 0} (sink : Ghosts S) (old new : S) (pieces : List (List ℕ)) (result : Result X Error) : Type 0 where
-  -- where it succeeds, what each piece is packed to is added
-  pub packed : OnOk result (IfKnown (sink.written old) (sink.written new) (Adds (AppendsAll (AppendsPacked sink.appends) pieces)))
-  -- it fails with the device's failure, or as one of the pieces is refused
-  pub refused : IfErr result (λ error. (error.kind ≡ DeviceFailed) ⊎ DeclinesSome (DeclinesPacked sink.refuses) pieces error.kind)
+pub record PacksChunks {S X : Type 0} (sink : Ghosts S) (old new : S) (chunks : List (List ℕ)) (result : Result X Error) : Type 0 where
+  -- where it succeeds, what each chunk is packed to is added
+  pub packed : OnOk result (IfKnown (sink.written old) (sink.written new) (Adds (AppendsAll (AppendsPacked sink.appends) chunks)))
+  -- it fails with the device's failure, or as one of the chunks is refused
+  pub refused : IfErr result (λ error. (error.kind ≡ DeviceFailed) ⊎ DeclinesSome (DeclinesPacked sink.refuses) chunks error.kind)
   -- the device is blamed only where it failed
   pub failed : IfErr result (λ error. error.kind ≡ DeviceFailed → Fails (sink.failures old) (sink.failures new))
   -- where the sink grants the packed text, the step succeeds
-  pub granted : (text : List ℕ) (more : ℕ) → AppendsAll Packs pieces text → sink.grants old (length text + more)
+  pub granted : (text : List ℕ) (more : ℕ) → AppendsAll Packs chunks text → sink.grants old (length text + more)
       → IsOk result × sink.grants new more
   pub grows : Grows sink.written sink.failures sink.same old new

@@ -1,4 +1,4 @@
-//! Canonical words that are written into a lent block.
+//! Canonical words that are written into a caller-provided block.
 ghost use Rattle.std.specs.Prelude.{⊤, ◌≡◌, ◌⊎◌, ◌*◌, ◌<◌, ◌≤◌, ℕ, List, length, take, IfOk, IfErr, IsOk, pos};
 ghost use Rattle.std.specs.Result.{IsErrAnd};
 ghost use Rattle.capnp_frame.specs.FlatRefusals.{by_fields, RefusesFlat};
@@ -8,7 +8,7 @@ ghost use Rattle.capnp_wire.specs.Pointer.{words_of};
 ghost use Rattle.capnp_wire.specs.Readers.{pointer_of, default_root};
 ghost use Rattle.capnp_wire.specs.Values.{IsCanonicalForm};
 ghost use Rattle.capnp_frame.specs.Limits.{default_limit};
-ghost use Rattle.capnp_c.specs.Fronts.{IsAtFront, HasForm, LacksForm, IsShort, AnswersForm};
+ghost use Rattle.capnp_c.specs.Fronts.{IsAtFront, FrontHasForm, FrontLacksForm, IsShort, ReturnsFrontForm};
 
 use capnp_frame::message::{DEFAULT_READER_OPTIONS, ReaderSegments};
 use capnp_frame::serialize::{NoAllocBufferSegments, NoAllocSliceSegments};
@@ -21,8 +21,8 @@ use capnp_wire::canonical::{canonical_size, write_form};
 #[unsafe(no_mangle)]
 pub extern "C" fn linsjoar_canonical_size(bytes: &[u8], words: &mut usize) -> u8
     ensures size { (segments : List (List ℕ)) (rest : List ℕ) →
-        IsAtFront bytes.now segments rest → result ≡ 0 → HasForm segments words.new }
-    ensures answers { AnswersForm bytes.now (λ size. ⊤) result }
+        IsAtFront bytes.now segments rest → result ≡ 0 → FrontHasForm segments words.new }
+    ensures returns { ReturnsFrontForm bytes.now (λ size. ⊤) result }
 {
     *words = 0;
     match measured(bytes) {
@@ -35,16 +35,16 @@ pub extern "C" fn linsjoar_canonical_size(bytes: &[u8], words: &mut usize) -> u8
 }
 
 /// Writes that form to the front of a block, and tells how many words it has. A block without room
-/// for it is refused by 2.
+/// for it fails with 2.
 #[unsafe(no_mangle)]
 pub extern "C" fn linsjoar_canonical(bytes: &[u8], block: &mut [u8], words: &mut usize) -> u8
     ensures form { (segments : List (List ℕ)) (rest : List ℕ) →
         IsAtFront bytes.now segments rest → result ≡ 0 → (8 * words.new ≤ length block.new)
         × IsCanonicalForm (default_root segments) (words_of (take (8 * words.new) block.new)) }
     ensures short { (segments : List (List ℕ)) (rest : List ℕ) (size : ℕ) →
-        IsAtFront bytes.now segments rest → HasForm segments size →
+        IsAtFront bytes.now segments rest → FrontHasForm segments size →
         length block.new < 8 * size → result ≡ 2 }
-    ensures answers { AnswersForm bytes.now (λ size. 8 * size ≤ length block.new) result }
+    ensures returns { ReturnsFrontForm bytes.now (λ size. 8 * size ≤ length block.new) result }
 {
     *words = 0;
     match written(bytes, block) {
@@ -80,8 +80,8 @@ fn measured_root<'a, S: ReaderSegments>(
     requires limit { arena.now.limiter.limit ≡ default_limit }
     ensures root { IfOk result (λ (root, size).
         pointer_of S.segments root ≡ default_root (S.segments arena.now.segments)) }
-    ensures size { IfOk result (λ (root, size). HasForm (S.segments arena.now.segments) size) }
-    ensures lacks { IfErr result (λ error. LacksForm (S.segments arena.now.segments) error.kind) }
+    ensures size { IfOk result (λ (root, size). FrontHasForm (S.segments arena.now.segments) size) }
+    ensures lacks { IfErr result (λ error. FrontLacksForm (S.segments arena.now.segments) error.kind) }
 {
     let root = arena.get_root()?;
     let size = canonical_size(&root)? as usize;
@@ -90,9 +90,9 @@ fn measured_root<'a, S: ReaderSegments>(
 
 fn measured(bytes: &[u8]) -> Result<usize>
     ensures size { (segments : List (List ℕ)) (rest : List ℕ) →
-        IsAtFront bytes.now segments rest → IfOk result (λ words. HasForm segments words) }
+        IsAtFront bytes.now segments rest → IfOk result (λ words. FrontHasForm segments words) }
     ensures lacks { (segments : List (List ℕ)) (rest : List ℕ) →
-        IsAtFront bytes.now segments rest → IfErr result (λ error. LacksForm segments error.kind) }
+        IsAtFront bytes.now segments rest → IfErr result (λ error. FrontLacksForm segments error.kind) }
     ensures exact { (kind : ErrorKind) → RefusesFlat by_fields Zero default_limit kind bytes.now →
         IsErrAnd result (λ error. error.kind ≡ kind) }
 {
@@ -106,9 +106,9 @@ fn written(bytes: &[u8], block: &mut [u8]) -> Result<usize>
         IsAtFront bytes.now segments rest → IfOk result (λ words. (8 * words ≤ length block.new)
         × IsCanonicalForm (default_root segments) (words_of (take (8 * words) block.new))) }
     ensures size { (segments : List (List ℕ)) (rest : List ℕ) →
-        IsAtFront bytes.now segments rest → IfOk result (λ words. HasForm segments words) }
+        IsAtFront bytes.now segments rest → IfOk result (λ words. FrontHasForm segments words) }
     ensures lacks { (segments : List (List ℕ)) (rest : List ℕ) →
-        IsAtFront bytes.now segments rest → IfErr result (λ error. LacksForm segments error.kind
+        IsAtFront bytes.now segments rest → IfErr result (λ error. FrontLacksForm segments error.kind
         ⊎ IsShort segments (length block.new) error.kind) }
     ensures exact { (kind : ErrorKind) → RefusesFlat by_fields Zero default_limit kind bytes.now →
         IsErrAnd result (λ error. error.kind ≡ kind) }

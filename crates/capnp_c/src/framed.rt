@@ -3,7 +3,7 @@ ghost use Rattle.std.specs.Prelude.{◌≡◌, ◌⊎◌, ◌+◌, ◌*◌, ◌<
 ghost use Rattle.capnp_frame.specs.declared.serialize.segment_table.Padding.TheVariants.{Zero};
 ghost use Rattle.capnp_frame.specs.FlatRefusals.{by_fields, RefusesFlat};
 ghost use Rattle.capnp_frame.specs.Message.{lengths};
-ghost use Rattle.capnp_frame.specs.Numbers.{number_of};
+ghost use Rattle.capnp_frame.specs.Numbers.{kind_number};
 ghost use Rattle.capnp_frame.specs.SegmentTable.{table_size};
 ghost use Rattle.capnp_frame.specs.declared.error.ErrorKind.{ErrorKind};
 ghost use Rattle.capnp_frame.specs.Limits.{default_limit};
@@ -35,7 +35,7 @@ pub extern "C" fn linsjoar_message(bytes: &[u8], message: &mut LinsjoarMessage) 
     ensures accepted { (segments : List (List ℕ)) (rest : List ℕ) →
         IsAtFront bytes.now segments rest → result ≡ 0 }
     ensures refused { (kind : ErrorKind) → RefusesFlat by_fields Zero default_limit kind bytes.now →
-        result ≡ number_of kind }
+        result ≡ kind_number kind }
 {
     *message = LinsjoarMessage {
         segments: 0,
@@ -59,7 +59,7 @@ pub extern "C" fn linsjoar_message(bytes: &[u8], message: &mut LinsjoarMessage) 
 
 /// How many words a segment of that message has. The segments stand one after another.
 ///
-/// A message without a segment of this number is refused by 18.
+/// A message without a segment of this number fails with 18.
 #[unsafe(no_mangle)]
 pub extern "C" fn linsjoar_segment(bytes: &[u8], id: u32, words: &mut usize) -> u8
     ensures words { (segments : List (List ℕ)) (rest : List ℕ) →
@@ -70,7 +70,7 @@ pub extern "C" fn linsjoar_segment(bytes: &[u8], id: u32, words: &mut usize) -> 
     ensures none { (segments : List (List ℕ)) (rest : List ℕ) →
         IsAtFront bytes.now segments rest → length segments ≤ id → result ≡ 18 }
     ensures refused { (kind : ErrorKind) → RefusesFlat by_fields Zero default_limit kind bytes.now →
-        result ≡ number_of kind }
+        result ≡ kind_number kind }
 {
     *words = 0;
     match NoAllocBufferSegments::from_buffer(bytes, DEFAULT_READER_OPTIONS) {
@@ -95,7 +95,7 @@ pub extern "C" fn linsjoar_next_message(bytes: &[u8], message_len: &mut usize) -
     ensures accepted { (segments : List (List ℕ)) (rest : List ℕ) →
         IsAtFront bytes.now segments rest → (result ≡ 0) × (0 < message_len.new) }
     ensures refused { (kind : ErrorKind) → 0 < length bytes.now →
-        RefusesFlat by_fields Zero default_limit kind bytes.now → result ≡ number_of kind }
+        RefusesFlat by_fields Zero default_limit kind bytes.now → result ≡ kind_number kind }
     ensures stays { 0 < result → message_len.new ≡ 0 }
 {
     *message_len = 0;

@@ -1,11 +1,11 @@
 //! The library for C: words packed and unpacked, framed messages checked and listed, canonical words.
 //!
-//! Each export works over buffers that its caller lends, and takes no memory. It answers 0, or the
+//! Each export works over buffers that its caller lends, and takes no memory. It returns 0, or the
 //! number of a refusal (docs/REFUSALS.md). `capnp_c.h` declares them.
 #![tactic(auto)]
 
 mod canonical;
 mod framed;
-mod lent_text;
 mod packed;
 mod packed_messages;
+mod provided_text;

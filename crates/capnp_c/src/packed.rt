@@ -2,15 +2,15 @@
 ghost use Rattle.std.specs.Prelude.{◌≡◌, ◌⊎◌, ◌<◌, ◌≤◌, ◌+◌, ℕ, List, length, take, IfErr, OnOk, IsOk};
 ghost use Rattle.std.specs.Result.{IsErrAnd};
 ghost use Rattle.capnp_frame.specs.Message.{IsWholeWords};
-ghost use Rattle.capnp_frame.specs.Numbers.{number_of};
+ghost use Rattle.capnp_frame.specs.Numbers.{kind_number};
 ghost use Rattle.capnp_frame.specs.Sink.{Adds, Grows};
 ghost use Rattle.capnp_frame.specs.Source.{IfKnown, IsRefused, Fails};
 ghost use Rattle.capnp_frame.specs.declared.error.ErrorKind.{ErrorKind};
 ghost use Rattle.capnp_pack.specs.Packed.{Packs};
 ghost use Rattle.capnp_pack.specs.PackedSink.{AppendsPacked, DeclinesPacked};
-ghost use Rattle.capnp_pack.specs.PackedSource.{Unpacks, RefusesPiece};
+ghost use Rattle.capnp_pack.specs.PackedSource.{Unpacks, RefusesChunk};
 
-use crate::lent_text::LentText;
+use crate::provided_text::ProvidedText;
 use capnp_frame::Result;
 use capnp_frame::io::{BufRead, Read, Write};
 use capnp_pack::{PackedRead, PackedWrite, laws};
@@ -32,7 +32,7 @@ pub extern "C" fn linsjoar_pack(words: &[u8], text: &mut [u8], written: &mut usi
 {
     laws::plain_sink_gets_the_packed_text();
     *written = 0;
-    let mut sink = LentText::new(text);
+    let mut sink = ProvidedText::new(text);
     match pack_into(&mut sink, words) {
         Ok(()) => {
             *written = sink.len();
@@ -69,8 +69,8 @@ pub extern "C" fn linsjoar_unpack(text: &[u8], words: &mut [u8], read: &mut usiz
         × (read.new + length rest ≡ length text.now) }
     ensures accepted { (bytes rest : List ℕ) → Unpacks text.now (length words.new) bytes rest →
         result ≡ 0 }
-    ensures refused { (kind : ErrorKind) → RefusesPiece text.now (length words.new) kind →
-        result ≡ number_of kind }
+    ensures refused { (kind : ErrorKind) → RefusesChunk text.now (length words.new) kind →
+        result ≡ kind_number kind }
 {
     *read = 0;
     let mut source = text;
@@ -90,7 +90,7 @@ fn unpack_from<R: BufRead>(source: &mut R, words: &mut [u8]) -> Result<()>
     ensures failed { IfErr result (λ error. error.kind ≡ ErrorKind.DeviceFailed →
         Fails (R.failures source.old) (R.failures source.new)) }
     ensures refused { IfErr result (λ error. (error.kind ≡ ErrorKind.DeviceFailed)
-        ⊎ IsRefused RefusesPiece (length words.new) (R.unread source.old) error.kind) }
+        ⊎ IsRefused RefusesChunk (length words.new) (R.unread source.old) error.kind) }
 {
     let mut packed = PackedRead::new(source);
     packed.read_exact(words)

@@ -5,17 +5,17 @@ ghost use Rattle.capnp_frame.specs.declared.serialize.segment_table.Padding.TheV
 ghost use Rattle.capnp_frame.specs.FlatRefusals.{by_fields, RefusesFlat};
 ghost use Rattle.capnp_frame.specs.Limits.{IsWithin, default_limit};
 ghost use Rattle.capnp_frame.specs.Message.{lengths, size_in_words};
-ghost use Rattle.capnp_frame.specs.Numbers.{number_of};
+ghost use Rattle.capnp_frame.specs.Numbers.{kind_number};
 ghost use Rattle.capnp_frame.specs.Refusals.{RefusesStream};
 ghost use Rattle.capnp_frame.specs.SegmentTable.{table_size, zero_padded_table};
 ghost use Rattle.capnp_frame.specs.declared.error.ErrorKind.{ErrorKind};
 ghost use Rattle.capnp_pack.specs.PackedFrame.{IsPackedText, PackedStands};
-ghost use Rattle.capnp_pack.specs.PackedSource.{Unpacks, RefusesPiece};
+ghost use Rattle.capnp_pack.specs.PackedSource.{Unpacks, RefusesChunk};
 ghost use Rattle.capnp_c.specs.Fronts.{IsAtFront};
-ghost use Rattle.capnp_c.specs.Packing.{IsMessage, PacksPieces, packed_pieces};
+ghost use Rattle.capnp_c.specs.Packing.{IsMessage, PacksChunks, packed_chunks};
 
-use crate::lent_text::LentText;
 use crate::packed::pack_into;
+use crate::provided_text::ProvidedText;
 use capnp_frame::io::Write;
 use capnp_frame::message::{DEFAULT_READER_OPTIONS, ReaderSegments};
 use capnp_frame::serialize::{NoAllocBufferSegments, NoAllocSliceSegments};
@@ -25,7 +25,7 @@ use capnp_pack::stream::try_read_packed_text_into;
 /// Packs a framed message, and tells how many bytes that took: the first word of its table, the
 /// table's other words, and each segment are packed one by one.
 ///
-/// The bytes are one message and no more: what is cut, and what follows the message, are refused by 6.
+/// The bytes are one message and no more: what is cut, and what follows the message, fail with 6.
 #[unsafe(no_mangle)]
 pub extern "C" fn linsjoar_pack_message(
     framed: &[u8],
@@ -42,7 +42,7 @@ pub extern "C" fn linsjoar_pack_message(
     ensures trailing { (segments : List (List ℕ)) (rest : List ℕ) →
         IsAtFront framed.now segments rest → 0 < length rest → result ≡ 6 }
     ensures refused { (kind : ErrorKind) → RefusesFlat by_fields Zero default_limit kind framed.now →
-        result ≡ number_of kind }
+        result ≡ kind_number kind }
     ensures stays { 0 < result → packed_len.new ≡ 0 }
 {
     *packed_len = 0;
@@ -51,8 +51,8 @@ pub extern "C" fn linsjoar_pack_message(
         Err(error) => return error.kind.number(),
     };
     let table = table_of(framed, &segments);
-    let mut text = LentText::new(packed);
-    match pack_pieces(&mut text, table, &segments) {
+    let mut text = ProvidedText::new(packed);
+    match pack_chunks(&mut text, table, &segments) {
         Ok(()) => {
             *packed_len = text.len();
             0
@@ -63,7 +63,8 @@ pub extern "C" fn linsjoar_pack_message(
 
 /// Unpacks the packed message at the front of these bytes into its framed text, and tells how many
 /// bytes that has, and how many packed ones it took, so that a caller steps from one message to the
-/// next. Where there are no packed bytes it returns 9, and before all else 2 where there is no room for 8.
+/// next. Where there are no packed bytes it returns 9, and before all else 2 where there is no room
+/// for 8.
 #[unsafe(no_mangle)]
 pub extern "C" fn linsjoar_unpack_message(
     packed: &[u8],
@@ -81,8 +82,8 @@ pub extern "C" fn linsjoar_unpack_message(
         table_size (length segments) + 8 * size_in_words segments ≤ length framed.new → result ≡ 0 }
     ensures none { packed.now ≡ [] → 8 ≤ length framed.new → result ≡ 9 }
     ensures refused { (kind : ErrorKind) (left : List ℕ) →
-        RefusesStream Zero Unpacks RefusesPiece default_limit (Some (length framed.new)) kind packed.now left →
-        result ≡ number_of kind }
+        RefusesStream Zero Unpacks RefusesChunk default_limit (Some (length framed.new)) kind packed.now left →
+        result ≡ kind_number kind }
     ensures stays { 0 < result → (framed_len.new ≡ 0) × (packed_read.new ≡ 0) }
 {
     *framed_len = 0;
@@ -99,14 +100,14 @@ pub extern "C" fn linsjoar_unpack_message(
     }
 }
 
-// The message that these bytes are. Bytes after it are refused by the kind of a message that is cut.
+// The message that these bytes are. Bytes after it fail with the kind of a message that is cut.
 fn whole_message<'a>(framed: &'a [u8]) -> Result<NoAllocSliceSegments<'a>>
     ensures whole { IfOk result (λ held. IsMessage framed.now held.segments) }
     ensures few { IfOk result (λ held. length held.segments < 512) }
     ensures accepted { (segments : List (List ℕ)) → IsMessage framed.now segments → IsOk result }
     ensures trailing { (segments : List (List ℕ)) (rest : List ℕ) →
         IsAtFront framed.now segments rest → 0 < length rest →
-        IsErrAnd result (λ error. number_of error.kind ≡ 6) }
+        IsErrAnd result (λ error. kind_number error.kind ≡ 6) }
     ensures exact { (kind : ErrorKind) → RefusesFlat by_fields Zero default_limit kind framed.now →
         IsErrAnd result (λ error. error.kind ≡ kind) }
 {
@@ -130,10 +131,10 @@ fn table_of<'a>(framed: &'a [u8], segments: &NoAllocSliceSegments<'a>) -> &'a [u
 }
 
 // Packs the first word of a table, its other words, and each segment into a sink.
-fn pack_pieces<W: Write, S: ReaderSegments>(sink: &mut W, table: &[u8], segments: &S) -> Result<()>
+fn pack_chunks<W: Write, S: ReaderSegments>(sink: &mut W, table: &[u8], segments: &S) -> Result<()>
     requires word { 8 ≤ length table.now }
     requires few { length (S.segments segments.now) < 2 ^ 32 }
-    ensures { PacksPieces W.Write sink.old sink.new
+    ensures { PacksChunks W.Write sink.old sink.new
         (take 8 table.now ∷ drop 8 table.now ∷ S.segments segments.now) result }
 {
     pack_into(sink, &table[..8])?;
@@ -144,7 +145,7 @@ fn pack_pieces<W: Write, S: ReaderSegments>(sink: &mut W, table: &[u8], segments
 // Packs each segment into a sink.
 fn pack_each<W: Write, S: ReaderSegments>(sink: &mut W, segments: &S) -> Result<()>
     requires { length (S.segments segments.now) < 2 ^ 32 }
-    ensures { PacksPieces W.Write sink.old sink.new (S.segments segments.now) result }
+    ensures { PacksChunks W.Write sink.old sink.new (S.segments segments.now) result }
 {
     let mut index = 0;
     while let Some(segment) = segment_at(segments, index) {

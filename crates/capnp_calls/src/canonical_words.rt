@@ -7,16 +7,16 @@ use std::test::Fail;
 
 const DEFAULT: Option<usize> = Some(8 * 1024 * 1024);
 
-type Answer = std::result::Result<bool, u8>;
+type Expected = std::result::Result<bool, u8>;
 
 // Segments, a traversal limit, and whether they are canonical, or the refusal's number.
 #[rattlefmt::skip]
-const ANSWERS: [(&[&[u8]], Option<usize>, Answer); 30] = [
+const EXPECTED: [(&[&[u8]], Option<usize>, Expected); 30] = [
     // "Hello, World!"
     (&[b"\x01\0\0\0\x72\0\0\0Hello, World!\0\0\0"],             DEFAULT, Ok(true)),
     (&[b"\x01\0\0\0\x72\0\0\0Hello, World!\0\0\0"],             Some(1), Err(20)),
     (&[b"\x01\0\0\0\x72\0\0\0Hello, World!\0\0\0"],             Some(2), Ok(true)),
-    // "hello world!" behind a far pointer, and by itself
+    // "hello world!" after a far pointer, and by itself
     (&[b"\x02\0\0\0\x01\0\0\0", b"\x01\0\0\0\x6a\0\0\0hello world!\0\0\0\0"], DEFAULT, Ok(false)),
     (&[b"\x01\0\0\0\x6a\0\0\0hello world!\0\0\0\0"],            DEFAULT, Ok(true)),
     // a struct of two words and a null pointer, and what is left of it
@@ -36,11 +36,11 @@ const ANSWERS: [(&[&[u8]], Option<usize>, Answer); 30] = [
     // a pointer back, and one to itself
     (&[b"\0\0\0\0\0\0\x01\0\xf9\xff\xff\xff\x0f\0\0\0"],        DEFAULT, Ok(false)),
     (&[b"\0\0\0\0\0\0\x01\0\xfc\xff\xff\xff\0\0\x01\0"],        DEFAULT, Ok(false)),
-    // "A" behind pads of one and two words
+    // "A" after landing pads of one and two words
     (&[b"\x0a\0\0\0\0\0\0\0\x01\0\0\0\x12\0\0\0\x41\0\0\0\0\0\0\0"], DEFAULT, Ok(false)),
     (&[b"\x06\0\0\0\x01\0\0\0", b"\x02\0\0\0\x02\0\0\0\x01\0\0\0\x12\0\0\0", b"\x41\0\0\0\0\0\0\0"],
                                                                 DEFAULT, Ok(false)),
-    // a list of one byte, with another behind it
+    // a list of one byte, with another after it
     (&[b"\x01\0\0\0\x0a\0\0\0\x41\0\0\0\0\0\0\x01"],            DEFAULT, Ok(false)),
     (&[b"\x01\0\0\0\x0a\0\0\0\x41\0\0\0\0\0\0\0"],              DEFAULT, Ok(true)),
     // one bit, no elements
@@ -60,7 +60,7 @@ const ANSWERS: [(&[&[u8]], Option<usize>, Answer); 30] = [
     (&[b"\0\0\0\0\0\0\0\0\0\0\0\0\0\0\0\0"],                    DEFAULT, Ok(false)),
 ];
 
-fn answer(is: Result<bool>) -> Answer {
+fn returned(is: Result<bool>) -> Expected {
     match is {
         Ok(is) => Ok(is),
         Err(error) => Err(error.kind.number()),
@@ -70,20 +70,20 @@ fn answer(is: Result<bool>) -> Answer {
 // Each is asked twice: the walk leaves what is read of the message as it was.
 #[test]
 fn canonical_forms(rt: HostRuntime) {
-    for (segments, limit, wanted) in ANSWERS {
+    for (segments, limit, wanted) in EXPECTED {
         let mut options = ReaderOptions::new();
         options.traversal_limit_in_words(limit);
         let arena = ReaderArena::new(SegmentArray::new(segments), options);
-        assert_eq!(rt; answer(arena.is_canonical()), wanted, "at {segments:?}");
+        assert_eq!(rt; returned(arena.is_canonical()), wanted, "at {segments:?}");
         assert_eq!(rt;
-            answer(arena.is_canonical()),
+            returned(arena.is_canonical()),
             wanted,
             "again at {segments:?}"
         );
     }
 }
 
-// So many structs of one pointer, each held by the one before, and a null pointer.
+// A given number of structs of one pointer, each held by the one before, and a null pointer.
 fn chain(alloc: Global, structs: usize) -> std::result::Result<Vec<u8>, Fail> {
     let mut bytes = Vec::new(alloc);
     for _struct in 0..structs {
@@ -99,10 +99,10 @@ fn deep_trees(rt: HostRuntime) -> std::result::Result<(), Fail> {
     let past = chain(rt.alloc(), 65)?;
     let segments = [within.as_slice()];
     let arena = ReaderArena::new(SegmentArray::new(&segments), ReaderOptions::new());
-    assert_eq!(rt; answer(arena.is_canonical()), Ok(false));
+    assert_eq!(rt; returned(arena.is_canonical()), Ok(false));
     let segments = [past.as_slice()];
     let arena = ReaderArena::new(SegmentArray::new(&segments), ReaderOptions::new());
-    assert_eq!(rt; answer(arena.is_canonical()), Err(19));
+    assert_eq!(rt; returned(arena.is_canonical()), Err(19));
     Ok(())
 }
 
@@ -122,6 +122,6 @@ fn shared_lists(rt: HostRuntime) -> std::result::Result<(), Fail> {
     options.traversal_limit_in_words(None);
     let segments = [bytes.as_slice()];
     let arena = ReaderArena::new(SegmentArray::new(&segments), options);
-    assert_eq!(rt; answer(arena.is_canonical()), Ok(false));
+    assert_eq!(rt; returned(arena.is_canonical()), Ok(false));
     Ok(())
 }

@@ -1,4 +1,4 @@
-//! Each public call once where it succeeds, since memory may be refused by every contract.
+//! Each public call once where it succeeds, since every contract lets memory be refused.
 use capnp_frame::io::Write;
 use capnp_frame::message::{ReaderOptions, ReaderSegments, SegmentArray};
 use capnp_frame::serialize::{
@@ -11,7 +11,7 @@ use capnp_frame::serialize::{
 use capnp_frame::{Word, word};
 use std::test::Fail;
 
-// Two segments, of one and of two words, and behind their frame two words more.
+// Two segments, of one and of two words, and after their frame two words more.
 #[rattlefmt::skip]
 const FRAME_AND_MORE: [u8; 56] = [
     1, 0, 0, 0, 1, 0, 0, 0, 2, 0, 0, 0, 0, 0, 0, 0,
@@ -51,9 +51,9 @@ fn takes_and_writes(rt: HostRuntime) -> Result<(), Fail> {
     write_segments(rt.alloc(), &mut sink, &segments)?;
     assert_eq!(rt; sink.as_slice(), &all[..40]);
     let mut room = [1; 40];
-    let mut lent: &mut [u8] = &mut room;
-    write_segments(rt.alloc(), &mut lent, &&segments)?;
-    assert_eq!(rt; lent.len(), 0);
+    let mut provided: &mut [u8] = &mut room;
+    write_segments(rt.alloc(), &mut provided, &&segments)?;
+    assert_eq!(rt; provided.len(), 0);
     assert_eq!(rt; room.as_slice(), &all[..40]);
     Ok(())
 }
@@ -176,8 +176,8 @@ fn words_are_their_bytes(rt: HostRuntime) -> Result<(), Fail> {
         [1, 2, 3, 4, 5, 6, 7, 8]
     );
     let mut two = [0; 2];
-    let mut lent: &mut [u8] = &mut two;
-    assert!(rt; lent.write_all(&[1, 2, 3]).is_err());
-    assert_eq!(rt; lent.len(), 2);
+    let mut provided: &mut [u8] = &mut two;
+    assert!(rt; provided.write_all(&[1, 2, 3]).is_err());
+    assert_eq!(rt; provided.len(), 2);
     Ok(())
 }

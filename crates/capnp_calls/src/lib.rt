@@ -6,8 +6,6 @@
 #[cfg(test)]
 mod canonical_words;
 #[cfg(test)]
-mod charges;
-#[cfg(test)]
 mod framing;
 #[cfg(test)]
 mod objects;
@@ -16,6 +14,8 @@ mod packing;
 pub mod refusals;
 #[cfg(test)]
 mod rows;
+#[cfg(test)]
+mod traversals;
 #[cfg(test)]
 mod unlimited_roots;
 #[cfg(test)]

@@ -23,11 +23,11 @@ const ROOTS: [(&[&[u8]], [u8; 4]); 25] = [
     (&[b"\0\0\0\0\0\0\0\0"],                                    [0, 0, 0, 0]),
     (&[b"\xfc\xff\xff\xff\0\0\0\0"],                            [22, 22, 22, 0]),
     (&[b"\0\0\0\0\0\0\x01\0\xf9\xff\xff\xff\x0f\0\0\0"],        [22, 22, 22, 0]),
-    // behind pads of one and two words
+    // after landing pads of one and two words
     (&[b"\x0a\0\0\0\0\0\0\0\x01\0\0\0\x12\0\0\0\x41\0\0\0\0\0\0\0"], [0, 0, 22, 22]),
     (&[b"\x06\0\0\0\x01\0\0\0", b"\x02\0\0\0\x02\0\0\0\x01\0\0\0\x12\0\0\0", b"\x41\0\0\0\0\0\0\0"],
                                                                 [0, 0, 22, 22]),
-    // a pad of zeros is an empty struct
+    // a landing pad of zeros is an empty struct
     (&[b"\x0a\0\0\0\0\0\0\0\0\0\0\0\0\0\0\0"],                  [22, 22, 22, 0]),
     // no segment, no word, a capability
     (&[],                                                       [18, 18, 18, 18]),
@@ -38,7 +38,7 @@ const ROOTS: [(&[&[u8]], [u8; 4]); 25] = [
     (&[b"\x01\0\0\0\x4a\0\0\0\x41\0\0\0\0\0\0\0"],              [17, 17, 17, 17]),
     (&[b"\xf8\xff\xff\xff\0\0\0\0"],                            [17, 17, 17, 17]),
     (&[b"\xfc\xff\xff\x7f\0\0\0\0"],                            [17, 17, 17, 17]),
-    // pads: in no segment, past the end, that lead to pads
+    // landing pads: in no segment, past the end, that lead to landing pads
     (&[b"\x02\0\0\0\x07\0\0\0"],                                [18, 18, 18, 18]),
     (&[b"\x0a\0\0\0\0\0\0\0"],                                  [17, 17, 17, 17]),
     (&[b"\x02\0\0\0\x01\0\0\0", b"\x02\0\0\0\0\0\0\0"],         [17, 17, 17, 17]),

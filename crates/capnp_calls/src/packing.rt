@@ -1,4 +1,4 @@
-//! Packed messages of a slice, and a piece that isn't packed. Rows of bytes are tests of `capnp_rows`.
+//! Packed messages of a slice, and a chunk that isn't packed. Rows of bytes are tests of `capnp_rows`.
 use capnp_frame::io::Write;
 use capnp_frame::message::{DEFAULT_READER_OPTIONS, ReaderSegments};
 use capnp_frame::serialize::OwnedSegments;
@@ -13,9 +13,9 @@ use capnp_pack::stream::{
 #[test]
 fn a_part_of_a_word_is_not_written(rt: HostRuntime) {
     let mut out: Vec<u8> = Vec::new(rt.alloc());
-    let answer = PackedWrite::new(&mut out).write_all(&[1; 12]);
+    let returned = PackedWrite::new(&mut out).write_all(&[1; 12]);
     assert_eq!(rt;
-        answer.map_err(|error| error.kind),
+        returned.map_err(|error| error.kind),
         Err(ErrorKind::NotWholeWords)
     );
     assert!(rt; out.is_empty());
@@ -41,7 +41,7 @@ fn messages_end_with_the_source(rt: HostRuntime) -> Result<()> {
 
 // A message of one word of nines, in a buffer with room for it and in one without.
 #[test]
-fn a_message_into_a_lent_buffer(rt: HostRuntime) -> Result<()> {
+fn a_message_into_a_provided_buffer(rt: HostRuntime) -> Result<()> {
     let packed = [0x10, 1, 0xff, 9, 9, 9, 9, 9, 9, 9, 9, 0, 7];
     let mut buffer = [0; 16];
     let mut source: &[u8] = &packed;
@@ -73,7 +73,7 @@ fn a_text_into_a_buffer(rt: HostRuntime) -> Result<()> {
     Ok(())
 }
 
-// Segments [] and [1, 2, 3, 4, 5, 6, 7, 8], a padding of nines, and a byte behind them.
+// Segments [] and [1, 2, 3, 4, 5, 6, 7, 8], a padding of nines, and a byte after them.
 #[test]
 fn messages_of_any_padding(rt: HostRuntime) -> Result<()> {
     let packed = [

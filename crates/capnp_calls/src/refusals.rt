@@ -1,17 +1,17 @@
 //! Refusals by their numbers.
 use capnp_frame::{ErrorKind, Result};
 
-/// The number of a refusal, and 0 for an answer.
-pub fn refusal<T: Drop>(answer: Result<T>) -> u8 {
-    match answer {
+/// The number of a refusal, and 0 for a result.
+pub fn refusal<T: Drop>(returned: Result<T>) -> u8 {
+    match returned {
         Ok(_) => 0,
         Err(error) => error.kind.number(),
     }
 }
 
 /// The number of a refusal, and the words that come with 15; 0 for what there is not.
-pub fn allocation_refusal<T: Drop>(answer: Result<T>) -> (u8, u32) {
-    match answer {
+pub fn allocation_refusal<T: Drop>(returned: Result<T>) -> (u8, u32) {
+    match returned {
         Ok(_) => (0, 0),
         Err(error) => match error.kind {
             ErrorKind::AllocationTooLarge(words) => (15, words),

@@ -4,7 +4,7 @@ use capnp_frame::message::SegmentArray;
 use capnp_wire::{any_pointer, text};
 use std::test::Fail;
 
-// "Hello, World!", and "A" behind pads of one and of two words.
+// "Hello, World!", and "A" after landing pads of one and of two words.
 #[rattlefmt::skip]
 const TEXTS: [(&[&[u8]], &[u8]); 3] = [
     (&[b"\x01\0\0\0\x72\0\0\0Hello, World!\0\0\0"], b"Hello, World!"),
@@ -32,7 +32,8 @@ const SIZES: [(&[&[u8]], std::result::Result<u64, u8>); 7] = [
     (&[], Ok(0)),
     (&[b"\0\0\0\0\0\0\0\0"], Ok(0)),
     (&[b""], Err(17)),
-    // 536,870,911 nothings, and 1,073,741,823 structs of no words behind a tag: more than the default limit
+    // 536,870,911 nothings, and 1,073,741,823 structs of no words after a tag: more than the default
+    // limit
     (&[b"\x01\0\0\0\xf8\xff\xff\xff"], Ok(0)),
     (&[b"\x01\0\0\0\x07\0\0\0\xfc\xff\xff\xff\0\0\0\0"], Ok(1)),
     // a capability, and a far pointer to no segment

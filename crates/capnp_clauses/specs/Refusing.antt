@@ -9,10 +9,11 @@ use Rattle.capnp_frame.specs.Source.{Giving, Refusing, IfKnown}
 use Rattle.capnp_frame.specs.Refusals.{RefusesStream, TakesMemory}
 
 -- at the end of the source
-abbrev pub IsAtEnd : Option (List ℕ) → Type 0
-IsAtEnd unread = IfSome unread (λ raw. raw ≡ [])
+abbrev pub HasEnded : Option (List ℕ) → Type 0
+HasEnded unread = IfSome unread (λ raw. raw ≡ [])
 
--- How a reader that grows is refused: by the device, for want of memory where it takes some, or by a line of the table of refusals (docs/REFUSALS.md), and the line that holds first is answered, but for these two.
+-- How a reader that grows is refused: by the device, for want of memory where it takes some, or by a line of the table of
+-- refusals (docs/REFUSALS.md), and the line that holds first is returned, but for these two.
 pub record RefusesGrowing {X : Type 0} (gives : Giving) (refuses : Refusing) (limit : Option ℕ) (result : Result X Error) (old new : Option (List ℕ)) : Type 0 where
   pub told : IfErr result (λ error. (error.kind ≡ DeviceFailed)
       ⊎ ((error.kind ≡ OutOfMemory) × IfKnown old new (TakesMemory Any gives limit))
@@ -20,8 +21,8 @@ pub record RefusesGrowing {X : Type 0} (gives : Giving) (refuses : Refusing) (li
   pub exact : IfSome old (λ raw. (kind : ErrorKind) (left : List ℕ) → RefusesStream Any gives refuses limit None kind raw left →
       IsErrAnd result (λ error. (error.kind ≡ DeviceFailed) ⊎ (error.kind ≡ OutOfMemory) ⊎ (error.kind ≡ kind)))
 
--- The same of a reader into a lent buffer of so many bytes, which takes no memory.
-pub record RefusesLent {X : Type 0} (gives : Giving) (refuses : Refusing) (limit : Option ℕ) (room : ℕ) (result : Result X Error) (old new : Option (List ℕ)) : Type 0 where
+-- How a reader fails that reads into a caller-provided buffer of a given number of bytes, which takes no memory.
+pub record RefusesProvided {X : Type 0} (gives : Giving) (refuses : Refusing) (limit : Option ℕ) (room : ℕ) (result : Result X Error) (old new : Option (List ℕ)) : Type 0 where
   pub told : IfErr result (λ error. (error.kind ≡ DeviceFailed)
       ⊎ IfKnown old new (RefusesStream Any gives refuses limit (Some room) error.kind))
   pub exact : IfSome old (λ raw. (kind : ErrorKind) (left : List ℕ) → RefusesStream Any gives refuses limit (Some room) kind raw left →
@@ -31,14 +32,14 @@ pub record RefusesLent {X : Type 0} (gives : Giving) (refuses : Refusing) (limit
 pub record RefusesGrowingOrEnds {X : Type 0} (gives : Giving) (refuses : Refusing) (limit : Option ℕ) (result : Result X Error) (old new : Option (List ℕ)) : Type 0 where
   pub told : IfErr result (λ error. (error.kind ≡ DeviceFailed)
       ⊎ ((error.kind ≡ OutOfMemory) × IfKnown old new (TakesMemory Any gives limit))
-      ⊎ (IsAtEnd old × (error.kind ≡ PrematureEndOfFile))
+      ⊎ (HasEnded old × (error.kind ≡ PrematureEndOfFile))
       ⊎ IfKnown old new (RefusesStream Any gives refuses limit None error.kind))
   pub exact : IfSome old (λ raw. (kind : ErrorKind) (left : List ℕ) → RefusesStream Any gives refuses limit None kind raw left →
       IsErrAnd result (λ error. (error.kind ≡ DeviceFailed) ⊎ (error.kind ≡ OutOfMemory) ⊎ (error.kind ≡ kind)))
 
-pub record RefusesLentOrEnds {X : Type 0} (gives : Giving) (refuses : Refusing) (limit : Option ℕ) (room : ℕ) (result : Result X Error) (old new : Option (List ℕ)) : Type 0 where
+pub record RefusesProvidedOrEnds {X : Type 0} (gives : Giving) (refuses : Refusing) (limit : Option ℕ) (room : ℕ) (result : Result X Error) (old new : Option (List ℕ)) : Type 0 where
   pub told : IfErr result (λ error. (error.kind ≡ DeviceFailed)
-      ⊎ (IsAtEnd old × (error.kind ≡ PrematureEndOfFile))
+      ⊎ (HasEnded old × (error.kind ≡ PrematureEndOfFile))
       ⊎ IfKnown old new (RefusesStream Any gives refuses limit (Some room) error.kind))
   pub exact : IfSome old (λ raw. (kind : ErrorKind) (left : List ℕ) → RefusesStream Any gives refuses limit (Some room) kind raw left →
       IsErrAnd result (λ error. (error.kind ≡ DeviceFailed) ⊎ (error.kind ≡ kind)))

@@ -4,15 +4,15 @@ ghost use Rattle.std.specs.List.{AllByRecursion};
 ghost use Rattle.std.specs.Result.{IsErrAnd};
 ghost use Rattle.capnp_frame.specs.declared.serialize.segment_table.Padding.TheVariants.{Any};
 ghost use Rattle.capnp_frame.specs.declared.error.ErrorKind.{ErrorKind};
-ghost use Rattle.capnp_frame.specs.Errors.{IsRefusedBy};
+ghost use Rattle.capnp_frame.specs.Errors.{FailsWith};
 ghost use Rattle.capnp_frame.specs.Limits.{IsWithin};
 ghost use Rattle.capnp_frame.specs.Message.{IsWholeWords};
 ghost use Rattle.capnp_frame.specs.Source.{IfKnown, Advances, Fails};
 ghost use Rattle.capnp_frame.specs.Requests.{MessageStands};
-ghost use Rattle.capnp_frame.specs.Refusals.{IsReaderKind, IsLentReaderKind};
+ghost use Rattle.capnp_frame.specs.Refusals.{IsReaderKind, IsProvidedReaderKind};
 ghost use Rattle.capnp.specs.Streams.{IsPlainSource, BeginsFramed};
-ghost use Rattle.capnp.specs.Headline.{IsFault, HasRoom};
-ghost use Rattle.capnp_clauses.specs.Refusing.{RefusesGrowing, RefusesLent, RefusesGrowingOrEnds, RefusesLentOrEnds};
+ghost use Rattle.capnp.specs.Headline.{IsFault, BufferHasRoom};
+ghost use Rattle.capnp_clauses.specs.Refusing.{RefusesGrowing, RefusesProvided, RefusesGrowingOrEnds, RefusesProvidedOrEnds};
 
 use capnp::serialize;
 use capnp_frame::io::Read;
@@ -118,7 +118,7 @@ pub fn try_read_message_no_alloc_lenient<'b, R: Read>(
     ensures accepted { IsPlainSource R.gives R.refuses → IfSome (R.unread source.old) (λ raw.
         (message : List (List ℕ)) (rest : List ℕ) →
         BeginsFramed Any options.traversal_limit_in_words message raw rest →
-        HasRoom (length buffer.old) message →
+        BufferHasRoom (length buffer.old) message →
         IfErr result (λ error. error.kind ≡ ErrorKind.DeviceFailed)) }
     ensures none { IfOk result (λ found. IfNone found
         (IfSome (R.unread source.old) (λ raw. raw ≡ []))) }
@@ -135,13 +135,13 @@ pub fn try_read_message_no_alloc_lenient<'b, R: Read>(
         IsWithin reader.segments.segments options.traversal_limit_in_words)) }
     ensures whole { IfOk result (λ found. IfSome found (λ reader.
         AllByRecursion IsWholeWords reader.segments.segments)) }
-    ensures refused { RefusesLent R.gives R.refuses
+    ensures refused { RefusesProvided R.gives R.refuses
         options.traversal_limit_in_words (length buffer.old) result
         (R.unread source.old) (R.unread source.new) }
     // Under 8 bytes of room nothing is asked for.
     ensures short { length buffer.old < 8 →
-        (source.new ≡ source.old) × IsRefusedBy result ErrorKind.BufferNotLargeEnough }
-    ensures kinds { IfErr result (λ error. IsLentReaderKind Any R.refuses error.kind) }
+        (source.new ≡ source.old) × FailsWith result ErrorKind.BufferNotLargeEnough }
+    ensures kinds { IfErr result (λ error. IsProvidedReaderKind Any R.refuses error.kind) }
     ensures failed { IfErr result (λ error. error.kind ≡ ErrorKind.DeviceFailed →
         Fails (R.failures source.old) (R.failures source.new)) }
     ensures advances { Advances R.unread R.failures R.same source.old source.new }
@@ -165,7 +165,7 @@ pub fn read_message_no_alloc_lenient<'b, R: Read>(
     ensures accepted { IsPlainSource R.gives R.refuses → IfSome (R.unread source.old) (λ raw.
         (message : List (List ℕ)) (rest : List ℕ) →
         BeginsFramed Any options.traversal_limit_in_words message raw rest →
-        HasRoom (length buffer.old) message →
+        BufferHasRoom (length buffer.old) message →
         IfErr result (λ error. error.kind ≡ ErrorKind.DeviceFailed)) }
     ensures end { R.unread source.old ≡ Some [] → 8 ≤ length buffer.old →
         IsErrAnd result (λ error. (error.kind ≡ ErrorKind.PrematureEndOfFile)
@@ -181,14 +181,14 @@ pub fn read_message_no_alloc_lenient<'b, R: Read>(
         IsWithin reader.segments.segments options.traversal_limit_in_words) }
     ensures whole { IfOk result (λ reader.
         AllByRecursion IsWholeWords reader.segments.segments) }
-    ensures refused { RefusesLentOrEnds R.gives R.refuses
+    ensures refused { RefusesProvidedOrEnds R.gives R.refuses
         options.traversal_limit_in_words (length buffer.old) result
         (R.unread source.old) (R.unread source.new) }
     // Under 8 bytes of room nothing is asked for.
     ensures short { length buffer.old < 8 →
-        (source.new ≡ source.old) × IsRefusedBy result ErrorKind.BufferNotLargeEnough }
+        (source.new ≡ source.old) × FailsWith result ErrorKind.BufferNotLargeEnough }
     ensures kinds { IfErr result (λ error. (error.kind ≡ ErrorKind.PrematureEndOfFile)
-        ⊎ IsLentReaderKind Any R.refuses error.kind) }
+        ⊎ IsProvidedReaderKind Any R.refuses error.kind) }
     ensures failed { IfErr result (λ error. error.kind ≡ ErrorKind.DeviceFailed →
         Fails (R.failures source.old) (R.failures source.new)) }
     ensures advances { Advances R.unread R.failures R.same source.old source.new }

@@ -4,15 +4,15 @@ ghost use Rattle.std.specs.List.{AllByRecursion};
 ghost use Rattle.std.specs.Result.{IsErrAnd};
 ghost use Rattle.capnp_frame.specs.declared.serialize.segment_table.Padding.TheVariants.{Any};
 ghost use Rattle.capnp_frame.specs.declared.error.ErrorKind.{ErrorKind};
-ghost use Rattle.capnp_frame.specs.Errors.{IsRefusedBy};
+ghost use Rattle.capnp_frame.specs.Errors.{FailsWith};
 ghost use Rattle.capnp_frame.specs.Limits.{IsWithin};
 ghost use Rattle.capnp_frame.specs.Message.{IsWholeWords};
 ghost use Rattle.capnp_frame.specs.Source.{IfKnown, Advances, Fails};
-ghost use Rattle.capnp_frame.specs.Refusals.{IsReaderKind, IsLentReaderKind};
-ghost use Rattle.capnp_pack.specs.PackedSource.{Unpacks, RefusesPiece};
+ghost use Rattle.capnp_frame.specs.Refusals.{IsReaderKind, IsProvidedReaderKind};
+ghost use Rattle.capnp_pack.specs.PackedSource.{Unpacks, RefusesChunk};
 ghost use Rattle.capnp.specs.Streams.{BeginsPacked};
-ghost use Rattle.capnp.specs.Headline.{IsFault, HasRoom};
-ghost use Rattle.capnp_clauses.specs.Refusing.{RefusesGrowing, RefusesLent, RefusesGrowingOrEnds, RefusesLentOrEnds};
+ghost use Rattle.capnp.specs.Headline.{IsFault, BufferHasRoom};
+ghost use Rattle.capnp_clauses.specs.Refusing.{RefusesGrowing, RefusesProvided, RefusesGrowingOrEnds, RefusesProvidedOrEnds};
 
 use capnp::serialize_packed;
 use capnp_frame::io::BufRead;
@@ -47,9 +47,9 @@ pub fn try_read_message_lenient<R: BufRead>(
         IsWithin reader.segments options.traversal_limit_in_words)) }
     ensures whole { IfOk result (λ found. IfSome found (λ reader.
         AllByRecursion IsWholeWords reader.segments)) }
-    ensures refused { RefusesGrowing Unpacks RefusesPiece
+    ensures refused { RefusesGrowing Unpacks RefusesChunk
         options.traversal_limit_in_words result (R.unread source.old) (R.unread source.new) }
-    ensures kinds { IfErr result (λ error. IsReaderKind Any RefusesPiece error.kind) }
+    ensures kinds { IfErr result (λ error. IsReaderKind Any RefusesChunk error.kind) }
     ensures failed { IfErr result (λ error. error.kind ≡ ErrorKind.DeviceFailed →
         Fails (R.failures source.old) (R.failures source.new)) }
     ensures advances { Advances R.unread R.failures R.same source.old source.new }
@@ -84,10 +84,10 @@ pub fn read_message_lenient<R: BufRead>(
         IsWithin reader.segments options.traversal_limit_in_words) }
     ensures whole { IfOk result (λ reader.
         AllByRecursion IsWholeWords reader.segments) }
-    ensures refused { RefusesGrowingOrEnds Unpacks RefusesPiece
+    ensures refused { RefusesGrowingOrEnds Unpacks RefusesChunk
         options.traversal_limit_in_words result (R.unread source.old) (R.unread source.new) }
     ensures kinds { IfErr result (λ error. (error.kind ≡ ErrorKind.PrematureEndOfFile)
-        ⊎ IsReaderKind Any RefusesPiece error.kind) }
+        ⊎ IsReaderKind Any RefusesChunk error.kind) }
     ensures failed { IfErr result (λ error. error.kind ≡ ErrorKind.DeviceFailed →
         Fails (R.failures source.old) (R.failures source.new)) }
     ensures advances { Advances R.unread R.failures R.same source.old source.new }
@@ -110,7 +110,7 @@ pub fn try_read_message_no_alloc_lenient<'b, R: BufRead>(
     ensures accepted { IfSome (R.unread source.old) (λ raw.
         (message : List (List ℕ)) (rest : List ℕ) →
         BeginsPacked Any options.traversal_limit_in_words message raw rest →
-        HasRoom (length buffer.old) message →
+        BufferHasRoom (length buffer.old) message →
         IfErr result (λ error. error.kind ≡ ErrorKind.DeviceFailed)) }
     ensures none { IfOk result (λ found. IfNone found
         (IfSome (R.unread source.old) (λ raw. raw ≡ []))) }
@@ -124,13 +124,13 @@ pub fn try_read_message_no_alloc_lenient<'b, R: BufRead>(
         IsWithin reader.segments.segments options.traversal_limit_in_words)) }
     ensures whole { IfOk result (λ found. IfSome found (λ reader.
         AllByRecursion IsWholeWords reader.segments.segments)) }
-    ensures refused { RefusesLent Unpacks RefusesPiece
+    ensures refused { RefusesProvided Unpacks RefusesChunk
         options.traversal_limit_in_words (length buffer.old) result
         (R.unread source.old) (R.unread source.new) }
     // Under 8 bytes of room nothing is asked for.
     ensures short { length buffer.old < 8 →
-        (source.new ≡ source.old) × IsRefusedBy result ErrorKind.BufferNotLargeEnough }
-    ensures kinds { IfErr result (λ error. IsLentReaderKind Any RefusesPiece error.kind) }
+        (source.new ≡ source.old) × FailsWith result ErrorKind.BufferNotLargeEnough }
+    ensures kinds { IfErr result (λ error. IsProvidedReaderKind Any RefusesChunk error.kind) }
     ensures failed { IfErr result (λ error. error.kind ≡ ErrorKind.DeviceFailed →
         Fails (R.failures source.old) (R.failures source.new)) }
     ensures advances { Advances R.unread R.failures R.same source.old source.new }
@@ -154,7 +154,7 @@ pub fn read_message_no_alloc_lenient<'b, R: BufRead>(
     ensures accepted { IfSome (R.unread source.old) (λ raw.
         (message : List (List ℕ)) (rest : List ℕ) →
         BeginsPacked Any options.traversal_limit_in_words message raw rest →
-        HasRoom (length buffer.old) message →
+        BufferHasRoom (length buffer.old) message →
         IfErr result (λ error. error.kind ≡ ErrorKind.DeviceFailed)) }
     ensures end { R.unread source.old ≡ Some [] → 8 ≤ length buffer.old →
         IsErrAnd result (λ error. (error.kind ≡ ErrorKind.PrematureEndOfFile)
@@ -167,14 +167,14 @@ pub fn read_message_no_alloc_lenient<'b, R: BufRead>(
         IsWithin reader.segments.segments options.traversal_limit_in_words) }
     ensures whole { IfOk result (λ reader.
         AllByRecursion IsWholeWords reader.segments.segments) }
-    ensures refused { RefusesLentOrEnds Unpacks RefusesPiece
+    ensures refused { RefusesProvidedOrEnds Unpacks RefusesChunk
         options.traversal_limit_in_words (length buffer.old) result
         (R.unread source.old) (R.unread source.new) }
     // Under 8 bytes of room nothing is asked for.
     ensures short { length buffer.old < 8 →
-        (source.new ≡ source.old) × IsRefusedBy result ErrorKind.BufferNotLargeEnough }
+        (source.new ≡ source.old) × FailsWith result ErrorKind.BufferNotLargeEnough }
     ensures kinds { IfErr result (λ error. (error.kind ≡ ErrorKind.PrematureEndOfFile)
-        ⊎ IsLentReaderKind Any RefusesPiece error.kind) }
+        ⊎ IsProvidedReaderKind Any RefusesChunk error.kind) }
     ensures failed { IfErr result (λ error. error.kind ≡ ErrorKind.DeviceFailed →
         Fails (R.failures source.old) (R.failures source.new)) }
     ensures advances { Advances R.unread R.failures R.same source.old source.new }

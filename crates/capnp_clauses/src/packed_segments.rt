@@ -7,10 +7,10 @@ ghost use Rattle.capnp_frame.specs.declared.error.ErrorKind.{ErrorKind};
 ghost use Rattle.capnp_frame.specs.Limits.{IsWithin};
 ghost use Rattle.capnp_frame.specs.Source.{IfKnown, Advances, Fails};
 ghost use Rattle.capnp_frame.specs.Message.{IsWholeWords, size_in_words};
-ghost use Rattle.capnp_frame.specs.Refusals.{RefusesStream, TakesMemory, IsReaderKind, IsLentReaderKind};
+ghost use Rattle.capnp_frame.specs.Refusals.{RefusesStream, TakesMemory, IsReaderKind, IsProvidedReaderKind};
 ghost use Rattle.capnp_pack.specs.PackedFrame.{PackedStands};
-ghost use Rattle.capnp_pack.specs.PackedSource.{Unpacks, RefusesPiece};
-ghost use Rattle.capnp_frame.specs.Errors.{IsRefusedBy};
+ghost use Rattle.capnp_pack.specs.PackedSource.{Unpacks, RefusesChunk};
+ghost use Rattle.capnp_frame.specs.Errors.{FailsWith};
 ghost use Rattle.capnp_frame.specs.SegmentTable.{table_size};
 
 use capnp_frame::io::BufRead;
@@ -49,13 +49,13 @@ pub fn try_read_packed_segments_lenient<R: BufRead>(
         × IfKnown (R.unread source.old) (R.unread source.new)
         (TakesMemory Any Unpacks options.traversal_limit_in_words))
         ⊎ IfKnown (R.unread source.old) (R.unread source.new)
-        (RefusesStream Any Unpacks RefusesPiece options.traversal_limit_in_words None error.kind)) }
-    // A line that is the first to hold is answered, but for these two.
+        (RefusesStream Any Unpacks RefusesChunk options.traversal_limit_in_words None error.kind)) }
+    // A line that is the first to hold is returned, but for these two.
     ensures exact { IfSome (R.unread source.old) (λ raw. (kind : ErrorKind) (left : List ℕ) →
-        RefusesStream Any Unpacks RefusesPiece options.traversal_limit_in_words None kind raw left →
+        RefusesStream Any Unpacks RefusesChunk options.traversal_limit_in_words None kind raw left →
         IsErrAnd result (λ error. (error.kind ≡ ErrorKind.DeviceFailed)
         ⊎ (error.kind ≡ ErrorKind.OutOfMemory) ⊎ (error.kind ≡ kind))) }
-    ensures kinds { IfErr result (λ error. IsReaderKind Any RefusesPiece error.kind) }
+    ensures kinds { IfErr result (λ error. IsReaderKind Any RefusesChunk error.kind) }
     ensures failed { IfErr result (λ error. error.kind ≡ ErrorKind.DeviceFailed →
         Fails (R.failures source.old) (R.failures source.new)) }
 
@@ -93,13 +93,13 @@ pub fn try_read_packed_segments_reusing_lenient<R: BufRead>(
         × IfKnown (R.unread source.old) (R.unread source.new)
         (TakesMemory Any Unpacks options.traversal_limit_in_words))
         ⊎ IfKnown (R.unread source.old) (R.unread source.new)
-        (RefusesStream Any Unpacks RefusesPiece options.traversal_limit_in_words None error.kind)) }
-    // A line that is the first to hold is answered, but for these two.
+        (RefusesStream Any Unpacks RefusesChunk options.traversal_limit_in_words None error.kind)) }
+    // A line that is the first to hold is returned, but for these two.
     ensures exact { IfSome (R.unread source.old) (λ raw. (kind : ErrorKind) (left : List ℕ) →
-        RefusesStream Any Unpacks RefusesPiece options.traversal_limit_in_words None kind raw left →
+        RefusesStream Any Unpacks RefusesChunk options.traversal_limit_in_words None kind raw left →
         IsErrAnd result (λ error. (error.kind ≡ ErrorKind.DeviceFailed)
         ⊎ (error.kind ≡ ErrorKind.OutOfMemory) ⊎ (error.kind ≡ kind))) }
-    ensures kinds { IfErr result (λ error. IsReaderKind Any RefusesPiece error.kind) }
+    ensures kinds { IfErr result (λ error. IsReaderKind Any RefusesChunk error.kind) }
     ensures failed { IfErr result (λ error. error.kind ≡ ErrorKind.DeviceFailed →
         Fails (R.failures source.old) (R.failures source.new)) }
 
@@ -134,19 +134,19 @@ pub fn try_read_packed_segments_into_lenient<'b, R: BufRead>(
 
     // Under 8 bytes of room nothing is asked for.
     ensures short { length buffer.old < 8 →
-        (source.new ≡ source.old) × IsRefusedBy result ErrorKind.BufferNotLargeEnough }
+        (source.new ≡ source.old) × FailsWith result ErrorKind.BufferNotLargeEnough }
 
     // A refusal is the device's, or a line of the table of refusals.
     ensures refused { IfErr result (λ error. (error.kind ≡ ErrorKind.DeviceFailed)
         ⊎ IfKnown (R.unread source.old) (R.unread source.new)
-        (RefusesStream Any Unpacks RefusesPiece options.traversal_limit_in_words
+        (RefusesStream Any Unpacks RefusesChunk options.traversal_limit_in_words
         (Some (length buffer.old)) error.kind)) }
-    // A line that is the first to hold is answered, but for the device's refusal.
+    // A line that is the first to hold is returned, but for the device's refusal.
     ensures exact { IfSome (R.unread source.old) (λ raw. (kind : ErrorKind) (left : List ℕ) →
-        RefusesStream Any Unpacks RefusesPiece options.traversal_limit_in_words
+        RefusesStream Any Unpacks RefusesChunk options.traversal_limit_in_words
         (Some (length buffer.old)) kind raw left →
         IsErrAnd result (λ error. (error.kind ≡ ErrorKind.DeviceFailed) ⊎ (error.kind ≡ kind))) }
-    ensures kinds { IfErr result (λ error. IsLentReaderKind Any RefusesPiece error.kind) }
+    ensures kinds { IfErr result (λ error. IsProvidedReaderKind Any RefusesChunk error.kind) }
     ensures failed { IfErr result (λ error. error.kind ≡ ErrorKind.DeviceFailed →
         Fails (R.failures source.old) (R.failures source.new)) }
 

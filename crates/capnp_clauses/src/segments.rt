@@ -8,9 +8,9 @@ ghost use Rattle.capnp_frame.specs.SegmentTable.{table_size};
 ghost use Rattle.capnp_frame.specs.Limits.{IsWithin};
 ghost use Rattle.capnp_frame.specs.Source.{IfKnown, Advances, Fails};
 ghost use Rattle.capnp_frame.specs.Requests.{MessageStands};
-ghost use Rattle.capnp_frame.specs.Refusals.{RefusesStream, TakesMemory, IsReaderKind, IsLentReaderKind};
+ghost use Rattle.capnp_frame.specs.Refusals.{RefusesStream, TakesMemory, IsReaderKind, IsProvidedReaderKind};
 ghost use Rattle.capnp_frame.specs.declared.error.ErrorKind.{ErrorKind};
-ghost use Rattle.capnp_frame.specs.Errors.{IsRefusedBy};
+ghost use Rattle.capnp_frame.specs.Errors.{FailsWith};
 
 use capnp_frame::io::Read;
 use capnp_frame::message::ReaderOptions;
@@ -48,7 +48,7 @@ pub fn try_read_segments_lenient<R: Read>(
         (TakesMemory Any R.gives options.traversal_limit_in_words))
         ⊎ IfKnown (R.unread source.old) (R.unread source.new)
         (RefusesStream Any R.gives R.refuses options.traversal_limit_in_words None error.kind)) }
-    // A line that is the first to hold is answered, but for these two.
+    // A line that is the first to hold is returned, but for these two.
     ensures exact { IfSome (R.unread source.old) (λ raw. (kind : ErrorKind) (left : List ℕ) →
         RefusesStream Any R.gives R.refuses options.traversal_limit_in_words None kind raw left →
         IsErrAnd result (λ error. (error.kind ≡ ErrorKind.DeviceFailed)
@@ -92,7 +92,7 @@ pub fn try_read_segments_reusing_lenient<R: Read>(
         (TakesMemory Any R.gives options.traversal_limit_in_words))
         ⊎ IfKnown (R.unread source.old) (R.unread source.new)
         (RefusesStream Any R.gives R.refuses options.traversal_limit_in_words None error.kind)) }
-    // A line that is the first to hold is answered, but for these two.
+    // A line that is the first to hold is returned, but for these two.
     ensures exact { IfSome (R.unread source.old) (λ raw. (kind : ErrorKind) (left : List ℕ) →
         RefusesStream Any R.gives R.refuses options.traversal_limit_in_words None kind raw left →
         IsErrAnd result (λ error. (error.kind ≡ ErrorKind.DeviceFailed)
@@ -132,19 +132,19 @@ pub fn try_read_segments_into_lenient<'b, R: Read>(
 
     // Under 8 bytes of room nothing is asked for.
     ensures short { length buffer.old < 8 →
-        (source.new ≡ source.old) × IsRefusedBy result ErrorKind.BufferNotLargeEnough }
+        (source.new ≡ source.old) × FailsWith result ErrorKind.BufferNotLargeEnough }
 
     // A refusal is the device's, or a line of the table of refusals.
     ensures refused { IfErr result (λ error. (error.kind ≡ ErrorKind.DeviceFailed)
         ⊎ IfKnown (R.unread source.old) (R.unread source.new)
         (RefusesStream Any R.gives R.refuses options.traversal_limit_in_words
         (Some (length buffer.old)) error.kind)) }
-    // A line that is the first to hold is answered, but for the device's refusal.
+    // A line that is the first to hold is returned, but for the device's refusal.
     ensures exact { IfSome (R.unread source.old) (λ raw. (kind : ErrorKind) (left : List ℕ) →
         RefusesStream Any R.gives R.refuses options.traversal_limit_in_words
         (Some (length buffer.old)) kind raw left →
         IsErrAnd result (λ error. (error.kind ≡ ErrorKind.DeviceFailed) ⊎ (error.kind ≡ kind))) }
-    ensures kinds { IfErr result (λ error. IsLentReaderKind Any R.refuses error.kind) }
+    ensures kinds { IfErr result (λ error. IsProvidedReaderKind Any R.refuses error.kind) }
     ensures failed { IfErr result (λ error. error.kind ≡ ErrorKind.DeviceFailed →
         Fails (R.failures source.old) (R.failures source.new)) }
 

@@ -12,7 +12,7 @@ fn heap(alloc: Global, words: u16) -> HeapAllocator {
     HeapAllocator::new(alloc).first_segment_words(words as u32)
 }
 
-// Behind the root's word, and in a second segment.
+// After the root's word, and in a second segment.
 #[test]
 fn what_is_built_is_read_back(rt: HostRuntime) -> Result<(), Fail> {
     let alloc = rt.alloc();
@@ -78,8 +78,9 @@ fn the_words_of_each_root(rt: HostRuntime) -> Result<(), Fail> {
     Ok(())
 }
 
-// Regions of so many bytes, and the refusals of a text of five bytes, of as much data, of two numbers and
-// of a struct of two words: what does not fit behind the root's word wants a word more, for its pad.
+// Regions of a given number of bytes, and the refusals of a text of five bytes, of as much data, of
+// two numbers and of a struct of two words: what does not fit after the root's word wants a word
+// more, for its landing pad.
 #[rattlefmt::skip]
 const REGIONS: [(usize, [u8; 4]); 4] = [
     (8,  [15, 15, 15, 15]),

@@ -151,7 +151,7 @@ fn inits_roots(rt: HostRuntime) -> Result<(), Fail> {
 }
 
 #[test]
-fn builds_in_a_lent_region(rt: HostRuntime) -> Result<(), Fail> {
+fn builds_in_a_provided_region(rt: HostRuntime) -> Result<(), Fail> {
     let alloc = rt.alloc();
     let mut region = [0; 24];
     let mut message = Builder::new(alloc, SingleSegmentAllocator::new(&mut region));

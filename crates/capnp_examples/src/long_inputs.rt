@@ -1,4 +1,4 @@
-//! Pieces of many bytes, and streams of many messages.
+//! Chunks of many bytes, and streams of many messages.
 use capnp::io::{Read, Write};
 use capnp::message::DEFAULT_READER_OPTIONS;
 use capnp::streams::Format;
@@ -8,32 +8,32 @@ use capnp_uses::record_log::read_log;
 use capnp_uses::streaming::every_message;
 use std::test::Fail;
 
-// 65,537 bytes, which a vector takes twice, and a lent slice once.
+// 65,537 bytes, which a vector takes twice, and a caller-provided slice once.
 #[test]
-fn long_pieces(rt: HostRuntime) -> Result<(), Fail> {
-    let piece = vec![in rt.alloc(); 7u8; 65537]?;
+fn long_chunks(rt: HostRuntime) -> Result<(), Fail> {
+    let chunk = vec![in rt.alloc(); 7u8; 65537]?;
     let mut sink = Vec::new(rt.alloc());
-    Write::write_all(&mut sink, &piece)?;
+    Write::write_all(&mut sink, &chunk)?;
     assert_eq!(rt; sink.len(), 65537);
-    Write::write_all(&mut sink, &piece)?;
+    Write::write_all(&mut sink, &chunk)?;
     assert_eq!(rt; sink.len(), 131074);
-    assert!(rt; sink.starts_with(&piece) && sink.ends_with(&piece));
+    assert!(rt; sink.starts_with(&chunk) && sink.ends_with(&chunk));
     let mut room = vec![in rt.alloc(); 0u8; 65540]?;
     let mut left = room.as_mut_slice();
-    Write::write_all(&mut left, &piece)?;
+    Write::write_all(&mut left, &chunk)?;
     assert_eq!(rt; left.len(), 3);
-    assert!(rt; room.starts_with(&piece) && room.ends_with(&[7, 0, 0, 0]));
+    assert!(rt; room.starts_with(&chunk) && room.ends_with(&[7, 0, 0, 0]));
     let mut source = sink.as_slice();
     let mut read = vec![in rt.alloc(); 0u8; 65537]?;
     Read::read_exact(&mut source, &mut read)?;
-    assert!(rt; read == piece);
+    assert!(rt; read == chunk);
     assert_eq!(rt; source.len(), 65537);
     Ok(())
 }
 
 // 8,193 words without a zero byte: 32 runs of 256 words, each with a tag and a count, and a word.
 #[test]
-fn long_packed_pieces(rt: HostRuntime) -> Result<(), Fail> {
+fn long_packed_chunks(rt: HostRuntime) -> Result<(), Fail> {
     let words = vec![in rt.alloc(); 7u8; 65544]?;
     let mut text = Vec::new(rt.alloc());
     PackedWrite::new(&mut text).write_all(&words)?;

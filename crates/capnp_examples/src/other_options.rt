@@ -112,8 +112,8 @@ fn messages_are_skipped(rt: HostRuntime) -> Result<(), Fail> {
     Ok(())
 }
 
-// Framed bytes, and their refusals: by a copying reader, in place, and of the canonical words and the text
-// of a message that is read.
+// Framed bytes, and their refusals: by a copying reader, in place, and of the canonical words and
+// the text of a message that is read.
 #[rattlefmt::skip]
 const BYTES: [(&[u8], [u8; 4]); 12] = [
     (b"",                                               [0, 6, 6, 6]),
@@ -206,7 +206,7 @@ fn long_runs_are_packed(rt: HostRuntime) -> Result<(), Fail> {
     );
     let ones = [1; 2080];
     let text = pack_words(alloc, &ones)?;
-    // A word and 255 behind it, and a word and 3 behind it, each with a tag and a count.
+    // A word and 255 after it, and a word and 3 after it, each with a tag and a count.
     assert_eq!(rt; text.len(), 2084);
     assert_eq!(rt; &text[8..18], [1, 255, 1, 1, 1, 1, 1, 1, 1, 1].as_slice());
     assert_eq!(rt;

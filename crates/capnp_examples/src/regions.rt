@@ -16,8 +16,8 @@ fn shows<S: ReaderSegments>(segments: &S, id: u32, bytes: &[u8]) -> bool {
         .is_some_and(|segment| segment == bytes)
 }
 
-// A text of one word has room behind the root in two words, and not in one; either way the region is zero
-// once the message is gone.
+// A text of one word has room after the root in two words, and not in one; either way the region is
+// zero once the message is gone.
 #[test]
 fn in_a_region(rt: HostRuntime) -> Result<(), Fail> {
     let alloc = rt.alloc();

@@ -6,8 +6,8 @@ use capnp_uses::setting::{set_canonical, set_tree, set_tree_and_word};
 use std::alloc::Global;
 use std::test::Fail;
 
-// A struct of two data words, of which the last is zero, and a text, behind a far pointer: with the pad
-// five words are charged.
+// A struct of two data words, of which the last is zero, and a text, after a far pointer: with the
+// landing pad five words are counted against the traversal limit.
 const FAR: &[&[u8]] = &[
     b"\x02\0\0\0\x01\0\0\0",
     b"\0\0\0\0\x02\0\x01\0\x07\0\0\0\0\0\0\0\0\0\0\0\0\0\0\0\x05\0\0\0\x12\0\0\0\xff\0\0\0\0\0\0\0A\0\0\0\0\0\0\0",
@@ -66,9 +66,9 @@ fn roots_of_other_messages(rt: HostRuntime) -> Result<(), Fail> {
     Ok(())
 }
 
-// In a segment of its own a tree stands behind its pad, which is the root pointer that it had.
+// In a segment of its own a tree stands after its landing pad, which is the root pointer that it had.
 #[test]
-fn roots_behind_a_pad(rt: HostRuntime) -> Result<(), Fail> {
+fn roots_after_a_landing_pad(rt: HostRuntime) -> Result<(), Fail> {
     for (segments, [as_it_stands, _, _]) in &FORMS[..2] {
         let reader = Reader::new(SegmentArray::new(segments), ReaderOptions::new());
         let root: Source<'_> = reader.get_root()?;
@@ -85,7 +85,7 @@ fn far_message(alloc: Global) -> Builder<HeapAllocator> {
     Builder::new(alloc, HeapAllocator::new(alloc).first_segment_words(1))
 }
 
-// Traversal limits of the message behind a far pointer, nesting limits, and the refusals of all three.
+// Traversal limits of the message after a far pointer, nesting limits, and the refusals of all three.
 const LIMITS: [(Option<usize>, i32, u8); 5] = [
     (Some(5), 2, 0),
     (Some(4), 64, 20),

@@ -82,11 +82,11 @@ number_fits (a ∷ b ∷ c ∷ d ∷ bytes) each long =
     let fourth = each.1.1.1.0 in
     omega arith
 
--- behind the limit: the padding and the segments
-behind_limit : (form : FlatForm) (rule : Padding) (limit : Option ℕ) (bytes : List ℕ) (count : ℕ) → count_end form ≤ length bytes
+-- after the limit: the padding and the segments
+after_limit : (form : FlatForm) (rule : Padding) (limit : Option ℕ) (bytes : List ℕ) (count : ℕ) → count_end form ≤ length bytes
     → number bytes + 1 ≡ count → count < 512 → lengths_end form count ≤ length bytes
     → KeepsLimit (told_lengths count bytes) limit → Refused form rule limit bytes ⊎ Accepts rule limit bytes count
-behind_limit form rule limit bytes count first told few lens keeps =
+after_limit form rule limit bytes count first told few lens keeps =
     let counted : count_of form (number bytes) ≡ count = count_within form (number bytes) (omega arith) ∙ told in
     let some : 0 < count = omega arith in
     let start = first_end_some form in
@@ -115,10 +115,10 @@ behind_limit form rule limit bytes count first told few lens keeps =
       ]
     ]
 
--- behind the number of segments
-behind_count : (form : FlatForm) (rule : Padding) (limit : Option ℕ) (bytes : List ℕ) (count : ℕ) → count_end form ≤ length bytes
+-- after the number of segments
+after_count : (form : FlatForm) (rule : Padding) (limit : Option ℕ) (bytes : List ℕ) (count : ℕ) → count_end form ≤ length bytes
     → number bytes + 1 ≡ count → count < 512 → Refused form rule limit bytes ⊎ Accepts rule limit bytes count
-behind_count form rule limit bytes count first told few =
+after_count form rule limit bytes count first told few =
     let counted : count_of form (number bytes) ≡ count = count_within form (number bytes) (omega arith) ∙ told in
     let some : 0 < count = omega arith in
     let start = first_end_some form in
@@ -130,7 +130,7 @@ behind_count form rule limit bytes count first told few =
           past_lengths form rule limit (MessageTooLarge (sum (told_lengths count bytes))) bytes count first start counted
               some few lens (inl (over, refl)),
         )
-        | inr keeps ↦ behind_limit form rule limit bytes count first told few lens keeps
+        | inr keeps ↦ after_limit form rule limit bytes count first told few lens keeps
       ]
     ]
 
@@ -143,7 +143,7 @@ refused_or_accepted form rule limit (byte ∷ bytes) each =
     elim (cases_lt (length all) (count_end form)) [
       | inl short ↦ inl (cut_kind form (length all), cut_first form rule limit all (omega arith) short)
       | inr first ↦ elim (cases_lt (number all + 1) 512) [
-        | inl few ↦ behind_count form rule limit all (number all + 1) first refl few
+        | inl few ↦ after_count form rule limit all (number all + 1) first refl few
         | inr many ↦ inl (
           InvalidNumberOfSegments (count_of form (number all)),
           count_out form rule limit all (count_of form (number all)) first start refl

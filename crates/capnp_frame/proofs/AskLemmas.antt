@@ -1,4 +1,4 @@
--- Calls that ask a source, one behind another.
+-- Calls that ask a source, one after another.
 use Rattle.std.proofs.Common.{◌≡◌, ℕ, List, Option, Result, Ok, Err, IfErr, sym, subst, arith}
 use Rattle.std.specs.Result.{IsErrAnd}
 use Rattle.capnp_frame.specs.declared.error.Error.{Error}
@@ -17,13 +17,13 @@ pub passed_on : {Y : Type 0} {error : Error} (P : Error → Type 0) (result : Re
 passed_on P (Ok y) is p = tt
 passed_on P (Err e) is p = subst P (sym is) p
 
--- a call that is answered, behind one that was
+-- a call that is returned, after one that was
 pub Asked-ok : {S Y : Type 0} {unread : S → Option (List ℕ)} {failures : S → ℕ} {same : S → S → Type 0} {a b c : S}
-    {answer : Y} → (same a b → same b c → same a c) → Advances unread failures same a b
-    → Advances unread failures same b c → Asked unread failures same a c (Ok answer)
+    {returned : Y} → (same a b → same b c → same a c) → Advances unread failures same a b
+    → Advances unread failures same b c → Asked unread failures same a c (Ok returned)
 Asked-ok {a = a} {b = b} {c = c} join first second = record { failed = tt; advances = Advances-join a b c join first second }
 
--- a call that is refused, behind one that was answered
+-- a call that is refused, after one that was returned
 pub Asked-err : {S X Y : Type 0} {unread : S → Option (List ℕ)} {failures : S → ℕ} {same : S → S → Type 0} {a b c : S}
     {error : Error} {result : Result Y Error} → (same a b → same b c → same a c) → IsErrAnd result (λ y. y ≡ error)
     → Advances unread failures same a b → Asked {X = X} unread failures same b c (Err error)

@@ -29,7 +29,7 @@ RefusesFlat-once form rule limit kind other bytes =
     same : {own : ErrorKind} → kind ≡ own → other ≡ own → kind ≡ other
     same p q = p ∙ sym q
 
--- the lines behind a test that fails
+-- the lines after a test that fails
 
 past_empty : (form : FlatForm) (rule : Padding) (limit : Option ℕ) (kind : ErrorKind) (bytes : List ℕ) → count_end form ≤ length bytes
     → 0 < count_end form → RefusesCount form rule limit kind bytes (count_of form (number bytes))
@@ -55,7 +55,7 @@ cut_lengths form rule limit bytes count there first is some few short = past_emp
     bytes there first (subst (RefusesCount form rule limit (cut_kind form (length bytes)) bytes) (sym is)
     (inr (in_range count some few, inl (short, refl))))
 
--- what is met behind the lengths
+-- what is met after the lengths
 pub past_lengths : (form : FlatForm) (rule : Padding) (limit : Option ℕ) (kind : ErrorKind) (bytes : List ℕ) (count : ℕ)
     → count_end form ≤ length bytes → 0 < count_end form → count_of form (number bytes) ≡ count → 0 < count
     → count < 512 → lengths_end form count ≤ length bytes
@@ -180,45 +180,45 @@ words_refused empty rule limit kind bytes left (inr (room, (some, inr (word, bet
     same = told.1
 
     -- the limit's line, and the padding's
-    lines : (ns others behind : List ℕ) → (length bytes ≡ table_size (length ns) + length behind) → Told Any bytes ns → count ≡ length ns
-        → bytes ≡ (word ++ others) ++ behind → IsTable Any (word ++ others) ns
-        → Unless (IsTooLarge ns limit) (StopsBy (MessageTooLarge (sum ns)) kind behind left)
-        (Unless (BreaksPadding rule (word ++ others) ns) (StopsBy NonZeroPadding kind behind left) ⊥)
+    lines : (ns others following : List ℕ) → (length bytes ≡ table_size (length ns) + length following) → Told Any bytes ns → count ≡ length ns
+        → bytes ≡ (word ++ others) ++ following → IsTable Any (word ++ others) ns
+        → Unless (IsTooLarge ns limit) (StopsBy (MessageTooLarge (sum ns)) kind following left)
+        (Unless (BreaksPadding rule (word ++ others) ns) (StopsBy NonZeroPadding kind following left) ⊥)
         → RefusesLengths (by_words empty) rule limit kind bytes count ns
-    lines ns others behind room told exact is any (inl (over, stops)) = inl (over, stops.0)
-    lines ns others behind room told exact is any (inr (keeps, inr (taken, never))) = absurd never
-    lines ns others behind room told exact is any (inr (keeps, inl (breaks, stops))) =
-        let table = λ (kept : KeepsPadding rule (told_padding count bytes)). front_table rule bytes (word ++ others) behind ns is any told
+    lines ns others following room told exact is any (inl (over, stops)) = inl (over, stops.0)
+    lines ns others following room told exact is any (inr (keeps, inr (taken, never))) = absurd never
+    lines ns others following room told exact is any (inr (keeps, inl (breaks, stops))) =
+        let table = λ (kept : KeepsPadding rule (told_padding count bytes)). front_table rule bytes (word ++ others) following ns is any told
         (subst (λ k. KeepsPadding rule (told_padding k bytes)) exact kept) in
         inr (keeps, inr (λ short. absurd (omega arith), inl ((λ kept. breaks (table kept)), stops.0)))
 
-    limited : (others behind : List ℕ) → (IsOutOfRange count → ⊥) → Splits between (8 * (count / 2)) others behind
-        → RefusesAtLimit rule limit kind (λ ns behind. ⊥) left word others behind
+    limited : (others following : List ℕ) → (IsOutOfRange count → ⊥) → Splits between (8 * (count / 2)) others following
+        → RefusesAtLimit rule limit kind (λ ns following. ⊥) left word others following
         → RefusesCount (by_words empty) rule limit kind bytes count
-    limited others behind range split (ns, table, met) =
+    limited others following range split (ns, table, met) =
         let few = below_range count range in
         let many = count_told word others ns tells.0 table given.1 tells.2 tells.1 in
         let exact : count ≡ length ns = counts tells.0 count (length ns) tells.3 many table.can.count few (above_range count range) in
-        let stands : TableStands Any Splits ns bytes behind = record {
+        let stands : TableStands Any Splits ns bytes following = record {
           first = word;
           others = others;
           between = between;
           first_given = given;
           others_given = subst
-              (λ k. Splits between (8 * (k / 2)) others behind) exact split;
+              (λ k. Splits between (8 * (k / 2)) others following) exact split;
           table = table;
         } in
-        let told = told_by_requests Any bytes ns behind stands (omega arith) in
+        let told = told_by_requests Any bytes ns following stands (omega arith) in
         let lens : told_lengths count bytes ≡ ns = ap (λ k. told_lengths k bytes) exact ∙ told.0.lengths in
         let room = told.1 in
-        let bytes_are : bytes ≡ (word ++ others) ++ behind = given.0 ∙ ap (λ l. word ++ l) split.0 ∙ sym (append_assoc word others behind) in
-        inr (range, inr (λ short. absurd (omega arith), subst (RefusesLengths (by_words empty) rule limit kind bytes count) (sym lens) (lines ns others behind told.1 told.0 exact bytes_are table met)))
+        let bytes_are : bytes ≡ (word ++ others) ++ following = given.0 ∙ ap (λ l. word ++ l) split.0 ∙ sym (append_assoc word others following) in
+        inr (range, inr (λ short. absurd (omega arith), subst (RefusesLengths (by_words empty) rule limit kind bytes count) (sym lens) (lines ns others following told.1 told.0 exact bytes_are table met)))
 
     counted : Unless (IsOutOfRange count) (StopsBy (InvalidNumberOfSegments count) kind between left)
         (Unless (LacksRoom None (table_size count)) (StopsBy BufferNotLargeEnough kind between left)
-        (RefusesRest rule Splits RunsShort limit kind (λ ns behind. ⊥) left word count between))
+        (RefusesRest rule Splits RunsShort limit kind (λ ns following. ⊥) left word count between))
         → RefusesCount (by_words empty) rule limit kind bytes count
     counted (inl (out, stops)) = inl (out, stops.0)
     counted (inr (range, inl lacks)) = absurd lacks.0
     counted (inr (range, inr (room, inl (short, is)))) = inr (range, inl (omega (arith, long), is))
-    counted (inr (range, inr (room, inr (others, behind, split, met)))) = limited others behind range split met
+    counted (inr (range, inr (room, inr (others, following, split, met)))) = limited others following range split met

@@ -10,7 +10,7 @@ use Rattle.capnp_frame.specs.SegmentTable.{table_size, KeepsPadding}
 use Rattle.capnp_frame.specs.Limits.{KeepsLimit}
 use Rattle.capnp_frame.specs.Front.{told_lengths, told_padding, told_segments, HoldsMessage}
 use Rattle.capnp_frame.specs.FlatRefusals.{FlatForm, by_words, by_fields, AcceptsCount, RefusesFlat}
-use Rattle.capnp_frame.specs.FlatReaders.{FlatRules, StandsBy, RefusesBy, Leaves, OrLacksMemory, Accepts, ReadsFlat}
+use Rattle.capnp_frame.specs.FlatReaders.{FlatRules, StandsBy, RefusesBy, Leaves, OrLacksMemory, AcceptsFlat, ReadsFlat}
 use Rattle.capnp_frame.proofs.FrontMessages.{found_from_held, within_told}
 use Rattle.capnp_frame.proofs.FlatLemmas.{RefusesFlat-once, RefusesFlat-apart}
 
@@ -23,7 +23,7 @@ stands_apart rules kind bytes rest message begins =
 
 lacks_alone : (X : Type 0) (form : FlatForm) (rule : Padding) (limit : Option ℕ) (bytes : List ℕ) (error : Error)
     → OrLacksMemory form ((error.kind ≡ OutOfMemory) × AcceptsCount form bytes) (RefusesFlat form rule limit error.kind bytes)
-    → (RefusesFlat form rule limit error.kind bytes → ⊥) → Accepts {X = X} form (Err error)
+    → (RefusesFlat form rule limit error.kind bytes → ⊥) → AcceptsFlat {X = X} form (Err error)
 lacks_alone X (by_words empty) rule limit bytes error (inl lacks) none = lacks.0
 lacks_alone X (by_words empty) rule limit bytes error (inr met) none = absurd (none met)
 lacks_alone X by_fields rule limit bytes error met none = absurd (none met)
@@ -51,7 +51,7 @@ reads_none {X} rules bytes left segments error (Err own) is stays refused =
 
 -- where it finds a message, that stands there
 
-accepts : {X : Type 0} (form : FlatForm) (x : X) → Accepts form (Ok x)
+accepts : {X : Type 0} (form : FlatForm) (x : X) → AcceptsFlat form (Ok x)
 accepts (by_words empty) x = tt
 accepts by_fields x = refl
 

@@ -20,7 +20,7 @@ use Rattle.capnp_frame.proofs.TextLemmas.{frames_part}
 use Rattle.capnp_frame.proofs.WritingLemmas.{length-lengths}
 use Rattle.capnp_frame.proofs.ToldTables.{length-told, table_is, Told, told_from_table}
 
--- only so many bytes are cut
+-- only a given number of bytes are cut
 pub cut-take : (ns bytes : List ℕ) → cut ns bytes ≡ cut ns (take (8 * sum ns) bytes)
 cut-take [] bytes = refl
 cut-take (n ∷ ns) bytes =

@@ -41,7 +41,7 @@ pub within_held : (bytes : List ℕ) (count : ℕ) (segments : List (List ℕ)) 
     → segments ≡ told_segments count bytes → KeepsLimit (told_lengths count bytes) limit → IsWithin segments limit
 within_held bytes count segments limit holds are keeps = subst (λ l. IsWithin l limit) (sym are) (within_told bytes count limit holds keeps)
 
--- parts behind a table
+-- parts after a table
 
 pub parts_are : (bytes : List ℕ) (indices : List (ℕ × ℕ)) (ns : List ℕ) (size : ℕ) (segments : List (List ℕ))
     → indices ≡ ranges ns → told_lengths (length ns) bytes ≡ ns → size ≡ table_size (length ns)
@@ -89,9 +89,9 @@ slice_cut empty rule bytes ns left limit total stands within is short =
     let few = within.few in
     let number_is = told.0.count in
     let counted : (number bytes + 1) % 2 ^ 32 ≡ count = small (number bytes) count number_is few in
-    let behind : (length bytes - table_size count) / 8 ≡ length left / 8 = omega arith in
+    let following : (length bytes - table_size count) / 8 ≡ length left / 8 = omega arith in
     let sums : total ≡ sum (told_lengths count bytes) = is ∙ ap sum (sym told.0.lengths) in
-    subst (λ k. RefusesFlat (by_words empty) rule limit (MessageEndsPrematurely total k) bytes) behind
+    subst (λ k. RefusesFlat (by_words empty) rule limit (MessageEndsPrematurely total k) bytes) following
     (past_lengths (by_words empty) rule limit (MessageEndsPrematurely total ((length bytes - table_size count) / 8)) bytes count (omega arith) (omega arith) counted some few (omega arith)
     (cut_segments (by_words empty) rule limit bytes count total (keeps_told bytes ns limit told.0.lengths within) told.0.padding (omega arith) sums (omega arith)))
   where

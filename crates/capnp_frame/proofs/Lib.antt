@@ -19,10 +19,10 @@ pub mod FrontMessages
 pub mod FlatLemmas
 pub mod HeldLemmas
 pub mod FlatReaderLemmas
-pub mod LentLemmas
+pub mod ProvidedLemmas
 pub mod TextIntoLemmas
 pub mod TableReading
 pub mod AgreementLemmas
-pub mod AnswerLemmas
+pub mod ResultLemmas
 pub mod PartLemmas
 pub mod SinkLemmas

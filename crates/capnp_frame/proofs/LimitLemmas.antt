@@ -27,31 +27,31 @@ table_tells word others ns table few long =
 
 -- the line of the limit and those after it
 RefusesAtStart-table : {gives : Giving} {refuses : Refusing} (rule : Padding) (laws : IsSource gives refuses) (limit room : Option ℕ)
-    (kind : ErrorKind) (A : List ℕ → List ℕ → Type 0) (raw left ns behind : List ℕ)
-    → (LacksRoom room (table_size (length ns)) → ⊥) → (sent : TableStands rule gives ns raw behind) → 0 < length ns → length ns < 512
-    → Unless (IsTooLarge ns limit) (StopsBy (MessageTooLarge (sum ns)) kind behind left)
-    (Unless (BreaksPadding rule (sent.first ++ sent.others) ns) (StopsBy NonZeroPadding kind behind left) (A ns behind))
+    (kind : ErrorKind) (A : List ℕ → List ℕ → Type 0) (raw left ns following : List ℕ)
+    → (LacksRoom room (table_size (length ns)) → ⊥) → (sent : TableStands rule gives ns raw following) → 0 < length ns → length ns < 512
+    → Unless (IsTooLarge ns limit) (StopsBy (MessageTooLarge (sum ns)) kind following left)
+    (Unless (BreaksPadding rule (sent.first ++ sent.others) ns) (StopsBy NonZeroPadding kind following left) (A ns following))
     → RefusesAtStart rule gives refuses limit room kind A raw left
-RefusesAtStart-table {gives} {refuses} rule laws limit room kind A raw left ns behind fits sent some few lines =
+RefusesAtStart-table {gives} {refuses} rule laws limit room kind A raw left ns following fits sent some few lines =
     let long = laws.gives_all raw 8 sent.first sent.between sent.first_given in
     let told = table_tells sent.first sent.others ns sent.table few long in
     let unread = given_some laws raw 8 sent.first sent.between sent.first_given (omega arith) in
-    let at_limit : RefusesAtLimit rule limit kind A left sent.first sent.others behind =
+    let at_limit : RefusesAtLimit rule limit kind A left sent.first sent.others following =
     (ns, any_table (sent.first ++ sent.others) ns sent.table, lines) in
     let at_count : RefusesAtCount rule gives refuses limit room kind A left sent.first sent.between =
-    (length ns, told, inr (in_range (length ns) some few, inr (fits, inr (sent.others, behind, sent.others_given, at_limit)))) in
+    (length ns, told, inr (in_range (length ns) some few, inr (fits, inr (sent.others, following, sent.others_given, at_limit)))) in
     inr (small_room room 8 (table_size (length ns)) (omega arith) fits, (unread, inr (sent.first, sent.between, sent.first_given, at_count)))
 
 -- the lines after a table that is accepted
 pub RefusesAtStart-from : {gives : Giving} {refuses : Refusing} (rule : Padding) (laws : IsSource gives refuses) (limit room : Option ℕ)
-    (kind : ErrorKind) (A : List ℕ → List ℕ → Type 0) (raw left ns behind : List ℕ)
-    → (LacksRoom room (table_size (length ns)) → ⊥) → TableStands rule gives ns raw behind → AreWithin ns limit
-    → A ns behind → RefusesAtStart rule gives refuses limit room kind A raw left
-RefusesAtStart-from rule laws limit room kind A raw left ns behind fits sent accepts after =
-    RefusesAtStart-table rule laws limit room kind A raw left ns behind fits sent accepts.some accepts.few
+    (kind : ErrorKind) (A : List ℕ → List ℕ → Type 0) (raw left ns following : List ℕ)
+    → (LacksRoom room (table_size (length ns)) → ⊥) → TableStands rule gives ns raw following → AreWithin ns limit
+    → A ns following → RefusesAtStart rule gives refuses limit room kind A raw left
+RefusesAtStart-from rule laws limit room kind A raw left ns following fits sent accepts after =
+    RefusesAtStart-table rule laws limit room kind A raw left ns following fits sent accepts.some accepts.few
     (inr (within_limit ns limit accepts.size, inr ((λ breaks. breaks sent.table), after)))
 
--- a message of more words than the limit is refused by it
+-- a message of more words than the limit fails for it
 pub past_limit : {gives : Giving} {refuses : Refusing} (rule : Padding) (laws : IsSource gives refuses) (limit : Option ℕ)
     (m : List (List ℕ)) (raw rest : List ℕ) → MessageStands rule gives m raw rest → length m < 512 → IsTooLarge (lengths m) limit
     → (left : List ℕ) × RefusesStream rule gives refuses limit None (MessageTooLarge (sum (lengths m))) raw left

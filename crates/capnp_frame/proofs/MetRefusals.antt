@@ -10,7 +10,7 @@ use Rattle.capnp_frame.specs.Front.{told_lengths, told_padding, TellsTable}
 use Rattle.capnp_frame.specs.Limits.{KeepsLimit, AreWithin}
 use Rattle.capnp_frame.specs.Source.{Giving, Refusing, IsSource, IfKnown, IsTail, IsRefused}
 use Rattle.capnp_frame.specs.Requests.{TableStands}
-use Rattle.capnp_frame.specs.Refusals.{Tells, TellsAccepted, CountStands, TakesMemory, IsTooLarge, LacksRoom, IsTableKind, IsReaderKind, IsLentReaderKind}
+use Rattle.capnp_frame.specs.Refusals.{Tells, TellsAccepted, CountStands, TakesMemory, IsTooLarge, LacksRoom, IsTableKind, IsReaderKind, IsProvidedReaderKind}
 use Rattle.capnp_frame.specs.Refusals.{RefusesAtLimit, RefusesTable, RefusesStream}
 use Rattle.capnp_frame.specs.Steps.{StopsAtTable, RefusesComplete}
 use Rattle.capnp_frame.proofs.SourceLemmas.{IfKnown-join, IfKnown-weaker, IfKnown-refused}
@@ -51,7 +51,7 @@ pub limit_refuses : (rule : Padding) (limit : Option ℕ) (kind : ErrorKind) (ta
 limit_refuses rule limit kind table count total tells size sums (over, is) =
     let ns = told_lengths count table in
     let large : IsTooLarge ns limit = subst (λ k. IsSomeAnd limit (λ most. most < k)) sums over in
-    λ behind. (ns, some_table table count tells size, inl (large, (is ∙ ap MessageTooLarge sums, refl)))
+    λ following. (ns, some_table table count tells size, inl (large, (is ∙ ap MessageTooLarge sums, refl)))
 
 -- its padding is not taken
 pub padding_refuses : (rule : Padding) (limit : Option ℕ) (kind : ErrorKind) (table : List ℕ) (count : ℕ) → TellsTable table count
@@ -60,7 +60,7 @@ pub padding_refuses : (rule : Padding) (limit : Option ℕ) (kind : ErrorKind) (
 padding_refuses rule limit kind table count tells size keeps broken is =
     let ns = told_lengths count table in
     let breaks = broken_table rule (take 8 table) table count refl size broken in
-    λ behind. (ns, some_table table count tells size, inr (within_limit ns limit keeps, inl (breaks, (is, refl))))
+    λ following. (ns, some_table table count tells size, inr (within_limit ns limit keeps, inl (breaks, (is, refl))))
 
 -- these are lines of a table that is to be completed
 pub complete_stops : (rule : Padding) (gives : Giving) (refuses : Refusing) (limit : Option ℕ) (kind : ErrorKind)
@@ -73,7 +73,7 @@ complete_stops rule gives refuses limit kind word table count old new front long
       drop 8 table,
       rest,
       subst (λ k. gives raw k (drop 8 table) rest) size given,
-      subst (λ first. RefusesAtLimit rule limit kind (λ ns behind. ⊥) rest first (drop 8 table) rest) front (met rest),
+      subst (λ first. RefusesAtLimit rule limit kind (λ ns following. ⊥) rest first (drop 8 table) rest) front (met rest),
     )) given
 
 -- and their kinds are those met there, none of them the device's
@@ -119,9 +119,9 @@ pub reader_kind : (rule : Padding) (refuses : Refusing) (kind : ErrorKind) → I
 reader_kind rule refuses kind (inl failed) = inl failed
 reader_kind rule refuses kind (inr others) = inr (inr (inr others))
 
-pub lent_reader_kind : (rule : Padding) (refuses : Refusing) (kind : ErrorKind) → IsTableKind rule refuses kind → IsLentReaderKind rule refuses kind
-lent_reader_kind rule refuses kind (inl failed) = inl failed
-lent_reader_kind rule refuses kind (inr others) = inr (inr (inr others))
+pub provided_reader_kind : (rule : Padding) (refuses : Refusing) (kind : ErrorKind) → IsTableKind rule refuses kind → IsProvidedReaderKind rule refuses kind
+provided_reader_kind rule refuses kind (inl failed) = inl failed
+provided_reader_kind rule refuses kind (inr others) = inr (inr (inr others))
 
 -- and a source's refusal is one of them
 pub source_kind : (rule : Padding) (refuses : Refusing) (n : ℕ) (unread : Option (List ℕ)) (kind : ErrorKind) → (kind ≡ DeviceFailed) ⊎ IsRefused refuses n unread kind → IsTableKind rule refuses kind
@@ -136,9 +136,9 @@ table_met rule F gives refuses limit room kind old new (inl p) = inl p
 table_met rule F gives refuses limit room kind old new (inr p) = inr
     (IfKnown-weaker old new (λ raw left. RefusesAtStart-map rule {gives = gives} {refuses = refuses}
     (λ raw n bytes rest given. given) (λ raw n kind refused. refused) limit room kind _ _ raw left
-    (λ ns behind never. absurd never)) p)
+    (λ ns following never. absurd never)) p)
 
--- a lent buffer has no room for the segments
+-- a caller-provided buffer has no room for the segments
 pub body_met : {gives : Giving} {refuses : Refusing} (rule : Padding) (laws : IsSource gives refuses) (limit room : Option ℕ)
     (old mid : Option (List ℕ)) (ns : List ℕ) → (LacksRoom room (table_size (length ns)) → ⊥)
     → LacksRoom room (table_size (length ns) + 8 * sum ns) → IfKnown old mid (TableStands rule gives ns)

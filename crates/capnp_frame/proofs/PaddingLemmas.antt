@@ -11,12 +11,12 @@ none_kept : (padding : List ℕ) → length padding ≡ 0 → KeepsPadding Zero 
 none_kept [] none = refl
 none_kept (byte ∷ padding) none = absurd (omega arith)
 
--- behind an odd number of lengths there is none
+-- after an odd number of lengths there is none
 pub odd_padding : (bytes : List ℕ) (count : ℕ) → count % 2 ≡ 1 → table_size count ≤ length bytes → KeepsPadding Zero (told_padding count bytes)
 odd_padding bytes count odd room =
     none_kept (told_padding count bytes) (omega (arith, length-drop (4 * (count + 1)) (take (table_size count) bytes), length-take-le (table_size count) bytes room))
 
--- behind an even number it is a field
+-- after an even number it is a field
 even_padding : (bytes : List ℕ) (count n : ℕ) → count % 2 ≡ 0 → field n ≡ take 4 (drop (4 * (count + 1)) bytes) → told_padding count bytes ≡ field n
 even_padding bytes count n even read =
     let place : table_size count ≡ 4 * (count + 1) + 4 = omega arith in

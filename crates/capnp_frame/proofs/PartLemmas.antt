@@ -1,4 +1,4 @@
--- Where a segment lies among the parts behind a table.
+-- Where a segment lies among the parts after a table.
 use Rattle.std.proofs.Common.{◌≡◌, ℕ, ◌+◌, ◌-◌, ◌*◌, ◌<◌, ◌≤◌, ◌^◌, zero, suc, Some, List, [], ◌∷◌, length, take, drop, refl, ap, ◌∙◌, subst, arith, add-one}
 use Rattle.std.proofs.lemmas.List.{drop-drop}
 use Rattle.std.proofs.lemmas.List.Sums.{sum_by-cons}

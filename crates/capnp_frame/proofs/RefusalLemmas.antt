@@ -50,18 +50,18 @@ Tells-once word m n p q =
     p.3 ∙ ap (λ k. (k + 1) % 2 ^ 32) last ∙ sym q.3
 
 RefusesAtLimit-once : (rule : Padding) (limit : Option ℕ) (kind other : ErrorKind) (A B : List ℕ → List ℕ → Type 0)
-    (left rest word others behind : List ℕ) → ((ns behind : List ℕ) → A ns behind → B ns behind → kind ≡ other)
-    → RefusesAtLimit rule limit kind A left word others behind → RefusesAtLimit rule limit other B rest word others behind
+    (left rest word others following : List ℕ) → ((ns following : List ℕ) → A ns following → B ns following → kind ≡ other)
+    → RefusesAtLimit rule limit kind A left word others following → RefusesAtLimit rule limit other B rest word others following
     → kind ≡ other
-RefusesAtLimit-once rule limit kind other A B left rest word others behind after p q =
+RefusesAtLimit-once rule limit kind other A B left rest word others following after p q =
     let same = IsTable-once (word ++ others) q.0 p.0 q.1 p.1 in
-    Unless-once (λ x y. x.0 ∙ sym y.0) (Unless-once (λ x y. x.0 ∙ sym y.0) (after p.0 behind)) p.2
-    (subst (λ l. Unless (IsTooLarge l limit) (StopsBy (MessageTooLarge (sum l)) other behind rest)
-    (Unless (BreaksPadding rule (word ++ others) l) (StopsBy NonZeroPadding other behind rest) (B l behind))) same q.2)
+    Unless-once (λ x y. x.0 ∙ sym y.0) (Unless-once (λ x y. x.0 ∙ sym y.0) (after p.0 following)) p.2
+    (subst (λ l. Unless (IsTooLarge l limit) (StopsBy (MessageTooLarge (sum l)) other following rest)
+    (Unless (BreaksPadding rule (word ++ others) l) (StopsBy NonZeroPadding other following rest) (B l following))) same q.2)
 
 RefusesAtCount-once : {gives : Giving} {refuses : Refusing} (rule : Padding) (laws : IsSource gives refuses) (limit room : Option ℕ)
     (kind other : ErrorKind) (A B : List ℕ → List ℕ → Type 0) (left rest word between : List ℕ)
-    → ((ns behind : List ℕ) → A ns behind → B ns behind → kind ≡ other)
+    → ((ns following : List ℕ) → A ns following → B ns following → kind ≡ other)
     → RefusesAtCount rule gives refuses limit room kind A left word between
     → RefusesAtCount rule gives refuses limit room other B rest word between → kind ≡ other
 RefusesAtCount-once {gives} {refuses} rule laws limit room kind other A B left rest word between after p q =
@@ -69,7 +69,7 @@ RefusesAtCount-once {gives} {refuses} rule laws limit room kind other A B left r
     Unless-once (λ x y. x.0 ∙ sym y.0) (Unless-once (λ x y. x.0 ∙ sym y.0)
     (Asks-once laws kind other between (8 * (p.0 / 2)) (RefusesAtLimit rule limit kind A left word)
     (RefusesAtLimit rule limit other B rest word)
-    (λ others behind. RefusesAtLimit-once rule limit kind other A B left rest word others behind after))) p.2
+    (λ others following. RefusesAtLimit-once rule limit kind other A B left rest word others following after))) p.2
     (subst (λ k. Unless (IsOutOfRange k) (StopsBy (InvalidNumberOfSegments k) other between rest)
     (Unless (LacksRoom room (table_size k)) (StopsBy BufferNotLargeEnough other between rest)
     (RefusesRest rule gives refuses limit other B rest word k between))) same q.2)
@@ -77,7 +77,7 @@ RefusesAtCount-once {gives} {refuses} rule laws limit room kind other A B left r
 -- one line at most is the first that holds
 pub RefusesAtStart-once : {gives : Giving} {refuses : Refusing} (rule : Padding) (laws : IsSource gives refuses) (limit room : Option ℕ)
     (kind other : ErrorKind) (A B : List ℕ → List ℕ → Type 0) (raw left rest : List ℕ)
-    → ((ns behind : List ℕ) → A ns behind → B ns behind → kind ≡ other)
+    → ((ns following : List ℕ) → A ns following → B ns following → kind ≡ other)
     → RefusesAtStart rule gives refuses limit room kind A raw left
     → RefusesAtStart rule gives refuses limit room other B raw rest → kind ≡ other
 RefusesAtStart-once {gives} {refuses} rule laws limit room kind other A B raw left rest after =
@@ -89,7 +89,7 @@ pub RefusesStream-once : {gives : Giving} {refuses : Refusing} (rule : Padding) 
     (kind other : ErrorKind) (raw left rest : List ℕ) → RefusesStream rule gives refuses limit room kind raw left
     → RefusesStream rule gives refuses limit room other raw rest → kind ≡ other
 RefusesStream-once rule laws limit room kind other raw left rest = RefusesAtStart-once rule laws limit room kind other _ _ raw
-    left rest (λ ns behind. Unless-once (λ x y. x.0 ∙ sym y.0) (laws.one_kind behind (8 * sum ns) kind other))
+    left rest (λ ns following. Unless-once (λ x y. x.0 ∙ sym y.0) (laws.one_kind following (8 * sum ns) kind other))
 
 -- a table that is accepted comes to what is after it
 few_tells : {rule : Padding} (word others ns : List ℕ) (count : ℕ) → IsTable rule (word ++ others) ns → length word ≡ 8 → length ns < 512 → Tells word count → count ≡ length ns
@@ -113,10 +113,10 @@ small_room None m n less fits lacks = lacks
 small_room (Some len) m n less fits lacks = fits (omega arith)
 
 pub RefusesAtStart-after : {gives : Giving} {refuses : Refusing} (rule : Padding) (laws : IsSource gives refuses) (P : Type 0)
-    (limit room : Option ℕ) (kind : ErrorKind) (A : List ℕ → List ℕ → Type 0) (raw left ns behind : List ℕ)
-    → TableStands rule gives ns raw behind → AreWithin ns limit → (LacksRoom room (table_size (length ns)) → ⊥)
-    → (A ns behind → P) → RefusesAtStart rule gives refuses limit room kind A raw left → P
-RefusesAtStart-after {gives} {refuses} rule laws P limit room kind A raw left ns behind sent accepts fits after =
+    (limit room : Option ℕ) (kind : ErrorKind) (A : List ℕ → List ℕ → Type 0) (raw left ns following : List ℕ)
+    → TableStands rule gives ns raw following → AreWithin ns limit → (LacksRoom room (table_size (length ns)) → ⊥)
+    → (A ns following → P) → RefusesAtStart rule gives refuses limit room kind A raw left → P
+RefusesAtStart-after {gives} {refuses} rule laws P limit room kind A raw left ns following sent accepts fits after =
     Unless-after (small_room room 8 (table_size (length ns)) (omega arith) fits)
     (λ x. Asks-after laws kind raw 8 sent.first sent.between (RefusesAtCount rule gives refuses limit room kind A left)
     sent.first_given counted x.1)
@@ -124,11 +124,11 @@ RefusesAtStart-after {gives} {refuses} rule laws P limit room kind A raw left ns
     long : length sent.first ≡ 8
     long = laws.gives_all raw 8 sent.first sent.between sent.first_given
 
-    limited : RefusesAtLimit rule limit kind A left sent.first sent.others behind → P
+    limited : RefusesAtLimit rule limit kind A left sent.first sent.others following → P
     limited x =
         let same = IsTable-once (sent.first ++ sent.others) x.0 ns x.1 sent.table in
-        let rest = subst (λ l. Unless (IsTooLarge l limit) (StopsBy (MessageTooLarge (sum l)) kind behind left)
-        (Unless (BreaksPadding rule (sent.first ++ sent.others) l) (StopsBy NonZeroPadding kind behind left) (A l behind))) same x.2 in
+        let rest = subst (λ l. Unless (IsTooLarge l limit) (StopsBy (MessageTooLarge (sum l)) kind following left)
+        (Unless (BreaksPadding rule (sent.first ++ sent.others) l) (StopsBy NonZeroPadding kind following left) (A l following))) same x.2 in
         Unless-after (within_limit ns limit accepts.size) (Unless-after (λ breaks. breaks sent.table) after) rest
 
     counted : RefusesAtCount rule gives refuses limit room kind A left sent.first sent.between → P
@@ -138,12 +138,12 @@ RefusesAtStart-after {gives} {refuses} rule laws P limit room kind A raw left ns
         let few = accepts.few in
         Unless-after (in_range x.0 (omega arith) (omega arith))
         (Unless-after (subst (λ k. LacksRoom room (table_size k) → ⊥) (sym same) fits)
-        (Asks-after laws kind sent.between (8 * (x.0 / 2)) sent.others behind
+        (Asks-after laws kind sent.between (8 * (x.0 / 2)) sent.others following
         (RefusesAtLimit rule limit kind A left sent.first)
-        (subst (λ k. gives sent.between (8 * (k / 2)) sent.others behind) (sym same) sent.others_given) limited))
+        (subst (λ k. gives sent.between (8 * (k / 2)) sent.others following) (sym same) sent.others_given) limited))
         x.2
 
--- where nothing is unread no line holds, but for a lent buffer's
+-- where nothing is unread no line holds, but for a caller-provided buffer's
 pub RefusesStream-some : (rule : Padding) (gives : Giving) (refuses : Refusing) (limit room : Option ℕ) (kind : ErrorKind)
     (raw left : List ℕ) → RefusesStream rule gives refuses limit room kind raw left → (LacksRoom room 8 → ⊥) → raw ≡ [] → ⊥
 RefusesStream-some rule gives refuses limit room kind raw left refused fits none = Unless-after fits (λ x. absurd (x.0 none)) refused
@@ -178,13 +178,13 @@ pub RefusesAtStart-map : (rule : Padding) {gives others : Giving} {refuses also 
     (given : (raw : List ℕ) (n : ℕ) (bytes rest : List ℕ) → gives raw n bytes rest → others raw n bytes rest)
     (refused : (raw : List ℕ) (n : ℕ) (kind : ErrorKind) → refuses raw n kind → also raw n kind)
     (limit room : Option ℕ) (kind : ErrorKind) (A B : List ℕ → List ℕ → Type 0) (raw left : List ℕ)
-    → ((ns behind : List ℕ) → A ns behind → B ns behind) → RefusesAtStart rule gives refuses limit room kind A raw left
+    → ((ns following : List ℕ) → A ns following → B ns following) → RefusesAtStart rule gives refuses limit room kind A raw left
     → RefusesAtStart rule others also limit room kind B raw left
 RefusesAtStart-map rule {gives} {others} {refuses} {also} given refused limit room kind A B raw left f =
     Unless-map (λ x. (x.0, Asks-map given refused kind raw 8 (RefusesAtCount rule gives refuses limit room kind A left) (RefusesAtCount rule others also limit room kind B left) counted x.1))
   where
-    limited : (word read behind : List ℕ) → RefusesAtLimit rule limit kind A left word read behind → RefusesAtLimit rule limit kind B left word read behind
-    limited word read behind x = (x.0, x.1, Unless-map (Unless-map (f x.0 behind)) x.2)
+    limited : (word read following : List ℕ) → RefusesAtLimit rule limit kind A left word read following → RefusesAtLimit rule limit kind B left word read following
+    limited word read following x = (x.0, x.1, Unless-map (Unless-map (f x.0 following)) x.2)
 
     counted : (word between : List ℕ) → RefusesAtCount rule gives refuses limit room kind A left word between → RefusesAtCount rule others also limit room kind B left word between
     counted word between x = (
@@ -200,7 +200,7 @@ pub RefusesStream-map : (rule : Padding) {gives others : Giving} {refuses also :
     (refused : (raw : List ℕ) (n : ℕ) (kind : ErrorKind) → refuses raw n kind → also raw n kind)
     (limit room : Option ℕ) (kind : ErrorKind) (raw left : List ℕ)
     → RefusesStream rule gives refuses limit room kind raw left → RefusesStream rule others also limit room kind raw left
-RefusesStream-map rule given refused limit room kind raw left = RefusesAtStart-map rule given refused limit room kind _ _ raw left (λ ns behind. Unless-map (refused behind (8 * sum ns) kind))
+RefusesStream-map rule given refused limit room kind raw left = RefusesAtStart-map rule given refused limit room kind _ _ raw left (λ ns following. Unless-map (refused following (8 * sum ns) kind))
 
 pub given_some : {gives : Giving} {refuses : Refusing} (laws : IsSource gives refuses) (raw : List ℕ) (n : ℕ) (bytes rest : List ℕ) → gives raw n bytes rest → 0 < n → raw ≡ [] → ⊥
 given_some {gives} laws raw n bytes rest given some none =

@@ -1,4 +1,4 @@
--- Pieces that are written to a sink, one call after another.
+-- Chunks that are written to a sink, one call after another.
 use Rattle.std.proofs.Common.{◌≡◌, ℕ, ◌+◌, ◌⊎◌, inl, inr, List, [], ◌∷◌, ◌++◌, length, take, drop, Result, Ok, Err, OnOk, OnErr, IfErr, Option, Some, refl, sym, ap, ◌∙◌, subst, arith, append_assoc}
 use Rattle.std.proofs.lemmas.List.{append-nil, take-append-drop}
 use Rattle.std.specs.Prelude.{slice_get}
@@ -10,8 +10,8 @@ use Rattle.capnp_frame.specs.declared.error.ErrorKind.TheVariants.{DeviceFailed,
 use Rattle.capnp_frame.specs.Asking.{FailsOr}
 use Rattle.capnp_frame.specs.Source.{IfKnown, IsFront, IsPreorder, Fails}
 use Rattle.capnp_frame.specs.Sink.{Appending, Leaving, AppendsSame, Adds, AppendsAll, LeavesSome, DeclinesSome, Grows}
-use Rattle.capnp_frame.specs.Writers.{WritesTo, WritesPieces, WritesSegments, KeepsCount, RefusesUnwritten}
-use Rattle.capnp_frame.specs.Writing.{HasFew, RefusesMany, pieces}
+use Rattle.capnp_frame.specs.Writers.{WritesTo, WritesChunks, WritesSegments, KeepsCount, RefusesUnwritten}
+use Rattle.capnp_frame.specs.Writing.{HasFew, RefusesMany, chunks}
 use Rattle.capnp_frame.proofs.SourceLemmas.{IfKnown-join, IfKnown-weaker, IfKnown-refl, Grows-join, Grows-refl, Fails-join}
 use Rattle.capnp_frame.proofs.WritingLemmas.{take-next, written_more, written_one, DeclinesSome-front, DeclinesSome-back, refused_at}
 
@@ -43,34 +43,34 @@ left_after appends leaves (x ∷ xs) ys s t p q =
 pub left_same : (appends : Appending) (leaves : Leaving) (xs : List (List ℕ)) (a : Option (List ℕ)) → IfKnown a a (Adds (LeavesSome appends leaves xs))
 left_same appends leaves xs a = IfKnown-refl (Adds (LeavesSome appends leaves xs)) a (λ x. ([], left_none appends leaves xs, sym (append-nil x)))
 
--- a front of more pieces
+-- a front of more chunks
 pub left_more : (appends : Appending) (leaves : Leaving) (xs ys : List (List ℕ)) (a b : Option (List ℕ))
     → IfKnown a b (Adds (LeavesSome appends leaves xs)) → IfKnown a b (Adds (LeavesSome appends leaves (xs ++ ys)))
 left_more appends leaves xs ys a b = IfKnown-weaker a b (λ x y p. (p.0, left_front appends leaves xs ys p.0 p.1, p.2))
 
--- a part of one piece
-pub left_one : (appends : Appending) (leaves : Leaving) (piece : List ℕ) (a b : Option (List ℕ))
-    → IfKnown a b (Adds (leaves piece)) → IfKnown a b (Adds (LeavesSome appends leaves (piece ∷ [])))
-left_one appends leaves piece a b = IfKnown-weaker a b (λ x y p. (p.0, inr (inl p.1), p.2))
+-- a part of one chunk
+pub left_one : (appends : Appending) (leaves : Leaving) (chunk : List ℕ) (a b : Option (List ℕ))
+    → IfKnown a b (Adds (leaves chunk)) → IfKnown a b (Adds (LeavesSome appends leaves (chunk ∷ [])))
+left_one appends leaves chunk a b = IfKnown-weaker a b (λ x y p. (p.0, inr (inl p.1), p.2))
 
--- what is left after pieces that are written
-pub left_behind : (appends : Appending) (leaves : Leaving) (xs ys : List (List ℕ)) (a b c : Option (List ℕ))
+-- what is left after chunks that are written
+pub left_following : (appends : Appending) (leaves : Leaving) (xs ys : List (List ℕ)) (a b c : Option (List ℕ))
     → IfKnown a b (Adds (AppendsAll appends xs)) → IfKnown b c (Adds (LeavesSome appends leaves ys))
     → IfKnown a c (Adds (LeavesSome appends leaves (xs ++ ys)))
-left_behind appends leaves xs ys a b c =
+left_following appends leaves xs ys a b c =
     IfKnown-join a b c (λ x y z p q. (p.0 ++ q.0, left_after appends leaves xs ys p.0 q.0 p.1 q.1, q.2 ∙ ap (λ l. l ++ q.0) p.2 ∙ append_assoc x p.0 q.0))
 
--- a part of the piece at an index, after those before it
+-- a part of the chunk at an index, after those before it
 left_at : (appends : Appending) (leaves : Leaving) (xs : List (List ℕ)) (i : ℕ) (x : List ℕ) (a b c : Option (List ℕ)) → slice_get xs i ≡ Some x
     → IfKnown a b (Adds (AppendsAll appends (take i xs))) → IfKnown b c (Adds (leaves x)) → IfKnown a c (Adds (LeavesSome appends leaves xs))
 left_at appends leaves xs i x a b c here before stopped =
     let parts : (take i xs ++ x ∷ []) ++ drop (i + 1) xs ≡ xs = ap (λ l. l ++ drop (i + 1) xs) (sym (take-next xs i x here)) ∙ take-append-drop (i + 1) xs in
     subst (λ l. IfKnown a c (Adds (LeavesSome appends leaves l))) parts
     (left_more appends leaves (take i xs ++ x ∷ []) (drop (i + 1) xs) a c
-    (left_behind appends leaves (take i xs) (x ∷ []) a b c before (left_one appends leaves x b c stopped)))
+    (left_following appends leaves (take i xs) (x ∷ []) a b c before (left_one appends leaves x b c stopped)))
 
--- at a plain sink it is a front of the pieces, joined
-pub left_is_front : (leaves : Leaving) → ((piece text : List ℕ) → leaves piece text → IsFront text piece) → (xs : List (List ℕ)) (text : List ℕ)
+-- at a plain sink it is a front of the chunks, joined
+pub left_is_front : (leaves : Leaving) → ((chunk text : List ℕ) → leaves chunk text → IsFront text chunk) → (xs : List (List ℕ)) (text : List ℕ)
     → LeavesSome AppendsSame leaves xs text → IsFront text (concat xs)
 left_is_front leaves within [] text p = ([], sym (append-nil text ∙ p))
 left_is_front leaves within (x ∷ xs) text (inl p) = (concat (x ∷ xs), sym (ap (λ l. l ++ concat (x ∷ xs)) p))
@@ -81,15 +81,15 @@ left_is_front leaves within (x ∷ xs) text (inr (inr p)) = let (tail, e) = left
 
 -- Writing
 
--- a call that only writes the pieces
-pub writes_pieces : {S X : Type 0} (sink : Ghosts S) (old new : S) (xs : List (List ℕ)) (lacks : ErrorKind → Type 0) (r : Result X Error)
-    → WritesTo sink old new (AppendsAll sink.appends xs) (LeavesSome sink.appends sink.leaves xs) (DeclinesSome sink.refuses xs) r → WritesPieces sink old new xs lacks r
-writes_pieces sink old new xs lacks (Ok x) told = record { written = told.written; left = tt; refused = tt; untouched = tt; failed = tt; grows = told.grows }
-writes_pieces sink old new xs lacks (Err e) told = record { written = tt; left = told.left; refused = declined told.refused; untouched = declined told.refused; failed = told.failed; grows = told.grows }
+-- a call that only writes the chunks
+pub writes_chunks : {S X : Type 0} (sink : Ghosts S) (old new : S) (xs : List (List ℕ)) (lacks : ErrorKind → Type 0) (r : Result X Error)
+    → WritesTo sink old new (AppendsAll sink.appends xs) (LeavesSome sink.appends sink.leaves xs) (DeclinesSome sink.refuses xs) r → WritesChunks sink old new xs lacks r
+writes_chunks sink old new xs lacks (Ok x) told = record { written = told.written; left = tt; refused = tt; untouched = tt; failed = tt; grows = told.grows }
+writes_chunks sink old new xs lacks (Err e) told = record { written = tt; left = told.left; refused = declined told.refused; untouched = declined told.refused; failed = told.failed; grows = told.grows }
 
--- the first pieces are not all written
+-- the first chunks are not all written
 pub front_refused : {S X : Type 0} (sink : Ghosts S) (old new : S) (xs ys : List (List ℕ)) (lacks other : ErrorKind → Type 0) (e : Error)
-    → (lacks e.kind → other e.kind) → WritesPieces {X = X} sink old new xs lacks (Err e) → WritesPieces {X = X} sink old new (xs ++ ys) other (Err e)
+    → (lacks e.kind → other e.kind) → WritesChunks {X = X} sink old new xs lacks (Err e) → WritesChunks {X = X} sink old new (xs ++ ys) other (Err e)
 front_refused {X} sink old new xs ys lacks other e wider told = record {
   written = tt;
   left = left_more sink.appends sink.leaves xs ys (sink.written old) (sink.written new) told.left;
@@ -104,7 +104,7 @@ front_refused {X} sink old new xs ys lacks other e wider told = record {
     more wider (inr (inl refused)) = inr (inl (DeclinesSome-front sink.refuses xs ys e.kind refused))
     more wider (inr (inr p)) = inr (inr (wider p))
 
--- pieces after those that are written
+-- chunks after those that are written
 pub writes_after : {S X : Type 0} (sink : Ghosts S) (keeps : IsPreorder sink.same) (a b c : S) (xs ys : List (List ℕ)) (r : Result X Error)
     → IfKnown (sink.written a) (sink.written b) (Adds (AppendsAll sink.appends xs)) → Grows sink.written sink.failures sink.same a b
     → WritesTo sink b c (AppendsAll sink.appends ys) (LeavesSome sink.appends sink.leaves ys) (DeclinesSome sink.refuses ys) r
@@ -118,7 +118,7 @@ writes_after sink keeps a b c xs ys (Ok x) before grows told = record {
 }
 writes_after sink keeps a b c xs ys (Err e) before grows told = record {
   written = tt;
-  left = left_behind sink.appends sink.leaves xs ys (sink.written a) (sink.written b) (sink.written c) before told.left;
+  left = left_following sink.appends sink.leaves xs ys (sink.written a) (sink.written b) (sink.written c) before told.left;
   refused = more told.refused;
   failed = λ device. Fails-join (sink.failures a) (sink.failures b) (sink.failures c) grows.counted (told.failed device);
   grows = Grows-join a b c (keeps.transitive a b c) grows told.grows;
@@ -128,31 +128,31 @@ writes_after sink keeps a b c xs ys (Err e) before grows told = record {
     more (inl failed) = inl failed
     more (inr refused) = inr (DeclinesSome-back sink.refuses xs ys e.kind refused)
 
--- one piece
-pub writes_one : {S X : Type 0} (sink : Ghosts S) (old new : S) (piece : List ℕ) (r : Result X Error)
-    → OnOk r (IfKnown (sink.written old) (sink.written new) (Adds (sink.appends piece)))
-    → OnErr r (IfKnown (sink.written old) (sink.written new) (Adds (sink.leaves piece))) → FailsOr r (sink.refuses piece)
+-- one chunk
+pub writes_one : {S X : Type 0} (sink : Ghosts S) (old new : S) (chunk : List ℕ) (r : Result X Error)
+    → OnOk r (IfKnown (sink.written old) (sink.written new) (Adds (sink.appends chunk)))
+    → OnErr r (IfKnown (sink.written old) (sink.written new) (Adds (sink.leaves chunk))) → FailsOr r (sink.refuses chunk)
     → IfErr r (λ error. error.kind ≡ DeviceFailed → Fails (sink.failures old) (sink.failures new)) → Grows sink.written sink.failures sink.same old new
-    → WritesTo sink old new (AppendsAll sink.appends (piece ∷ [])) (LeavesSome sink.appends sink.leaves (piece ∷ [])) (DeclinesSome sink.refuses (piece ∷ [])) r
-writes_one sink old new piece (Ok x) added left refused failed grows = record { written = written_one sink.appends piece _ _ added; left = tt; refused = tt; failed = tt; grows = grows }
-writes_one sink old new piece (Err e) added left refused failed grows = record { written = tt; left = left_one sink.appends sink.leaves piece (sink.written old) (sink.written new) left; refused = declined refused; failed = failed; grows = grows }
+    → WritesTo sink old new (AppendsAll sink.appends (chunk ∷ [])) (LeavesSome sink.appends sink.leaves (chunk ∷ [])) (DeclinesSome sink.refuses (chunk ∷ [])) r
+writes_one sink old new chunk (Ok x) added left refused failed grows = record { written = written_one sink.appends chunk _ _ added; left = tt; refused = tt; failed = tt; grows = grows }
+writes_one sink old new chunk (Err e) added left refused failed grows = record { written = tt; left = left_one sink.appends sink.leaves chunk (sink.written old) (sink.written new) left; refused = declined refused; failed = failed; grows = grows }
 
--- the first piece is not written
-pub stopped_first : {S X : Type 0} (sink : Ghosts S) (old new : S) (piece : List ℕ) (others : List (List ℕ)) (e : Error)
-    → IfKnown (sink.written old) (sink.written new) (Adds (sink.leaves piece)) → (e.kind ≡ DeviceFailed) ⊎ sink.refuses piece e.kind
+-- the first chunk is not written
+pub stopped_first : {S X : Type 0} (sink : Ghosts S) (old new : S) (chunk : List ℕ) (others : List (List ℕ)) (e : Error)
+    → IfKnown (sink.written old) (sink.written new) (Adds (sink.leaves chunk)) → (e.kind ≡ DeviceFailed) ⊎ sink.refuses chunk e.kind
     → (e.kind ≡ DeviceFailed → Fails (sink.failures old) (sink.failures new)) → Grows sink.written sink.failures sink.same old new
-    → WritesTo {X = X} sink old new (AppendsAll sink.appends (piece ∷ others)) (LeavesSome sink.appends sink.leaves (piece ∷ others))
-    (DeclinesSome sink.refuses (piece ∷ others)) (Err e)
-stopped_first sink old new piece others e left refused failed grows = record {
+    → WritesTo {X = X} sink old new (AppendsAll sink.appends (chunk ∷ others)) (LeavesSome sink.appends sink.leaves (chunk ∷ others))
+    (DeclinesSome sink.refuses (chunk ∷ others)) (Err e)
+stopped_first sink old new chunk others e left refused failed grows = record {
   written = tt;
-  left = left_more sink.appends sink.leaves (piece ∷ []) others (sink.written old) (sink.written new)
-      (left_one sink.appends sink.leaves piece (sink.written old) (sink.written new) left);
+  left = left_more sink.appends sink.leaves (chunk ∷ []) others (sink.written old) (sink.written new)
+      (left_one sink.appends sink.leaves chunk (sink.written old) (sink.written new) left);
   refused = declined refused;
   failed = failed;
   grows = grows;
 }
 
--- the piece at an index is refused, after those before it
+-- the chunk at an index is refused, after those before it
 pub stopped_at : {S X : Type 0} (sink : Ghosts S) (keeps : IsPreorder sink.same) (a b c : S) (segments : List (List ℕ)) (index : ℕ)
     (segment : List ℕ) (e : Error) → slice_get segments index ≡ Some segment
     → IfKnown (sink.written a) (sink.written b) (Adds (AppendsAll sink.appends (take index segments))) → Grows sink.written sink.failures sink.same a b
@@ -167,14 +167,14 @@ stopped_at sink keeps a b c segments index segment e here written before left re
   grows = Grows-join a b c (keeps.transitive a b c) before grows;
 }
 
--- a message with no more segments than a reader accepts is never refused by their number
+-- a message with no more segments than a reader accepts never fails for their number
 pub count_kept : {X : Type 0} (segments : List (List ℕ)) (r : Result X Error) → HasFew segments → KeepsCount segments r
 count_kept segments (Ok x) few = record { few = few; many = λ many. absurd (omega arith) }
 count_kept segments (Err e) few = record { few = tt; many = λ many. absurd (omega arith) }
 
--- so only its pieces stop it
+-- so only its chunks stop it
 pub few_written : {S X : Type 0} (sink : Ghosts S) (old new : S) (segments : List (List ℕ)) (r : Result X Error) → HasFew segments
-    → WritesPieces sink old new (pieces segments) (RefusesUnwritten segments) r → WritesSegments sink old new segments r
+    → WritesChunks sink old new (chunks segments) (RefusesUnwritten segments) r → WritesSegments sink old new segments r
 few_written sink old new segments r few told = record { count = count_kept segments r few; unwritten = λ many. absurd (omega arith); parts = told }
 
 -- and one with more is refused before the sink is asked
@@ -185,7 +185,7 @@ many_refused sink keeps same segments e many = record {
   unwritten = λ _. refl;
   parts = record {
     written = tt;
-    left = left_same sink.appends sink.leaves (pieces segments) (sink.written same);
+    left = left_same sink.appends sink.leaves (chunks segments) (sink.written same);
     refused = inr (inr (inl many));
     untouched = inr (inr refl);
     failed = λ device. let never : InvalidNumberOfSegments (length segments) ≡ DeviceFailed = sym many.1 ∙ device in cc;

@@ -14,11 +14,11 @@ use Rattle.capnp_frame.specs.Frame.{frame_text}
 use Rattle.capnp_frame.specs.Source.{IfKnown, Fails}
 use Rattle.capnp_frame.specs.Sink.{Adds, AppendsAll, AppendsSame, ByKind, DeclinesSome}
 use Rattle.capnp_frame.specs.Writers.{RefusesUnwritten}
-use Rattle.capnp_frame.specs.Writing.{IsWritable, HasFew, RefusesMany, word_and_rest, pieces, serialized_words}
+use Rattle.capnp_frame.specs.Writing.{IsWritable, HasFew, RefusesMany, word_and_rest, chunks, serialized_words}
 use Rattle.capnp_frame.specs.declared.serialize.segment_table.Padding.TheVariants.{Zero}
 use Rattle.capnp_frame.proofs.FrameLemmas.{zero_padded_is, length-table, length-segments}
 use Rattle.capnp_frame.proofs.AskLemmas.{never_fails}
-use Rattle.capnp_frame.proofs.TextLemmas.{pieces_joined}
+use Rattle.capnp_frame.proofs.TextLemmas.{chunks_joined}
 use Rattle.capnp_frame.proofs.WritingLemmas.{parts_one, parts_two, length-lengths}
 
 pub HasTable-writable : (segments : List (List ℕ)) → IsWritable segments → HasTable (lengths segments)
@@ -28,7 +28,7 @@ HasTable-writable segments writable =
     let few = writable.few in
     record { some = omega arith; count = omega arith; each = writable.each }
 
--- a frame takes so many words
+-- a frame takes a given number of words
 pub length-frame_text : (segments : List (List ℕ)) → IsWritable segments → length (frame_text segments) ≡ 8 * serialized_words segments
 length-frame_text segments writable =
     let table = zero_padded_table (lengths segments) in
@@ -46,15 +46,15 @@ concat-word_and_rest table = elim (cases_lt 8 (length table)) [
   | inr no_more ↦ ap concat (parts_one table no_more) ∙ append-nil (take 8 table) ∙ take_all 8 table no_more
 ]
 
--- the pieces, joined, are the frame
-pub concat-pieces : (segments : List (List ℕ)) → concat (pieces segments) ≡ frame_text segments
-concat-pieces segments =
+-- the chunks, joined, are the frame
+pub concat-chunks : (segments : List (List ℕ)) → concat (chunks segments) ≡ frame_text segments
+concat-chunks segments =
     let table = zero_padded_table (lengths segments) in
     concat-append (word_and_rest table) segments ∙ ap (λ l. l ++ concat segments) (concat-word_and_rest table)
 
--- what a plain sink has after the pieces of a message
-pub written_frame : (segments : List (List ℕ)) (old new : List ℕ) → old ≡ [] → IfKnown (Some old) (Some new) (Adds (AppendsAll AppendsSame (pieces segments))) → new ≡ frame_text segments
-written_frame segments old new empty p = p.2 ∙ ap (λ l. l ++ p.0) empty ∙ (pieces_joined (pieces segments) p.0).0 p.1 ∙ concat-pieces segments
+-- what a plain sink has after the chunks of a message
+pub written_frame : (segments : List (List ℕ)) (old new : List ℕ) → old ≡ [] → IfKnown (Some old) (Some new) (Adds (AppendsAll AppendsSame (chunks segments))) → new ≡ frame_text segments
+written_frame segments old new empty p = p.2 ∙ ap (λ l. l ++ p.0) empty ∙ (chunks_joined (chunks segments) p.0).0 p.1 ∙ concat-chunks segments
 
 declines_memory : (xs : List (List ℕ)) (kind : ErrorKind) → DeclinesSome (ByKind OutOfMemory) xs kind → kind ≡ OutOfMemory
 declines_memory [] kind p = absurd p
@@ -63,10 +63,10 @@ declines_memory (x ∷ xs) kind (inr p) = declines_memory xs kind p
 
 -- a vector refuses a message for too many segments, or for want of memory
 pub lacks_memory_alone : (segments : List (List ℕ)) (kind : ErrorKind) → (kind ≡ DeviceFailed → Fails 0 0)
-    → (kind ≡ DeviceFailed) ⊎ DeclinesSome (ByKind OutOfMemory) (pieces segments) kind ⊎ RefusesUnwritten segments kind
+    → (kind ≡ DeviceFailed) ⊎ DeclinesSome (ByKind OutOfMemory) (chunks segments) kind ⊎ RefusesUnwritten segments kind
     → RefusesMany segments kind ⊎ (kind ≡ OutOfMemory)
 lacks_memory_alone segments kind failed (inl device) = absurd (never_fails kind failed device)
-lacks_memory_alone segments kind failed (inr (inl declined)) = inr (declines_memory (pieces segments) kind declined)
+lacks_memory_alone segments kind failed (inr (inl declined)) = inr (declines_memory (chunks segments) kind declined)
 lacks_memory_alone segments kind failed (inr (inr (inl many))) = inl many
 lacks_memory_alone segments kind failed (inr (inr (inr memory))) = inr memory.1
 

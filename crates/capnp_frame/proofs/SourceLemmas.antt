@@ -5,7 +5,7 @@ use Rattle.std.proofs.lemmas.List.{append-nil, length-take, length-drop, take_at
 use borrow.Rule.Slice.PartMut.{put_mid, post_of}
 use lib.Seq.{take-add, take-append-le}
 use Rattle.capnp_frame.specs.declared.error.ErrorKind.{ErrorKind}
-use Rattle.capnp_frame.specs.Source.{Giving, Refusing, Fails, IfKnown, IsTail, IsFront, Advances, IsRefused, AnswersPart}
+use Rattle.capnp_frame.specs.Source.{Giving, Refusing, Fails, IfKnown, IsTail, IsFront, Advances, IsRefused, ReturnsPart}
 use Rattle.capnp_frame.specs.Sink.{Grows}
 
 pub IfKnown-join : {P Q R : List ℕ → List ℕ → Type 0} (a b c : Option (List ℕ)) → ((x y z : List ℕ) → P x y → Q y z → R x z) → IfKnown a b P → IfKnown b c Q → IfKnown a c R
@@ -23,7 +23,7 @@ pub IfKnown-refl : (P : List ℕ → List ℕ → Type 0) (a : Option (List ℕ)
 IfKnown-refl P None p = tt
 IfKnown-refl P (Some x) p = p x
 
--- what is refused behind some bytes
+-- what is refused after some bytes
 pub IfKnown-refused : {P R : List ℕ → List ℕ → Type 0} (a b c : Option (List ℕ)) (refuses : Refusing) (n : ℕ)
     (kind : ErrorKind) → ((x y z : List ℕ) → P x y → refuses y n kind → R x z) → IfKnown a b P → IfKnown b c IsTail
     → IsRefused refuses n b kind → IfKnown a c R
@@ -44,11 +44,11 @@ Advances-join {unread} a b c join p q = record {
   same_source = join p.same_source q.same_source;
 }
 
--- two answers to one request
-pub AnswersPart-join : {gives : Giving} {refuses : Refusing} (n : ℕ) (a b raw mid left : List ℕ)
-    → AnswersPart gives refuses n a raw mid → AnswersPart gives refuses (n - length a) b mid left
-    → AnswersPart gives refuses n (a ++ b) raw left
-AnswersPart-join {gives} {refuses} n a b raw mid left p q =
+-- two results to one request
+pub ReturnsPart-join : {gives : Giving} {refuses : Refusing} (n : ℕ) (a b raw mid left : List ℕ)
+    → ReturnsPart gives refuses n a raw mid → ReturnsPart gives refuses (n - length a) b mid left
+    → ReturnsPart gives refuses n (a ++ b) raw left
+ReturnsPart-join {gives} {refuses} n a b raw mid left p q =
     let rest_len : (n - length a) - length b ≡ n - length (a ++ b) = omega (arith, length-append a b) in
     record {
       joins = λ more rest h.
@@ -64,16 +64,16 @@ AnswersPart-join {gives} {refuses} n a b raw mid left p q =
       );
     }
 
--- an answer that is the whole request
-pub AnswersPart-whole : {gives : Giving} {refuses : Refusing} (n : ℕ) (got raw left : List ℕ)
-    → ((l : List ℕ) → gives l 0 [] l) → length got ≡ n → AnswersPart gives refuses n got raw left → gives raw n got left
-AnswersPart-whole {gives} {refuses} n got raw left nothing whole p =
+-- a result that is the whole request
+pub ReturnsPart-whole : {gives : Giving} {refuses : Refusing} (n : ℕ) (got raw left : List ℕ)
+    → ((l : List ℕ) → gives l 0 [] l) → length got ≡ n → ReturnsPart gives refuses n got raw left → gives raw n got left
+ReturnsPart-whole {gives} {refuses} n got raw left nothing whole p =
     let over : n - length got ≡ 0 = omega arith in
     subst (λ l. gives raw n l left) (append-nil got) (p.joins [] left (subst (λ k. gives left k [] left) (sym over) (nothing left)))
 
--- no answer yet
-pub AnswersPart-none : {gives : Giving} {refuses : Refusing} (n : ℕ) (raw : List ℕ) → AnswersPart gives refuses n [] raw raw
-AnswersPart-none {gives} {refuses} n raw =
+-- no result yet
+pub ReturnsPart-none : {gives : Giving} {refuses : Refusing} (n : ℕ) (raw : List ℕ) → ReturnsPart gives refuses n [] raw raw
+ReturnsPart-none {gives} {refuses} n raw =
     let same : n ≡ n - 0 = omega arith in
     record {
       joins = λ more rest h. subst (λ k. gives raw k more rest) (sym same) h;
@@ -85,7 +85,7 @@ AnswersPart-none {gives} {refuses} n raw =
 
 -- a refusal of the rest of a request is one of the request
 pub IsRefused-join : (gives : Giving) (refuses : Refusing) (n : ℕ) (got : List ℕ) (a b : Option (List ℕ))
-    (kind : ErrorKind) → IfKnown a b (AnswersPart gives refuses n got) → IsRefused refuses (n - length got) b kind
+    (kind : ErrorKind) → IfKnown a b (ReturnsPart gives refuses n got) → IsRefused refuses (n - length got) b kind
     → IsRefused refuses n a kind
 IsRefused-join gives refuses n got None None kind taken refused = refused
 IsRefused-join gives refuses n got None (Some y) kind taken refused = (y, n - length got, refused)
@@ -107,37 +107,37 @@ put_mid_front a b n xs ys within fits =
     ∙ ap (λ l. take a xs ++ l) (take-append-le n ys post fits)
 
 -- a read into the rest of a buffer whose front is filled
-pub AnswersPart-fill : (gives : Giving) (refuses : Refusing) (filled count : ℕ) (buffer part : List ℕ)
+pub ReturnsPart-fill : (gives : Giving) (refuses : Refusing) (filled count : ℕ) (buffer part : List ℕ)
     (old mid new : Option (List ℕ)) → filled ≤ length buffer → length part ≡ length buffer - filled
-    → count ≤ length part → IfKnown old mid (AnswersPart gives refuses (length buffer) (take filled buffer))
-    → IfKnown mid new (AnswersPart gives refuses (length part) (take count part))
+    → count ≤ length part → IfKnown old mid (ReturnsPart gives refuses (length buffer) (take filled buffer))
+    → IfKnown mid new (ReturnsPart gives refuses (length part) (take count part))
     → (length (put_mid filled (length buffer - filled) buffer part) ≡ length buffer)
-    × IfKnown old new (AnswersPart gives refuses (length (put_mid filled (length buffer - filled) buffer part))
+    × IfKnown old new (ReturnsPart gives refuses (length (put_mid filled (length buffer - filled) buffer part))
     (take (filled + count) (put_mid filled (length buffer - filled) buffer part)))
-AnswersPart-fill gives refuses filled count buffer part old mid new within fits fewer p q =
+ReturnsPart-fill gives refuses filled count buffer part old mid new within fits fewer p q =
     let after = put_mid filled (length buffer - filled) buffer part in
     let len : length after ≡ length buffer = length-put_mid filled buffer part within fits in
     let front : take (filled + count) after ≡ take filled buffer ++ take count part = put_mid_front filled (length buffer - filled) count buffer part within fewer in
     let left : length part ≡ length buffer - length (take filled buffer) = omega (arith, length-take-le filled buffer within) in
-    let joined : IfKnown old new (AnswersPart gives refuses (length buffer) (take filled buffer ++ take count part)) =
-    IfKnown-join old mid new (λ x y z s t. AnswersPart-join (length buffer) (take filled buffer) (take count part) x y
-    z s (subst (λ k. AnswersPart gives refuses k (take count part) y z) left t)) p q in (
+    let joined : IfKnown old new (ReturnsPart gives refuses (length buffer) (take filled buffer ++ take count part)) =
+    IfKnown-join old mid new (λ x y z s t. ReturnsPart-join (length buffer) (take filled buffer) (take count part) x y
+    z s (subst (λ k. ReturnsPart gives refuses k (take count part) y z) left t)) p q in (
       len,
-      subst (λ l. IfKnown old new (AnswersPart gives refuses (length after) l)) (sym front)
-          (subst (λ k. IfKnown old new (AnswersPart gives refuses k (take filled buffer ++ take count part))) (sym len)
+      subst (λ l. IfKnown old new (ReturnsPart gives refuses (length after) l)) (sym front)
+          (subst (λ k. IfKnown old new (ReturnsPart gives refuses k (take filled buffer ++ take count part))) (sym len)
           joined),
     )
 
 -- the whole buffer is filled
-pub AnswersPart-filled : (gives : Giving) (refuses : Refusing) (filled : ℕ) (buffer : List ℕ)
+pub ReturnsPart-filled : (gives : Giving) (refuses : Refusing) (filled : ℕ) (buffer : List ℕ)
     (old new : Option (List ℕ)) → ((l : List ℕ) → gives l 0 [] l) → length buffer ≤ filled
-    → IfKnown old new (AnswersPart gives refuses (length buffer) (take filled buffer))
+    → IfKnown old new (ReturnsPart gives refuses (length buffer) (take filled buffer))
     → IfKnown old new (λ raw rest. gives raw (length buffer) buffer rest)
-AnswersPart-filled gives refuses filled buffer old new nothing full taken =
+ReturnsPart-filled gives refuses filled buffer old new nothing full taken =
     let whole : take filled buffer ≡ buffer = take_all filled buffer full in
-    IfKnown-weaker old new (λ x y t. AnswersPart-whole (length buffer) buffer x y nothing refl (subst (λ l. AnswersPart gives refuses (length buffer) l x y) whole t)) taken
+    IfKnown-weaker old new (λ x y t. ReturnsPart-whole (length buffer) buffer x y nothing refl (subst (λ l. ReturnsPart gives refuses (length buffer) l x y) whole t)) taken
 
--- a source that answered some bytes was not at its end
+-- a source that returned some bytes was not at its end
 pub not_at_end : (old : Option (List ℕ)) (count n : ℕ) → IfSome old (λ raw. 0 < n → (count ≡ 0) ↔ (raw ≡ [])) → 0 < n → (count ≡ 0 → ⊥) → old ≡ Some [] → ⊥
 not_at_end old count n end some more e =
     let P : Option (List ℕ) → Type 0 = λ o. IfSome o (λ raw. 0 < n → (count ≡ 0) ↔ (raw ≡ [])) in
@@ -151,7 +151,7 @@ IfErr-vacuous Q (Err e) never = λ a. absurd (never a)
 -- a refusal of the rest of a buffer
 pub IsRefused-fill : (gives : Giving) (refuses : Refusing) (filled : ℕ) (buffer part : List ℕ)
     (old mid : Option (List ℕ)) (kind : ErrorKind) → filled ≤ length buffer → length part ≡ length buffer - filled
-    → IfKnown old mid (AnswersPart gives refuses (length buffer) (take filled buffer))
+    → IfKnown old mid (ReturnsPart gives refuses (length buffer) (take filled buffer))
     → IsRefused refuses (length part) mid kind
     → IsRefused refuses (length (put_mid filled (length buffer - filled) buffer part)) old kind
 IsRefused-fill gives refuses filled buffer part old mid kind within fits taken refused =
@@ -162,7 +162,7 @@ IsRefused-fill gives refuses filled buffer part old mid kind within fits taken r
 -- the device's failure stays, and a refusal of the rest of a buffer is one of the whole
 pub refused_fill : (F : Type 0) (gives : Giving) (refuses : Refusing) (filled : ℕ) (buffer part : List ℕ)
     (old mid : Option (List ℕ)) (kind : ErrorKind) → filled ≤ length buffer → length part ≡ length buffer - filled
-    → IfKnown old mid (AnswersPart gives refuses (length buffer) (take filled buffer)) → F
+    → IfKnown old mid (ReturnsPart gives refuses (length buffer) (take filled buffer)) → F
     ⊎ IsRefused refuses (length part) mid kind → F
     ⊎ IsRefused refuses (length (put_mid filled (length buffer - filled) buffer part)) old kind
 refused_fill F gives refuses filled buffer part old mid kind within fits taken (inl failed) = inl failed
@@ -174,19 +174,19 @@ not_empty_before None new tail more = tt
 not_empty_before (Some x) None tail more = absurd tail
 not_empty_before (Some x) (Some y) tail more = λ e. more (nil_from_length y (omega (arith, ap length tail.1, ap length e, length-append tail.0 y)))
 
--- no byte is answered where nothing is unread
+-- no byte is returned where nothing is unread
 pub ends : (n : ℕ) (old : Option (List ℕ)) → IfSome old (λ raw. raw ≡ []) → IfSome old (λ raw. 0 < n → (◌≡◌ {A = ℕ} 0 0) ↔ (raw ≡ []))
 ends n None end = tt
 ends n (Some raw) end = λ _. (λ _. end, λ _. refl)
 
--- a request that is answered whole
-pub AnswersPart-given : (gives : Giving) (refuses : Refusing) (n : ℕ) (got raw left : List ℕ)
+-- a request that is returned whole
+pub ReturnsPart-given : (gives : Giving) (refuses : Refusing) (n : ℕ) (got raw left : List ℕ)
     → ((l : List ℕ) → gives l 0 [] l) → ((l bytes rest : List ℕ) → gives l 0 bytes rest → (bytes ≡ []) × (rest ≡ l))
     → ((l : List ℕ) (m : ℕ) (bytes rest others tail : List ℕ) → gives l m bytes rest → gives l m others tail
     → (bytes ≡ others) × (rest ≡ tail)) → ((l : List ℕ) (m : ℕ) (bytes rest : List ℕ) (kind : ErrorKind)
     → gives l m bytes rest → refuses l m kind → ⊥) → length got ≡ n → gives raw n got left
-    → AnswersPart gives refuses n got raw left
-AnswersPart-given gives refuses n got raw left takes_nothing gives_nothing unique apart whole given =
+    → ReturnsPart gives refuses n got raw left
+ReturnsPart-given gives refuses n got raw left takes_nothing gives_nothing unique apart whole given =
     let over : n - length got ≡ 0 = omega arith in
     record {
       joins = λ more rest h.
@@ -202,7 +202,7 @@ AnswersPart-given gives refuses n got raw left takes_nothing gives_nothing uniqu
       );
     }
 
--- Pieces one after another.
+-- Chunks one after another.
 
 pub IsFront-join : (x y z : List ℕ) → IsFront x y → IsFront y z → IsFront x z
 IsFront-join x y z (a, p) (b, q) = (a ++ b, q ∙ ap (λ l. l ++ b) p ∙ append_assoc x a b)

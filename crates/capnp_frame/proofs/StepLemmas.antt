@@ -8,11 +8,11 @@ use Rattle.capnp_frame.specs.declared.serialize.segment_table.Padding.{Padding}
 use Rattle.capnp_frame.specs.declared.io.Read.{Ghosts}
 use Rattle.capnp_frame.specs.Source.{IfKnown, Advances}
 use Rattle.capnp_frame.specs.Asking.{Asked}
-use Rattle.capnp_frame.specs.Refusals.{IsReaderKind, IsLentReaderKind}
+use Rattle.capnp_frame.specs.Refusals.{IsReaderKind, IsProvidedReaderKind}
 use Rattle.capnp_frame.specs.Steps.{AsksNext, AsksNextInto}
 use Rattle.capnp_frame.proofs.AskLemmas.{Asked-ok, Asked-err}
 
--- a step that finds what comes next, after one that was answered
+-- a step that finds what comes next, after one that was returned
 
 pub asks_found : {S X : Type 0} (source : Ghosts S) (rule : Padding) (takes : List ℕ → List ℕ → Type 0)
     (lines : ErrorKind → List ℕ → List ℕ → Type 0) (a b c : S) (found : X)
@@ -39,7 +39,7 @@ asks_found_into source rule room lines a b c found enough join first second = re
   asked = Asked-ok join first second;
 }
 
--- and one that fails, after one that was answered
+-- and one that fails, after one that was returned
 
 pub asks_failed : {S X Y : Type 0} (source : Ghosts S) (rule : Padding) (takes : List ℕ → List ℕ → Type 0)
     (lines : ErrorKind → List ℕ → List ℕ → Type 0) (a b c : S) (error : Error) (result : Result (Option Y) Error)
@@ -63,7 +63,7 @@ pub asks_failed_into : {S X Y : Type 0} (source : Ghosts S) (rule : Padding) (ro
     (a b c : S) (error : Error) (result : Result (Option Y) Error) → (room < 8 → ⊥)
     → (source.same a b → source.same b c → source.same a c) → IsErrAnd result (λ own. own ≡ error)
     → (error.kind ≡ DeviceFailed) ⊎ IfKnown (source.unread a) (source.unread c) (lines error.kind)
-    → IsLentReaderKind rule source.refuses error.kind
+    → IsProvidedReaderKind rule source.refuses error.kind
     → (source.unread a ≡ Some [] → error.kind ≡ DeviceFailed)
     → Advances source.unread source.failures source.same a b
     → Asked {X = X} source.unread source.failures source.same b c (Err error) → AsksNextInto source a c rule room lines result

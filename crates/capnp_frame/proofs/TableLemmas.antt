@@ -57,7 +57,7 @@ IsTable-once text ns ms p q =
     let fields = same_front (flat_map field ns) (flat_map field ms) p.padding q.padding (omega (arith, length-fields ns, length-fields ms)) counts.1 in
     fields_once ns ms p.can.each q.can.each fields.0
 
--- the padding stands behind the fields
+-- the padding stands after the fields
 pub padding_at : {rule : Padding} (text ns : List ℕ) (count : ℕ) → (table : IsTable rule text ns) → count ≡ length ns → drop (4 * (count + 1)) text ≡ table.padding
 padding_at text ns count table many =
     let front = field (length ns - 1) ++ flat_map field ns in

@@ -12,26 +12,26 @@ use Rattle.capnp_frame.proofs.SourceLemmas.{IfKnown-join, IfKnown-weaker, length
 use Rattle.capnp_frame.proofs.ToldTables.{length-told, table_is, padding_told}
 
 -- the first word of a table, and then its other words
-pub completed : (word behind piece : List ℕ) → length word ≡ 8 → length piece ≡ length (word ++ behind) - 8 → put_mid 8 (length (word ++ behind) - 8) (word ++ behind) piece ≡ word ++ piece
-completed word behind piece long fill =
-    let all = word ++ behind in
-    let after = put_mid 8 (length all - 8) all piece in
-    let there : 8 ≤ length all = omega (arith, length-append word behind) in
-    let size = length-put_mid 8 all piece there fill in
-    sym (take_all (8 + length piece) after (omega arith))
-    ∙ put_mid_front 8 (length all - 8) (length piece) all piece there (omega arith)
-    ∙ ap (λ l. l ++ take (length piece) piece) (take_at word behind 8 long)
-    ∙ ap (λ l. word ++ l) (take_all (length piece) piece (omega arith))
+pub completed : (word following chunk : List ℕ) → length word ≡ 8 → length chunk ≡ length (word ++ following) - 8 → put_mid 8 (length (word ++ following) - 8) (word ++ following) chunk ≡ word ++ chunk
+completed word following chunk long fill =
+    let all = word ++ following in
+    let after = put_mid 8 (length all - 8) all chunk in
+    let there : 8 ≤ length all = omega (arith, length-append word following) in
+    let size = length-put_mid 8 all chunk there fill in
+    sym (take_all (8 + length chunk) after (omega arith))
+    ∙ put_mid_front 8 (length all - 8) (length chunk) all chunk there (omega arith)
+    ∙ ap (λ l. l ++ take (length chunk) chunk) (take_at word following 8 long)
+    ∙ ap (λ l. word ++ l) (take_all (length chunk) chunk (omega arith))
 
-pub completed_given : (gives : Giving) (word piece after : List ℕ) (old new : Option (List ℕ)) → length word ≡ 8
-    → after ≡ word ++ piece → IfKnown old new (λ raw rest. gives raw (length piece) piece rest)
+pub completed_given : (gives : Giving) (word chunk after : List ℕ) (old new : Option (List ℕ)) → length word ≡ 8
+    → after ≡ word ++ chunk → IfKnown old new (λ raw rest. gives raw (length chunk) chunk rest)
     → IfKnown old new (λ raw rest. gives raw (length after - 8) (drop 8 after) rest)
-completed_given gives word piece after old new long is =
-    let others : drop 8 after ≡ piece = ap (drop 8) is ∙ drop_at word piece 8 long in
-    let size : length after - 8 ≡ length piece = omega (arith, ap length is, length-append word piece) in
-    IfKnown-weaker old new (λ raw rest given. subst (λ k. gives raw k (drop 8 after) rest) (sym size) (subst (λ l. gives raw (length piece) l rest) (sym others) given))
+completed_given gives word chunk after old new long is =
+    let others : drop 8 after ≡ chunk = ap (drop 8) is ∙ drop_at word chunk 8 long in
+    let size : length after - 8 ≡ length chunk = omega (arith, ap length is, length-append word chunk) in
+    IfKnown-weaker old new (λ raw rest given. subst (λ k. gives raw k (drop 8 after) rest) (sym size) (subst (λ l. gives raw (length chunk) l rest) (sym others) given))
 
--- the bytes are a table of so many segments, where its first word tells so
+-- the bytes are a table of a given number of segments, where its first word tells so
 pub tells_complete : (table : List ℕ) (count : ℕ) → TellsAccepted (take 8 table) count → length table ≡ table_size count → SpellsLengths table count → TellsTable table count
 tells_complete table count accepted long spells = record {
   some = accepted.some;

@@ -36,10 +36,10 @@ padding_zeroed before zeros count start len holds start_is end_is zeros_are =
     let front_len : length front ≡ start = omega (arith, length-append (field (length ns - 1)) (flat_map field ns), length-fields ns) in
     let shorter : take start table ≡ take start before = take-take start size before (omega arith) in
     let fields : take start before ≡ front = sym shorter ∙ ap (take start) is.spelled ∙ take_at front is.padding start front_len in
-    let behind : post_of start len before ≡ rest = drop-drop len start before ∙ ap (λ k. drop k before) (omega arith) in
+    let following : post_of start len before ≡ rest = drop-drop len start before ∙ ap (λ k. drop k before) (omega arith) in
     let zeros_fit : zeros ≡ replicate (padding_len ns) 0 = zeros_are ∙ ap (λ k. replicate k 0) (omega arith) in
     let after_is : put_mid start len before zeros ≡ zero_padded_table ns ++ rest = ap (λ l. l ++ (zeros ++ post_of start len before)) fields
-    ∙ ap (λ l. front ++ (zeros ++ l)) behind ∙ ap (λ l. front ++ (l ++ rest)) zeros_fit ∙ sym (append_assoc front (replicate (padding_len ns) 0) rest) in
+    ∙ ap (λ l. front ++ (zeros ++ l)) following ∙ ap (λ l. front ++ (l ++ rest)) zeros_fit ∙ sym (append_assoc front (replicate (padding_len ns) 0) rest) in
     let zero_is : IsTable Zero (zero_padded_table ns) ns = zero_padded_is Zero ns is.can in
     let told : Told Zero (zero_padded_table ns ++ rest) ns = told_from_table (zero_padded_table ns) rest ns zero_is (omega arith) in
     let long : length (zero_padded_table ns) ≡ size = omega (arith, length-table (zero_padded_table ns) ns zero_is) in

@@ -7,7 +7,7 @@ use Rattle.capnp_frame.specs.declared.serialize.segment_table.Padding.TheVariant
 use Rattle.capnp_frame.specs.Source.{Giving, Refusing, IsSource}
 use Rattle.capnp_frame.specs.Requests.{MessageStands}
 use Rattle.capnp_frame.specs.Sink.{AppendsSame, AppendsAll}
-use Rattle.capnp_frame.specs.Texts.{Grammar, BeginsWith, AreTexts, Ends}
+use Rattle.capnp_frame.specs.Texts.{Grammar, BeginsWith, AreTexts, EndsTexts}
 use Rattle.capnp_frame.specs.Frame.{IsFrame}
 use Rattle.capnp_frame.specs.SplittingLaws.{same_front, splitting}
 use Rattle.capnp_frame.proofs.FrameLemmas.{plain_requests, any_frame}
@@ -17,16 +17,16 @@ use Rattle.capnp_frame.proofs.RefusalLemmas.{given_some, RefusesStream-apart, Re
 -- What a grammar's texts have with its source's requests: one message begins a stream, and none does where it ends.
 pub record PartsStreams (IsText : Grammar) (rule : Padding) (gives : Giving) (refuses : Refusing) (limit : Option ℕ) : Type 0 where
   pub begins_once : (m n : List (List ℕ)) (raw rest left : List ℕ) → BeginsWith IsText limit m raw rest → BeginsWith IsText limit n raw left → (m ≡ n) × (rest ≡ left)
-  pub ends_apart : (ending : Option ErrorKind) (m : List (List ℕ)) (raw rest : List ℕ) → Ends rule gives refuses limit ending raw → BeginsWith IsText limit m raw rest → ⊥
+  pub ends_apart : (ending : Option ErrorKind) (m : List (List ℕ)) (raw rest : List ℕ) → EndsTexts rule gives refuses limit ending raw → BeginsWith IsText limit m raw rest → ⊥
 
--- more texts are none behind an end
+-- more texts are none after an end
 pub AreTexts-most : {IsText : Grammar} {rule : Padding} {gives : Giving} {refuses : Refusing} {limit : Option ℕ}
     (parts : PartsStreams IsText rule gives refuses limit) (ending : Option ErrorKind) (ms ns : List (List (List ℕ)))
-    (raw rest left : List ℕ) → AreTexts IsText limit ms raw rest → Ends rule gives refuses limit ending rest
+    (raw rest left : List ℕ) → AreTexts IsText limit ms raw rest → EndsTexts rule gives refuses limit ending rest
     → AreTexts IsText limit ns raw left → length ns ≤ length ms
 AreTexts-most parts ending ms [] raw rest left texts ends others = omega arith
 AreTexts-most {rule = rule} {gives = gives} {refuses = refuses} {limit = limit} parts ending [] (n ∷ ns) raw rest left texts ends others =
-    absurd (parts.ends_apart ending n raw others.0 (subst (λ l. Ends rule gives refuses limit ending l) texts ends) others.1)
+    absurd (parts.ends_apart ending n raw others.0 (subst (λ l. EndsTexts rule gives refuses limit ending l) texts ends) others.1)
 AreTexts-most {IsText} {limit = limit} parts ending (m ∷ ms) (n ∷ ns) raw rest left texts ends others =
     let same = parts.begins_once n m raw others.0 texts.0 others.1 texts.1 in
     let inner = AreTexts-most parts ending ms ns texts.0 rest left texts.2 ends (subst (λ l. AreTexts IsText limit ns l left) same.1 others.2) in
@@ -35,13 +35,13 @@ AreTexts-most {IsText} {limit = limit} parts ending (m ∷ ms) (n ∷ ns) raw re
 -- up to an end there is one list of messages
 pub AreTexts-once : {IsText : Grammar} {rule : Padding} {gives : Giving} {refuses : Refusing} {limit : Option ℕ}
     (parts : PartsStreams IsText rule gives refuses limit) (ending other : Option ErrorKind) (ms ns : List (List (List ℕ)))
-    (raw rest left : List ℕ) → AreTexts IsText limit ms raw rest → Ends rule gives refuses limit ending rest
-    → AreTexts IsText limit ns raw left → Ends rule gives refuses limit other left → (ms ≡ ns) × (rest ≡ left)
+    (raw rest left : List ℕ) → AreTexts IsText limit ms raw rest → EndsTexts rule gives refuses limit ending rest
+    → AreTexts IsText limit ns raw left → EndsTexts rule gives refuses limit other left → (ms ≡ ns) × (rest ≡ left)
 AreTexts-once parts ending other [] [] raw rest left texts ends others also = (refl, texts ∙ sym others)
 AreTexts-once {rule = rule} {gives = gives} {refuses = refuses} {limit = limit} parts ending other [] (n ∷ ns) raw rest left texts ends others also =
-    absurd (parts.ends_apart ending n raw others.0 (subst (λ l. Ends rule gives refuses limit ending l) texts ends) others.1)
+    absurd (parts.ends_apart ending n raw others.0 (subst (λ l. EndsTexts rule gives refuses limit ending l) texts ends) others.1)
 AreTexts-once {rule = rule} {gives = gives} {refuses = refuses} {limit = limit} parts ending other (m ∷ ms) [] raw rest left texts ends others also =
-    absurd (parts.ends_apart other m raw texts.0 (subst (λ l. Ends rule gives refuses limit other l) others also) texts.1)
+    absurd (parts.ends_apart other m raw texts.0 (subst (λ l. EndsTexts rule gives refuses limit other l) others also) texts.1)
 AreTexts-once {IsText} {limit = limit} parts ending other (m ∷ ms) (n ∷ ns) raw rest left texts ends others also =
     let same = parts.begins_once n m raw others.0 texts.0 others.1 texts.1 in
     let inner = AreTexts-once parts ending other ms ns texts.0 rest left texts.2 ends (subst (λ l. AreTexts IsText limit ns l left) same.1 others.2) also in
@@ -64,7 +64,7 @@ requested rule texts m raw rest begins = (texts m raw rest).1 (begins.text, begi
 
 nothing_at_end : {IsText : Grammar} {gives : Giving} {refuses : Refusing} (rule : Padding) (laws : IsSource gives refuses)
     (texts : AreRequested IsText rule gives) (limit : Option ℕ) (ending : Option ErrorKind) (m : List (List ℕ))
-    (raw rest : List ℕ) → Ends rule gives refuses limit ending raw → BeginsWith IsText limit m raw rest → ⊥
+    (raw rest : List ℕ) → EndsTexts rule gives refuses limit ending raw → BeginsWith IsText limit m raw rest → ⊥
 nothing_at_end rule laws texts limit None m raw rest ends begins =
     let stands = requested rule texts m raw rest begins in
     given_some laws raw 8 stands.table.first stands.table.between stands.table.first_given (lit< tt) ends
@@ -95,19 +95,19 @@ pub frames_part : {rule also : Padding} (text other rest left : List ℕ) (segme
     → IsFrame also other others → text ++ rest ≡ other ++ left → (text ≡ other) × (segments ≡ others) × (rest ≡ left)
 frames_part text other rest left segments others is so = texts_part Any splitting (plain_requests Any) text other rest left segments others (any_frame text segments is) (any_frame other others so)
 
--- pieces behind one another that are added as they are
-pub pieces_joined : (pieces : List (List ℕ)) (text : List ℕ) → AppendsAll AppendsSame pieces text ↔ (text ≡ concat pieces)
-pieces_joined [] text = (λ all. all, λ all. all)
-pieces_joined (p ∷ ps) text = (
-  λ (first, others, here, all, spelled). spelled ∙ ap (λ l. l ++ others) here ∙ ap (λ l. p ++ l) ((pieces_joined ps others).0 all),
-  λ spelled. (p, concat ps, refl, (pieces_joined ps (concat ps)).1 refl, spelled),
+-- chunks after one another that are added as they are
+pub chunks_joined : (chunks : List (List ℕ)) (text : List ℕ) → AppendsAll AppendsSame chunks text ↔ (text ≡ concat chunks)
+chunks_joined [] text = (λ all. all, λ all. all)
+chunks_joined (p ∷ ps) text = (
+  λ (first, others, here, all, spelled). spelled ∙ ap (λ l. l ++ others) here ∙ ap (λ l. p ++ l) ((chunks_joined ps others).0 all),
+  λ spelled. (p, concat ps, refl, (chunks_joined ps (concat ps)).1 refl, spelled),
 )
 
 -- a stream ends in one way
-pub Ends-once : {gives : Giving} {refuses : Refusing} (rule : Padding) (laws : IsSource gives refuses) (limit : Option ℕ)
-    (ending other : Option ErrorKind) (rest : List ℕ) → Ends rule gives refuses limit ending rest
-    → Ends rule gives refuses limit other rest → ending ≡ other
-Ends-once rule laws limit None None rest p q = refl
-Ends-once {gives} {refuses} rule laws limit None (Some kind) rest p q = absurd (RefusesStream-some rule gives refuses limit None kind rest q.0 q.1 (λ x. x) p)
-Ends-once {gives} {refuses} rule laws limit (Some kind) None rest p q = absurd (RefusesStream-some rule gives refuses limit None kind rest p.0 p.1 (λ x. x) q)
-Ends-once rule laws limit (Some kind) (Some other) rest p q = ap Some (RefusesStream-once rule laws limit None kind other rest p.0 q.0 p.1 q.1)
+pub EndsTexts-once : {gives : Giving} {refuses : Refusing} (rule : Padding) (laws : IsSource gives refuses) (limit : Option ℕ)
+    (ending other : Option ErrorKind) (rest : List ℕ) → EndsTexts rule gives refuses limit ending rest
+    → EndsTexts rule gives refuses limit other rest → ending ≡ other
+EndsTexts-once rule laws limit None None rest p q = refl
+EndsTexts-once {gives} {refuses} rule laws limit None (Some kind) rest p q = absurd (RefusesStream-some rule gives refuses limit None kind rest q.0 q.1 (λ x. x) p)
+EndsTexts-once {gives} {refuses} rule laws limit (Some kind) None rest p q = absurd (RefusesStream-some rule gives refuses limit None kind rest p.0 p.1 (λ x. x) q)
+EndsTexts-once rule laws limit (Some kind) (Some other) rest p q = ap Some (RefusesStream-once rule laws limit None kind other rest p.0 q.0 p.1 q.1)

@@ -125,12 +125,12 @@ pub told_from_table : {rule : Padding} (table rest ns : List ℕ) → IsTable ru
 told_from_table {rule} table rest ns is few =
     let count = length ns in
     let some = is.can.some in
-    let behind = flat_map field ns ++ (is.padding ++ rest) in
-    let bytes_are : table ++ rest ≡ field (count - 1) ++ behind = ap (λ l. l ++ rest) is.spelled
+    let following = flat_map field ns ++ (is.padding ++ rest) in
+    let bytes_are : table ++ rest ≡ field (count - 1) ++ following = ap (λ l. l ++ rest) is.spelled
     ∙ append_assoc (field (count - 1) ++ flat_map field ns) is.padding rest
     ∙ append_assoc (field (count - 1)) (flat_map field ns) (is.padding ++ rest) in
     let first : field (count - 1) ≡ take 4 (table ++ rest) = ap (take 4) (sym bytes_are) in
-    let others : drop 4 (table ++ rest) ≡ behind = ap (drop 4) bytes_are in
+    let others : drop 4 (table ++ rest) ≡ following = ap (drop 4) bytes_are in
     let told : told_lengths count (table ++ rest) ≡ ns = ap (numbers count) others ∙ numbers_told ns (is.padding ++ rest) is.can.each in
     let number_is = number-field (count - 1) (table ++ rest) (omega arith) first in
     record {

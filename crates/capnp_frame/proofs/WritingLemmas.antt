@@ -1,4 +1,4 @@
--- Pieces one after another, and the tables that are written.
+-- Chunks one after another, and the tables that are written.
 use Rattle.std.proofs.Common.{◌≡◌, ℕ, ◌+◌, ◌-◌, ◌*◌, ◌<◌, ◌≤◌, ◌^◌, Option, Some, ◌⊎◌, inl, inr, zero, suc, List, [], ◌∷◌, ◌++◌, length, take}
 use Rattle.std.proofs.Common.{drop, replicate, refl, sym, ap, ◌∙◌, subst, arith, append_assoc, length-append}
 use Rattle.std.proofs.lemmas.List.{append-nil, take_more, map-append, drop-replicate, length-replicate, take_at, drop_at, length-map, take-append-drop, drop-drop, length-take-le}
@@ -19,7 +19,7 @@ use Rattle.capnp_frame.proofs.SourceLemmas.{IfKnown-join, IfKnown-weaker}
 use Rattle.capnp_frame.proofs.Ranges.{sum_push}
 use Rattle.capnp_frame.proofs.TableLemmas.{length-fields}
 
--- pieces
+-- chunks
 
 pub AppendsAll-append : (appends : Appending) (xs ys : List (List ℕ)) (s t : List ℕ) → AppendsAll appends xs s → AppendsAll appends ys t → AppendsAll appends (xs ++ ys) (s ++ t)
 AppendsAll-append appends [] ys s t p q = subst (λ l. AppendsAll appends ys (l ++ t)) (sym p) q
@@ -30,20 +30,20 @@ pub written_more : (appends : Appending) (xs ys : List (List ℕ)) (a b c : Opti
     → IfKnown a c (Adds (AppendsAll appends (xs ++ ys)))
 written_more appends xs ys a b c = IfKnown-join a b c (λ x y z p q. (p.0 ++ q.0, AppendsAll-append appends xs ys p.0 q.0 p.1 q.1, q.2 ∙ ap (λ l. l ++ q.0) p.2 ∙ append_assoc x p.0 q.0))
 
-pub written_one : (appends : Appending) (piece : List ℕ) (a b : Option (List ℕ)) → IfKnown a b (Adds (appends piece)) → IfKnown a b (Adds (AppendsAll appends (piece ∷ [])))
-written_one appends piece a b = IfKnown-weaker a b (λ x y p. (p.0, (p.0, [], p.1, refl, sym (append-nil p.0)), p.2))
+pub written_one : (appends : Appending) (chunk : List ℕ) (a b : Option (List ℕ)) → IfKnown a b (Adds (appends chunk)) → IfKnown a b (Adds (AppendsAll appends (chunk ∷ [])))
+written_one appends chunk a b = IfKnown-weaker a b (λ x y p. (p.0, (p.0, [], p.1, refl, sym (append-nil p.0)), p.2))
 
 pub take-next : {X : Type 0} (xs : List X) (i : ℕ) (x : X) → slice_get xs i ≡ Some x → take (i + 1) xs ≡ take i xs ++ x ∷ []
 take-next xs i x here = take_more xs i x (slice_get_within xs i x here) ∙ ap (λ y. take i xs ++ y ∷ []) (get_or_from_slice_get xs i x x here)
 
--- a piece more
-pub written_next : (appends : Appending) (segments : List (List ℕ)) (index : ℕ) (piece : List ℕ)
-    (a b c : Option (List ℕ)) → slice_get segments index ≡ Some piece
-    → IfKnown a b (Adds (AppendsAll appends (take index segments))) → IfKnown b c (Adds (appends piece))
+-- a chunk more
+pub written_next : (appends : Appending) (segments : List (List ℕ)) (index : ℕ) (chunk : List ℕ)
+    (a b c : Option (List ℕ)) → slice_get segments index ≡ Some chunk
+    → IfKnown a b (Adds (AppendsAll appends (take index segments))) → IfKnown b c (Adds (appends chunk))
     → IfKnown a c (Adds (AppendsAll appends (take (index + 1) segments)))
-written_next appends segments index piece a b c here before added =
-    subst (λ l. IfKnown a c (Adds (AppendsAll appends l))) (sym (take-next segments index piece here))
-    (written_more appends (take index segments) (piece ∷ []) a b c before (written_one appends piece b c added))
+written_next appends segments index chunk a b c here before added =
+    subst (λ l. IfKnown a c (Adds (AppendsAll appends l))) (sym (take-next segments index chunk here))
+    (written_more appends (take index segments) (chunk ∷ []) a b c before (written_one appends chunk b c added))
 
 pub DeclinesSome-front : (refuses : Declining) (xs ys : List (List ℕ)) (kind : ErrorKind) → DeclinesSome refuses xs kind → DeclinesSome refuses (xs ++ ys) kind
 DeclinesSome-front refuses [] ys kind p = absurd p
@@ -92,7 +92,7 @@ size_take_le segments index =
     ∙ ap sum (map-append word_count (take index segments) (drop index segments)) in
     omega (arith, parts, sum-append (lengths (take index segments)) (lengths (drop index segments)))
 
--- A table of so many segments whose first lengths are filled in, and which is zero behind them.
+-- A table of a given number of segments whose first lengths are filled in, and which is zero after them.
 pub record IsFilled (count : ℕ) (ns table : List ℕ) : Type 0 where
   pub spelled : table ≡ field (count - 1) ++ flat_map field ns ++ replicate (table_size count - 4 * (length ns + 1)) 0
 
@@ -106,8 +106,8 @@ length-filled count ns table filled fewer some =
 -- the number of segments is filled in
 pub filled_first : (count : ℕ) (old new : List ℕ) → 0 < count → old ≡ replicate (table_size count) 0 → new ≡ take 0 old ++ field (count - 1) ++ drop (0 + 4) old → IsFilled count [] new
 filled_first count old new some zeros written =
-    let behind : drop 4 old ≡ replicate (table_size count - 4) 0 = ap (drop 4) zeros ∙ drop-replicate 4 (table_size count) 0 in
-    record { spelled = written ∙ ap (λ l. field (count - 1) ++ l) behind }
+    let following : drop 4 old ≡ replicate (table_size count - 4) 0 = ap (drop 4) zeros ∙ drop-replicate 4 (table_size count) 0 in
+    record { spelled = written ∙ ap (λ l. field (count - 1) ++ l) following }
 
 -- a length is filled in
 pub filled_next : (count : ℕ) (ns old new : List ℕ) (at n : ℕ) → IsFilled count ns old → at ≡ 4 * (length ns + 1)
@@ -119,24 +119,24 @@ filled_next count ns old new at n filled place written =
     let before : take at old ≡ front = ap (take at) filled.spelled ∙ take_at front (replicate back 0) at long in
     let zeros : drop at old ≡ replicate back 0 = ap (drop at) filled.spelled ∙ drop_at front (replicate back 0) at long in
     let less : back - 4 ≡ table_size count - 4 * (length (ns ++ n ∷ []) + 1) = omega (arith, length-append ns (n ∷ [])) in
-    let behind : drop (at + 4) old ≡ replicate (table_size count - 4 * (length (ns ++ n ∷ []) + 1)) 0 = sym
+    let following : drop (at + 4) old ≡ replicate (table_size count - 4 * (length (ns ++ n ∷ []) + 1)) 0 = sym
     (drop-drop 4 at old) ∙ ap (drop 4) zeros ∙ drop-replicate 4 back 0 ∙ ap (λ k. replicate k 0) less in
     let more : front ++ field n ≡ field (count - 1) ++ flat_map field (ns ++ n ∷ []) = append_assoc (field (count - 1))
     (flat_map field ns) (field n) ∙ ap (λ l. field (count - 1) ++ l) (sym (flat_map-append field ns (n ∷ []))) in
     record {
       spelled = written ∙ ap (λ l. l ++ field n ++ drop (at + 4) old) before
-          ∙ ap (λ l. front ++ field n ++ l) behind
+          ∙ ap (λ l. front ++ field n ++ l) following
           ∙ ap (λ l. l ++ replicate (table_size count - 4 * (length (ns ++ n ∷ []) + 1)) 0) more;
     }
 
 -- all lengths are filled in
 pub filled_all : (count : ℕ) (ns table : List ℕ) → IsFilled count ns table → count ≡ length ns → 0 < count → table ≡ zero_padded_table ns
 filled_all count ns table filled all some =
-    let behind : table_size count - 4 * (length ns + 1) ≡ padding_len ns = omega arith in
+    let following : table_size count - 4 * (length ns + 1) ≡ padding_len ns = omega arith in
     filled.spelled ∙ ap (λ k. field (k - 1) ++ flat_map field ns ++ replicate (table_size count - 4 * (length ns + 1))
-    0) all ∙ ap (λ k. field (length ns - 1) ++ flat_map field ns ++ replicate k 0) behind
+    0) all ∙ ap (λ k. field (length ns - 1) ++ flat_map field ns ++ replicate k 0) following
 
--- the refusal of one piece, and the device's
+-- the refusal of one chunk, and the device's
 pub refused_at : {F : Type 0} (refuses : Declining) (segments : List (List ℕ)) (index : ℕ) (segment : List ℕ)
     (kind : ErrorKind) → slice_get segments index ≡ Some segment → F ⊎ refuses segment kind → F
     ⊎ DeclinesSome refuses segments kind

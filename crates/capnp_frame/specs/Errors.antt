@@ -1,16 +1,16 @@
--- Which refusal a call answers.
+-- Which refusal a call returns.
 use Rattle.std.specs.Prelude.{◌≡◌, ◌⊎◌, ◌↔◌, Result, IfErr}
 use Rattle.std.specs.Result.{IsErrAnd}
 use Rattle.capnp_frame.specs.declared.error.Error.{Error}
 use Rattle.capnp_frame.specs.declared.error.ErrorKind.{ErrorKind}
 use Rattle.capnp_frame.specs.declared.error.ErrorKind.TheVariants.{OutOfMemory, MessageSizeOverflow}
 
--- the call answers this refusal
-abbrev pub IsRefusedBy : {X : Type 0} → Result X Error → ErrorKind → Type 0
-IsRefusedBy result kind = IsErrAnd result (λ error. error.kind ≡ kind)
+-- the call returns this refusal
+abbrev pub FailsWith : {X : Type 0} → Result X Error → ErrorKind → Type 0
+FailsWith result kind = IsErrAnd result (λ error. error.kind ≡ kind)
 
 -- What a call keeps that takes memory for what it sizes: it fails for want of memory, and with `MessageSizeOverflow`
 -- exactly where the size overflows.
 pub record MayOverflow {X : Type 0} (overflows : Type 0) (result : Result X Error) : Type 0 where
-  pub overflow : IsRefusedBy result MessageSizeOverflow ↔ overflows
+  pub overflow : FailsWith result MessageSizeOverflow ↔ overflows
   pub kinds : IfErr result (λ error. (error.kind ≡ OutOfMemory) ⊎ (error.kind ≡ MessageSizeOverflow))

@@ -45,9 +45,9 @@ OrLacksMemory (by_words empty) lacks other = lacks ⊎ other
 OrLacksMemory by_fields lacks other = other
 
 -- and it alone may fail where a message stands
-abbrev pub Accepts : {X : Type 0} → FlatForm → Result X Error → Type 0
-Accepts (by_words empty) result = IfErr result (λ error. error.kind ≡ OutOfMemory)
-Accepts by_fields result = IsOk result
+abbrev pub AcceptsFlat : {X : Type 0} → FlatForm → Result X Error → Type 0
+AcceptsFlat (by_words empty) result = IfErr result (λ error. error.kind ≡ OutOfMemory)
+AcceptsFlat by_fields result = IsOk result
 
 -- What each reader of bytes in memory keeps, by its rules. `left` is what a slice holds after the call, or none for a
 -- buffer, and `segments` sees the segments of what is returned.
@@ -56,7 +56,7 @@ pub record ReadsFlat {X : Type 0} (rules : FlatRules) (bytes : List ℕ) (left :
   -- the message that is returned stands at the front, within the limit, and a slice moves just past it
   pub found : IfOk result (λ found. Leaves left (StandsBy rules (segments found) bytes))
   -- a message that stands there is returned, but where memory is lacking
-  pub accepted : (message : List (List ℕ)) (rest : List ℕ) → StandsBy rules message bytes rest → Accepts rules.form result
+  pub accepted : (message : List (List ℕ)) (rest : List ℕ) → StandsBy rules message bytes rest → AcceptsFlat rules.form result
   -- a failure leaves a slice as it was
   pub unchanged : OnErr result (IfSome left (λ left. left ≡ bytes))
   -- a reader fails for want of memory once the number of segments is accepted, or with a line of the table

@@ -1,4 +1,4 @@
--- Which refusal a reader of a slice or a buffer answers: the lines of its table in their order (docs/REFUSALS.md).
+-- Which refusal a reader of a slice or a buffer returns: the lines of its table in their order (docs/REFUSALS.md).
 use Rattle.std.specs.Prelude.{◌≡◌, ℕ, ◌+◌, ◌-◌, ◌*◌, ◌/◌, ◌%◌, ◌^◌, ◌<◌, ◌≤◌, List, [], length, sum, Option}
 use Rattle.capnp_frame.specs.declared.error.ErrorKind.{ErrorKind}
 use Rattle.capnp_frame.specs.declared.error.ErrorKind.TheVariants.{FailedToFillTheWholeBuffer, InvalidNumberOfSegments, MessageEndsPrematurely, MessageTooLarge, NonZeroPadding}
@@ -19,7 +19,7 @@ abbrev pub empty_kind : FlatForm → ErrorKind
 empty_kind (by_words empty) = empty
 empty_kind by_fields = MessageEndsPrematurely 4 0
 
--- the refusal of a table that is cut, where so many bytes are there
+-- the refusal of a table that is cut, where a given number of bytes are there
 abbrev pub cut_kind : FlatForm → ℕ → ErrorKind
 cut_kind (by_words empty) there = FailedToFillTheWholeBuffer
 cut_kind by_fields there = MessageEndsPrematurely 4 (there % 4)

@@ -1,4 +1,4 @@
--- Messages at the front of bytes: what the readers of slices and of lent buffers find there.
+-- Messages at the front of bytes: what the readers of slices and of caller-provided buffers find there.
 use Rattle.std.specs.Prelude.{◌≡◌, ℕ, ◌+◌, ◌*◌, ◌-◌, ◌<◌, ◌≤◌, zero, suc, List, [], ◌∷◌, ◌++◌, length, take, drop, sum, None}
 use Rattle.std.specs.List.{flat_map, AllByRecursion}
 use Rattle.std.specs.Int.{w32, from_le_bytes}
@@ -35,29 +35,29 @@ pub record HaveSameNumbers (found info : NoAllocSegmentTableInfo) : Type 0 where
 abbrev pub number : List ℕ → ℕ
 number bytes = from_le_bytes w32 (take 4 bytes)
 
--- the numbers in so many fields of four bytes
+-- the numbers in a given number of fields of four bytes
 abbrev pub numbers : ℕ → List ℕ → List ℕ
 numbers zero bytes = []
 numbers (suc count) bytes = number bytes ∷ numbers count (drop 4 bytes)
 
--- the lengths of so many segments, as the fields behind the first tell them
+-- the lengths of a given number of segments, as the fields after the first tell them
 abbrev pub told_lengths : ℕ → List ℕ → List ℕ
 told_lengths count bytes = numbers count (drop 4 bytes)
 
--- the padding behind so many fields
+-- the padding after a given number of fields
 abbrev pub told_padding : ℕ → List ℕ → List ℕ
 told_padding count bytes = drop (4 * (count + 1)) (take (table_size count) bytes)
 
--- the segments of these lengths, cut from the bytes behind the table
+-- the segments of these lengths, cut from the bytes after the table
 abbrev pub told_segments : ℕ → List ℕ → List (List ℕ)
 told_segments count bytes = cut (told_lengths count bytes) (drop (table_size count) bytes)
 
--- The lengths that so many fields tell fit their fields, and the fields are their spelling.
+-- The lengths that a given number of fields tell fit their fields, and the fields are their spelling.
 pub record SpellsLengths (bytes : List ℕ) (count : ℕ) : Type 0 where
   pub each : AllByRecursion FitsField (told_lengths count bytes)
   pub spelled : flat_map field (told_lengths count bytes) ≡ take (4 * count) (drop 4 bytes)
 
--- a table of so many segments stands at the front
+-- a table of a given number of segments stands at the front
 pub record TellsTable (bytes : List ℕ) (count : ℕ) : Type 0 where
   pub some : 0 < count
   pub few : count < 512
@@ -65,7 +65,7 @@ pub record TellsTable (bytes : List ℕ) (count : ℕ) : Type 0 where
   pub lengths : SpellsLengths bytes count
   pub room : table_size count ≤ length bytes
 
--- a table of so many segments stands at the front, and all segments behind it
+-- a table of a given number of segments stands at the front, and all segments after it
 pub record HoldsMessage (bytes : List ℕ) (count : ℕ) : Type 0 where
   pub table : TellsTable bytes count
   pub room : table_size count + 8 * sum (told_lengths count bytes) ≤ length bytes

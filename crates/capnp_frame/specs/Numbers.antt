@@ -9,30 +9,30 @@ use Rattle.capnp_frame.specs.declared.error.ErrorKind.TheVariants.{NotWholeWords
 use Rattle.capnp_frame.specs.declared.error.ErrorKind.TheVariants.{InvalidSegmentId, NestingLimitExceeded, ReadLimitExceeded, CapabilityRefused}
 use Rattle.capnp_frame.specs.declared.error.ErrorKind.TheVariants.{WrongPointerKind, TextNotTerminated, CanonicalTooLarge, NotOneSegment, NonZeroPadding}
 
-abbrev pub number_of : ErrorKind → ℕ
-number_of FailedToFillTheWholeBuffer = 1
-number_of BufferNotLargeEnough = 2
-number_of EmptyBuffer = 3
-number_of EmptySlice = 4
-number_of (InvalidNumberOfSegments count) = 5
-number_of (MessageEndsPrematurely wanted there) = 6
-number_of MessageSizeOverflow = 7
-number_of (MessageTooLarge words) = 8
-number_of PrematureEndOfFile = 9
-number_of PrematureEndOfPackedInput = 10
-number_of PackedInputDidNotEndCleanlyOnASegmentBoundary = 11
-number_of OutOfMemory = 12
-number_of DeviceFailed = 13
-number_of NotWholeWords = 14
-number_of (AllocationTooLarge words) = 15
-number_of SegmentTaken = 16
-number_of PointerOutOfBounds = 17
-number_of (InvalidSegmentId segment) = 18
-number_of NestingLimitExceeded = 19
-number_of ReadLimitExceeded = 20
-number_of CapabilityRefused = 21
-number_of WrongPointerKind = 22
-number_of TextNotTerminated = 23
-number_of CanonicalTooLarge = 24
-number_of NotOneSegment = 25
-number_of NonZeroPadding = 26
+abbrev pub kind_number : ErrorKind → ℕ
+kind_number FailedToFillTheWholeBuffer = 1
+kind_number BufferNotLargeEnough = 2
+kind_number EmptyBuffer = 3
+kind_number EmptySlice = 4
+kind_number (InvalidNumberOfSegments count) = 5
+kind_number (MessageEndsPrematurely wanted there) = 6
+kind_number MessageSizeOverflow = 7
+kind_number (MessageTooLarge words) = 8
+kind_number PrematureEndOfFile = 9
+kind_number PrematureEndOfPackedInput = 10
+kind_number PackedInputDidNotEndCleanlyOnASegmentBoundary = 11
+kind_number OutOfMemory = 12
+kind_number DeviceFailed = 13
+kind_number NotWholeWords = 14
+kind_number (AllocationTooLarge words) = 15
+kind_number SegmentTaken = 16
+kind_number PointerOutOfBounds = 17
+kind_number (InvalidSegmentId segment) = 18
+kind_number NestingLimitExceeded = 19
+kind_number ReadLimitExceeded = 20
+kind_number CapabilityRefused = 21
+kind_number WrongPointerKind = 22
+kind_number TextNotTerminated = 23
+kind_number CanonicalTooLarge = 24
+kind_number NotOneSegment = 25
+kind_number NonZeroPadding = 26

@@ -1,4 +1,4 @@
--- Which refusal a stream reader answers: the lines of its table in their order (docs/REFUSALS.md).
+-- Which refusal a stream reader returns: the lines of its table in their order (docs/REFUSALS.md).
 use Rattle.std.specs.Prelude.{◌≡◌, ◌≢◌, ℕ, ◌+◌, ◌-◌, ◌*◌, ◌/◌, ◌%◌, ◌^◌, ◌<◌, ◌≤◌, ◌⊎◌, List, [], ◌++◌, length, take, sum, Option, IsSomeAnd}
 use Rattle.capnp_frame.specs.declared.error.ErrorKind.{ErrorKind}
 use Rattle.capnp_frame.specs.declared.error.ErrorKind.TheVariants.{DeviceFailed, OutOfMemory, BufferNotLargeEnough, InvalidNumberOfSegments, MessageTooLarge, NonZeroPadding}
@@ -35,7 +35,7 @@ pub record TellsAccepted (word : List ℕ) (count : ℕ) : Type 0 where
 abbrev pub IsTooLarge : List ℕ → Option ℕ → Type 0
 IsTooLarge ns limit = IsSomeAnd limit (λ most. most < sum ns)
 
--- a lent buffer is shorter than this; what grows never is
+-- a caller-provided buffer is shorter than this; what grows never is
 abbrev pub LacksRoom : Option ℕ → ℕ → Type 0
 LacksRoom room n = IsSomeAnd room (λ len. len < n)
 
@@ -47,16 +47,16 @@ StopsBy own kind here left = (kind ≡ own) × (left ≡ here)
 abbrev pub BreaksPadding : Padding → List ℕ → List ℕ → Type 0
 BreaksPadding rule text ns = IsTable rule text ns → ⊥
 
--- Below, a reader stops by `kind` and leaves `left` unread, or goes on to `after`, the lines behind a table of these
+-- Below, a reader stops by `kind` and leaves `left` unread, or goes on to `after`, the lines after a table of these
 -- lengths. Where the source refuses, what it leaves is open.
 
 -- the lines of the limit and of the padding: both parts of the table are read, `word` and `others`
 abbrev pub RefusesAtLimit : Padding → Option ℕ → ErrorKind → (List ℕ → List ℕ → Type 0) → List ℕ → List ℕ → List ℕ → List ℕ → Type 0
-RefusesAtLimit rule limit kind after left word others behind = (ns : List ℕ) × IsTable Any (word ++ others) ns
-    × Unless (IsTooLarge ns limit) (StopsBy (MessageTooLarge (sum ns)) kind behind left) (
-    Unless (BreaksPadding rule (word ++ others) ns) (StopsBy NonZeroPadding kind behind left) (after ns behind))
+RefusesAtLimit rule limit kind after left word others following = (ns : List ℕ) × IsTable Any (word ++ others) ns
+    × Unless (IsTooLarge ns limit) (StopsBy (MessageTooLarge (sum ns)) kind following left) (
+    Unless (BreaksPadding rule (word ++ others) ns) (StopsBy NonZeroPadding kind following left) (after ns following))
 
--- the lines once a table of so many segments is to be completed: the request of its other words, and what comes after
+-- the lines once a table of a given number of segments is to be completed: the request of its other words, and what comes after
 abbrev pub RefusesRest : Padding → Giving → Refusing → Option ℕ → ErrorKind → (List ℕ → List ℕ → Type 0) → List ℕ → List ℕ → ℕ → List ℕ → Type 0
 RefusesRest rule gives refuses limit kind after left word count between =
     Asks gives refuses kind between (8 * (count / 2)) (RefusesAtLimit rule limit kind after left word)
@@ -74,16 +74,16 @@ RefusesAtStart rule gives refuses limit room kind after raw left =
     Unless (LacksRoom room 8) (StopsBy BufferNotLargeEnough kind raw left) (
     (raw ≢ []) × Asks gives refuses kind raw 8 (RefusesAtCount rule gives refuses limit room kind after left))
 
--- A reader of a table alone refuses by this kind: it ends behind the padding's line.
+-- A reader of a table alone refuses by this kind: it ends after the padding's line.
 abbrev pub RefusesTable : Padding → Giving → Refusing → Option ℕ → Option ℕ → ErrorKind → List ℕ → List ℕ → Type 0
-RefusesTable rule gives refuses limit room kind raw left = RefusesAtStart rule gives refuses limit room kind (λ ns behind. ⊥) raw left
+RefusesTable rule gives refuses limit room kind raw left = RefusesAtStart rule gives refuses limit room kind (λ ns following. ⊥) raw left
 
--- All lines: a reader of a message refuses by this kind. Behind the table come the room for the segments and their
+-- All lines: a reader of a message refuses by this kind. After the table come the room for the segments and their
 -- request.
 abbrev pub RefusesStream : Padding → Giving → Refusing → Option ℕ → Option ℕ → ErrorKind → List ℕ → List ℕ → Type 0
-RefusesStream rule gives refuses limit room kind raw left = RefusesAtStart rule gives refuses limit room kind (λ ns behind.
-    Unless (LacksRoom room (table_size (length ns) + 8 * sum ns)) (StopsBy BufferNotLargeEnough kind behind left) (
-    refuses behind (8 * sum ns) kind)) raw left
+RefusesStream rule gives refuses limit room kind raw left = RefusesAtStart rule gives refuses limit room kind (λ ns following.
+    Unless (LacksRoom room (table_size (length ns) + 8 * sum ns)) (StopsBy BufferNotLargeEnough kind following left) (
+    refuses following (8 * sum ns) kind)) raw left
 
 -- the first word of a table stands at the front, and the number of segments that it tells is accepted
 pub record CountStands (gives : Giving) (raw rest : List ℕ) : Type 0 where
@@ -110,15 +110,16 @@ IsTableKind rule refuses kind = (kind ≡ DeviceFailed)
     ⊎ IsPaddingKind rule kind
     ⊎ ((raw : List ℕ) × (n : ℕ) × refuses raw n kind)
 
--- the kinds of a reader into a lent buffer, also where the unread bytes aren't known
-abbrev pub IsLentReaderKind : Padding → Refusing → ErrorKind → Type 0
-IsLentReaderKind rule refuses kind = (kind ≡ DeviceFailed) ⊎ (kind ≡ BufferNotLargeEnough)
+-- the kinds of a reader into a caller-provided buffer, also where the unread bytes aren't known
+abbrev pub IsProvidedReaderKind : Padding → Refusing → ErrorKind → Type 0
+IsProvidedReaderKind rule refuses kind = (kind ≡ DeviceFailed) ⊎ (kind ≡ BufferNotLargeEnough)
     ⊎ ((count : ℕ) × IsOutOfRange count × (kind ≡ InvalidNumberOfSegments count))
     ⊎ ((total : ℕ) × (kind ≡ MessageTooLarge total))
     ⊎ IsPaddingKind rule kind
     ⊎ ((raw : List ℕ) × (n : ℕ) × refuses raw n kind)
 
--- the kinds of a reader that grows, also where the unread bytes aren't known: the device's, want of memory, its own, or one of the source
+-- the kinds of a reader that grows, also where the unread bytes aren't known: the device's, want of memory, its own, or one
+-- of the source
 abbrev pub IsReaderKind : Padding → Refusing → ErrorKind → Type 0
 IsReaderKind rule refuses kind = (kind ≡ DeviceFailed) ⊎ (kind ≡ OutOfMemory)
     ⊎ ((count : ℕ) × IsOutOfRange count × (kind ≡ InvalidNumberOfSegments count))

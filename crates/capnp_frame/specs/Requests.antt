@@ -1,4 +1,5 @@
--- A message as three requests of a source, its padding by a rule: the first word of its table, the table's other words, all segments together.
+-- A message as three requests of a source, its padding by a rule: the first word of its table, the table's other words, all
+-- segments together.
 use Rattle.std.specs.Prelude.{ℕ, ◌*◌, ◌/◌, List, ◌++◌, length}
 use Rattle.std.specs.List.{concat, AllByRecursion}
 use Rattle.capnp_frame.specs.Message.{IsWholeWords, lengths, size_in_words}

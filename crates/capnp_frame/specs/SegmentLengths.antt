@@ -1,4 +1,4 @@
--- Segments behind one another in one list of bytes (SegmentLengthsBuilder and OwnedSegments).
+-- Segments after one another in one list of bytes (SegmentLengthsBuilder and OwnedSegments).
 use Rattle.std.specs.Prelude.{◌≡◌, ℕ, ◌+◌, ◌-◌, ◌*◌, List, [], ◌∷◌, map, take, drop, sum}
 
 -- where each part begins and ends: parts of these lengths follow one another from `start` on
@@ -14,7 +14,7 @@ ranges lengths = ranges_from 0 lengths
 abbrev pub range_len : ℕ × ℕ → ℕ
 range_len range = range.1 - range.0
 
--- The bytes cut into segments of these lengths, in words. What is behind the last is left out.
+-- The bytes cut into segments of these lengths, in words. What is after the last is left out.
 abbrev pub cut : List ℕ → List ℕ → List (List ℕ)
 cut [] bytes = []
 cut (n ∷ ns) bytes = take (8 * n) bytes ∷ cut ns (drop (8 * n) bytes)

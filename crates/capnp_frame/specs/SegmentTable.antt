@@ -31,7 +31,7 @@ table_text lengths padding = field (length lengths - 1) ++ flat_map field length
 abbrev pub zero_padded_table : List ℕ → List ℕ
 zero_padded_table lengths = table_text lengths (replicate (padding_len lengths) 0)
 
--- how many bytes the table of so many segments takes
+-- how many bytes the table of a given number of segments takes
 abbrev pub table_size : ℕ → ℕ
 table_size count = 8 * (count / 2 + 1)
 

@@ -1,60 +1,60 @@
--- What pieces add to a sink (the trait Write).
+-- What chunks add to a sink (the trait Write).
 use Rattle.std.specs.Prelude.{◌≡◌, ℕ, ◌≤◌, ◌⊎◌, List, [], ◌∷◌, ◌++◌, Option}
 use Rattle.capnp_frame.specs.declared.error.ErrorKind.{ErrorKind}
 use Rattle.capnp_frame.specs.Source.{IfKnown, IsFront}
 
--- A piece adds a text: appends piece text.
+-- A chunk adds a text: appends chunk text.
 abbrev pub Appending : Type 1
 Appending = List ℕ → List ℕ → Type 0
 
--- A call that fails leaves a part of a piece: leaves piece text.
+-- A call that fails leaves a part of a chunk: leaves chunk text.
 abbrev pub Leaving : Type 1
 Leaving = List ℕ → List ℕ → Type 0
 
--- A piece may be refused by a kind beside the device's: refuses piece kind.
+-- A chunk may fail with a kind beside the device's: refuses chunk kind.
 abbrev pub Declining : Type 1
 Declining = List ℕ → ErrorKind → Type 0
 
--- a plain sink adds the piece itself
+-- a plain sink adds the chunk itself
 abbrev pub AppendsSame : Appending
-AppendsSame piece text = text ≡ piece
+AppendsSame chunk text = text ≡ chunk
 
 -- a call that fails adds nothing
 abbrev pub LeavesNothing : Leaving
-LeavesNothing piece text = text ≡ []
+LeavesNothing chunk text = text ≡ []
 
--- a call that fails adds some front of the piece
+-- a call that fails adds some front of the chunk
 abbrev pub LeavesFront : Leaving
-LeavesFront piece text = IsFront text piece
+LeavesFront chunk text = IsFront text chunk
 
--- a sink refuses by its own kind alone, whatever the piece
+-- a sink refuses by its own kind alone, whatever the chunk
 abbrev pub ByKind : ErrorKind → Declining
-ByKind own piece kind = kind ≡ own
+ByKind own chunk kind = kind ≡ own
 
--- a piece may be refused by this kind
+-- a chunk may fail with this kind
 abbrev pub DeclinesAny : Declining → ErrorKind → Type 0
-DeclinesAny refuses kind = (piece : List ℕ) × refuses piece kind
+DeclinesAny refuses kind = (chunk : List ℕ) × refuses chunk kind
 
--- one of these pieces is refused by this kind
+-- one of these chunks fails with this kind
 abbrev pub DeclinesSome : Declining → List (List ℕ) → ErrorKind → Type 0
 DeclinesSome refuses [] kind = ⊥
-DeclinesSome refuses (piece ∷ pieces) kind = refuses piece kind ⊎ DeclinesSome refuses pieces kind
+DeclinesSome refuses (chunk ∷ chunks) kind = refuses chunk kind ⊎ DeclinesSome refuses chunks kind
 
 -- after is before with a text that P holds of
 abbrev pub Adds : (List ℕ → Type 0) → List ℕ → List ℕ → Type 0
 Adds P before after = (text : List ℕ) × P text × (after ≡ before ++ text)
 
--- the texts of the pieces, joined
+-- the texts of the chunks, joined
 abbrev pub AppendsAll : Appending → List (List ℕ) → List ℕ → Type 0
 AppendsAll appends [] text = text ≡ []
-AppendsAll appends (piece ∷ pieces) text = (first others : List ℕ) × appends piece first × AppendsAll appends pieces others × (text ≡ first ++ others)
+AppendsAll appends (chunk ∷ chunks) text = (first others : List ℕ) × appends chunk first × AppendsAll appends chunks others × (text ≡ first ++ others)
 
--- Of pieces that are written one after the other the first ones are added, and of the next one nothing, or what the call
+-- Of chunks that are written one after the other the first ones are added, and of the next one nothing, or what the call
 -- that fails leaves of it.
 abbrev pub LeavesSome : Appending → Leaving → List (List ℕ) → List ℕ → Type 0
 LeavesSome appends leaves [] text = text ≡ []
-LeavesSome appends leaves (piece ∷ pieces) text = (text ≡ []) ⊎ leaves piece text
-    ⊎ ((first others : List ℕ) × appends piece first × LeavesSome appends leaves pieces others × (text ≡ first ++ others))
+LeavesSome appends leaves (chunk ∷ chunks) text = (text ≡ []) ⊎ leaves chunk text
+    ⊎ ((first others : List ℕ) × appends chunk first × LeavesSome appends leaves chunks others × (text ≡ first ++ others))
 
 -- What each call keeps of a sink: what was written stays at the front, no failure is taken back, and it is the same sink.
 pub record Grows {S : Type 0} (written : S → Option (List ℕ)) (failures : S → ℕ) (same : S → S → Type 0) (old new : S) : Type 0 where

@@ -9,7 +9,7 @@ use Rattle.capnp_frame.specs.declared.error.ErrorKind.TheVariants.{FailedToFillT
 abbrev pub Giving : Type 1
 Giving = List ℕ → ℕ → List ℕ → List ℕ → Type 0
 
--- A request of n bytes is refused by a kind where `raw` is unread: refuses raw n kind.
+-- A request of n bytes fails with a kind where `raw` is unread: refuses raw n kind.
 abbrev pub Refusing : Type 1
 Refusing = List ℕ → ℕ → ErrorKind → Type 0
 
@@ -21,7 +21,7 @@ Splits raw n bytes rest = (raw ≡ bytes ++ rest) × (length bytes ≡ n)
 abbrev pub RunsShort : Refusing
 RunsShort raw n kind = (length raw < n) × (kind ≡ FailedToFillTheWholeBuffer)
 
--- what is a plain request's answer is this source's too
+-- what is a plain request's result is this source's too
 abbrev pub IsPlain : Giving → Type 0
 IsPlain gives = (raw : List ℕ) (n : ℕ) (bytes rest : List ℕ) → Splits raw n bytes rest → gives raw n bytes rest
 
@@ -32,9 +32,9 @@ pub record IsSource (gives : Giving) (refuses : Refusing) : Type 0 where
   -- and where nothing is unread no other is given
   pub none_from_nothing : (n : ℕ) (bytes rest : List ℕ) → gives [] n bytes rest → n ≡ 0
   pub gives_all : (raw : List ℕ) (n : ℕ) (bytes rest : List ℕ) → gives raw n bytes rest → length bytes ≡ n
-  -- there is one answer at most
+  -- there is one result at most
   pub unique : (raw : List ℕ) (n : ℕ) (bytes rest others left : List ℕ) → gives raw n bytes rest → gives raw n others left → (bytes ≡ others) × (rest ≡ left)
-  -- what is given isn't refused, and nothing is refused by two kinds
+  -- what is given isn't refused, and nothing fails with two kinds
   pub apart : (raw : List ℕ) (n : ℕ) (bytes rest : List ℕ) (kind : ErrorKind) → gives raw n bytes rest → refuses raw n kind → ⊥
   pub one_kind : (raw : List ℕ) (n : ℕ) (kind other : ErrorKind) → refuses raw n kind → refuses raw n other → kind ≡ other
 
@@ -63,7 +63,7 @@ pub record Advances {S : Type 0} (unread : S → Option (List ℕ)) (failures : 
   pub counted : failures old ≤ failures new
   pub same_source : same old new
 
--- What `fill_buf` leaves once its answer is dropped.
+-- What `fill_buf` leaves once its result is dropped.
 pub record Fills {S : Type 0} (unread : S → Option (List ℕ)) (failures : S → ℕ) (same : S → S → Type 0) (shown : S → List ℕ) (result : Result (Bor (List ℕ)) Error) (old new : S) : Type 0 where
   pub kept : unread new ≡ unread old
   pub shows : IfOk result (λ bytes. shown new ≡ bytes.now)
@@ -71,13 +71,14 @@ pub record Fills {S : Type 0} (unread : S → Option (List ℕ)) (failures : S �
   pub counted : failures old ≤ failures new
   pub same_source : same old new
 
--- A request of n bytes is refused by this kind; where the unread bytes aren't known, some request of some bytes is.
+-- A request of n bytes fails with this kind; where the unread bytes aren't known, some request of some bytes is.
 abbrev pub IsRefused : Refusing → ℕ → Option (List ℕ) → ErrorKind → Type 0
 IsRefused refuses n None kind = (raw : List ℕ) × (m : ℕ) × refuses raw m kind
 IsRefused refuses n (Some raw) kind = refuses raw n kind
 
--- A request of n bytes is answered in part, by `got`. The rest of it is given from `left` just as the whole is given from `raw`, and is refused by the same kinds.
-pub record AnswersPart (gives : Giving) (refuses : Refusing) (n : ℕ) (got raw left : List ℕ) : Type 0 where
+-- A request of n bytes is returned in part, by `got`. The rest of it is given from `left` just as the whole is given from
+-- `raw`, and fails with the same kinds.
+pub record ReturnsPart (gives : Giving) (refuses : Refusing) (n : ℕ) (got raw left : List ℕ) : Type 0 where
   pub joins : (more rest : List ℕ) → gives left (n - length got) more rest → gives raw n (got ++ more) rest
   pub splits : (bytes rest : List ℕ) → gives raw n bytes rest → (more : List ℕ) × (bytes ≡ got ++ more) × gives left (n - length got) more rest
   pub refusals : (kind : ErrorKind) → refuses left (n - length got) kind ↔ refuses raw n kind

@@ -1,4 +1,4 @@
--- What the private steps of the readers of streams keep (src/serialize/stream.rt, src/serialize/lent_stream.rt).
+-- What the private steps of the readers of streams keep (src/serialize/stream.rt, src/serialize/provided_stream.rt).
 use Rattle.std.specs.Prelude.{◌≡◌, ◌⊎◌, ℕ, ◌*◌, ◌^◌, ◌<◌, ◌≤◌, List, [], length, map, take, drop, sum, Option, Some, Result, IfOk, IfErr, OnOk, IfSome, IfNone}
 use Rattle.std.specs.List.{AllByRecursion}
 use Rattle.capnp_frame.specs.declared.error.Error.{Error}
@@ -12,18 +12,18 @@ use Rattle.capnp_frame.specs.Limits.{KeepsLimit}
 use Rattle.capnp_frame.specs.Front.{told_lengths, told_segments, TellsTable, HoldsMessage}
 use Rattle.capnp_frame.specs.Source.{Giving, Refusing, IfKnown}
 use Rattle.capnp_frame.specs.Requests.{RestStands, TableStands, MessageStands}
-use Rattle.capnp_frame.specs.Errors.{IsRefusedBy}
-use Rattle.capnp_frame.specs.Refusals.{RefusesAtLimit, RefusesRest, IsTableKind, IsReaderKind, IsLentReaderKind}
+use Rattle.capnp_frame.specs.Errors.{FailsWith}
+use Rattle.capnp_frame.specs.Refusals.{RefusesAtLimit, RefusesRest, IsTableKind, IsReaderKind, IsProvidedReaderKind}
 use Rattle.capnp_frame.specs.Asking.{Asked, FailsOr}
 
--- A step that completes a table of so many segments stops by a line of the table of refusals: by the request of its
+-- A step that completes a table of a given number of segments stops by a line of the table of refusals: by the request of its
 -- other words, the limit, or the padding.
 abbrev pub StopsAtTable : Padding → Giving → Refusing → Option ℕ → ErrorKind → List ℕ → ℕ → List ℕ → List ℕ → Type 0
-StopsAtTable rule gives refuses limit kind first count raw left = RefusesRest rule gives refuses limit kind (λ ns behind. ⊥) left first count raw
+StopsAtTable rule gives refuses limit kind first count raw left = RefusesRest rule gives refuses limit kind (λ ns following. ⊥) left first count raw
 
--- The limit or the padding refuses a table that is complete, whatever is unread behind it.
+-- The limit or the padding refuses a table that is complete, whatever is unread after it.
 abbrev pub RefusesComplete : Padding → Option ℕ → ErrorKind → List ℕ → Type 0
-RefusesComplete rule limit kind table = (behind : List ℕ) → RefusesAtLimit rule limit kind (λ ns rest. ⊥) behind (take 8 table) (drop 8 table) behind
+RefusesComplete rule limit kind table = (following : List ℕ) → RefusesAtLimit rule limit kind (λ ns rest. ⊥) following (take 8 table) (drop 8 table) following
 
 -- What a step keeps that reads the words of a table after its first, tests the limit and the padding, and fills in where
 -- each segment begins and ends.
@@ -41,7 +41,7 @@ pub record ReadsLengths {S : Type 0} (source : Ghosts S) (old new : S) (rule : P
   pub kinds : IfErr result (λ error. IsTableKind rule source.refuses error.kind)
   pub asked : Asked source.unread source.failures source.same old new result
 
--- What a step finds that reads a table to the front of a caller-provided buffer: of so many segments and words.
+-- What a step finds that reads a table to the front of a caller-provided buffer: of a given number of segments and words.
 pub record FindsTable (rule : Padding) (gives : Giving) (limit : Option ℕ) (buffer : List ℕ) (count total : ℕ) (old new : Option (List ℕ)) : Type 0 where
   -- the table stands there, and just its bytes are consumed
   pub found : IfKnown old new (TableStands rule gives (told_lengths count buffer))
@@ -49,7 +49,7 @@ pub record FindsTable (rule : Padding) (gives : Giving) (limit : Option ℕ) (bu
   pub total_is : total ≡ sum (told_lengths count buffer)
   pub within : KeepsLimit (told_lengths count buffer) limit
 
--- The same of a message: of so many segments, and so many bytes behind its table.
+-- what a step finds of a message: how many segments it has, and how many bytes after its table.
 pub record FindsMessage (rule : Padding) (gives : Giving) (limit : Option ℕ) (buffer : List ℕ) (count bytes : ℕ) (old new : Option (List ℕ)) : Type 0 where
   pub found : IfKnown old new (MessageStands rule gives (told_segments count buffer))
   pub holds : HoldsMessage buffer count
@@ -67,12 +67,12 @@ pub record AsksNext {S X : Type 0} (source : Ghosts S) (old new : S) (rule : Pad
   pub end : IfErr result (λ error. source.unread old ≡ Some [] → error.kind ≡ DeviceFailed)
   pub asked : Asked source.unread source.failures source.same old new result
 
--- The same of a step into a caller-provided buffer of `room` bytes, which takes no memory.
+-- A step that reads into a caller-provided buffer of `room` bytes, which takes no memory.
 pub record AsksNextInto {S X : Type 0} (source : Ghosts S) (old new : S) (rule : Padding) (room : ℕ)
     (lines : ErrorKind → List ℕ → List ℕ → Type 0) (result : Result (Option X) Error) : Type 0 where
   pub none : IfOk result (λ found. IfNone found ((8 ≤ room) × IfSome (source.unread old) (λ raw. raw ≡ [])))
-  pub short : room < 8 → (new ≡ old) × IsRefusedBy result BufferNotLargeEnough
+  pub short : room < 8 → (new ≡ old) × FailsWith result BufferNotLargeEnough
   pub refused : FailsOr result (λ kind. IfKnown (source.unread old) (source.unread new) (lines kind))
-  pub kinds : IfErr result (λ error. IsLentReaderKind rule source.refuses error.kind)
+  pub kinds : IfErr result (λ error. IsProvidedReaderKind rule source.refuses error.kind)
   pub end : IfErr result (λ error. source.unread old ≡ Some [] → 8 ≤ room → error.kind ≡ DeviceFailed)
   pub asked : Asked source.unread source.failures source.same old new result

@@ -1,4 +1,4 @@
--- What the readers of streams return, and when they fail (src/serialize/stream.rt, src/serialize/lent_stream.rt).
+-- What the readers of streams return, and when they fail (src/serialize/stream.rt, src/serialize/provided_stream.rt).
 use Rattle.std.specs.Prelude.{◌≡◌, ℕ, ◌+◌, ◌*◌, ◌<◌, ◌≤◌, ◌⊎◌, List, [], length, Option, Some, None, Result, IfOk, IfErr, IfSome, IfNone}
 use Rattle.std.specs.List.{AllByRecursion}
 use Rattle.std.specs.Option.{option_map}
@@ -13,8 +13,8 @@ use Rattle.capnp_frame.specs.SegmentTable.{table_size}
 use Rattle.capnp_frame.specs.Limits.{IsWithin}
 use Rattle.capnp_frame.specs.Requests.{MessageStands}
 use Rattle.capnp_frame.specs.Source.{Giving, Refusing, IfKnown, Advances, Fails}
-use Rattle.capnp_frame.specs.Errors.{IsRefusedBy}
-use Rattle.capnp_frame.specs.Refusals.{RefusesStream, TakesMemory, IsReaderKind, IsLentReaderKind}
+use Rattle.capnp_frame.specs.Errors.{FailsWith}
+use Rattle.capnp_frame.specs.Refusals.{RefusesStream, TakesMemory, IsReaderKind, IsProvidedReaderKind}
 
 -- A message stands at the front of `raw`, and `rest` after it: stands segments raw rest.
 abbrev pub Standing : Type 1
@@ -48,7 +48,7 @@ framed_rules rule gives refuses = record {
   takes_memory = TakesMemory rule gives;
   refuses = RefusesStream rule gives refuses;
   kinds = IsReaderKind rule refuses;
-  provided_kinds = IsLentReaderKind rule refuses;
+  provided_kinds = IsProvidedReaderKind rule refuses;
 }
 
 -- What each reader of a stream that grows returns. `source` is what is seen of the source (the members of the trait Read),
@@ -99,7 +99,7 @@ pub record ReadsStreamInto {S : Type 0} (source : Ghosts S) (old new : S) (rules
   -- where nothing is unread and the buffer has a word, only with the device's failure
   pub end : IfErr result (λ error. source.unread old ≡ Some [] → 8 ≤ room → error.kind ≡ DeviceFailed)
   -- a buffer under 8 bytes asks the source for nothing
-  pub short : room < 8 → (new ≡ old) × IsRefusedBy result BufferNotLargeEnough
+  pub short : room < 8 → (new ≡ old) × FailsWith result BufferNotLargeEnough
   -- it fails with the device's failure, or with a line of the table of refusals
   pub refused : IfErr result (λ error. (error.kind ≡ DeviceFailed)
       ⊎ IfKnown (source.unread old) (source.unread new) (rules.refuses limit (Some room) error.kind))

@@ -1,4 +1,4 @@
--- Texts of messages behind one another, as a stream has them.
+-- Texts of messages after one another, as a stream has them.
 use Rattle.std.specs.Prelude.{◌≡◌, ℕ, List, [], ◌∷◌, ◌++◌, Option, Some, None}
 use Rattle.capnp_frame.specs.declared.error.ErrorKind.{ErrorKind}
 use Rattle.capnp_frame.specs.declared.serialize.segment_table.Padding.{Padding}
@@ -17,12 +17,12 @@ pub record BeginsWith (IsText : Grammar) (limit : Option ℕ) (segments : List (
   pub within : IsWithin segments limit
   pub spelled : raw ≡ text ++ rest
 
--- texts of these messages stand at the front, one behind the other, and then the rest
+-- texts of these messages stand at the front, one after the other, and then the rest
 abbrev pub AreTexts : Grammar → Option ℕ → List (List (List ℕ)) → List ℕ → List ℕ → Type 0
 AreTexts IsText limit [] raw rest = rest ≡ raw
 AreTexts IsText limit (m ∷ ms) raw rest = (between : List ℕ) × BeginsWith IsText limit m raw between × AreTexts IsText limit ms between rest
 
 -- why no text of a message stands there: nothing is left, or a reader by the rule of padding refuses by this kind
-abbrev pub Ends : Padding → Giving → Refusing → Option ℕ → Option ErrorKind → List ℕ → Type 0
-Ends rule gives refuses limit None rest = rest ≡ []
-Ends rule gives refuses limit (Some kind) rest = (left : List ℕ) × RefusesStream rule gives refuses limit None kind rest left
+abbrev pub EndsTexts : Padding → Giving → Refusing → Option ℕ → Option ErrorKind → List ℕ → Type 0
+EndsTexts rule gives refuses limit None rest = rest ≡ []
+EndsTexts rule gives refuses limit (Some kind) rest = (left : List ℕ) × RefusesStream rule gives refuses limit None kind rest left

@@ -2,11 +2,11 @@
 use Rattle.std.specs.Prelude.{ℕ, List}
 use denote.Ref.{Bor}
 
--- the bytes behind a slice
+-- the bytes after a slice
 abbrev pub shown : Bor (List ℕ) → List ℕ
 shown slice = slice.now
 
 -- a buffer, and the segments that are seen in it
-pub record Held (T : Type 0) : Type 0 where
+pub record SeenBuffer (T : Type 0) : Type 0 where
   pub buffer : T
   pub segments : List (List ℕ)

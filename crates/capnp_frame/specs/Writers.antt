@@ -5,11 +5,11 @@ use Rattle.capnp_frame.specs.declared.error.ErrorKind.{ErrorKind}
 use Rattle.capnp_frame.specs.declared.error.ErrorKind.TheVariants.{DeviceFailed, OutOfMemory, MessageSizeOverflow, InvalidNumberOfSegments}
 use Rattle.capnp_frame.specs.declared.io.Write.{Ghosts}
 use Rattle.capnp_frame.specs.Asking.{FailsOr}
-use Rattle.capnp_frame.specs.Errors.{IsRefusedBy}
+use Rattle.capnp_frame.specs.Errors.{FailsWith}
 use Rattle.capnp_frame.specs.Frame.{frame_text}
 use Rattle.capnp_frame.specs.Sink.{Adds, AppendsAll, LeavesSome, DeclinesSome, Grows}
 use Rattle.capnp_frame.specs.Source.{IfKnown, Fails}
-use Rattle.capnp_frame.specs.Writing.{HasFew, HasMany, RefusesMany, pieces, serialized_words}
+use Rattle.capnp_frame.specs.Writing.{HasFew, HasMany, RefusesMany, chunks, serialized_words}
 
 -- What each function that writes does to its sink. `sink` is what is seen of the sink (the members of the trait Write),
 -- `old` and `new` are the sink before the call and after it. `adds` holds of what is added where the call succeeds, `leaves`
@@ -27,17 +27,18 @@ pub record WritesTo {S X : Type 0} (sink : Ghosts S) (old new : S) (adds leaves 
   -- what was written before stays at the front, also where the call fails
   pub grows : Grows sink.written sink.failures sink.same old new
 
--- The same of pieces, one after the other. `lacks` holds of the kinds that the call may fail with before anything is written.
-pub record WritesPieces {S X : Type 0} (sink : Ghosts S) (old new : S) (pieces : List (List ℕ)) (lacks : ErrorKind → Type 0)
+-- What writing chunks, one after the other, does to a sink. `lacks` holds of the kinds that the call may fail with before
+-- anything is written.
+pub record WritesChunks {S X : Type 0} (sink : Ghosts S) (old new : S) (chunks : List (List ℕ)) (lacks : ErrorKind → Type 0)
     (result : Result X Error) : Type 0 where
-  -- where the call succeeds, what the pieces add stands after what was written before
-  pub written : OnOk result (IfKnown (sink.written old) (sink.written new) (Adds (AppendsAll sink.appends pieces)))
-  -- where it fails, the first pieces are written, and of the next one what the sink leaves of it; nothing stands after a hole
-  pub left : OnErr result (IfKnown (sink.written old) (sink.written new) (Adds (LeavesSome sink.appends sink.leaves pieces)))
-  -- it fails with the device's failure, as the sink refuses one of the pieces, or with a kind that is lacked
-  pub refused : FailsOr result (λ kind. DeclinesSome sink.refuses pieces kind ⊎ lacks kind)
+  -- where the call succeeds, what the chunks add stands after what was written before
+  pub written : OnOk result (IfKnown (sink.written old) (sink.written new) (Adds (AppendsAll sink.appends chunks)))
+  -- where it fails, the first chunks are written, and of the next one what the sink leaves of it; nothing stands after a hole
+  pub left : OnErr result (IfKnown (sink.written old) (sink.written new) (Adds (LeavesSome sink.appends sink.leaves chunks)))
+  -- it fails with the device's failure, as the sink refuses one of the chunks, or with a kind that is lacked
+  pub refused : FailsOr result (λ kind. DeclinesSome sink.refuses chunks kind ⊎ lacks kind)
   -- a failure that isn't the sink's leaves the sink as it was
-  pub untouched : FailsOr result (λ kind. DeclinesSome sink.refuses pieces kind ⊎ (new ≡ old))
+  pub untouched : FailsOr result (λ kind. DeclinesSome sink.refuses chunks kind ⊎ (new ≡ old))
   -- the device is blamed only where it failed
   pub failed : IfErr result (λ error. error.kind ≡ DeviceFailed → Fails (sink.failures old) (sink.failures new))
   -- what was written before stays at the front, also where the call fails
@@ -55,16 +56,16 @@ RefusesUnwritten segments kind = RefusesMany segments kind ⊎ LacksTable segmen
 pub record KeepsCount {X : Type 0} (segments : List (List ℕ)) (result : Result X Error) : Type 0 where
   -- what is written has no more segments than a reader accepts
   pub few : OnOk result (HasFew segments)
-  -- where there are more the call fails with their number, before all else
-  pub many : HasMany segments → IsRefusedBy result (InvalidNumberOfSegments (length segments))
+  -- where there are more the call fails for their number, before all else
+  pub many : HasMany segments → FailsWith result (InvalidNumberOfSegments (length segments))
 
 -- What each function that writes a message does to its sink.
 pub record WritesSegments {S X : Type 0} (sink : Ghosts S) (old new : S) (segments : List (List ℕ)) (result : Result X Error) : Type 0 where
   -- it fails by the number of segments exactly where there are more than a reader accepts, and then the sink stays as it was
   pub count : KeepsCount segments result
   pub unwritten : HasMany segments → new ≡ old
-  -- else the pieces of the message are written, one after the other
-  pub parts : WritesPieces sink old new (pieces segments) (RefusesUnwritten segments) result
+  -- else the chunks of the message are written, one after the other
+  pub parts : WritesChunks sink old new (chunks segments) (RefusesUnwritten segments) result
 
 -- What each function that returns the framed text of a message keeps, `bytes` being the text that is seen of it.
 pub record ReturnsText {X : Type 0} (segments : List (List ℕ)) (bytes : X → List ℕ) (result : Result X Error) : Type 0 where
@@ -78,5 +79,5 @@ pub record ReturnsText {X : Type 0} (segments : List (List ℕ)) (bytes : X → 
 pub record CountsWords (segments : List (List ℕ)) (result : Result ℕ Error) : Type 0 where
   pub size : IfOk result (λ words. words ≡ serialized_words segments)
   -- the call fails exactly where the number of words does not fit
-  pub overflow : IsRefusedBy result MessageSizeOverflow ↔ (2 ^ 64 ≤ serialized_words segments)
+  pub overflow : FailsWith result MessageSizeOverflow ↔ (2 ^ 64 ≤ serialized_words segments)
   pub kinds : IfErr result (λ error. error.kind ≡ MessageSizeOverflow)

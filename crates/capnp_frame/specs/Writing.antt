@@ -1,4 +1,4 @@
--- What is written of a message, and in which pieces (src/serialize/writing.rt).
+-- What is written of a message, and in which chunks (src/serialize/writing.rt).
 -- Encoding document, "Serialization Over a Stream".
 use Rattle.std.specs.Prelude.{◌≡◌, ℕ, ◌+◌, ◌/◌, ◌^◌, ◌<◌, ◌≤◌, List, [], ◌∷◌, ◌++◌, length, take, drop, nat_lt, if◌then◌else◌}
 use Rattle.std.specs.List.{AllByRecursion}
@@ -30,13 +30,13 @@ RefusesMany segments kind = HasMany segments × (kind ≡ InvalidNumberOfSegment
 abbrev pub word_and_rest : List ℕ → List (List ℕ)
 word_and_rest table = if nat_lt 8 (length table) then take 8 table ∷ drop 8 table ∷ [] else take 8 table ∷ []
 
--- the pieces of a table
-abbrev pub table_pieces : List ℕ → List (List ℕ)
-table_pieces ns = word_and_rest (zero_padded_table ns)
+-- the chunks of a table
+abbrev pub table_chunks : List ℕ → List (List ℕ)
+table_chunks ns = word_and_rest (zero_padded_table ns)
 
 -- what is handed to a sink, in order
-abbrev pub pieces : List (List ℕ) → List (List ℕ)
-pieces segments = table_pieces (lengths segments) ++ segments
+abbrev pub chunks : List (List ℕ) → List (List ℕ)
+chunks segments = table_chunks (lengths segments) ++ segments
 
 -- how many words a message takes with its table; the table of no segments is one word
 abbrev pub serialized_words : List (List ℕ) → ℕ

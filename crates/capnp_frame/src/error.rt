@@ -1,22 +1,22 @@
 //! Why a call is refused.
 ghost use Rattle.std.specs.Prelude.{◌≡◌};
 ghost use Rattle.capnp_frame.specs.declared.error.ErrorKind.TheVariants.{OutOfMemory};
-ghost use Rattle.capnp_frame.specs.Numbers.{number_of};
+ghost use Rattle.capnp_frame.specs.Numbers.{kind_number};
 
 use std::alloc::{AllocError, AllocFailed};
 
-/// What a call answers that may be refused.
+/// What a call returns that may be refused.
 pub type Result<T> = std::result::Result<T, Error>;
 
 /// What a refusal is, and where it has numbers, these.
 ///
-/// Its text is its name, with its numbers behind it in parentheses.
+/// Its text is its name, with its numbers after it in parentheses.
 #[derive(Clone, Copy, Debug, PartialEq, Eq, thiserror::Error)]
 pub enum ErrorKind {
-    /// The source ended within a piece.
+    /// The source ended within a chunk.
     #[error("FailedToFillTheWholeBuffer")]
     FailedToFillTheWholeBuffer,
-    /// A lent buffer has too few bytes for what was to be put there.
+    /// A caller-provided buffer has too few bytes for what was to be put there.
     #[error("BufferNotLargeEnough")]
     BufferNotLargeEnough,
     /// A buffer that was to hold a message has no bytes.
@@ -28,8 +28,8 @@ pub enum ErrorKind {
     /// A segment table has, or is to have, this number of segments, which is not from 1 to 511.
     #[error("InvalidNumberOfSegments({0})")]
     InvalidNumberOfSegments(usize),
-    /// The segments have this many words, and the input only so many behind the table. Where the
-    /// table itself is cut, a field of four bytes is wanted and so many of its bytes are there.
+    /// The segments have this many words, and the input only a given number after the table. Where the
+    /// table itself is cut, a field of four bytes is wanted and a given number of its bytes are there.
     #[error("MessageEndsPrematurely({0}, {1})")]
     MessageEndsPrematurely(usize, usize),
     /// A number of words or bytes does not fit `usize`.
@@ -41,19 +41,19 @@ pub enum ErrorKind {
     /// The source ended where a message was to begin.
     #[error("PrematureEndOfFile")]
     PrematureEndOfFile,
-    /// Packed input ended within a group, or before one that its piece still wants.
+    /// Packed input ended within a group, or before one that its chunk still wants.
     #[error("PrematureEndOfPackedInput")]
     PrematureEndOfPackedInput,
-    /// A run of packed words goes past the end of its piece.
+    /// A run of packed words goes past the end of its chunk.
     #[error("PackedInputDidNotEndCleanlyOnASegmentBoundary")]
     PackedInputDidNotEndCleanlyOnASegmentBoundary,
     /// A growth was refused.
     #[error("OutOfMemory")]
     OutOfMemory,
-    /// The device behind a source or a sink failed.
+    /// The device of a source or a sink failed.
     #[error("DeviceFailed")]
     DeviceFailed,
-    /// A piece to be packed or unpacked is not of whole words.
+    /// A chunk to be packed or unpacked is not of whole words.
     #[error("NotWholeWords")]
     NotWholeWords,
     /// An object or a segment of this many words can't be had.
@@ -97,7 +97,7 @@ pub enum ErrorKind {
 impl ErrorKind {
     /// The number of this kind, from 1 to 26, under which it is listed in docs/REFUSALS.md.
     pub fn number(&self) -> u8
-        ensures { result ≡ number_of self.now }
+        ensures { result ≡ kind_number self.now }
     {
         match self {
             ErrorKind::FailedToFillTheWholeBuffer => 1,

@@ -1,14 +1,14 @@
 //! Sources and sinks of bytes, as far as messages need them.
 //!
 //! Contracts see of a source the bytes that are unread, how often its device failed, and what a
-//! request takes; of a sink what was written, and what a piece adds. How many bytes one `read`
-//! answers is free: what is proved over a `Read` holds however its bytes are cut.
+//! request takes; of a sink what was written, and what a chunk adds. How many bytes one `read`
+//! returns is free: what is proved over a `Read` holds however its bytes are cut.
 ghost use Rattle.std.specs.Prelude.{◌≡◌, ℕ, ◌+◌, ◌<◌, ◌≤◌, List, [], ◌⊎◌, length, take, drop, Option, Some, IfSome, IfOk, OnOk, IfErr, OnErr, IsOk, ◌↔◌};
 ghost use Rattle.std.specs.Borrow.{sem};
 ghost use Rattle.std.specs.Io.BufRead.{Rests};
 ghost use Rattle.capnp_frame.specs.declared.error.ErrorKind.{ErrorKind};
 ghost use Rattle.capnp_frame.specs.Message.{IsWholeWords};
-ghost use Rattle.capnp_frame.specs.Source.{Giving, Refusing, IsSource, IsPreorder, IsPlain, Splits, RunsShort, Fails, IfKnown, Advances, Fills, IsFront, IsRefused, AnswersPart};
+ghost use Rattle.capnp_frame.specs.Source.{Giving, Refusing, IsSource, IsPreorder, IsPlain, Splits, RunsShort, Fails, IfKnown, Advances, Fills, IsFront, IsRefused, ReturnsPart};
 ghost use Rattle.capnp_frame.specs.Sink.{Appending, Leaving, Declining, Adds, Grows};
 
 mod references;
@@ -19,13 +19,13 @@ use crate::error::{Error, ErrorKind, Result};
 /// A source of bytes.
 ///
 /// For implementers: `gives` says which bytes a request of n bytes takes, and `refuses` by which kind
-/// it is refused where no bytes are given. A `read` answers some of the bytes that are given, and
-/// what it leaves is given to the requests behind it.
+/// it is refused where no bytes are given. A `read` returns some of the bytes that are given, and
+/// what it leaves is given to the requests after it.
 pub trait Read {
     /// The bytes that no read has taken yet, where they are known.
     ghost unread: { Self → Option (List ℕ) };
 
-    /// How often the device behind it failed, up to 2^64 - 1.
+    /// How often its device failed, up to 2^64 - 1.
     ghost failures: { Self → ℕ };
 
     /// Which bytes a request takes, and what it leaves.
@@ -37,15 +37,15 @@ pub trait Read {
     /// What each call keeps, as the reference that a source stands on.
     ghost same: { Self → Self → Type 0 };
 
-    /// Fills some front of `buffer`, and answers how many bytes: none only where nothing is unread
+    /// Fills some front of `buffer`, and returns how many bytes: none only where nothing is unread
     /// or `buffer` is empty.
     fn read(&mut self, buffer: &mut [u8]) -> Result<usize>
         ensures within { IfOk result (λ count. count ≤ length buffer.new) }
         ensures taken { IfOk result (λ count. IfKnown (unread self.old) (unread self.new)
-            (AnswersPart gives refuses (length buffer.new) (take count buffer.new))) }
+            (ReturnsPart gives refuses (length buffer.new) (take count buffer.new))) }
         ensures end { IfOk result (λ count. IfSome (unread self.old)
             (λ raw. 0 < length buffer.new → (count ≡ 0) ↔ (raw ≡ []))) }
-        // Where `read` answers no byte, `read_exact` is refused by this kind.
+        // Where `read` returns no byte, `read_exact` fails with this kind.
         ensures spent { IfOk result (λ count. count ≡ 0 → 0 < length buffer.new →
             IsRefused refuses (length buffer.new) (unread self.old)
             ErrorKind.FailedToFillTheWholeBuffer) }
@@ -61,7 +61,7 @@ pub trait Read {
 
         ensures advances { Advances unread failures same self.old self.new };
 
-    /// Fills `buffer`. It is refused by `FailedToFillTheWholeBuffer` where `read` answers no byte
+    /// Fills `buffer`. It fails with `FailedToFillTheWholeBuffer` where `read` returns no byte
     /// before that.
     fn read_exact(&mut self, buffer: &mut [u8]) -> Result<()>
         ensures given { OnOk result (IfKnown (unread self.old) (unread self.new)
@@ -119,42 +119,42 @@ pub trait BufRead: Read {
     ghost plain_refusals: { (raw : List ℕ) (n : ℕ) (kind : ErrorKind) → RunsShort raw n kind ↔ Self.refuses raw n kind };
 }
 
-/// A sink: it takes whole pieces, or refuses them.
+/// A sink: it takes whole chunks, or refuses them.
 pub trait Write {
     /// The bytes taken so far, where the sink keeps them.
     ghost written: { Self → Option (List ℕ) };
 
-    /// How often the device behind it failed, up to 2^64 - 1.
+    /// How often its device failed, up to 2^64 - 1.
     ghost failures: { Self → ℕ };
 
-    /// What a piece adds to the bytes taken so far.
+    /// What a chunk adds to the bytes taken so far.
     ghost appends: { Appending };
 
-    /// Which part of a piece a call that fails may leave, after the bytes taken so far.
+    /// Which part of a chunk a call that fails may leave, after the bytes taken so far.
     ghost leaves: { Leaving };
 
-    /// By which kinds a piece may be refused, beside the device's.
+    /// By which kinds a chunk may be refused, beside the device's.
     ghost refuses: { Declining };
 
-    /// What a sink takes for sure: so many more bytes, in any pieces.
+    /// What a sink takes for sure: a given number of further bytes, in any chunks.
     ghost grants: { Self → ℕ → Type 0 };
 
     /// What each call keeps, as the reference that a sink stands on.
     ghost same: { Self → Self → Type 0 };
 
-    /// Takes all of `piece`. A call that fails adds no more than a part of it to what was written
+    /// Takes all of `chunk`. A call that fails adds no more than a part of it to what was written
     /// before.
-    fn write_all(&mut self, piece: &[u8]) -> Result<()>
+    fn write_all(&mut self, chunk: &[u8]) -> Result<()>
         ensures added { OnOk result (IfKnown (written self.old) (written self.new)
-            (Adds (appends piece.now))) }
+            (Adds (appends chunk.now))) }
         ensures left { OnErr result (IfKnown (written self.old) (written self.new)
-            (Adds (leaves piece.now))) }
-        ensures granted { (more : ℕ) → grants self.old (length piece.now + more) →
+            (Adds (leaves chunk.now))) }
+        ensures granted { (more : ℕ) → grants self.old (length chunk.now + more) →
             IsOk result × grants self.new more }
         ensures failed { IfErr result (λ error. error.kind ≡ ErrorKind.DeviceFailed →
             Fails (failures self.old) (failures self.new)) }
         ensures refused { IfErr result (λ error. (error.kind ≡ ErrorKind.DeviceFailed)
-            ⊎ refuses piece.now error.kind) }
+            ⊎ refuses chunk.now error.kind) }
         ensures grows { Grows written failures same self.old self.new };
 
     ghost keeps: { IsPreorder same };

@@ -9,7 +9,7 @@ ghost use Rattle.capnp_frame.specs.Sink.{AppendsSame, AppendsAll, LeavesFront, L
 ghost use Rattle.capnp_frame.specs.Requests.{MessageStands};
 ghost use Rattle.capnp_frame.specs.Refusals.{IsTooLarge, RefusesStream};
 ghost use Rattle.capnp_frame.specs.Writers.{RefusesUnwritten};
-ghost use Rattle.capnp_frame.specs.Writing.{IsWritable, RefusesMany, pieces, serialized_words};
+ghost use Rattle.capnp_frame.specs.Writing.{IsWritable, RefusesMany, chunks, serialized_words};
 ghost use Rattle.capnp_frame.specs.Front.{HasFrame};
 ghost use Rattle.capnp_frame.specs.FlatRefusals.{FlatForm, RefusesFlat};
 ghost use Rattle.capnp_frame.specs.declared.error.ErrorKind.{ErrorKind};
@@ -42,8 +42,8 @@ pub fn zero_padding_is_some_padding<R: Read>()
         × (any.table.first ++ any.table.others ≡ zero_padded_table (lengths m))) }
 {}
 
-/// No framed text begins a different one, also of another rule of padding, and each is the text of one message alone. So texts that
-/// are joined part in one way.
+/// No framed text begins a different one, also of another rule of padding, and each is the text of
+/// one message alone. So texts that are joined part in one way.
 pub fn frames_part_in_one_way()
     ensures { (rule also : Padding) (text other rest left : List ℕ)
         (segments others : List (List ℕ)) →
@@ -58,7 +58,7 @@ pub fn plain_requests_take_a_frame()
         ↔ ((text : List ℕ) × IsFrame rule text segments × (raw ≡ text ++ rest)) }
 {}
 
-/// A message of more words than the limit is refused by `MessageTooLarge`, which tells how many it has.
+/// A message of more words than the limit fails with `MessageTooLarge`, which tells how many it has.
 pub fn message_past_the_limit_is_refused<R: Read>()
     ensures { (rule : Padding) (limit : Option ℕ) (m : List (List ℕ)) (raw rest : List ℕ) →
         MessageStands rule R.gives m raw rest → length m < 512 → IsTooLarge (lengths m) limit →
@@ -66,26 +66,26 @@ pub fn message_past_the_limit_is_refused<R: Read>()
         (ErrorKind.MessageTooLarge (size_in_words m)) raw left }
 {}
 
-/// Pieces that a plain sink takes are joined there.
-pub fn plain_pieces_are_joined()
-    ensures { (pieces : List (List ℕ)) (text : List ℕ) → AppendsAll AppendsSame pieces text
-        ↔ (text ≡ concat pieces) }
+/// Chunks that a plain sink takes are joined there.
+pub fn plain_chunks_are_joined()
+    ensures { (chunks : List (List ℕ)) (text : List ℕ) → AppendsAll AppendsSame chunks text
+        ↔ (text ≡ concat chunks) }
 {}
 
-/// The pieces that are handed to a sink are the framed text, joined, and `serialized_size_in_words`
+/// The chunks that are handed to a sink are the framed text, joined, and `serialized_size_in_words`
 /// tells its length.
-pub fn pieces_are_the_frame()
-    ensures joined { (segments : List (List ℕ)) → concat (pieces segments) ≡ frame_text segments }
+pub fn chunks_are_the_frame()
+    ensures joined { (segments : List (List ℕ)) → concat (chunks segments) ≡ frame_text segments }
     ensures size { (segments : List (List ℕ)) → IsWritable segments →
-        length (concat (pieces segments)) ≡ 8 * serialized_words segments }
+        length (concat (chunks segments)) ≡ 8 * serialized_words segments }
 {}
 
-/// A plain sink that is left with a front of a piece at most, where a call fails, is left with a
+/// A plain sink that is left with a front of a chunk at most, where a call fails, is left with a
 /// front of the framed text.
 pub fn what_is_left_of_a_message_is_a_front<W: Write>()
-    ensures { ((piece text : List ℕ) → W.leaves piece text → LeavesFront piece text) →
+    ensures { ((chunk text : List ℕ) → W.leaves chunk text → LeavesFront chunk text) →
         (segments : List (List ℕ)) (text : List ℕ) →
-        LeavesSome AppendsSame W.leaves (pieces segments) text →
+        LeavesSome AppendsSame W.leaves (chunks segments) text →
         IsFront text (frame_text segments) }
 {}
 
@@ -102,14 +102,14 @@ pub fn flat_readers_agree()
         (segments ≡ others) × (rest ≡ left) }
 {}
 
-/// The indexes at which a list of segments answers are those below its length.
+/// The indexes at which a list has a segment are those below its length.
 pub fn indexes_are_below_the_length()
     ensures { (segments : List (List ℕ)) (index : ℕ) →
         IsSome (slice_get segments index) ↔ (index < length segments) }
 {}
 
 /// What never counts a failure is never blamed for one. So it is with a slice as a source, and with
-/// a vector or a lent buffer as a sink: no call over them is refused by `DeviceFailed`.
+/// a vector or a caller-provided buffer as a sink: no call over them fails with `DeviceFailed`.
 pub fn slices_never_fail()
     ensures { (kind : ErrorKind) → (kind ≡ ErrorKind.DeviceFailed → Fails 0 0) →
         kind ≢ ErrorKind.DeviceFailed }
@@ -120,7 +120,7 @@ pub fn vectors_lack_memory_alone()
     ensures { (kind : ErrorKind) (segments : List (List ℕ)) →
         (kind ≡ ErrorKind.DeviceFailed → Fails 0 0) →
         (kind ≡ ErrorKind.DeviceFailed)
-        ⊎ DeclinesSome (ByKind ErrorKind.OutOfMemory) (pieces segments) kind
+        ⊎ DeclinesSome (ByKind ErrorKind.OutOfMemory) (chunks segments) kind
         ⊎ RefusesUnwritten segments kind →
         RefusesMany segments kind ⊎ (kind ≡ ErrorKind.OutOfMemory) }
 {}

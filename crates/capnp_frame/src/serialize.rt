@@ -5,9 +5,9 @@
 //!
 //! [standard stream framing]: https://capnproto.org/encoding.html#serialization-over-a-stream
 mod buffer_segments;
-mod lent_stream;
 mod no_alloc_buffer_segments;
 mod owned_segments;
+mod provided_stream;
 mod segment_lengths;
 mod segment_table;
 mod segment_table_info;
@@ -16,9 +16,9 @@ mod text;
 mod writing;
 
 pub use buffer_segments::{BufferSegments, take_segments, take_segments_lenient};
-pub use lent_stream::{try_read_segments_into, try_read_segments_into_lenient};
 pub use no_alloc_buffer_segments::{NoAllocBufferSegments, NoAllocSliceSegments};
 pub use owned_segments::OwnedSegments;
+pub use provided_stream::{try_read_segments_into, try_read_segments_into_lenient};
 pub use segment_lengths::SegmentLengthsBuilder;
 pub use segment_table::{Padding, SEGMENTS_COUNT_LIMIT};
 pub use segment_table_info::{NoAllocSegmentTableInfo, describes};

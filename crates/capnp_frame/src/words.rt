@@ -22,7 +22,7 @@ impl Word {
         Word { bytes }
     }
 
-    /// So many zero words.
+    /// A given number of zero words.
     pub fn allocate_zeroed_vec(alloc: Global, length: usize) -> Result<Vec<Word>>
         ensures zero { IfOk result (λ words.
             map bytes_of words.items ≡ replicate length (replicate 8 0)) }

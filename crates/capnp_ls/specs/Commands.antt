@@ -4,7 +4,7 @@ use Rattle.capnp.specs.Passed.{Padding, Any, Zero}
 use Rattle.capnp.specs.declared.streams.Format.{Format}
 use Rattle.capnp.specs.declared.streams.Format.TheVariants.{Framed, Packed}
 use Rattle.capnp.specs.declared.transcoding.Way.TheVariants.{Pack, Unpack}
-use Rattle.capnp.specs.Transcoding.{input_of as way_input}
+use Rattle.capnp.specs.Transcoding.{command_input as way_input}
 use Rattle.capnp_ls.specs.declared.command.Command.{Command}
 use Rattle.capnp_ls.specs.declared.command.Command.TheVariants.{Listing, Transcoding, Canonical}
 
@@ -23,10 +23,10 @@ command_words (Transcoding Unpack padding) = codes "unpack" ∷ option_words Fra
 command_words (Canonical format) = codes "canon" ∷ option_words format Zero
 
 -- what a command reads
-abbrev pub input_of : Command → Format
-input_of (Listing format padding) = format
-input_of (Transcoding way padding) = way_input way
-input_of (Canonical format) = format
+abbrev pub command_input : Command → Format
+command_input (Listing format padding) = format
+command_input (Transcoding way padding) = way_input way
+command_input (Canonical format) = format
 
 -- and of which padding
 abbrev pub padding_of : Command → Padding

@@ -12,17 +12,18 @@ use Rattle.capnp_ls.specs.declared.command.Command.TheVariants.{Listing, Transco
 abbrev pub spaced : ℕ → List ℕ
 spaced n = 32 ∷ decimal n
 
--- The line of a message: its index, the number of its segments, their words in all, the words of each. Numbers are decimal, a space (32) parts them, and a newline (10) ends the line.
+-- The line of a message: its index, the number of its segments, their words in all, the words of each. Numbers are decimal, a
+-- space (32) parts them, and a newline (10) ends the line.
 abbrev pub line : ℕ → List (List ℕ) → List ℕ
 line index segments = decimal index ++ spaced (length segments) ++ spaced (size_in_words segments) ++ flat_map spaced (lengths segments) ++ 10 ∷ []
 
--- What a sink adds for the message of this index: its line; its pieces, packed or as they are; or the pieces of its canonical form.
+-- What a sink adds for the message of this index: its line; its chunks, packed or as they are; or the chunks of its canonical form.
 abbrev pub Prints : Command → Appending → Writing
 Prints (Listing format padding) appends index segments text = appends (line index segments) text
 Prints (Transcoding way padding) appends index segments text = Transcodes way appends index segments text
 Prints (Canonical format) appends index segments text = AppendsForm (default_root segments) appends text
 
--- and why this message is not printed: it has no canonical form, or the sink refuses a piece of what is printed
+-- and why this message is not printed: it has no canonical form, or the sink refuses a chunk of what is printed
 abbrev pub DeclinesPrinted : Command → Declining → DecliningWriting
 DeclinesPrinted (Listing format padding) refuses = record { lacks = λ index segments kind. ⊥; breaks = λ index segments. refuses (line index segments) }
 DeclinesPrinted (Transcoding way padding) refuses = DeclinesTranscoded way refuses

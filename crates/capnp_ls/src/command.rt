@@ -3,7 +3,7 @@ ghost use Rattle.std.specs.Prelude.{◌≡◌, map, string_bytes, IfSome, IfNone
 ghost use Rattle.capnp.specs.Passed.{Padding};
 ghost use Rattle.capnp.specs.declared.streams.Format.{Format};
 ghost use Rattle.capnp_ls.specs.declared.command.Command.{Command};
-ghost use Rattle.capnp_ls.specs.Commands.{command_words, option_words, input_of, padding_of};
+ghost use Rattle.capnp_ls.specs.Commands.{command_words, option_words, command_input, padding_of};
 
 use crate::listing::write_line;
 use capnp::io::Write;
@@ -16,9 +16,9 @@ use std::alloc::Global;
 /// What the program is told to do.
 #[derive(Clone, Copy, Debug, PartialEq, Eq)]
 pub enum Command {
-    /// `list`, with `--packed`, `--lenient` or both behind it: print a line for each message.
+    /// `list`, with `--packed`, `--lenient` or both after it: print a line for each message.
     Listing(Format, Padding),
-    /// `pack` and `unpack`, each with `--lenient` behind it or not: write each message in the other
+    /// `pack` and `unpack`, each with `--lenient` after it or not: write each message in the other
     /// format.
     Transcoding(Way, Padding),
     /// `canon`, and `canon --packed`: write the canonical form of each message, framed.
@@ -47,7 +47,7 @@ impl Command {
 
     /// How the messages stand that the command reads.
     pub fn input(self) -> Format
-        ensures { result ≡ input_of self }
+        ensures { result ≡ command_input self }
     {
         match self {
             Command::Listing(format, _) => format,

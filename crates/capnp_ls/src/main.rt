@@ -24,13 +24,13 @@ use std::process::ExitCode;
 use std::{env, io};
 
 fn main(rt: HostRuntime) -> ExitCode {
-    let answer = run_on_standard_streams(rt);
-    if let Err(stop) = &answer
+    let returned = run_on_standard_streams(rt);
+    if let Err(stop) = &returned
         && let Ok(mut diagnostics) = Output::new(rt.alloc(), 0, rt.stderr())
     {
         let _ = report(rt.alloc(), stop, &mut diagnostics);
     }
-    exit_code(&answer)
+    exit_code(&returned)
 }
 
 fn run_on_standard_streams(rt: HostRuntime) -> Result<(), Stop> {
@@ -38,33 +38,36 @@ fn run_on_standard_streams(rt: HostRuntime) -> Result<(), Stop> {
     let words = words(rt).map_err(stop_without_words)?;
     let mut source = Input::new(alloc, rt.stdin()).map_err(stop_at_start)?;
     let mut sink = Output::new(alloc, OUTPUT_BYTES, rt.stdout()).map_err(stop_at_start)?;
-    let answer = program::run(alloc, &words, &mut source, &mut sink);
-    flush_after(answer, &mut sink)
+    let returned = program::run(alloc, &words, &mut source, &mut sink);
+    flush_after(returned, &mut sink)
 }
 
-/// Hands what is pending to the device, whatever the run answered.
+/// Hands what is pending to the device, whatever the run returned.
 ///
-/// A run's own stop stays the answer. How many messages' output a failed flush held back is not
+/// A run's own stop stays the result. How many messages' output a failed flush held back is not
 /// known, so it is refused at message 0.
-fn flush_after<W: Write + Drop>(answer: Result<(), Stop>, sink: &mut Output<W>) -> Result<(), Stop>
+fn flush_after<W: Write + Drop>(
+    returned: Result<(), Stop>,
+    sink: &mut Output<W>,
+) -> Result<(), Stop>
     ensures flushed { OnOk result (pending sink.new ≡ []) }
-    ensures stopped { IfErr answer (λ stop. IsErrOf result stop) }
-    ensures fault { OnOk answer (IfErr result (λ stop. IsAtStart stop ErrorKind.DeviceFailed)) }
-    ensures failed { OnOk answer (OnErr result
+    ensures stopped { IfErr returned (λ stop. IsErrOf result stop) }
+    ensures fault { OnOk returned (IfErr result (λ stop. IsAtStart stop ErrorKind.DeviceFailed)) }
+    ensures failed { OnOk returned (OnErr result
         (Fails sink.old.failures.count sink.new.failures.count)) }
     ensures kept { Keeps (taken_so_far W.contents sink.old) (taken_so_far W.contents sink.new) }
 {
     let flushed = sink.flush();
-    answer?;
+    returned?;
     flushed.map_err(stop_at_start)
 }
 
 /// The status that the program ends with: 0, or that of its stop.
-fn exit_code(answer: &Result<(), Stop>) -> ExitCode
-    ensures done { OnOk answer.now (exit_status result ≡ 0) }
-    ensures stopped { IfErr answer.now (λ stop. exit_status result ≡ status_of stop) }
+fn exit_code(returned: &Result<(), Stop>) -> ExitCode
+    ensures done { OnOk returned.now (exit_status result ≡ 0) }
+    ensures stopped { IfErr returned.now (λ stop. exit_status result ≡ status_of stop) }
 {
-    match answer {
+    match returned {
         Ok(()) => ExitCode::SUCCESS,
         Err(stop) => ExitCode::from(stop.status()),
     }

@@ -2,7 +2,7 @@
 ghost use Rattle.std.specs.Prelude.{◌≡◌, ◌⊎◌, ◌↔◌, map, string_bytes, IsErrOf};
 ghost use Rattle.capnp.specs.Runs.{WritesEach};
 ghost use Rattle.capnp_ls.specs.declared.command.Command.{Command};
-ghost use Rattle.capnp_ls.specs.Commands.{command_words, input_of, padding_of};
+ghost use Rattle.capnp_ls.specs.Commands.{command_words, command_input, padding_of};
 ghost use Rattle.capnp.specs.Passed.{default_limit};
 ghost use Rattle.capnp_ls.specs.Output.{Prints, DeclinesPrinted};
 ghost use Rattle.capnp_ls.specs.Runs.{ForCommand};
@@ -17,9 +17,9 @@ use std::alloc::Global;
 /// Runs the command of these words: reads the messages of `source`, and writes what the command
 /// prints of each to `sink`.
 ///
-/// `list` writes a line for each message, `pack` and `unpack` its text in the other format, `canon` its
-/// canonical form, framed. All want zero padding but `list`, `pack` and `unpack` with `--lenient`, which
-/// read any. A run takes at most 2^64 - 1 messages, and leaves the rest unread.
+/// `list` writes a line for each message, `pack` and `unpack` its text in the other format, `canon`
+/// its canonical form, framed. All want zero padding but `list`, `pack` and `unpack` with
+/// `--lenient`, which read any. A run takes at most 2^64 - 1 messages, and leaves the rest unread.
 pub fn run<R: BufRead, W: Write>(
     alloc: Global,
     words: &[String],
@@ -37,7 +37,7 @@ pub fn run<R: BufRead, W: Write>(
         ⊎ ((command : Command) × (map string_bytes words.now ≡ command_words command)) }
     ensures runs { (command : Command) → map string_bytes words.now ≡ command_words command →
         ForCommand (WritesEach R.Read source.old source.new W.Write sink.old sink.new
-        (padding_of command) (input_of command) default_limit (Prints command W.appends)
+        (padding_of command) (command_input command) default_limit (Prints command W.appends)
         (DeclinesPrinted command W.refuses)) result }
 {
     let Some(command) = Command::from_words(words) else {
@@ -54,7 +54,7 @@ fn print_all<R: BufRead, W: Write>(
     sink: &mut W,
 ) -> std::result::Result<(), Stop>
     ensures { ForCommand (WritesEach R.Read source.old source.new W.Write sink.old sink.new
-        (padding_of command) (input_of command) default_limit (Prints command W.appends)
+        (padding_of command) (command_input command) default_limit (Prints command W.appends)
         (DeclinesPrinted command W.refuses)) result }
 {
     let format = command.input();

@@ -32,9 +32,9 @@ impl Stop {
     }
 }
 
-/// Writes the stop as one line, in one piece.
+/// Writes the stop as one line, in one chunk.
 ///
-/// It is refused as the sink refuses that piece, or by `OutOfMemory` where the line has no room.
+/// It is refused as the sink refuses that chunk, or by `OutOfMemory` where the line has no room.
 pub fn report<W: Write>(alloc: Global, stop: &Stop, sink: &mut W) -> Result<()>
     ensures line { OnOk result (IfKnown (W.written sink.old) (W.written sink.new)
         (Adds (λ text. (line : List ℕ) × IsLineOf stop.now line × W.appends line text))) }

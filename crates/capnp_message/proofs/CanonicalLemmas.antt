@@ -37,15 +37,15 @@ lacks_once p a b (inr x) (inr y) = x.3 ∙ sym y.3
 -- where there is a form, memory alone is wanting
 form_found : {T : Type 0} (p : Pointer) (r : Result T Error) (P : T → Type 0)
     → MatchResult r P (λ error. LacksForm p error.kind ⊎ (error.kind ≡ OutOfMemory)) → HasForm p → IfErr r (λ error. error.kind ≡ OutOfMemory)
-form_found p (Ok x) P answer has = tt
+form_found p (Ok x) P returned has = tt
 form_found p (Err e) P (inl lacks) has = absurd (lacks_or_has p e.kind lacks has)
 form_found p (Err e) P (inr full) has = full
 
 -- where a tree stands, no walk stops
-pub tree_found : {limit : Option ℕ} (m : List (List ℕ)) (level : ℕ) (r : Result Bool Error) → IfErr r (λ error. StopsWalk m (root ∷ []) level limit error.kind)
-    → (trees : Trees) → TreeAt m root level limit trees → IsOk r
-tree_found m level (Ok x) stops trees t = refl
-tree_found {limit} m level (Err e) stops trees t = absurd (stops_has_no_trees m (root ∷ []) level t.charge limit e.kind trees stops t.stand t.shallow t.within)
+pub tree_found : {limit : Option ℕ} (m : List (List ℕ)) (nesting : ℕ) (r : Result Bool Error) → IfErr r (λ error. StopsWalk m (root ∷ []) nesting limit error.kind)
+    → (trees : Trees) → TreeAt m root nesting limit trees → IsOk r
+tree_found m nesting (Ok x) stops trees t = refl
+tree_found {limit} m nesting (Err e) stops trees t = absurd (stops_has_no_trees m (root ∷ []) nesting t.traversed limit e.kind trees stops t.stand t.shallow t.within)
 
 -- where the root's word does not stand, there is no form
 pub no_form : {S T : Type 0} (segments : S → List (List ℕ)) (inside message : ReadMessage S) (words : T → List ℕ) {error : Error} (r : Result T Error) → inside ≡ message
@@ -56,13 +56,13 @@ no_form {S} segments inside message words {error} (Err e) same is none =
     let own : NoWord p.message root e.kind =
     subst (λ (x : Error). NoWord p.message root x.kind) (sym is) (subst (λ (x : ReadMessage S). NoWord (root_of segments x).message root error.kind) same none) in
     let lacks : LacksForm p e.kind = root_lacks p e.kind refl own in
-    record { answer = inl lacks; found = λ has. absurd (lacks_or_has p e.kind lacks has); exact = λ kind other. lacks_once p e.kind kind lacks other }
+    record { returned = inl lacks; found = λ has. absurd (lacks_or_has p e.kind lacks has); exact = λ kind other. lacks_once p e.kind kind lacks other }
 
 -- the form of the root's pointer is that of the message
 pub root_form : {S T : Type 0} (segments : S → List (List ℕ)) (inside message : ReadMessage S) (pointer : Pointer) (words : T → List ℕ) (r : Result T Error) → inside ≡ message
     → pointer ≡ root_of segments inside
     → MatchResult r (λ form. IsCanonicalForm pointer (words form)) (λ error. LacksForm pointer error.kind ⊎ (error.kind ≡ OutOfMemory))
     → ((kind : ErrorKind) → LacksForm pointer kind → IsErrAnd r (λ error. error.kind ≡ kind)) → ReturnsForm (root_of segments message) words r
-root_form segments inside message pointer words r same is answer exact =
+root_form segments inside message pointer words r same is returned exact =
     subst (λ (p : Pointer). ReturnsForm p words r) (is ∙ ap (root_of segments) same)
-    (record { answer = answer; found = form_found pointer r (λ form. IsCanonicalForm pointer (words form)) answer; exact = exact })
+    (record { returned = returned; found = form_found pointer r (λ form. IsCanonicalForm pointer (words form)) returned; exact = exact })

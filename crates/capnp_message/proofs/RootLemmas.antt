@@ -19,10 +19,10 @@ pub no_word_once : (m : List (List ℕ)) (place : Place) (own kind : ErrorKind) 
 no_word_once m place own kind p q = one_refusal m place 0 own kind (no_word p) (no_word q)
 
 -- and that is the refusal of the pointer there
-pub astray_once : (m : List (List ℕ)) (own kind : ErrorKind) {level : ℕ} → NoWord m root own → (place : Place) × (Some root ≡ Some place) × Fault m place level kind → own ≡ kind
-astray_once m own kind {level} none (place, stands, fault) =
+pub invalid_pointer_once : (m : List (List ℕ)) (own kind : ErrorKind) {nesting : ℕ} → NoWord m root own → (place : Place) × (Some root ≡ Some place) × Fault m place nesting kind → own ≡ kind
+invalid_pointer_once m own kind {nesting} none (place, stands, fault) =
     let same : root ≡ place = cc in
-    one_refusal m root level own kind (no_word none) (subst (λ (p : Place). Fault m p level kind) (sym same) fault)
+    one_refusal m root nesting own kind (no_word none) (subst (λ (p : Place). Fault m p nesting kind) (sym same) fault)
 
 -- where the word stands, none is
 pub word_apart : (m : List (List ℕ)) (word : ℕ) (kind : ErrorKind) → word_at m root ≡ Some word → NoWord m root kind → ⊥
@@ -46,11 +46,11 @@ root_nowhere {S} segments inside message shows accepts refuses declines {error} 
     let own : NoWord m root e.kind =
     subst (λ (x : Error). NoWord m root x.kind) (sym is) (subst (λ (x : ReadMessage S). NoWord (root_of segments x).message root error.kind) same none) in
     record {
-      answer = inl own;
+      returned = inl own;
       stands = tt;
       found = λ unlimited has accepted. absurd (word_apart m has.0 e.kind has.1 own);
       unlimited = λ unlimited. no_limit m e.kind own;
-      exact = λ kind astray none. astray_once m e.kind kind own astray;
+      exact = λ kind invalid_pointer none. invalid_pointer_once m e.kind kind own invalid_pointer;
       declined = λ kind has declines. absurd (word_apart m has.0 e.kind has.1 own);
       nowhere = λ kind nowhere. no_word_once m root e.kind kind own nowhere;
     }
@@ -59,7 +59,7 @@ root_nowhere {S} segments inside message shows accepts refuses declines {error} 
 read_root : {V : Type 0} (pointer : Pointer) (shows : V → Type 0) (accepts : Type 0) (refuses declines : ErrorKind → Type 0) (r : Result V Error) → HasRoot pointer
     → IsViewOf pointer shows accepts refuses declines r → ReadsRoot pointer shows accepts refuses declines r
 read_root pointer shows accepts refuses declines (Ok view) has told = record {
-  answer = told.answer;
+  returned = told.returned;
   stands = has;
   found = λ unlimited stands accepted. told.found unlimited accepted;
   unlimited = told.unlimited;
@@ -68,7 +68,7 @@ read_root pointer shows accepts refuses declines (Ok view) has told = record {
   nowhere = λ kind nowhere. absurd (word_apart pointer.message has.0 kind has.1 nowhere);
 }
 read_root pointer shows accepts refuses declines (Err error) has told = record {
-  answer = inr told.answer;
+  returned = inr told.returned;
   stands = tt;
   found = λ unlimited stands accepted. told.found unlimited accepted;
   unlimited = told.unlimited;

@@ -4,7 +4,7 @@ use Rattle.capnp_wire.specs.Tree.{Form, null, struct, numbers, pointers, structs
 use Rattle.capnp_wire.specs.Trim.{trim, trim_form, trim_held, cut_nulls, keep_tree, least_pointers}
 use Rattle.capnp_wire.specs.Reached.{At, root}
 use Rattle.capnp_wire.specs.Layout.{canon, layout, AllHaveRoom}
-use Rattle.capnp_wire.specs.Charge.{Within}
+use Rattle.capnp_wire.specs.Traversed.{Within}
 use Rattle.capnp_wire.specs.Canonical.{IsCanonical}
 use Rattle.capnp_wire.specs.Views.{Pointer}
 use Rattle.capnp_wire.specs.Values.{TreeAt, LeadsToTree, IsCanonicalForm, one_value}
@@ -19,27 +19,27 @@ use Rattle.capnp_message.specs.Seen.{ReadMessage, root_of}
 use Rattle.capnp_frame.specs.declared.message.options.ReaderOptions.{ReaderOptions}
 use Rattle.capnp_wire.specs.Pointer.{words_of}
 use Rattle.capnp_wire.specs.Object.{message_of}
-use Rattle.capnp_wire.specs.Readers.{level_of}
+use Rattle.capnp_wire.specs.Readers.{nesting_of}
 
 -- what trimming keeps of trees is as deep at most
-kept_shallow : (level : ℕ) (rest : Trees) (form : Form) (held : Trees) → depth rest ≤ level → (if is_null form then 0 else depth held + 1) ≤ level → depth (keep_tree rest form held) ≤ level
-kept_shallow level (tree f h r) form held p q = omega arith
-kept_shallow level none null held p q = omega arith
-kept_shallow level none (struct words) held p q = omega arith
-kept_shallow level none (numbers code values) held p q = omega arith
-kept_shallow level none pointers held p q = omega arith
-kept_shallow level none (structs d n rows) held p q = omega arith
+kept_shallow : (nesting : ℕ) (rest : Trees) (form : Form) (held : Trees) → depth rest ≤ nesting → (if is_null form then 0 else depth held + 1) ≤ nesting → depth (keep_tree rest form held) ≤ nesting
+kept_shallow nesting (tree f h r) form held p q = omega arith
+kept_shallow nesting none null held p q = omega arith
+kept_shallow nesting none (struct words) held p q = omega arith
+kept_shallow nesting none (numbers code values) held p q = omega arith
+kept_shallow nesting none pointers held p q = omega arith
+kept_shallow nesting none (structs d n rows) held p q = omega arith
 
-cut_shallow : (level : ℕ) (t : Trees) → depth t ≤ level → depth (cut_nulls t) ≤ level
-cut_shallow level none p = omega arith
-cut_shallow level (tree form held rest) p = kept_shallow level (cut_nulls rest) form held (cut_shallow level rest (omega arith)) (omega arith)
+cut_shallow : (nesting : ℕ) (t : Trees) → depth t ≤ nesting → depth (cut_nulls t) ≤ nesting
+cut_shallow nesting none p = omega arith
+cut_shallow nesting (tree form held rest) p = kept_shallow nesting (cut_nulls rest) form held (cut_shallow nesting rest (omega arith)) (omega arith)
 
-held_shallow : (level : ℕ) (form : Form) (held : Trees) → depth held ≤ level → depth (trim_held form held) ≤ level
-held_shallow level null held p = p
-held_shallow level (struct words) held p = cut_shallow level held p
-held_shallow level (numbers code values) held p = p
-held_shallow level pointers held p = p
-held_shallow level (structs d n rows) held p = shallow_narrowed level (least_pointers n rows held) n rows held p
+held_shallow : (nesting : ℕ) (form : Form) (held : Trees) → depth held ≤ nesting → depth (trim_held form held) ≤ nesting
+held_shallow nesting null held p = p
+held_shallow nesting (struct words) held p = cut_shallow nesting held p
+held_shallow nesting (numbers code values) held p = p
+held_shallow nesting pointers held p = p
+held_shallow nesting (structs d n rows) held p = shallow_narrowed nesting (least_pointers n rows held) n rows held p
 
 one_shallow : (form : Form) (a b c d : Trees) → is_null (trim_form form c) ≡ is_null form → depth b ≤ depth a
     → (if is_null (trim_form form c) then 0 else depth b + 1) ≤ (if is_null form then 0 else depth a + 1)
@@ -69,18 +69,18 @@ single none e = absurd (omega arith)
 single (tree form held none) e = (form, held, refl)
 single (tree form held (tree f h r)) e = absurd (omega arith)
 
-depth_at : (o : Option Place) (m : List (List ℕ)) (level : ℕ) (limit : Option ℕ) (t : Trees) → MatchOption o (t ≡ tree null none none) (λ place. TreeAt m place level limit t) → depth t ≤ level
-depth_at None m level limit t is = let null_depth : depth t ≡ 0 = ap depth is in omega arith
-depth_at (Some place) m level limit t is = is.shallow
+depth_at : (o : Option Place) (m : List (List ℕ)) (nesting : ℕ) (limit : Option ℕ) (t : Trees) → MatchOption o (t ≡ tree null none none) (λ place. TreeAt m place nesting limit t) → depth t ≤ nesting
+depth_at None m nesting limit t is = let null_depth : depth t ≡ 0 = ap depth is in omega arith
+depth_at (Some place) m nesting limit t is = is.shallow
 
-leads_at : (q : Pointer) (place : Place) (t : Trees) → q.place ≡ Some place → TreeAt q.message place q.level q.limit t → LeadsToTree q t
-leads_at q place t there is = subst (λ (o : Option Place). MatchOption o (t ≡ tree null none none) (λ p. TreeAt q.message p q.level q.limit t)) (sym there) is
+leads_at : (q : Pointer) (place : Place) (t : Trees) → q.place ≡ Some place → TreeAt q.message place q.nesting q.limit t → LeadsToTree q t
+leads_at q place t there is = subst (λ (o : Option Place). MatchOption o (t ≡ tree null none none) (λ p. TreeAt q.message p q.nesting q.limit t)) (sym there) is
 
-no_limit : (limit : Option ℕ) (charge : ℕ) → limit ≡ None → Within limit charge
-no_limit limit charge e = subst (λ (o : Option ℕ). Within o charge) (sym e) tt
+no_limit : (limit : Option ℕ) (traversed : ℕ) → limit ≡ None → Within limit traversed
+no_limit limit traversed e = subst (λ (o : Option ℕ). Within o traversed) (sym e) tt
 
 -- a canonical form, read as the one segment of a message without a traversal limit, is its own
-pub own_form : (p q : Pointer) (words : List ℕ) → IsCanonicalForm p words → q.message ≡ words ∷ [] → q.place ≡ Some root → q.limit ≡ None → p.level ≤ q.level → IsCanonicalForm q words
+pub own_form : (p q : Pointer) (words : List ℕ) → IsCanonicalForm p words → q.message ≡ words ∷ [] → q.place ≡ Some root → q.limit ≡ None → p.nesting ≤ q.nesting → IsCanonicalForm q words
 own_form p q words a message there unlimited deep =
     let x = single a.trees (one_value p a.trees a.tree_is) in
     let rooms : AllHaveRoom (tree x.0 x.1 none) = subst AllHaveRoom x.2 a.rooms in
@@ -89,14 +89,14 @@ own_form p q words a message there unlimited deep =
     let there_is = root_of_canon x.0 x.1 rooms few in
     let twice : trim (trim (tree x.0 x.1 none)) ≡ trim (tree x.0 x.1 none) = trim_twice (tree x.0 x.1 none) rooms in
     let shown : q.message ≡ canon (tree x.0 x.1 none) ∷ [] = message ∙ ap (λ (l : List ℕ). l ∷ []) is in
-    let depths : depth (tree x.0 x.1 none) ≤ p.level = subst (λ (t : Trees). depth t ≤ p.level) x.2 (depth_at p.place p.message p.level p.limit a.trees a.tree_is) in
+    let depths : depth (tree x.0 x.1 none) ≤ p.nesting = subst (λ (t : Trees). depth t ≤ p.nesting) x.2 (depth_at p.place p.message p.nesting p.limit a.trees a.tree_is) in
     let stands : At q.message (root ∷ []) (trim (tree x.0 x.1 none)) there_is.0 =
     subst (λ (m : List (List ℕ)). At m (root ∷ []) (trim (tree x.0 x.1 none)) there_is.0) (sym shown) there_is.1 in
     record {
       trees = trim (tree x.0 x.1 none);
       tree_is =
           leads_at q root (trim (tree x.0 x.1 none)) there (record {
-            charge = there_is.0;
+            traversed = there_is.0;
             stand = stands;
             shallow = omega (arith, trim_shallow (tree x.0 x.1 none));
             within = no_limit q.limit there_is.0 unlimited;
@@ -120,12 +120,12 @@ form_canonical p words a message = subst IsCanonical (sym message) (form_is_cano
 -- the reader of a form as the one segment of a message
 pub own_of : (reader : ReadMessage (List (List ℕ))) (options : ReaderOptions) (segments : List (List ℕ)) (form : List ℕ)
     → reader ≡ record { segments = segments; options = options } → segments ≡ form ∷ [] → options.traversal_limit_in_words ≡ None
-    → (p : Pointer) × IsCanonicalForm p (words_of form) × (p.level ≤ level_of options.nesting_limit)
+    → (p : Pointer) × IsCanonicalForm p (words_of form) × (p.nesting ≤ nesting_of options.nesting_limit)
     → IsCanonicalForm (root_of (λ s. s) reader) (words_of form) × ((root_of (λ s. s) reader).message ≡ words_of form ∷ [])
 own_of reader options segments form is one unlimited (p, form_is, deep) =
     let same_options : reader.options ≡ options = ap (λ (r : ReadMessage (List (List ℕ))). r.options) is in
     let same_segments : reader.segments ≡ form ∷ [] = ap (λ (r : ReadMessage (List (List ℕ))). r.segments) is ∙ one in
     let message : message_of reader.segments ≡ words_of form ∷ [] = ap message_of same_segments in
     let no_limit_there : reader.options.traversal_limit_in_words ≡ None = ap (λ (o : ReaderOptions). o.traversal_limit_in_words) same_options ∙ unlimited in
-    let levels : level_of reader.options.nesting_limit ≡ level_of options.nesting_limit = ap (λ (o : ReaderOptions). level_of o.nesting_limit) same_options in
+    let nesting_limit : nesting_of reader.options.nesting_limit ≡ nesting_of options.nesting_limit = ap (λ (o : ReaderOptions). nesting_of o.nesting_limit) same_options in
     (own_form p (root_of (λ s. s) reader) (words_of form) form_is message refl no_limit_there (omega arith), message)

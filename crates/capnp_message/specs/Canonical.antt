@@ -9,7 +9,7 @@ use Rattle.capnp_wire.specs.Trim.{trim}
 use Rattle.capnp_wire.specs.Views.{Pointer}
 use Rattle.capnp_wire.specs.Values.{LacksWords, LeadsToTree, StopsWalkFrom, IsCanonicalForm}
 
--- A message has a canonical form: a tree stands at its root, within the level and the limit, and the form has at
+-- A message has a canonical form: a tree stands at its root, within the nesting depth left and the limit, and the form has at
 -- most 2 ^ 29 words with its root pointer.
 pub record HasForm (pointer : Pointer) : Type 0 where
   pub trees : Trees
@@ -23,7 +23,7 @@ LacksForm pointer kind = LacksWords (LeadsToTree pointer) (StopsWalkFrom pointer
 -- What each call keeps that returns the canonical form, of which `words` sees the words: it is the form, or there is none, for
 -- the one reason, or memory is wanting.
 pub record ReturnsForm {T : Type 0} (pointer : Pointer) (words : T → List ℕ) (result : Result T Error) : Type 0 where
-  pub answer : MatchResult result (λ form. IsCanonicalForm pointer (words form))
+  pub returned : MatchResult result (λ form. IsCanonicalForm pointer (words form))
       (λ error. LacksForm pointer error.kind ⊎ (error.kind ≡ OutOfMemory))
   pub found : HasForm pointer → IfErr result (λ error. error.kind ≡ OutOfMemory)
   pub exact : (kind : ErrorKind) → LacksForm pointer kind → IsErrAnd result (λ error. error.kind ≡ kind)

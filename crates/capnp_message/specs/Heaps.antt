@@ -1,4 +1,4 @@
--- What contracts see of heaps, and of a heap behind one region (src/heap_allocator.rt, src/scratch_space.rt).
+-- What contracts see of heaps, and of a heap after one region (src/heap_allocator.rt, src/scratch_space.rt).
 use Rattle.std.specs.Prelude.{◌≡◌, ℕ, min, Bool, true, false}
 use Rattle.capnp_message.specs.Next.{size_of, next_after}
 use Rattle.capnp_message.specs.Region.{IsHome}
@@ -12,7 +12,7 @@ pub record IsHeapOf (size : ℕ) (grows : AllocationStrategy) (most : ℕ) (heap
   pub strategy : heap.allocation_strategy ≡ grows
   pub maximum : heap.max_segment_words ≡ most
 
--- with this heap behind the region, which stays as it is
+-- with this heap after the region, which stays as it is
 pub record WithHeap (old : ScratchSpaceHeapAllocator) (words : ℕ) (grows : AllocationStrategy) (new : ScratchSpaceHeapAllocator) : Type 0 where
   pub region : new.region ≡ old.region
   pub size : new.size ≡ old.size
@@ -27,12 +27,13 @@ KeepsHeap old new = IsHeapOf old.next_size old.allocation_strategy old.max_segme
 abbrev pub StartsAnew : HeapAllocator → HeapAllocator → Type 0
 StartsAnew old new = IsHeapOf (min 1024 old.max_segment_words) old.allocation_strategy old.max_segment_words new
 
--- a segment came back: a lent one is the region, which is at home, any other one went to the heap
+-- a segment came back: a caller-provided one is the region, which is at home, any other one went to the heap
 abbrev pub ReturnsTo : Bool → ScratchSpaceHeapAllocator → ScratchSpaceHeapAllocator → Type 0
 ReturnsTo true old new = IsHome new.region old.size × KeepsHeap old.heap new.heap
 ReturnsTo false old new = (new.region ≡ old.region) × StartsAnew old.heap new.heap
 
--- the heap after a segment that was asked for by so many words: a lent one leaves it as it was, one of its own counts
+-- the heap after a segment that was asked for by a given number of words: a caller-provided one leaves it as it was, one of
+-- its own counts
 abbrev pub CountsSegment : Bool → ℕ → HeapAllocator → HeapAllocator → Type 0
 CountsSegment true asked old new = KeepsHeap old new
 CountsSegment false asked old new =

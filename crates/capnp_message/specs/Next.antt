@@ -3,7 +3,7 @@ use Rattle.std.specs.Prelude.{ℕ, zero, suc, ◌+◌, ◌-◌, max, if◌then�
 use Rattle.capnp_message.specs.declared.heap_allocator.AllocationStrategy.{AllocationStrategy}
 use Rattle.capnp_message.specs.declared.heap_allocator.AllocationStrategy.TheVariants.{FixedSize, GrowHeuristically}
 
--- the words of a segment that is asked for by so many
+-- the words of a segment, by the words that are asked
 abbrev pub size_of : ℕ → ℕ → ℕ
 size_of next asked = max asked next
 

@@ -1,20 +1,20 @@
--- One region that is lent: at home, or away (src/scratch_space.rt, src/single_segment.rt).
+-- One caller-provided region: at home, or away (src/scratch_space.rt, src/single_segment.rt).
 use Rattle.std.specs.Prelude.{◌≡◌, ℕ, ◌/◌, ◌≤◌, true, List, [], ◌∷◌, length, Option, Some, None, IfSome, IsSome, MatchOption, refl}
 use Rattle.std.specs.Borrow.{MutBor}
 use Rattle.capnp_build.specs.Bytes.{ZeroFrom}
-use Rattle.capnp_build.specs.Out.{Out, lent_of}
+use Rattle.capnp_build.specs.Out.{Out, provided_of}
 
--- a region of so many bytes, as a segment that is out
+-- a region of a given number of bytes, as a segment that is out
 abbrev pub region_out : ℕ → Out
-region_out size = record { length = size; is_lent = true }
+region_out size = record { length = size; is_provided = true }
 
 -- the region alone is out while it is away, and nothing while it is at home
 abbrev pub IsOutAlone : {X : Type 0} → Option X → ℕ → List Out → Type 0
 IsOutAlone region size list = MatchOption region (list ≡ region_out size ∷ []) (λ _. list ≡ [])
 
--- the same of what is lent among others
-abbrev pub IsLentAlone : {X : Type 0} → Option X → ℕ → List Out → Type 0
-IsLentAlone region size list = MatchOption region (lent_of list ≡ size ∷ []) (λ _. lent_of list ≡ [])
+-- of what is caller-provided, the region alone is out while it is away, and nothing while it is at home
+abbrev pub IsProvidedAlone : {X : Type 0} → Option X → ℕ → List Out → Type 0
+IsProvidedAlone region size list = MatchOption region (provided_of list ≡ size ∷ []) (λ _. provided_of list ≡ [])
 
 -- it is at home, whole and all zero
 pub record IsHome (region : Option (MutBor (List ℕ))) (size : ℕ) : Type 0 where
@@ -31,9 +31,9 @@ pub some_out : {X : Type 0} (region : Option X) (size : ℕ) → (list : List Ou
 some_out None size = (region_out size ∷ [], refl)
 some_out (Some x) size = ([], refl)
 
-pub some_lent : {X : Type 0} (region : Option X) (size : ℕ) → (list : List Out) × IsLentAlone region size list
-some_lent None size = (region_out size ∷ [], refl)
-some_lent (Some x) size = ([], refl)
+pub some_provided : {X : Type 0} (region : Option X) (size : ℕ) → (list : List Out) × IsProvidedAlone region size list
+some_provided None size = (region_out size ∷ [], refl)
+some_provided (Some x) size = ([], refl)
 
 -- a caller-provided region is at home
 pub record HoldsRegion (region : Option (MutBor (List ℕ))) (bytes : ℕ) (provided : MutBor (List ℕ)) : Type 0 where

@@ -7,20 +7,20 @@ use Rattle.capnp_frame.specs.declared.error.ErrorKind.{ErrorKind}
 use Rattle.capnp_frame.specs.declared.error.ErrorKind.TheVariants.{ReadLimitExceeded}
 use Rattle.capnp_wire.specs.Reached.{root}
 use Rattle.capnp_wire.specs.Faults.{NoWord}
-use Rattle.capnp_wire.specs.Views.{Pointer, LeadsAstray, MeetsLimit}
+use Rattle.capnp_wire.specs.Views.{Pointer, IsInvalidPointer, MeetsLimit}
 use Rattle.capnp_message.specs.Seen.{ReadMessage, HasRoot}
 
 -- What each view of the root keeps: it shows what stands there, or the root's own word does not stand, or the view fails for a
 -- stated cause.
 pub record ReadsRoot {V : Type 0} (pointer : Pointer) (shows : V → Type 0) (accepts : Type 0)
     (refuses declines : ErrorKind → Type 0) (result : Result V Error) : Type 0 where
-  pub answer : MatchResult result shows (λ error. NoWord pointer.message root error.kind ⊎ refuses error.kind)
+  pub returned : MatchResult result shows (λ error. NoWord pointer.message root error.kind ⊎ refuses error.kind)
   pub stands : OnOk result (HasRoot pointer)
   -- without a limit it is had of what it accepts, and no limit is met
   pub found : pointer.limit ≡ None → HasRoot pointer → accepts → IsOk result
   pub unlimited : pointer.limit ≡ None → IfErr result (λ error. error.kind ≢ ReadLimitExceeded)
   -- where no object stands, and the root itself is no view, whatever was read before
-  pub exact : (kind : ErrorKind) → LeadsAstray pointer kind → (accepts → ⊥) → IsErrAnd result (λ error. error.kind ≡ kind)
+  pub exact : (kind : ErrorKind) → IsInvalidPointer pointer kind → (accepts → ⊥) → IsErrAnd result (λ error. error.kind ≡ kind)
   -- where an object stands that is no such view
   pub declined : (kind : ErrorKind) → HasRoot pointer → declines kind
       → IsErrAnd result (λ error. (error.kind ≡ kind) ⊎ MeetsLimit pointer error.kind)

@@ -7,6 +7,6 @@ abbrev pub scratch_bytes : ScratchSegment → List ℕ
 scratch_bytes (Lent s) = s.now
 scratch_bytes (Owned v) = v.items
 
-abbrev pub scratch_lent : ScratchSegment → Bool
-scratch_lent (Lent s) = true
-scratch_lent (Owned v) = false
+abbrev pub scratch_provided : ScratchSegment → Bool
+scratch_provided (Lent s) = true
+scratch_provided (Owned v) = false

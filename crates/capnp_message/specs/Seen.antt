@@ -3,7 +3,7 @@ use Rattle.std.specs.Prelude.{ℕ, ◌≡◌, List, Some}
 use Rattle.capnp_frame.specs.declared.message.options.ReaderOptions.{ReaderOptions}
 use Rattle.capnp_wire.specs.Object.{message_of, word_at}
 use Rattle.capnp_wire.specs.Reached.{root}
-use Rattle.capnp_wire.specs.Readers.{level_of}
+use Rattle.capnp_wire.specs.Readers.{nesting_of}
 use Rattle.capnp_wire.specs.Views.{Pointer}
 
 -- a message that is read: its segments, and the options of its reader
@@ -16,7 +16,7 @@ abbrev pub root_of : {S : Type 0} → (S → List (List ℕ)) → ReadMessage S 
 root_of segments reader = record {
   message = message_of (segments reader.segments);
   place = Some root;
-  level = level_of reader.options.nesting_limit;
+  nesting = nesting_of reader.options.nesting_limit;
   limit = reader.options.traversal_limit_in_words;
 }
 

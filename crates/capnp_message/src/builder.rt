@@ -59,10 +59,10 @@ impl<A: Allocator> Builder<A> {
 
     /// Sets the root to a value.
     ///
-    /// The value is one block: behind the used words of the first segment where these leave room for it,
-    /// else with its pad in another segment that has room, else in a new one. It is refused as the
-    /// allocator refuses the first segment, then as the value's `measure` is, and as the allocator refuses
-    /// a further segment; then the root is null.
+    /// The value is one block: after the used words of the first segment where these leave room for
+    /// it, else with its landing pad in another segment that has room, else in a new one. It is
+    /// refused as the allocator refuses the first segment, then as the value's `measure` is, and as
+    /// the allocator refuses a further segment; then the root is null.
     pub fn set_root<T, V: SetterInput<T> + Drop>(&mut self, value: V) -> Result<()>
         ensures { SetsRoot A.Allocator (V.has_tree value) (V.refuses value)
             self.old self.new result }
@@ -73,9 +73,9 @@ impl<A: Allocator> Builder<A> {
     /// Sets the root to a value in canonical form, in the first segment. As the first action on the
     /// message it makes the one segment the canonical form.
     ///
-    /// It is refused by the first of these: as the allocator refuses the first segment, by
-    /// `NotOneSegment` where there are more segments, as the value's `measure` is, and by `NotOneSegment`
-    /// where the segment has no room; then the root is null.
+    /// It fails with the first of these: as the allocator refuses the first segment, by
+    /// `NotOneSegment` where there are more segments, as the value's `measure` is, and by
+    /// `NotOneSegment` where the segment has no room; then the root is null.
     pub fn set_root_canonical<T, V: SetterInput<T> + Drop>(&mut self, value: V) -> Result<()>
         ensures { SetsRootCanonical A.Allocator (V.has_tree value) (V.refuses value)
             self.old self.new result }
@@ -108,8 +108,8 @@ impl<A: Allocator> Builder<A> {
         self.arena.size_in_words()
     }
 
-    /// The message as one that is read, without a traversal limit and with objects nested up to 2^31 - 1
-    /// deep.
+    /// The message as one that is read, without a traversal limit and with objects nested up to 2^31
+    /// - 1 deep.
     pub fn into_reader(self) -> Reader<Builder<A>>
         ensures { IsReadUnlimited self result }
     {

@@ -49,7 +49,7 @@ impl HeapAllocator {
         }
     }
 
-    /// With so many words in the first segment, at most the maximum.
+    /// With a given number of words in the first segment, at most the maximum.
     pub fn first_segment_words(self, words: u32) -> HeapAllocator
         requires { words ≤ self.max_segment_words }
         ensures { IsHeapOf words self.allocation_strategy self.max_segment_words result }
@@ -62,7 +62,8 @@ impl HeapAllocator {
         }
     }
 
-    /// With so many words at most in a segment, where no more are asked; at least the next size.
+    /// With a given number of words at most in a segment, where no more are asked; at least the next
+    /// size.
     pub fn max_segment_words(self, words: u32) -> HeapAllocator
         requires { self.next_size ≤ words }
         ensures { IsHeapOf self.next_size self.allocation_strategy words result }
@@ -87,7 +88,7 @@ impl HeapAllocator {
         }
     }
 
-    // Counts a segment of so many words.
+    // Counts a segment of a given number of words.
     fn grow(&mut self, size: u32)
         ensures { IsHeapOf
             (next_after self.old.allocation_strategy

@@ -3,13 +3,13 @@ ghost use Rattle.std.specs.Prelude.{◌≡◌, ◌≤◌, ◌⊎◌, ℕ, List, 
 ghost use Rattle.capnp_frame.specs.declared.error.ErrorKind.TheVariants.{OutOfMemory};
 ghost use Rattle.capnp_wire.specs.Pointer.{words_of};
 ghost use Rattle.capnp_wire.specs.Reached.{root};
-ghost use Rattle.capnp_wire.specs.Readers.{level_of};
+ghost use Rattle.capnp_wire.specs.Readers.{nesting_of};
 ghost use Rattle.capnp_wire.specs.Views.{Pointer};
 ghost use Rattle.capnp_wire.specs.Values.{IsCanonicalForm};
 ghost use Rattle.capnp_message.specs.Seen.{root_of};
 ghost use Rattle.capnp_wire.specs.Block.{numbers_of};
 ghost use Rattle.capnp_message.specs.Canonical.{LacksForm};
-ghost use Rattle.capnp_message.specs.Region.{IsOutAlone, IsLentAlone, IsHome};
+ghost use Rattle.capnp_message.specs.Region.{IsOutAlone, IsProvidedAlone, IsHome};
 
 use crate::reader::Reader;
 use crate::scratch_space::ScratchSpaceHeapAllocator;
@@ -23,7 +23,7 @@ use std::alloc::Global;
 pub fn a_canonical_form_is_its_own()
     ensures { (pointer other : Pointer) (words : List ℕ) → IsCanonicalForm pointer words →
         other.message ≡ words ∷ [] → other.place ≡ Some root → other.limit ≡ None →
-        pointer.level ≤ other.level → IsCanonicalForm other words }
+        pointer.nesting ≤ other.nesting → IsCanonicalForm other words }
 {}
 
 /// The canonical words of a message, whether they are canonical as the one segment of a message, and
@@ -35,7 +35,7 @@ pub struct Canonicalized {
     pub again: Vec<Word>,
 }
 
-/// Canonicalizes a message, and what that answers once more: it is canonical, and its own canonical
+/// Canonicalizes a message, and what that returns once more: it is canonical, and its own canonical
 /// form.
 pub fn canonicalize_twice<S: ReaderSegments + Drop>(
     alloc: Global,
@@ -43,9 +43,9 @@ pub fn canonicalize_twice<S: ReaderSegments + Drop>(
     options: ReaderOptions,
 ) -> Result<Canonicalized>
     ensures form { let pointer = root_of S.segments (record { segments = segments; options = options }) in
-        IfOk result (λ answer. IsCanonicalForm pointer (numbers_of answer.words.items)) }
-    ensures canonical { IfOk result (λ answer. answer.is_canonical ≡ true) }
-    ensures same { IfOk result (λ answer. numbers_of answer.again.items ≡ numbers_of answer.words.items) }
+        IfOk result (λ returned. IsCanonicalForm pointer (numbers_of returned.words.items)) }
+    ensures canonical { IfOk result (λ returned. returned.is_canonical ≡ true) }
+    ensures same { IfOk result (λ returned. numbers_of returned.again.items ≡ numbers_of returned.words.items) }
     ensures kinds { let pointer = root_of S.segments (record { segments = segments; options = options }) in
         IfErr result (λ error. LacksForm pointer error.kind ⊎ (error.kind ≡ OutOfMemory)) }
 {
@@ -69,10 +69,10 @@ fn canonicalize_form(
     options: ReaderOptions,
 ) -> Result<(bool, Vec<Word>)>
     requires form { (pointer : Pointer) × IsCanonicalForm pointer (words_of form.now)
-        × (pointer.level ≤ level_of options.nesting_limit) }
+        × (pointer.nesting ≤ nesting_of options.nesting_limit) }
     requires unlimited { options.traversal_limit_in_words ≡ None }
-    ensures canonical { IfOk result (λ answer. answer.0 ≡ true) }
-    ensures same { IfOk result (λ answer. numbers_of answer.1.items ≡ words_of form.now) }
+    ensures canonical { IfOk result (λ returned. returned.0 ≡ true) }
+    ensures same { IfOk result (λ returned. numbers_of returned.1.items ≡ words_of form.now) }
     ensures kind { IfErr result (λ error. error.kind ≡ OutOfMemory) }
 {
     let segments = [form];
@@ -88,8 +88,8 @@ pub fn a_single_region_comes_home(allocator: &SingleSegmentAllocator<'_>)
         IsHome allocator.now.region allocator.now.size }
 {}
 
-/// The same of a region before a heap: of which nothing that is lent is out.
+/// The region before a heap is at home where nothing caller-provided is out.
 pub fn a_scratch_region_comes_home(allocator: &ScratchSpaceHeapAllocator<'_>)
-    ensures { IsLentAlone allocator.now.region allocator.now.size [] →
+    ensures { IsProvidedAlone allocator.now.region allocator.now.size [] →
         IsHome allocator.now.region allocator.now.size }
 {}

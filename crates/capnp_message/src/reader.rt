@@ -57,7 +57,7 @@ impl<S: ReaderSegments> Reader<S> {
 
     /// The root as a view, which borrows it from the segments.
     ///
-    /// It is refused by `InvalidSegmentId(0)` without a segment, by `PointerOutOfBounds` where the first
+    /// It fails with `InvalidSegmentId(0)` without a segment, with `PointerOutOfBounds` where the first
     /// segment has no word, and else as `get_as` refuses the root pointer.
     pub fn get_root<'a, T: FromPointerReader<'a, S>>(&'a self) -> Result<T>
         ensures { let pointer = root_of S.segments self.now in
@@ -67,19 +67,20 @@ impl<S: ReaderSegments> Reader<S> {
         self.arena.get_root()?.get_as()
     }
 
-    /// Whether the message is in canonical form: one segment that is the canonical form of its root tree.
+    /// Whether the message is in canonical form: one segment that is the canonical form of its root
+    /// tree.
     ///
-    /// A message of more than one segment is not canonical, nor is one with a far pointer. It is
-    /// refused by `InvalidSegmentId(0)` without a segment, and else where the walk over its objects
-    /// is, before it meets what is not canonical: as a view of one of them, or by `ReadLimitExceeded`
-    /// where they come to more words than the traversal limit. The walk counts from 0, takes no
-    /// memory, and what is read of the message by views stays as it was.
+    /// A message of more than one segment is not canonical, nor is one with a far pointer. It
+    /// /// fails with `InvalidSegmentId(0)` without a segment, and else where the walk over its
+    /// objects is, before it meets what is not canonical: as a view of one of them, or by
+    /// `ReadLimitExceeded` where they come to more words than the traversal limit. The walk counts
+    /// from 0, takes no memory, and what is read of the message by views stays as it was.
     pub fn is_canonical(&self) -> Result<bool>
-        ensures answer { let pointer = root_of S.segments self.now in
+        ensures returned { let pointer = root_of S.segments self.now in
             MatchResult result (λ is. IsTrue is ↔ IsCanonical pointer.message)
-            (λ error. Unsaid pointer.message pointer.level pointer.limit error.kind) }
+            (λ error. Unsaid pointer.message pointer.nesting pointer.limit error.kind) }
         ensures exact { let pointer = root_of S.segments self.now in
-            (kind : ErrorKind) → Unsaid pointer.message pointer.level pointer.limit kind →
+            (kind : ErrorKind) → Unsaid pointer.message pointer.nesting pointer.limit kind →
             IsErrAnd result (λ error. error.kind ≡ kind) }
         ensures found { (trees : Trees) → LeadsToTree (root_of S.segments self.now) trees → IsOk result }
         ensures stops { IfErr result (λ error.
@@ -91,11 +92,12 @@ impl<S: ReaderSegments> Reader<S> {
     /// The canonical form of the message, as the bytes of its one segment.
     ///
     /// It is refused where a walk over the root tree is: as a view of one of its objects, or by
-    /// `ReadLimitExceeded` where they come to more words than the traversal limit. Above 2^29 words, the
-    /// root pointer among them, it is refused by `CanonicalTooLarge`. The walk counts from 0, and what is
-    /// read of the message by views stays as it was. Memory is asked for once the form is measured.
+    /// `ReadLimitExceeded` where they come to more words than the traversal limit. Above 2^29 words,
+    /// the root pointer among them, it fails with `CanonicalTooLarge`. The walk counts from 0, and
+    /// what is read of the message by views stays as it was. Memory is asked for once the form is
+    /// measured.
     pub fn canonical_segment(&self, alloc: Global) -> Result<Vec<u8>>
-        ensures answer { let pointer = root_of S.segments self.now in MatchResult result
+        ensures returned { let pointer = root_of S.segments self.now in MatchResult result
             (λ bytes. IsCanonicalForm pointer (words_of bytes.items))
             (λ error. LacksForm pointer error.kind ⊎ (error.kind ≡ OutOfMemory)) }
         ensures whole { IfOk result (λ bytes. IsWholeWords bytes.items) }
@@ -141,7 +143,7 @@ impl<S: ReaderSegments> Reader<S> {
         arena.into_segments()
     }
 
-    /// The words of all segments, at most `usize::MAX`. Bytes behind the last whole word of a segment
+    /// The words of all segments, at most `usize::MAX`. Bytes after the last whole word of a segment
     /// count for nothing.
     pub fn size_in_words(&self) -> usize
         requires { length (S.segments self.now.segments) < 2 ^ 32 }

@@ -8,7 +8,7 @@ ghost use Rattle.capnp_build.specs.RootViews.{InitsView, GetsView};
 use crate::builder::Builder;
 use capnp_build::allocator::Allocator;
 use capnp_build::owned_builder::OwnedBuilder;
-use capnp_build::shown::Shown;
+use capnp_build::root_kind::RootKind;
 use capnp_build::view::{Building, View, init};
 use capnp_frame::Result;
 use capnp_wire::MessageSize;
@@ -19,8 +19,8 @@ impl<A: Allocator> Building for Builder<A> {
 
     ghost built = { λ message. message };
 
-    fn root_shown(&self) -> Shown {
-        self.arena.root_shown()
+    fn root_kind(&self) -> RootKind {
+        self.arena.root_kind()
     }
 
     fn root_bytes(&self) -> &[u8] {
@@ -55,8 +55,8 @@ impl<A: Allocator> Building for Builder<A> {
 impl<A: Allocator> Builder<A> {
     ghost use Rattle.capnp_message.specs.contracts.builder.Builder.{the_row};
 
-    /// Makes the root a new object of some length, all zero, and answers a view that writes it. Where it
-    /// is refused, the root is null.
+    /// Makes the root a new object of some length, all zero, and returns a view that writes it.
+    /// Where it is refused, the root is null.
     ///
     /// ```
     /// let mut numbers = message.initn_root::<primitive_list::Owned<u64>>(3)?;

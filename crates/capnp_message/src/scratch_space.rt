@@ -4,8 +4,8 @@ ghost use Rattle.std.specs.Option.{ForSome};
 ghost use Rattle.capnp_frame.specs.declared.error.ErrorKind.TheVariants.{OutOfMemory};
 ghost use Rattle.capnp_build.specs.Bytes.{ZeroFrom};
 ghost use Rattle.capnp_message.specs.Next.{size_of};
-ghost use Rattle.capnp_message.specs.Region.{IsLentAlone, GrantsRegion, HoldsRegion};
-ghost use Rattle.capnp_message.specs.Scratch.{scratch_bytes, scratch_lent};
+ghost use Rattle.capnp_message.specs.Region.{IsProvidedAlone, GrantsRegion, HoldsRegion};
+ghost use Rattle.capnp_message.specs.Scratch.{scratch_bytes, scratch_provided};
 ghost use Rattle.capnp_build.specs.Allocating.{HandsOut};
 
 use crate::heap_allocator::{AllocationStrategy, HeapAllocator};
@@ -27,25 +27,25 @@ pub enum ScratchSegment<'a> {
 impl<'a> SegmentSpace for ScratchSegment<'a> {
     ghost content = { scratch_bytes };
 
-    ghost is_lent = { scratch_lent };
+    ghost is_provided = { scratch_provided };
 
     fn bytes(&self) -> &[u8] {
         match self {
-            ScratchSegment::Lent(lent) => lent.bytes(),
+            ScratchSegment::Lent(provided) => provided.bytes(),
             ScratchSegment::Owned(owned) => owned.bytes(),
         }
     }
 
     fn write_at(&mut self, at: usize, bytes: &[u8]) {
         match self {
-            ScratchSegment::Lent(lent) => lent.write_at(at, bytes),
+            ScratchSegment::Lent(provided) => provided.write_at(at, bytes),
             ScratchSegment::Owned(owned) => owned.write_at(at, bytes),
         }
     }
 
     fn zero(&mut self, from: usize, to: usize) {
         match self {
-            ScratchSegment::Lent(lent) => lent.zero(from, to),
+            ScratchSegment::Lent(provided) => provided.zero(from, to),
             ScratchSegment::Owned(owned) => owned.zero(from, to),
         }
     }
@@ -58,7 +58,9 @@ impl<'a> SegmentSpace for ScratchSegment<'a> {
         value: &V,
     ) -> Word {
         match self {
-            ScratchSegment::Lent(lent) => lent.write_value::<T, V>(from, to, canonical, value),
+            ScratchSegment::Lent(provided) => provided.write_value::<T, V>(
+                from, to, canonical, value,
+            ),
             ScratchSegment::Owned(owned) => owned.write_value::<T, V>(from, to, canonical, value),
         }
     }
@@ -80,7 +82,7 @@ pub struct ScratchSpaceHeapAllocator<'a> {
 impl<'a> ScratchSpaceHeapAllocator<'a> {
     ghost use Rattle.capnp_message.specs.Heaps.{WithHeap};
 
-    /// The region, which is made zero, and a heap behind it. Bytes behind the region's last whole word
+    /// The region, which is made zero, and a heap after it. Bytes after the region's last whole word
     /// are not used.
     pub fn new(alloc: Global, region: &'a mut [u8]) -> ScratchSpaceHeapAllocator<'a>
         requires { length region.old / 8 < 2 ^ 32 }
@@ -97,7 +99,7 @@ impl<'a> ScratchSpaceHeapAllocator<'a> {
         }
     }
 
-    /// With so many words in the heap's first segment, at most 2^29.
+    /// With a given number of words in the heap's first segment, at most 2^29.
     pub fn second_segment_words(self, words: u32) -> ScratchSpaceHeapAllocator<'a>
         requires { words ≤ 2 ^ 29 }
         ensures { WithHeap self.entry words self.entry.heap.allocation_strategy result }
@@ -128,34 +130,35 @@ impl<'a> Allocator for ScratchSpaceHeapAllocator<'a> {
 
     ghost use Rattle.std.specs.Prelude.{refl};
     ghost use Rattle.std.proofs.Common.{◌∙◌};
-    ghost use Rattle.capnp_message.specs.Region.{some_lent};
+    ghost use Rattle.capnp_message.specs.Region.{some_provided};
     ghost use Rattle.capnp_message.specs.Heaps.{KeepsHeap, CountsSegment, ReturnsTo};
 
-    ghost out = { λ allocator list. IsLentAlone allocator.region allocator.size list };
+    ghost out = { λ allocator list. IsProvidedAlone allocator.region allocator.size list };
 
     ghost same = { λ old new. new.size ≡ old.size };
 
     ghost grants = { λ allocator. GrantsRegion allocator.region allocator.size };
 
     // The region is at home, or the heap is after a return to it.
-    ghost returns = { λ old segment words new. ReturnsTo segment.is_lent old new };
+    ghost returns = { λ old segment words new. ReturnsTo segment.is_provided old new };
 
-    // Beside what any allocator ensures: where the region is lent, and what the heap hands out.
+    // Beside what any allocator ensures: where the region is caller-provided, and what the heap
+    // hands out.
     fn allocate_segment(&mut self, minimum_size: u32) -> Result<ScratchSegment<'a>>
-        ensures hands_out { HandsOut (λ allocator. IsLentAlone allocator.region allocator.size)
+        ensures hands_out { HandsOut (λ allocator. IsProvidedAlone allocator.region allocator.size)
             (λ old new. new.size ≡ old.size)
-            (λ allocator. GrantsRegion allocator.region allocator.size) scratch_bytes scratch_lent
+            (λ allocator. GrantsRegion allocator.region allocator.size) scratch_bytes scratch_provided
             minimum_size self.old self.new result }
-        ensures lent { minimum_size ≤ self.old.size / 8 → IsSome self.old.region →
-            IsOk result × IfOk result (λ s. scratch_lent s ≡ true) }
+        ensures provided { minimum_size ≤ self.old.size / 8 → IsSome self.old.region →
+            IsOk result × IfOk result (λ s. scratch_provided s ≡ true) }
         ensures large { self.old.size / 8 < minimum_size → IfOk result (λ s.
-            (scratch_lent s ≡ false)
+            (scratch_provided s ≡ false)
             × (length (scratch_bytes s) ≡ 8 * size_of self.old.heap.next_size minimum_size)) }
-        ensures away { self.old.region ≡ None → IfOk result (λ s. (scratch_lent s ≡ false)
+        ensures away { self.old.region ≡ None → IfOk result (λ s. (scratch_provided s ≡ false)
             × (length (scratch_bytes s) ≡ 8 * size_of self.old.heap.next_size minimum_size)) }
         ensures kind { IfErr result (λ error. error.kind ≡ OutOfMemory) }
         ensures counts { IfOk result (λ s.
-            CountsSegment (scratch_lent s) minimum_size self.old.heap self.new.heap) }
+            CountsSegment (scratch_provided s) minimum_size self.old.heap self.new.heap) }
         ensures unchanged { OnErr result (KeepsHeap self.old.heap self.new.heap) }
     {
         if minimum_size as usize <= self.size / 8 {
@@ -184,5 +187,5 @@ impl<'a> Allocator for ScratchSpaceHeapAllocator<'a> {
 
     ghost keeps = { record { reflexive = λ s. refl; transitive = λ s t u p q. q ∙ p } };
 
-    ghost accounts = { λ s. some_lent s.region s.size };
+    ghost accounts = { λ s. some_provided s.region s.size };
 }

@@ -28,7 +28,7 @@ pub struct SingleSegmentAllocator<'a> {
 }
 
 impl<'a> SingleSegmentAllocator<'a> {
-    /// The region, which is made zero. Bytes behind its last whole word are not used.
+    /// The region, which is made zero. Bytes after its last whole word are not used.
     pub fn new(region: &'a mut [u8]) -> SingleSegmentAllocator<'a>
         requires { length region.old / 8 < 2 ^ 32 }
         ensures { HoldsRegion result.region result.size region.entry }
@@ -67,7 +67,7 @@ impl<'a> Allocator for SingleSegmentAllocator<'a> {
             IsErrAnd result (λ error. error.kind ≡ AllocationTooLarge minimum_size) }
         ensures taken { minimum_size ≤ self.old.size / 8 → self.old.region ≡ None →
             IsErrAnd result (λ error. error.kind ≡ SegmentTaken) }
-        ensures lent { minimum_size ≤ self.old.size / 8 → IsSome self.old.region → IsOk result }
+        ensures provided { minimum_size ≤ self.old.size / 8 → IsSome self.old.region → IsOk result }
         ensures away { OnOk result (self.new.region ≡ None) }
     {
         if minimum_size as usize > self.size / 8 {

@@ -18,7 +18,7 @@ use crate::typed_reader::TypedReader;
 use capnp_build::allocator::Allocator;
 use capnp_build::arena::builder_arena::BuilderArena;
 use capnp_build::owned_builder::OwnedBuilder;
-use capnp_build::shown::Shown;
+use capnp_build::root_kind::RootKind;
 use capnp_build::view::{Building, View, init};
 use capnp_frame::Result;
 use capnp_wire::MessageSize;
@@ -83,8 +83,8 @@ impl<T, A: Allocator> TypedBuilder<T, A> {
         &mut self.message
     }
 
-    /// The message as one that is read, without a traversal limit and with objects nested up to 2^31 - 1
-    /// deep.
+    /// The message as one that is read, without a traversal limit and with objects nested up to 2^31
+    /// - 1 deep.
     pub fn into_reader(self) -> TypedReader<Builder<A>, T>
         ensures { IsReadUnlimited self result }
     {
@@ -133,8 +133,8 @@ impl<T, A: Allocator> Building for TypedBuilder<T, A> {
 
     ghost built = { λ typed. typed };
 
-    fn root_shown(&self) -> Shown {
-        self.message.root_shown()
+    fn root_kind(&self) -> RootKind {
+        self.message.root_kind()
     }
 
     fn root_bytes(&self) -> &[u8] {

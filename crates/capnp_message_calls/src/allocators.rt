@@ -12,8 +12,8 @@ fn words<S: SegmentSpace>(segment: &S) -> usize {
     segment.bytes().len() / 8
 }
 
-fn number_of<T: Drop>(answer: Result<T>) -> u8 {
-    match answer {
+fn number_of<T: Drop>(returned: Result<T>) -> u8 {
+    match returned {
         Ok(_) => 0,
         Err(error) => error.kind.number(),
     }
@@ -51,13 +51,13 @@ fn heap_sizes(rt: HostRuntime) -> std::result::Result<(), Fail> {
 fn scratch(rt: HostRuntime) -> std::result::Result<(), Fail> {
     let mut region = [7; 24];
     let mut scratch = ScratchSpaceHeapAllocator::new(rt.alloc(), &mut region);
-    let lent = scratch.allocate_segment(3)?;
-    assert_eq!(rt; words(&lent), 3);
-    assert!(rt; matches!(&lent, ScratchSegment::Lent(_)));
+    let provided = scratch.allocate_segment(3)?;
+    assert_eq!(rt; words(&provided), 3);
+    assert!(rt; matches!(&provided, ScratchSegment::Lent(_)));
     let owned = scratch.allocate_segment(1)?;
     assert_eq!(rt; words(&owned), 1024);
     assert!(rt; matches!(&owned, ScratchSegment::Owned(_)));
-    assert_eq!(rt; lent.bytes(), [0; 24].as_slice());
+    assert_eq!(rt; provided.bytes(), [0; 24].as_slice());
 
     let mut small = [7; 15];
     let mut scratch = ScratchSpaceHeapAllocator::new(rt.alloc(), &mut small)
@@ -74,8 +74,8 @@ fn single(rt: HostRuntime) -> std::result::Result<(), Fail> {
     let mut region = [7; 16];
     let mut single = SingleSegmentAllocator::new(&mut region);
     assert_eq!(rt; number_of(single.allocate_segment(3)), 15);
-    let lent = single.allocate_segment(2)?;
-    assert_eq!(rt; &lent[..], [0; 16].as_slice());
+    let provided = single.allocate_segment(2)?;
+    assert_eq!(rt; &provided[..], [0; 16].as_slice());
     assert_eq!(rt; number_of(single.allocate_segment(1)), 16);
     assert_eq!(rt; number_of(single.allocate_segment(3)), 15);
     Ok(())

@@ -9,7 +9,7 @@ use capnp_wire::arena::ReaderArena;
 use std::alloc::Global;
 use std::test::Fail;
 
-/// Segments of so many words, or as many as are asked.
+/// Segments of a given number of words, or as many as are asked.
 #[derive(Drop)]
 pub struct WordsAllocator {
     alloc: Global,
@@ -153,7 +153,7 @@ fn lengths_that_are_refused(rt: HostRuntime) -> std::result::Result<(), Fail> {
     Ok(())
 }
 
-// A struct of two data words, of which the last is zero, and a text, behind a far pointer.
+// A struct of two data words, of which the last is zero, and a text, after a far pointer.
 const SOURCE: &[&[u8]] = &[
     b"\x02\0\0\0\x01\0\0\0",
     b"\0\0\0\0\x02\0\x01\0\x07\0\0\0\0\0\0\0\0\0\0\0\0\0\0\0\x05\0\0\0\x12\0\0\0\xff\0\0\0\0\0\0\0A\0\0\0\0\0\0\0",
@@ -180,7 +180,7 @@ fn objects_with_pointers(rt: HostRuntime) -> std::result::Result<(), Fail> {
 }
 
 #[test]
-fn objects_behind_a_pad(rt: HostRuntime) -> std::result::Result<(), Fail> {
+fn objects_after_a_landing_pad(rt: HostRuntime) -> std::result::Result<(), Fail> {
     let source = ReaderArena::new(SegmentArray::new(SOURCE), ReaderOptions::new());
     let reader = source.get_root()?;
     let mut small = arena_of(rt.alloc(), 1);

@@ -213,9 +213,9 @@ fn typed(rt: HostRuntime) -> std::result::Result<(), Fail> {
     Ok(())
 }
 
-// What is changed through the message that is lent is the typed one's root.
+// What is changed through the message that is handed out is the typed one's root.
 #[test]
-fn a_lent_message(rt: HostRuntime) -> std::result::Result<(), Fail> {
+fn a_provided_message(rt: HostRuntime) -> std::result::Result<(), Fail> {
     let mut message: TypedBuilder<any_struct::Owned, HeapAllocator> = TypedBuilder::new_default(
         rt.alloc(),
     );

@@ -16,14 +16,14 @@ type Form = std::result::Result<&'static [u8], u8>;
 // Segments, a traversal limit, whether they are canonical, and their canonical words; a refusal by its
 // number.
 #[rattlefmt::skip]
-const ANSWERS: [(&[&[u8]], Option<usize>, Is, Form); 22] = [
+const EXPECTED: [(&[&[u8]], Option<usize>, Is, Form); 22] = [
     // "Hello, World!", within two words and not within one
     (&[b"\x01\0\0\0\x72\0\0\0Hello, World!\0\0\0"], DEFAULT,
         Ok(true), Ok(b"\x01\0\0\0\x72\0\0\0Hello, World!\0\0\0")),
     (&[b"\x01\0\0\0\x72\0\0\0Hello, World!\0\0\0"], Some(2),
         Ok(true), Ok(b"\x01\0\0\0\x72\0\0\0Hello, World!\0\0\0")),
     (&[b"\x01\0\0\0\x72\0\0\0Hello, World!\0\0\0"], Some(1), Err(20), Err(20)),
-    // "hello world!" behind a far pointer
+    // "hello world!" after a far pointer
     (&[b"\x02\0\0\0\x01\0\0\0", b"\x01\0\0\0\x6a\0\0\0hello world!\0\0\0\0"], DEFAULT,
         Ok(false), Ok(b"\x01\0\0\0\x6a\0\0\0hello world!\0\0\0\0")),
     // a struct of two words and a null pointer
@@ -42,12 +42,12 @@ const ANSWERS: [(&[&[u8]], Option<usize>, Is, Form); 22] = [
     (&[b"\0\0\0\0\0\0\x01\0\xf9\xff\xff\xff\x0f\0\0\0"], DEFAULT,
         Ok(false), Ok(b"\0\0\0\0\0\0\x01\0\x01\0\0\0\x07\0\0\0\0\0\0\0\0\0\0\0")),
     (&[b"\0\0\0\0\0\0\x01\0\xfc\xff\xff\xff\0\0\x01\0"], DEFAULT, Ok(false), Err(19)),
-    // "A" behind pads of one and of two words
+    // "A" after landing pads of one and of two words
     (&[b"\x0a\0\0\0\0\0\0\0\x01\0\0\0\x12\0\0\0\x41\0\0\0\0\0\0\0"], DEFAULT,
         Ok(false), Ok(b"\x01\0\0\0\x12\0\0\0\x41\0\0\0\0\0\0\0")),
     (&[b"\x06\0\0\0\x01\0\0\0", b"\x02\0\0\0\x02\0\0\0\x01\0\0\0\x12\0\0\0", b"\x41\0\0\0\0\0\0\0"],
         DEFAULT, Ok(false), Ok(b"\x01\0\0\0\x12\0\0\0\x41\0\0\0\0\0\0\0")),
-    // a byte with another behind it, one bit, no elements
+    // a byte with another after it, one bit, no elements
     (&[b"\x01\0\0\0\x0a\0\0\0\x41\0\0\0\0\0\0\x01"], DEFAULT,
         Ok(false), Ok(b"\x01\0\0\0\x0a\0\0\0\x41\0\0\0\0\0\0\0")),
     (&[b"\x01\0\0\0\x09\0\0\0\x01\0\0\0\0\0\0\0"], DEFAULT,
@@ -65,9 +65,9 @@ const ANSWERS: [(&[&[u8]], Option<usize>, Is, Form); 22] = [
     (&[b"\x01\0\0\0\xf8\xff\xff\xff"], None, Ok(true), Ok(b"\x01\0\0\0\xf8\xff\xff\xff")),
 ];
 
-fn number_of<T>(answer: Result<T>) -> std::result::Result<T, u8> {
-    match answer {
-        Ok(answer) => Ok(answer),
+fn number_of<T>(returned: Result<T>) -> std::result::Result<T, u8> {
+    match returned {
+        Ok(returned) => Ok(returned),
         Err(error) => Err(error.kind.number()),
     }
 }
@@ -84,7 +84,7 @@ fn joined(alloc: Global, words: &[Word]) -> std::result::Result<Vec<u8>, Fail> {
 // Each is asked twice: the walks leave what is read of the message as it was.
 #[test]
 fn canonical_words(rt: HostRuntime) -> std::result::Result<(), Fail> {
-    for (segments, limit, is_canonical, form) in ANSWERS {
+    for (segments, limit, is_canonical, form) in EXPECTED {
         let mut options = ReaderOptions::new();
         options.traversal_limit_in_words(limit);
         let reader = Reader::new(SegmentArray::new(segments), options);
@@ -112,20 +112,21 @@ fn canonical_twice(rt: HostRuntime) -> std::result::Result<(), Fail> {
         b"\x02\0\0\0\x01\0\0\0",
         b"\x01\0\0\0\x6a\0\0\0hello world!\0\0\0\0",
     ];
-    let answer = canonicalize_twice(
+    let returned = canonicalize_twice(
         rt.alloc(),
         SegmentArray::new(&segments),
         ReaderOptions::new(),
     )?;
-    assert!(rt; answer.is_canonical);
-    let words = joined(rt.alloc(), &answer.words)?;
+    assert!(rt; returned.is_canonical);
+    let words = joined(rt.alloc(), &returned.words)?;
     assert_eq!(rt; words.as_slice(), segments[1]);
-    let again = joined(rt.alloc(), &answer.again)?;
+    let again = joined(rt.alloc(), &returned.again)?;
     assert_eq!(rt; again.as_slice(), segments[1]);
     Ok(())
 }
 
-// The root's text is behind pads of one and of two words; another may be read once within its limit.
+// The root's text is after landing pads of one and of two words; another may be read once within its
+// limit.
 #[test]
 fn roots(rt: HostRuntime) -> std::result::Result<(), Fail> {
     let far: [&[u8]; 1] = [b"\x0a\0\0\0\0\0\0\0\x01\0\0\0\x12\0\0\0\x41\0\0\0\0\0\0\0"];

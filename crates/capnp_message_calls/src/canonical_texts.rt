@@ -5,14 +5,14 @@ use capnp::{Result, serialize_packed, text};
 use capnp_calls::refusals::refusal;
 use std::test::Fail;
 
-type Answer = std::result::Result<&'static [u8], u8>;
+type Expected = std::result::Result<&'static [u8], u8>;
 
 // Segments, and their canonical form, framed; a refusal by its number.
 #[rattlefmt::skip]
-const ANSWERS: [(&[&[u8]], Answer); 8] = [
+const EXPECTED: [(&[&[u8]], Expected); 8] = [
     (&[b"\x01\0\0\0\x72\0\0\0Hello, World!\0\0\0"],
         Ok(b"\0\0\0\0\x03\0\0\0\x01\0\0\0\x72\0\0\0Hello, World!\0\0\0")),
-    // "hello world!" behind a far pointer
+    // "hello world!" after a far pointer
     (&[b"\x02\0\0\0\x01\0\0\0", b"\x01\0\0\0\x6a\0\0\0hello world!\0\0\0\0"],
         Ok(b"\0\0\0\0\x03\0\0\0\x01\0\0\0\x6a\0\0\0hello world!\0\0\0\0")),
     // a struct of two words and a null pointer
@@ -29,18 +29,18 @@ const ANSWERS: [(&[&[u8]], Answer); 8] = [
 // A sink that has something keeps it, and a refusal adds nothing.
 #[test]
 fn forms_are_written(rt: HostRuntime) -> std::result::Result<(), Fail> {
-    for (segments, wanted) in ANSWERS {
+    for (segments, wanted) in EXPECTED {
         let reader = Reader::new(SegmentArray::new(segments), DEFAULT_READER_OPTIONS);
         let mut sink = Vec::new(rt.alloc());
         sink.extend_from_slice(b"before")?;
-        let answer = write_canonical_message(rt.alloc(), &mut sink, &reader);
+        let returned = write_canonical_message(rt.alloc(), &mut sink, &reader);
         match wanted {
             Ok(form) => {
-                assert_eq!(rt; refusal(answer), 0, "at {segments:?}");
+                assert_eq!(rt; refusal(returned), 0, "at {segments:?}");
                 assert_eq!(rt; &sink[6..], form, "at {segments:?}");
             }
             Err(number) => {
-                assert_eq!(rt; refusal(answer), number, "at {segments:?}");
+                assert_eq!(rt; refusal(returned), number, "at {segments:?}");
                 assert_eq!(rt; sink.as_slice(), b"before".as_slice(), "at {segments:?}");
             }
         }
@@ -48,7 +48,7 @@ fn forms_are_written(rt: HostRuntime) -> std::result::Result<(), Fail> {
     Ok(())
 }
 
-// What a reader of packed messages answers has a form, too; a sink that is too short refuses it.
+// What a reader of packed messages returns has a form, too; a sink that is too short refuses it.
 #[test]
 fn a_form_of_a_packed_message(rt: HostRuntime) -> std::result::Result<(), Fail> {
     let mut source: &[u8] = b"\x10\x03\x11\x01\x72\xffHello, W\0\x1forld!";

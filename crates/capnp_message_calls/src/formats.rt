@@ -38,17 +38,17 @@ fn a_message_and_then_the_end(rt: HostRuntime) {
 }
 
 #[test]
-fn a_message_and_then_the_end_lent(rt: HostRuntime) {
+fn a_message_and_then_the_end_provided(rt: HostRuntime) {
     let mut room = [0; 24];
     let mut source = FRAMED.as_slice();
-    assert_eq!(rt; readers::framed_lent(&mut source, &mut room), BOTH);
-    assert_eq!(rt; readers::framed_lent(&mut source, &mut room), 9);
+    assert_eq!(rt; readers::framed_provided(&mut source, &mut room), BOTH);
+    assert_eq!(rt; readers::framed_provided(&mut source, &mut room), 9);
     let mut source = PACKED.as_slice();
-    assert_eq!(rt; readers::packed_lent(&mut source, &mut room), BOTH);
-    assert_eq!(rt; readers::packed_lent(&mut source, &mut room), 9);
+    assert_eq!(rt; readers::packed_provided(&mut source, &mut room), BOTH);
+    assert_eq!(rt; readers::packed_provided(&mut source, &mut room), 9);
     let mut little = [0; 23];
     let mut source = PACKED.as_slice();
-    assert_eq!(rt; readers::packed_lent(&mut source, &mut little), 2);
+    assert_eq!(rt; readers::packed_provided(&mut source, &mut little), 2);
 }
 
 #[test]
@@ -71,22 +71,28 @@ fn a_message_of_any_padding(rt: HostRuntime) {
 fn a_message_of_any_padding_in_place(rt: HostRuntime) {
     let mut room = [0; 24];
     let mut source = PADDED.as_slice();
-    assert_eq!(rt; readers::framed_lent_lenient(&mut source, &mut room), BOTH);
     assert_eq!(rt;
-        readers::try_framed_lent_lenient(&mut source, &mut room),
+        readers::framed_provided_lenient(&mut source, &mut room),
+        BOTH
+    );
+    assert_eq!(rt;
+        readers::try_framed_provided_lenient(&mut source, &mut room),
         END
     );
     let mut source = PACKED_PADDED.as_slice();
-    assert_eq!(rt; readers::packed_lent_lenient(&mut source, &mut room), BOTH);
     assert_eq!(rt;
-        readers::try_packed_lent_lenient(&mut source, &mut room),
+        readers::packed_provided_lenient(&mut source, &mut room),
+        BOTH
+    );
+    assert_eq!(rt;
+        readers::try_packed_provided_lenient(&mut source, &mut room),
         END
     );
     let mut slice = PADDED.as_slice();
     assert_eq!(rt; readers::slice_lenient(rt.alloc(), &mut slice), BOTH);
     assert!(rt; slice.is_empty());
     let mut slice = PADDED.as_slice();
-    assert_eq!(rt; readers::slice_lent_lenient(&mut slice), BOTH);
+    assert_eq!(rt; readers::slice_provided_lenient(&mut slice), BOTH);
     assert!(rt; slice.is_empty());
 }
 
@@ -137,7 +143,7 @@ fn transcoded_up_to_a_refusal(rt: HostRuntime) -> std::result::Result<(), Fail> 
     Ok(())
 }
 
-// A padding that isn't zero is refused by both ways, and nothing is written. Their lenient forms write
+// Both ways refuse a padding that isn't zero, and nothing is written. Their lenient forms write
 // the text of zero padding.
 #[test]
 fn padding_is_transcoded_leniently(rt: HostRuntime) -> std::result::Result<(), Fail> {

@@ -60,9 +60,9 @@ fn noting_heap(alloc: Global) -> Noting {
     }
 }
 
-// Five roots, one after the other: of the first segment the root's word and texts of two words and of one
-// are used; then, behind its pad each, a list of five words in another segment, and one of nine in a third;
-// at last another word in the first.
+// Five roots, one after the other: of the first segment the root's word and texts of two words and
+// of one are used; then, after its landing pad each, a list of five words in another segment, and
+// one of nine in a third; at last another word in the first.
 fn build<A: Allocator>(message: &mut Builder<A>) -> Result<()> {
     message.set_root::<text::Owned, &str>("Hello, World!")?;
     message.set_root::<text::Owned, &str>("hello")?;

@@ -21,8 +21,8 @@ fn as_text(reader: &Reader<SegmentArray<'_>>) -> u8 {
     refusal(view)
 }
 
-// 65,536 elements of no size are charged one word each: a view of the wrong kind counts them, and then
-// there are none left.
+// 65,536 elements of no size are counted against the traversal limit one word each: a view of the
+// wrong kind counts them, and then there are none left.
 #[test]
 fn as_many_elements_as_the_limit(rt: HostRuntime) {
     let segments: [&[u8]; 1] = [b"\x01\0\0\0\0\0\x08\0"];
@@ -39,8 +39,8 @@ fn as_many_elements_as_the_limit(rt: HostRuntime) {
     }
 }
 
-// A struct of three pointers: to 536,870,911 elements of no size, to 6 and to 5. Within 2^32 words are the
-// struct's three, eight times the first list, and once the last.
+// A struct of three pointers: to 536,870,911 elements of no size, to 6 and to 5. Within 2^32 words
+// are the struct's three, eight times the first list, and once the last.
 #[test]
 fn a_limit_past_four_bytes(rt: HostRuntime) -> std::result::Result<(), Fail> {
     let segments: [&[u8]; 1] = [
@@ -69,8 +69,8 @@ fn a_limit_past_four_bytes(rt: HostRuntime) -> std::result::Result<(), Fail> {
     Ok(())
 }
 
-// Segments, a limit, and the words of the canonical form or the refusal's number. A pad is charged, and
-// all words of a list of structs.
+// Segments, a limit, and the words of the canonical form or the refusal's number. A landing pad is
+// counted against the traversal limit, and all words of a list of structs.
 #[rattlefmt::skip]
 const SIZES: [(&[&[u8]], Option<usize>, std::result::Result<u32, u8>); 12] = [
     (&[b"\x01\0\0\0\x72\0\0\0Hello, World!\0\0\0"], Some(2), Ok(3)),
@@ -87,7 +87,7 @@ const SIZES: [(&[&[u8]], Option<usize>, std::result::Result<u32, u8>); 12] = [
     (&[b"\0\0\0\0\0\0\x02\0\x04\0\0\0\x01\0\0\0\0\0\0\0\x01\0\0\0\x09\0\0\0\0\0\0\0"], Some(3), Err(20)),
 ];
 
-// Each is asked thrice: a size counts from none, and charges nothing.
+// Each is asked thrice: a size counts from none, and counts nothing against the traversal limit.
 #[test]
 fn sizes_of_canonical_forms(rt: HostRuntime) -> std::result::Result<(), Fail> {
     for (segments, limit, wanted) in SIZES {
@@ -131,9 +131,10 @@ fn data_that_ends_in_no_zero(rt: HostRuntime) -> std::result::Result<(), Fail> {
     Ok(())
 }
 
-// 40 structs of two pointers, both of which lead to the next struct: a tree of 2^40 - 1 structs, which a
-// walk enters 4,194,304 times before the default limit of 8,388,608 words is met. In a build with checks
-// (`rt try`) that takes longer than the minute of a test, in one that is proved (`rt test`) a moment.
+// 40 structs of two pointers, both of which lead to the next struct: a tree of 2^40 - 1 structs,
+// which a walk enters 4,194,304 times before the default limit of 8,388,608 words is met. In a build
+// with checks (`rt try`) that takes longer than the minute of a test, in one that is proved (`rt
+// test`) a moment.
 fn doublings() -> [u8; 648] {
     let mut bytes = [0; 648];
     bytes[6] = 2;

@@ -13,7 +13,7 @@ const SIZES: [u32; 3] = [513, 1025, 4097];
 
 type Source<'a> = any_pointer::Reader<'a, SegmentArray<'a>>;
 
-// The segment of so many words whose root is data of sevens.
+// The segment of a given number of words whose root is data of sevens.
 fn segment_of(rt: &(impl Abort + AllocGlobal), words: u32) -> Result<Vec<u8>, Fail> {
     assert!(rt; 0 < words && words <= 1 << 20);
     let count = 8 * (words - 1);
@@ -203,7 +203,7 @@ fn unpack(rt: &(impl Abort + AllocGlobal), packed: &[u8], framed: &[u8]) -> Resu
     Ok(())
 }
 
-// Behind a far pointer the segment's root has the segment as its canonical form, by each call.
+// After a far pointer the segment's root has the segment as its canonical form, by each call.
 fn canonicalize(rt: &(impl Abort + AllocGlobal), segment: &[u8]) -> Result<(), Fail> {
     let alloc = rt.alloc();
     let words = segment.len() / 8;

@@ -4,7 +4,7 @@ use capnp::message::{DEFAULT_READER_OPTIONS, Reader, ReaderSegments};
 use capnp::{Result, serialize, serialize_packed};
 use std::alloc::Global;
 
-/// What a reader answers: segments [] and [1, 2, 3, 4, 5, 6, 7, 8].
+/// What a reader returns: segments [] and [1, 2, 3, 4, 5, 6, 7, 8].
 pub const BOTH: u8 = 0;
 
 /// That there is no message, in place of a refusal's number.
@@ -24,15 +24,15 @@ fn holds_both<S: ReaderSegments>(reader: &Reader<S>) -> bool {
         && segments.get_segment(2).is_none()
 }
 
-fn found<S: ReaderSegments + Drop>(answer: Result<Reader<S>>) -> u8 {
-    match answer {
+fn found<S: ReaderSegments + Drop>(returned: Result<Reader<S>>) -> u8 {
+    match returned {
         Ok(reader) => if holds_both(&reader) { BOTH } else { OTHER },
         Err(error) => error.kind.number(),
     }
 }
 
-fn found_or_end<S: ReaderSegments + Drop>(answer: Result<Option<Reader<S>>>) -> u8 {
-    match answer {
+fn found_or_end<S: ReaderSegments + Drop>(returned: Result<Option<Reader<S>>>) -> u8 {
+    match returned {
         Ok(Some(reader)) => if holds_both(&reader) { BOTH } else { OTHER },
         Ok(None) => END,
         Err(error) => error.kind.number(),
@@ -71,28 +71,28 @@ pub fn try_packed_lenient(alloc: Global, source: &mut &[u8]) -> u8 {
     found_or_end(serialize_packed::try_read_message_lenient(alloc, source, DEFAULT_READER_OPTIONS))
 }
 
-pub fn framed_lent(source: &mut &[u8], room: &mut [u8]) -> u8 {
+pub fn framed_provided(source: &mut &[u8], room: &mut [u8]) -> u8 {
     found(serialize::read_message_no_alloc(source, room, DEFAULT_READER_OPTIONS))
 }
 
-pub fn packed_lent(source: &mut &[u8], room: &mut [u8]) -> u8 {
+pub fn packed_provided(source: &mut &[u8], room: &mut [u8]) -> u8 {
     found(serialize_packed::read_message_no_alloc(source, room, DEFAULT_READER_OPTIONS))
 }
 
-pub fn framed_lent_lenient(source: &mut &[u8], room: &mut [u8]) -> u8 {
+pub fn framed_provided_lenient(source: &mut &[u8], room: &mut [u8]) -> u8 {
     found(serialize::read_message_no_alloc_lenient(source, room, DEFAULT_READER_OPTIONS))
 }
 
-pub fn try_framed_lent_lenient(source: &mut &[u8], room: &mut [u8]) -> u8 {
+pub fn try_framed_provided_lenient(source: &mut &[u8], room: &mut [u8]) -> u8 {
     let options = DEFAULT_READER_OPTIONS;
     found_or_end(serialize::try_read_message_no_alloc_lenient(source, room, options))
 }
 
-pub fn packed_lent_lenient(source: &mut &[u8], room: &mut [u8]) -> u8 {
+pub fn packed_provided_lenient(source: &mut &[u8], room: &mut [u8]) -> u8 {
     found(serialize_packed::read_message_no_alloc_lenient(source, room, DEFAULT_READER_OPTIONS))
 }
 
-pub fn try_packed_lent_lenient(source: &mut &[u8], room: &mut [u8]) -> u8 {
+pub fn try_packed_provided_lenient(source: &mut &[u8], room: &mut [u8]) -> u8 {
     let options = DEFAULT_READER_OPTIONS;
     found_or_end(serialize_packed::try_read_message_no_alloc_lenient(source, room, options))
 }
@@ -101,6 +101,6 @@ pub fn slice_lenient(alloc: Global, slice: &mut &[u8]) -> u8 {
     found(serialize::read_message_from_flat_slice_lenient(alloc, slice, DEFAULT_READER_OPTIONS))
 }
 
-pub fn slice_lent_lenient(slice: &mut &[u8]) -> u8 {
+pub fn slice_provided_lenient(slice: &mut &[u8]) -> u8 {
     found(serialize::read_message_from_flat_slice_no_alloc_lenient(slice, DEFAULT_READER_OPTIONS))
 }

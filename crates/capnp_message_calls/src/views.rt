@@ -99,7 +99,8 @@ fn root_as_any_pointer(rt: HostRuntime) -> std::result::Result<(), Fail> {
     Ok(())
 }
 
-// A new list of three words at the root, which is then seen as one. Where it is refused, the root is null.
+// A new list of three words at the root, which is then seen as one. Where it is refused, the root is
+// null.
 #[test]
 fn a_new_object_seen_as_what_it_is(rt: HostRuntime) -> std::result::Result<(), Fail> {
     let mut arena = arena_of(rt.alloc(), 1024);

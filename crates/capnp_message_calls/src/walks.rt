@@ -29,7 +29,7 @@ const WALKS: [Walk; 7] = [
 
 type Source<'a> = any_pointer::Reader<'a, SegmentArray<'a>>;
 
-// Walks over the words of the root's tree, and answers how many.
+// Walks over the words of the root's tree, and returns how many.
 fn walk_over(alloc: Global, reader: &Reader<SegmentArray<'_>>, kind: Walk) -> Result<usize> {
     match kind {
         Walk::Canonicalize => Ok(reader.canonicalize(alloc)?.len()),
@@ -58,7 +58,7 @@ fn walk_over(alloc: Global, reader: &Reader<SegmentArray<'_>>, kind: Walk) -> Re
 }
 
 // A text of two words, which may be viewed twice within four. A walk counts its own two from none: it
-// charges nothing, gives nothing back, and goes on where all are used.
+// counts nothing against the traversal limit, gives nothing back, and goes on where all are used.
 #[test]
 fn walks_between_views(rt: HostRuntime) -> std::result::Result<(), Fail> {
     let segments: [&[u8]; 1] = [b"\x01\0\0\0\x72\0\0\0Hello, World!\0\0\0"];

@@ -17,7 +17,7 @@ const HELLO_PACKED: [u8; 21] = [
     0x72, 0x6c, 0x64, 0x21,
 ];
 
-// The root text "hello world!", behind a pad in a second segment.
+// The root text "hello world!", after a landing pad in a second segment.
 const HELLO_FAR: [u8; 48] = [
     1, 0, 0, 0, 1, 0, 0, 0, 3, 0, 0, 0, 0, 0, 0, 0, 2, 0, 0, 0, 1, 0, 0, 0, 1, 0, 0, 0, 0x6a, 0, 0,
     0, 0x68, 0x65, 0x6c, 0x6c, 0x6f, 0x20, 0x77, 0x6f, 0x72, 0x6c, 0x64, 0x21, 0, 0, 0, 0,
@@ -54,7 +54,7 @@ fn a_text(rt: HostRuntime) -> std::result::Result<(), Fail> {
 }
 
 #[test]
-fn a_text_behind_a_pad(rt: HostRuntime) -> std::result::Result<(), Fail> {
+fn a_text_after_a_landing_pad(rt: HostRuntime) -> std::result::Result<(), Fail> {
     let allocator = HeapAllocator::new(rt.alloc()).first_segment_words(1);
     let mut message = Builder::new(rt.alloc(), allocator);
     message.set_root::<text::Owned, &str>("hello world!")?;
@@ -102,7 +102,8 @@ fn a_struct_through_typed_wrappers(rt: HostRuntime) -> std::result::Result<(), F
     Ok(())
 }
 
-// The room of a lent slice, and what is left of it: a piece that does not fit is not written.
+// The room of a caller-provided slice, and what is left of it: a chunk that does not fit is not
+// written.
 const ROOMS: [(usize, usize); 5] = [(0, 0), (7, 7), (8, 0), (31, 23), (32, 0)];
 
 #[test]
@@ -113,9 +114,9 @@ fn a_sink_without_room(rt: HostRuntime) -> std::result::Result<(), Fail> {
     for (length, left) in ROOMS {
         let mut room = [0xff; 32];
         let mut sink = &mut room[..length];
-        let answer = serialize::write_message(rt.alloc(), &mut sink, &message);
-        assert_eq!(rt; answer.is_ok(), length == 32, "{length}");
-        if let Err(error) = answer {
+        let returned = serialize::write_message(rt.alloc(), &mut sink, &message);
+        assert_eq!(rt; returned.is_ok(), length == 32, "{length}");
+        if let Err(error) = returned {
             assert_eq!(rt; error.kind, ErrorKind::BufferNotLargeEnough, "{length}");
         }
         assert_eq!(rt; sink.len(), left, "{length}");
@@ -124,7 +125,7 @@ fn a_sink_without_room(rt: HostRuntime) -> std::result::Result<(), Fail> {
 }
 
 // A segment of one word for the root, and one more for each text that is set: 511 are written and read
-// back, 512 are refused by their number.
+// back, 512 fail for their number.
 #[test]
 fn more_segments_than_a_reader_accepts(rt: HostRuntime) -> std::result::Result<(), Fail> {
     let allocator = HeapAllocator::new(rt.alloc())
@@ -145,14 +146,14 @@ fn more_segments_than_a_reader_accepts(rt: HostRuntime) -> std::result::Result<(
     assert_eq!(rt; size, 257 + 1 + 511 * 3);
     sink.truncate(1);
     let back = write_and_read_back(rt.alloc(), Format::Framed, &message, DEFAULT_READER_OPTIONS);
-    let answers = [
+    let returns = [
         serialize::write_message(rt.alloc(), &mut sink, &message),
         serialize_packed::write_message(rt.alloc(), &mut sink, &message),
         serialize::write_message_to_words(rt.alloc(), &message).map(|_| ()),
         back.map(|_| ()),
     ];
-    for answer in answers {
-        let kind = answer.map_err(|error| error.kind);
+    for returned in returns {
+        let kind = returned.map_err(|error| error.kind);
         assert_eq!(rt; kind, Err(ErrorKind::InvalidNumberOfSegments(512)));
     }
     assert_eq!(rt; sink.len(), 1);

@@ -1,8 +1,9 @@
 //! Growths that are refused to a builder.
 //!
-//! A builder over a heap takes memory for each of its segments, and from the second on for the list of
-//! them. `rt try --test --fail-alloc N` refuses the Nth growth: then the call answers `OutOfMemory`, the
-//! root is null with no word taken but its own, and the same call succeeds when it is made again.
+//! A builder over a heap takes memory for each of its segments, and from the second on for the list
+//! of them. `rt try --test --fail-alloc N` refuses the Nth growth: then the call returns
+//! `OutOfMemory`, the root is null with no word taken but its own, and the same call succeeds when
+//! it is made again.
 use capnp_build::allocator::Allocator;
 use capnp_build::{any_pointer, primitive_list, text};
 use capnp_frame::Result;
@@ -33,16 +34,16 @@ fn is_as_before<A: Allocator>(message: &Builder<A>, words: usize) -> bool {
 
 fn set_text<A: Allocator>(rt: &impl Abort, message: &mut Builder<A>, text: &str) -> Result<()> {
     let words = message.size_in_words();
-    let answer = message.set_root::<text::Owned, &str>(text);
-    if answer.is_ok() {
-        return answer;
+    let returned = message.set_root::<text::Owned, &str>(text);
+    if returned.is_ok() {
+        return returned;
     }
-    assert!(rt; lacks_memory(&answer));
+    assert!(rt; lacks_memory(&returned));
     assert!(rt; is_as_before(message, words));
     message.set_root::<text::Owned, &str>(text)
 }
 
-// Makes a list of so many words the root, and lets its builder go.
+// Makes a list of a given number of words the root, and lets its builder go.
 fn make_words<A: Allocator>(message: &mut Builder<A>, count: u32) -> Result<()> {
     message.initn_root::<primitive_list::Owned<u64>>(count)?;
     Ok(())
@@ -50,11 +51,11 @@ fn make_words<A: Allocator>(message: &mut Builder<A>, count: u32) -> Result<()> 
 
 fn init_words<A: Allocator>(rt: &impl Abort, message: &mut Builder<A>, count: u32) -> Result<()> {
     let words = message.size_in_words();
-    let answer = make_words(message, count);
-    if answer.is_ok() {
-        return answer;
+    let returned = make_words(message, count);
+    if returned.is_ok() {
+        return returned;
     }
-    assert!(rt; lacks_memory(&answer));
+    assert!(rt; lacks_memory(&returned));
     assert!(rt; is_as_before(message, words));
     make_words(message, count)
 }
@@ -76,7 +77,7 @@ fn a_refused_root_is_set_later(rt: HostRuntime) -> Result<()> {
     Ok(())
 }
 
-// The text has a segment of its own, and so has each list behind it.
+// The text has a segment of its own, and so has each list after it.
 #[test]
 fn refused_segments_are_taken_later(rt: HostRuntime) -> Result<()> {
     let mut message = far_message(&rt);
@@ -113,9 +114,9 @@ fn a_refused_look_is_made_later(rt: HostRuntime) -> Result<()> {
 #[test]
 fn a_refused_canonical_root_is_set_later(rt: HostRuntime) -> Result<()> {
     let mut message = Builder::new_default(rt.alloc());
-    let answer = message.set_root_canonical::<text::Owned, &str>("hello");
-    if answer.is_err() {
-        assert!(rt; lacks_memory(&answer));
+    let returned = message.set_root_canonical::<text::Owned, &str>("hello");
+    if returned.is_err() {
+        assert!(rt; lacks_memory(&returned));
         assert_eq!(rt; message.size_in_words(), 0);
         message.set_root_canonical::<text::Owned, &str>("hello")?;
     }
@@ -131,9 +132,9 @@ fn a_refused_root_builder_sets_later(rt: HostRuntime) -> Result<()> {
     let mut root: any_pointer::Builder<'_, Builder<HeapAllocator>> = message.get_root::<
         any_pointer::Owned,
     >()?;
-    let answer = root.set_as::<text::Owned, &str>("hello world!");
-    if answer.is_err() {
-        assert!(rt; lacks_memory(&answer));
+    let returned = root.set_as::<text::Owned, &str>("hello world!");
+    if returned.is_err() {
+        assert!(rt; lacks_memory(&returned));
         assert!(rt; root.is_null());
         root.set_as::<text::Owned, &str>("hello world!")?;
     }

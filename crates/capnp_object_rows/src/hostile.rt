@@ -42,8 +42,8 @@ fn as_any<S: ReaderSegments>(arena: &ReaderArena<S>) -> Result<any_pointer::Read
     arena.get_root()?.get_as()
 }
 
-fn refusal<T: Drop>(answer: Result<T>) -> Option<ErrorKind> {
-    answer.err().map(|error| error.kind)
+fn refusal<T: Drop>(returned: Result<T>) -> Option<ErrorKind> {
+    returned.err().map(|error| error.kind)
 }
 
 fn size_of<S: ReaderSegments>(arena: &ReaderArena<S>) -> Walked<u64> {
@@ -99,10 +99,11 @@ fn refused_roots(rt: HostRuntime) {
     }
 }
 
-// Row read-limit: each read is charged, and a refused one counts nothing; a pointer that is only
-// looked at, and a walk, are not charged.
+// Row read-limit: each read is counted against the traversal limit, and a refused one counts
+// nothing; a pointer that is only looked at, and a walk, are not counted against the traversal
+// limit.
 #[test]
-fn what_is_read_is_charged(rt: HostRuntime) -> Result<()> {
+fn what_is_read_is_counted(rt: HostRuntime) -> Result<()> {
     let segments: [&[u8]; 1] = [b"\x01\0\0\0\x72\0\0\0Hello, World!\0\0\0"];
     let arena = arena_of(&segments, Some(3), 64);
     for _ in 0..3 {
@@ -133,7 +134,7 @@ fn append(bytes: &mut Vec<u8>, word: u64) -> Result<()> {
     Ok(())
 }
 
-/// So many structs, each behind its one pointer.
+/// A given number of structs, each after its one pointer.
 pub fn chain(alloc: Global, length: usize) -> Result<Vec<u8>> {
     let mut bytes: Vec<u8> = Vec::new(alloc);
     for _ in 0..length {
@@ -143,8 +144,8 @@ pub fn chain(alloc: Global, length: usize) -> Result<Vec<u8>> {
     Ok(bytes)
 }
 
-/// Structs of so many data words and two pointers, each of which leads to the next struct: a tree of
-/// 2^40 - 1 structs.
+/// Structs of a given number of data words and two pointers, each of which leads to the next struct:
+/// a tree of 2^40 - 1 structs.
 pub fn doublings(alloc: Global, data_words: u16) -> Result<Vec<u8>> {
     let next = TWO + ((data_words as u64) << 32);
     let mut bytes: Vec<u8> = Vec::new(alloc);

@@ -19,8 +19,8 @@ fn reader_of<'a>(segments: &'a [&'a [u8]], limit: Option<usize>) -> Source<'a> {
 }
 
 // The kind of a refusal. One for want of memory is handed back.
-fn refusal<T: Drop>(answer: Result<T>) -> Result<Option<ErrorKind>> {
-    match answer {
+fn refusal<T: Drop>(returned: Result<T>) -> Result<Option<ErrorKind>> {
+    match returned {
         Ok(_) => Ok(None),
         Err(error) if error.kind == ErrorKind::OutOfMemory => Err(error),
         Err(error) => Ok(Some(error.kind)),
@@ -84,7 +84,7 @@ const ROOTS: [(&[&[u8]], ErrorKind); 10] = [
     (&[b"\x04\0\0\0\0\0\0\0"], ErrorKind::PointerOutOfBounds),
     (&[b"\x03\0\0\0\0\0\0\0"], ErrorKind::CapabilityRefused),
     (&[b"\x02\0\0\0\x07\0\0\0"], ErrorKind::InvalidSegmentId(7)),
-    // Pads that lead to pads.
+    // Landing pads that lead to landing pads.
     (&[b"\x02\0\0\0\x01\0\0\0", b"\x02\0\0\0\0\0\0\0"], ErrorKind::PointerOutOfBounds),
     (&[b"\x06\0\0\0\x01\0\0\0", b"\x06\0\0\0\0\0\0\0\x01\0\0\0\0\0\0\0"], ErrorKind::PointerOutOfBounds),
     // Row misplaced: a struct that holds itself.
@@ -133,8 +133,8 @@ fn make_lists(rt: &(impl Abort + AllocGlobal)) -> Result<()> {
     Ok(())
 }
 
-// 64 structs behind one another are as deep as the levels: the last of them, which is empty when it is
-// trimmed, needs none for its null pointer. One more is too deep.
+// 64 structs, each in the one before, are as deep as the nesting limit: the last of them, which is
+// empty when it is trimmed, needs none for its null pointer. One more is too deep.
 #[test]
 fn chains_of_structs(rt: HostRuntime) -> Result<()> {
     retried!(follow_chains(&rt))
@@ -175,7 +175,8 @@ fn refuse_doublings(rt: &(impl Abort + AllocGlobal)) -> Result<()> {
     refuse(rt, &[bytes.as_slice()], DEFAULT_LIMIT, [LIMITED; 3])
 }
 
-// 65,536 pointers to one list: 536,936,448 words as a tree, more than a builder or a canonical form has.
+// 65,536 pointers to one list: 536,936,448 words as a tree, more than a builder or a canonical form
+// has.
 #[test]
 fn shared_lists_are_too_large(rt: HostRuntime) -> Result<()> {
     retried!(refuse_shared_lists(&rt))

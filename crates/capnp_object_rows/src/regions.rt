@@ -15,8 +15,8 @@ use capnp_rows::retried;
 use capnp_wire::{any_pointer, text};
 use std::process::Abort;
 
-fn refusal<T: Drop>(answer: Result<T>) -> Option<ErrorKind> {
-    answer.err().map(|error| error.kind)
+fn refusal<T: Drop>(returned: Result<T>) -> Option<ErrorKind> {
+    returned.err().map(|error| error.kind)
 }
 
 // Why a root is not set to a text; once more where the list of segments could not grow.
@@ -27,7 +27,7 @@ fn refusal_of_root<A: Allocator>(message: &mut Builder<A>, text: &str) -> Option
     }
 }
 
-// "hello" stands in two words behind its root; "Hello, World!" does not fit behind it.
+// "hello" stands in two words after its root; "Hello, World!" does not fit after it.
 #[test]
 fn a_single_region_comes_home(rt: HostRuntime) {
     let mut region = [7; 24];
@@ -52,7 +52,7 @@ fn a_single_region_comes_home(rt: HostRuntime) {
     assert_eq!(rt; region, [0; 24]);
 }
 
-// A scratch region that is too small for the text is lent for the root alone.
+// A scratch region that is too small for the text serves for the root alone.
 #[test]
 fn a_scratch_region_comes_home(rt: HostRuntime) -> Result<()> {
     retried!(set_past_a_region(&rt))
@@ -78,7 +78,7 @@ fn set_past_a_region(rt: &(impl Abort + AllocGlobal)) -> Result<()> {
     Ok(())
 }
 
-// What is refused by 15 or by 24 leaves a region zero, too.
+// What fails with 15 or with 24 leaves a region zero, too.
 #[test]
 fn a_region_after_a_message_that_is_too_large(rt: HostRuntime) -> Result<()> {
     retried!(set_what_is_too_large(&rt))
@@ -115,7 +115,7 @@ fn set_what_is_too_large(rt: &(impl Abort + AllocGlobal)) -> Result<()> {
     Ok(())
 }
 
-// A growth that is refused changes nothing: the next request has the same size, and the one behind it
+// A growth that is refused changes nothing: the next request has the same size, and the one after it
 // twice that.
 #[test]
 fn a_heap_that_is_refused(rt: HostRuntime) -> Result<()> {

@@ -1,9 +1,9 @@
-//! Roots of messages, whole and hostile, as segments and answers.
+//! Roots of messages, whole and hostile, as segments and results.
 use capnp_frame::ErrorKind;
 use capnp_rows::limits::{DEFAULT_LIMIT, NO_LIMIT};
 use std::result;
 
-/// What a walk over all that the root leads to answers.
+/// What a walk over all that the root leads to returns.
 pub type Walked<T> = result::Result<T, ErrorKind>;
 
 /// Segments and a traversal limit; and of an arena of which nothing has been read the refusals as
@@ -51,21 +51,22 @@ const FIVE_NOTHINGS: &[&[u8]] = &[b"\x01\0\0\0\x28\0\0\0"];
 
 const THREE_STRUCTS: &[&[u8]] = &[b"\x01\0\0\0\x07\0\0\0\x0c\0\0\0\0\0\0\0"];
 
-// An element of one word, and a word left over behind it.
+// An element of one word, and a word left over after it.
 const LEFT_OVER: &[&[u8]] = &[
     b"\x01\0\0\0\x17\0\0\0\x04\0\0\0\x01\0\0\0\0\0\0\0\0\0\0\0\0\0\0\0\0\0\0\0",
 ];
 
 #[rattlefmt::skip]
 pub const ROOTS: [Root; 36] = [
-    // Row hello, and what the two words of its list are charged.
+    // Row hello, and what the two words of its list count against the traversal limit.
     (HELLO, DEFAULT_LIMIT, IS_TEXT, b"Hello, World!", b"Hello, World!\0", Ok(2), Ok(true)),
     (HELLO, Some(2), IS_TEXT, b"Hello, World!", b"Hello, World!\0", Ok(2), Ok(true)),
     (HELLO, Some(1), [Some(LIMITED); 4], b"", b"", Err(LIMITED), Err(LIMITED)),
     // Row hello-far.
     (&[b"\x02\0\0\0\x01\0\0\0", b"\x01\0\0\0\x6a\0\0\0hello world!\0\0\0\0"], DEFAULT_LIMIT,
      IS_TEXT, b"hello world!", b"hello world!\0", Ok(2), Ok(false)),
-    // Row far-roots: the pads of one and of two words are charged too.
+    // Row far-roots: the landing pads of one and of two words are counted against the traversal
+    // limit too.
     (A_FAR, DEFAULT_LIMIT, IS_TEXT, b"A", b"A\0", Ok(1), Ok(false)),
     (A_FAR, Some(2), IS_TEXT, b"A", b"A\0", Ok(1), Ok(false)),
     (A_FAR, Some(1), [Some(LIMITED); 4], b"", b"", Err(LIMITED), Ok(false)),
@@ -92,7 +93,7 @@ pub const ROOTS: [Root; 36] = [
     (&[b"\0\0\0\0\x02\0\x01\0\x05\0\0\0\0\0\0\0\0\0\0\0\0\0\0\0\0\0\0\0\0\0\0\0"],
      DEFAULT_LIMIT, IS_STRUCT, b"", b"", Ok(3), Ok(false)),
     (&[b"\0\0\0\0\x01\0\0\0\x05\0\0\0\0\0\0\0"], DEFAULT_LIMIT, IS_STRUCT, b"", b"", Ok(1), Ok(true)),
-    // Row small-roots: null, and an empty struct; neither is charged.
+    // Row small-roots: null, and an empty struct; neither is counted against the traversal limit.
     (&[b"\0\0\0\0\0\0\0\0"], Some(0), [None; 4], b"", b"", Ok(0), Ok(true)),
     (&[b"\xfc\xff\xff\xff\0\0\0\0"], Some(0), IS_STRUCT, b"", b"", Ok(0), Ok(true)),
     // Row misplaced: a list that begins at the root pointer, and a struct that is its own target.
@@ -102,7 +103,8 @@ pub const ROOTS: [Root; 36] = [
     // Two pointers to one word.
     (&[b"\0\0\0\0\0\0\x02\0\x04\0\0\0\x01\0\0\0\0\0\0\0\x01\0\0\0\x09\0\0\0\0\0\0\0"], DEFAULT_LIMIT,
      IS_STRUCT, b"", b"", Ok(4), Ok(false)),
-    // Elements of no words are charged one by one: 536,870,911 nothings and 16,777,216 empty structs.
+    // Elements of no words are counted against the traversal limit one by one: 536,870,911 nothings
+    // and 16,777,216 empty structs.
     (NOTHINGS, DEFAULT_LIMIT, [Some(LIMITED); 4], b"", b"", Err(LIMITED), Err(LIMITED)),
     (NOTHINGS, NO_LIMIT, [KIND; 4], b"", b"", Ok(0), Ok(true)),
     (EMPTY_STRUCTS, DEFAULT_LIMIT, [Some(LIMITED); 4], b"", b"", Err(LIMITED), Err(LIMITED)),
@@ -111,10 +113,11 @@ pub const ROOTS: [Root; 36] = [
     (FIVE_NOTHINGS, Some(4), [Some(LIMITED); 4], b"", b"", Err(LIMITED), Err(LIMITED)),
     (THREE_STRUCTS, Some(4), [KIND; 4], b"", b"", Ok(1), Ok(true)),
     (THREE_STRUCTS, Some(3), [Some(LIMITED); 4], b"", b"", Err(LIMITED), Err(LIMITED)),
-    // All words of a list of structs are charged, those behind its elements too.
+    // All words of a list of structs are counted against the traversal limit, those after its
+    // elements too.
     (LEFT_OVER, Some(3), [KIND; 4], b"", b"", Ok(2), Ok(false)),
     (LEFT_OVER, Some(2), [Some(LIMITED); 4], b"", b"", Err(LIMITED), Err(LIMITED)),
-    // A list of no bytes, behind a pad of two words, at the end of a segment of no words.
+    // A list of no bytes, after a landing pad of two words, at the end of a segment of no words.
     (&[b"\x06\0\0\0\x01\0\0\0", b"\x02\0\0\0\x02\0\0\0\x01\0\0\0\x02\0\0\0", b""], DEFAULT_LIMIT,
      [NO_TEXT, None, KIND, KIND], b"", b"", Ok(0), Ok(false)),
 ];
@@ -139,7 +142,7 @@ pub const REFUSED: [Refused; 30] = [
     (&[], 64, NO_SEGMENT, Err(NO_SEGMENT)),
     (&[b""], 64, OUT, Err(OUT)),
     (&[b"\0\0\0\0\0\0\0"], 64, OUT, Err(OUT)),
-    // A capability, and a pad that is one.
+    // A capability, and a landing pad that is one.
     (&[b"\x03\0\0\0\0\0\0\0"], 64, NO_CAPABILITY, Err(NO_CAPABILITY)),
     (&[b"\x0a\0\0\0\0\0\0\0\x03\0\0\0\0\0\0\0"], 64, NO_CAPABILITY, Ok(false)),
     // A struct of no words past the end, one before the start, a list that is cut.
@@ -153,19 +156,22 @@ pub const REFUSED: [Refused; 30] = [
     (&[b"\x01\0\0\0\x07\0\0\0\x04\0\0\0\x01\0\0\0"], 64, OUT, Err(OUT)),
     // A tag of 2^29 + 1 elements: the number has 30 bits.
     (&[b"\x01\0\0\0\x17\0\0\0\x04\0\0\x80\x01\0\x01\0\0\0\0\0\0\0\0\0\0\0\0\0\0\0\0\0"], 64, OUT, Err(OUT)),
-    // Pads: in no segment, past the end, half past the end, and those that lead to pads.
+    // Landing pads: in no segment, past the end, half past the end, and those that lead to landing
+    // pads.
     (&[b"\x02\0\0\0\x07\0\0\0"], 64, NO_SEVENTH, Ok(false)),
     (&[b"\x0a\0\0\0\0\0\0\0"], 64, OUT, Ok(false)),
     (&[b"\x06\0\0\0\x01\0\0\0", b"\x02\0\0\0\x09\0\0\0"], 64, OUT, Ok(false)),
     (&[b"\x02\0\0\0\x01\0\0\0", b"\x02\0\0\0\0\0\0\0"], 64, OUT, Ok(false)),
     (&[b"\x06\0\0\0\x01\0\0\0", b"\x06\0\0\0\0\0\0\0\x01\0\0\0\0\0\0\0"], 64, OUT, Ok(false)),
-    // Pads of two words: the first word's kind, then the content's segment, then the tag's kind.
+    // Landing pads of two words: the first word's kind, then the content's segment, then the tag's
+    // kind.
     (&[b"\x06\0\0\0\x01\0\0\0", b"\0\0\0\0\x09\0\0\0\x03\0\0\0\0\0\0\0"], 64, OUT, Ok(false)),
     (&[b"\x06\0\0\0\x01\0\0\0", b"\x02\0\0\0\x09\0\0\0\x03\0\0\0\0\0\0\0"], 64, NO_NINTH, Ok(false)),
     (&[b"\x06\0\0\0\x01\0\0\0", b"\x02\0\0\0\x09\0\0\0\x02\0\0\0\0\0\0\0"], 64, NO_NINTH, Ok(false)),
     (&[b"\x06\0\0\0\x01\0\0\0", b"\x02\0\0\0\0\0\0\0\x02\0\0\0\0\0\0\0"], 64, OUT, Ok(false)),
     (&[b"\x06\0\0\0\x01\0\0\0", b"\x02\0\0\0\0\0\0\0\x03\0\0\0\0\0\0\0"], 64, NO_CAPABILITY, Ok(false)),
-    // Where no level is left, pads and capabilities come first, and bounds and tags behind.
+    // Where no nesting depth is left, landing pads and capabilities come first, and bounds and tags
+    // after.
     (&[b"\x04\0\0\0\0\0\0\0"], 0, DEEP, Err(DEEP)),
     (&[b"\x01\0\0\0\x07\0\0\0\x01\0\0\0\0\0\0\0"], 0, DEEP, Err(DEEP)),
     (&[b"\xfc\xff\xff\xff\0\0\0\0"], 0, DEEP, Err(DEEP)),

@@ -31,8 +31,8 @@ const LOOSE: &[u8] = b"\0\0\0\0\x02\0\x03\0\x07\0\0\0\0\0\0\0\0\0\0\0\0\0\0\0\
 const TIGHT: &[u8] = b"\0\0\0\0\x01\0\x02\0\x07\0\0\0\0\0\0\0\
     \xfc\xff\xff\xff\0\0\0\0\x01\0\0\0\x22\0\0\0Ann\0\0\0\0\0";
 
-// A list of three pointers, each over those after it and the texts before its own: of four bytes, of the
-// zero byte alone, and of three.
+// A list of three pointers, each over those after it and the texts before its own: of four bytes, of
+// the zero byte alone, and of three.
 #[rattlefmt::skip]
 const NAMES: &[u8] = b"\x01\0\0\0\x1e\0\0\0\
     \x09\0\0\0\x22\0\0\0\x09\0\0\0\x0a\0\0\0\x09\0\0\0\x1a\0\0\0\
@@ -101,7 +101,7 @@ fn compare<T, V: SetterInput<T>, A: Allocator>(
 }
 
 // The same by each allocator. A heap whose first segment has the root alone has the value in the next
-// one, behind a landing pad that is as the root's pointer would be.
+// one, after a landing pad that is as the root's pointer would be.
 fn compare_by_each<T, V: SetterInput<T>>(
     rt: &(impl Abort + AllocGlobal),
     value: &V,

@@ -13,25 +13,25 @@ use Rattle.capnp_frame.specs.Source.{IsPreorder, IfKnown, Advances, Fails}
 use Rattle.capnp_frame.specs.Writers.{WritesTo}
 use Rattle.capnp_frame.proofs.AskLemmas.{Asked-ok, Asked-err}
 use Rattle.capnp_frame.proofs.SourceLemmas.{Grows-join, Fails-join}
-use Rattle.capnp_pack.specs.Calls.{LeavesOf, HandsOn, Takes, TakesNext}
+use Rattle.capnp_pack.specs.Calls.{LeavesOf, HandsOn, TakesFrom, TakesNext}
 use Rattle.capnp_pack.specs.Steps.{Hands}
 use Rattle.capnp_pack.proofs.HandingLemmas.{IfKnown-flush, declines_any}
-use Rattle.capnp_pack.proofs.LeavingLemmas.{left_piece}
+use Rattle.capnp_pack.proofs.LeavingLemmas.{left_chunk}
 
 -- Handing on
 
--- one piece, which is all that is kept
-pub hands_piece : {S X : Type 0} (sink : Sink S) (old new : S) (kept piece : List ℕ) (r : Result X Error) → kept ≡ piece
-    → OnOk r (IfKnown (sink.written old) (sink.written new) (Adds (sink.appends piece)))
-    → OnErr r (IfKnown (sink.written old) (sink.written new) (Adds (sink.leaves piece))) → FailsOr r (sink.refuses piece)
+-- one chunk, which is all that is kept
+pub hands_chunk : {S X : Type 0} (sink : Sink S) (old new : S) (kept chunk : List ℕ) (r : Result X Error) → kept ≡ chunk
+    → OnOk r (IfKnown (sink.written old) (sink.written new) (Adds (sink.appends chunk)))
+    → OnErr r (IfKnown (sink.written old) (sink.written new) (Adds (sink.leaves chunk))) → FailsOr r (sink.refuses chunk)
     → IfErr r (λ e. e.kind ≡ DeviceFailed → Fails (sink.failures old) (sink.failures new)) → Grows sink.written sink.failures sink.same old new
     → HandsOn sink old new (λ text. text ≡ kept) (λ _. IfKnown (sink.written old) (sink.written new) (Hands sink.appends kept [] [])) r
-hands_piece sink old new kept piece (Ok x) is added left refused failed grows =
-    record { handed = IfKnown-flush sink.appends kept piece _ _ is added; left = tt; refused = tt; failed = tt; grows = grows }
-hands_piece sink old new kept piece (Err e) is added left refused failed grows = record {
+hands_chunk sink old new kept chunk (Ok x) is added left refused failed grows =
+    record { handed = IfKnown-flush sink.appends kept chunk _ _ is added; left = tt; refused = tt; failed = tt; grows = grows }
+hands_chunk sink old new kept chunk (Err e) is added left refused failed grows = record {
   handed = tt;
-  left = (kept, refl, left_piece sink.appends sink.leaves kept piece (sink.written old) (sink.written new) is left);
-  refused = declines_any (e.kind ≡ DeviceFailed) sink.refuses piece e.kind refused;
+  left = (kept, refl, left_chunk sink.appends sink.leaves kept chunk (sink.written old) (sink.written new) is left);
+  refused = declines_any (e.kind ≡ DeviceFailed) sink.refuses chunk e.kind refused;
   failed = failed;
   grows = grows;
 }
@@ -59,17 +59,17 @@ hands_passed sink old new stops more first hands e (Err own) is turn told =
     subst (λ y. HandsOn sink old new more hands (Err y)) (sym is)
     (record { handed = tt; left = turn told.left; refused = told.refused; failed = told.failed; grows = told.grows })
 
--- a piece that the sink refuses, after a call that returned
-pub hands_err : {S X : Type 0} (sink : Sink S) (keeps : IsPreorder sink.same) (a b c : S) (stops : List ℕ → Type 0) (hands : X → Type 0) (piece : List ℕ)
-    (e : Error) (r : Result X Error) → IsErrAnd r (λ y. y ≡ e) → LeavesOf sink a c stops → (e.kind ≡ DeviceFailed) ⊎ sink.refuses piece e.kind
+-- a chunk that the sink refuses, after a call that returned
+pub hands_err : {S X : Type 0} (sink : Sink S) (keeps : IsPreorder sink.same) (a b c : S) (stops : List ℕ → Type 0) (hands : X → Type 0) (chunk : List ℕ)
+    (e : Error) (r : Result X Error) → IsErrAnd r (λ y. y ≡ e) → LeavesOf sink a c stops → (e.kind ≡ DeviceFailed) ⊎ sink.refuses chunk e.kind
     → (e.kind ≡ DeviceFailed → Fails (sink.failures b) (sink.failures c)) → Grows sink.written sink.failures sink.same a b
     → Grows sink.written sink.failures sink.same b c → HandsOn sink a c stops hands r
-hands_err sink keeps a b c stops hands piece e (Ok x) is left refused failed before grows = absurd is
-hands_err sink keeps a b c stops hands piece e (Err own) is left refused failed before grows =
+hands_err sink keeps a b c stops hands chunk e (Ok x) is left refused failed before grows = absurd is
+hands_err sink keeps a b c stops hands chunk e (Err own) is left refused failed before grows =
     subst (λ y. HandsOn sink a c stops hands (Err y)) (sym is) (record {
       handed = tt;
       left = left;
-      refused = declines_any (e.kind ≡ DeviceFailed) sink.refuses piece e.kind refused;
+      refused = declines_any (e.kind ≡ DeviceFailed) sink.refuses chunk e.kind refused;
       failed = λ device. Fails-join (sink.failures a) (sink.failures b) (sink.failures c) before.counted (failed device);
       grows = Grows-join a b c (keeps.transitive a b c) before grows;
     })
@@ -102,7 +102,7 @@ hands_last sink keeps a b c P stops adds leaves (Err e) all turn before told = h
 -- a failure that is passed on
 pub takes_passed : {S X Y : Type 0} (source : Source S) (old new : S) (finds : Y → Type 0) (refuses : ErrorKind → Type 0) (e : Error) (r : Result Y Error)
     → IsErrAnd r (λ y. y ≡ e) → (e.kind ≡ DeviceFailed) ⊎ refuses e.kind → Asked {X = X} source.unread source.failures source.same old new (Err e)
-    → Takes source old new finds refuses r
+    → TakesFrom source old new finds refuses r
 takes_passed source old new finds refuses e (Ok y) is refused told = absurd is
 takes_passed source old new finds refuses e (Err y) is refused told = record {
   found = tt;
@@ -117,7 +117,7 @@ takes_passed source old new finds refuses e (Err y) is refused told = record {
 pub takes_err : {S X Y : Type 0} (source : Source S) (keeps : IsPreorder source.same) (a b c : S) (finds : Y → Type 0) (refuses : ErrorKind → Type 0)
     (e : Error) (r : Result Y Error) → IsErrAnd r (λ y. y ≡ e) → (e.kind ≡ DeviceFailed) ⊎ refuses e.kind
     → Advances source.unread source.failures source.same a b → Asked {X = X} source.unread source.failures source.same b c (Err e)
-    → Takes source a c finds refuses r
+    → TakesFrom source a c finds refuses r
 takes_err source keeps a b c finds refuses e (Ok y) is refused first second = absurd is
 takes_err source keeps a b c finds refuses e (Err y) is refused first second = record {
   found = tt;
@@ -128,7 +128,7 @@ takes_err source keeps a b c finds refuses e (Err y) is refused first second = r
 -- a failure of the call's own
 pub takes_own : {S X : Type 0} (source : Source S) (old new : S) (finds : X → Type 0) (refuses : ErrorKind → Type 0) (e : Error) (kind : ErrorKind)
     → e.kind ≡ kind → (kind ≡ DeviceFailed → ⊥) → refuses kind → Advances source.unread source.failures source.same old new
-    → Takes source old new finds refuses (Err e)
+    → TakesFrom source old new finds refuses (Err e)
 takes_own source old new finds refuses e kind is other refused advances = record {
   found = tt;
   refused = inr (subst refuses (sym is) refused);
@@ -138,7 +138,7 @@ takes_own source old new finds refuses e kind is other refused advances = record
 -- two calls that returned
 pub takes_ok : {S X : Type 0} (source : Source S) (keeps : IsPreorder source.same) (a b c : S) (finds : X → Type 0) (refuses : ErrorKind → Type 0) (x : X)
     → finds x → Advances source.unread source.failures source.same a b → Advances source.unread source.failures source.same b c
-    → Takes source a c finds refuses (Ok x)
+    → TakesFrom source a c finds refuses (Ok x)
 takes_ok source keeps a b c finds refuses x found first second =
     record { found = found; refused = tt; asked = Asked-ok (keeps.transitive a b c) first second }
 

@@ -12,11 +12,11 @@ chunks_whole (suc k) bytes long =
     let more = chunks_whole k (drop 8 bytes) (omega (arith, length-drop 8 bytes)) in
     (ap (λ l. take 8 bytes ++ l) more.0 ∙ take-append-drop 8 bytes, (length-take-le 8 bytes (omega arith), more.1))
 
--- a piece of whole words, and its words
-pub whole_words : (piece : List ℕ) (words : List (List ℕ)) → IsWholeWords piece → words ≡ first_chunks 8 (length piece / 8) piece
-    → (concat words ≡ piece) × AllByRecursion IsWord words
-whole_words piece words whole are =
-    let cut = chunks_whole (length piece / 8) piece (omega arith) in
+-- a chunk of whole words, and its words
+pub whole_words : (chunk : List ℕ) (words : List (List ℕ)) → IsWholeWords chunk → words ≡ first_chunks 8 (length chunk / 8) chunk
+    → (concat words ≡ chunk) × AllByRecursion IsWord words
+whole_words chunk words whole are =
+    let cut = chunks_whole (length chunk / 8) chunk (omega arith) in
     (ap concat are ∙ cut.0, subst (AllByRecursion IsWord) (sym are) cut.1)
 
 pub chunks_len : (k : ℕ) (bytes : List ℕ) → length (first_chunks 8 k bytes) ≡ k

@@ -62,7 +62,7 @@ pub all_full : (words : List (List ℕ)) → zero_bytes (concat words) ≡ 0 →
 all_full [] e = tt
 all_full (w ∷ words) e = let p = zero_parts w (concat words) e in (omega (arith, p.0), all_full words p.1)
 
--- so many more of those after the first
+-- a given number more of those after the first
 pub all_more : {X : Type 0} (P : X → Type 0) (n m k : ℕ) (xs : List X) → m ≤ k → AllByRecursion P (take n xs) → AllByRecursion P (take m (take k (drop n xs))) → AllByRecursion P (take (n + m) xs)
 all_more P n m k xs le front more =
     subst (AllByRecursion P) (sym (take-add n m xs)) (AllByRecursion-append P (take n xs) (take m (drop n xs)) front (subst (AllByRecursion P) (take-take m k (drop n xs) le) more))
@@ -73,7 +73,7 @@ all_one P xs n within front here =
     let next : take 1 (drop n xs) ≡ get_or xs n [] ∷ [] = ap (take 1) (drop-cons xs n [] within) in
     subst (AllByRecursion P) (sym (take-add n 1 xs)) (AllByRecursion-append P (take n xs) (take 1 (drop n xs)) front (subst (AllByRecursion P) (sym next) (here, tt)))
 
--- so many words at the front are zero, and the next one isn't
+-- a given number of words at the front are zero, and the next one isn't
 abbrev pub StandInFront : List (List ℕ) → ℕ → Type 0
 StandInFront words k = (k ≤ length words) × AllByRecursion IsZero (take k words) × IfFirst (drop k words) (λ word. IsZero word → ⊥)
 

@@ -4,18 +4,18 @@ use Rattle.std.proofs.Common.{take, replicate, refl, sym, ap, ◌∙◌, subst, 
 use Rattle.std.proofs.lemmas.List.{length-take-le, replicate-append-replicate}
 use Rattle.std.proofs.lemmas.List.Folds.{concat-append}
 use Rattle.std.specs.List.{concat, AllByRecursion}
-use Rattle.capnp_frame.specs.Source.{IfKnown, AnswersPart}
+use Rattle.capnp_frame.specs.Source.{IfKnown, ReturnsPart}
 use Rattle.capnp_frame.proofs.SourceLemmas.{IfKnown-join, IfKnown-weaker}
 use Rattle.capnp_pack.specs.Group.{Group, zeros, IsGroup, zero_word, group_text, group_words}
-use Rattle.capnp_pack.specs.Piece.{text_of, words_of_groups}
+use Rattle.capnp_pack.specs.Chunk.{text_of, words_of_groups}
 use Rattle.capnp_pack.specs.PackedSource.{Unpacks, MeetsFault}
 use Rattle.capnp_pack.specs.Steps.{GroupAt, TakesGroups}
 use Rattle.capnp_pack.proofs.TakenLemmas.{group_taken}
 use Rattle.capnp_pack.specs.UnpackingLaws.{group_len, same_group}
-use Rattle.capnp_pack.specs.RefusingLaws.{fault_later, fault_behind}
+use Rattle.capnp_pack.specs.RefusingLaws.{fault_later, fault_after}
 
--- a group at the front answers a part of each request that it fits into
-pub group_takes : (n tag : ℕ) (bytes raw left : List ℕ) → GroupAt tag bytes raw left → length bytes ≤ n → AnswersPart Unpacks MeetsFault n bytes (tag ∷ raw) left
+-- a group at the front returns a part of each request that it fits into
+pub group_takes : (n tag : ℕ) (bytes raw left : List ℕ) → GroupAt tag bytes raw left → length bytes ≤ n → ReturnsPart Unpacks MeetsFault n bytes (tag ∷ raw) left
 group_takes n tag bytes raw left at fits =
     let g = at.0 in
     record {
@@ -32,7 +32,7 @@ group_takes n tag bytes raw left at fits =
       );
       refusals = λ kind. (
         λ h. subst (λ l. MeetsFault l n kind) (sym at.3) (fault_later g left n kind at.1 (subst (λ k. MeetsFault left (n - k) kind) (ap length at.2) h)),
-        λ h. subst (λ k. MeetsFault left (n - k) kind) (sym (ap length at.2)) (fault_behind g left n kind at.1 (subst (λ k. k ≤ n) (ap length at.2) fits) (subst (λ l. MeetsFault l n kind) at.3 h)),
+        λ h. subst (λ k. MeetsFault left (n - k) kind) (sym (ap length at.2)) (fault_after g left n kind at.1 (subst (λ k. k ≤ n) (ap length at.2) fits) (subst (λ l. MeetsFault l n kind) at.3 h)),
       );
       splits = λ all rest h. split h.1.groups all rest h.1.each (sym at.3 ∙ h.2 ∙ ap (λ l. l ++ rest) h.1.spelled) h.1.unpacked h.3;
     }
@@ -61,11 +61,11 @@ zeros_at more count raw left bytes fits long filled at =
     let words : count ≡ 8 * suc more = omega arith in
     (zeros more, fits, filled ∙ ap (λ k. replicate k 0) words ∙ sym (concat-zeros (suc more)), ap (λ l. 0 ∷ l) at)
 
--- the group after a tag, as an answer
-pub AnswersPart-group : (n tag : ℕ) (bytes : List ℕ) (old mid new : Option (List ℕ)) → length bytes ≤ n →
-    IfKnown old mid (λ raw left. raw ≡ tag ∷ left) → IfKnown mid new (GroupAt tag bytes) → IfKnown old new (AnswersPart Unpacks MeetsFault n bytes)
-AnswersPart-group n tag bytes old mid new fits tagged_by at =
-    IfKnown-join old mid new (λ x y z e g. subst (λ l. AnswersPart Unpacks MeetsFault n bytes l z) (sym e) (group_takes n tag bytes y z g fits)) tagged_by at
+-- the group after a tag, as a result
+pub ReturnsPart-group : (n tag : ℕ) (bytes : List ℕ) (old mid new : Option (List ℕ)) → length bytes ≤ n →
+    IfKnown old mid (λ raw left. raw ≡ tag ∷ left) → IfKnown mid new (GroupAt tag bytes) → IfKnown old new (ReturnsPart Unpacks MeetsFault n bytes)
+ReturnsPart-group n tag bytes old mid new fits tagged_by at =
+    IfKnown-join old mid new (λ x y z e g. subst (λ l. ReturnsPart Unpacks MeetsFault n bytes l z) (sym e) (group_takes n tag bytes y z g fits)) tagged_by at
 
 pub zeros_found : (more count : ℕ) (bytes : List ℕ) (old mid : Option (List ℕ)) → more < 256 → count ≡ 8 * (more + 1) → bytes ≡ replicate count 0 →
     IfKnown old mid (λ raw left. raw ≡ more ∷ left) → IfKnown old mid (GroupAt 0 bytes)
@@ -87,6 +87,6 @@ group_found tag at count buffer old mid new same within tagged_by group =
       within.2,
       some_unread tag old mid tagged_by,
       group_taken tag count buffer old mid new within.1 tagged_by (subst (λ t. IfKnown mid new (GroupAt t (take count buffer))) (sym same) group),
-      AnswersPart-group (length buffer) tag (take count buffer) old mid new (subst (λ k. k ≤ length buffer) (sym part) within.1) tagged_by
+      ReturnsPart-group (length buffer) tag (take count buffer) old mid new (subst (λ k. k ≤ length buffer) (sym part) within.1) tagged_by
           (subst (λ t. IfKnown mid new (GroupAt t (take count buffer))) (sym same) group),
     )

@@ -28,18 +28,18 @@ Hands-join appends old s mid t new x y z p q = record {
 pub Hands-none : (appends : Appending) (old text new x : List ℕ) → new ≡ old ++ text → Hands appends old text new x x
 Hands-none appends old text new x e = record { parts = []; handed = []; told = refl; added = sym (append-nil x); kept = sym e }
 
--- a piece after an empty buffer, or the buffer itself
-pub Hands-one : (appends : Appending) (old text piece x y : List ℕ) → old ++ text ≡ piece → Adds (appends piece) x y → Hands appends old text [] x y
-Hands-one appends old text piece x y e added = record {
-  parts = piece ∷ [];
+-- a chunk after an empty buffer, or the buffer itself
+pub Hands-one : (appends : Appending) (old text chunk x y : List ℕ) → old ++ text ≡ chunk → Adds (appends chunk) x y → Hands appends old text [] x y
+Hands-one appends old text chunk x y e added = record {
+  parts = chunk ∷ [];
   handed = added.0;
   told = (added.0, [], added.1, refl, sym (append-nil added.0));
   added = added.2;
-  kept = e ∙ sym (append-nil piece) ∙ sym (append-nil (piece ++ []));
+  kept = e ∙ sym (append-nil chunk) ∙ sym (append-nil (chunk ++ []));
 }
 
-pub IfKnown-flush : (appends : Appending) (old piece : List ℕ) (a b : Option (List ℕ)) → old ≡ piece → IfKnown a b (Adds (appends piece)) → IfKnown a b (Hands appends old [] [])
-IfKnown-flush appends old piece a b e added = IfKnown-weaker a b (λ x y p. Hands-one appends old [] piece x y (append-nil old ∙ e) p) added
+pub IfKnown-flush : (appends : Appending) (old chunk : List ℕ) (a b : Option (List ℕ)) → old ≡ chunk → IfKnown a b (Adds (appends chunk)) → IfKnown a b (Hands appends old [] [])
+IfKnown-flush appends old chunk a b e added = IfKnown-weaker a b (λ x y p. Hands-one appends old [] chunk x y (append-nil old ∙ e) p) added
 
 pub IfKnown-literal : (appends : Appending) (count : ℕ) (old pushed left flat : List ℕ) (words : List (List ℕ)) (a b c : Option (List ℕ)) →
     pushed ≡ old ++ count ∷ [] → left ≡ [] → flat ≡ flat_map (λ x. x) words → IfKnown a b (Hands appends pushed [] left) →
@@ -47,20 +47,20 @@ pub IfKnown-literal : (appends : Appending) (count : ℕ) (old pushed left flat 
 IfKnown-literal appends count old pushed left flat words a b c push none all flushed added =
     IfKnown-join a b c (λ x y z p q.
     let first = Hands-join appends old (count ∷ []) pushed [] left x x y (Hands-none appends old (count ∷ []) pushed x push) p in
-    let piece : Hands appends left (concat words) [] y z = Hands-one appends left (concat words) flat y z (ap (λ l. l ++ concat words) none ∙ concat_is words ∙ sym all) q in
-    subst (λ l. Hands appends old (count ∷ concat words) l x z) (sym none) (Hands-join appends old (count ∷ []) left (concat words) [] x y z first piece)) flushed added
+    let chunk : Hands appends left (concat words) [] y z = Hands-one appends left (concat words) flat y z (ap (λ l. l ++ concat words) none ∙ concat_is words ∙ sym all) q in
+    subst (λ l. Hands appends old (count ∷ concat words) l x z) (sym none) (Hands-join appends old (count ∷ []) left (concat words) [] x y z first chunk)) flushed added
 
 -- what a sink refuses
 pub declines_any : (F : Type 0) (refuses : Declining) (part : List ℕ) (kind : ErrorKind) → F ⊎ refuses part kind → F ⊎ DeclinesAny refuses kind
 declines_any F refuses part kind (inl failed) = inl failed
 declines_any F refuses part kind (inr refused) = inr (part, refused)
 
--- of a piece of whole words
-declines : (F : Type 0) (refuses : Declining) (piece : List ℕ) (kind : ErrorKind) → IsWholeWords piece → F ⊎ DeclinesAny refuses kind → F ⊎ DeclinesPacked refuses piece kind
-declines F refuses piece kind whole (inl failed) = inl failed
-declines F refuses piece kind whole (inr refused) = inr (inr (λ part. part whole, refused))
+-- of a chunk of whole words
+declines : (F : Type 0) (refuses : Declining) (chunk : List ℕ) (kind : ErrorKind) → IsWholeWords chunk → F ⊎ DeclinesAny refuses kind → F ⊎ DeclinesPacked refuses chunk kind
+declines F refuses chunk kind whole (inl failed) = inl failed
+declines F refuses chunk kind whole (inr refused) = inr (inr (λ part. part whole, refused))
 
-pub declines_whole : {X : Type 0} (F : ErrorKind → Type 0) (refuses : Declining) (piece : List ℕ) (r : Result X Error) → IsWholeWords piece →
-    IfErr r (λ e. F e.kind ⊎ DeclinesAny refuses e.kind) → IfErr r (λ e. F e.kind ⊎ DeclinesPacked refuses piece e.kind)
-declines_whole F refuses piece (Ok x) whole refused = tt
-declines_whole F refuses piece (Err e) whole refused = declines (F e.kind) refuses piece e.kind whole refused
+pub declines_whole : {X : Type 0} (F : ErrorKind → Type 0) (refuses : Declining) (chunk : List ℕ) (r : Result X Error) → IsWholeWords chunk →
+    IfErr r (λ e. F e.kind ⊎ DeclinesAny refuses e.kind) → IfErr r (λ e. F e.kind ⊎ DeclinesPacked refuses chunk e.kind)
+declines_whole F refuses chunk (Ok x) whole refused = tt
+declines_whole F refuses chunk (Err e) whole refused = declines (F e.kind) refuses chunk e.kind whole refused

@@ -30,9 +30,9 @@ left_longer appends leaves text more whole a b is = IfKnown-weaker a b (λ x y p
     (p.0, subst (λ l. LeavesParts appends leaves l p.0) (sym is) (parts_longer appends leaves text more p.0 p.1), p.2))
 
 -- one part
-pub left_piece : (appends : Appending) (leaves : Leaving) (text piece : List ℕ) (a b : Option (List ℕ)) → text ≡ piece
-    → IfKnown a b (Adds (leaves piece)) → IfKnown a b (Adds (LeavesParts appends leaves text))
-left_piece appends leaves text piece a b is = IfKnown-weaker a b (λ x y p. (p.0, (piece ∷ [], append-nil piece ∙ sym is, inr (inl p.1)), p.2))
+pub left_chunk : (appends : Appending) (leaves : Leaving) (text chunk : List ℕ) (a b : Option (List ℕ)) → text ≡ chunk
+    → IfKnown a b (Adds (leaves chunk)) → IfKnown a b (Adds (LeavesParts appends leaves text))
+left_chunk appends leaves text chunk a b is = IfKnown-weaker a b (λ x y p. (p.0, (chunk ∷ [], append-nil chunk ∙ sym is, inr (inl p.1)), p.2))
 
 -- what is left after parts that are handed on
 parts_after : (appends : Appending) (leaves : Leaving) (old text new more x y z : List ℕ) → Hands appends old text new x y
@@ -76,7 +76,7 @@ left_words appends leaves count old pushed flat others a b c run push all handed
     sym (append_assoc old (count ∷ []) words) ∙ ap (λ l. l ++ words) (sym push ∙ sym (append-nil pushed)) in (
       old ++ count ∷ words,
       (count, run, refl),
-      left_after_handed appends leaves pushed [] [] words (old ++ count ∷ words) a b c whole handed (left_piece appends leaves words flat b c is left),
+      left_after_handed appends leaves pushed [] [] words (old ++ count ∷ words) a b c whole handed (left_chunk appends leaves words flat b c is left),
     )
 
 -- A group
@@ -110,38 +110,38 @@ left_literal appends leaves word os old roomy filled a b c is all full fill room
           (subst (λ l. IfKnown b c (Adds (LeavesParts appends leaves l))) text_is left),
     )
 
--- A piece
+-- A chunk
 
 -- some parts of its text
-packed_left : (appends : Appending) (leaves : Leaving) (piece text : List ℕ) (a b : Option (List ℕ)) → Packs piece text
-    → IfKnown a b (Adds (LeavesParts appends leaves text)) → IfKnown a b (Adds (LeavesPacked appends leaves piece))
-packed_left appends leaves piece text a b packed = IfKnown-weaker a b (λ x y (left, (parts, joined, stopped), added).
-    (left, inr (parts, subst (Packs piece) (sym joined) packed, stopped), added))
+packed_left : (appends : Appending) (leaves : Leaving) (chunk text : List ℕ) (a b : Option (List ℕ)) → Packs chunk text
+    → IfKnown a b (Adds (LeavesParts appends leaves text)) → IfKnown a b (Adds (LeavesPacked appends leaves chunk))
+packed_left appends leaves chunk text a b packed = IfKnown-weaker a b (λ x y (left, (parts, joined, stopped), added).
+    (left, inr (parts, subst (Packs chunk) (sym joined) packed, stopped), added))
 
 -- a group isn't handed on
-pub left_group : (appends : Appending) (leaves : Leaving) (piece : List ℕ) (words : List (List ℕ)) (done : ℕ) (w : List ℕ) (os : List (List ℕ)) (buffer : List ℕ)
-    (a b c : Option (List ℕ)) → concat words ≡ piece → AllByRecursion IsWord words → drop done words ≡ w ∷ os
+pub left_group : (appends : Appending) (leaves : Leaving) (chunk : List ℕ) (words : List (List ℕ)) (done : ℕ) (w : List ℕ) (os : List (List ℕ)) (buffer : List ℕ)
+    (a b c : Option (List ℕ)) → concat words ≡ chunk → AllByRecursion IsWord words → drop done words ≡ w ∷ os
     → ((text : List ℕ) × PacksTo words text (drop done words) × IfKnown a b (Hands appends [] text buffer))
     → (s : List ℕ) × GroupAfter buffer w os s × IfKnown b c (Adds (LeavesParts appends leaves s))
-    → IfKnown a c (Adds (LeavesPacked appends leaves piece))
-left_group appends leaves piece words done w os buffer a b c whole all front (text, to, handed) (s, (count, group, made, spelled), left) =
+    → IfKnown a c (Adds (LeavesPacked appends leaves chunk))
+left_group appends leaves chunk words done w os buffer a b c whole all front (text, to, handed) (s, (count, group, made, spelled), left) =
     let each : AllByRecursion IsWord (w ∷ os) = subst (AllByRecursion IsWord) front (AllByRecursion-drop IsWord done words all) in
     let (more, rest) = PacksWords-some (drop count os) (AllByRecursion-drop IsWord count os each.1) in
-    let behind = group_text group ++ more in
-    let packed : PacksWords words (text ++ behind) = to behind (subst (λ l. PacksWords l behind) (sym front) (PacksWords-more w os count group more made rest)) in
-    let longer : buffer ++ behind ≡ s ++ more = sym (append_assoc buffer (group_text group) more) ∙ ap (λ l. l ++ more) (sym spelled) in
-    packed_left appends leaves piece (text ++ behind) a c (subst (λ l. Packs l (text ++ behind)) whole (Packs-words words (text ++ behind) packed))
-    (left_after_handed appends leaves [] text buffer behind (text ++ behind) a b c refl handed (left_longer appends leaves s more (buffer ++ behind) b c longer left))
+    let following = group_text group ++ more in
+    let packed : PacksWords words (text ++ following) = to following (subst (λ l. PacksWords l following) (sym front) (PacksWords-more w os count group more made rest)) in
+    let longer : buffer ++ following ≡ s ++ more = sym (append_assoc buffer (group_text group) more) ∙ ap (λ l. l ++ more) (sym spelled) in
+    packed_left appends leaves chunk (text ++ following) a c (subst (λ l. Packs l (text ++ following)) whole (Packs-words words (text ++ following) packed))
+    (left_after_handed appends leaves [] text buffer following (text ++ following) a b c refl handed (left_longer appends leaves s more (buffer ++ following) b c longer left))
 
 -- the last bytes aren't
-pub left_last : (appends : Appending) (leaves : Leaving) (piece : List ℕ) (words : List (List ℕ)) (done : ℕ) (buffer : List ℕ) (a b c : Option (List ℕ))
-    → concat words ≡ piece → length words ≤ done
+pub left_last : (appends : Appending) (leaves : Leaving) (chunk : List ℕ) (words : List (List ℕ)) (done : ℕ) (buffer : List ℕ) (a b c : Option (List ℕ))
+    → concat words ≡ chunk → length words ≤ done
     → ((text : List ℕ) × PacksTo words text (drop done words) × IfKnown a b (Hands appends [] text buffer))
     → (s : List ℕ) × (s ≡ buffer) × IfKnown b c (Adds (LeavesParts appends leaves s))
-    → IfKnown a c (Adds (LeavesPacked appends leaves piece))
-left_last appends leaves piece words done buffer a b c whole past (text, to, handed) (s, is, left) =
+    → IfKnown a c (Adds (LeavesPacked appends leaves chunk))
+left_last appends leaves chunk words done buffer a b c whole past (text, to, handed) (s, is, left) =
     let over : drop done words ≡ [] = drop_all done words past in
     let packed : PacksWords words (text ++ []) = to [] (subst (λ l. PacksWords l []) (sym over) PacksWords-none) in
-    packed_left appends leaves piece (text ++ []) a c (subst (λ l. Packs l (text ++ [])) whole (Packs-words words (text ++ []) packed))
+    packed_left appends leaves chunk (text ++ []) a c (subst (λ l. Packs l (text ++ [])) whole (Packs-words words (text ++ []) packed))
     (left_after_handed appends leaves [] text buffer [] (text ++ []) a b c refl handed
     (left_longer appends leaves s [] (buffer ++ []) b c (ap (λ l. l ++ []) (sym is)) left))

@@ -2,7 +2,7 @@
 pub mod AllLemmas
 pub mod GroupLemmas
 pub mod FaultLemmas
-pub mod PieceLemmas
+pub mod ChunkLemmas
 pub mod WordLemmas
 pub mod Chunks
 pub mod WordGroups

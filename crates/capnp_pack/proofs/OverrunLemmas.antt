@@ -8,7 +8,7 @@ use Rattle.capnp_frame.specs.declared.error.ErrorKind.TheVariants.{DeviceFailed,
 use Rattle.capnp_frame.specs.Source.{IfKnown, IsRefused, RunsShort}
 use Rattle.capnp_frame.proofs.SourceLemmas.{IfKnown-join, IfKnown-weaker}
 use Rattle.capnp_pack.specs.Group.{IsGroup, zeros, literal, IsWord, group_text, group_words, marked, zero_word}
-use Rattle.capnp_pack.specs.Piece.{text_of, words_of_groups}
+use Rattle.capnp_pack.specs.Chunk.{text_of, words_of_groups}
 use Rattle.capnp_pack.specs.PackedSource.{LeavesOverrun, head_text}
 use Rattle.capnp_pack.specs.Steps.{HasTaken, HeadOver, CountOver, MarkedAt, Lacks}
 use Rattle.capnp_pack.proofs.AllLemmas.{AllByRecursion-append}

@@ -1,4 +1,4 @@
--- Packed messages, by their pieces and by the requests of a source.
+-- Packed messages, by their chunks and by the requests of a source.
 use Rattle.std.proofs.Common.{◌≡◌, ℕ, ◌+◌, ◌-◌, ◌*◌, ◌%◌, List, [], ◌∷◌, ◌++◌, length, take, drop, replicate, refl, sym, ap, ◌∙◌, subst, arith, ◌↔◌, append_assoc, length-append}
 use Rattle.std.proofs.lemmas.List.{take-append-drop, length-take-le, length-drop, length-replicate}
 use Rattle.std.proofs.lemmas.List.Concat.{flat_map-append}
@@ -13,14 +13,14 @@ use Rattle.capnp_frame.specs.Sink.{AppendsAll}
 use Rattle.capnp_frame.proofs.TableLemmas.{length-fields, zero_table}
 use Rattle.capnp_frame.proofs.FrameLemmas.{zero_padded_is, length-table, length-segments}
 use Rattle.capnp_pack.specs.Group.{IsGroup, group_text, group_words}
-use Rattle.capnp_pack.specs.Piece.{IsPiece, text_of, words_of_groups}
+use Rattle.capnp_pack.specs.Chunk.{IsChunk, text_of, words_of_groups}
 use Rattle.capnp_pack.specs.Packed.{Packs}
 use Rattle.capnp_pack.specs.PackedFrame.{IsPackedFrame, IsPackedText}
 use Rattle.capnp_pack.specs.PackedSource.{Unpacks}
 use Rattle.capnp_pack.proofs.AllLemmas.{AllByRecursion-append}
 use Rattle.capnp_pack.proofs.PackerLemmas.{Packs-some, Packs-whole}
 
--- the three requests of a packed source are the three pieces
+-- the three requests of a packed source are the three chunks
 
 frame_from_requests : {rule : Padding} (raw rest : List ℕ) (segments : List (List ℕ)) → MessageStands rule Unpacks segments raw rest → (text : List ℕ) × IsPackedFrame rule text segments × (raw ≡ text ++ rest)
 frame_from_requests raw rest segments stands =
@@ -75,11 +75,11 @@ packed_requests rule segments raw rest = (
 
 -- what is written is a packed text of the message
 
-packed_piece : (bytes text : List ℕ) → Packs bytes text → IsPiece text bytes
-packed_piece bytes text p = record { groups = p.groups; each = p.each; spelled = p.spelled; unpacked = p.unpacked }
+packed_chunk : (bytes text : List ℕ) → Packs bytes text → IsChunk text bytes
+packed_chunk bytes text p = record { groups = p.groups; each = p.each; spelled = p.spelled; unpacked = p.unpacked }
 
-IsPiece-join : (s t a b : List ℕ) → IsPiece s a → IsPiece t b → IsPiece (s ++ t) (a ++ b)
-IsPiece-join s t a b p q = record {
+IsChunk-join : (s t a b : List ℕ) → IsChunk s a → IsChunk t b → IsChunk (s ++ t) (a ++ b)
+IsChunk-join s t a b p q = record {
   groups = p.groups ++ q.groups;
   each = AllByRecursion-append IsGroup p.groups q.groups p.each q.each;
   spelled = ap (λ l. l ++ t) p.spelled ∙ ap (λ l. text_of p.groups ++ l) q.spelled ∙ sym (flat_map-append group_text p.groups q.groups);
@@ -87,11 +87,11 @@ IsPiece-join s t a b p q = record {
       ∙ sym (concat-append (words_of_groups p.groups) (words_of_groups q.groups)) ∙ ap concat (sym (flat_map-append group_words p.groups q.groups));
 }
 
-pieces_join : (segments : List (List ℕ)) (text : List ℕ) → AppendsAll Packs segments text → IsPiece text (concat segments) × AllByRecursion IsWholeWords segments
-pieces_join [] text all = (record { groups = []; each = tt; spelled = all; unpacked = refl }, tt)
-pieces_join (s ∷ ss) text (first, others, packed, more, e) =
-    let rest = pieces_join ss others more in
-    (subst (λ l. IsPiece l (s ++ concat ss)) (sym e) (IsPiece-join first others s (concat ss) (packed_piece s first packed) rest.0), (Packs-whole s first packed, rest.1))
+chunks_join : (segments : List (List ℕ)) (text : List ℕ) → AppendsAll Packs segments text → IsChunk text (concat segments) × AllByRecursion IsWholeWords segments
+chunks_join [] text all = (record { groups = []; each = tt; spelled = all; unpacked = refl }, tt)
+chunks_join (s ∷ ss) text (first, others, packed, more, e) =
+    let rest = chunks_join ss others more in
+    (subst (λ l. IsChunk l (s ++ concat ss)) (sym e) (IsChunk-join first others s (concat ss) (packed_chunk s first packed) rest.0), (Packs-whole s first packed, rest.1))
 
 pub packed_text_is : (rule : Padding) (text : List ℕ) (segments : List (List ℕ)) → HasTable (lengths segments) → IsPackedText text segments → IsPackedFrame rule text segments
 packed_text_is rule text segments can packed =
@@ -99,7 +99,7 @@ packed_text_is rule text segments can packed =
     let table = zero_padded_is rule (lengths segments) can in
     let long = length-table head (lengths segments) table in
     let whole : take 8 head ++ drop 8 head ≡ head = take-append-drop 8 head in
-    let body = pieces_join segments packed.segments_text packed.each_packed in
+    let body = chunks_join segments packed.segments_text packed.each_packed in
     record {
       first = take 8 head;
       others = drop 8 head;
@@ -109,8 +109,8 @@ packed_text_is rule text segments can packed =
       first_text = packed.first_text;
       others_text = packed.others_text;
       segments_text = packed.segments_text;
-      first_packed = packed_piece (take 8 head) packed.first_text packed.first_packed;
-      others_packed = packed_piece (drop 8 head) packed.others_text packed.others_packed;
+      first_packed = packed_chunk (take 8 head) packed.first_text packed.first_packed;
+      others_packed = packed_chunk (drop 8 head) packed.others_text packed.others_packed;
       segments_packed = body.0;
       spelled = packed.spelled;
     }

@@ -7,25 +7,25 @@ use Rattle.capnp_frame.specs.declared.io.Read.{Ghosts}
 use Rattle.capnp_frame.specs.Message.{size_in_words}
 use Rattle.capnp_frame.specs.SegmentTable.{table_size}
 use Rattle.capnp_frame.specs.Streams.{framed_rules, ReadsStream, ReadsStreamInto}
-use Rattle.capnp_pack.specs.PackedSource.{Unpacks, RefusesPiece}
+use Rattle.capnp_pack.specs.PackedSource.{Unpacks, RefusesChunk}
 use Rattle.capnp_pack.specs.PackedStreams.{packed_rules}
 use Rattle.capnp_pack.proofs.MessageLemmas.{found_packed, accepted_packed}
 
--- what unpacks a source, `behind` it
+-- what unpacks a source, `following` it
 abbrev pub unpacked : {S T : Type 0} → (T → S) → Ghosts S → (T → T → Type 0) → Ghosts T
-unpacked behind source same = record {
-  unread = λ t. source.unread (behind t);
-  failures = λ t. source.failures (behind t);
+unpacked following source same = record {
+  unread = λ t. source.unread (following t);
+  failures = λ t. source.failures (following t);
   gives = Unpacks;
-  refuses = RefusesPiece;
+  refuses = RefusesChunk;
   same = same;
 }
 
-pub packed_reads : {S T : Type 0} (rule : Padding) (behind : T → S) (source : Ghosts S) (same : T → T → Type 0) (old new : T)
-    (limit : Option ℕ) (r : Result (Option (List (List ℕ))) Error) → source.same (behind old) (behind new)
-    → ReadsStream (unpacked behind source same) old new (framed_rules rule Unpacks RefusesPiece) limit r
-    → ReadsStream source (behind old) (behind new) (packed_rules rule) limit r
-packed_reads rule behind source same old new limit r same_source told = record {
+pub packed_reads : {S T : Type 0} (rule : Padding) (following : T → S) (source : Ghosts S) (same : T → T → Type 0) (old new : T)
+    (limit : Option ℕ) (r : Result (Option (List (List ℕ))) Error) → source.same (following old) (following new)
+    → ReadsStream (unpacked following source same) old new (framed_rules rule Unpacks RefusesChunk) limit r
+    → ReadsStream source (following old) (following new) (packed_rules rule) limit r
+packed_reads rule following source same old new limit r same_source told = record {
   found = found_packed rule r _ _ told.found;
   within = told.within;
   whole = told.whole;
@@ -39,11 +39,11 @@ packed_reads rule behind source same old new limit r same_source told = record {
   advances = record { tail = told.advances.tail; counted = told.advances.counted; same_source = same_source };
 }
 
-pub packed_reads_into : {S T : Type 0} (rule : Padding) (behind : T → S) (source : Ghosts S) (same : T → T → Type 0) (old new : T)
-    (limit : Option ℕ) (room : ℕ) (r : Result (Option (List (List ℕ))) Error) → source.same (behind old) (behind new)
-    → ReadsStreamInto (unpacked behind source same) old new (framed_rules rule Unpacks RefusesPiece) limit room r
-    → ReadsStreamInto source (behind old) (behind new) (packed_rules rule) limit room r
-packed_reads_into rule behind source same old new limit room r same_source told = record {
+pub packed_reads_into : {S T : Type 0} (rule : Padding) (following : T → S) (source : Ghosts S) (same : T → T → Type 0) (old new : T)
+    (limit : Option ℕ) (room : ℕ) (r : Result (Option (List (List ℕ))) Error) → source.same (following old) (following new)
+    → ReadsStreamInto (unpacked following source same) old new (framed_rules rule Unpacks RefusesChunk) limit room r
+    → ReadsStreamInto source (following old) (following new) (packed_rules rule) limit room r
+packed_reads_into rule following source same old new limit room r same_source told = record {
   found = found_packed rule r _ _ told.found;
   within = told.within;
   whole = told.whole;
@@ -51,7 +51,7 @@ packed_reads_into rule behind source same old new limit room r same_source told 
   accepted = accepted_packed rule limit (λ m. table_size (length m) + 8 * size_in_words m ≤ room
       → IfErr r (λ error. error.kind ≡ DeviceFailed)) _ told.accepted;
   end = told.end;
-  short = λ few. (ap behind (told.short few).0, (told.short few).1);
+  short = λ few. (ap following (told.short few).0, (told.short few).1);
   refused = told.refused;
   exact = told.exact;
   kinds = told.kinds;

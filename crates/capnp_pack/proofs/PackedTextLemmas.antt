@@ -5,29 +5,29 @@ use Rattle.std.proofs.lemmas.List.{append-nil, nil_from_length}
 use Rattle.capnp_frame.specs.Message.{lengths}
 use Rattle.capnp_frame.specs.SegmentTable.{zero_padded_table}
 use Rattle.capnp_frame.specs.Sink.{AppendsAll, AppendsSame}
-use Rattle.capnp_frame.specs.Writing.{pieces}
+use Rattle.capnp_frame.specs.Writing.{chunks}
 use Rattle.capnp_frame.proofs.WritingLemmas.{parts_one, parts_two}
 use Rattle.capnp_pack.specs.Packed.{Packs}
 use Rattle.capnp_pack.specs.PackedFrame.{IsPackedText, table_first, table_others}
 use Rattle.capnp_pack.specs.PackedSink.{AppendsPacked}
-use Rattle.capnp_frame.proofs.TextLemmas.{pieces_joined}
+use Rattle.capnp_frame.proofs.TextLemmas.{chunks_joined}
 use Rattle.capnp_pack.proofs.PackerLemmas.{Packs-once}
 
 -- over a plain sink the parts are joined
-pub packed_over_plain : (piece text : List ℕ) → AppendsPacked AppendsSame piece text ↔ Packs piece text
-packed_over_plain piece text = (
-  λ (parts, packed, all). subst (Packs piece) (sym ((pieces_joined parts text).0 all)) packed,
-  λ packed. (text ∷ [], subst (Packs piece) (sym (append-nil text)) packed, (text, [], refl, refl, sym (append-nil text))),
+pub packed_over_plain : (chunk text : List ℕ) → AppendsPacked AppendsSame chunk text ↔ Packs chunk text
+packed_over_plain chunk text = (
+  λ (parts, packed, all). subst (Packs chunk) (sym ((chunks_joined parts text).0 all)) packed,
+  λ packed. (text ∷ [], subst (Packs chunk) (sym (append-nil text)) packed, (text, [], refl, refl, sym (append-nil text))),
 )
 
-pub each_packed : (pieces : List (List ℕ)) (text : List ℕ) → AppendsAll (AppendsPacked AppendsSame) pieces text ↔ AppendsAll Packs pieces text
-each_packed pieces text = (there pieces text, back pieces text)
+pub each_packed : (chunks : List (List ℕ)) (text : List ℕ) → AppendsAll (AppendsPacked AppendsSame) chunks text ↔ AppendsAll Packs chunks text
+each_packed chunks text = (there chunks text, back chunks text)
   where
-    there : (pieces : List (List ℕ)) (text : List ℕ) → AppendsAll (AppendsPacked AppendsSame) pieces text → AppendsAll Packs pieces text
+    there : (chunks : List (List ℕ)) (text : List ℕ) → AppendsAll (AppendsPacked AppendsSame) chunks text → AppendsAll Packs chunks text
     there [] text all = all
     there (p ∷ ps) text (first, others, packed, more, e) = (first, others, (packed_over_plain p first).0 packed, there ps others more, e)
 
-    back : (pieces : List (List ℕ)) (text : List ℕ) → AppendsAll Packs pieces text → AppendsAll (AppendsPacked AppendsSame) pieces text
+    back : (chunks : List (List ℕ)) (text : List ℕ) → AppendsAll Packs chunks text → AppendsAll (AppendsPacked AppendsSame) chunks text
     back [] text all = all
     back (p ∷ ps) text (first, others, packed, more, e) = (first, others, (packed_over_plain p first).1 packed, back ps others more, e)
 
@@ -38,14 +38,14 @@ packed_message segments text = (
 )
   where
     there : AppendsAll Packs (table_first segments ∷ table_others segments ∷ segments) text → IsPackedText text segments
-    there (a, rest, first, (b, c, others, each, behind), e) = record {
+    there (a, rest, first, (b, c, others, each, following), e) = record {
       first_text = a;
       others_text = b;
       segments_text = c;
       first_packed = first;
       others_packed = others;
       each_packed = each;
-      spelled = e ∙ ap (λ l. a ++ l) behind ∙ sym (append_assoc a b c);
+      spelled = e ∙ ap (λ l. a ++ l) following ∙ sym (append_assoc a b c);
     }
 
     back : IsPackedText text segments → AppendsAll Packs (table_first segments ∷ table_others segments ∷ segments) text
@@ -83,9 +83,9 @@ packed_short_message segments text none = (
         let gone : p.others_text ≡ [] = Packs-once [] p.others_text [] (subst (λ l. Packs l p.others_text) none p.others_packed) packs_nothing in
         (p.first_text, p.segments_text, p.first_packed, p.each_packed, p.spelled ∙ ap (λ l. (p.first_text ++ l) ++ p.segments_text) gone ∙ ap (λ l. l ++ p.segments_text) (append-nil p.first_text))
 
--- the pieces that a writer hands on are of the one form or of the other
-pub packed_pieces : (segments : List (List ℕ)) (text : List ℕ) → AppendsAll (AppendsPacked AppendsSame) (pieces segments) text ↔ IsPackedText text segments
-packed_pieces segments text = elim (cases_lt 8 (length table)) [
+-- the chunks that a writer hands on are of the one form or of the other
+pub packed_chunks : (segments : List (List ℕ)) (text : List ℕ) → AppendsAll (AppendsPacked AppendsSame) (chunks segments) text ↔ IsPackedText text segments
+packed_chunks segments text = elim (cases_lt 8 (length table)) [
   | inl more ↦ told (sym (parts_two table more)) (packed_message segments text)
   | inr few ↦ told (sym (parts_one table few)) (packed_short_message segments text (none few))
 ]

@@ -5,7 +5,7 @@ use Rattle.std.specs.Simd.{first_chunks}
 use Rattle.std.proofs.lemmas.List.{length-drop, take-append-drop, take_at, drop_at}
 use Rattle.capnp_frame.specs.SplittingLaws.{same_front}
 use Rattle.capnp_pack.specs.Group.{Group, tagged, zeros, literal, IsGroup, IsWord, zero_word, group_text, group_words}
-use Rattle.capnp_pack.specs.Piece.{text_of, words_of_groups}
+use Rattle.capnp_pack.specs.Chunk.{text_of, words_of_groups}
 use Rattle.capnp_pack.specs.Packed.{Packs, IsLongest, AreLongest}
 use Rattle.capnp_pack.specs.Steps.{IsGroupOf}
 use Rattle.capnp_pack.specs.PackedSource.{Unpacks}

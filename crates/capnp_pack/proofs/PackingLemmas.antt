@@ -1,4 +1,4 @@
--- The groups that are handed on, and the whole piece.
+-- The groups that are handed on, and the whole chunk.
 use Rattle.std.proofs.Common.{◌≡◌, ℕ, zero, suc, ◌+◌, ◌<◌, ◌≤◌, Option, Result, Ok, Err, IfOk, List, [], ◌∷◌, ◌++◌, length, take, drop, refl, sym, ap, ◌∙◌, subst, arith, append_assoc, replicate, get_or, add-one, drop-cons, length-drop, ◌-◌}
 use Rattle.std.specs.List.{concat, AllByRecursion}
 use Rattle.std.proofs.lemmas.List.{take_all, append-nil, length-take-le, drop_all, drop-drop}
@@ -81,7 +81,7 @@ made_literal words new appends word os tag old roomy filled a b c (Ok v) is all 
           (subst (λ l. Hands appends filled l (new v) y z) further q)) first handed,
     )
 
--- the whole piece
+-- the whole chunk
 
 pub PacksTo-more : (words : List (List ℕ)) (text : List ℕ) (done next n : ℕ) (w : List ℕ) (os : List (List ℕ)) (g : Group) →
     drop done words ≡ w ∷ os → drop n os ≡ drop next words → IsGroupOf w os n g → PacksTo words text (drop done words) → PacksTo words (text ++ group_text g) (drop next words)
@@ -100,7 +100,7 @@ pub next_words : (words : List (List ℕ)) (done : ℕ) → done < length words
 next_words words done within = drop-cons words done [] within
     ∙ ap (λ k. get_or words done [] ∷ drop k words) (sym (add-one done)) ∙ ap (λ l. get_or words done [] ∷ l) (sym (other_words words done))
 
--- the next group of a piece
+-- the next group of a chunk
 pub packed_more : (appends : Appending) (words : List (List ℕ)) (done n : ℕ) (w : List ℕ) (os : List (List ℕ)) (buffer new : List ℕ)
     (a b c : Option (List ℕ)) → drop done words ≡ w ∷ os → os ≡ drop (done + 1) words →
     ((text : List ℕ) × PacksTo words text (drop done words) × IfKnown a b (Hands appends [] text buffer)) →
@@ -114,19 +114,19 @@ packed_more appends words done n w os buffer new a b c front rest (text, to, han
       IfKnown-join a b c (λ x y z p q. Hands-join appends [] text buffer (group_text g) new x y z p q) handed more,
     )
 
--- the last bytes of a piece
-pub packed_all : (appends : Appending) (piece : List ℕ) (words : List (List ℕ)) (done : ℕ) (buffer left : List ℕ) (a b c : Option (List ℕ)) →
-    concat words ≡ piece → length words ≤ done → left ≡ [] →
+-- the last bytes of a chunk
+pub packed_all : (appends : Appending) (chunk : List ℕ) (words : List (List ℕ)) (done : ℕ) (buffer left : List ℕ) (a b c : Option (List ℕ)) →
+    concat words ≡ chunk → length words ≤ done → left ≡ [] →
     ((text : List ℕ) × PacksTo words text (drop done words) × IfKnown a b (Hands appends [] text buffer)) →
-    IfKnown b c (Hands appends buffer [] left) → IfKnown a c (Adds (AppendsPacked appends piece))
-packed_all appends piece words done buffer left a b c whole past none (text, to, handed) last =
+    IfKnown b c (Hands appends buffer [] left) → IfKnown a c (Adds (AppendsPacked appends chunk))
+packed_all appends chunk words done buffer left a b c whole past none (text, to, handed) last =
     let over : drop done words ≡ [] = drop_all done words past in
     let all : PacksWords words text = subst (PacksWords words) (append-nil text) (to [] (subst (λ l. PacksWords l []) (sym over) PacksWords-none)) in
-    let packed : Packs piece text = subst (λ l. Packs l text) whole (Packs-words words text all) in
+    let packed : Packs chunk text = subst (λ l. Packs l text) whole (Packs-words words text all) in
     IfKnown-join a b c (λ x y z p q.
     let h = Hands-join appends [] text buffer [] left x y z p q in
     let parts : concat h.parts ≡ text = sym (h.kept ∙ ap (λ l. concat h.parts ++ l) none ∙ append-nil (concat h.parts)) ∙ append-nil text in
-    (h.handed, (h.parts, subst (Packs piece) (sym parts) packed, h.told), h.added)) handed last
+    (h.handed, (h.parts, subst (Packs chunk) (sym parts) packed, h.told), h.added)) handed last
 
 -- a run of no word
 pub run_of_none : (os : List (List ℕ)) → IfFirst os (λ word. IsZero word → ⊥) → IsRun IsZero os 0

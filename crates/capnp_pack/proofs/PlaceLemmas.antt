@@ -80,10 +80,10 @@ set_lane text i rank bit e low small =
 -- the lanes at their places are a word under the tag
 spread : (n rank tag i : ℕ) (text : List ℕ) → n + i ≤ 16 → rank ≤ i → 16 ≤ length text → tag < 2 ^ n →
     MarkedAt tag (swz_l w8 16 (take 16 text) i (places n rank tag)) (drop rank text) (drop (rank + ones tag) text)
-spread zero rank tag i text room behind long low =
+spread zero rank tag i text room following long low =
     let none : rank ≡ rank + ones tag = omega (arith, ones-le 0 tag low) in
     (ap (λ k. drop k text) none, tt)
-spread (suc n) rank tag i text room behind long low =
+spread (suc n) rank tag i text room following long low =
     let lane = lane_at (take 16 text) i (if tag % 2 == 1 then rank else 128) in
     let here = bit_here tag rank lane text (clear_lane (take 16 text) i rank (tag % 2)) (λ e. (omega arith, set_lane text i rank (tag % 2) e (omega arith) (omega arith))) in
     let others = spread n (rank + tag % 2) (tag / 2) (suc i) text (omega arith) (omega arith) long (omega (arith, pow-suc 2 n)) in

@@ -7,7 +7,7 @@ use Rattle.capnp_frame.specs.declared.error.ErrorKind.{ErrorKind}
 use Rattle.capnp_frame.specs.Source.{Giving, Refusing, Splits, RunsShort, IfKnown, IsFront, IsRefused}
 use Rattle.capnp_frame.proofs.SourceLemmas.{IfKnown-join, length-put_mid}
 
--- so many bytes of what is shown are taken
+-- a given number of bytes of what is shown are taken
 pub shown_taken : (n : ℕ) (shown bytes : List ℕ) (old mid new : Option (List ℕ)) → IfSome old (IsFront shown) → mid ≡ old →
     IfKnown mid new (λ raw left. left ≡ drop n raw) → n ≤ length shown → bytes ≡ take n shown → IfKnown old new (λ raw left. raw ≡ bytes ++ left)
 shown_taken n shown bytes old mid new front same gone within is = from old new front (subst (λ o. IfKnown o new (λ raw left. left ≡ drop n raw)) same gone)

@@ -8,7 +8,7 @@ use lib.Seq.{take-append-le}
 use Rattle.capnp_frame.specs.Source.{IfKnown, IsFront}
 use Rattle.capnp_frame.proofs.SourceLemmas.{IfKnown-join}
 use Rattle.capnp_pack.specs.Group.{IsGroup, group_text, group_words}
-use Rattle.capnp_pack.specs.Piece.{text_of, words_of_groups}
+use Rattle.capnp_pack.specs.Chunk.{text_of, words_of_groups}
 use Rattle.capnp_pack.specs.Steps.{HasTaken, GroupAt, Unpacked}
 use Rattle.capnp_pack.proofs.AllLemmas.{AllByRecursion-append}
 
@@ -40,10 +40,10 @@ shown_taken used filled shown buffer a b c front same gone p = known a c front (
     known None c front gone = tt
     known (Some x) None front gone = absurd gone
     known (Some x) (Some z) (tail, e) gone =
-        let piece = p.piece in
-        let text : take used x ≡ text_of piece.groups = ap (take used) e ∙ take-append-le used shown tail p.used_within ∙ piece.spelled in (
-          piece.groups,
-          piece.each,
-          sym (take-append-drop used x) ∙ ap (λ l. l ++ drop used x) text ∙ ap (λ l. text_of piece.groups ++ l) (sym gone),
-          ap length (sym piece.unpacked) ∙ length-take-le filled buffer p.filled_within,
+        let chunk = p.chunk in
+        let text : take used x ≡ text_of chunk.groups = ap (take used) e ∙ take-append-le used shown tail p.used_within ∙ chunk.spelled in (
+          chunk.groups,
+          chunk.each,
+          sym (take-append-drop used x) ∙ ap (λ l. l ++ drop used x) text ∙ ap (λ l. text_of chunk.groups ++ l) (sym gone),
+          ap length (sym chunk.unpacked) ∙ length-take-le filled buffer p.filled_within,
         )

@@ -8,12 +8,12 @@ use Rattle.std.proofs.lemmas.List.Folds.{concat-append}
 use Rattle.std.proofs.Math.Seq.{take-add}
 use Rattle.std.specs.List.{concat, AllByRecursion}
 use borrow.Rule.Slice.PartMut.{put_mid}
-use Rattle.capnp_frame.specs.Source.{IfKnown, IsFront, AnswersPart}
-use Rattle.capnp_frame.proofs.SourceLemmas.{AnswersPart-join, AnswersPart-none, length-put_mid}
+use Rattle.capnp_frame.specs.Source.{IfKnown, IsFront, ReturnsPart}
+use Rattle.capnp_frame.proofs.SourceLemmas.{ReturnsPart-join, ReturnsPart-none, length-put_mid}
 use Rattle.capnp_pack.specs.Group.{Group, tagged, zeros, literal, IsGroup, IsWord, AreZero, group_text, group_words, marked, unmarked}
-use Rattle.capnp_pack.specs.Piece.{text_of, words_of_groups}
+use Rattle.capnp_pack.specs.Chunk.{text_of, words_of_groups}
 use Rattle.capnp_pack.specs.PackedSource.{Unpacks, MeetsFault}
-use Rattle.capnp_pack.specs.Steps.{MarkedAt, RunAt, GroupBehind, Unpacked}
+use Rattle.capnp_pack.specs.Steps.{MarkedAt, RunAt, GroupFollowing, Unpacked}
 use Rattle.capnp_pack.proofs.AllLemmas.{AllByRecursion-append}
 use Rattle.capnp_pack.proofs.GroupLemmas.{group_takes, zeros_at}
 use Rattle.capnp_pack.proofs.WordLemmas.{MarksTo, MarksTo-more, clear_byte, set_byte, full_word}
@@ -47,26 +47,26 @@ marks_word_whole tag bits front word raw left same p = subst (λ w. MarkedAt tag
 
 -- the groups by their tags
 
-pub tagged_behind : (tag used : ℕ) (behind word buffer : List ℕ) → 0 < tag → tag < 255 → IsWord word → used ≤ length behind → 8 ≤ length buffer →
-    take 8 buffer ≡ word → MarkedAt tag word behind (drop used behind) → GroupBehind tag behind buffer used 8
-tagged_behind tag used behind word buffer some low is within room same at = record {
+pub tagged_after : (tag used : ℕ) (following word buffer : List ℕ) → 0 < tag → tag < 255 → IsWord word → used ≤ length following → 8 ≤ length buffer →
+    take 8 buffer ≡ word → MarkedAt tag word following (drop used following) → GroupFollowing tag following buffer used 8
+tagged_after tag used following word buffer some low is within room same at = record {
   used_within = within;
   some = omega arith;
   filled_within = room;
   whole = refl;
-  group = tagged_found tag word (take 8 buffer) (Some behind) (Some (drop used behind)) some low is same at;
+  group = tagged_found tag word (take 8 buffer) (Some following) (Some (drop used following)) some low is same at;
 }
 
-pub zeros_behind : (filled : ℕ) (behind buffer : List ℕ) → 1 ≤ length behind → get_or behind 0 0 < 256 → filled ≡ 8 * (get_or behind 0 0 + 1) →
-    filled ≤ length buffer → take filled buffer ≡ replicate filled 0 → GroupBehind 0 behind buffer 1 filled
-zeros_behind filled behind buffer long byte count room clear =
-    let front : behind ≡ get_or behind 0 0 ∷ drop 1 behind = drop-cons behind 0 0 (omega arith) in
+pub zeros_after : (filled : ℕ) (following buffer : List ℕ) → 1 ≤ length following → get_or following 0 0 < 256 → filled ≡ 8 * (get_or following 0 0 + 1) →
+    filled ≤ length buffer → take filled buffer ≡ replicate filled 0 → GroupFollowing 0 following buffer 1 filled
+zeros_after filled following buffer long byte count room clear =
+    let front : following ≡ get_or following 0 0 ∷ drop 1 following = drop-cons following 0 0 (omega arith) in
     record {
       used_within = long;
       some = omega arith;
       filled_within = room;
       whole = omega arith;
-      group = zeros_at (get_or behind 0 0) filled behind (drop 1 behind) (take filled buffer) byte count clear front;
+      group = zeros_at (get_or following 0 0) filled following (drop 1 following) (take filled buffer) byte count clear front;
     }
 
 unmarked_none : (w : List ℕ) → unmarked 0 w ≡ w
@@ -82,50 +82,50 @@ zeros_are [] all = refl
 zeros_are (b ∷ w) all = ap (λ k. k ∷ w) all.0 ∙ ap (λ l. 0 ∷ l) (zeros_are w all.1)
 
 -- a zero word alone, filled as one of which nothing is marked
-pub lone_zero_behind : (tag used : ℕ) (behind word buffer : List ℕ) → tag ≡ 0 → get_or behind 0 0 ≡ 0 → IsWord word → 9 ≤ length behind →
-    8 ≤ length buffer → take 8 buffer ≡ word → used ≤ 8 → MarkedAt tag word behind (drop used behind) → GroupBehind tag behind buffer (used + 1) 8
-lone_zero_behind tag used behind word buffer none count is long room same few at =
-    let here : MarkedAt 0 word behind (drop used behind) = subst (λ t. MarkedAt t word behind (drop used behind)) none at in
-    let all : behind ≡ drop used behind = here.0 ∙ ap (λ l. l ++ drop used behind) (marked_none word) in
-    let one : 1 ≡ used + 1 = omega (arith, ap length all, length-drop used behind) in
+pub lone_zero_after : (tag used : ℕ) (following word buffer : List ℕ) → tag ≡ 0 → get_or following 0 0 ≡ 0 → IsWord word → 9 ≤ length following →
+    8 ≤ length buffer → take 8 buffer ≡ word → used ≤ 8 → MarkedAt tag word following (drop used following) → GroupFollowing tag following buffer (used + 1) 8
+lone_zero_after tag used following word buffer none count is long room same few at =
+    let here : MarkedAt 0 word following (drop used following) = subst (λ t. MarkedAt t word following (drop used following)) none at in
+    let all : following ≡ drop used following = here.0 ∙ ap (λ l. l ++ drop used following) (marked_none word) in
+    let one : 1 ≡ used + 1 = omega (arith, ap length all, length-drop used following) in
     let clear : take 8 buffer ≡ replicate 8 0 = same ∙ zeros_are word (subst AreZero (unmarked_none word) here.1) ∙ ap (λ k. replicate k 0) is in
-    subst (λ t. GroupBehind t behind buffer (used + 1) 8) (sym none)
-    (subst (λ u. GroupBehind 0 behind buffer u 8) one (zeros_behind 8 behind buffer (omega arith) (omega (arith, count)) (omega (arith, count)) room clear))
+    subst (λ t. GroupFollowing t following buffer (used + 1) 8) (sym none)
+    (subst (λ u. GroupFollowing 0 following buffer u 8) one (zeros_after 8 following buffer (omega arith) (omega (arith, count)) (omega (arith, count)) room clear))
 
-pub literal_behind : (run : ℕ) (behind buffer : List ℕ) → 9 + run ≤ length behind → get_or behind 8 0 < 256 → run ≡ 8 * get_or behind 8 0 →
-    8 + run ≤ length buffer → take (8 + run) buffer ≡ take 8 behind ++ take run (drop 9 behind) → GroupBehind 255 behind buffer (9 + run) (8 + run)
-literal_behind run behind buffer long byte count room same =
-    let word : IsWord (take 8 behind) = length-take-le 8 behind (omega arith) in
-    let full = full_word (take 8 behind) word in
-    let at : MarkedAt 255 (take 8 behind) behind (drop 8 behind) = (sym (take-append-drop 8 behind) ∙ ap (λ l. l ++ drop 8 behind) (sym full.0), full.1) in
-    let counted : drop 8 behind ≡ get_or behind 8 0 ∷ drop 9 behind = drop-cons behind 8 0 (omega arith) in
-    let rest : drop 9 behind ≡ take run (drop 9 behind) ++ drop (9 + run) behind = sym (take-append-drop run (drop 9 behind)) ∙ ap (λ l. take run (drop 9 behind) ++ l) (drop-drop run 9 behind) in
-    let left : length (take run (drop 9 behind)) ≡ run = length-take-le run (drop 9 behind) (omega (arith, length-drop 9 behind)) in
-    let more : RunAt (take run (drop 9 behind)) (drop 8 behind) (drop (9 + run) behind) = (get_or behind 8 0, byte, left ∙ count, counted ∙ ap (λ l. get_or behind 8 0 ∷ l) rest) in
+pub literal_after : (run : ℕ) (following buffer : List ℕ) → 9 + run ≤ length following → get_or following 8 0 < 256 → run ≡ 8 * get_or following 8 0 →
+    8 + run ≤ length buffer → take (8 + run) buffer ≡ take 8 following ++ take run (drop 9 following) → GroupFollowing 255 following buffer (9 + run) (8 + run)
+literal_after run following buffer long byte count room same =
+    let word : IsWord (take 8 following) = length-take-le 8 following (omega arith) in
+    let full = full_word (take 8 following) word in
+    let at : MarkedAt 255 (take 8 following) following (drop 8 following) = (sym (take-append-drop 8 following) ∙ ap (λ l. l ++ drop 8 following) (sym full.0), full.1) in
+    let counted : drop 8 following ≡ get_or following 8 0 ∷ drop 9 following = drop-cons following 8 0 (omega arith) in
+    let rest : drop 9 following ≡ take run (drop 9 following) ++ drop (9 + run) following = sym (take-append-drop run (drop 9 following)) ∙ ap (λ l. take run (drop 9 following) ++ l) (drop-drop run 9 following) in
+    let left : length (take run (drop 9 following)) ≡ run = length-take-le run (drop 9 following) (omega (arith, length-drop 9 following)) in
+    let more : RunAt (take run (drop 9 following)) (drop 8 following) (drop (9 + run) following) = (get_or following 8 0, byte, left ∙ count, counted ∙ ap (λ l. get_or following 8 0 ∷ l) rest) in
     record {
       used_within = long;
       some = omega arith;
       filled_within = room;
       whole = omega arith;
-      group = literal_found 255 (take 8 behind) (take run (drop 9 behind)) (take (8 + run) buffer) (Some behind) (Some (drop 8 behind)) (Some (drop (9 + run) behind)) refl word same at more;
+      group = literal_found 255 (take 8 following) (take run (drop 9 following)) (take (8 + run) buffer) (Some following) (Some (drop 8 following)) (Some (drop (9 + run) following)) refl word same at more;
     }
 
 -- a group with its tag
-pub group_unpacked : (tag used filled : ℕ) (shown behind buffer : List ℕ) → shown ≡ tag ∷ behind → GroupBehind tag behind buffer used filled → Unpacked shown buffer (1 + used) filled
-group_unpacked tag used filled shown behind buffer e g =
+pub group_unpacked : (tag used filled : ℕ) (shown following buffer : List ℕ) → shown ≡ tag ∷ following → GroupFollowing tag following buffer used filled → Unpacked shown buffer (1 + used) filled
+group_unpacked tag used filled shown following buffer e g =
     let at = g.group in
-    let spelled : shown ≡ group_text at.0 ++ drop used behind = e ∙ at.3 in
-    let within : used ≤ length behind = g.used_within in
-    let len : length (group_text at.0) ≡ 1 + used = omega (arith, ap length at.3, length-append (group_text at.0) (drop used behind), length-drop used behind) in
+    let spelled : shown ≡ group_text at.0 ++ drop used following = e ∙ at.3 in
+    let within : used ≤ length following = g.used_within in
+    let len : length (group_text at.0) ≡ 1 + used = omega (arith, ap length at.3, length-append (group_text at.0) (drop used following), length-drop used following) in
     record {
       used_within = omega (arith, ap length e);
       some = λ _. omega arith;
       filled_within = g.filled_within;
       whole = g.whole;
-      piece = record {
+      chunk = record {
         groups = at.0 ∷ [];
         each = (at.1, tt);
-        spelled = ap (take (1 + used)) spelled ∙ take_at (group_text at.0) (drop used behind) (1 + used) len ∙ sym (append-nil (group_text at.0));
+        spelled = ap (take (1 + used)) spelled ∙ take_at (group_text at.0) (drop used following) (1 + used) len ∙ sym (append-nil (group_text at.0));
         unpacked = at.2 ∙ ap concat (sym (append-nil (group_words at.0)));
       };
     }
@@ -140,8 +140,8 @@ pub unpacked_more : (used filled more count : ℕ) (shown rest buffer part : Lis
 unpacked_more used filled more count shown rest buffer part e fits p q =
     let after = put_mid filled (length buffer - filled) buffer part in
     let len : length after ≡ length buffer = length-put_mid filled buffer part p.filled_within fits in
-    let gs = p.piece.groups in
-    let hs = q.piece.groups in
+    let gs = p.chunk.groups in
+    let hs = q.chunk.groups in
     let within = q.used_within in
     let inside = q.filled_within in
     let before = p.filled_within in
@@ -153,54 +153,54 @@ unpacked_more used filled more count shown rest buffer part e fits p q =
       some = either_some filled used count more p.some q.some;
       filled_within = omega arith;
       whole = omega arith;
-      piece = record {
+      chunk = record {
         groups = gs ++ hs;
-        each = AllByRecursion-append IsGroup gs hs p.piece.each q.piece.each;
-        spelled = take-add used more shown ∙ ap (λ l. take used shown ++ take more l) (sym e) ∙ ap (λ l. l ++ take more rest) p.piece.spelled
-            ∙ ap (λ l. text_of gs ++ l) q.piece.spelled ∙ sym (flat_map-append group_text gs hs);
-        unpacked = put_mid_front filled (length buffer - filled) count buffer part before inside ∙ ap (λ l. l ++ take count part) p.piece.unpacked
-            ∙ ap (λ l. concat (words_of_groups gs) ++ l) q.piece.unpacked ∙ sym (concat-append (words_of_groups gs) (words_of_groups hs))
+        each = AllByRecursion-append IsGroup gs hs p.chunk.each q.chunk.each;
+        spelled = take-add used more shown ∙ ap (λ l. take used shown ++ take more l) (sym e) ∙ ap (λ l. l ++ take more rest) p.chunk.spelled
+            ∙ ap (λ l. text_of gs ++ l) q.chunk.spelled ∙ sym (flat_map-append group_text gs hs);
+        unpacked = put_mid_front filled (length buffer - filled) count buffer part before inside ∙ ap (λ l. l ++ take count part) p.chunk.unpacked
+            ∙ ap (λ l. concat (words_of_groups gs) ++ l) q.chunk.unpacked ∙ sym (concat-append (words_of_groups gs) (words_of_groups hs))
             ∙ ap concat (sym (flat_map-append group_words gs hs));
       };
     }
 
--- groups at the front answer a part of each request that they fit into
+-- groups at the front return a part of each request that they fit into
 
-group_first : (g : Group) (n : ℕ) (left : List ℕ) → IsGroup g → length (concat (group_words g)) ≤ n → AnswersPart Unpacks MeetsFault n (concat (group_words g)) (group_text g ++ left) left
+group_first : (g : Group) (n : ℕ) (left : List ℕ) → IsGroup g → length (concat (group_words g)) ≤ n → ReturnsPart Unpacks MeetsFault n (concat (group_words g)) (group_text g ++ left) left
 group_first (tagged tag word) n left is fits = group_takes n tag _ (marked tag word ++ left) left (tagged tag word, is, refl, refl) fits
 group_first (zeros further) n left is fits = group_takes n 0 _ (further ∷ left) left (zeros further, is, refl, refl) fits
 group_first (literal word further) n left is fits = group_takes n 255 _ ((word ++ length further ∷ concat further) ++ left) left (literal word further, is, refl, refl) fits
 
-piece_takes : (gs : List Group) (n : ℕ) (left : List ℕ) → AllByRecursion IsGroup gs → length (concat (words_of_groups gs)) ≤ n →
-    AnswersPart Unpacks MeetsFault n (concat (words_of_groups gs)) (text_of gs ++ left) left
-piece_takes [] n left each fits = AnswersPart-none n left
-piece_takes (g ∷ gs) n left each fits =
+chunk_takes : (gs : List Group) (n : ℕ) (left : List ℕ) → AllByRecursion IsGroup gs → length (concat (words_of_groups gs)) ≤ n →
+    ReturnsPart Unpacks MeetsFault n (concat (words_of_groups gs)) (text_of gs ++ left) left
+chunk_takes [] n left each fits = ReturnsPart-none n left
+chunk_takes (g ∷ gs) n left each fits =
     let parts : concat (words_of_groups (g ∷ gs)) ≡ concat (group_words g) ++ concat (words_of_groups gs) = concat-append (group_words g) (words_of_groups gs) in
     let size = length-append (concat (group_words g)) (concat (words_of_groups gs)) in
     let whole = ap length parts in
     let first = group_first g n (text_of gs ++ left) each.0 (omega arith) in
-    let others = piece_takes gs (n - length (concat (group_words g))) left each.1 (omega arith) in
-    subst (λ l. AnswersPart Unpacks MeetsFault n l (text_of (g ∷ gs) ++ left) left) (sym parts)
-    (subst (λ l. AnswersPart Unpacks MeetsFault n (concat (group_words g) ++ concat (words_of_groups gs)) l left) (sym (append_assoc (group_text g) (text_of gs) left))
-    (AnswersPart-join n (concat (group_words g)) (concat (words_of_groups gs)) _ (text_of gs ++ left) left first others))
+    let others = chunk_takes gs (n - length (concat (group_words g))) left each.1 (omega arith) in
+    subst (λ l. ReturnsPart Unpacks MeetsFault n l (text_of (g ∷ gs) ++ left) left) (sym parts)
+    (subst (λ l. ReturnsPart Unpacks MeetsFault n (concat (group_words g) ++ concat (words_of_groups gs)) l left) (sym (append_assoc (group_text g) (text_of gs) left))
+    (ReturnsPart-join n (concat (group_words g)) (concat (words_of_groups gs)) _ (text_of gs ++ left) left first others))
 
 taken_from : (used filled : ℕ) (shown buffer : List ℕ) (old new : Option (List ℕ)) → IfSome old (IsFront shown) →
-    IfKnown old new (λ raw left. left ≡ drop used raw) → Unpacked shown buffer used filled → IfKnown old new (AnswersPart Unpacks MeetsFault (length buffer) (take filled buffer))
+    IfKnown old new (λ raw left. left ≡ drop used raw) → Unpacked shown buffer used filled → IfKnown old new (ReturnsPart Unpacks MeetsFault (length buffer) (take filled buffer))
 taken_from used filled shown buffer None new front gone p = tt
 taken_from used filled shown buffer (Some raw) None front gone p = absurd gone
 taken_from used filled shown buffer (Some raw) (Some left) front gone p =
-    let gs = p.piece.groups in
-    let text : take used raw ≡ text_of gs = ap (take used) front.1 ∙ take-append-le used shown front.0 p.used_within ∙ p.piece.spelled in
+    let gs = p.chunk.groups in
+    let text : take used raw ≡ text_of gs = ap (take used) front.1 ∙ take-append-le used shown front.0 p.used_within ∙ p.chunk.spelled in
     let whole : raw ≡ text_of gs ++ left = sym (take-append-drop used raw) ∙ ap (λ l. l ++ drop used raw) text ∙ ap (λ l. text_of gs ++ l) (sym gone) in
     let part : length (take filled buffer) ≡ filled = length-take-le filled buffer p.filled_within in
     let inside = p.filled_within in
-    let fits : length (concat (words_of_groups gs)) ≤ length buffer = omega (arith, ap length p.piece.unpacked) in
-    subst (λ l. AnswersPart Unpacks MeetsFault (length buffer) l raw left) (sym p.piece.unpacked)
-    (subst (λ l. AnswersPart Unpacks MeetsFault (length buffer) (concat (words_of_groups gs)) l left) (sym whole) (piece_takes gs (length buffer) left p.piece.each fits))
+    let fits : length (concat (words_of_groups gs)) ≤ length buffer = omega (arith, ap length p.chunk.unpacked) in
+    subst (λ l. ReturnsPart Unpacks MeetsFault (length buffer) l raw left) (sym p.chunk.unpacked)
+    (subst (λ l. ReturnsPart Unpacks MeetsFault (length buffer) (concat (words_of_groups gs)) l left) (sym whole) (chunk_takes gs (length buffer) left p.chunk.each fits))
 
 -- what taking the groups that are shown says
 pub shown_takes : (used filled : ℕ) (shown buffer : List ℕ) (old mid new : Option (List ℕ)) → IfSome old (IsFront shown) → mid ≡ old →
-    IfKnown mid new (λ raw left. left ≡ drop used raw) → Unpacked shown buffer used filled → IfKnown old new (AnswersPart Unpacks MeetsFault (length buffer) (take filled buffer))
+    IfKnown mid new (λ raw left. left ≡ drop used raw) → Unpacked shown buffer used filled → IfKnown old new (ReturnsPart Unpacks MeetsFault (length buffer) (take filled buffer))
 shown_takes used filled shown buffer old mid new front same gone p = taken_from used filled shown buffer old new front (subst (λ o. IfKnown o new (λ raw left. left ≡ drop used raw)) same gone) p
 
 pub shown_some : (used filled : ℕ) (shown buffer : List ℕ) (old : Option (List ℕ)) → IfSome old (IsFront shown) → Unpacked shown buffer used filled → 0 < filled → IfSome old (λ raw. raw ≡ [] → ⊥)

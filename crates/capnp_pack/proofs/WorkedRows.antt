@@ -3,11 +3,11 @@ use Rattle.std.proofs.Common.{inl, inr, subst, ◌-◌, ◌%◌, ◌≡◌, ℕ,
 use Rattle.capnp_frame.specs.declared.error.ErrorKind.{ErrorKind}
 use Rattle.capnp_frame.specs.declared.error.ErrorKind.TheVariants.{FailedToFillTheWholeBuffer, PrematureEndOfPackedInput, PackedInputDidNotEndCleanlyOnASegmentBoundary, NotWholeWords}
 use Rattle.capnp_pack.specs.Group.{Group, tagged, zeros, literal, zero_word}
-use Rattle.capnp_pack.specs.Piece.{IsPiece}
+use Rattle.capnp_pack.specs.Chunk.{IsChunk}
 use Rattle.capnp_pack.specs.Packed.{Packs}
 use Rattle.capnp_frame.specs.declared.serialize.segment_table.Padding.TheVariants.{Zero}
 use Rattle.capnp_pack.specs.PackedFrame.{IsPackedFrame}
-use Rattle.capnp_pack.specs.PackedSource.{IsFault, RefusesPiece}
+use Rattle.capnp_pack.specs.PackedSource.{IsGroupFault, RefusesChunk}
 use Rattle.capnp_pack.specs.UnpackingLaws.{zero_words}
 
 abbrev eight : List ℕ
@@ -45,7 +45,7 @@ literal_run = record {
 }
 
 -- a marked byte may be zero when it is read
-pub marked_zero : IsPiece (1 ∷ 0 ∷ []) (replicate 8 0)
+pub marked_zero : IsChunk (1 ∷ 0 ∷ []) (replicate 8 0)
 marked_zero = record { groups = tagged 1 zero_word ∷ []; each = ((lit< tt, lit< tt, refl, (refl, (refl, (refl, (refl, (refl, (refl, (refl, tt)))))))), tt); spelled = refl; unpacked = refl }
 
 -- five segments of 1, 0, 0, 0 and 0 words
@@ -73,40 +73,40 @@ five_packed = record {
   spelled = refl;
 }
 
--- the refusal table of a piece
+-- the refusal table of a chunk
 
 -- a fault in the first group
-first : (raw : List ℕ) (n : ℕ) (kind : ErrorKind) → n % 8 ≡ 0 → (raw ≡ [] → ⊥) → 0 < n → IsFault raw n kind → RefusesPiece raw n kind
+first : (raw : List ℕ) (n : ℕ) (kind : ErrorKind) → n % 8 ≡ 0 → (raw ≡ [] → ⊥) → 0 < n → IsGroupFault raw n kind → RefusesChunk raw n kind
 first raw n kind whole more some fault =
     let same : n ≡ n - 0 = omega arith in
-    inr (λ part. part whole, inr (more, record { groups = []; each = tt; left = raw; spelled = refl; fewer = some; fault = subst (λ k. IsFault raw k kind) same fault }))
+    inr (λ part. part whole, inr (more, record { groups = []; each = tt; left = raw; spelled = refl; fewer = some; fault = subst (λ k. IsGroupFault raw k kind) same fault }))
 
-pub run_cut : RefusesPiece (255 ∷ eight ++ 1 ∷ 1 ∷ 2 ∷ []) 16 FailedToFillTheWholeBuffer
+pub run_cut : RefusesChunk (255 ∷ eight ++ 1 ∷ 1 ∷ 2 ∷ []) 16 FailedToFillTheWholeBuffer
 run_cut = first (255 ∷ eight ++ 1 ∷ 1 ∷ 2 ∷ []) 16 _ refl (λ e. cc) (lit< tt) (inr (inr (
-  record { group = literal eight (eight ∷ []); behind = 1 ∷ 2 ∷ []; head = record { is = (refl, (refl, tt), lit< tt); spelled = refl }; fits = lit≤ tt; short = lit< tt },
+  record { group = literal eight (eight ∷ []); following = 1 ∷ 2 ∷ []; head = record { is = (refl, (refl, tt), lit< tt); spelled = refl }; fits = lit≤ tt; short = lit< tt },
   refl,
 )))
 
-pub run_long : RefusesPiece (255 ∷ eight ++ 37 ∷ 1 ∷ 2 ∷ []) 200 PackedInputDidNotEndCleanlyOnASegmentBoundary
+pub run_long : RefusesChunk (255 ∷ eight ++ 37 ∷ 1 ∷ 2 ∷ []) 200 PackedInputDidNotEndCleanlyOnASegmentBoundary
 run_long = first (255 ∷ eight ++ 37 ∷ 1 ∷ 2 ∷ []) 200 _ refl (λ e. cc) (lit< tt) (inr (inl (
-  record { group = literal eight (replicate 37 zero_word); behind = 1 ∷ 2 ∷ []; head = record { is = (refl, zero_words 37, lit< tt); spelled = refl }; long = lit< tt },
+  record { group = literal eight (replicate 37 zero_word); following = 1 ∷ 2 ∷ []; head = record { is = (refl, zero_words 37, lit< tt); spelled = refl }; long = lit< tt },
   refl,
 )))
 
-pub byte_missing : RefusesPiece (0xf0 ∷ 1 ∷ 2 ∷ []) 200 PrematureEndOfPackedInput
+pub byte_missing : RefusesChunk (0xf0 ∷ 1 ∷ 2 ∷ []) 200 PrematureEndOfPackedInput
 byte_missing = first (0xf0 ∷ 1 ∷ 2 ∷ []) 200 _ refl (λ e. cc) (lit< tt) (inl (
   record { group = tagged 0xf0 (0 ∷ 0 ∷ 0 ∷ 0 ∷ 1 ∷ 2 ∷ 0 ∷ 0 ∷ []); is = (lit< tt, lit< tt, refl, (refl, (refl, (refl, (refl, tt))))); missing = 0 ∷ 0 ∷ []; some = lit< tt; spelled = refl },
   refl,
 ))
 
-pub count_missing : RefusesPiece (0 ∷ []) 200 PrematureEndOfPackedInput
+pub count_missing : RefusesChunk (0 ∷ []) 200 PrematureEndOfPackedInput
 count_missing = first (0 ∷ []) 200 _ refl (λ e. cc) (lit< tt) (inl (record { group = zeros 0; is = lit< tt; missing = 0 ∷ []; some = lit< tt; spelled = refl }, refl))
 
-pub run_count_missing : RefusesPiece (255 ∷ eight) 200 PrematureEndOfPackedInput
+pub run_count_missing : RefusesChunk (255 ∷ eight) 200 PrematureEndOfPackedInput
 run_count_missing = first (255 ∷ eight) 200 _ refl (λ e. cc) (lit< tt) (inl (record { group = literal eight []; is = (refl, tt, lit< tt); missing = 0 ∷ []; some = lit< tt; spelled = refl }, refl))
 
 -- a later group is missing
-pub group_missing : RefusesPiece (1 ∷ 1 ∷ []) 200 PrematureEndOfPackedInput
+pub group_missing : RefusesChunk (1 ∷ 1 ∷ []) 200 PrematureEndOfPackedInput
 group_missing = inr (
   λ part. part refl,
   inr (
@@ -122,8 +122,8 @@ group_missing = inr (
   ),
 )
 
-pub start_missing : RefusesPiece [] 8 FailedToFillTheWholeBuffer
+pub start_missing : RefusesChunk [] 8 FailedToFillTheWholeBuffer
 start_missing = inr (λ part. part refl, inl (refl, (lit< tt, refl)))
 
-pub part_words : RefusesPiece [] 12 NotWholeWords
+pub part_words : RefusesChunk [] 12 NotWholeWords
 part_words = inl (λ e. absurd (omega arith), refl)

@@ -22,7 +22,7 @@ pub record HandsOn {S X : Type 0} (sink : Sink S) (old new : S) (stops : List �
   pub handed : IfOk result hands
   -- where the call fails, no more than a front is handed on, and nothing after a hole
   pub left : OnErr result (LeavesOf sink old new stops)
-  -- the call fails with the device's failure, or as the sink refuses some piece
+  -- the call fails with the device's failure, or as the sink refuses some chunk
   pub refused : FailsOr result (DeclinesAny sink.refuses)
   -- the device is blamed only where it failed
   pub failed : IfErr result (λ error. error.kind ≡ DeviceFailed → Fails (sink.failures old) (sink.failures new))
@@ -31,13 +31,13 @@ pub record HandsOn {S X : Type 0} (sink : Sink S) (old new : S) (stops : List �
 
 -- A call that takes bytes of a source. `source` is what is seen of the source (the members of the trait Read), `finds` holds
 -- of what is returned, and `refuses` of the kinds that the call may fail with beside the device's.
-pub record Takes {S X : Type 0} (source : Source S) (old new : S) (finds : X → Type 0) (refuses : ErrorKind → Type 0)
+pub record TakesFrom {S X : Type 0} (source : Source S) (old new : S) (finds : X → Type 0) (refuses : ErrorKind → Type 0)
     (result : Result X Error) : Type 0 where
   pub found : IfOk result finds
   pub refused : FailsOr result refuses
   pub asked : Asked source.unread source.failures source.same old new result
 
--- The same of a call that returns none exactly at the end, where only the device's failure comes.
+-- What a call takes that returns none exactly at the end, where only the device's failure comes.
 pub record TakesNext {S X : Type 0} (source : Source S) (old new : S) (finds : X → Type 0) (refuses : ErrorKind → Type 0)
     (result : Result (Option X) Error) : Type 0 where
   pub found : IfOk result (λ found. IfSome found finds)

@@ -16,7 +16,7 @@ zero_bytes word = count_by (λ byte. byte == 0) word
 pub data Group : Type 0 where
   -- a tag, and a word of which it marks some bytes
   tagged : (tag : ℕ) (word : List ℕ) → Group
-  -- tag 0: a zero word, and so many further ones
+  -- tag 0: a zero word, and a given number of further ones
   zeros : (further : ℕ) → Group
   -- tag 255: a word and further ones, as they stand
   literal : (word : List ℕ) (further : List (List ℕ)) → Group

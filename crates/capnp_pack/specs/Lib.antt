@@ -1,5 +1,5 @@
 pub mod Group
-pub mod Piece
+pub mod Chunk
 pub mod Packed
 pub mod PackedFrame
 pub mod PackedSource

@@ -1,8 +1,8 @@
--- The piece that a packer makes: what of the encoding document's "Packing" is left to it is settled here.
+-- The chunk that a packer makes: what of the encoding document's "Packing" is left to it is settled here.
 use Rattle.std.specs.Prelude.{◌≡◌, ◌≢◌, ℕ, ◌<◌, ◌≤◌, List, [], ◌∷◌, length, ⊤}
 use Rattle.std.specs.List.{concat, AllByRecursion}
 use Rattle.capnp_pack.specs.Group.{Group, tagged, zeros, literal, IsGroup, zero_word, zero_bytes, marked}
-use Rattle.capnp_pack.specs.Piece.{text_of, words_of_groups}
+use Rattle.capnp_pack.specs.Chunk.{text_of, words_of_groups}
 
 -- P holds of the first of the words, if there is one
 abbrev pub IfFirst : List (List ℕ) → (List ℕ → Type 0) → Type 0

@@ -6,10 +6,10 @@ use Rattle.capnp_frame.specs.Message.{IsWholeWords, lengths}
 use Rattle.capnp_frame.specs.declared.serialize.segment_table.Padding.{Padding}
 use Rattle.capnp_frame.specs.SegmentTable.{IsTable, zero_padded_table}
 use Rattle.capnp_frame.specs.Sink.{AppendsAll}
-use Rattle.capnp_pack.specs.Piece.{IsPiece}
+use Rattle.capnp_pack.specs.Chunk.{IsChunk}
 use Rattle.capnp_pack.specs.Packed.{Packs}
 
--- The text is three pieces joined: of the table's first word, of its other words, of all segments joined. The table's
+-- The text is three chunks joined: of the table's first word, of its other words, of all segments joined. The table's
 -- padding is one that the rule takes.
 pub record IsPackedFrame (rule : Padding) (text : List ℕ) (segments : List (List ℕ)) : Type 0 where
   pub first : List ℕ
@@ -20,9 +20,9 @@ pub record IsPackedFrame (rule : Padding) (text : List ℕ) (segments : List (Li
   pub first_text : List ℕ
   pub others_text : List ℕ
   pub segments_text : List ℕ
-  pub first_packed : IsPiece first_text first
-  pub others_packed : IsPiece others_text others
-  pub segments_packed : IsPiece segments_text (concat segments)
+  pub first_packed : IsChunk first_text first
+  pub others_packed : IsChunk others_text others
+  pub segments_packed : IsChunk segments_text (concat segments)
   pub spelled : text ≡ first_text ++ others_text ++ segments_text
 
 -- the table whose padding is zero: its first word, and its other words

@@ -1,4 +1,4 @@
--- What a packed piece adds to a sink, and by which kinds it may be refused.
+-- What a packed chunk adds to a sink, and by which kinds it may be refused.
 use Rattle.std.specs.Prelude.{◌≡◌, ℕ, ◌⊎◌, List, []}
 use Rattle.std.specs.List.{concat}
 use Rattle.capnp_frame.specs.declared.error.ErrorKind.TheVariants.{NotWholeWords}
@@ -9,12 +9,12 @@ use Rattle.capnp_pack.specs.Packed.{Packs}
 
 -- what the sink adds for the parts of the packed text, however it is cut
 abbrev pub AppendsPacked : Appending → Appending
-AppendsPacked appends piece text = (parts : List (List ℕ)) × Packs piece (concat parts) × AppendsAll appends parts text
+AppendsPacked appends chunk text = (parts : List (List ℕ)) × Packs chunk (concat parts) × AppendsAll appends parts text
 
 -- what a call that fails leaves of these parts: the first ones, and of the next one what the sink leaves of it
 abbrev pub LeavesPacked : Appending → Leaving → Leaving
-LeavesPacked appends leaves piece text = (text ≡ []) ⊎ ((parts : List (List ℕ)) × Packs piece (concat parts) × LeavesSome appends leaves parts text)
+LeavesPacked appends leaves chunk text = (text ≡ []) ⊎ ((parts : List (List ℕ)) × Packs chunk (concat parts) × LeavesSome appends leaves parts text)
 
 -- a part of a word, and else as the sink refuses
 abbrev pub DeclinesPacked : Declining → Declining
-DeclinesPacked refuses piece kind = Unless (IsWholeWords piece → ⊥) (kind ≡ NotWholeWords) (DeclinesAny refuses kind)
+DeclinesPacked refuses chunk kind = Unless (IsWholeWords chunk → ⊥) (kind ≡ NotWholeWords) (DeclinesAny refuses kind)

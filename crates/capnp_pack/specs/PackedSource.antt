@@ -7,11 +7,11 @@ use Rattle.capnp_frame.specs.declared.error.ErrorKind.TheVariants.{FailedToFillT
 use Rattle.capnp_frame.specs.Refusals.{Unless}
 use Rattle.capnp_frame.specs.Source.{Giving, Refusing, IfKnown}
 use Rattle.capnp_pack.specs.Group.{Group, tagged, zeros, literal, IsGroup, group_words, marked}
-use Rattle.capnp_pack.specs.Piece.{IsPiece, text_of, words_of_groups}
+use Rattle.capnp_pack.specs.Chunk.{IsChunk, text_of, words_of_groups}
 
--- a packed request takes a piece of n bytes
+-- a packed request takes a chunk of n bytes
 abbrev pub Unpacks : Giving
-Unpacks raw n bytes rest = (text : List ℕ) × IsPiece text bytes × (raw ≡ text ++ rest) × (length bytes ≡ n)
+Unpacks raw n bytes rest = (text : List ℕ) × IsChunk text bytes × (raw ≡ text ++ rest) × (length bytes ≡ n)
 
 -- A group's text is its head, and after the count of a literal group its run.
 abbrev pub head_text : Group → List ℕ
@@ -37,28 +37,28 @@ pub record IsHeadCut (left : List ℕ) : Type 0 where
   pub spelled : left ++ missing ≡ head_text group
 
 -- a group's head stands at the front
-pub record IsHeadAt (group : Group) (left behind : List ℕ) : Type 0 where
+pub record IsHeadAt (group : Group) (left following : List ℕ) : Type 0 where
   pub is : IsGroup group
-  pub spelled : left ≡ head_text group ++ behind
+  pub spelled : left ≡ head_text group ++ following
 
 -- its count is larger than what is still asked
 pub record Overruns (n : ℕ) (left : List ℕ) : Type 0 where
   pub group : Group
-  pub behind : List ℕ
-  pub head : IsHeadAt group left behind
+  pub following : List ℕ
+  pub head : IsHeadAt group left following
   pub long : n < group_size group
 
 -- its count isn't, and the run is cut
 pub record IsRunCut (n : ℕ) (left : List ℕ) : Type 0 where
   pub group : Group
-  pub behind : List ℕ
-  pub head : IsHeadAt group left behind
+  pub following : List ℕ
+  pub head : IsHeadAt group left following
   pub fits : group_size group ≤ n
-  pub short : length behind < length (run_text group)
+  pub short : length following < length (run_text group)
 
 -- no group can be taken here, where n bytes are still asked
-abbrev pub IsFault : List ℕ → ℕ → ErrorKind → Type 0
-IsFault left n kind = (IsHeadCut left × (kind ≡ PrematureEndOfPackedInput))
+abbrev pub IsGroupFault : List ℕ → ℕ → ErrorKind → Type 0
+IsGroupFault left n kind = (IsHeadCut left × (kind ≡ PrematureEndOfPackedInput))
     ⊎ (Overruns n left × (kind ≡ PackedInputDidNotEndCleanlyOnASegmentBoundary))
     ⊎ (IsRunCut n left × (kind ≡ FailedToFillTheWholeBuffer))
 
@@ -69,7 +69,7 @@ pub record MeetsFault (raw : List ℕ) (n : ℕ) (kind : ErrorKind) : Type 0 whe
   pub left : List ℕ
   pub spelled : raw ≡ text_of groups ++ left
   pub fewer : length (concat (words_of_groups groups)) < n
-  pub fault : IsFault left (n - length (concat (words_of_groups groups))) kind
+  pub fault : IsGroupFault left (n - length (concat (words_of_groups groups))) kind
 
 -- Where a count is larger than what is still asked of n bytes, the groups before it and the head of its group are consumed,
 -- and no more.
@@ -86,9 +86,9 @@ pub record LeavesOverrun (n : ℕ) (raw left : List ℕ) : Type 0 where
 abbrev pub Overran : {X : Type 0} → Result X Error → Option (List ℕ) → Option (List ℕ) → (List ℕ → List ℕ → Type 0) → Type 0
 Overran result old new leaves = IfErr result (λ error. error.kind ≡ PackedInputDidNotEndCleanlyOnASegmentBoundary → IfKnown old new leaves)
 
--- a packed request is refused: the lines of the table of a piece (docs/REFUSALS.md)
-abbrev pub RefusesPiece : Refusing
-RefusesPiece raw n kind =
+-- a packed request is refused: the lines of the table of a chunk (docs/REFUSALS.md)
+abbrev pub RefusesChunk : Refusing
+RefusesChunk raw n kind =
     Unless (n % 8 ≢ 0) (kind ≡ NotWholeWords) (
     Unless (raw ≡ []) ((0 < n) × (kind ≡ FailedToFillTheWholeBuffer)) (
     MeetsFault raw n kind))

@@ -2,8 +2,8 @@
 use Rattle.capnp_frame.specs.declared.serialize.segment_table.Padding.{Padding}
 use Rattle.capnp_frame.specs.Streams.{StreamRules, framed_rules}
 use Rattle.capnp_pack.specs.PackedFrame.{PackedStands}
-use Rattle.capnp_pack.specs.PackedSource.{Unpacks, RefusesPiece}
+use Rattle.capnp_pack.specs.PackedSource.{Unpacks, RefusesChunk}
 
--- Packed messages, their padding by the rule: each request is a packed piece.
+-- Packed messages, their padding by the rule: each request is a packed chunk.
 abbrev pub packed_rules : Padding → StreamRules
-packed_rules rule = record (framed_rules rule Unpacks RefusesPiece) { stands = PackedStands rule }
+packed_rules rule = record (framed_rules rule Unpacks RefusesChunk) { stands = PackedStands rule }

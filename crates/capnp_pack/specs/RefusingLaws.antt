@@ -7,8 +7,8 @@ use Rattle.capnp_frame.specs.declared.error.ErrorKind.{ErrorKind}
 use Rattle.capnp_frame.specs.Source.{IsSource}
 use Rattle.capnp_frame.specs.SplittingLaws.{same_front}
 use Rattle.capnp_pack.specs.Group.{Group, tagged, zeros, literal, IsGroup, AreZero, group_text, group_words, marked, unmarked}
-use Rattle.capnp_pack.specs.Piece.{text_of, words_of_groups}
-use Rattle.capnp_pack.specs.PackedSource.{Unpacks, head_text, run_text, group_size, IsHeadCut, IsHeadAt, IsFault, MeetsFault, RefusesPiece}
+use Rattle.capnp_pack.specs.Chunk.{text_of, words_of_groups}
+use Rattle.capnp_pack.specs.PackedSource.{Unpacks, head_text, run_text, group_size, IsHeadCut, IsHeadAt, IsGroupFault, MeetsFault, RefusesChunk}
 use Rattle.capnp_pack.specs.UnpackingLaws.{length-words, same_word, same_group, unpack_whole, unpack_once, none_unpacked, takes_no_group}
 
 text_parts : (g : Group) → group_text g ≡ head_text g ++ run_text g
@@ -18,7 +18,7 @@ text_parts (literal word further) = ap (λ l. 255 ∷ l) (sym (append_assoc word
 
 -- what a head says of its group
 record SameHead (g h : Group) (x y : List ℕ) : Type 0 where
-  pub behind : x ≡ y
+  pub following : x ≡ y
   pub size : group_size g ≡ group_size h
   pub run : length (run_text g) ≡ length (run_text h)
 
@@ -28,8 +28,8 @@ same_head (tagged t w) (tagged u v) x y p q e =
     let tags : t ≡ u = cc in
     let texts : marked t w ++ x ≡ marked u v ++ y = cc in
     let word = same_word w v t x y (p.2 ∙ sym q.2) p.3 (subst (λ k. AreZero (unmarked k v)) (sym tags) q.3) (texts ∙ ap (λ k. marked k v ++ y) (sym tags)) in
-    record { behind = word.1; size = ap (λ l. length (l ++ [])) word.0; run = refl }
-same_head (zeros m) (zeros n) x y p q e = let more : m ≡ n = cc in let rest : x ≡ y = cc in record { behind = rest; size = ap (λ k. group_size (zeros k)) more; run = refl }
+    record { following = word.1; size = ap (λ l. length (l ++ [])) word.0; run = refl }
+same_head (zeros m) (zeros n) x y p q e = let more : m ≡ n = cc in let rest : x ≡ y = cc in record { following = rest; size = ap (λ k. group_size (zeros k)) more; run = refl }
 same_head (literal w fs) (literal v hs) x y p q e =
     let texts : (w ++ length fs ∷ []) ++ x ≡ (v ++ length hs ∷ []) ++ y = cc in
     let words = same_front w v (length fs ∷ x) (length hs ∷ y) (p.0 ∙ sym q.0) (sym (append_assoc w (length fs ∷ []) x) ∙ texts ∙ append_assoc v (length hs ∷ []) y) in
@@ -37,7 +37,7 @@ same_head (literal w fs) (literal v hs) x y p q e =
     let counts : length fs ≡ length hs = cc in
     let rests : x ≡ y = cc in
     let runs : length (concat fs) ≡ length (concat hs) = omega (arith, length-words fs p.1, length-words hs q.1) in
-    record { behind = rests; size = omega (arith, length-append w (concat fs), length-append v (concat hs), p.0, q.0); run = runs }
+    record { following = rests; size = omega (arith, length-append w (concat fs), length-append v (concat hs), p.0, q.0); run = runs }
 same_head (tagged t w) (zeros n) x y p q e = let tags : t ≡ 0 = cc in absurd (omega (arith, p.0))
 same_head (tagged t w) (literal v hs) x y p q e = let tags : t ≡ 255 = cc in absurd (omega (arith, p.1))
 same_head (zeros m) (tagged u v) x y p q e = let tags : 0 ≡ u = cc in absurd (omega (arith, q.0))
@@ -46,38 +46,38 @@ same_head (literal w fs) (tagged u v) x y p q e = let tags : 255 ≡ u = cc in a
 same_head (literal w fs) (zeros n) x y p q e = let tags : ◌≡◌ {A = ℕ} 255 0 = cc in absurd (omega arith)
 
 -- where a head is cut none stands
-cut_head : (left behind : List ℕ) (g : Group) → IsHeadCut left → IsHeadAt g left behind → ⊥
-cut_head left behind g cut at =
-    let same = same_head g cut.group (behind ++ cut.missing) [] at.is cut.is
-    (sym (append_assoc (head_text g) behind cut.missing) ∙ ap (λ l. l ++ cut.missing) (sym at.spelled) ∙ cut.spelled ∙ sym (append-nil (head_text cut.group))) in
-    absurd (omega (arith, cut.some, ap length same.behind, length-append behind cut.missing))
+cut_head : (left following : List ℕ) (g : Group) → IsHeadCut left → IsHeadAt g left following → ⊥
+cut_head left following g cut at =
+    let same = same_head g cut.group (following ++ cut.missing) [] at.is cut.is
+    (sym (append_assoc (head_text g) following cut.missing) ∙ ap (λ l. l ++ cut.missing) (sym at.spelled) ∙ cut.spelled ∙ sym (append-nil (head_text cut.group))) in
+    absurd (omega (arith, cut.some, ap length same.following, length-append following cut.missing))
 
 same_at : (left x y : List ℕ) (g h : Group) → IsHeadAt g left x → IsHeadAt h left y → SameHead g h x y
 same_at left x y g h p q = same_head g h x y p.is q.is (sym p.spelled ∙ q.spelled)
 
 -- a place has one fault
-IsFault-once : (left : List ℕ) (n : ℕ) (kind other : ErrorKind) → IsFault left n kind → IsFault left n other → kind ≡ other
-IsFault-once left n kind other (inl p) (inl q) = p.1 ∙ sym q.1
-IsFault-once left n kind other (inl p) (inr (inl q)) = absurd (cut_head left q.0.behind q.0.group p.0 q.0.head)
-IsFault-once left n kind other (inl p) (inr (inr q)) = absurd (cut_head left q.0.behind q.0.group p.0 q.0.head)
-IsFault-once left n kind other (inr (inl p)) (inl q) = absurd (cut_head left p.0.behind p.0.group q.0 p.0.head)
-IsFault-once left n kind other (inr (inr p)) (inl q) = absurd (cut_head left p.0.behind p.0.group q.0 p.0.head)
-IsFault-once left n kind other (inr (inl p)) (inr (inl q)) = p.1 ∙ sym q.1
-IsFault-once left n kind other (inr (inr p)) (inr (inr q)) = p.1 ∙ sym q.1
-IsFault-once left n kind other (inr (inl p)) (inr (inr q)) =
-    let same = same_at left p.0.behind q.0.behind p.0.group q.0.group p.0.head q.0.head in
+IsGroupFault-once : (left : List ℕ) (n : ℕ) (kind other : ErrorKind) → IsGroupFault left n kind → IsGroupFault left n other → kind ≡ other
+IsGroupFault-once left n kind other (inl p) (inl q) = p.1 ∙ sym q.1
+IsGroupFault-once left n kind other (inl p) (inr (inl q)) = absurd (cut_head left q.0.following q.0.group p.0 q.0.head)
+IsGroupFault-once left n kind other (inl p) (inr (inr q)) = absurd (cut_head left q.0.following q.0.group p.0 q.0.head)
+IsGroupFault-once left n kind other (inr (inl p)) (inl q) = absurd (cut_head left p.0.following p.0.group q.0 p.0.head)
+IsGroupFault-once left n kind other (inr (inr p)) (inl q) = absurd (cut_head left p.0.following p.0.group q.0 p.0.head)
+IsGroupFault-once left n kind other (inr (inl p)) (inr (inl q)) = p.1 ∙ sym q.1
+IsGroupFault-once left n kind other (inr (inr p)) (inr (inr q)) = p.1 ∙ sym q.1
+IsGroupFault-once left n kind other (inr (inl p)) (inr (inr q)) =
+    let same = same_at left p.0.following q.0.following p.0.group q.0.group p.0.head q.0.head in
     absurd (omega (arith, p.0.long, q.0.fits, same.size))
-IsFault-once left n kind other (inr (inr p)) (inr (inl q)) =
-    let same = same_at left p.0.behind q.0.behind p.0.group q.0.group p.0.head q.0.head in
+IsGroupFault-once left n kind other (inr (inr p)) (inr (inl q)) =
+    let same = same_at left p.0.following q.0.following p.0.group q.0.group p.0.head q.0.head in
     absurd (omega (arith, q.0.long, p.0.fits, same.size))
 
 -- where a whole group stands and fits there is no fault
-no_fault : (g : Group) (left rest : List ℕ) (n : ℕ) (kind : ErrorKind) → IsGroup g → left ≡ group_text g ++ rest → group_size g ≤ n → IsFault left n kind → ⊥
+no_fault : (g : Group) (left rest : List ℕ) (n : ℕ) (kind : ErrorKind) → IsGroup g → left ≡ group_text g ++ rest → group_size g ≤ n → IsGroupFault left n kind → ⊥
 no_fault g left rest n kind is e fits fault = elim fault [
   | inl p ↦ cut_head left (run_text g ++ rest) g p.0 at
   | inr more ↦ elim more [
-    | inl p ↦ (let same = same_at left (run_text g ++ rest) p.0.behind g p.0.group at p.0.head in absurd (omega (arith, p.0.long, same.size)))
-    | inr p ↦ (let same = same_at left (run_text g ++ rest) p.0.behind g p.0.group at p.0.head in absurd (omega (arith, p.0.short, same.run, ap length same.behind, length-append (run_text g) rest)))
+    | inl p ↦ (let same = same_at left (run_text g ++ rest) p.0.following g p.0.group at p.0.head in absurd (omega (arith, p.0.long, same.size)))
+    | inr p ↦ (let same = same_at left (run_text g ++ rest) p.0.following g p.0.group at p.0.head in absurd (omega (arith, p.0.short, same.run, ap length same.following, length-append (run_text g) rest)))
   ]
 ]
   where
@@ -99,61 +99,61 @@ fault_later g rest n kind is p =
       left = p.left;
       spelled = ap (λ l. group_text g ++ l) p.spelled ∙ sym (append_assoc (group_text g) (text_of p.groups) p.left);
       fewer = omega (arith, size, fewer);
-      fault = subst (λ k. IsFault p.left k kind) len p.fault;
+      fault = subst (λ k. IsGroupFault p.left k kind) len p.fault;
     }
 
-pub fault_behind : (g : Group) (rest : List ℕ) (n : ℕ) (kind : ErrorKind) → IsGroup g → group_size g ≤ n → MeetsFault (group_text g ++ rest) n kind → MeetsFault rest (n - group_size g) kind
-fault_behind g rest n kind is fits p = after p.groups p.each p.spelled p.fewer p.fault
+pub fault_after : (g : Group) (rest : List ℕ) (n : ℕ) (kind : ErrorKind) → IsGroup g → group_size g ≤ n → MeetsFault (group_text g ++ rest) n kind → MeetsFault rest (n - group_size g) kind
+fault_after g rest n kind is fits p = after p.groups p.each p.spelled p.fewer p.fault
   where
     after : (gs : List Group) → AllByRecursion IsGroup gs → group_text g ++ rest ≡ text_of gs ++ p.left → length (concat (words_of_groups gs)) < n →
-        IsFault p.left (n - length (concat (words_of_groups gs))) kind → MeetsFault rest (n - group_size g) kind
+        IsGroupFault p.left (n - length (concat (words_of_groups gs))) kind → MeetsFault rest (n - group_size g) kind
     after [] each e fewer fault = absurd (no_fault g p.left rest (n - 0) kind is (sym e) (omega arith) fault)
     after (h ∷ hs) each e fewer fault =
         let same = same_group g h rest (text_of hs ++ p.left) is each.0 (e ∙ append_assoc (group_text h) (text_of hs) p.left) in
         let size = words_size h hs in
         let sizes : group_size g ≡ group_size h = ap length same.0 in
         let len : n - length (concat (words_of_groups (h ∷ hs))) ≡ (n - group_size g) - length (concat (words_of_groups hs)) = omega (arith, size, sizes) in
-        record { groups = hs; each = each.1; left = p.left; spelled = same.1; fewer = omega (arith, size, sizes, fewer); fault = subst (λ k. IsFault p.left k kind) len fault }
+        record { groups = hs; each = each.1; left = p.left; spelled = same.1; fewer = omega (arith, size, sizes, fewer); fault = subst (λ k. IsGroupFault p.left k kind) len fault }
 
--- a piece that is whole has no fault
+-- a chunk that is whole has no fault
 fault_apart : (gs : List Group) (raw rest : List ℕ) (n : ℕ) (kind : ErrorKind) → AllByRecursion IsGroup gs → raw ≡ text_of gs ++ rest →
     length (concat (words_of_groups gs)) ≡ n → MeetsFault raw n kind → ⊥
 fault_apart [] raw rest n kind each e len p = absurd (omega (arith, p.fewer))
 fault_apart (g ∷ gs) raw rest n kind each e len p =
     let size = words_size g gs in
     fault_apart gs (text_of gs ++ rest) rest (n - group_size g) kind each.1 refl (omega (arith, size))
-    (fault_behind g (text_of gs ++ rest) n kind each.0 (omega (arith, size)) (subst (λ l. MeetsFault l n kind) (e ∙ append_assoc (group_text g) (text_of gs) rest) p))
+    (fault_after g (text_of gs ++ rest) n kind each.0 (omega (arith, size)) (subst (λ l. MeetsFault l n kind) (e ∙ append_assoc (group_text g) (text_of gs) rest) p))
 
 -- the first fault is one
 fault_once : (gs : List Group) (raw left : List ℕ) (n : ℕ) (kind other : ErrorKind) → AllByRecursion IsGroup gs → raw ≡ text_of gs ++ left →
-    length (concat (words_of_groups gs)) < n → IsFault left (n - length (concat (words_of_groups gs))) kind → MeetsFault raw n other → kind ≡ other
+    length (concat (words_of_groups gs)) < n → IsGroupFault left (n - length (concat (words_of_groups gs))) kind → MeetsFault raw n other → kind ≡ other
 fault_once [] raw left n kind other each e fewer fault q = first q.groups q.each q.spelled q.fewer q.fault
   where
     first : (hs : List Group) → AllByRecursion IsGroup hs → raw ≡ text_of hs ++ q.left → length (concat (words_of_groups hs)) < n →
-        IsFault q.left (n - length (concat (words_of_groups hs))) other → kind ≡ other
-    first [] each spelled fewer found = IsFault-once left (n - 0) kind other fault (subst (λ l. IsFault l (n - 0) other) (sym spelled ∙ e) found)
+        IsGroupFault q.left (n - length (concat (words_of_groups hs))) other → kind ≡ other
+    first [] each spelled fewer found = IsGroupFault-once left (n - 0) kind other fault (subst (λ l. IsGroupFault l (n - 0) other) (sym spelled ∙ e) found)
     first (h ∷ hs) each spelled fewer found =
         let size = words_size h hs in
         absurd (no_fault h left (text_of hs ++ q.left) (n - 0) kind each.0 (sym e ∙ spelled ∙ append_assoc (group_text h) (text_of hs) q.left) (omega (arith, size, fewer)) fault)
 fault_once (g ∷ gs) raw left n kind other each e fewer fault q =
     let size = words_size g gs in
     let len : n - length (concat (words_of_groups (g ∷ gs))) ≡ (n - group_size g) - length (concat (words_of_groups gs)) = omega (arith, size) in
-    fault_once gs (text_of gs ++ left) left (n - group_size g) kind other each.1 refl (omega (arith, size, fewer)) (subst (λ k. IsFault left k kind) len fault)
-    (fault_behind g (text_of gs ++ left) n other each.0 (omega (arith, size, fewer)) (subst (λ l. MeetsFault l n other) (e ∙ append_assoc (group_text g) (text_of gs) left) q))
+    fault_once gs (text_of gs ++ left) left (n - group_size g) kind other each.1 refl (omega (arith, size, fewer)) (subst (λ k. IsGroupFault left k kind) len fault)
+    (fault_after g (text_of gs ++ left) n other each.0 (omega (arith, size, fewer)) (subst (λ l. MeetsFault l n other) (e ∙ append_assoc (group_text g) (text_of gs) left) q))
 
 pub MeetsFault-once : (raw : List ℕ) (n : ℕ) (kind other : ErrorKind) → MeetsFault raw n kind → MeetsFault raw n other → kind ≡ other
 MeetsFault-once raw n kind other p q = fault_once p.groups raw p.left n kind other p.each p.spelled p.fewer p.fault q
 
 -- the laws of a source
 
-pub packed_apart : (raw : List ℕ) (n : ℕ) (bytes rest : List ℕ) (kind : ErrorKind) → Unpacks raw n bytes rest → RefusesPiece raw n kind → ⊥
+pub packed_apart : (raw : List ℕ) (n : ℕ) (bytes rest : List ℕ) (kind : ErrorKind) → Unpacks raw n bytes rest → RefusesChunk raw n kind → ⊥
 packed_apart raw n bytes rest kind p (inl q) = q.0 (unpack_whole raw n bytes rest p)
 packed_apart raw n bytes rest kind p (inr (w, inl q)) =
     let zero_len : n ≡ 0 = none_unpacked n bytes rest (subst (λ l. Unpacks l n bytes rest) q.0 p) in
     absurd (omega (arith, q.1.0))
 packed_apart raw n bytes rest kind p (inr (w, inr q)) = fault_apart p.1.groups raw rest n kind p.1.each (p.2 ∙ ap (λ l. l ++ rest) p.1.spelled) (sym (ap length p.1.unpacked) ∙ p.3) q.1
 
-pub packed_alike : (raw : List ℕ) (n : ℕ) (kind other : ErrorKind) → RefusesPiece raw n kind → RefusesPiece raw n other → kind ≡ other
+pub packed_alike : (raw : List ℕ) (n : ℕ) (kind other : ErrorKind) → RefusesChunk raw n kind → RefusesChunk raw n other → kind ≡ other
 packed_alike raw n kind other (inl p) (inl q) = p.1 ∙ sym q.1
 packed_alike raw n kind other (inl p) (inr q) = absurd (q.0 p.0)
 packed_alike raw n kind other (inr p) (inl q) = absurd (p.0 q.0)
@@ -162,7 +162,7 @@ packed_alike raw n kind other (inr (w, inl p)) (inr (v, inr q)) = absurd (q.0 p.
 packed_alike raw n kind other (inr (w, inr p)) (inr (v, inl q)) = absurd (p.0 q.0)
 packed_alike raw n kind other (inr (w, inr p)) (inr (v, inr q)) = MeetsFault-once raw n kind other p.1 q.1
 
-pub unpacking : IsSource Unpacks RefusesPiece
+pub unpacking : IsSource Unpacks RefusesChunk
 unpacking = record {
   takes_nothing = takes_no_group;
   none_from_nothing = none_unpacked;

@@ -4,9 +4,9 @@ use Rattle.std.specs.List.{concat, filter, AllByRecursion}
 use Rattle.capnp_frame.specs.declared.error.ErrorKind.{ErrorKind}
 use Rattle.capnp_frame.specs.declared.error.ErrorKind.TheVariants.{PrematureEndOfPackedInput, PackedInputDidNotEndCleanlyOnASegmentBoundary}
 use Rattle.capnp_frame.specs.Sink.{Appending, Leaving, AppendsAll, LeavesSome}
-use Rattle.capnp_frame.specs.Source.{Refusing, RunsShort, IfKnown, AnswersPart}
+use Rattle.capnp_frame.specs.Source.{Refusing, RunsShort, IfKnown, ReturnsPart}
 use Rattle.capnp_pack.specs.Group.{Group, IsGroup, AreZero, group_text, group_words, marked, unmarked, zero_bytes, zero_word}
-use Rattle.capnp_pack.specs.Piece.{IsPiece, text_of, words_of_groups}
+use Rattle.capnp_pack.specs.Chunk.{IsChunk, text_of, words_of_groups}
 use Rattle.capnp_pack.specs.Packed.{IfFirst, IsLongest}
 use Rattle.capnp_pack.specs.PackedSource.{Unpacks, MeetsFault, head_text, group_size}
 
@@ -17,19 +17,19 @@ abbrev pub GroupAt : ℕ → List ℕ → List ℕ → List ℕ → Type 0
 GroupAt tag bytes raw left = (group : Group) × IsGroup group × (bytes ≡ concat (group_words group)) × (tag ∷ raw ≡ group_text group ++ left)
 
 -- the first fault, where the tag of the first group is taken
-abbrev pub FaultBehind : ℕ → Refusing
-FaultBehind tag raw n kind = MeetsFault (tag ∷ raw) n kind
+abbrev pub FaultAfter : ℕ → Refusing
+FaultAfter tag raw n kind = MeetsFault (tag ∷ raw) n kind
 
 -- the bytes of a word that a tag marks stand at the front, and its others are zero
 abbrev pub MarkedAt : ℕ → List ℕ → List ℕ → List ℕ → Type 0
 MarkedAt tag word raw left = (raw ≡ marked tag word ++ left) × AreZero (unmarked tag word)
 
--- So many bytes of a text, at most a word, fill a word under a tag.
+-- A given number of bytes of a text, at most a word, fill a word under a tag.
 pub record TakesMarked (tag : ℕ) (text word : List ℕ) (used : ℕ) : Type 0 where
   pub used_within : used ≤ 8
   pub marked : MarkedAt tag word text (drop used text)
 
--- how many of so many bytes a tag marks
+-- how many of a given number of bytes a tag marks
 abbrev pub marked_count : ℕ → ℕ → ℕ
 marked_count tag n = length (marked tag (replicate n 0))
 
@@ -47,23 +47,23 @@ RefusesRun raw n kind = ((raw ≡ []) × (kind ≡ PrematureEndOfPackedInput))
     ⊎ ((further : ℕ) × (left : List ℕ) × (further < 256) × (raw ≡ further ∷ left)
     × (((n < 8 * further) × (kind ≡ PackedInputDidNotEndCleanlyOnASegmentBoundary)) ⊎ ((8 * further ≤ n) × RunsShort left (8 * further) kind)))
 
--- So many bytes after a tag end its group, which fills so many bytes of a buffer.
-pub record GroupBehind (tag : ℕ) (behind buffer : List ℕ) (used filled : ℕ) : Type 0 where
-  pub used_within : used ≤ length behind
+-- A given number of bytes after a tag end its group, which fills a given number of bytes of a buffer.
+pub record GroupFollowing (tag : ℕ) (following buffer : List ℕ) (used filled : ℕ) : Type 0 where
+  pub used_within : used ≤ length following
   pub some : 0 < filled
   pub filled_within : filled ≤ length buffer
   pub whole : filled % 8 ≡ 0
-  pub group : GroupAt tag (take filled buffer) behind (drop used behind)
+  pub group : GroupAt tag (take filled buffer) following (drop used following)
 
--- So many bytes of a text are groups, which fill so many bytes of a buffer.
+-- A given number of bytes of a text are groups, which fill a given number of bytes of a buffer.
 pub record Unpacked (text buffer : List ℕ) (used filled : ℕ) : Type 0 where
   pub used_within : used ≤ length text
   pub some : 0 < filled → 0 < used
   pub filled_within : filled ≤ length buffer
   pub whole : filled % 8 ≡ 0
-  pub piece : IsPiece (take used text) (take filled buffer)
+  pub chunk : IsChunk (take used text) (take filled buffer)
 
--- whole groups, whose words have so many bytes, are taken from the front
+-- whole groups, whose words have a given number of bytes, are taken from the front
 abbrev pub HasTaken : ℕ → List ℕ → List ℕ → Type 0
 HasTaken count raw left = (groups : List Group) × AllByRecursion IsGroup groups × (raw ≡ text_of groups ++ left)
     × (length (concat (words_of_groups groups)) ≡ count)
@@ -76,13 +76,13 @@ HeadOver tag n raw left = (group : Group) × IsGroup group × (n < group_size gr
 abbrev pub CountOver : ℕ → List ℕ → List ℕ → Type 0
 CountOver n raw left = (further : ℕ) × (further < 256) × (n < 8 * further) × (raw ≡ further ∷ left)
 
--- So many bytes at the front of a buffer are the words of groups, a part of each answer that they
+-- A given number of bytes at the front of a buffer are the words of groups, a part of each result that they
 -- fit into, and something was unread before them.
 abbrev pub TakesGroups : Option (List ℕ) → Option (List ℕ) → List ℕ → ℕ → Type 0
 TakesGroups old new buffer count = (0 < count) × (count ≤ length buffer) × (count % 8 ≡ 0)
     × IfSome old (λ raw. raw ≡ [] → ⊥)
     × IfKnown old new (HasTaken count)
-    × IfKnown old new (AnswersPart Unpacks MeetsFault (length buffer) (take count buffer))
+    × IfKnown old new (ReturnsPart Unpacks MeetsFault (length buffer) (take count buffer))
 
 -- Packing
 
@@ -100,14 +100,14 @@ tag_of (byte ∷ bytes) = (if byte == 0 then 0 else 1) + 2 * tag_of bytes
 abbrev pub nonzero : List ℕ → List ℕ
 nonzero word = filter (λ byte. not (byte == 0)) word
 
--- P holds of so many words at the front, and of no more of them, or they are 255.
+-- P holds of a given number of words at the front, and of no more of them, or they are 255.
 pub record IsRun (P : List ℕ → Type 0) (words : List (List ℕ)) (count : ℕ) : Type 0 where
   pub most : count ≤ 255
   pub within : count ≤ length words
   pub each : AllByRecursion P (take count words)
   pub ends : count < 255 → IfFirst (drop count words) (λ word. P word → ⊥)
 
--- The group that a packer makes of a word and so many of those after it.
+-- The group that a packer makes of a word and a given number of those after it.
 pub record IsGroupOf (word : List ℕ) (others : List (List ℕ)) (count : ℕ) (group : Group) : Type 0 where
   pub within : count ≤ length others
   pub is : IsGroup group

@@ -8,7 +8,7 @@ use Rattle.std.specs.List.{concat, AllByRecursion}
 use Rattle.capnp_frame.specs.Source.{IsPlain}
 use Rattle.capnp_frame.specs.SplittingLaws.{same_front}
 use Rattle.capnp_pack.specs.Group.{Group, tagged, zeros, literal, IsGroup, IsWord, AreZero, zero_word, group_text, group_words, marked, unmarked}
-use Rattle.capnp_pack.specs.Piece.{text_of, words_of_groups}
+use Rattle.capnp_pack.specs.Chunk.{text_of, words_of_groups}
 use Rattle.capnp_pack.specs.PackedSource.{Unpacks}
 
 pub length-words : (words : List (List ℕ)) → AllByRecursion IsWord words → length (concat words) ≡ 8 * length words
@@ -25,7 +25,7 @@ group_len (tagged tag word) is = (0, omega (arith, length-append word [], is.2))
 group_len (zeros more) is = (length (replicate more zero_word), omega (arith, length-words (zero_word ∷ replicate more zero_word) (refl, zero_words more)))
 group_len (literal word further) is = (length further, omega (arith, length-words (word ∷ further) (is.0, is.1)))
 
--- a piece is whole words, and has as many groups as its words need
+-- a chunk is whole words, and has as many groups as its words need
 pub words_len : (gs : List Group) → AllByRecursion IsGroup gs → (k : ℕ) × (length (concat (words_of_groups gs)) ≡ 8 * (k + length gs))
 words_len [] each = (0, refl)
 words_len (g ∷ gs) each =
@@ -121,17 +121,17 @@ same_group (zeros m) (literal v hs) x y p q e = let tags : ◌≡◌ {A = ℕ} 0
 same_group (literal w fs) (tagged u v) x y p q e = let tags : 255 ≡ u = cc in absurd (omega (arith, q.1))
 same_group (literal w fs) (zeros n) x y p q e = let tags : ◌≡◌ {A = ℕ} 255 0 = cc in absurd (omega arith)
 
--- no piece of so many words begins another
-same_piece : (gs hs : List Group) (x y : List ℕ) → AllByRecursion IsGroup gs → AllByRecursion IsGroup hs → text_of gs ++ x ≡ text_of hs ++ y →
+-- no chunk of a given number of words begins another
+same_chunk : (gs hs : List Group) (x y : List ℕ) → AllByRecursion IsGroup gs → AllByRecursion IsGroup hs → text_of gs ++ x ≡ text_of hs ++ y →
     length (concat (words_of_groups gs)) ≡ length (concat (words_of_groups hs)) → (concat (words_of_groups gs) ≡ concat (words_of_groups hs)) × (x ≡ y)
-same_piece [] [] x y p q e len = (refl, e)
-same_piece [] (h ∷ hs) x y p q e len = let whole = words_len (h ∷ hs) q in absurd (omega (arith, whole.1))
-same_piece (g ∷ gs) [] x y p q e len = let whole = words_len (g ∷ gs) p in absurd (omega (arith, whole.1))
-same_piece (g ∷ gs) (h ∷ hs) x y p q e len =
+same_chunk [] [] x y p q e len = (refl, e)
+same_chunk [] (h ∷ hs) x y p q e len = let whole = words_len (h ∷ hs) q in absurd (omega (arith, whole.1))
+same_chunk (g ∷ gs) [] x y p q e len = let whole = words_len (g ∷ gs) p in absurd (omega (arith, whole.1))
+same_chunk (g ∷ gs) (h ∷ hs) x y p q e len =
     let first = same_group g h (text_of gs ++ x) (text_of hs ++ y) p.0 q.0 (sym (append_assoc (group_text g) (text_of gs) x) ∙ e ∙ append_assoc (group_text h) (text_of hs) y) in
     let left : concat (words_of_groups (g ∷ gs)) ≡ concat (group_words g) ++ concat (words_of_groups gs) = concat-append (group_words g) (words_of_groups gs) in
     let right : concat (words_of_groups (h ∷ hs)) ≡ concat (group_words h) ++ concat (words_of_groups hs) = concat-append (group_words h) (words_of_groups hs) in
-    let others = same_piece gs hs x y p.1 q.1 first.1 (omega (
+    let others = same_chunk gs hs x y p.1 q.1 first.1 (omega (
       arith,
       len,
       ap length left,
@@ -144,7 +144,7 @@ same_piece (g ∷ gs) (h ∷ hs) x y p q e len =
 
 pub unpack_once : (raw : List ℕ) (n : ℕ) (bytes rest others left : List ℕ) → Unpacks raw n bytes rest → Unpacks raw n others left → (bytes ≡ others) × (rest ≡ left)
 unpack_once raw n bytes rest others left p q =
-    let same = same_piece p.1.groups q.1.groups rest left p.1.each q.1.each
+    let same = same_chunk p.1.groups q.1.groups rest left p.1.each q.1.each
     (ap (λ l. l ++ rest) (sym p.1.spelled) ∙ sym p.2 ∙ q.2 ∙ ap (λ l. l ++ left) q.1.spelled)
     (sym (ap length p.1.unpacked) ∙ p.3 ∙ sym q.3 ∙ ap length q.1.unpacked) in
     (p.1.unpacked ∙ same.0 ∙ sym q.1.unpacked, same.1)

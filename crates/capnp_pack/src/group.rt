@@ -1,33 +1,33 @@
-//! Reading a piece group by group.
+//! Reading a chunk group by group.
 //!
 //! What is shown whole is unpacked from there. A group that the source cuts is read a byte at a
 //! time, so just what it has is consumed, wherever the cut is.
 ghost use Rattle.std.specs.Prelude.{◌≡◌, ◌<◌, ◌≤◌, ◌%◌, [], ◌∷◌, ◌++◌, length, take, Option, Some, IfOk, IfErr, IfSome, ◌⊎◌, ◌↔◌};
 ghost use Rattle.capnp_frame.specs.declared.error.ErrorKind.{ErrorKind};
 ghost use Rattle.capnp_frame.specs.Message.{IsWholeWords};
-ghost use Rattle.capnp_frame.specs.Source.{IfKnown, IsRefused, AnswersPart, RunsShort};
+ghost use Rattle.capnp_frame.specs.Source.{IfKnown, IsRefused, ReturnsPart, RunsShort};
 ghost use Rattle.capnp_frame.specs.Asking.{Asked, FailsOr};
-ghost use Rattle.capnp_pack.specs.Calls.{Takes, TakesNext};
-ghost use Rattle.capnp_pack.specs.PackedSource.{Unpacks, MeetsFault, RefusesPiece, LeavesOverrun, Overran};
-ghost use Rattle.capnp_pack.specs.Steps.{TakesGroups, HeadOver, CountOver, GroupAt, FaultBehind, MarkedAt, marked_count, Lacks, RunAt, RefusesRun};
+ghost use Rattle.capnp_pack.specs.Calls.{TakesFrom, TakesNext};
+ghost use Rattle.capnp_pack.specs.PackedSource.{Unpacks, MeetsFault, RefusesChunk, LeavesOverrun, Overran};
+ghost use Rattle.capnp_pack.specs.Steps.{TakesGroups, HeadOver, CountOver, GroupAt, FaultAfter, MarkedAt, marked_count, Lacks, RunAt, RefusesRun};
 
 use crate::unpack::{copy_front, unpack_shown, unpack_tagged};
 use capnp_frame::io::{BufRead, Read};
 use capnp_frame::{Error, ErrorKind, Result};
 
-// Unpacks a piece of the buffer's length, or answers 0 at the end.
-pub(crate) fn read_piece<R: BufRead>(source: &mut R, buffer: &mut [u8]) -> Result<usize>
+// Unpacks a chunk of the buffer's length, or returns 0 at the end.
+pub(crate) fn read_chunk<R: BufRead>(source: &mut R, buffer: &mut [u8]) -> Result<usize>
     requires { IsWholeWords buffer.old }
     ensures whole { IfOk result (λ count. (count ≡ 0) ⊎ (count ≡ length buffer.new)) }
     ensures taken { IfOk result (λ count. IfKnown (R.unread source.old) (R.unread source.new)
-        (AnswersPart Unpacks RefusesPiece (length buffer.new) (take count buffer.new))) }
+        (ReturnsPart Unpacks RefusesChunk (length buffer.new) (take count buffer.new))) }
     ensures end { IfOk result (λ count. IfSome (R.unread source.old)
         (λ raw. 0 < length buffer.new → (count ≡ 0) ↔ (raw ≡ []))) }
     ensures spent { IfOk result (λ count. count ≡ 0 → 0 < length buffer.new →
-        IsRefused RefusesPiece (length buffer.new) (R.unread source.old)
+        IsRefused RefusesChunk (length buffer.new) (R.unread source.old)
         ErrorKind.FailedToFillTheWholeBuffer) }
     ensures refused { FailsOr result
-        (IsRefused RefusesPiece (length buffer.new) (R.unread source.old)) }
+        (IsRefused RefusesChunk (length buffer.new) (R.unread source.old)) }
     ensures overrun { Overran result (R.unread source.old) (R.unread source.new)
         (LeavesOverrun (length buffer.new)) }
     ensures at_end { IfErr result (λ error. R.unread source.old ≡ Some [] →
@@ -46,7 +46,7 @@ pub(crate) fn read_piece<R: BufRead>(source: &mut R, buffer: &mut [u8]) -> Resul
 }
 
 // Unpacks the groups that the source shows into the front of the buffer, or where it shows none
-// whole the next one, and answers how many bytes they have, or none at the end.
+// whole the next one, and returns how many bytes they have, or none at the end.
 fn read_groups<R: BufRead>(source: &mut R, buffer: &mut [u8]) -> Result<Option<usize>>
     requires { 8 ≤ length buffer.old }
     ensures takes { TakesNext R.Read source.old source.new
@@ -63,7 +63,7 @@ fn read_groups<R: BufRead>(source: &mut R, buffer: &mut [u8]) -> Result<Option<u
     Ok(Some(taken.filled))
 }
 
-// Unpacks the next group into the front of the buffer, and answers how many bytes it has, or none
+// Unpacks the next group into the front of the buffer, and returns how many bytes it has, or none
 // at the end. One byte is looked at at a time.
 fn read_group<R: BufRead>(source: &mut R, buffer: &mut [u8]) -> Result<Option<usize>>
     requires { 8 ≤ length buffer.old }
@@ -88,9 +88,9 @@ fn read_zeros<R: BufRead>(source: &mut R, buffer: &mut [u8]) -> Result<usize>
     requires room { 8 ≤ length buffer.old }
     ensures within { IfOk result (λ count. (0 < count) × (count ≤ length buffer.new)
         × (count % 8 ≡ 0)) }
-    ensures takes { Takes R.Read source.old source.new (λ count.
+    ensures takes { TakesFrom R.Read source.old source.new (λ count.
         IfKnown (R.unread source.old) (R.unread source.new) (GroupAt 0 (take count buffer.new)))
-        (IsRefused (FaultBehind 0) (length buffer.new) (R.unread source.old)) result }
+        (IsRefused (FaultAfter 0) (length buffer.new) (R.unread source.old)) result }
     ensures overrun { Overran result (R.unread source.old) (R.unread source.new)
         (HeadOver 0 (length buffer.new)) }
 {
@@ -111,9 +111,9 @@ fn read_words<R: BufRead>(source: &mut R, tag: u8, buffer: &mut [u8]) -> Result<
     requires room { 8 ≤ length buffer.old }
     ensures within { IfOk result (λ count. (0 < count) × (count ≤ length buffer.new)
         × (count % 8 ≡ 0)) }
-    ensures takes { Takes R.Read source.old source.new (λ count.
+    ensures takes { TakesFrom R.Read source.old source.new (λ count.
         IfKnown (R.unread source.old) (R.unread source.new) (GroupAt tag (take count buffer.new)))
-        (IsRefused (FaultBehind tag) (length buffer.new) (R.unread source.old)) result }
+        (IsRefused (FaultAfter tag) (length buffer.new) (R.unread source.old)) result }
     ensures overrun { Overran result (R.unread source.old) (R.unread source.new)
         (HeadOver tag (length buffer.new)) }
 {
@@ -128,7 +128,7 @@ fn read_words<R: BufRead>(source: &mut R, tag: u8, buffer: &mut [u8]) -> Result<
 // Fills a word by the bytes that a tag marks, at once where they are shown.
 fn read_word<R: BufRead>(source: &mut R, tag: u8, word: &mut [u8]) -> Result<()>
     requires { length word.old ≡ 8 }
-    ensures { Takes R.Read source.old source.new (λ _.
+    ensures { TakesFrom R.Read source.old source.new (λ _.
         IfKnown (R.unread source.old) (R.unread source.new) (MarkedAt tag word.new))
         (Lacks (marked_count tag (length word.new)) (R.unread source.old)) result }
 {
@@ -143,7 +143,7 @@ fn read_word<R: BufRead>(source: &mut R, tag: u8, word: &mut [u8]) -> Result<()>
 
 // The same byte by byte, with a look at the source for each.
 fn read_marked<R: BufRead>(source: &mut R, tag: u8, word: &mut [u8]) -> Result<()>
-    ensures { Takes R.Read source.old source.new (λ _.
+    ensures { TakesFrom R.Read source.old source.new (λ _.
         IfKnown (R.unread source.old) (R.unread source.new) (MarkedAt tag word.new))
         (Lacks (marked_count tag (length word.new)) (R.unread source.old)) result }
 {
@@ -155,9 +155,9 @@ fn read_marked<R: BufRead>(source: &mut R, tag: u8, word: &mut [u8]) -> Result<(
     Ok(())
 }
 
-// Reads a byte where the lowest of the bits marks it, else answers zero.
+// Reads a byte where the lowest of the bits marks it, else returns zero.
 fn read_byte<R: BufRead>(source: &mut R, bits: u8) -> Result<u8>
-    ensures { Takes R.Read source.old source.new (λ byte.
+    ensures { TakesFrom R.Read source.old source.new (λ byte.
         IfKnown (R.unread source.old) (R.unread source.new) (MarkedAt bits (byte ∷ [])))
         (Lacks (marked_count bits 1) (R.unread source.old)) result }
 {
@@ -167,10 +167,10 @@ fn read_byte<R: BufRead>(source: &mut R, bits: u8) -> Result<u8>
     required_byte(source)
 }
 
-// Reads the words after the first of a literal group, and answers how many bytes they have.
+// Reads the words after the first of a literal group, and returns how many bytes they have.
 fn read_run<R: BufRead>(source: &mut R, buffer: &mut [u8]) -> Result<usize>
     ensures within { IfOk result (λ count. (count ≤ length buffer.new) × (count % 8 ≡ 0)) }
-    ensures takes { Takes R.Read source.old source.new (λ count.
+    ensures takes { TakesFrom R.Read source.old source.new (λ count.
         IfKnown (R.unread source.old) (R.unread source.new) (RunAt (take count buffer.new)))
         (IsRefused RefusesRun (length buffer.new) (R.unread source.old)) result }
     ensures overrun { Overran result (R.unread source.old) (R.unread source.new)
@@ -188,7 +188,7 @@ fn read_run<R: BufRead>(source: &mut R, buffer: &mut [u8]) -> Result<usize>
 // Fills the buffer by the bytes as they stand: what is shown is copied, and the rest is read by one
 // request.
 fn read_stored<R: BufRead>(source: &mut R, buffer: &mut [u8]) -> Result<()>
-    ensures { Takes R.Read source.old source.new (λ _.
+    ensures { TakesFrom R.Read source.old source.new (λ _.
         IfKnown (R.unread source.old) (R.unread source.new) (λ raw left. raw ≡ buffer.new ++ left))
         (IsRefused RunsShort (length buffer.new) (R.unread source.old)) result }
 {
@@ -203,10 +203,10 @@ fn read_stored<R: BufRead>(source: &mut R, buffer: &mut [u8]) -> Result<()>
     Ok(())
 }
 
-// Copies what is shown into the front of the buffer, and answers how many bytes they are.
+// Copies what is shown into the front of the buffer, and returns how many bytes they are.
 fn copy_shown<R: BufRead>(source: &mut R, buffer: &mut [u8]) -> Result<usize>
     ensures within { IfOk result (λ count. count ≤ length buffer.new) }
-    ensures takes { Takes R.Read source.old source.new (λ count.
+    ensures takes { TakesFrom R.Read source.old source.new (λ count.
         IfKnown (R.unread source.old) (R.unread source.new)
         (λ raw left. raw ≡ take count buffer.new ++ left)) (λ _. ⊥) result }
 {
@@ -217,9 +217,9 @@ fn copy_shown<R: BufRead>(source: &mut R, buffer: &mut [u8]) -> Result<usize>
     Ok(count)
 }
 
-// Takes the next byte of a group.
+// TakesFrom the next byte of a group.
 fn required_byte<R: BufRead>(source: &mut R) -> Result<u8>
-    ensures { Takes R.Read source.old source.new (λ byte.
+    ensures { TakesFrom R.Read source.old source.new (λ byte.
         IfKnown (R.unread source.old) (R.unread source.new) (λ raw left. raw ≡ byte ∷ left))
         (Lacks 1 (R.unread source.old)) result }
 {
@@ -229,7 +229,7 @@ fn required_byte<R: BufRead>(source: &mut R) -> Result<u8>
     }
 }
 
-// Takes the next byte, if there is one.
+// TakesFrom the next byte, if there is one.
 fn next_byte<R: BufRead>(source: &mut R) -> Result<Option<u8>>
     ensures { TakesNext R.Read source.old source.new (λ byte.
         IfKnown (R.unread source.old) (R.unread source.new) (λ raw left. raw ≡ byte ∷ left))

@@ -7,7 +7,7 @@ ghost use Rattle.capnp_frame.specs.SegmentTable.{zero_padded_table, HasTable};
 ghost use Rattle.capnp_frame.specs.Requests.{MessageStands};
 ghost use Rattle.capnp_frame.specs.Source.{IsFront};
 ghost use Rattle.capnp_frame.specs.Sink.{AppendsAll, AppendsSame, LeavesFront};
-ghost use Rattle.capnp_frame.specs.Writing.{pieces};
+ghost use Rattle.capnp_frame.specs.Writing.{chunks};
 ghost use Rattle.capnp_pack.specs.Packed.{Packs};
 ghost use Rattle.capnp_pack.specs.PackedFrame.{IsPackedFrame, IsPackedText, PackedStands};
 ghost use Rattle.capnp_pack.specs.PackedSource.{Unpacks};
@@ -16,8 +16,8 @@ ghost use Rattle.capnp_pack.specs.PackedSink.{AppendsPacked, LeavesPacked};
 use capnp_frame::io::Write;
 use capnp_frame::serialize::Padding;
 
-/// A packed request has one answer at most, and leaves one rest.
-pub fn packed_request_has_one_answer()
+/// A packed request has one result at most, and leaves one rest.
+pub fn packed_request_has_one_result()
     ensures { (raw bytes rest others left : List ℕ) (n : ℕ) →
         Unpacks raw n bytes rest → Unpacks raw n others left → (bytes ≡ others) × (rest ≡ left) }
 {}
@@ -28,8 +28,8 @@ pub fn packed_requests_take_a_packed_frame()
         MessageStands rule Unpacks segments raw rest ↔ PackedStands rule segments raw rest }
 {}
 
-/// No packed text of a message begins a different one, also of another rule of padding, and each is the text of one message alone.
-/// So texts that are joined part in one way.
+/// No packed text of a message begins a different one, also of another rule of padding, and each is
+/// the text of one message alone. So texts that are joined part in one way.
 pub fn packed_frames_part_in_one_way()
     ensures { (rule also : Padding) (text other rest left : List ℕ)
         (segments others : List (List ℕ)) →
@@ -44,7 +44,7 @@ pub fn packed_text_is_a_packed_frame()
 {}
 
 /// By the rule of zero padding the table that a packed text holds is the one that is written. Its
-/// pieces may still be packed in more ways than the one that a writer takes.
+/// chunks may still be packed in more ways than the one that a writer takes.
 pub fn zero_padding_leaves_one_table()
     ensures { (text : List ℕ) (segments : List (List ℕ)) →
         (frame : IsPackedFrame Padding.Zero text segments) →
@@ -82,22 +82,22 @@ pub fn packed_text_is_short()
         length text ≤ 8 * n + (n + 3) / 2 }
 {}
 
-/// A plain sink that is written packed gets just the packed text of each piece.
+/// A plain sink that is written packed gets just the packed text of each chunk.
 pub fn plain_sink_gets_the_packed_text()
-    ensures { (piece text : List ℕ) → AppendsPacked AppendsSame piece text ↔ Packs piece text }
+    ensures { (chunk text : List ℕ) → AppendsPacked AppendsSame chunk text ↔ Packs chunk text }
 {}
 
-/// Where a call fails, a plain sink that is left with a front of a piece at most is left with a front of the
-/// packed text of what was to be written.
+/// Where a call fails, a plain sink that is left with a front of a chunk at most is left with a
+/// front of the packed text of what was to be written.
 pub fn what_is_left_of_packed_words_is_a_front<W: Write>()
-    ensures { ((piece text : List ℕ) → W.leaves piece text → LeavesFront piece text) →
-        (piece text packed : List ℕ) → LeavesPacked AppendsSame W.leaves piece text →
-        Packs piece packed → IsFront text packed }
+    ensures { ((chunk text : List ℕ) → W.leaves chunk text → LeavesFront chunk text) →
+        (chunk text packed : List ℕ) → LeavesPacked AppendsSame W.leaves chunk text →
+        Packs chunk packed → IsFront text packed }
 {}
 
-/// And of a message whose pieces are handed to it one after another, as `write_segments` does, it
+/// And of a message whose chunks are handed to it one after another, as `write_segments` does, it
 /// gets the packed text.
 pub fn plain_sink_gets_the_packed_message()
     ensures { (segments : List (List ℕ)) (text : List ℕ) →
-        AppendsAll (AppendsPacked AppendsSame) (pieces segments) text ↔ IsPackedText text segments }
+        AppendsAll (AppendsPacked AppendsSame) (chunks segments) text ↔ IsPackedText text segments }
 {}

@@ -1,7 +1,7 @@
 //! Packing of Cap'n Proto messages.
 //!
 //! Packing leaves out zero bytes. A packed text is groups, one after another: `specs/Group.antt`
-//! and `specs/Piece.antt` say so in the words of the [encoding document], "Packing", and
+//! and `specs/Chunk.antt` say so in the words of the [encoding document], "Packing", and
 //! `specs/Packed.antt` says which of the texts of some words is the one that is written.
 //!
 //! [encoding document]: https://capnproto.org/encoding.html#packing

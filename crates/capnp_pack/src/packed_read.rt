@@ -3,20 +3,20 @@ ghost use Rattle.std.specs.Prelude.{◌≡◌, ◌<◌, ◌≤◌, ◌↔◌, �
 ghost use Rattle.std.specs.Result.{IsErrAnd};
 ghost use Rattle.std.proofs.Common.{◌∙◌};
 ghost use Rattle.capnp_frame.specs.Message.{IsWholeWords};
-ghost use Rattle.capnp_frame.specs.Source.{IfKnown, AnswersPart, IsRefused, IsPlain, Advances, Fails};
+ghost use Rattle.capnp_frame.specs.Source.{IfKnown, ReturnsPart, IsRefused, IsPlain, Advances, Fails};
 ghost use Rattle.capnp_frame.specs.declared.error.ErrorKind.{ErrorKind};
-ghost use Rattle.capnp_pack.specs.PackedSource.{Unpacks, RefusesPiece, LeavesOverrun, Overran};
+ghost use Rattle.capnp_pack.specs.PackedSource.{Unpacks, RefusesChunk, LeavesOverrun, Overran};
 ghost use Rattle.capnp_pack.specs.RefusingLaws.{unpacking};
 
-use crate::group::read_piece;
+use crate::group::read_chunk;
 use capnp_frame::io::{BufRead, Read};
 use capnp_frame::{Error, ErrorKind, Result};
 
 /// A source of the words that another one holds packed.
 ///
-/// Each request is a piece by itself: it takes groups from the front until it has its words, and
-/// consumes just these. A request that isn't whole words is refused by `NotWholeWords`, and nothing
-/// is read. Where a piece is cut or a run goes past its end, the first such place decides the
+/// Each request is a chunk by itself: it takes groups from the front until it has its words, and
+/// consumes just these. A request that isn't whole words fails with `NotWholeWords`, and nothing
+/// is read. Where a chunk is cut or a run goes past its end, the first such place decides the
 /// refusal, however the source cuts its bytes.
 ///
 /// ```
@@ -48,29 +48,29 @@ impl<'a, R: BufRead> Read for PackedRead<'a, R> {
 
     ghost gives = { Unpacks };
 
-    ghost refuses = { RefusesPiece };
+    ghost refuses = { RefusesChunk };
 
     ghost same = { λ old new. (new.source.ghost_name ≡ old.source.ghost_name)
         × R.same old.source.now new.source.now };
 
     fn read(&mut self, buffer: &mut [u8]) -> Result<usize>
         ensures within { IfOk result (λ count. count ≤ length buffer.new) }
-        // All of a piece is answered, or none of it.
+        // All of a chunk is returned, or none of it.
         ensures whole { IfOk result (λ count. (count ≡ 0) ⊎ (count ≡ length buffer.new)) }
         ensures taken { IfOk result (λ count.
             IfKnown (R.unread self.old.source.now) (R.unread self.new.source.now)
-            (AnswersPart Unpacks RefusesPiece (length buffer.new) (take count buffer.new))) }
+            (ReturnsPart Unpacks RefusesChunk (length buffer.new) (take count buffer.new))) }
         ensures end { IfOk result (λ count. IfSome (R.unread self.old.source.now)
             (λ raw. 0 < length buffer.new → (count ≡ 0) ↔ (raw ≡ []))) }
         ensures spent { IfOk result (λ count. count ≡ 0 → 0 < length buffer.new →
-            IsRefused RefusesPiece (length buffer.new) (R.unread self.old.source.now)
+            IsRefused RefusesChunk (length buffer.new) (R.unread self.old.source.now)
             ErrorKind.FailedToFillTheWholeBuffer) }
 
         // A refusal.
         ensures failed { IfErr result (λ error. error.kind ≡ ErrorKind.DeviceFailed →
             Fails (R.failures self.old.source.now) (R.failures self.new.source.now)) }
         ensures refused { IfErr result (λ error. (error.kind ≡ ErrorKind.DeviceFailed)
-            ⊎ IsRefused RefusesPiece (length buffer.new) (R.unread self.old.source.now) error.kind) }
+            ⊎ IsRefused RefusesChunk (length buffer.new) (R.unread self.old.source.now) error.kind) }
         ensures at_end { IfErr result (λ error. R.unread self.old.source.now ≡ Some [] →
             IsWholeWords buffer.new → error.kind ≡ ErrorKind.DeviceFailed) }
         ensures plain { IfErr result (λ error. IsPlain Unpacks → error.kind ≡ ErrorKind.DeviceFailed) }
@@ -90,7 +90,7 @@ impl<'a, R: BufRead> Read for PackedRead<'a, R> {
         if buffer.len() % 8 != 0 {
             return Err(Error::from_kind(ErrorKind::NotWholeWords));
         }
-        read_piece(self.source, buffer)
+        read_chunk(self.source, buffer)
     }
 
     fn read_exact(&mut self, buffer: &mut [u8]) -> Result<()>
@@ -102,7 +102,7 @@ impl<'a, R: BufRead> Read for PackedRead<'a, R> {
         ensures failed { IfErr result (λ error. error.kind ≡ ErrorKind.DeviceFailed →
             Fails (R.failures self.old.source.now) (R.failures self.new.source.now)) }
         ensures refused { IfErr result (λ error. (error.kind ≡ ErrorKind.DeviceFailed)
-            ⊎ IsRefused RefusesPiece (length buffer.new) (R.unread self.old.source.now) error.kind) }
+            ⊎ IsRefused RefusesChunk (length buffer.new) (R.unread self.old.source.now) error.kind) }
         ensures plain { IfErr result (λ error. IsPlain Unpacks →
             (error.kind ≡ ErrorKind.DeviceFailed)
             ⊎ (error.kind ≡ ErrorKind.FailedToFillTheWholeBuffer)) }

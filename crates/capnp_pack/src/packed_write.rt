@@ -21,9 +21,9 @@ use capnp_frame::{Error, ErrorKind, Result};
 
 /// A sink that takes words and hands them on packed.
 ///
-/// Each piece is packed by itself, and no run goes past its end. Its packed bytes are collected and
-/// handed on in parts, the words of a literal run from the piece itself. A piece that isn't whole
-/// words is refused by `NotWholeWords`, and nothing is written.
+/// Each chunk is packed by itself, and no run goes past its end. Its packed bytes are collected and
+/// handed on in parts, the words of a literal run from the chunk itself. A chunk that isn't whole
+/// words fails with `NotWholeWords`, and nothing is written.
 ///
 /// ```
 /// let mut text = Vec::new(alloc);
@@ -62,33 +62,33 @@ impl<'a, W: Write> Write for PackedWrite<'a, W> {
     ghost same = { λ old new. (new.sink.ghost_name ≡ old.sink.ghost_name)
         × W.same old.sink.now new.sink.now };
 
-    fn write_all(&mut self, piece: &[u8]) -> Result<()>
+    fn write_all(&mut self, chunk: &[u8]) -> Result<()>
         ensures added { OnOk result (IfKnown (W.written self.old.sink.now) (W.written self.new.sink.now)
-            (Adds (AppendsPacked W.appends piece.now))) }
+            (Adds (AppendsPacked W.appends chunk.now))) }
         ensures granted { (more : ℕ) → ⊥ → IsOk result × ⊥ }
         // No more than a front of the packed text is written, and nothing after a hole.
         ensures left { OnErr result (IfKnown (W.written self.old.sink.now) (W.written self.new.sink.now)
-            (Adds (LeavesPacked W.appends W.leaves piece.now))) }
+            (Adds (LeavesPacked W.appends W.leaves chunk.now))) }
         ensures failed { IfErr result (λ error. error.kind ≡ ErrorKind.DeviceFailed →
             Fails (W.failures self.old.sink.now) (W.failures self.new.sink.now)) }
         ensures refused { IfErr result (λ error. (error.kind ≡ ErrorKind.DeviceFailed)
-            ⊎ DeclinesPacked W.refuses piece.now error.kind) }
+            ⊎ DeclinesPacked W.refuses chunk.now error.kind) }
         ensures grows { Grows (λ packed. W.written packed.sink.now) (λ packed. W.failures packed.sink.now)
             (λ old new. (new.sink.ghost_name ≡ old.sink.ghost_name) × W.same old.sink.now new.sink.now)
             self.old self.new }
         // A part of a word is refused, and the sink is as it was.
-        ensures part { (IsWholeWords piece.now → ⊥) →
+        ensures part { (IsWholeWords chunk.now → ⊥) →
             IsErrAnd result (λ error. error.kind ≡ ErrorKind.NotWholeWords)
             × (self.new.sink.now ≡ self.old.sink.now) }
         // Where the sink grants the packed text, it is written.
-        ensures packed_granted { (text : List ℕ) (more : ℕ) → Packs piece.now text →
+        ensures packed_granted { (text : List ℕ) (more : ℕ) → Packs chunk.now text →
             W.grants self.old.sink.now (length text + more) →
             IsOk result × W.grants self.new.sink.now more }
     {
-        if piece.len() % 8 != 0 {
+        if chunk.len() % 8 != 0 {
             return Err(Error::from_kind(ErrorKind::NotWholeWords));
         }
-        pack(self.sink, piece)
+        pack(self.sink, chunk)
     }
 
     ghost keeps = { record {
@@ -104,15 +104,15 @@ struct Packed {
     used: usize,
 }
 
-// Hands on the packed words of a piece.
-fn pack<W: Write>(sink: &mut W, piece: &[u8]) -> Result<()>
-    requires { IsWholeWords piece.now }
-    ensures writes { WritesTo W.Write sink.old sink.new (AppendsPacked W.appends piece.now)
-        (LeavesPacked W.appends W.leaves piece.now) (DeclinesAny W.refuses) result }
-    ensures granted { (text : List ℕ) (more : ℕ) → Packs piece.now text →
+// Hands on the packed words of a chunk.
+fn pack<W: Write>(sink: &mut W, chunk: &[u8]) -> Result<()>
+    requires { IsWholeWords chunk.now }
+    ensures writes { WritesTo W.Write sink.old sink.new (AppendsPacked W.appends chunk.now)
+        (LeavesPacked W.appends W.leaves chunk.now) (DeclinesAny W.refuses) result }
+    ensures granted { (text : List ℕ) (more : ℕ) → Packs chunk.now text →
         W.grants sink.old (length text + more) → IsOk result × W.grants sink.new more }
 {
-    let (words, _) = piece.as_chunks::<8>();
+    let (words, _) = chunk.as_chunks::<8>();
     let mut bytes = [0; 64];
     let mut used = 0;
     let mut done = 0;

@@ -2,7 +2,7 @@
 ghost use Rattle.capnp_frame.specs.Streams.{ReadsStream};
 ghost use Rattle.capnp_pack.specs.PackedStreams.{packed_rules};
 
-mod lent;
+mod provided;
 mod text;
 
 use crate::packed_read::PackedRead;
@@ -13,11 +13,11 @@ use capnp_frame::serialize::{
     OwnedSegments, Padding, try_read_segments, try_read_segments_lenient,
     try_read_segments_reusing, try_read_segments_reusing_lenient,
 };
-pub use lent::{try_read_packed_segments_into, try_read_packed_segments_into_lenient};
+pub use provided::{try_read_packed_segments_into, try_read_packed_segments_into_lenient};
 use std::alloc::Global;
 pub use text::try_read_packed_text_into;
 
-/// Reads the next packed message of a source, or answers `None` where nothing is unread.
+/// Reads the next packed message of a source, or returns `None` where nothing is unread.
 ///
 /// Just the message's text is consumed, however the source cuts its bytes. Memory is taken, and a
 /// padding that isn't zero refused, as by `try_read_segments`.
@@ -33,7 +33,7 @@ pub fn try_read_packed_segments<R: BufRead>(
     try_read_segments(alloc, &mut packed, options)
 }
 
-/// The same of any padding.
+/// As the strict form, of any padding.
 pub fn try_read_packed_segments_lenient<R: BufRead>(
     alloc: Global,
     source: &mut R,

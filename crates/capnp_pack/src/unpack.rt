@@ -3,7 +3,7 @@
 //! Just whole groups are taken that fit the buffer. One that isn't shown whole, or does not fit, is
 //! left to `group.rt`, which reads it through the source.
 ghost use Rattle.std.specs.Prelude.{◌≡◌, ◌<◌, ◌≤◌, ◌+◌, ◌%◌, ◌∷◌, [], length, take, drop, replicate, IfSome};
-ghost use Rattle.capnp_pack.specs.Steps.{MarkedAt, TakesMarked, GroupBehind, Unpacked};
+ghost use Rattle.capnp_pack.specs.Steps.{MarkedAt, TakesMarked, GroupFollowing, Unpacked};
 
 use crate::places::PLACES;
 use std::simd::prelude::*;
@@ -39,8 +39,8 @@ fn unpack_group(shown: &[u8], buffer: &mut [u8]) -> Option<Taken>
     ensures group { IfSome result (λ taken.
         Unpacked shown.now buffer.new taken.used taken.filled) }
 {
-    let (tag, behind) = shown.split_first()?;
-    let rest = unpack_behind(*tag, behind, buffer)?;
+    let (tag, following) = shown.split_first()?;
+    let rest = unpack_after(*tag, following, buffer)?;
     Some(Taken {
         used: 1 + rest.used,
         filled: rest.filled,
@@ -49,62 +49,62 @@ fn unpack_group(shown: &[u8], buffer: &mut [u8]) -> Option<Taken>
 
 // Fills the front of a buffer by the group of this tag.
 #[inline(always)]
-fn unpack_behind(tag: u8, behind: &[u8], buffer: &mut [u8]) -> Option<Taken>
+fn unpack_after(tag: u8, following: &[u8], buffer: &mut [u8]) -> Option<Taken>
     requires { 8 ≤ length buffer.old }
     ensures { IfSome result (λ taken.
-        GroupBehind tag behind.now buffer.new taken.used taken.filled) }
+        GroupFollowing tag following.now buffer.new taken.used taken.filled) }
 {
-    if behind.len() >= 9 {
-        return unpack_near(tag, behind, buffer);
+    if following.len() >= 9 {
+        return unpack_near(tag, following, buffer);
     }
-    unpack_last(tag, behind, buffer)
+    unpack_last(tag, following, buffer)
 }
 
 // Where its word and its count are shown.
 #[inline(always)]
-fn unpack_near(tag: u8, behind: &[u8], buffer: &mut [u8]) -> Option<Taken>
-    requires long { 9 ≤ length behind.now }
+fn unpack_near(tag: u8, following: &[u8], buffer: &mut [u8]) -> Option<Taken>
+    requires long { 9 ≤ length following.now }
     requires room { 8 ≤ length buffer.old }
     ensures { IfSome result (λ taken.
-        GroupBehind tag behind.now buffer.new taken.used taken.filled) }
+        GroupFollowing tag following.now buffer.new taken.used taken.filled) }
 {
     if tag == 255 {
-        return unpack_literal(behind, buffer);
+        return unpack_literal(following, buffer);
     }
     // One number, so that a zero word alone takes no branch of its own.
-    let kind = tag as usize * 256 + behind[0].wrapping_sub(1) as usize;
+    let kind = tag as usize * 256 + following[0].wrapping_sub(1) as usize;
     if kind < 255 {
-        return unpack_zeros(behind, buffer);
+        return unpack_zeros(following, buffer);
     }
-    let marked = unpack_tagged(tag, behind, &mut buffer[..8]);
+    let marked = unpack_tagged(tag, following, &mut buffer[..8]);
     let used = if tag == 0 { marked + 1 } else { marked };
     Some(Taken { used, filled: 8 })
 }
 
 // Where fewer bytes are shown, byte by byte.
-fn unpack_last(tag: u8, behind: &[u8], buffer: &mut [u8]) -> Option<Taken>
+fn unpack_last(tag: u8, following: &[u8], buffer: &mut [u8]) -> Option<Taken>
     requires room { 8 ≤ length buffer.old }
     ensures { IfSome result (λ taken.
-        GroupBehind tag behind.now buffer.new taken.used taken.filled) }
+        GroupFollowing tag following.now buffer.new taken.used taken.filled) }
 {
-    if behind.is_empty() || tag == 255 {
+    if following.is_empty() || tag == 255 {
         return None;
     }
     if tag == 0 {
-        return unpack_zeros(behind, buffer);
+        return unpack_zeros(following, buffer);
     }
-    let used = unpack_bytes(tag, behind, &mut buffer[..8])?;
+    let used = unpack_bytes(tag, following, &mut buffer[..8])?;
     Some(Taken { used, filled: 8 })
 }
 
 // Fills zero words at once.
-fn unpack_zeros(behind: &[u8], buffer: &mut [u8]) -> Option<Taken>
-    requires some { 1 ≤ length behind.now }
+fn unpack_zeros(following: &[u8], buffer: &mut [u8]) -> Option<Taken>
+    requires some { 1 ≤ length following.now }
     requires room { 8 ≤ length buffer.old }
     ensures { IfSome result (λ taken.
-        GroupBehind 0 behind.now buffer.new taken.used taken.filled) }
+        GroupFollowing 0 following.now buffer.new taken.used taken.filled) }
 {
-    let further = 8 * behind[0] as usize;
+    let further = 8 * following[0] as usize;
     if further > buffer.len() - 8 {
         return None;
     }
@@ -128,18 +128,18 @@ fn clear_front(count: usize, buffer: &mut [u8])
 }
 
 // Copies a word and the words after its count.
-fn unpack_literal(behind: &[u8], buffer: &mut [u8]) -> Option<Taken>
-    requires long { 9 ≤ length behind.now }
+fn unpack_literal(following: &[u8], buffer: &mut [u8]) -> Option<Taken>
+    requires long { 9 ≤ length following.now }
     requires room { 8 ≤ length buffer.old }
     ensures { IfSome result (λ taken.
-        GroupBehind 255 behind.now buffer.new taken.used taken.filled) }
+        GroupFollowing 255 following.now buffer.new taken.used taken.filled) }
 {
-    let run = 8 * behind[8] as usize;
-    if run > behind.len() - 9 || run > buffer.len() - 8 {
+    let run = 8 * following[8] as usize;
+    if run > following.len() - 9 || run > buffer.len() - 8 {
         return None;
     }
-    copy_front(8, behind, buffer);
-    copy_front(run, &behind[9..], &mut buffer[8..]);
+    copy_front(8, following, buffer);
+    copy_front(run, &following[9..], &mut buffer[8..]);
     Some(Taken {
         used: 9 + run,
         filled: 8 + run,
@@ -158,7 +158,7 @@ pub(crate) fn copy_front(count: usize, text: &[u8], buffer: &mut [u8])
     buffer[..count].copy_from_slice(&text[..count]);
 }
 
-// Fills a word by the bytes that a tag marks, and answers how many they are.
+// Fills a word by the bytes that a tag marks, and returns how many they are.
 #[inline(always)]
 pub(crate) fn unpack_tagged(tag: u8, text: &[u8], word: &mut [u8]) -> usize
     requires long { 8 ≤ length text.now }

@@ -1,7 +1,7 @@
 //! What a test does where `rt try --test --fail-alloc N` refuses one growth of it.
 use capnp_frame::{ErrorKind, Result};
 
-/// What a body answers, or answers when it is run once more.
+/// What a body returns, or returns when it is run once more.
 #[macro_export]
 macro_rules! retried {
     ($run:expr) => {
@@ -13,8 +13,8 @@ macro_rules! retried {
 }
 
 /// Whether a call was refused for want of memory.
-pub fn lacks_memory<T>(answer: &Result<T>) -> bool {
-    answer
+pub fn lacks_memory<T>(returned: &Result<T>) -> bool {
+    returned
         .as_ref()
         .is_err_and(|error| error.kind == ErrorKind::OutOfMemory)
 }

@@ -1,4 +1,4 @@
-//! Messages of 2^16 and 2^20 words, and more bytes in one piece than two bytes count.
+//! Messages of 2^16 and 2^20 words, and more bytes in one chunk than two bytes count.
 use crate::messages::{has_segments, is_writable};
 use crate::retried;
 use capnp_frame::Result;
@@ -15,7 +15,7 @@ const WORDS: usize = 1 << 16;
 const TABLE: [u8; 8] = [0, 0, 0, 0, 0, 0, 1, 0];
 
 // What each byte of the segment is, how long its packed text is, and how it begins. A run is of 256
-// words at most, so there are 256 of them, behind two bytes for the table. Of zeros each is a tag and
+// words at most, so there are 256 of them, after two bytes for the table. Of zeros each is a tag and
 // a count; of sevens a tag, a word, a count, and 255 words as they stand.
 #[rattlefmt::skip]
 const PATTERNS: [(u8, usize, &[u8]); 2] = [
@@ -51,7 +51,7 @@ fn write_and_read(
     unpack(rt, &framed, &packed)
 }
 
-// 2^20 zero words are 4,096 runs of two bytes, behind two for the table.
+// 2^20 zero words are 4,096 runs of two bytes, after two for the table.
 #[test]
 fn a_million_zero_words(rt: HostRuntime) -> Result<()> {
     retried!(pack_zeros(&rt))
@@ -100,15 +100,15 @@ fn unpack(rt: &(impl Abort + AllocGlobal), framed: &[u8], packed: &[u8]) -> Resu
 }
 
 #[test]
-fn more_bytes_in_a_piece_than_two_count(rt: HostRuntime) -> Result<()> {
+fn more_bytes_in_a_chunk_than_two_count(rt: HostRuntime) -> Result<()> {
     retried!(append(&rt))
 }
 
 fn append(rt: &(impl Abort + AllocGlobal)) -> Result<()> {
-    let piece = vec![in rt.alloc(); 5u8; 65_537]?;
+    let chunk = vec![in rt.alloc(); 5u8; 65_537]?;
     let mut sink = [1, 2, 3].to_vec(rt.alloc())?;
-    sink.write_all(&piece)?;
+    sink.write_all(&chunk)?;
     assert_eq!(rt; sink.len(), 65_540);
-    assert!(rt; sink.starts_with(&[1, 2, 3, 5]) && sink.ends_with(&piece));
+    assert!(rt; sink.starts_with(&[1, 2, 3, 5]) && sink.ends_with(&chunk));
     Ok(())
 }

@@ -2,12 +2,14 @@
 //! sinks, limits, and what a test does where a growth is refused.
 //!
 //! Expected values come from the [encoding document] and from rows worked by hand, never from what
-//! the calls answer. `rt try --test --fail-alloc N` refuses one growth of each test: a body that
-//! answers an error is run once more, and has to succeed then.
+//! the calls return. `rt try --test --fail-alloc N` refuses one growth of each test: a body that
+//! returns an error is run once more, and has to succeed then.
 //!
 //! [encoding document]: https://capnproto.org/encoding.html
 #![tactic(auto)]
 
+#[cfg(test)]
+mod chunks;
 pub mod growths;
 #[cfg(test)]
 mod large;
@@ -23,8 +25,6 @@ mod no_memory;
 mod packed_calls;
 #[cfg(test)]
 mod parts;
-#[cfg(test)]
-mod pieces;
 #[cfg(test)]
 mod sink_faults;
 pub mod sinks;

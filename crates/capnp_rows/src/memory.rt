@@ -1,8 +1,8 @@
 //! Growths that are refused.
 //!
 //! `rt try --test --fail-alloc N` refuses the Nth growth of each test, and no other. So each test
-//! asks of an answer that it is the right one, or `OutOfMemory` with nothing else changed, and that
-//! the call answers rightly when it is made again.
+//! asks of a result that it is the right one, or `OutOfMemory` with nothing else changed, and that
+//! the call returns rightly when it is made again.
 use crate::growths::lacks_memory;
 use crate::retried;
 use capnp_frame::io::Write;
@@ -33,11 +33,11 @@ fn more_than_an_address_space(rt: HostRuntime) -> Result<()> {
 
 #[test]
 fn a_refused_length_is_not_added(rt: HostRuntime) -> Result<()> {
-    retried!(push_behind_three(&rt))
+    retried!(push_after_three(&rt))
 }
 
 // There is room for the first length, and the second grows.
-fn push_behind_three(rt: &(impl Abort + AllocGlobal)) -> Result<()> {
+fn push_after_three(rt: &(impl Abort + AllocGlobal)) -> Result<()> {
     let mut lengths = SegmentLengthsBuilder::with_capacity(rt.alloc(), 1)?;
     assert!(rt; lengths.try_push_segment(3).is_ok());
     let pushed = lengths.try_push_segment(5);
@@ -85,22 +85,22 @@ fn a_refused_length_is_added_later(rt: HostRuntime) -> Result<()> {
 }
 
 #[test]
-fn a_refused_piece_is_not_written(rt: HostRuntime) -> Result<()> {
-    retried!(write_behind_three(&rt))
+fn a_refused_chunk_is_not_written(rt: HostRuntime) -> Result<()> {
+    retried!(write_after_three(&rt))
 }
 
-fn write_behind_three(rt: &(impl Abort + AllocGlobal)) -> Result<()> {
+fn write_after_three(rt: &(impl Abort + AllocGlobal)) -> Result<()> {
     let mut sink = Vec::new(rt.alloc());
     sink.write_all(&[1, 2, 3])?;
-    let piece = [7; 64];
-    let written = sink.write_all(&piece);
+    let chunk = [7; 64];
+    let written = sink.write_all(&chunk);
     if written.is_err() {
         assert!(rt; lacks_memory(&written));
         assert_eq!(rt; sink.as_slice(), [1, 2, 3].as_slice());
-        sink.write_all(&piece)?;
+        sink.write_all(&chunk)?;
     }
     assert!(rt; sink.as_slice().starts_with(&[1, 2, 3]));
-    assert!(rt; sink.as_slice().ends_with(&piece));
+    assert!(rt; sink.as_slice().ends_with(&chunk));
     assert_eq!(rt; sink.len(), 67);
     Ok(())
 }
@@ -140,18 +140,18 @@ fn a_message_without_memory(rt: HostRuntime) -> Result<()> {
     retried!(read_message(&rt, &PADDED, Padding::Any))
 }
 
-// Memory is asked for behind the first word, for the lengths, and behind the table, for the segments.
+// Memory is asked for after the first word, for the lengths, and after the table, for the segments.
 fn read_message(
     rt: &(impl Abort + AllocGlobal),
     message: &[u8; 24],
     padding: Padding,
 ) -> Result<()> {
     let mut source = message.as_slice();
-    let answer = match padding {
+    let returned = match padding {
         Padding::Zero => try_read_segments(rt.alloc(), &mut source, DEFAULT_READER_OPTIONS),
         Padding::Any => try_read_segments_lenient(rt.alloc(), &mut source, DEFAULT_READER_OPTIONS),
     };
-    match answer {
+    match returned {
         Ok(Some(segments)) => {
             assert_eq!(rt; segments.as_bytes(), &message[16..]);
             assert!(rt; source.is_empty());
@@ -176,12 +176,12 @@ fn read_past_the_limit(rt: &(impl Abort + AllocGlobal)) -> Result<()> {
     let mut options = ReaderOptions::new();
     let _ = options.traversal_limit_in_words(Some(0));
     let mut source = MESSAGE.as_slice();
-    let answer = try_read_segments(rt.alloc(), &mut source, options);
-    if lacks_memory(&answer) {
+    let returned = try_read_segments(rt.alloc(), &mut source, options);
+    if lacks_memory(&returned) {
         assert_eq!(rt; source.len(), 16);
-        return answer.map(|_| ());
+        return returned.map(|_| ());
     }
-    assert!(rt; answer.is_err_and(|error| error.kind == ErrorKind::MessageTooLarge(1)));
+    assert!(rt; returned.is_err_and(|error| error.kind == ErrorKind::MessageTooLarge(1)));
     assert_eq!(rt; source.len(), 8);
     Ok(())
 }
@@ -194,12 +194,12 @@ fn a_message_of_another_padding(rt: HostRuntime) -> Result<()> {
 
 fn read_another_padding(rt: &(impl Abort + AllocGlobal)) -> Result<()> {
     let mut source = PADDED.as_slice();
-    let answer = try_read_segments(rt.alloc(), &mut source, DEFAULT_READER_OPTIONS);
-    if lacks_memory(&answer) {
+    let returned = try_read_segments(rt.alloc(), &mut source, DEFAULT_READER_OPTIONS);
+    if lacks_memory(&returned) {
         assert_eq!(rt; source.len(), 16);
-        return answer.map(|_| ());
+        return returned.map(|_| ());
     }
-    assert!(rt; answer.is_err_and(|error| error.kind == ErrorKind::NonZeroPadding));
+    assert!(rt; returned.is_err_and(|error| error.kind == ErrorKind::NonZeroPadding));
     assert_eq!(rt; source.len(), 8);
     Ok(())
 }
@@ -208,13 +208,13 @@ fn read_another_padding(rt: &(impl Abort + AllocGlobal)) -> Result<()> {
 #[test]
 fn no_memory_is_asked_for(rt: HostRuntime) {
     let mut source = [255, 1, 0, 0, 0, 0, 0, 0].as_slice();
-    let answer = try_read_segments(rt.alloc(), &mut source, DEFAULT_READER_OPTIONS);
+    let returned = try_read_segments(rt.alloc(), &mut source, DEFAULT_READER_OPTIONS);
     let kind = ErrorKind::InvalidNumberOfSegments(512);
-    assert!(rt; answer.is_err_and(|error| error.kind == kind));
-    let answer = try_read_segments(rt.alloc(), &mut source, DEFAULT_READER_OPTIONS);
-    assert!(rt; answer.is_ok_and(|found| found.is_none()));
+    assert!(rt; returned.is_err_and(|error| error.kind == kind));
+    let returned = try_read_segments(rt.alloc(), &mut source, DEFAULT_READER_OPTIONS);
+    assert!(rt; returned.is_ok_and(|found| found.is_none()));
     let mut source = &MESSAGE[..7];
-    let answer = try_read_segments(rt.alloc(), &mut source, DEFAULT_READER_OPTIONS);
+    let returned = try_read_segments(rt.alloc(), &mut source, DEFAULT_READER_OPTIONS);
     let kind = ErrorKind::FailedToFillTheWholeBuffer;
-    assert!(rt; answer.is_err_and(|error| error.kind == kind));
+    assert!(rt; returned.is_err_and(|error| error.kind == kind));
 }

@@ -122,7 +122,7 @@ pub fn is_writable<S: ReaderSegments>(segments: &S) -> bool
     false
 }
 
-/// Whether `text` is a table and these segments behind it.
+/// Whether `text` is a table and these segments after it.
 pub fn is_framed(text: &[u8], table: &[u8], segments: &[&[u8]]) -> bool {
     let Some(mut left) = text.strip_prefix(table) else {
         return false;

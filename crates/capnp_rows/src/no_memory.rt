@@ -91,7 +91,7 @@ fn messages_are_read_into_a_buffer(rt: HostRuntime) -> Result<()> {
 }
 
 #[test]
-fn pieces_are_packed_and_unpacked(rt: HostRuntime) -> Result<()> {
+fn chunks_are_packed_and_unpacked(rt: HostRuntime) -> Result<()> {
     let words = [0, 0, 12, 0, 0, 34, 0, 0, 1, 2, 3, 4, 5, 6, 7, 8];
     let mut text = [9; 13];
     let mut left: &mut [u8] = &mut text;
@@ -125,10 +125,10 @@ fn packed_messages_that_take_no_memory(rt: HostRuntime) {
         ),
     ] {
         let mut source = text;
-        let answer = try_read_packed_segments(rt.alloc(), &mut source, DEFAULT_READER_OPTIONS);
-        assert!(rt; answer.is_err_and(|error| error.kind == kind), "{text:?}");
+        let returned = try_read_packed_segments(rt.alloc(), &mut source, DEFAULT_READER_OPTIONS);
+        assert!(rt; returned.is_err_and(|error| error.kind == kind), "{text:?}");
     }
     let mut source: &[u8] = &[];
-    let answer = try_read_packed_segments(rt.alloc(), &mut source, DEFAULT_READER_OPTIONS);
-    assert!(rt; answer.is_ok_and(|found| found.is_none()));
+    let returned = try_read_packed_segments(rt.alloc(), &mut source, DEFAULT_READER_OPTIONS);
+    assert!(rt; returned.is_ok_and(|found| found.is_none()));
 }

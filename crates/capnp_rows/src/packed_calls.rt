@@ -1,4 +1,4 @@
-//! How often the packing calls ask their source, and hand a piece to their sink.
+//! How often the packing calls ask their source, and hand a chunk to their sink.
 use crate::retried;
 use crate::sinks::FaultySink;
 use crate::sources::Trickle;
@@ -7,7 +7,7 @@ use capnp_frame::{ErrorKind, Result};
 use capnp_pack::{PackedRead, PackedWrite};
 use std::alloc::Global;
 
-// Words, their packed text, and how many pieces the sink is handed: a zero run in one piece, and a
+// Words, their packed text, and how many chunks the sink is handed: a zero run in one chunk, and a
 // literal run by itself.
 #[rattlefmt::skip]
 const HANDED: [(&[u8], &[u8], u64); 5] = [
@@ -27,18 +27,18 @@ fn hand_on(alloc: Global, words: &[u8]) -> Result<FaultySink> {
 }
 
 #[test]
-fn a_sink_is_handed_few_pieces(rt: HostRuntime) -> Result<()> {
-    for (words, text, pieces) in HANDED {
+fn a_sink_is_handed_few_chunks(rt: HostRuntime) -> Result<()> {
+    for (words, text, chunks) in HANDED {
         let sink = retried!(hand_on(rt.alloc(), words))?;
         assert_eq!(rt; sink.written.as_slice(), text);
-        assert_eq!(rt; sink.calls, pieces);
+        assert_eq!(rt; sink.calls, chunks);
     }
     Ok(())
 }
 
 // What is shown whole is looked at once, and for no bytes nothing is asked.
 #[test]
-fn a_shown_piece_is_asked_for_once(rt: HostRuntime) -> Result<()> {
+fn a_shown_chunk_is_asked_for_once(rt: HostRuntime) -> Result<()> {
     for (words, text, _) in HANDED {
         let mut source = Trickle::new(text, 5000);
         let mut buffer = [0xaa; 2064];
@@ -76,9 +76,9 @@ fn a_cut_literal_run_is_asked_for_once(rt: HostRuntime) -> Result<()> {
 fn a_part_of_a_word_asks_for_nothing(rt: HostRuntime) {
     let mut source = Trickle::new(&[1, 1], 2);
     let mut back = [0xaa; 12];
-    let answer = PackedRead::new(&mut source).read_exact(&mut back);
+    let returned = PackedRead::new(&mut source).read_exact(&mut back);
     assert_eq!(rt;
-        answer.map_err(|error| error.kind),
+        returned.map_err(|error| error.kind),
         Err(ErrorKind::NotWholeWords)
     );
     assert_eq!(rt; back, [0xaa; 12]);

@@ -1,4 +1,4 @@
-//! Pieces that are packed in several parts, over a sink that fails at one of them.
+//! Chunks that are packed in several parts, over a sink that fails at one of them.
 use crate::retried;
 use crate::sinks::FaultySink;
 use capnp_frame::io::Write;
@@ -28,7 +28,7 @@ const PARTS: [(&[[u8; 8]], &[u8], u64); 6] = [
     (&[A, B, ZERO, C, A],
      &[0xff, 1, 2, 3, 4, 5, 6, 7, 8, 1, 9, 10, 11, 12, 13, 14, 15, 16, 0, 0,
        0xff, 17, 18, 19, 20, 21, 22, 23, 24, 1, 1, 2, 3, 4, 5, 6, 7, 8], 4),
-    // The same twice, and a word behind them.
+    // The same twice, and a word after them.
     (&[A, B, ZERO, C, A, SEVEN],
      &[0xff, 1, 2, 3, 4, 5, 6, 7, 8, 1, 9, 10, 11, 12, 13, 14, 15, 16, 0, 0,
        0xff, 17, 18, 19, 20, 21, 22, 23, 24, 1, 1, 2, 3, 4, 5, 6, 7, 8, 1, 7], 5),
@@ -52,7 +52,7 @@ const SEVENS: [u8; 80] = [
 // What is written already.
 const FRONT: [u8; 3] = [0xff, 0, 7];
 
-// The sink takes what comes behind the part that fails, so that a writer that goes on leaves a hole.
+// The sink takes what comes after the part that fails, so that a writer that goes on leaves a hole.
 #[test]
 fn a_front_is_written_before_the_fault(rt: HostRuntime) -> Result<()> {
     for (words, text, parts) in PARTS {
@@ -76,13 +76,13 @@ fn pack_to(
     fails_at: u64,
 ) -> Result<bool> {
     let mut sink = FaultySink::new(FRONT.to_vec(rt.alloc())?, fails_at);
-    let answer = PackedWrite::new(&mut sink).write_all(words.as_flattened());
+    let returned = PackedWrite::new(&mut sink).write_all(words.as_flattened());
     let written = sink
         .written
         .as_slice()
         .strip_prefix(&FRONT)
         .unwrap_or(&[1; 99]);
-    match answer {
+    match returned {
         Err(error) if error.kind == ErrorKind::OutOfMemory => return Err(error),
         Err(error) => assert_eq!(rt; error.kind, ErrorKind::DeviceFailed),
         Ok(()) => {

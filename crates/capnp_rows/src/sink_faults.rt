@@ -1,4 +1,4 @@
-//! A sink that fails at its nth piece, and a lent slice that is too short.
+//! A sink that fails at its nth chunk, and a caller-provided slice that is too short.
 use crate::messages::{MESSAGES, Message, is_writable};
 use crate::retried;
 use crate::sinks::FaultySink;
@@ -8,9 +8,9 @@ use capnp_frame::{ErrorKind, Result};
 use capnp_pack::PackedWrite;
 use std::process::Abort;
 
-// Messages, and how many bytes are written before each of their pieces, and behind the last.
+// Messages, and how many bytes are written before each of their chunks, and after the last.
 #[rattlefmt::skip]
-const PIECES: [(&[&[u8]], &[usize]); 6] = [
+const CHUNKS: [(&[&[u8]], &[usize]); 6] = [
     (&[&[1; 8], &[2; 24]], &[0, 8, 16, 24, 48]),
     (&[&[1; 24]], &[0, 8, 32]),
     (&[&[]], &[0, 8, 8]),
@@ -23,37 +23,37 @@ const PIECES: [(&[&[u8]], &[usize]); 6] = [
 const FRONT: [u8; 3] = [7, 7, 7];
 
 #[test]
-fn whole_pieces_before_the_fault_are_written(rt: HostRuntime) -> Result<()> {
-    for (segments, ends) in PIECES {
+fn whole_chunks_before_the_fault_are_written(rt: HostRuntime) -> Result<()> {
+    for (segments, ends) in CHUNKS {
         for (fails_at, end) in (1..).zip(ends) {
-            let pieces = ends.len();
-            retried!(write_to(&rt, segments, pieces, fails_at, *end))?;
+            let chunks = ends.len();
+            retried!(write_to(&rt, segments, chunks, fails_at, *end))?;
         }
     }
     Ok(())
 }
 
-// The first run that meets no fault fails at a call behind the last.
+// The first run that meets no fault fails at a call after the last.
 fn write_to(
     rt: &(impl Abort + AllocGlobal),
     segments: &[&[u8]],
-    pieces: usize,
+    chunks: usize,
     fails_at: u64,
     end: usize,
 ) -> Result<()> {
-    assert!(rt; pieces > 0);
+    assert!(rt; chunks > 0);
     let array = SegmentArray::new(segments);
     assert!(rt; is_writable(&array));
     let text = segments_to_words(rt.alloc(), &array)?;
     let mut sink = FaultySink::new(FRONT.to_vec(rt.alloc())?, fails_at);
-    let answer = write_segments(rt.alloc(), &mut sink, &array);
-    match answer {
+    let returned = write_segments(rt.alloc(), &mut sink, &array);
+    match returned {
         Err(error) if error.kind == ErrorKind::OutOfMemory => return Err(error),
         Err(error) => assert_eq!(rt; error.kind, ErrorKind::DeviceFailed),
-        Ok(()) => assert_eq!(rt; fails_at, pieces as u64),
+        Ok(()) => assert_eq!(rt; fails_at, chunks as u64),
     }
-    assert_eq!(rt; sink.failures, u64::from(fails_at < pieces as u64));
-    assert_eq!(rt; sink.calls, fails_at.min(pieces as u64 - 1));
+    assert_eq!(rt; sink.failures, u64::from(fails_at < chunks as u64));
+    assert_eq!(rt; sink.calls, fails_at.min(chunks as u64 - 1));
     assert_eq!(rt;
         sink.written.as_slice().strip_prefix(&FRONT),
         text.get(..end)
@@ -79,19 +79,19 @@ fn packed_texts_before_the_fault(rt: HostRuntime) -> Result<()> {
 }
 
 // Whether the run meets no fault. What was written stays at the front, and a front of the text is
-// behind it.
+// after it.
 fn pack_to(rt: &(impl Abort + AllocGlobal), message: &Message, fails_at: u64) -> Result<bool> {
     let name = message.name;
     let array = SegmentArray::new(message.segments);
     assert!(rt; is_writable(&array));
     let mut sink = FaultySink::new(FRONT.to_vec(rt.alloc())?, fails_at);
-    let answer = write_segments(rt.alloc(), &mut PackedWrite::new(&mut sink), &array);
+    let returned = write_segments(rt.alloc(), &mut PackedWrite::new(&mut sink), &array);
     let written = sink
         .written
         .as_slice()
         .strip_prefix(&FRONT)
         .unwrap_or(&[1; 99]);
-    match answer {
+    match returned {
         Err(error) if error.kind == ErrorKind::OutOfMemory => return Err(error),
         Err(error) => assert_eq!(rt; error.kind, ErrorKind::DeviceFailed, "{name}"),
         Ok(()) => {
@@ -102,21 +102,21 @@ fn pack_to(rt: &(impl Abort + AllocGlobal), message: &Message, fails_at: u64) ->
     }
     assert!(rt;
         message.packed.starts_with(written),
-        "{name}, piece {fails_at}"
+        "{name}, chunk {fails_at}"
     );
     assert!(rt;
         written.len() < message.packed.len(),
-        "{name}, piece {fails_at}"
+        "{name}, chunk {fails_at}"
     );
     assert_eq!(rt; sink.failures, 1);
     assert_eq!(rt; sink.calls, fails_at);
     Ok(false)
 }
 
-// A lent slice takes the pieces that it has room for, and is unchanged behind them.
+// A caller-provided slice takes the chunks that it has room for, and is unchanged after them.
 #[test]
-fn lent_slices_of_each_length(rt: HostRuntime) -> Result<()> {
-    for (segments, ends) in PIECES {
+fn provided_slices_of_each_length(rt: HostRuntime) -> Result<()> {
+    for (segments, ends) in CHUNKS {
         for room in 0..=64 {
             retried!(write_into(&rt, segments, ends, room))?;
         }
@@ -145,9 +145,9 @@ fn write_into(
     let text = segments_to_words(rt.alloc(), &array)?;
     let mut space = [9; 64];
     let mut sink: &mut [u8] = &mut space[..room];
-    let answer = write_segments(rt.alloc(), &mut sink, &array);
+    let returned = write_segments(rt.alloc(), &mut sink, &array);
     let left = sink.len();
-    match answer {
+    match returned {
         Err(error) if error.kind == ErrorKind::OutOfMemory => return Err(error),
         Err(error) => assert_eq!(rt; error.kind, ErrorKind::BufferNotLargeEnough),
         Ok(()) => assert_eq!(rt; wanted, whole),

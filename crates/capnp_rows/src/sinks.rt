@@ -7,7 +7,7 @@ ghost use Rattle.capnp_frame.specs.declared.error.ErrorKind.{ErrorKind};
 use capnp_frame::io::Write;
 use capnp_frame::{Error, ErrorKind, Result};
 
-/// A sink whose pieces are counted from 1, and one of which fails. Of that one nothing is written.
+/// A sink whose chunks are counted from 1, and one of which fails. Of that one nothing is written.
 #[derive(Drop)]
 pub struct FaultySink {
     pub written: Vec<u8>,
@@ -43,13 +43,13 @@ impl Write for FaultySink {
 
     ghost same = { λ _ _. ⊤ };
 
-    fn write_all(&mut self, piece: &[u8]) -> Result<()> {
+    fn write_all(&mut self, chunk: &[u8]) -> Result<()> {
         self.calls = self.calls.saturating_add(1);
         if self.calls == self.fails_at {
             self.failures = self.failures.saturating_add(1);
             return Err(Error::from_kind(ErrorKind::DeviceFailed));
         }
-        self.written.write_all(piece)
+        self.written.write_all(chunk)
     }
 
     ghost keeps = { always };

@@ -1,4 +1,4 @@
-//! Sources that answer little at a time, or fail.
+//! Sources that return little at a time, or fail.
 ghost use Rattle.std.specs.Prelude.{◌≡◌, ◌<◌, Some, take, ⊤};
 ghost use Rattle.capnp_frame.specs.Source.{Splits, RunsShort};
 ghost use Rattle.capnp_frame.specs.SplittingLaws.{splitting, always};
@@ -6,8 +6,8 @@ ghost use Rattle.capnp_frame.specs.SplittingLaws.{splitting, always};
 use capnp_frame::io::{BufRead, Read};
 use capnp_frame::{Error, ErrorKind, Result};
 
-/// A slice that answers, or shows, at most so many bytes at once, and at least one. It counts how
-/// often it is asked to show bytes, and how often to read some.
+/// A slice that returns, or shows, at most a given number of bytes at once, and at least one. It
+/// counts how often it is asked to show bytes, and how often to read some.
 #[derive(Drop)]
 pub struct Trickle<'a> {
     pub bytes: &'a [u8],

@@ -9,7 +9,7 @@ use capnp_frame::serialize::{
 };
 use std::process::Abort;
 
-// Segments of 1 and 2 words, and 16 bytes behind them.
+// Segments of 1 and 2 words, and 16 bytes after them.
 const FLATTEN: [u8; 56] = [
     1, 0, 0, 0, 1, 0, 0, 0, 2, 0, 0, 0, 0, 0, 0, 0, 123, 0, 0, 0, 0, 0, 0, 0, 4, 0, 0, 0, 0, 0, 0,
     0, 5, 0, 0, 0, 0, 0, 0, 0, 9, 9, 9, 9, 9, 9, 9, 9, 8, 7, 6, 5, 4, 3, 2, 1,

@@ -1,4 +1,4 @@
-//! Words, and bytes that are written into a lent slice.
+//! Words, and bytes that are written into a caller-provided slice.
 use crate::retried;
 use capnp_frame::io::Write;
 use capnp_frame::message::AsBytes;
@@ -41,13 +41,13 @@ fn the_bytes_of_a_word(rt: HostRuntime) {
     assert_eq!(rt; word.bytes(), [1, 2, 3, 4, 5, 6, 7, 255]);
 }
 
-// A piece that fits moves the slice on, and one that doesn't leaves all as it was.
+// A chunk that fits moves the slice on, and one that doesn't leaves all as it was.
 #[test]
-fn pieces_into_a_lent_slice(rt: HostRuntime) -> Result<()> {
+fn chunks_into_a_provided_slice(rt: HostRuntime) -> Result<()> {
     let mut space = [9; 5];
     let mut left: &mut [u8] = &mut space;
-    for (piece, room) in [(&[1u8, 2] as &[u8], 3), (&[], 3), (&[4, 5, 6], 0), (&[], 0)] {
-        left.write_all(piece)?;
+    for (chunk, room) in [(&[1u8, 2] as &[u8], 3), (&[], 3), (&[4, 5, 6], 0), (&[], 0)] {
+        left.write_all(chunk)?;
         assert_eq!(rt; left.len(), room);
     }
     let refused = left.write_all(&[7]);
@@ -57,7 +57,7 @@ fn pieces_into_a_lent_slice(rt: HostRuntime) -> Result<()> {
 }
 
 #[test]
-fn a_piece_that_does_not_fit(rt: HostRuntime) {
+fn a_chunk_that_does_not_fit(rt: HostRuntime) {
     let mut space = [8, 9];
     let mut left: &mut [u8] = &mut space;
     let refused = left.write_all(&[1, 2, 3]);

@@ -14,7 +14,7 @@ use std::io::Read;
 
 /// Shows the messages of the files of these names, or of standard input where none is named.
 ///
-/// It answers whether all were read to their ends. It is refused where what is shown can't be
+/// It returns whether all were read to their ends. It is refused where what is shown can't be
 /// written, and reads no further then.
 pub fn show_files<W: Write>(
     rt: HostRuntime,

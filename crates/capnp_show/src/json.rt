@@ -38,7 +38,7 @@ pub fn push_hash(text: &mut String, hash: &Hash) -> Result<(), AllocError> {
     }
 }
 
-/// Adds a number behind what the object has already.
+/// Adds a number after what the object has already.
 pub fn push_number(text: &mut String, name: &str, number: u64) -> Result<(), AllocError> {
     write!(text, ",\"{name}\":{number}")
 }
@@ -108,11 +108,11 @@ fn push_object<S: ReaderSegments>(
         }
     }
     push_place(text, object.start)?;
-    if let Some(landing_pad) = object.landing_pad {
+    if let Some(landing_landing_pad) = object.landing_landing_pad {
         text.push_str(",\"landing_pad\":{\"words\":")?;
-        let words = landing_pad.words;
+        let words = landing_landing_pad.words;
         write!(text, "{words}")?;
-        push_place(text, landing_pad.place)?;
+        push_place(text, landing_landing_pad.place)?;
         text.push('}')?;
     }
     if let Some(shown) = bytes_of(segments, object).and_then(text_in) {

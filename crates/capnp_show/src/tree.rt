@@ -49,7 +49,7 @@ struct Row {
     kind: RowKind,
     depth: u64,
     // How many objects may still be nested below.
-    level: u64,
+    nesting: u64,
 }
 
 #[derive(Clone, Copy)]
@@ -80,7 +80,7 @@ impl Walk {
             },
             kind: RowKind::Root,
             depth: 0,
-            level: u64::try_from(limits.nesting_limit).unwrap_or(0),
+            nesting: u64::try_from(limits.nesting_limit).unwrap_or(0),
         })?;
         let left = match limits.traversal_limit_in_words {
             Some(words) => Some(words as u64),
@@ -112,7 +112,8 @@ impl Walk {
         };
         let found = match row.kind {
             RowKind::Elements(size) => {
-                self.rows.push(row.pointers_of(row.next, size, row.level))?;
+                self.rows
+                    .push(row.pointers_of(row.next, size, row.nesting))?;
                 Found::Element(row.next, size)
             }
             _ => self.follow(segments, row)?,
@@ -131,7 +132,7 @@ impl Walk {
             Ok(None) => return Ok(Found::Null),
             Err(kind) => return Ok(Found::Refused(kind)),
         };
-        if row.level == 0 {
+        if row.nesting == 0 {
             return Ok(Found::Refused(ErrorKind::NestingLimitExceeded));
         }
         if !self.take(object.traversed()) {
@@ -176,47 +177,52 @@ impl Row {
             next: self.next.moved(words),
             kind: self.kind,
             depth: self.depth,
-            level: self.level,
+            nesting: self.nesting,
         }
     }
 
     // The nodes below an object that this row leads to.
     fn below(self, object: &Object) -> Option<Row> {
-        let level = self.level.saturating_sub(1);
+        let nesting = self.nesting.saturating_sub(1);
         match object.shape {
-            Shape::Struct(size) => Some(self.pointers_of(object.start, size, level)),
+            Shape::Struct(size) => Some(self.pointers_of(object.start, size, nesting)),
             Shape::List(ElementSize::Pointer, count) => {
-                Some(self.row(RowKind::Pointers, object.start, count, level))
+                Some(self.row(RowKind::Pointers, object.start, count, nesting))
             }
             Shape::List(_, _) => None,
             Shape::Structs(size, _, _) if size.pointers == 0 => None,
             Shape::Structs(size, count, _) => {
-                Some(self.row(RowKind::Elements(size), object.start.moved(1), count, level))
+                Some(self.row(
+                    RowKind::Elements(size),
+                    object.start.moved(1),
+                    count,
+                    nesting,
+                ))
             }
         }
     }
 
     // The pointers of a struct at a place.
-    fn pointers_of(self, start: Place, size: StructSize, level: u64) -> Row {
+    fn pointers_of(self, start: Place, size: StructSize, nesting: u64) -> Row {
         let first = start.moved(size.data_words);
-        self.row(RowKind::Pointers, first, size.pointers, level)
+        self.row(RowKind::Pointers, first, size.pointers, nesting)
     }
 
     // Nodes one deeper than those of this row.
-    fn row(self, kind: RowKind, next: Place, count: u64, level: u64) -> Row {
+    fn row(self, kind: RowKind, next: Place, count: u64, nesting: u64) -> Row {
         Row {
             index: 0,
             count,
             next,
             kind,
             depth: self.depth.saturating_add(1),
-            level,
+            nesting,
         }
     }
 }
 
 impl Place {
-    // The place so many words further.
+    // The place a given number of words further.
     fn moved(self, words: u64) -> Place {
         Place {
             segment: self.segment,

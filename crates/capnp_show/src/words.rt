@@ -1,6 +1,6 @@
 //! What the pointer words of a message say, as in the encoding document, "Pointers".
 //!
-//! Nothing is followed here but the landing pads of far pointers, so each answer takes a few steps,
+//! Nothing is followed here but the landing pads of far pointers, so each result takes a few steps,
 //! whatever the words are.
 ghost use Rattle.std.specs.Prelude.{◌<◌, ◌^◌};
 
@@ -39,15 +39,15 @@ pub enum ElementSize {
 #[derive(Clone, Copy)]
 pub enum Shape {
     Struct(StructSize),
-    /// A list of so many elements.
+    /// A list of a given number of elements.
     List(ElementSize, u64),
-    /// A list of so many structs, and the words after its tag.
+    /// A list of a given number of structs, and the words after its tag.
     Structs(StructSize, u64, u64),
 }
 
 /// The words by which a far pointer leads to an object.
 #[derive(Clone, Copy)]
-pub struct LandingPad {
+pub struct LandingLandingPad {
     pub place: Place,
     pub words: u64,
 }
@@ -58,7 +58,7 @@ pub struct Object {
     /// Where it begins; of a list of structs where its tag is.
     pub start: Place,
     pub shape: Shape,
-    pub landing_pad: Option<LandingPad>,
+    pub landing_landing_pad: Option<LandingLandingPad>,
 }
 
 /// The object that the pointer at a place leads to; `None` for null.
@@ -105,7 +105,7 @@ fn near_object<S: ReaderSegments>(
     segments: &S,
     place: Place,
     pointer: u64,
-    landing_pad: Option<LandingPad>,
+    landing_landing_pad: Option<LandingLandingPad>,
 ) -> Result<Object, ErrorKind> {
     let offset = pointer / 4 % (1 << 30);
     let ahead = place.word.saturating_add(1).saturating_add(offset);
@@ -120,7 +120,7 @@ fn near_object<S: ReaderSegments>(
         segment: place.segment,
         word,
     };
-    shaped_object(segments, start, pointer, landing_pad)
+    shaped_object(segments, start, pointer, landing_landing_pad)
 }
 
 // The object of a far pointer.
@@ -129,7 +129,12 @@ fn far_object<S: ReaderSegments>(segments: &S, pointer: u64) -> Result<Object, E
     let first = word_at(segments, place)?;
     if pointer / 4 % 2 == 0 {
         expect_near(first)?;
-        return near_object(segments, place, first, Some(LandingPad { place, words: 1 }));
+        return near_object(
+            segments,
+            place,
+            first,
+            Some(LandingLandingPad { place, words: 1 }),
+        );
     }
     let second = Place {
         segment: place.segment,
@@ -144,7 +149,12 @@ fn far_object<S: ReaderSegments>(segments: &S, pointer: u64) -> Result<Object, E
         return Err(ErrorKind::InvalidSegmentId(start.segment));
     }
     expect_near(tag)?;
-    shaped_object(segments, start, tag, Some(LandingPad { place, words: 2 }))
+    shaped_object(
+        segments,
+        start,
+        tag,
+        Some(LandingLandingPad { place, words: 2 }),
+    )
 }
 
 // Refuses a word of a landing pad that is no struct or list pointer.
@@ -172,7 +182,7 @@ fn shaped_object<S: ReaderSegments>(
     segments: &S,
     start: Place,
     pointer: u64,
-    landing_pad: Option<LandingPad>,
+    landing_landing_pad: Option<LandingLandingPad>,
 ) -> Result<Object, ErrorKind> {
     let shape = shape_of(segments, start, pointer)?;
     let there = words_from(segments, start);
@@ -182,7 +192,7 @@ fn shaped_object<S: ReaderSegments>(
     Ok(Object {
         start,
         shape,
-        landing_pad,
+        landing_landing_pad,
     })
 }
 
@@ -215,7 +225,7 @@ fn shape_of<S: ReaderSegments>(
     Ok(Shape::List(size, count))
 }
 
-// The list of structs with its tag at a place, and so many words after it.
+// The list of structs with its tag at a place, and a given number of words after it.
 fn structs_at<S: ReaderSegments>(
     segments: &S,
     start: Place,
@@ -290,10 +300,10 @@ impl Shape {
 impl Object {
     /// The words that count against the limit, with those of the landing pad.
     pub fn traversed(&self) -> u64 {
-        let landing_pad = match self.landing_pad {
-            Some(landing_pad) => landing_pad.words,
+        let landing_landing_pad = match self.landing_landing_pad {
+            Some(landing_landing_pad) => landing_landing_pad.words,
             None => 0,
         };
-        self.shape.traversed().saturating_add(landing_pad)
+        self.shape.traversed().saturating_add(landing_landing_pad)
     }
 }

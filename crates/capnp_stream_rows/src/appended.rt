@@ -1,4 +1,4 @@
-//! Messages that are written one after the other and read back, and what other readers answer of them.
+//! Messages that are written one after the other and read back, and what other readers return of them.
 use capnp::appended::{read_messages, write_and_read_back, write_messages};
 use capnp::message::{DEFAULT_READER_OPTIONS, ReaderOptions};
 use capnp::streams::Format;
@@ -20,7 +20,7 @@ const TWO: &[&[u8]] = &[&[], &[1, 2, 3, 4, 5, 6, 7, 8]];
 
 const EMPTY: &[&[u8]] = &[&[]];
 
-// Their texts behind one another.
+// Their texts after one another.
 const FRAMED: &[u8] = &[
     1, 0, 0, 0, 1, 0, 0, 0, 2, 0, 0, 0, 0, 0, 0, 0, 123, 0, 0, 0, 0, 0, 0, 0, 4, 0, 0, 0, 0, 0, 0,
     0, 5, 0, 0, 0, 0, 0, 0, 0, 1, 0, 0, 0, 0, 0, 0, 0, 1, 0, 0, 0, 0, 0, 0, 0, 1, 2, 3, 4, 5, 6, 7,
@@ -58,7 +58,7 @@ fn write_three(
 }
 
 #[test]
-fn texts_behind_one_another(rt: HostRuntime) -> Result<()> {
+fn texts_after_one_another(rt: HostRuntime) -> Result<()> {
     for format in FORMATS {
         retried!(write_and_read(&rt, format))?;
         retried!(write_none(&rt, format))?;
@@ -113,7 +113,8 @@ fn write_none(rt: &(impl Abort + AllocGlobal), format: Format) -> Result<()> {
     Ok(())
 }
 
-// A limit, how many messages are asked for, and the refusal with what is unread then, framed and packed.
+// A limit, how many messages are asked for, and the refusal with what is unread then, framed and
+// packed.
 #[rattlefmt::skip]
 const REFUSALS: [(Option<usize>, usize, ErrorKind, usize, usize); 4] = [
     (Some(2), 3, ErrorKind::MessageTooLarge(3), 56, 22),
@@ -151,20 +152,21 @@ fn read_too_many(
     Ok(())
 }
 
-// A sink that fails at its nth piece, and would take those behind it, has a front of the texts. Framed
-// they have ten pieces: four of each of the first two, of which one is of no bytes, and two of the last.
+// A sink that fails at its nth chunk, and would take those after it, has a front of the texts.
+// Framed they have ten chunks: four of each of the first two, of which one is of no bytes, and two
+// of the last.
 #[test]
-fn no_piece_follows_a_refused_one(rt: HostRuntime) -> Result<()> {
+fn no_chunk_follows_a_refused_one(rt: HostRuntime) -> Result<()> {
     for format in FORMATS {
-        let mut pieces = 0;
+        let mut chunks = 0;
         for fails_at in 1..=20 {
             if retried!(write_to(&rt, format, fails_at))? {
                 break;
             }
-            pieces = fails_at;
+            chunks = fails_at;
         }
-        assert!(rt; pieces > 2 && pieces <= 10, "{format:?}");
-        assert_eq!(rt; format == Format::Framed, pieces == 10);
+        assert!(rt; chunks > 2 && chunks <= 10, "{format:?}");
+        assert_eq!(rt; format == Format::Framed, chunks == 10);
     }
     Ok(())
 }
@@ -172,8 +174,8 @@ fn no_piece_follows_a_refused_one(rt: HostRuntime) -> Result<()> {
 // Whether the run meets no fault.
 fn write_to(rt: &(impl Abort + AllocGlobal), format: Format, fails_at: u64) -> Result<bool> {
     let mut sink = FaultySink::new(Vec::new(rt.alloc()), fails_at);
-    let answer = write_three(rt, format, &mut sink);
-    match answer {
+    let returned = write_three(rt, format, &mut sink);
+    match returned {
         Err(error) if error.kind == ErrorKind::OutOfMemory => return Err(error),
         Err(error) => assert_eq!(rt; error.kind, ErrorKind::DeviceFailed),
         Ok(()) => {
@@ -184,7 +186,7 @@ fn write_to(rt: &(impl Abort + AllocGlobal), format: Format, fails_at: u64) -> R
     let written = sink.written.as_slice();
     assert!(rt;
         text_of(format).starts_with(written),
-        "{format:?}, piece {fails_at}"
+        "{format:?}, chunk {fails_at}"
     );
     assert_eq!(rt; written.len() == text_of(format).len(), fails_at == 10);
     assert_eq!(rt; sink.calls, fails_at);
@@ -205,7 +207,7 @@ fn other_readers_of_the_texts(rt: HostRuntime) -> Result<()> {
     Ok(())
 }
 
-// The next framed message by both readers into a buffer, and what is left behind it.
+// The next framed message by both readers into a buffer, and what is left after it.
 fn read_framed<'a>(rt: &impl Abort, text: &'a [u8], segments: &[&[u8]]) -> Result<&'a [u8]> {
     let options = DEFAULT_READER_OPTIONS;
     let mut buffer = [0; 40];
@@ -219,7 +221,7 @@ fn read_framed<'a>(rt: &impl Abort, text: &'a [u8], segments: &[&[u8]]) -> Resul
     Ok(source)
 }
 
-// The same of the next packed one.
+// The next packed message by both readers into a buffer, and what is left after it.
 fn read_packed<'a>(rt: &impl Abort, text: &'a [u8], segments: &[&[u8]]) -> Result<&'a [u8]> {
     let options = DEFAULT_READER_OPTIONS;
     let mut buffer = [0; 40];
@@ -236,15 +238,15 @@ fn read_packed<'a>(rt: &impl Abort, text: &'a [u8], segments: &[&[u8]]) -> Resul
 // Both readers of a slice, message by message.
 fn read_in_slices(alloc: Global, rt: &impl Abort) -> Result<()> {
     let mut copied = FRAMED;
-    let mut lent = FRAMED;
+    let mut provided = FRAMED;
     for (segments, left) in [(FLATTEN, 32), (TWO, 8), (EMPTY, 0)] {
         let options = DEFAULT_READER_OPTIONS;
         let read = serialize::read_message_from_flat_slice(alloc, &mut copied, options)?;
         assert!(rt; has_segments(read.get_segments(), segments));
         assert_eq!(rt; copied.len(), left);
-        let read = serialize::read_message_from_flat_slice_no_alloc(&mut lent, options)?;
+        let read = serialize::read_message_from_flat_slice_no_alloc(&mut provided, options)?;
         assert!(rt; has_segments(read.get_segments(), segments));
-        assert_eq!(rt; lent.len(), left);
+        assert_eq!(rt; provided.len(), left);
     }
     Ok(())
 }

@@ -7,8 +7,8 @@ use capnp_rows::retried;
 use capnp_rows::sinks::FaultySink;
 use std::process::Abort;
 
-// How many bytes are written before each of the pieces of the framed text, and behind the last: the
-// table's first word and its rest, the root's word, and the text behind its pad.
+// How many bytes are written before each of the chunks of the framed text, and after the last: the
+// table's first word and its rest, the root's word, and the text after its landing pad.
 const ENDS: [usize; 5] = [0, 8, 16, 24, 48];
 
 // Row hello-far: the first segment has room for the root's word alone.
@@ -19,9 +19,9 @@ fn build(rt: &impl AllocGlobal) -> Result<Builder<HeapAllocator>> {
     Ok(message)
 }
 
-// Where a piece fails a front of the text stands, and no piece follows.
+// Where a chunk fails a front of the text stands, and no chunk follows.
 #[test]
-fn a_sink_that_fails_at_each_piece(rt: HostRuntime) -> Result<()> {
+fn a_sink_that_fails_at_each_chunk(rt: HostRuntime) -> Result<()> {
     for (fails_at, end) in (1..).zip(ENDS) {
         retried!(write_framed(&rt, fails_at, end))?;
         retried!(write_packed(&rt, fails_at))?;
@@ -34,8 +34,8 @@ fn write_framed(rt: &(impl Abort + AllocGlobal), fails_at: u64, end: usize) -> R
     let message = build(rt)?;
     assert!(rt; !message.is_empty());
     let mut sink = FaultySink::new(Vec::new(rt.alloc()), fails_at);
-    let answer = serialize::write_message(rt.alloc(), &mut sink, &message);
-    match answer {
+    let returned = serialize::write_message(rt.alloc(), &mut sink, &message);
+    match returned {
         Err(error) if error.kind == ErrorKind::OutOfMemory => return Err(error),
         Err(error) => assert_eq!(rt; error.kind, ErrorKind::DeviceFailed),
         Ok(()) => assert_eq!(rt; fails_at, 5),
@@ -46,19 +46,19 @@ fn write_framed(rt: &(impl Abort + AllocGlobal), fails_at: u64, end: usize) -> R
     Ok(())
 }
 
-// How a packed text is cut into pieces is open, but the first ones are not the whole.
+// How a packed text is cut into chunks is open, but the first ones are not the whole.
 fn write_packed(rt: &(impl Abort + AllocGlobal), fails_at: u64) -> Result<()> {
     let [_, _, _, far] = SAMPLES;
     let message = build(rt)?;
     assert!(rt; !message.is_empty());
     let mut sink = FaultySink::new(Vec::new(rt.alloc()), fails_at);
-    let answer = serialize_packed::write_message(rt.alloc(), &mut sink, &message);
+    let returned = serialize_packed::write_message(rt.alloc(), &mut sink, &message);
     let written = sink.written.as_slice();
-    if answer.is_ok() {
+    if returned.is_ok() {
         assert_eq!(rt; written, far.packed);
         return Ok(());
     }
-    match answer {
+    match returned {
         Err(error) if error.kind == ErrorKind::OutOfMemory => return Err(error),
         Err(error) => assert_eq!(rt; error.kind, ErrorKind::DeviceFailed),
         Ok(()) => {}

@@ -21,7 +21,7 @@ const FRAMED_TEXTS: &[u8] = &[
 
 const PACKED_TEXTS: &[u8] = &[0, 0, 1, 1, 1, 1, 0xff, 1, 2, 3, 4, 5, 6, 7, 8, 0];
 
-// A way, a message and one of the padding behind it, how much is unread once the padding is refused,
+// A way, a message and one of the padding after it, how much is unread once the padding is refused,
 // what is written then, and what is written of both.
 type Row = (Way, [&'static [u8]; 2], usize, &'static [u8], &'static [u8]);
 
@@ -42,7 +42,7 @@ fn both_rules(rt: HostRuntime) -> Result<()> {
     Ok(())
 }
 
-// Both texts, one behind the other.
+// Both texts, one after the other.
 fn joined(alloc: Global, texts: [&[u8]; 2]) -> Result<Vec<u8>> {
     let [first, second] = texts;
     let mut bytes = first.to_vec(alloc)?;
@@ -52,9 +52,9 @@ fn joined(alloc: Global, texts: [&[u8]; 2]) -> Result<Vec<u8>> {
 
 // A stop for want of memory is handed back.
 fn finished(
-    answer: std::result::Result<(), StoppedAt>,
+    returned: std::result::Result<(), StoppedAt>,
 ) -> Result<std::result::Result<(), (u64, ErrorKind)>> {
-    match answer {
+    match returned {
         Ok(()) => Ok(Ok(())),
         Err(stop) if stop.error.kind == ErrorKind::OutOfMemory => Err(stop.error),
         Err(stop) => Ok(Err((stop.message, stop.error.kind))),
@@ -106,14 +106,14 @@ fn transcode_strictly(rt: &(impl Abort + AllocGlobal), row: &Row) -> Result<()> 
     let input = joined(rt.alloc(), texts)?;
     let mut source = input.as_slice();
     let mut sink: Vec<u8> = Vec::new(rt.alloc());
-    let answer = transcode(
+    let returned = transcode(
         rt.alloc(),
         way,
         &mut source,
         &mut sink,
         DEFAULT_READER_OPTIONS,
     );
-    match answer {
+    match returned {
         Ok(()) => panic!(rt; "no refusal, {way:?}"),
         Err(error) if error.kind == ErrorKind::OutOfMemory => return Err(error),
         Err(error) => assert_eq!(rt; error.kind, ErrorKind::NonZeroPadding, "{way:?}"),

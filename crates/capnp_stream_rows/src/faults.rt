@@ -1,7 +1,7 @@
 //! Sources that fail at their nth call.
 use crate::flat::RULES;
 use crate::samples::{SAMPLES, Sample};
-use crate::streams::{Call, Format, READERS, Wanted, is_answered};
+use crate::streams::{Call, Format, READERS, Wanted, is_returned};
 use capnp_frame::io::Read;
 use capnp_frame::message::DEFAULT_READER_OPTIONS;
 use capnp_frame::serialize::{Padding, try_read_segments};
@@ -16,7 +16,7 @@ const FAILED: Wanted<'static> = Wanted::Refused(ErrorKind::DeviceFailed);
 
 const FORMATS: [Format; 2] = [Format::Framed, Format::Packed];
 
-// How many bytes a call shows or answers at most.
+// How many bytes a call shows or returns at most.
 const CUTS: [usize; 5] = [1, 2, 3, 7, 16];
 
 fn text_of(sample: &Sample, format: Format) -> &'static [u8] {
@@ -27,7 +27,7 @@ fn text_of(sample: &Sample, format: Format) -> &'static [u8] {
 }
 
 #[test]
-fn a_failed_call_is_no_answer(rt: HostRuntime) -> Result<()> {
+fn a_failed_call_is_no_result(rt: HostRuntime) -> Result<()> {
     for format in FORMATS {
         for reader in READERS {
             for sample in SAMPLES {
@@ -71,7 +71,7 @@ fn fail_each(
     Ok(false)
 }
 
-// Whether the run meets no fault. One that does answers neither a message nor the end.
+// Whether the run meets no fault. One that does returns neither a message nor the end.
 fn read_to(
     rt: &(impl Abort + AllocGlobal),
     call: Call,
@@ -82,7 +82,7 @@ fn read_to(
     let name = sample.name;
     let text = text_of(sample, call.0);
     let mut source = Faulty::new(Trickle::new(text, most), fails_at);
-    let failed = is_answered(rt.alloc(), call, &mut source, DEFAULT_LIMIT, FAILED)?;
+    let failed = is_returned(rt.alloc(), call, &mut source, DEFAULT_LIMIT, FAILED)?;
     assert!(rt;
         text.ends_with(source.source.bytes),
         "{name}, {call:?}, call {fails_at}"
@@ -98,15 +98,15 @@ fn read_to(
     }
     let mut source = Faulty::new(Trickle::new(text, most), fails_at);
     let wanted = Wanted::Segments(sample.segments);
-    let answered = is_answered(rt.alloc(), call, &mut source, DEFAULT_LIMIT, wanted)?;
+    let returned = is_returned(rt.alloc(), call, &mut source, DEFAULT_LIMIT, wanted)?;
     assert!(rt;
-        answered && source.source.bytes.is_empty(),
+        returned && source.source.bytes.is_empty(),
         "{name}, {call:?}"
     );
     Ok(true)
 }
 
-// Row two-segments takes so many reads of at most so many bytes.
+// Row two-segments takes a given number of reads of at most a given number of bytes.
 const READS: [(usize, u64); 4] = [(1, 24), (3, 9), (8, 3), (24, 3)];
 
 #[test]
@@ -124,7 +124,7 @@ fn count_reads(rt: &(impl Abort + AllocGlobal)) -> Result<()> {
     Ok(())
 }
 
-// A failed first call takes nothing and isn't the end: the next call answers the message, or tells
+// A failed first call takes nothing and isn't the end: the next call returns the message, or tells
 // the end.
 #[test]
 fn a_call_after_a_failed_first_one(rt: HostRuntime) -> Result<()> {
@@ -155,21 +155,21 @@ fn fail_first(
 ) -> Result<()> {
     let mut source = Faulty::new(Trickle::new(text, 8), 1);
     assert!(rt;
-        is_answered(rt.alloc(), call, &mut source, DEFAULT_LIMIT, FAILED)?,
+        is_returned(rt.alloc(), call, &mut source, DEFAULT_LIMIT, FAILED)?,
         "{call:?}"
     );
     assert!(rt;
-        is_answered(rt.alloc(), call, &mut source, DEFAULT_LIMIT, wanted)?,
+        is_returned(rt.alloc(), call, &mut source, DEFAULT_LIMIT, wanted)?,
         "{call:?}"
     );
     assert_eq!(rt; source.failures, 1);
     Ok(())
 }
 
-// A piece of the words 1..8 and 9..16 that fails in the literal run's middle: two calls look at the
+// A chunk of the words 1..8 and 9..16 that fails in the literal run's middle: two calls look at the
 // tag and at the first byte, and so on. However the words are taken, no fault is passed over.
 #[test]
-fn a_failed_call_within_a_piece(rt: HostRuntime) -> Result<()> {
+fn a_failed_call_within_a_chunk(rt: HostRuntime) -> Result<()> {
     let text = [
         0xff, 1, 2, 3, 4, 5, 6, 7, 8, 1, 9, 10, 11, 12, 13, 14, 15, 16,
     ];
@@ -178,8 +178,8 @@ fn a_failed_call_within_a_piece(rt: HostRuntime) -> Result<()> {
         for fails_at in 1..=100 {
             let mut source = Faulty::new(Trickle::new(&text, most), fails_at);
             let mut words = [0; 16];
-            let answer = PackedRead::new(&mut source).read_exact(&mut words);
-            ended = answer.is_ok();
+            let returned = PackedRead::new(&mut source).read_exact(&mut words);
+            ended = returned.is_ok();
             if ended {
                 assert_eq!(rt;
                     words,
@@ -188,7 +188,7 @@ fn a_failed_call_within_a_piece(rt: HostRuntime) -> Result<()> {
                 assert_eq!(rt; source.failures, 0);
                 break;
             }
-            assert!(rt; answer.is_err_and(|error| error.kind == ErrorKind::DeviceFailed));
+            assert!(rt; returned.is_err_and(|error| error.kind == ErrorKind::DeviceFailed));
             assert_eq!(rt; source.failures, 1);
         }
         assert!(rt; ended);

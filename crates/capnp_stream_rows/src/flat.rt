@@ -2,7 +2,7 @@
 use crate::flat_calls::{
     hold, hold_without_memory, take, take_message, take_message_without_memory, take_without_memory,
 };
-use crate::flat_rows::{FLAT_ROWS, FlatAnswer, FlatRow};
+use crate::flat_rows::{FLAT_ROWS, FlatResult, FlatRow};
 use crate::packed_rows::NO_WORDS;
 use capnp::message::Reader;
 use capnp_frame::message::{ReaderOptions, ReaderSegments};
@@ -49,7 +49,7 @@ impl Form {
         }
     }
 
-    /// The kind where only so many bytes of a table are there.
+    /// The kind where only a given number of bytes of a table are there.
     pub fn refusal_of_a_cut_table(self, length: usize) -> ErrorKind {
         match self {
             Form::Take | Form::Message if length == 0 => ErrorKind::EmptySlice,
@@ -71,9 +71,9 @@ fn with_limit(limit: Option<usize>) -> ReaderOptions {
 /// The segments that are wanted, or the kind.
 pub type Wanted<'a> = std::result::Result<&'a [&'a [u8]], ErrorKind>;
 
-// Whether this is the answer. One for want of memory is handed back.
-fn is_wanted<S: ReaderSegments + Drop>(answer: Result<S>, wanted: Wanted<'_>) -> Result<bool> {
-    match answer {
+// Whether this is the result. One for want of memory is handed back.
+fn is_wanted<S: ReaderSegments + Drop>(returned: Result<S>, wanted: Wanted<'_>) -> Result<bool> {
+    match returned {
         Ok(found) => Ok(wanted.is_ok_and(|segments| has_segments(&found, segments))),
         Err(error) if error.kind == ErrorKind::OutOfMemory => Err(error),
         Err(error) => Ok(wanted.is_err_and(|kind| kind == error.kind)),
@@ -81,11 +81,11 @@ fn is_wanted<S: ReaderSegments + Drop>(answer: Result<S>, wanted: Wanted<'_>) ->
 }
 
 // The segments of a message that was read.
-fn segments_of<S: ReaderSegments + Drop>(answer: Result<Reader<S>>) -> Result<S> {
-    Ok(answer?.into_segments())
+fn segments_of<S: ReaderSegments + Drop>(returned: Result<Reader<S>>) -> Result<S> {
+    Ok(returned?.into_segments())
 }
 
-/// Whether the form, of this padding, answers what is wanted of these bytes, and how many of them it
+/// Whether the form, of this padding, returns what is wanted of these bytes, and how many of them it
 /// leaves.
 pub fn find(
     rt: &(impl Abort + AllocGlobal),
@@ -96,7 +96,7 @@ pub fn find(
 ) -> Result<(bool, usize)> {
     let alloc = rt.alloc();
     let mut slice = bytes;
-    let answered = match form {
+    let returned = match form {
         Form::Take => is_wanted(take(alloc, rule, &mut slice, options), wanted)?,
         Form::New => is_wanted(hold(alloc, rule, bytes, options), wanted)?,
         Form::NewOfVector => {
@@ -119,18 +119,18 @@ pub fn find(
         }
     };
     assert!(rt; bytes.ends_with(slice));
-    Ok((answered, slice.len()))
+    Ok((returned, slice.len()))
 }
 
-/// How many bytes a form leaves: those that take a slice move it behind a message.
-pub fn left_by(form: Form, whole: usize, behind: usize) -> usize {
+/// How many bytes a form leaves: those that take a slice move it after a message.
+pub fn left_by(form: Form, whole: usize, following: usize) -> usize {
     match form {
-        Form::Take | Form::FromSlice | Form::Message | Form::MessageNoAlloc => behind,
+        Form::Take | Form::FromSlice | Form::Message | Form::MessageNoAlloc => following,
         _ => whole,
     }
 }
 
-// No row has a padding that isn't zero, so both rules answer the same.
+// No row has a padding that isn't zero, so both rules return the same.
 #[test]
 fn rows_in_each_form(rt: HostRuntime) -> Result<()> {
     for rule in RULES {
@@ -152,14 +152,14 @@ pub fn find_row(
     let name = row.name;
     let whole = row.bytes.len();
     let (form, _) = call;
-    let (wanted, behind) = match row.answer {
-        FlatAnswer::Segments(segments, behind) => (Ok(segments), behind),
-        FlatAnswer::Refused(kind, _) if form.is_by_words() => (Err(kind), whole),
-        FlatAnswer::Refused(_, kind) => (Err(kind), whole),
+    let (wanted, following) = match row.returned {
+        FlatResult::Segments(segments, following) => (Ok(segments), following),
+        FlatResult::Refused(kind, _) if form.is_by_words() => (Err(kind), whole),
+        FlatResult::Refused(_, kind) => (Err(kind), whole),
     };
-    let (answered, left) = find(rt, call, row.bytes, with_limit(row.limit), wanted)?;
-    assert!(rt; answered, "{name}, {call:?}");
-    assert_eq!(rt; left, left_by(form, whole, behind), "{name}, {call:?}");
+    let (returned, left) = find(rt, call, row.bytes, with_limit(row.limit), wanted)?;
+    assert!(rt; returned, "{name}, {call:?}");
+    assert_eq!(rt; left, left_by(form, whole, following), "{name}, {call:?}");
     Ok(())
 }
 
@@ -171,7 +171,7 @@ const TABLES: [(u8, u8, Option<usize>, ErrorKind); 3] = [
     (254, 255, NO_LIMIT, ErrorKind::MessageEndsPrematurely(2194728287745, 0)),
 ];
 
-// As many segments as a reader accepts, all empty, with 3 bytes behind them; then one segment more, and
+// As many segments as a reader accepts, all empty, with 3 bytes after them; then one segment more, and
 // lengths that come to more words than the limit, or than are there.
 #[test]
 fn the_longest_tables(rt: HostRuntime) -> Result<()> {
@@ -204,8 +204,8 @@ fn find_table(
         Ok(_) => left_by(call.0, 2051, 3),
         Err(_) => 2051,
     };
-    let (answered, left) = find(rt, call, &bytes, with_limit(limit), wanted)?;
-    assert!(rt; answered, "{call:?}, count {count}, lengths {lengths}");
+    let (returned, left) = find(rt, call, &bytes, with_limit(limit), wanted)?;
+    assert!(rt; returned, "{call:?}, count {count}, lengths {lengths}");
     assert_eq!(rt;
         left,
         wanted_left,

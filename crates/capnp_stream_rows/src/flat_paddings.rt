@@ -1,44 +1,44 @@
 //! Slices and buffers with a table whose padding isn't zero, by both rules.
 use crate::flat::{FORMS, RULES, find_row};
-use crate::flat_rows::{CUT, FlatAnswer, FlatRow};
+use crate::flat_rows::{CUT, FlatResult, FlatRow};
 use crate::padding_rows::{CUT_TABLE, TABLE, TWO};
 use capnp_frame::serialize::Padding;
 use capnp_frame::{ErrorKind, Result};
 use capnp_rows::limits::{DEFAULT_LIMIT, NO_LIMIT};
 use capnp_rows::retried;
 
-// What the calls of each rule answer where a slice or buffer holds these bytes.
+// What the calls of each rule return where a slice or buffer holds these bytes.
 #[derive(Clone, Copy)]
 struct PaddedRow {
     name: &'static str,
     bytes: &'static [u8],
     limit: Option<usize>,
-    strict: FlatAnswer,
-    lenient: FlatAnswer,
+    strict: FlatResult,
+    lenient: FlatResult,
 }
 
-const NOT_ZERO: FlatAnswer = FlatAnswer::Refused(
+const NOT_ZERO: FlatResult = FlatResult::Refused(
     ErrorKind::NonZeroPadding,
     ErrorKind::NonZeroPadding,
 );
 
-const TOO_LARGE: FlatAnswer = FlatAnswer::Refused(
+const TOO_LARGE: FlatResult = FlatResult::Refused(
     ErrorKind::MessageTooLarge(1),
     ErrorKind::MessageTooLarge(1),
 );
 
-const NO_SEGMENTS_THERE: FlatAnswer = FlatAnswer::Refused(
+const NO_SEGMENTS_THERE: FlatResult = FlatResult::Refused(
     ErrorKind::MessageEndsPrematurely(1, 0),
     ErrorKind::MessageEndsPrematurely(1, 0),
 );
 
-const CUT_WITHIN: FlatAnswer = FlatAnswer::Refused(CUT, ErrorKind::MessageEndsPrematurely(4, 2));
+const CUT_WITHIN: FlatResult = FlatResult::Refused(CUT, ErrorKind::MessageEndsPrematurely(4, 2));
 
-const TWO_SEGMENTS: FlatAnswer = FlatAnswer::Segments(&[&[], &[1, 2, 3, 4, 5, 6, 7, 8]], 0);
+const TWO_SEGMENTS: FlatResult = FlatResult::Segments(&[&[], &[1, 2, 3, 4, 5, 6, 7, 8]], 0);
 
-const NO_WORDS: FlatAnswer = FlatAnswer::Segments(&[&[], &[]], 0);
+const NO_WORDS: FlatResult = FlatResult::Segments(&[&[], &[]], 0);
 
-const THREE: FlatAnswer = FlatAnswer::Segments(&[&[], &[], &[1, 2, 3, 4, 5, 6, 7, 8]], 0);
+const THREE: FlatResult = FlatResult::Segments(&[&[], &[], &[1, 2, 3, 4, 5, 6, 7, 8]], 0);
 
 const NONE: PaddedRow = PaddedRow {
     name: "one byte of a padding",
@@ -83,7 +83,7 @@ const ROWS: [PaddedRow; 14] = [
         bytes: &[
             3, 0, 0, 0, 0, 0, 0, 0, 1, 0, 0, 0, 0, 0, 0, 0, 0, 0, 0, 0, 0, 0, 0, 1, 1, 2, 3, 4, 5, 6, 7, 8,
         ],
-        lenient: FlatAnswer::Segments(&[&[], &[1, 2, 3, 4, 5, 6, 7, 8], &[], &[]], 0),
+        lenient: FlatResult::Segments(&[&[], &[1, 2, 3, 4, 5, 6, 7, 8], &[], &[]], 0),
         ..NONE
     },
     PaddedRow {
@@ -94,9 +94,9 @@ const ROWS: [PaddedRow; 14] = [
         lenient: THREE,
     },
     PaddedRow {
-        name: "two empty segments, and 3 bytes behind them",
+        name: "two empty segments, and 3 bytes after them",
         bytes: &[1, 0, 0, 0, 0, 0, 0, 0, 0, 0, 0, 0, 9, 9, 9, 9, 1, 2, 3],
-        lenient: FlatAnswer::Segments(&[&[], &[]], 3),
+        lenient: FlatResult::Segments(&[&[], &[]], 3),
         ..NONE
     },
 ];
@@ -119,7 +119,7 @@ fn by_rule(row: &PaddedRow, rule: Padding) -> FlatRow {
         name: row.name,
         bytes: row.bytes,
         limit: row.limit,
-        answer: match rule {
+        returned: match rule {
             Padding::Zero => row.strict,
             Padding::Any => row.lenient,
         },

@@ -1,27 +1,27 @@
-//! The worked rows of messages in a slice, as bytes and answers.
+//! The worked rows of messages in a slice, as bytes and results.
 use capnp_frame::ErrorKind;
 use capnp_rows::limits::{DEFAULT_LIMIT, NO_LIMIT};
 
-/// What a reader of a slice answers.
+/// What a reader of a slice returns.
 #[derive(Clone, Copy)]
-pub enum FlatAnswer {
-    /// A message of these segments, and how many bytes stay behind it.
+pub enum FlatResult {
+    /// A message of these segments, and how many bytes stay after it.
     Segments(&'static [&'static [u8]], usize),
     /// The refusal of a reader that takes the table word by word, and of one that takes it field by
     /// field.
     Refused(ErrorKind, ErrorKind),
 }
 
-/// What is answered where a slice or buffer holds these bytes.
+/// What is returned where a slice or buffer holds these bytes.
 #[derive(Clone, Copy)]
 pub struct FlatRow {
     pub name: &'static str,
     pub bytes: &'static [u8],
     pub limit: Option<usize>,
-    pub answer: FlatAnswer,
+    pub returned: FlatResult,
 }
 
-/// A piece of which not all bytes are there.
+/// A chunk of which not all bytes are there.
 pub const CUT: ErrorKind = ErrorKind::FailedToFillTheWholeBuffer;
 
 const HELLO: &[u8] = &[
@@ -43,7 +43,7 @@ const LENGTHS_TABLE: &[u8] = &[
     3, 0, 0, 0, 77, 0, 0, 0, 23, 0, 0, 0, 1, 0, 0, 0, 99, 0, 0, 0, 0, 0, 0, 0,
 ];
 
-// Lengths 2 and 3, and no padding behind them.
+// Lengths 2 and 3, and no padding after them.
 const NO_PADDING: &[u8] = &[1, 0, 0, 0, 2, 0, 0, 0, 3, 0, 0, 0];
 
 #[rattlefmt::skip]
@@ -52,25 +52,25 @@ pub const FLAT_ROWS: [FlatRow; 17] = [
         name: "short-front",
         bytes: &[0, 0, 0, 0],
         limit: DEFAULT_LIMIT,
-        answer: FlatAnswer::Refused(CUT, ErrorKind::MessageEndsPrematurely(4, 0)),
+        returned: FlatResult::Refused(CUT, ErrorKind::MessageEndsPrematurely(4, 0)),
     },
     FlatRow {
         name: "short-front, 7 bytes",
         bytes: &[0, 0, 0, 0, 0, 0, 0],
         limit: DEFAULT_LIMIT,
-        answer: FlatAnswer::Refused(CUT, ErrorKind::MessageEndsPrematurely(4, 3)),
+        returned: FlatResult::Refused(CUT, ErrorKind::MessageEndsPrematurely(4, 3)),
     },
     FlatRow {
-        name: "an empty segment, and 3 bytes behind it",
+        name: "an empty segment, and 3 bytes after it",
         bytes: &[0, 0, 0, 0, 0, 0, 0, 0, 1, 2, 3],
         limit: DEFAULT_LIMIT,
-        answer: FlatAnswer::Segments(&[&[]], 3),
+        returned: FlatResult::Segments(&[&[]], 3),
     },
     FlatRow {
         name: "count-wraps",
         bytes: &[255, 255, 255, 255, 0, 0, 0, 0],
         limit: DEFAULT_LIMIT,
-        answer: FlatAnswer::Refused(
+        returned: FlatResult::Refused(
             ErrorKind::InvalidNumberOfSegments(0),
             ErrorKind::InvalidNumberOfSegments(4294967296),
         ),
@@ -79,7 +79,7 @@ pub const FLAT_ROWS: [FlatRow; 17] = [
         name: "count-bounds, 512",
         bytes: &[255, 1, 0, 0, 0, 0, 0, 0],
         limit: DEFAULT_LIMIT,
-        answer: FlatAnswer::Refused(
+        returned: FlatResult::Refused(
             ErrorKind::InvalidNumberOfSegments(512),
             ErrorKind::InvalidNumberOfSegments(512),
         ),
@@ -88,7 +88,7 @@ pub const FLAT_ROWS: [FlatRow; 17] = [
         name: "count-bounds, 512 and no length",
         bytes: &[255, 1, 0, 0],
         limit: DEFAULT_LIMIT,
-        answer: FlatAnswer::Refused(CUT, ErrorKind::InvalidNumberOfSegments(512)),
+        returned: FlatResult::Refused(CUT, ErrorKind::InvalidNumberOfSegments(512)),
     },
     FlatRow {
         name: "flatten",
@@ -97,31 +97,31 @@ pub const FLAT_ROWS: [FlatRow; 17] = [
             0, 0, 0, 5, 0, 0, 0, 0, 0, 0, 0, 9, 9, 9, 9, 9, 9, 9, 9, 8, 7, 6, 5, 4, 3, 2, 1,
         ],
         limit: DEFAULT_LIMIT,
-        answer: FlatAnswer::Segments(FLATTEN, 16),
+        returned: FlatResult::Segments(FLATTEN, 16),
     },
     FlatRow {
         name: "hello, no limit",
         bytes: HELLO,
         limit: NO_LIMIT,
-        answer: FlatAnswer::Segments(&[HELLO_SEGMENT], 0),
+        returned: FlatResult::Segments(&[HELLO_SEGMENT], 0),
     },
     FlatRow {
         name: "word-limit, 3 words of 3",
         bytes: HELLO,
         limit: Some(3),
-        answer: FlatAnswer::Segments(&[HELLO_SEGMENT], 0),
+        returned: FlatResult::Segments(&[HELLO_SEGMENT], 0),
     },
     FlatRow {
         name: "word-limit, 3 words of 2",
         bytes: HELLO,
         limit: Some(2),
-        answer: FlatAnswer::Refused(ErrorKind::MessageTooLarge(3), ErrorKind::MessageTooLarge(3)),
+        returned: FlatResult::Refused(ErrorKind::MessageTooLarge(3), ErrorKind::MessageTooLarge(3)),
     },
     FlatRow {
         name: "word-limit, past 2^32",
         bytes: &[1, 0, 0, 0, 255, 255, 255, 255, 2, 0, 0, 0, 0, 0, 0, 0],
         limit: DEFAULT_LIMIT,
-        answer: FlatAnswer::Refused(
+        returned: FlatResult::Refused(
             ErrorKind::MessageTooLarge(4294967297),
             ErrorKind::MessageTooLarge(4294967297),
         ),
@@ -130,7 +130,7 @@ pub const FLAT_ROWS: [FlatRow; 17] = [
         name: "lengths, 200 words of 199",
         bytes: LENGTHS_TABLE,
         limit: Some(199),
-        answer: FlatAnswer::Refused(
+        returned: FlatResult::Refused(
             ErrorKind::MessageTooLarge(200),
             ErrorKind::MessageTooLarge(200),
         ),
@@ -139,7 +139,7 @@ pub const FLAT_ROWS: [FlatRow; 17] = [
         name: "lengths, 200 words of 200, none there",
         bytes: LENGTHS_TABLE,
         limit: Some(200),
-        answer: FlatAnswer::Refused(
+        returned: FlatResult::Refused(
             ErrorKind::MessageEndsPrematurely(200, 0),
             ErrorKind::MessageEndsPrematurely(200, 0),
         ),
@@ -148,19 +148,19 @@ pub const FLAT_ROWS: [FlatRow; 17] = [
         name: "limit-before-padding",
         bytes: NO_PADDING,
         limit: Some(4),
-        answer: FlatAnswer::Refused(CUT, ErrorKind::MessageTooLarge(5)),
+        returned: FlatResult::Refused(CUT, ErrorKind::MessageTooLarge(5)),
     },
     FlatRow {
         name: "limit-before-padding, no limit",
         bytes: NO_PADDING,
         limit: NO_LIMIT,
-        answer: FlatAnswer::Refused(CUT, ErrorKind::MessageEndsPrematurely(4, 0)),
+        returned: FlatResult::Refused(CUT, ErrorKind::MessageEndsPrematurely(4, 0)),
     },
     FlatRow {
         name: "cut-segments",
         bytes: &[0, 0, 0, 0, 2, 0, 0, 0, 1, 2, 3, 4, 5, 6, 7, 8, 9, 10, 11],
         limit: DEFAULT_LIMIT,
-        answer: FlatAnswer::Refused(
+        returned: FlatResult::Refused(
             ErrorKind::MessageEndsPrematurely(2, 1),
             ErrorKind::MessageEndsPrematurely(2, 1),
         ),
@@ -169,6 +169,6 @@ pub const FLAT_ROWS: [FlatRow; 17] = [
         name: "words, segments of 0 and 1 words",
         bytes: &[1, 0, 0, 0, 0, 0, 0, 0, 1, 0, 0, 0, 0, 0, 0, 0, 0, 0, 0, 0, 0, 0, 0, 0],
         limit: Some(1),
-        answer: FlatAnswer::Segments(&[&[], &[0; 8]], 0),
+        returned: FlatResult::Segments(&[&[], &[0; 8]], 0),
     },
 ];

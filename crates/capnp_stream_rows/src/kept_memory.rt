@@ -1,6 +1,7 @@
 //! Messages that are read into the memory of the one before.
 //!
-//! An equal message takes no more of it: whichever growth is refused, only the first reading may lack it.
+//! An equal message takes no more of it: whichever growth is refused, only the first reading may
+//! lack it.
 use crate::samples::{SAMPLES, Sample};
 use capnp::streams::Format;
 use capnp_frame::message::DEFAULT_READER_OPTIONS;

@@ -25,10 +25,6 @@ mod framed_rows;
 #[cfg(test)]
 mod kept_memory;
 #[cfg(test)]
-mod lent;
-#[cfg(test)]
-mod lent_roots;
-#[cfg(test)]
 mod packed;
 #[cfg(test)]
 mod packed_rows;
@@ -38,6 +34,10 @@ mod padding;
 mod padding_rows;
 #[cfg(test)]
 mod prefixes;
+#[cfg(test)]
+mod provided;
+#[cfg(test)]
+mod provided_roots;
 #[cfg(test)]
 mod requests;
 #[cfg(test)]

@@ -1,12 +1,12 @@
 //! Streams and buffers with tables whose padding isn't zero, by both rules.
 use crate::flat::RULES;
 use crate::framed_rows::CUT;
-use crate::lent::{Row, TOO_SMALL, read_into_each};
 use crate::packed_rows::{NO_WORDS, TWO_SEGMENTS};
 use crate::padding_rows::{
     FRAMED_PADDINGS, NOT_ZERO, PACKED_PADDINGS, PACKED_TWO, PaddedStream, TABLE, TWO,
 };
-use crate::streams::{Format, READERS, Reader, Stream, Wanted, is_answered, read_stream};
+use crate::provided::{Row, TOO_SMALL, read_into_each};
+use crate::streams::{Format, READERS, Reader, Stream, Wanted, is_returned, read_stream};
 use capnp_frame::serialize::Padding;
 use capnp_frame::{ErrorKind, Result};
 use capnp_rows::limits::{DEFAULT_LIMIT, NO_LIMIT};
@@ -47,7 +47,7 @@ fn by_rule(stream: &PaddedStream, rule: Padding) -> Stream {
         name: stream.name,
         bytes: stream.bytes,
         limit: stream.limit,
-        answers: match rule {
+        returns: match rule {
             Padding::Zero => stream.strict,
             Padding::Any => stream.lenient,
         },
@@ -56,7 +56,7 @@ fn by_rule(stream: &PaddedStream, rule: Padding) -> Stream {
 
 const TOO_LARGE: Wanted<'static> = Wanted::Refused(ErrorKind::MessageTooLarge(1));
 
-// A buffer's room for the table is tested before the padding, and its room for all behind it.
+// A buffer's room for the table is tested before the padding, and its room for all after it.
 #[rattlefmt::skip]
 const STRICT: [Row; 9] = [
     (7, TWO, NO_LIMIT, TOO_SMALL, 24),
@@ -103,7 +103,7 @@ fn buffers_of_each_length(rt: HostRuntime) -> Result<()> {
     read_into_each(&rt, (Format::Packed, Padding::Any), &PACKED_LENIENT)
 }
 
-// 510 empty segments: the longest table that has a padding, and 3 bytes behind it.
+// 510 empty segments: the longest table that has a padding, and 3 bytes after it.
 #[test]
 fn the_longest_table(rt: HostRuntime) -> Result<()> {
     for reader in READERS {
@@ -125,8 +125,8 @@ fn read_longest(
     bytes[2047] = 1;
     let mut source = Trickle::new(&bytes, 100);
     let call = (Format::Framed, rule, reader);
-    let answered = is_answered(rt.alloc(), call, &mut source, DEFAULT_LIMIT, wanted)?;
-    assert!(rt; answered, "{call:?}");
+    let returned = is_returned(rt.alloc(), call, &mut source, DEFAULT_LIMIT, wanted)?;
+    assert!(rt; returned, "{call:?}");
     assert_eq!(rt; source.bytes.len(), 3, "{call:?}");
     Ok(())
 }

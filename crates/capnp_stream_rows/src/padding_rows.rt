@@ -1,19 +1,19 @@
 //! The worked rows of tables whose padding isn't zero, and of what stands beside them, as bytes and
-//! the answers of both rules.
+//! the results of both rules.
 use crate::framed_rows::CUT;
 use crate::packed_rows::{CUT_GROUP, TWO_SEGMENTS};
-use crate::streams::{Answer, END, Wanted};
+use crate::streams::{END, Expected, Wanted};
 use capnp_frame::ErrorKind;
 use capnp_rows::limits::{DEFAULT_LIMIT, NO_LIMIT};
 
-/// What the calls of each rule answer one after another where these bytes are unread.
+/// What the calls of each rule return one after another where these bytes are unread.
 #[derive(Clone, Copy)]
 pub struct PaddedStream {
     pub name: &'static str,
     pub bytes: &'static [u8],
     pub limit: Option<usize>,
-    pub strict: &'static [Answer],
-    pub lenient: &'static [Answer],
+    pub strict: &'static [Expected],
+    pub lenient: &'static [Expected],
 }
 
 /// Segments [] and [1, 2, 3, 4, 5, 6, 7, 8], and a padding of nines.
@@ -115,7 +115,7 @@ pub const FRAMED_PADDINGS: [PaddedStream; 13] = [
         lenient: &[(THREE, Some(0)), END],
     },
     PaddedStream {
-        name: "two empty segments, and a message behind them",
+        name: "two empty segments, and a message after them",
         bytes: &[
             1, 0, 0, 0, 0, 0, 0, 0, 0, 0, 0, 0, 9, 9, 9, 9, 0, 0, 0, 0, 1, 0, 0, 0, 1, 2, 3, 4, 5, 6, 7, 8,
         ],
@@ -174,7 +174,7 @@ pub const PACKED_PADDINGS: [PaddedStream; 11] = [
         lenient: &[(THREE, Some(0)), END],
     },
     PaddedStream {
-        name: "two empty segments, and a message behind them",
+        name: "two empty segments, and a message after them",
         bytes: &[1, 1, 0xf0, 9, 9, 9, 9, 0x10, 1, 0xff, 1, 2, 3, 4, 5, 6, 7, 8, 0],
         limit: DEFAULT_LIMIT,
         strict: &[(NOT_ZERO, Some(12)), (WORD, Some(0)), END],

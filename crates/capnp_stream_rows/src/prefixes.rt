@@ -1,7 +1,7 @@
-//! Messages that are cut: no prefix of a text is a message, and each is refused by one kind.
+//! Messages that are cut: no prefix of a text is a message, and each fails with one kind.
 use crate::flat::{FORMS, Form, RULES, find};
 use crate::samples::{SAMPLES, Sample};
-use crate::streams::{Format, READERS, Reader, Wanted, is_answered};
+use crate::streams::{Format, READERS, Reader, Wanted, is_returned};
 use capnp_frame::message::ReaderOptions;
 use capnp_frame::serialize::Padding;
 use capnp_frame::{ErrorKind, Result};
@@ -32,7 +32,7 @@ fn prefixes_by_the_lenient_calls(rt: HostRuntime) -> Result<()> {
     Ok(())
 }
 
-// A framed text is refused wherever it is cut. In a packed one just a whole piece can be missing, or
+// A framed text is refused wherever it is cut. In a packed one just a whole chunk can be missing, or
 // a part of a group.
 fn read_prefixes(
     rt: &(impl Abort + AllocGlobal),
@@ -48,9 +48,9 @@ fn read_prefixes(
         };
         let mut source = Trickle::new(&sample.framed[..length], most);
         let call = (Format::Framed, rule, reader);
-        let answered = is_answered(rt.alloc(), call, &mut source, DEFAULT_LIMIT, wanted)?;
+        let returned = is_returned(rt.alloc(), call, &mut source, DEFAULT_LIMIT, wanted)?;
         assert!(rt;
-            answered,
+            returned,
             "{name}, {length} bytes, {call:?}, {most} at once"
         );
         assert!(rt; source.bytes.is_empty());
@@ -58,16 +58,16 @@ fn read_prefixes(
     for length in 0..sample.packed.len() {
         let wanted = match length {
             0 => Wanted::End,
-            _ if sample.pieces.contains(&length) => {
+            _ if sample.chunks.contains(&length) => {
                 Wanted::Refused(ErrorKind::FailedToFillTheWholeBuffer)
             }
             _ => Wanted::Refused(ErrorKind::PrematureEndOfPackedInput),
         };
         let mut source = Trickle::new(&sample.packed[..length], most);
         let call = (Format::Packed, rule, reader);
-        let answered = is_answered(rt.alloc(), call, &mut source, DEFAULT_LIMIT, wanted)?;
+        let returned = is_returned(rt.alloc(), call, &mut source, DEFAULT_LIMIT, wanted)?;
         assert!(rt;
-            answered,
+            returned,
             "{name}, {length} bytes, {call:?}, {most} at once"
         );
     }
@@ -86,7 +86,7 @@ fn prefixes_of_slices(rt: HostRuntime) -> Result<()> {
     Ok(())
 }
 
-// A slice is left as it was. Behind the table the kind tells how many words are there.
+// A slice is left as it was. After the table the kind tells how many words are there.
 fn find_prefixes(
     rt: &(impl Abort + AllocGlobal),
     call: (Form, Padding),
@@ -101,8 +101,8 @@ fn find_prefixes(
             call.0.refusal_of_a_cut_table(length)
         };
         let front = &sample.framed[..length];
-        let (answered, left) = find(rt, call, front, ReaderOptions::new(), Err(kind))?;
-        assert!(rt; answered, "{name}, {length} bytes, {call:?}");
+        let (returned, left) = find(rt, call, front, ReaderOptions::new(), Err(kind))?;
+        assert!(rt; returned, "{name}, {length} bytes, {call:?}");
         assert_eq!(rt; left, length, "{name}, {call:?}");
     }
     Ok(())

@@ -7,12 +7,12 @@ pub struct Sample {
     pub name: &'static str,
     pub segments: &'static [&'static [u8]],
     pub framed: &'static [u8],
-    /// How many bytes of the framed text are its table, and how many words are behind them.
+    /// How many bytes of the framed text are its table, and how many words are after them.
     pub table: usize,
     pub words: usize,
     pub packed: &'static [u8],
-    /// Where the pieces behind the first begin in the packed text.
-    pub pieces: &'static [usize],
+    /// Where the chunks after the first begin in the packed text.
+    pub chunks: &'static [usize],
 }
 
 #[rattlefmt::skip]
@@ -24,7 +24,7 @@ pub const SAMPLES: [Sample; 4] = [
         table: 16,
         words: 1,
         packed: &[1, 1, 1, 1, 0xff, 1, 2, 3, 4, 5, 6, 7, 8, 0],
-        pieces: &[2, 4],
+        chunks: &[2, 4],
     },
     Sample {
         name: "flatten",
@@ -36,7 +36,7 @@ pub const SAMPLES: [Sample; 4] = [
         table: 16,
         words: 3,
         packed: &[0x11, 1, 1, 1, 2, 1, 123, 1, 4, 1, 5],
-        pieces: &[3, 5],
+        chunks: &[3, 5],
     },
     Sample {
         name: "hello",
@@ -51,7 +51,7 @@ pub const SAMPLES: [Sample; 4] = [
             0x10, 3, 0x11, 1, 0x72, 0xff, 0x48, 0x65, 0x6c, 0x6c, 0x6f, 0x2c, 0x20, 0x57, 0, 0x1f, 0x6f,
             0x72, 0x6c, 0x64, 0x21,
         ],
-        pieces: &[2],
+        chunks: &[2],
     },
     Sample {
         name: "hello-far",
@@ -66,6 +66,6 @@ pub const SAMPLES: [Sample; 4] = [
             0x11, 1, 1, 1, 3, 0x11, 2, 1, 0x11, 1, 0x6a, 0xff, 0x68, 0x65, 0x6c, 0x6c, 0x6f, 0x20, 0x77,
             0x6f, 0, 0x0f, 0x72, 0x6c, 0x64, 0x21,
         ],
-        pieces: &[3, 5],
+        chunks: &[3, 5],
     },
 ];

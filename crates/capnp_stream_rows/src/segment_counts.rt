@@ -36,7 +36,7 @@ fn refuse_many_segments(rt: &(impl Abort + AllocGlobal)) -> Result<()> {
     assert_eq!(rt; serialized_size_in_words(&array)?, 257);
     let mut sink: Vec<u8> = Vec::new(rt.alloc());
     sink.push(9)?;
-    let answers = [
+    let returns = [
         write_segments(rt.alloc(), &mut sink, &array),
         write_segments(rt.alloc(), &mut PackedWrite::new(&mut sink), &array),
         segments_to_words(rt.alloc(), &array).map(|_| ()),
@@ -44,8 +44,8 @@ fn refuse_many_segments(rt: &(impl Abort + AllocGlobal)) -> Result<()> {
         serialize_packed::write_message_segments(rt.alloc(), &mut sink, &array),
         serialize::write_message_segments_to_words(rt.alloc(), &array).map(|_| ()),
     ];
-    for answer in answers {
-        let kind = answer.map_err(|error| error.kind);
+    for returned in returns {
+        let kind = returned.map_err(|error| error.kind);
         assert_eq!(rt; kind, Err(ErrorKind::InvalidNumberOfSegments(512)));
     }
     assert_eq!(rt; sink.as_slice(), [9].as_slice());

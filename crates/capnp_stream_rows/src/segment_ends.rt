@@ -1,6 +1,6 @@
 //! As many segments as a reader accepts, of 0, 1 and 2 words in turn: each is where it begins.
 use crate::flat::{FORMS, Form, RULES, find, left_by};
-use crate::streams::{Call, Format, Reader, Wanted, is_answered};
+use crate::streams::{Call, Format, Reader, Wanted, is_returned};
 use capnp_frame::Result;
 use capnp_frame::message::ReaderOptions;
 use capnp_frame::serialize::{NoAllocBufferSegments, NoAllocSegmentTableInfo, Padding, describes};
@@ -27,7 +27,7 @@ fn text() -> [u8; 6128] {
     text
 }
 
-// The segments, each taken off the front of the bytes behind the table.
+// The segments, each taken off the front of the bytes after the table.
 fn segments_of<'a>(rt: &impl Abort, text: &'a [u8; 6128]) -> [&'a [u8]; 511] {
     let mut segments: [&[u8]; 511] = [&[]; 511];
     let mut left = &text[2048..];
@@ -70,8 +70,8 @@ fn find_all(
     text: &[u8],
     segments: &[&[u8]],
 ) -> Result<()> {
-    let (answered, left) = find(rt, call, text, ReaderOptions::new(), Ok(segments))?;
-    assert!(rt; answered, "{call:?}");
+    let (returned, left) = find(rt, call, text, ReaderOptions::new(), Ok(segments))?;
+    assert!(rt; returned, "{call:?}");
     assert_eq!(rt; left, left_by(call.0, text.len(), 0), "{call:?}");
     Ok(())
 }
@@ -86,7 +86,7 @@ fn segments_in_a_stream(rt: HostRuntime) -> Result<()> {
             Reader::Reusing,
             Reader::Lending(6128),
             Reader::Message,
-            Reader::LentMessage(6128),
+            Reader::ProvidedMessage(6128),
         ] {
             retried!(read_all(&rt, reader, &text, &segments, most))?;
         }
@@ -127,13 +127,13 @@ fn read_text(
 ) -> Result<()> {
     let mut source = Trickle::new(text, most);
     let wanted = Wanted::Segments(segments);
-    let answered = is_answered(rt.alloc(), call, &mut source, DEFAULT_LIMIT, wanted)?;
-    assert!(rt; answered, "{call:?}, {most} bytes");
+    let returned = is_returned(rt.alloc(), call, &mut source, DEFAULT_LIMIT, wanted)?;
+    assert!(rt; returned, "{call:?}, {most} bytes");
     assert!(rt; source.bytes.is_empty(), "{call:?}, {most} bytes");
     Ok(())
 }
 
-// The three pieces, packed by a packer that takes each word as it stands.
+// The three chunks, packed by a packer that takes each word as it stands.
 fn packed_text(alloc: Global, text: &[u8; 6128]) -> Result<Vec<u8>> {
     let mut packed: Vec<u8> = Vec::new(alloc);
     append_words(&mut packed, &text[..8])?;
@@ -142,9 +142,9 @@ fn packed_text(alloc: Global, text: &[u8; 6128]) -> Result<Vec<u8>> {
     Ok(packed)
 }
 
-// A literal run goes over at most 255 words behind its first.
-fn append_words(packed: &mut Vec<u8>, piece: &[u8]) -> Result<()> {
-    for run in piece.chunks(2048) {
+// A literal run goes over at most 255 words after its first.
+fn append_words(packed: &mut Vec<u8>, chunk: &[u8]) -> Result<()> {
+    for run in chunk.chunks(2048) {
         let (first, others) = run.split_at_checked(8).unwrap_or((run, &[]));
         packed.push(0xff)?;
         packed.extend_from_slice(first)?;

@@ -1,4 +1,4 @@
-//! Messages behind one another, by each call that reads the next one of a stream.
+//! Messages after one another, by each call that reads the next one of a stream.
 use crate::framed_rows::FRAMED;
 use crate::packed_rows::PACKED;
 use crate::{framed, packed};
@@ -13,7 +13,7 @@ use capnp_rows::sources::Trickle;
 use std::alloc::Global;
 use std::process::Abort;
 
-/// What a stream reader answers.
+/// What a stream reader returns.
 #[derive(Clone, Copy, Debug)]
 pub enum Wanted<'a> {
     /// No message, since nothing is unread.
@@ -23,19 +23,19 @@ pub enum Wanted<'a> {
     Refused(ErrorKind),
 }
 
-/// What a call answers, and how many bytes stay unread; where a packed piece is refused, that is open.
-pub type Answer = (Wanted<'static>, Option<usize>);
+/// What a call returns, and how many bytes stay unread; where a packed chunk is refused, that is open.
+pub type Expected = (Wanted<'static>, Option<usize>);
 
-/// What the calls answer one after another where these bytes are unread.
+/// What the calls return one after another where these bytes are unread.
 #[derive(Clone, Copy)]
 pub struct Stream {
     pub name: &'static str,
     pub bytes: &'static [u8],
     pub limit: Option<usize>,
-    pub answers: &'static [Answer],
+    pub returns: &'static [Expected],
 }
 
-pub const END: Answer = (Wanted::End, Some(0));
+pub const END: Expected = (Wanted::End, Some(0));
 
 #[derive(Clone, Copy, Debug)]
 pub enum Format {
@@ -50,17 +50,17 @@ pub enum Reader {
     Copying,
     /// Into the memory of a message before, here of none.
     Reusing,
-    /// Into a caller-provided buffer of so many bytes, at most 8,192.
+    /// Into a caller-provided buffer of a given number of bytes, at most 8,192.
     Lending(usize),
     /// As a message, into memory that grows.
     Message,
-    /// As a message, into a caller-provided buffer of so many bytes, at most 8,192.
-    LentMessage(usize),
+    /// As a message, into a caller-provided buffer of a given number of bytes, at most 8,192.
+    ProvidedMessage(usize),
     /// As a message that has to be there, into memory that grows.
     Needed,
-    /// As a message that has to be there, into a caller-provided buffer of so many bytes, at most
-    /// 8,192.
-    LentNeeded(usize),
+    /// As a message that has to be there, into a caller-provided buffer of a given number of bytes,
+    /// at most 8,192.
+    ProvidedNeeded(usize),
 }
 
 /// Each call, the caller-provided buffer being larger than each message of a row.
@@ -69,9 +69,9 @@ pub const READERS: [Reader; 7] = [
     Reader::Reusing,
     Reader::Lending(4096),
     Reader::Message,
-    Reader::LentMessage(4096),
+    Reader::ProvidedMessage(4096),
     Reader::Needed,
-    Reader::LentNeeded(4096),
+    Reader::ProvidedNeeded(4096),
 ];
 
 fn with_limit(limit: Option<usize>) -> ReaderOptions {
@@ -83,8 +83,8 @@ fn with_limit(limit: Option<usize>) -> ReaderOptions {
 /// A call: the format that it reads, of which padding, and how.
 pub type Call = (Format, Padding, Reader);
 
-/// Whether the call answers what is wanted. An answer for want of memory is handed back.
-pub fn is_answered<R: BufRead>(
+/// Whether the call returns what is wanted. A result for want of memory is handed back.
+pub fn is_returned<R: BufRead>(
     alloc: Global,
     (format, padding, reader): Call,
     source: &mut R,
@@ -100,12 +100,13 @@ pub fn is_answered<R: BufRead>(
 // How many bytes the caller-provided buffer has, where the call takes one.
 fn room_of(reader: Reader) -> usize {
     match reader {
-        Reader::Lending(room) | Reader::LentMessage(room) | Reader::LentNeeded(room) => room,
+        Reader::Lending(room) | Reader::ProvidedMessage(room) | Reader::ProvidedNeeded(room) =>
+            room,
         Reader::Copying | Reader::Reusing | Reader::Message | Reader::Needed => 0,
     }
 }
 
-/// The same of a source that need not show bytes, by the framed calls.
+/// Whether a source that need not show bytes is read rightly by the framed calls.
 pub fn is_read<R: Read>(
     alloc: Global,
     (rule, reader): (Padding, Reader),
@@ -130,7 +131,7 @@ pub fn is_read<R: Read>(
             let read = framed::next_message(alloc, rule, source, options);
             is_wanted(segments_of(read), wanted)
         }
-        Reader::LentMessage(_) => {
+        Reader::ProvidedMessage(_) => {
             let read = framed::next_message_into(rule, source, buffer, options);
             is_wanted(segments_of(read), wanted)
         }
@@ -138,7 +139,7 @@ pub fn is_read<R: Read>(
             let read = framed::needed_message(alloc, rule, source, options);
             is_wanted(needed_segments_of(read), needed(wanted))
         }
-        Reader::LentNeeded(_) => {
+        Reader::ProvidedNeeded(_) => {
             let read = framed::needed_message_into(rule, source, buffer, options);
             is_wanted(needed_segments_of(read), needed(wanted))
         }
@@ -169,7 +170,7 @@ fn is_unpacked<R: BufRead>(
             let read = packed::next_message(alloc, rule, source, options);
             is_wanted(segments_of(read), wanted)
         }
-        Reader::LentMessage(_) => {
+        Reader::ProvidedMessage(_) => {
             let read = packed::next_message_into(rule, source, buffer, options);
             is_wanted(segments_of(read), wanted)
         }
@@ -177,7 +178,7 @@ fn is_unpacked<R: BufRead>(
             let read = packed::needed_message(alloc, rule, source, options);
             is_wanted(needed_segments_of(read), needed(wanted))
         }
-        Reader::LentNeeded(_) => {
+        Reader::ProvidedNeeded(_) => {
             let read = packed::needed_message_into(rule, source, buffer, options);
             is_wanted(needed_segments_of(read), needed(wanted))
         }
@@ -186,21 +187,21 @@ fn is_unpacked<R: BufRead>(
 
 // The segments of a message that was read.
 fn segments_of<S: ReaderSegments + Drop>(
-    answer: Result<Option<message::Reader<S>>>,
+    returned: Result<Option<message::Reader<S>>>,
 ) -> Result<Option<S>> {
-    match answer? {
+    match returned? {
         Some(reader) => Ok(Some(reader.into_segments())),
         None => Ok(None),
     }
 }
 
 fn needed_segments_of<S: ReaderSegments + Drop>(
-    answer: Result<message::Reader<S>>,
+    returned: Result<message::Reader<S>>,
 ) -> Result<Option<S>> {
-    Ok(Some(answer?.into_segments()))
+    Ok(Some(returned?.into_segments()))
 }
 
-// What is answered where a message has to be there: at the end it is missed.
+// What is returned where a message has to be there: at the end it is missed.
 fn needed(wanted: Wanted<'_>) -> Wanted<'_> {
     match wanted {
         Wanted::End => Wanted::Refused(ErrorKind::PrematureEndOfFile),
@@ -208,12 +209,12 @@ fn needed(wanted: Wanted<'_>) -> Wanted<'_> {
     }
 }
 
-// Whether this is the answer. One for want of memory is handed back.
+// Whether this is the result. One for want of memory is handed back.
 fn is_wanted<S: ReaderSegments + Drop>(
-    answer: Result<Option<S>>,
+    returned: Result<Option<S>>,
     wanted: Wanted<'_>,
 ) -> Result<bool> {
-    let found = match answer {
+    let found = match returned {
         Ok(found) => found,
         Err(error) if error.kind == ErrorKind::OutOfMemory => return Err(error),
         Err(error) => {
@@ -227,7 +228,7 @@ fn is_wanted<S: ReaderSegments + Drop>(
     })
 }
 
-// However little a source shows or answers, each call answers the same.
+// However little a source shows or returns, each call returns the same.
 #[test]
 fn framed_streams(rt: HostRuntime) -> Result<()> {
     for most in 1..=16 {
@@ -244,7 +245,7 @@ fn packed_streams(rt: HostRuntime) -> Result<()> {
     Ok(())
 }
 
-// No row has a padding that isn't zero, so the lenient calls answer the same.
+// No row has a padding that isn't zero, so the lenient calls return the same.
 #[test]
 fn streams_by_the_lenient_calls(rt: HostRuntime) -> Result<()> {
     for most in [1, 7, 24] {
@@ -269,7 +270,8 @@ fn read_each(
     Ok(())
 }
 
-/// Asks for one message after another, of a source that shows or answers at most so many bytes.
+/// Asks for one message after another, of a source that shows or returns at most a given number of
+/// bytes.
 pub fn read_stream(
     rt: &(impl Abort + AllocGlobal),
     call: Call,
@@ -278,9 +280,9 @@ pub fn read_stream(
 ) -> Result<()> {
     let name = stream.name;
     let mut source = Trickle::new(stream.bytes, most);
-    for (wanted, unread) in stream.answers {
-        let answered = is_answered(rt.alloc(), call, &mut source, stream.limit, *wanted)?;
-        assert!(rt; answered, "{name}, {call:?}, {most} bytes");
+    for (wanted, unread) in stream.returns {
+        let returned = is_returned(rt.alloc(), call, &mut source, stream.limit, *wanted)?;
+        assert!(rt; returned, "{name}, {call:?}, {most} bytes");
         let left = source.bytes.len();
         assert_eq!(rt;
             left,

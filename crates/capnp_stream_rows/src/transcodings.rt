@@ -14,7 +14,7 @@ const WAYS: [Way; 2] = [Way::Pack, Way::Unpack];
 // What is written already.
 const FRONT: [u8; 3] = [7, 7, 7];
 
-// The texts of three messages behind one another, in a format.
+// The texts of three messages after one another, in a format.
 fn texts_of(alloc: Global, packed: bool) -> Result<Vec<u8>> {
     let [_, flatten, hello, far] = SAMPLES;
     let mut texts: Vec<u8> = Vec::new(alloc);
@@ -69,7 +69,7 @@ fn write_to(rt: &(impl Abort + AllocGlobal), way: Way, fails_at: u64) -> Result<
     let output = texts_of(rt.alloc(), packs)?;
     let mut source = Trickle::new(&input, 5);
     let mut sink = FaultySink::new(FRONT.to_vec(rt.alloc())?, fails_at);
-    let answer = transcode(
+    let returned = transcode(
         rt.alloc(),
         way,
         &mut source,
@@ -81,7 +81,7 @@ fn write_to(rt: &(impl Abort + AllocGlobal), way: Way, fails_at: u64) -> Result<
         .as_slice()
         .strip_prefix(&FRONT)
         .unwrap_or(&[1; 999]);
-    match answer {
+    match returned {
         Err(error) if error.kind == ErrorKind::OutOfMemory => return Err(error),
         Err(error) => assert_eq!(rt; error.kind, ErrorKind::DeviceFailed),
         Ok(()) => {
@@ -140,14 +140,14 @@ fn read_from(
     let output = texts_of(rt.alloc(), packs)?;
     let mut source = Faulty::new(Trickle::new(&input, most), fails_at);
     let mut written: Vec<u8> = Vec::new(rt.alloc());
-    let answer = transcode(
+    let returned = transcode(
         rt.alloc(),
         way,
         &mut source,
         &mut written,
         DEFAULT_READER_OPTIONS,
     );
-    match answer {
+    match returned {
         Err(error) if error.kind == ErrorKind::OutOfMemory => return Err(error),
         Err(error) => assert_eq!(rt; error.kind, ErrorKind::DeviceFailed),
         Ok(()) => {

@@ -176,7 +176,7 @@ fn write_empty_segments(rt: &(impl Abort + AllocGlobal)) -> Result<()> {
 }
 
 #[test]
-fn messages_behind_one_another(rt: HostRuntime) -> Result<()> {
+fn messages_after_one_another(rt: HostRuntime) -> Result<()> {
     retried!(write_and_read_back(&rt))
 }
 

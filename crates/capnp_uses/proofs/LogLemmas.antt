@@ -64,12 +64,12 @@ log_is_read limit ms refusal log end within (inr ends) exact records is =
 -- A log that is cut
 
 -- texts stay where more bytes follow
-texts_behind : (IsText : Grammar) (limit : Option ℕ) (ms : List (List (List ℕ))) (raw rest part : List ℕ) → AreTexts IsText limit ms raw rest → AreTexts IsText limit ms (raw ++ part) (rest ++ part)
-texts_behind IsText limit [] raw rest part texts = ap (λ l. l ++ part) texts
-texts_behind IsText limit (m ∷ ms) raw rest part (between, begins, texts) = (
+texts_after : (IsText : Grammar) (limit : Option ℕ) (ms : List (List (List ℕ))) (raw rest part : List ℕ) → AreTexts IsText limit ms raw rest → AreTexts IsText limit ms (raw ++ part) (rest ++ part)
+texts_after IsText limit [] raw rest part texts = ap (λ l. l ++ part) texts
+texts_after IsText limit (m ∷ ms) raw rest part (between, begins, texts) = (
   between ++ part,
   record { text = begins.text; is_text = begins.is_text; within = begins.within; spelled = ap (λ l. l ++ part) begins.spelled ∙ append_assoc begins.text between part },
-  texts_behind IsText limit ms between rest part texts,
+  texts_after IsText limit ms between rest part texts,
 )
 
 -- no record is read of a part of another one
@@ -107,8 +107,8 @@ cut_is_told limit ms refusal log end within texts (inl memory) records whole par
 cut_is_told limit ms refusal log end within texts (inr ends) records whole part missing next is writable packed some spelled =
     let stream = appended_stream Zero Packed limit records whole is.writable is.few is.size is.appended in
     let nothing : stream.rest ≡ [] = stream.ends in
-    let behind = texts_behind (IsPackedFrame Zero) limit records whole stream.rest part stream.texts in
+    let following = texts_after (IsPackedFrame Zero) limit records whole stream.rest part stream.texts in
     let there : AreTexts (IsPackedFrame Zero) limit records log part =
-    subst (λ l. AreTexts (IsPackedFrame Zero) limit records l part) (sym spelled) (subst (λ l. AreTexts (IsPackedFrame Zero) limit records (whole ++ part) (l ++ part)) nothing behind) in
+    subst (λ l. AreTexts (IsPackedFrame Zero) limit records l part) (sym spelled) (subst (λ l. AreTexts (IsPackedFrame Zero) limit records (whole ++ part) (l ++ part)) nothing following) in
     let same = cut_once limit (kind_of refusal) ms records log (drop end log) part texts ends there (λ other left. part_is_none limit next other part missing left writable packed some) in
     inr (same.0, cut_end log whole part end within spelled same.1)

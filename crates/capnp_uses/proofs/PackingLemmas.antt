@@ -8,28 +8,28 @@ use Rattle.capnp_frame.specs.declared.error.ErrorKind.TheVariants.{DeviceFailed}
 use Rattle.capnp_frame.specs.Source.{Fails}
 use Rattle.capnp_frame.proofs.AskLemmas.{never_fails}
 use Rattle.capnp_pack.specs.Packed.{Packs}
-use Rattle.capnp_pack.specs.PackedSource.{Unpacks, RefusesPiece}
+use Rattle.capnp_pack.specs.PackedSource.{Unpacks, RefusesChunk}
 use Rattle.capnp_pack.specs.RefusingLaws.{unpacking}
 
 -- a buffer that is filled with what was packed
-pub filled_same : (words text shown filled behind : List ℕ) (n : ℕ)
+pub filled_same : (words text shown filled following : List ℕ) (n : ℕ)
     → ((bytes text rest others left : List ℕ) → Packs bytes text → Unpacks (text ++ rest) (length bytes) others left → (others ≡ bytes) × (left ≡ rest))
     → Packs words text → shown ≡ text → length filled ≡ length words → n ≡ length filled → (rest : List ℕ) × Unpacks shown (length filled) filled rest
-    → take n (filled ++ behind) ≡ words
-filled_same words text shown filled behind n alone packed same room many (rest, unpacks) =
+    → take n (filled ++ following) ≡ words
+filled_same words text shown filled following n alone packed same room many (rest, unpacks) =
     let whole : text ++ [] ≡ shown = append-nil text ∙ sym same in
     let there : Unpacks (text ++ []) (length words) filled rest =
     subst (λ raw. Unpacks raw (length words) filled rest) (sym whole) (subst (λ k. Unpacks shown k filled rest) room unpacks) in
-    ap (λ k. take k (filled ++ behind)) many ∙ take-append_seam filled behind ∙ (alone words text [] filled rest packed there).0
+    ap (λ k. take k (filled ++ following)) many ∙ take-append_seam filled following ∙ (alone words text [] filled rest packed there).0
 
 -- where a packing stands a slice does not refuse it
 not_refused : (raw : List ℕ) (n : ℕ) (bytes rest : List ℕ) (kind : ErrorKind) → Unpacks raw n bytes rest → (kind ≡ DeviceFailed → Fails 0 0)
-    → (kind ≡ DeviceFailed) ⊎ RefusesPiece raw n kind → ⊥
+    → (kind ≡ DeviceFailed) ⊎ RefusesChunk raw n kind → ⊥
 not_refused raw n bytes rest kind given failed (inl device) = never_fails kind failed device
 not_refused raw n bytes rest kind given failed (inr line) = unpacking.apart raw n bytes rest kind given line
 
 pub unpack_succeeds : {X : Type 0} (raw : List ℕ) (n : ℕ) (r : Result X Error) → IfErr r (λ e. e.kind ≡ DeviceFailed → Fails 0 0)
-    → IfErr r (λ e. (e.kind ≡ DeviceFailed) ⊎ RefusesPiece raw n e.kind) → (bytes rest : List ℕ) → Unpacks raw n bytes rest → IsOk r
+    → IfErr r (λ e. (e.kind ≡ DeviceFailed) ⊎ RefusesChunk raw n e.kind) → (bytes rest : List ℕ) → Unpacks raw n bytes rest → IsOk r
 unpack_succeeds raw n (Ok x) failed refused bytes rest given = refl
 unpack_succeeds raw n (Err e) failed refused bytes rest given = absurd (not_refused raw n bytes rest e.kind given failed refused)
 

@@ -1,4 +1,4 @@
--- Readers of bytes at hand answer the one message that stands there.
+-- Readers of bytes at hand return the one message that stands there.
 use Rattle.std.proofs.Common.{◌≡◌, ◌<◌, ℕ, List, [], Option, Some, None, Result, Ok, Err, IsOk, IfOk, IfErr, MatchResult, sym, ap, subst, arith}
 use Rattle.std.specs.Prelude.{IfNone, IsSomeAnd, IsOkAnd}
 use Rattle.capnp_frame.specs.declared.serialize.segment_table.Padding.TheVariants.{Zero}
@@ -6,7 +6,7 @@ use Rattle.capnp_frame.specs.declared.error.Error.{Error}
 use Rattle.capnp_frame.specs.declared.error.ErrorKind.TheVariants.{DeviceFailed, OutOfMemory}
 use Rattle.capnp_frame.specs.declared.message.options.ReaderOptions.{ReaderOptions}
 use Rattle.capnp_frame.specs.declared.message.options.TheConstants.{DEFAULT_READER_OPTIONS}
-use Rattle.capnp_wire.specs.Readers.{level_of, default_root}
+use Rattle.capnp_wire.specs.Readers.{nesting_of, default_root}
 use Rattle.capnp_wire.specs.Views.{Pointer}
 use Rattle.capnp_wire.specs.Values.{IsCanonicalForm}
 use Rattle.capnp_message.specs.Seen.{root_of}
@@ -23,7 +23,7 @@ use Rattle.capnp.proofs.AppendedLemmas.{memory_only}
 pub slices_are_plain : IsPlainSource Splits RunsShort
 slices_are_plain = record { given = λ raw n bytes rest. (λ p. p, λ p. p); refused = λ raw n kind. (λ p. p, λ p. p) }
 
--- a reader that asks for memory, or answers that there is nothing
+-- a reader that asks for memory, or returns that there is nothing
 pub exactly : {X : Type 0} (segments : X → List (List ℕ)) (format : Format) (limit : Option ℕ) (bytes left : List ℕ) (r : Result (Option X) Error)
     → ReturnsTexts (grammar_of Zero format) limit (Some bytes) (Some left) (next_in segments r)
     → IfOk (next_in segments r) (λ found. IfNone found (bytes ≡ []))
@@ -38,14 +38,14 @@ exactly segments format limit bytes left (Err e) texts none failed message rest 
     memory_only e.kind (texts.accepted message rest begins) failed
 
 -- and one that asks for none
-pub exactly_lent : {X : Type 0} (segments : X → List (List ℕ)) (format : Format) (limit : Option ℕ) (bytes left : List ℕ) (r : Result X Error)
+pub exactly_provided : {X : Type 0} (segments : X → List (List ℕ)) (format : Format) (limit : Option ℕ) (bytes left : List ℕ) (r : Result X Error)
     → IfOk r (λ x. StandsNext Zero format limit (segments x) bytes left)
     → ((message : List (List ℕ)) (rest : List ℕ) → StandsNext Zero format limit message bytes rest → IsOk r)
     → (message : List (List ℕ)) (rest : List ℕ) → StandsNext Zero format limit message bytes rest
     → IsOkAnd r (λ x. segments x ≡ message)
-exactly_lent segments format limit bytes left (Ok x) found accepted message rest begins =
+exactly_provided segments format limit bytes left (Ok x) found accepted message rest begins =
     ((format_parts Zero format limit).begins_once (segments x) message bytes left rest found begins).0
-exactly_lent {X} segments format limit bytes left (Err e) found accepted message rest begins = let is_ok : IsOk {T = X} {E = Error} (Err e) = accepted message rest begins in cc
+exactly_provided {X} segments format limit bytes left (Err e) found accepted message rest begins = let is_ok : IsOk {T = X} {E = Error} (Err e) = accepted message rest begins in cc
 
 -- The root that a reader of the default options follows
 pub root_is_default : (m message : List (List ℕ)) (options : ReaderOptions) → m ≡ message → options ≡ DEFAULT_READER_OPTIONS
@@ -56,9 +56,9 @@ root_is_default m message options same is =
 -- and its canonical form
 pub form_of_root : {X : Type 0} (numbers_of : X → List ℕ) (Q : Error → Type 0) (r : Result X Error) (pointer other : Pointer) → pointer ≡ other
     → MatchResult r (λ x. IsCanonicalForm pointer (numbers_of x)) Q → IfOk r (λ x. IsCanonicalForm other (numbers_of x))
-form_of_root numbers_of Q (Ok x) pointer other same answer = subst (λ p. IsCanonicalForm p (numbers_of x)) same answer
-form_of_root numbers_of Q (Err e) pointer other same answer = tt
+form_of_root numbers_of Q (Ok x) pointer other same returned = subst (λ p. IsCanonicalForm p (numbers_of x)) same returned
+form_of_root numbers_of Q (Err e) pointer other same returned = tt
 
 -- an object may stand at that root
-pub default_depth : (options : ReaderOptions) → options ≡ DEFAULT_READER_OPTIONS → 0 < level_of options.nesting_limit
-default_depth options is = subst (λ (o : ReaderOptions). 0 < level_of o.nesting_limit) (sym is) (omega arith)
+pub default_depth : (options : ReaderOptions) → options ≡ DEFAULT_READER_OPTIONS → 0 < nesting_of options.nesting_limit
+default_depth options is = subst (λ (o : ReaderOptions). 0 < nesting_of o.nesting_limit) (sym is) (omega arith)

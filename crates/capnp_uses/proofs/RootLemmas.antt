@@ -8,7 +8,7 @@ use Rattle.capnp_wire.specs.Object.{Shape, PointsTo, nothing, word_at}
 use Rattle.capnp_wire.specs.Reached.{at, root, Root}
 use Rattle.capnp_wire.specs.Faults.{NoWord, Fault}
 use Rattle.capnp_wire.specs.Views.{Pointer, Denotes, nowhere, at_place, Shows, Reads, Refuses, MeetsLimit, IsText, DeclinesText, DeclinesStruct}
-use Rattle.capnp_wire.specs.Charge.{Within}
+use Rattle.capnp_wire.specs.Traversed.{Within}
 use Rattle.capnp_wire.specs.Readers.{unlimited_root}
 use Rattle.capnp_wire.proofs.objects.ObjectLemmas.{one_object}
 use Rattle.capnp_wire.proofs.views.ViewLemmas.{one_denoted}
@@ -27,13 +27,13 @@ root_denotes (space ∷ spaces) shape points = at_place refl points (λ some. om
 
 pub root_is_shown : (spaces : List Space) (form : Form) (fact : Shape → Type 0) → HasRootForm spaces form → Shows (unlimited_root (map used_of spaces)) fact
     → (shape : Shape) × (shape.form ≡ form) × fact shape
-root_is_shown spaces form fact (charge, at {shape = shape} points inside others) shown =
+root_is_shown spaces form fact (traversed, at {shape = shape} points inside others) shown =
     let same : shown.0 ≡ shape = one_denoted (unlimited_root (map used_of spaces)) shown.0 shape shown.1 (root_denotes spaces shape points) in
     (shape, refl, subst fact same shown.2)
 
 pub root_is_read : (spaces : List Space) (form : Form) (fact : Form → Type 0) → HasRootForm spaces form → Reads (unlimited_root (map used_of spaces)) fact → fact form
 root_is_read spaces form fact stands read =
-    let shown = root_is_shown spaces form (λ shape. fact shape.form × Within None shape.charge) stands read in
+    let shown = root_is_shown spaces form (λ shape. fact shape.form × Within None shape.traversed) stands read in
     subst fact shown.1 shown.2.0
 
 -- what a pointer to a root stands for is what stands there
@@ -43,42 +43,42 @@ denotes_root pointer shape other is (at_place {place = place} there stands deep)
     let same : place ≡ root = cc in
     one_object pointer.message root other shape (subst (λ at. PointsTo pointer.message at other) same stands) points
 
-pub read_at_root : (pointer : Pointer) (form : Form) (fact : Shape → Type 0) → pointer.place ≡ Some root → (charge : ℕ) × Root pointer.message form none charge
+pub read_at_root : (pointer : Pointer) (form : Form) (fact : Shape → Type 0) → pointer.place ≡ Some root → (traversed : ℕ) × Root pointer.message form none traversed
     → Shows pointer fact → (shape : Shape) × (shape.form ≡ form) × fact shape
-read_at_root pointer form fact is (charge, at {shape = shape} points inside others) (other, denotes, holds) =
+read_at_root pointer form fact is (traversed, at {shape = shape} points inside others) (other, denotes, holds) =
     (shape, refl, subst fact (denotes_root pointer shape other is denotes points) holds)
 
 pub root_text_is : {X : Type 0} (refuses : Error → Type 0) (bytes_of : X → List ℕ) (pointer : Pointer) (bytes : List ℕ) (r : Result X Error) → pointer.place ≡ Some root
-    → (charge : ℕ) × Root pointer.message (numbers 2 (bytes ++ 0 ∷ [])) none charge
+    → (traversed : ℕ) × Root pointer.message (numbers 2 (bytes ++ 0 ∷ [])) none traversed
     → MatchResult r (λ view. Reads pointer (λ form. IsText form (bytes_of view))) refuses → IfOk r (λ view. bytes_of view ≡ bytes)
-root_text_is refuses bytes_of pointer bytes (Err e) is stands answer = tt
-root_text_is refuses bytes_of pointer bytes (Ok view) is stands answer =
-    let shown = read_at_root pointer (numbers 2 (bytes ++ 0 ∷ [])) _ is stands answer in
+root_text_is refuses bytes_of pointer bytes (Err e) is stands returned = tt
+root_text_is refuses bytes_of pointer bytes (Ok view) is stands returned =
+    let shown = read_at_root pointer (numbers 2 (bytes ++ 0 ∷ [])) _ is stands returned in
     let text : IsText (numbers 2 (bytes ++ 0 ∷ [])) (bytes_of view) = subst (λ form. IsText form (bytes_of view)) shown.1 shown.2.0 in
     sym (append_cancel_right bytes (bytes_of view) (0 ∷ []) text.1)
 
 -- a null root is read as null
-null_at : (m : List (List ℕ)) (form : Form) (charge : ℕ) → form ≡ null → Root m form none charge → word_at m root ≡ Some 0
-null_at m form charge is (at {shape = shape} points inside others) = (null_is_zero m root shape points).0 is
+null_at : (m : List (List ℕ)) (form : Form) (traversed : ℕ) → form ≡ null → Root m form none traversed → word_at m root ≡ Some 0
+null_at m form traversed is (at {shape = shape} points inside others) = (null_is_zero m root shape points).0 is
 
 pub null_is_read : (spaces : List Space) → HasRootForm spaces null → Denotes (unlimited_root (map used_of spaces)) nothing
-null_is_read [] (charge, stands) =
-    let word : word_at [] root ≡ Some 0 = null_at [] null charge refl stands in
+null_is_read [] (traversed, stands) =
+    let word : word_at [] root ≡ Some 0 = null_at [] null traversed refl stands in
     cc
-null_is_read (space ∷ spaces) (charge, stands) =
-    null_by_word (unlimited_root (map used_of (space ∷ spaces))) root 0 refl (null_at (message (space ∷ spaces)) null charge refl stands) refl
+null_is_read (space ∷ spaces) (traversed, stands) =
+    null_by_word (unlimited_root (map used_of (space ∷ spaces))) root 0 refl (null_at (message (space ∷ spaces)) null traversed refl stands) refl
 
--- A view that takes what stands at the root is refused by the traversal limit alone.
+-- A view that takes what stands at the root fails at the traversal limit alone.
 pub root_meets_limit : (pointer : Pointer) (form : Form) (declines : Form → ErrorKind → Type 0) (kind : ErrorKind) → pointer.place ≡ Some root
-    → (charge : ℕ) × Root pointer.message form none charge → 0 < pointer.level → (declines form kind → ⊥) → NoWord pointer.message root kind ⊎ Refuses pointer declines kind
+    → (traversed : ℕ) × Root pointer.message form none traversed → 0 < pointer.nesting → (declines form kind → ⊥) → NoWord pointer.message root kind ⊎ Refuses pointer declines kind
     → MeetsLimit pointer kind
-root_meets_limit pointer form declines kind is (charge, at {shape = shape} points inside others) deep takes (inl absent) =
+root_meets_limit pointer form declines kind is (traversed, at {shape = shape} points inside others) deep takes (inl absent) =
     absurd (word_of_object pointer.message root shape (no_word_there pointer.message root kind absent) points)
-root_meets_limit pointer form declines kind is (charge, at {shape = shape} points inside others) deep takes (inr (inl (inl (place, there, fault)))) =
+root_meets_limit pointer form declines kind is (traversed, at {shape = shape} points inside others) deep takes (inr (inl (inl (place, there, fault)))) =
     let same : place ≡ root = cc in
-    absurd (refused_has_no_object pointer.message root pointer.level kind shape (subst (λ at. Fault pointer.message at pointer.level kind) same fault) points (λ some. deep))
+    absurd (refused_has_no_object pointer.message root pointer.nesting kind shape (subst (λ at. Fault pointer.message at pointer.nesting kind) same fault) points (λ some. deep))
 root_meets_limit pointer form declines kind is stands deep takes (inr (inl (inr limit))) = limit
-root_meets_limit pointer form declines kind is (charge, at {shape = shape} points inside others) deep takes (inr (inr (other, denotes, declined))) =
+root_meets_limit pointer form declines kind is (traversed, at {shape = shape} points inside others) deep takes (inr (inr (other, denotes, declined))) =
     absurd (takes (subst (λ s. declines s.form kind) (denotes_root pointer shape other is denotes points) declined))
 
 text_is_taken : (bytes : List ℕ) (kind : ErrorKind) → DeclinesText (numbers 2 (bytes ++ 0 ∷ [])) kind → ⊥
@@ -86,11 +86,11 @@ text_is_taken bytes kind (inl (other, is)) = other refl
 text_is_taken bytes kind (inr (takes, cut, is)) = cut (refl, (bytes, refl))
 
 pub text_meets_limit : {X : Type 0} (shows : X → Type 0) (pointer : Pointer) (bytes : List ℕ) (r : Result X Error) → pointer.place ≡ Some root
-    → (charge : ℕ) × Root pointer.message (numbers 2 (bytes ++ 0 ∷ [])) none charge → 0 < pointer.level
+    → (traversed : ℕ) × Root pointer.message (numbers 2 (bytes ++ 0 ∷ [])) none traversed → 0 < pointer.nesting
     → MatchResult r shows (λ e. NoWord pointer.message root e.kind ⊎ Refuses pointer DeclinesText e.kind) → IfErr r (λ e. MeetsLimit pointer e.kind)
-text_meets_limit shows pointer bytes (Ok view) is stands deep answer = tt
-text_meets_limit shows pointer bytes (Err e) is stands deep answer =
-    root_meets_limit pointer (numbers 2 (bytes ++ 0 ∷ [])) DeclinesText e.kind is stands deep (text_is_taken bytes e.kind) answer
+text_meets_limit shows pointer bytes (Ok view) is stands deep returned = tt
+text_meets_limit shows pointer bytes (Err e) is stands deep returned =
+    root_meets_limit pointer (numbers 2 (bytes ++ 0 ∷ [])) DeclinesText e.kind is stands deep (text_is_taken bytes e.kind) returned
 
 pub struct_is_taken : (words : List ℕ) (kind : ErrorKind) → DeclinesStruct (struct words) kind → ⊥
 struct_is_taken words kind (other, is) = other tt

@@ -13,31 +13,31 @@ use Rattle.capnp_build.specs.Bytes.{Space}
 use Rattle.capnp_build.specs.Built.{message, IsSet, IsWhole}
 use Rattle.capnp.specs.Written.{IsFrameText}
 
-one_at : (o : Option Place) (m : List (List ℕ)) (level : ℕ) (limit : Option ℕ) (a b : Trees) → MatchOption o (a ≡ tree null none none) (λ place. TreeAt m place level limit a)
-    → MatchOption o (b ≡ tree null none none) (λ place. TreeAt m place level limit b) → a ≡ b
-one_at None m level limit a b x y = x ∙ sym y
-one_at (Some place) m level limit a b x y = (one_tree m (place ∷ []) a b x.charge y.charge x.stand y.stand).0
+one_at : (o : Option Place) (m : List (List ℕ)) (nesting : ℕ) (limit : Option ℕ) (a b : Trees) → MatchOption o (a ≡ tree null none none) (λ place. TreeAt m place nesting limit a)
+    → MatchOption o (b ≡ tree null none none) (λ place. TreeAt m place nesting limit b) → a ≡ b
+one_at None m nesting limit a b x y = x ∙ sym y
+one_at (Some place) m nesting limit a b x y = (one_tree m (place ∷ []) a b x.traversed y.traversed x.stand y.stand).0
 
 leads_one : (p : Pointer) (a b : Trees) → LeadsToTree p a → LeadsToTree p b → a ≡ b
-leads_one p a b x y = one_at p.place p.message p.level p.limit a b x y
+leads_one p a b x y = one_at p.place p.message p.nesting p.limit a b x y
 
 pub on_ok : {A E : Type 0} (r : Result A E) (P Q : Type 0) → (P → Q) → OnOk r P → OnOk r Q
 on_ok (Ok a) P Q step p = step p
 on_ok (Err e) P Q step p = p
 
 pub set_as : (p : Pointer) (spaces : List Space) (form : Form) (held : Trees) → LeadsToTree p (tree form held none) → IsSet (LeadsToTree p) false spaces
-    → (charge : ℕ) × Root (message spaces) form held charge
+    → (traversed : ℕ) × Root (message spaces) form held traversed
 set_as p spaces form held is s =
     let same : s.trees ≡ tree form held none = leads_one p s.trees (tree form held none) s.tree_is is in
-    (s.charge, subst (λ (t : Trees). At (message spaces) (root ∷ []) t s.charge) same s.stands)
+    (s.traversed, subst (λ (t : Trees). At (message spaces) (root ∷ []) t s.traversed) same s.stands)
 
 pub canonical_as : (p : Pointer) (spaces : List Space) (trees : Trees) → LeadsToTree p trees → IsWhole (LeadsToTree p) true spaces → message spaces ≡ canon trees ∷ []
 canonical_as p spaces trees is s = s.words_are ∙ ap (λ (t : Trees). canon t ∷ []) (leads_one p s.trees trees s.tree_is is)
 
 -- where a tree stands at the root there is a segment
-pub root_has_segment : (spaces : List Space) (form : Form) (held : Trees) (charge : ℕ) → Root (message spaces) form held charge → 0 < length spaces
-root_has_segment [] form held charge (at {shape = shape} points inside others) = absurd (word_of_object [] root shape refl points)
-root_has_segment (space ∷ spaces) form held charge stands = omega arith
+pub root_has_segment : (spaces : List Space) (form : Form) (held : Trees) (traversed : ℕ) → Root (message spaces) form held traversed → 0 < length spaces
+root_has_segment [] form held traversed (at {shape = shape} points inside others) = absurd (word_of_object [] root shape refl points)
+root_has_segment (space ∷ spaces) form held traversed stands = omega arith
 
 -- what is added to nothing
 pub added_frame : (segments : List (List ℕ)) (old new : List ℕ) → old ≡ [] → Adds (IsFrameText segments) old new → IsFrameText segments new

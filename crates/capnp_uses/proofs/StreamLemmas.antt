@@ -67,7 +67,7 @@ pub refused_ends : (error : Error) (Q : Type 0) → (error.kind ≡ OutOfMemory)
 refused_ends error Q (inl memory) = inl (ap Some memory)
 refused_ends error Q (inr ends) = inr ends
 
--- What is answered where the reading stops.
+-- What is returned where the reading stops.
 pub stopped : (format : Format) (limit : Option ℕ) (ms ns : List (List (List ℕ))) (refusal : Option Error) (raw rest : List ℕ) (end : ℕ)
     → ns ≡ ms → AreTexts (grammar_of Zero format) limit ms raw rest → end ≡ length raw - length rest → LacksMemory refusal ⊎ EndsBy Zero format limit (kind_of refusal) rest
     → (end ≤ length raw) × AreTexts (grammar_of Zero format) limit ns raw (drop end raw) × (LacksMemory refusal ⊎ EndsBy Zero format limit (kind_of refusal) (drop end raw))

@@ -7,9 +7,9 @@ use Rattle.capnp_build.specs.Bytes.{Space}
 use Rattle.capnp_build.specs.Held.{used_of}
 
 -- an object without pointers stands at the root of these segments
-abbrev pub HasRoot : List (List ℕ) → Form → Type 0
-HasRoot segments form = (charge : ℕ) × Root (message_of segments) form none charge
+abbrev pub HasPlainRoot : List (List ℕ) → Form → Type 0
+HasPlainRoot segments form = (traversed : ℕ) × Root (message_of segments) form none traversed
 
 -- and at the root of a message that is built
 abbrev pub HasRootForm : List Space → Form → Type 0
-HasRootForm spaces form = HasRoot (map used_of spaces) form
+HasRootForm spaces form = HasPlainRoot (map used_of spaces) form

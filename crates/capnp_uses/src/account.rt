@@ -18,7 +18,8 @@ impl<'a, S: ReaderSegments + 'a> traits::Owned<'a, S> for Owned {
     type Reader = Reader<'a, S>;
 }
 
-/// An account in a message. From a null pointer, and from older writers, it has the number 0 and no name.
+/// An account in a message. From a null pointer, and from older writers, it has the number 0 and no
+/// name.
 #[derive(Drop)]
 pub struct Reader<'a, S: ReaderSegments> {
     fields: StructReader<'a, S>,
@@ -52,7 +53,7 @@ impl<'a, S: ReaderSegments> FromPointerReader<'a, S> for Reader<'a, S> {
     // Why there is none: no object stands there, it may not be read, or it is no struct.
     ghost refuses = { λ pointer kind. Refuses pointer DeclinesStruct kind };
 
-    // An object that is no struct is refused by `WrongPointerKind`.
+    // An object that is no struct fails with `WrongPointerKind`.
     ghost declines = { λ pointer kind. Declines pointer DeclinesStruct kind };
 
     // The trait's clause, with these members in it.

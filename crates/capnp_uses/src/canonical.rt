@@ -18,7 +18,7 @@ pub fn canonical_words(alloc: Global, bytes: &[u8]) -> Result<Vec<Word>>
     ensures form { (message : List (List ℕ)) (rest : List ℕ) →
         BeginsFramed Zero default_limit message bytes.now rest →
         IfOk result (λ words. IsCanonicalForm (default_root message) (numbers_of words.items)) }
-    // They are answered wherever there are such words, memory aside.
+    // They are returned wherever there are such words, memory aside.
     ensures found { (message : List (List ℕ)) (rest : List ℕ) →
         BeginsFramed Zero default_limit message bytes.now rest → HasForm (default_root message) →
         IfErr result (λ error. error.kind ≡ ErrorKind.OutOfMemory) }

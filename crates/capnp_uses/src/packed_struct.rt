@@ -6,7 +6,7 @@ ghost use Rattle.capnp_frame.specs.Message.{lengths};
 ghost use Rattle.capnp_frame.specs.Writing.{IsWritable, HasFew};
 ghost use Rattle.capnp_wire.specs.Tree.{struct};
 ghost use Rattle.capnp.specs.Written.{IsPackedTextOf, output_of};
-ghost use Rattle.capnp_uses.specs.Roots.{HasRoot, HasRootForm};
+ghost use Rattle.capnp_uses.specs.Roots.{HasPlainRoot, HasRootForm};
 
 use crate::building::write_struct;
 use capnp::message::DEFAULT_READER_OPTIONS;
@@ -50,12 +50,12 @@ pub fn packed_text<A: Allocator>(alloc: Global, message: &Builder<A>) -> Result<
 /// The first two data words of the struct at the root of a packed message.
 pub fn read_packed_words(alloc: Global, text: &[u8]) -> Result<(u64, u64)>
     ensures words { (message : List (List ℕ)) (first second : ℕ) → IsWritable message →
-        IsPackedTextOf message text.now → HasRoot message (struct (first ∷ second ∷ [])) →
+        IsPackedTextOf message text.now → HasPlainRoot message (struct (first ∷ second ∷ [])) →
         IfOk result (λ read. read ≡ (first, second)) }
     // Memory and the traversal limit aside, it succeeds.
     ensures found { (message : List (List ℕ)) (first second : ℕ) → IsWritable message →
         HasFew message → KeepsLimit (lengths message) default_limit →
-        IsPackedTextOf message text.now → HasRoot message (struct (first ∷ second ∷ [])) →
+        IsPackedTextOf message text.now → HasPlainRoot message (struct (first ∷ second ∷ [])) →
         IfErr result (λ error. (error.kind ≡ ErrorKind.OutOfMemory)
         ⊎ (error.kind ≡ ErrorKind.ReadLimitExceeded)) }
 {

@@ -8,7 +8,7 @@ ghost use Rattle.capnp_wire.specs.Views.{MeetsLimit};
 ghost use Rattle.capnp_message.specs.Seen.{root_of};
 ghost use Rattle.capnp.specs.Streams.{BeginsFramed};
 ghost use Rattle.capnp_frame.specs.Limits.{default_limit};
-ghost use Rattle.capnp_uses.specs.Roots.{HasRoot};
+ghost use Rattle.capnp_uses.specs.Roots.{HasPlainRoot};
 
 use capnp::message::{DEFAULT_READER_OPTIONS, Reader, ReaderSegments};
 use capnp::serialize::{self, NoAllocSliceSegments, OwnedSegments};
@@ -20,7 +20,7 @@ pub fn first_message(alloc: Global, bytes: &[u8]) -> Result<Option<Reader<OwnedS
     ensures found { IfOk result (λ found. IfSome found (λ reader.
         (rest : List ℕ) × BeginsFramed Zero default_limit reader.segments bytes.now rest)) }
     ensures none { IfOk result (λ found. IfNone found (bytes.now ≡ [])) }
-    // A message that stands there is answered, memory aside.
+    // A message that stands there is returned, memory aside.
     ensures exact { (message : List (List ℕ)) (rest : List ℕ) →
         BeginsFramed Zero default_limit message bytes.now rest → MatchResult result
         (λ found. IsSomeAnd found (λ reader. reader.segments ≡ message))
@@ -30,7 +30,7 @@ pub fn first_message(alloc: Global, bytes: &[u8]) -> Result<Option<Reader<OwnedS
     serialize::try_read_message(alloc, &mut source, DEFAULT_READER_OPTIONS)
 }
 
-/// The message that a lent buffer begins with, in place. No memory is taken.
+/// The message that a caller-provided buffer begins with, in place. No memory is taken.
 pub fn borrowed_message<'a>(bytes: &'a [u8]) -> Result<Reader<NoAllocSliceSegments<'a>>>
     ensures found { IfOk result (λ reader. (rest : List ℕ)
         × BeginsFramed Zero default_limit reader.segments.segments bytes.now rest) }
@@ -46,12 +46,12 @@ pub fn borrowed_message<'a>(bytes: &'a [u8]) -> Result<Reader<NoAllocSliceSegmen
 /// The text at the root of a message.
 pub fn root_text<'a, S: ReaderSegments>(message: &'a Reader<S>) -> Result<text::Reader<'a>>
     ensures shown { (bytes : List ℕ) →
-        HasRoot (S.segments message.now.segments) (numbers 2 (bytes ++ 0 ∷ [])) →
+        HasPlainRoot (S.segments message.now.segments) (numbers 2 (bytes ++ 0 ∷ [])) →
         IfOk result (λ text. text.bytes.now ≡ bytes) }
-    // It is refused by the traversal limit alone, where there is one and objects may be nested.
+    // It fails at the traversal limit alone, where there is one and objects may be nested.
     ensures found { let pointer = root_of S.segments message.now in (bytes : List ℕ) →
-        HasRoot (S.segments message.now.segments) (numbers 2 (bytes ++ 0 ∷ [])) →
-        0 < pointer.level → IfErr result (λ error. MeetsLimit pointer error.kind) }
+        HasPlainRoot (S.segments message.now.segments) (numbers 2 (bytes ++ 0 ∷ [])) →
+        0 < pointer.nesting → IfErr result (λ error. MeetsLimit pointer error.kind) }
 {
     message.get_root()
 }

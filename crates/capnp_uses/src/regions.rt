@@ -12,8 +12,8 @@ use capnp_message::{Builder, SingleSegmentAllocator};
 use capnp_wire::traits::SetterInput;
 use std::alloc::Global;
 
-/// Sets the root of a new message over a region: a value that has room there behind the root's word is
-/// set, and stands just behind it. Where it is refused, that is not for a region that is out.
+/// Sets the root of a new message over a region: a value that has room there after the root's word is
+/// set, and stands just after it. Where it is refused, that is not for a region that is out.
 pub fn set_in_region<'a, T, V: SetterInput<T> + Drop>(
     alloc: Global,
     region: &'a mut [u8],

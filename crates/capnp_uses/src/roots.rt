@@ -1,6 +1,6 @@
 //! Roots that are copied from a message that is read, and texts that are set and read back.
 ghost use Rattle.std.specs.Prelude.{◌≡◌, false, true, IfOk, OnOk, OnErr};
-ghost use Rattle.capnp_wire.specs.Values.{LeadsToTree, IsTextOf};
+ghost use Rattle.capnp_wire.specs.Values.{LeadsToTree, IsTextTree};
 ghost use Rattle.capnp_build.specs.Built.{IsSet};
 ghost use Rattle.capnp_build.specs.Placed.{IsCleared};
 ghost use Rattle.capnp_message.specs.Seen.{root_of};
@@ -26,7 +26,7 @@ pub fn copy_root<S: ReaderSegments, A: Allocator>(
 /// Sets the root to a text, and tells whether it is what is read there afterwards.
 pub fn set_text_is_read_back<A: Allocator>(message: &mut Builder<A>, text: &str) -> Result<bool>
     ensures back { IfOk result (λ same. same ≡ true) }
-    ensures set { OnOk result (IsSet (λ trees. IsTextOf text.now trees) false message.new.spaces) }
+    ensures set { OnOk result (IsSet (λ trees. IsTextTree text.now trees) false message.new.spaces) }
     ensures cleared { OnErr result (IsCleared A.Allocator message.old message.new) }
 {
     message.set_root::<text::Owned, &str>(text)?;

@@ -26,7 +26,7 @@ pub fn set_tree<A: Allocator, S: ReaderSegments>(
 ) -> Result<()>
     ensures set { (form : Form) (held : Trees) →
         LeadsToTree (pointer_of S.segments source.entry) (tree form held none) →
-        OnOk result ((charge : ℕ) × Root (message built.new.spaces) form held charge) }
+        OnOk result ((traversed : ℕ) × Root (message built.new.spaces) form held traversed) }
 {
     built.set_root::<any_pointer::Owned, any_pointer::Reader<'_, S>>(source)
 }
@@ -39,8 +39,8 @@ pub fn set_tree_and_word<A: Allocator, S: ReaderSegments>(
 ) -> Result<()>
     ensures set { (words : List ℕ) (held : Trees) → 0 < length words →
         LeadsToTree (pointer_of S.segments source.entry) (tree (struct words) held none) →
-        OnOk result ((charge : ℕ)
-        × Root (message built.new.spaces) (struct (slice_set words 0 word)) held charge) }
+        OnOk result ((traversed : ℕ)
+        × Root (message built.new.spaces) (struct (slice_set words 0 word)) held traversed) }
 {
     set_tree(built, source)?;
     let mut fields: StructBuilder<'_, Builder<A>> = built.get_root::<any_struct::Owned>()?;

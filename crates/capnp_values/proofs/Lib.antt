@@ -1,7 +1,7 @@
 -- The lemmas, by subject.
 pub mod PartLemmas
 pub mod ReachLemmas
-pub mod AnswerLemmas
+pub mod ResultLemmas
 pub mod RowLemmas
 pub mod StructLemmas
 pub mod SectionLemmas

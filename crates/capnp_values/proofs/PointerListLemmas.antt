@@ -13,7 +13,7 @@ use Rattle.capnp_wire.specs.Values.{HasWords, LacksWords, pointed, too_large}
 use Rattle.capnp_wire.proofs.words.PutLemmas.{words_split}
 use Rattle.capnp_wire.proofs.trees.TrimLemmas.{count-trim}
 use Rattle.capnp_values.specs.Lists.{AreItems, RefusesItems, MeasuresRow, IsPointerList, RefusesPointerList}
-use Rattle.capnp_values.proofs.AnswerLemmas.{ok_not_err, same_ok}
+use Rattle.capnp_values.proofs.ResultLemmas.{ok_not_err, same_ok}
 use Rattle.capnp_values.proofs.ItemLemmas.{items_settled}
 use Rattle.capnp_values.proofs.StructLemmas.{Fitted, fitted_found, fitted_lacks}
 
@@ -36,10 +36,10 @@ values_total h vs c t is =
     let whole : total_words (formed c t) ≡ total_words (formed c (tree pointers is.held none)) = ap (λ (a : Trees). total_words (formed c a)) is.whole in
     omega (arith, whole, list_total c is.held, (items_settled h vs is.held is.held_is).many)
 
-pub list_answer : {V : Type 0} (h : V → Trees → Type 0) (r : V → ErrorKind → Type 0) (vs : List V) (c : Bool) (words : ℕ) (held : Trees) (res : Result ℕ Error) → AreItems h vs held → length vs < 2 ^ 29
+pub list_result : {V : Type 0} (h : V → Trees → Type 0) (r : V → ErrorKind → Type 0) (vs : List V) (c : Bool) (words : ℕ) (held : Trees) (res : Result ℕ Error) → AreItems h vs held → length vs < 2 ^ 29
     → words ≡ total_words (formed c held) → Fitted c (length vs + words) res
     → MatchResult res (λ n. HasWords (λ t. IsPointerList h vs t) c n) (λ error. LacksWords (λ t. IsPointerList h vs t) (λ k. RefusesPointerList h r vs k) c error.kind)
-list_answer h r vs c words held (Ok n) is few words_are f =
+list_result h r vs c words held (Ok n) is few words_are f =
     let s = items_settled h vs held is in
     record {
       trees = tree pointers held none;
@@ -48,24 +48,24 @@ list_answer h r vs c words held (Ok n) is few words_are f =
       words_are = omega (arith, f.0, words_are, list_total c held, s.many);
       few = f.1;
     }
-list_answer h r vs c words held (Err error) is few words_are f =
+list_result h r vs c words held (Err error) is few words_are f =
     let s = items_settled h vs held is in
     let total : total_words (formed c (tree pointers held none)) ≡ length vs + words = omega (arith, words_are, list_total c held, s.many) in
     inr (tree pointers held none, record { held = held; held_is = is; few = few; whole = refl }, omega (arith, f.0, total), f.1 ∙ ap (too_large c) (sym total))
 
-pub list_found : {V : Type 0} (h : V → Trees → Type 0) (vs : List V) (c : Bool) (words : ℕ) (answer res : Result ℕ Error) → answer ≡ Ok words
-    → ((t : Trees) → AreItems h vs t → answer ≡ Ok (total_words (formed c t))) → Fitted c (length vs + words) res → (n : ℕ) → HasWords (λ t. IsPointerList h vs t) c n → res ≡ Ok n
-list_found h vs c words answer res was found f n w =
-    let same = same_ok answer words (total_words (formed c w.tree_is.held)) was (found w.tree_is.held w.tree_is.held_is) in
+pub list_found : {V : Type 0} (h : V → Trees → Type 0) (vs : List V) (c : Bool) (words : ℕ) (returned res : Result ℕ Error) → returned ≡ Ok words
+    → ((t : Trees) → AreItems h vs t → returned ≡ Ok (total_words (formed c t))) → Fitted c (length vs + words) res → (n : ℕ) → HasWords (λ t. IsPointerList h vs t) c n → res ≡ Ok n
+list_found h vs c words returned res was found f n w =
+    let same = same_ok returned words (total_words (formed c w.tree_is.held)) was (found w.tree_is.held w.tree_is.held_is) in
     fitted_found c (length vs + words) n res f (omega (arith, w.words_are, values_total h vs c w.trees w.tree_is, same)) w.few
 
-pub list_exact : {V : Type 0} (h : V → Trees → Type 0) (r : V → ErrorKind → Type 0) (vs : List V) (c : Bool) (words : ℕ) (answer res : Result ℕ Error) → length vs < 2 ^ 29 → answer ≡ Ok words
-    → MeasuresRow (λ t. AreItems h vs t) (λ k. RefusesItems h r vs k) c answer → Fitted c (length vs + words) res → (kind : ErrorKind)
+pub list_exact : {V : Type 0} (h : V → Trees → Type 0) (r : V → ErrorKind → Type 0) (vs : List V) (c : Bool) (words : ℕ) (returned res : Result ℕ Error) → length vs < 2 ^ 29 → returned ≡ Ok words
+    → MeasuresRow (λ t. AreItems h vs t) (λ k. RefusesItems h r vs k) c returned → Fitted c (length vs + words) res → (kind : ErrorKind)
     → LacksWords (λ t. IsPointerList h vs t) (λ k. RefusesPointerList h r vs k) c kind → IsErrAnd res (λ e. e.kind ≡ kind)
-list_exact h r vs c words answer res few was m f kind (inl (inl many)) = absurd (omega (arith, few, many.0))
-list_exact h r vs c words answer res few was m f kind (inl (inr refused)) = absurd (ok_not_err answer words (λ e. e.kind ≡ kind) was (m.exact kind refused.1))
-list_exact h r vs c words answer res few was m f kind (inr lacks) =
-    let same = same_ok answer words (total_words (formed c lacks.1.held)) was (m.found lacks.1.held lacks.1.held_is) in
+list_exact h r vs c words returned res few was m f kind (inl (inl many)) = absurd (omega (arith, few, many.0))
+list_exact h r vs c words returned res few was m f kind (inl (inr refused)) = absurd (ok_not_err returned words (λ e. e.kind ≡ kind) was (m.exact kind refused.1))
+list_exact h r vs c words returned res few was m f kind (inr lacks) =
+    let same = same_ok returned words (total_words (formed c lacks.1.held)) was (m.found lacks.1.held lacks.1.held_is) in
     fitted_lacks c (length vs + words) (total_words (formed c lacks.0)) kind res f (omega (arith, values_total h vs c lacks.0 lacks.1, same)) lacks.2 lacks.3
 
 -- what is written of it

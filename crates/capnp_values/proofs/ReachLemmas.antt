@@ -4,7 +4,7 @@ use Rattle.capnp_wire.specs.Tree.{Form, null, struct, numbers, pointers, structs
 use Rattle.capnp_wire.specs.Trim.{keep_tree, cut_nulls, trim, trim_form, trim_held}
 use Rattle.capnp_wire.specs.Layout.{AllHaveRoom}
 use Rattle.capnp_wire.proofs.trees.TrimLemmas.{total-trim, count-trim}
-use Rattle.capnp_wire.proofs.trees.PieceLemmas.{total-cut, count-cut}
+use Rattle.capnp_wire.proofs.trees.ChunkLemmas.{total-cut, count-cut}
 use Rattle.capnp_values.specs.Fields.{IsSettled, kept_row, extent_of}
 use Rattle.capnp_values.specs.declared.fields.Extent.{Extent}
 use Rattle.capnp_values.proofs.PartLemmas.{part_total, no_trees}

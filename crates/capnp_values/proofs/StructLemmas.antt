@@ -17,7 +17,7 @@ use Rattle.capnp_wire.proofs.trees.FrontLemmas.{first_cut, cut_front}
 use Rattle.capnp_wire.proofs.trees.NarrowLemmas.{first_all}
 use Rattle.capnp_wire.proofs.words.CutLemmas.{length-cut}
 use Rattle.capnp_wire.proofs.trees.TrimLemmas.{count-trim}
-use Rattle.capnp_wire.proofs.trees.PieceLemmas.{count-cut}
+use Rattle.capnp_wire.proofs.trees.ChunkLemmas.{count-cut}
 use Rattle.capnp_wire.proofs.words.PutLemmas.{words_split}
 use Rattle.capnp_values.specs.Fields.{IsSettled, kept_row, extent_of, CanWriteRow}
 use Rattle.capnp_values.specs.Structs.{IsStruct, RefusesStruct, kept_words}
@@ -60,17 +60,17 @@ total_of c words held extent d d_is e =
     let b : extent.words ≡ total_words (kept_row c held) = ap (λ (x : Extent). x.words) e in
     omega (arith, struct_total c words held)
 
-pub struct_answer : (c : Bool) (words : List ℕ) (size : ℕ) (hs : Trees → Type 0) (rs : ErrorKind → Type 0) (held : Trees) (total : ℕ) (r : Result ℕ Error) → hs held → IsSettled size held
+pub struct_result : (c : Bool) (words : List ℕ) (size : ℕ) (hs : Trees → Type 0) (rs : ErrorKind → Type 0) (held : Trees) (total : ℕ) (r : Result ℕ Error) → hs held → IsSettled size held
     → length words < 2 ^ 16 → size < 2 ^ 16 → All (λ w. w < 2 ^ 64) words → total_words (formed c (tree (struct words) held none)) ≡ total → Fitted c total r
     → MatchResult r (λ n. HasWords (λ t. IsStruct words size hs t) c n) (λ error. LacksWords (λ t. IsStruct words size hs t) (λ k. RefusesStruct (length words) size rs k) c error.kind)
-struct_answer c words size hs rs held total (Ok n) has s few_words few_pointers small is f = record {
+struct_result c words size hs rs held total (Ok n) has s few_words few_pointers small is f = record {
   trees = tree (struct words) held none;
   tree_is = record { held = held; held_is = has; few_words = few_words; few_pointers = few_pointers; whole = refl };
   rooms = ((few_words, omega (arith, s.many), small), s.rooms, tt);
   words_are = f.0 ∙ sym is;
   few = f.1;
 }
-struct_answer c words size hs rs held total (Err error) has s few_words few_pointers small is f = inr (
+struct_result c words size hs rs held total (Err error) has s few_words few_pointers small is f = inr (
   tree (struct words) held none,
   record { held = held; held_is = has; few_words = few_words; few_pointers = few_pointers; whole = refl },
   omega (arith, f.0, is),

@@ -35,7 +35,7 @@ RefusesRow has_tree refuses refuses_rest kind =
     LacksWords has_tree refuses false kind
     ⊎ ((words : ℕ) × HasWords has_tree false words × refuses_rest kind)
 
--- a row of so many trees
+-- a row of a given number of trees
 pub record IsSettled (size : ℕ) (trees : Trees) : Type 0 where
   pub many : count trees ≡ size
   pub rooms : AllHaveRoom trees

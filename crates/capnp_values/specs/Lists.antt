@@ -23,7 +23,7 @@ RefusesItems has_tree refuses (value ∷ values) kind =
 
 -- what is measured of a row: the words of its trees, or why one of its values is refused
 pub record MeasuresRow (has_trees : Trees → Type 0) (refuses : ErrorKind → Type 0) (canonical : Bool) (result : Result ℕ Error) : Type 0 where
-  pub answer : MatchResult result (λ words. (trees : Trees) × has_trees trees × (words ≡ total_words (formed canonical trees)))
+  pub returned : MatchResult result (λ words. (trees : Trees) × has_trees trees × (words ≡ total_words (formed canonical trees)))
       (λ error. refuses error.kind)
   pub found : (trees : Trees) → has_trees trees → result ≡ Ok (total_words (formed canonical trees))
   pub exact : (kind : ErrorKind) → refuses kind → IsErrAnd result (λ error. error.kind ≡ kind)
@@ -34,7 +34,8 @@ pub record FillsBlock (has_trees : Trees → Type 0) (canonical : Bool) (room : 
   pub trees_are : has_trees trees
   pub room_is : room ≡ 8 * total_words (formed canonical trees)
 
--- Of n pointers those from one on are written, with what they lead to, which is all of a block from a word on; before that it is zero.
+-- Of n pointers those from one on are written, with what they lead to, which is all of a block from a word on; before that it
+-- is zero.
 pub record IsWrittenFrom (has_trees : Trees → Type 0) (canonical : Bool) (n from start : ℕ) (slots block : List ℕ) : Type 0 where
   pub within : 8 * start ≤ length block
   pub zero : take (8 * start) block ≡ replicate (8 * start) 0
@@ -50,7 +51,7 @@ pub record IsPointerList {V : Type 0} (has_tree : V → Trees → Type 0) (value
   pub few : length values < 2 ^ 29
   pub whole : trees ≡ tree pointers held none
 
--- a pointer can't tell so many, or one of the values is refused
+-- a pointer can't tell that many, or one of the values is refused
 abbrev pub RefusesPointerList : {V : Type 0} → (V → Trees → Type 0) → (V → ErrorKind → Type 0) → List V → ErrorKind → Type 0
 RefusesPointerList has_tree refuses values kind =
     ((2 ^ 29 ≤ length values) × (kind ≡ AllocationTooLarge (min (length values) (2 ^ 32 - 1))))

@@ -36,14 +36,14 @@ pub trait Fields {
     /// One of the values has no tree, or a tree of 2^29 words or more.
     ghost refuses: { Self → ErrorKind → Type 0 };
 
-    /// How many there are, where a struct may have so many.
+    /// How many there are, where a struct may have that many.
     fn count() -> u32
         ensures { result ≡ min size (2 ^ 16) };
 
     /// How far the row reaches, as it stands or in canonical form.
     fn measure(&self, canonical: bool) -> Result<Extent>
         requires { size < 2 ^ 16 }
-        ensures answer { MatchResult result
+        ensures returned { MatchResult result
             (λ extent. HasExtent (has_trees self.now) canonical extent)
             (λ error. refuses self.now error.kind) }
         ensures found { (trees : Trees) → has_trees self.now trees →
@@ -52,7 +52,7 @@ pub trait Fields {
             IsErrAnd result (λ error. error.kind ≡ kind) };
 
     /// Writes the first pointers of the row, and what they lead to into a block of zeros of just its
-    /// words, which begins so many words after the last of the pointers.
+    /// words, which begins a given number of words after the last of the pointers.
     fn write(&self, canonical: bool, gap: u32, pointers: &mut [u8], block: &mut [u8])
         requires row { CanWriteRow (has_trees self.now) canonical (length pointers.old / 8)
             (length block.old) }

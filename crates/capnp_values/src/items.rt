@@ -17,16 +17,16 @@ pub(crate) fn measure_items<T, V: SetterInput<T>>(items: &[V], canonical: bool) 
     ensures { MeasuresRow (AreItems V.has_tree items.now)
         (RefusesItems V.has_tree V.refuses items.now) canonical result }
 {
-    let mut answer = Ok(0);
+    let mut returned = Ok(0);
     let mut left = items.len();
     'items: while left > 0 {
         left -= 1;
-        answer = measure_from(items, left, canonical, answer);
+        returned = measure_from(items, left, canonical, returned);
     }
-    answer
+    returned
 }
 
-// The same from one of them on, where those after it take so many words.
+// The same from one of them on, where those after it take a given number of words.
 fn measure_from<T, V: SetterInput<T>>(
     items: &[V],
     from: usize,
@@ -72,7 +72,7 @@ pub(crate) fn write_items<T, V: SetterInput<T>>(
     }
 }
 
-// Writes one more of them, in front of those that are written, and answers where it begins.
+// Writes one more of them, in front of those that are written, and returns where it begins.
 fn write_before<T, V: SetterInput<T>>(
     items: &[V],
     from: usize,

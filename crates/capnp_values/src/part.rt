@@ -33,7 +33,7 @@ pub(crate) fn is_null<T, V: SetterInput<T>>(value: &V, plain: u32) -> bool
 }
 
 /// Writes a value into a block of zeros of just its words, and the pointer to it, which the block
-/// follows after so many words, into a slot.
+/// follows after a given number of words, into a slot.
 pub(crate) fn put_part<T, V: SetterInput<T>>(
     value: &V,
     canonical: bool,

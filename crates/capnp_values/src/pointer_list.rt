@@ -37,7 +37,7 @@ impl<'a, T, V> PointerList<'a, T, V> {
     }
 }
 
-// The values' trees, in order. 2^29 of them and more are refused by `AllocationTooLarge`, and a value
+// The values' trees, in order. 2^29 of them and more fail with `AllocationTooLarge`, and a value
 // is refused as it stands.
 impl<'a, T, V: SetterInput<T>> SetterInput<Owned<T>> for PointerList<'a, T, V> {
     ghost use Rattle.capnp_wire.specs.Tree.{count};
@@ -68,7 +68,7 @@ impl<'a, T, V: SetterInput<T>> SetterInput<Owned<T>> for PointerList<'a, T, V> {
     }
 }
 
-// So many elements are too many for a pointer.
+// A given number of elements are too many for a pointer.
 fn too_many(count: usize) -> Error
     ensures { result.kind ≡ AllocationTooLarge (min count (2 ^ 32 - 1)) }
 {

@@ -7,8 +7,8 @@ ghost use Rattle.capnp_wire.specs.Layout.{pointer, struct_pointer, HasRoom};
 
 use capnp_frame::{Word, word};
 
-/// The pointer of this tag to what begins so many words further. Null and an empty struct stay as they
-/// are (encoding document, "Structs": an empty struct has the offset -1).
+/// The pointer of this tag to what begins a given number of words further. Null and an empty struct
+/// stay as they are (encoding document, "Structs": an empty struct has the offset -1).
 pub(crate) fn moved(tag: u64, offset: u32) -> u64
     requires near { offset < 2 ^ 29 }
     requires pointer { (form : Form) × (n : ℕ) × HasRoom form n × (tag ≡ pointer form n 0) }

@@ -11,7 +11,7 @@ ghost use Rattle.capnp_values.specs.Structs.{kept_words};
 use crate::fields::Fields;
 use capnp_frame::{Error, ErrorKind, Result};
 
-/// A pointer can tell so many data words, and so many pointers.
+/// A pointer can tell a given number of data words, and a given number of pointers.
 pub(crate) fn fits(words: &[u64], fields: u32) -> bool
     ensures { IsTrue result ↔ ((length words.now < 2 ^ 16) × (fields < 2 ^ 16)) }
 {
@@ -105,7 +105,7 @@ pub(crate) fn struct_word(words: usize, pointers: u32) -> u64
 }
 
 /// Writes data words and after them the first pointers of a row, and what these lead to into a block
-/// of zeros, which begins so many words after the last of the pointers.
+/// of zeros, which begins a given number of words after the last of the pointers.
 pub(crate) fn write_sections<F: Fields>(
     words: &[u64],
     fields: &F,

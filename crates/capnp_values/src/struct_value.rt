@@ -30,7 +30,7 @@ impl<const D: usize, F> StructValue<D, F> {
     }
 }
 
-// The data words, with the trees of the fields. 2^16 data words or fields and more are refused by
+// The data words, with the trees of the fields. 2^16 data words or fields and more fail with
 // `AllocationTooLarge`, and a field is refused as it stands.
 impl<const D: usize, F: Fields> SetterInput<Owned> for StructValue<D, F> {
     ghost use Rattle.std.specs.Prelude.{length};

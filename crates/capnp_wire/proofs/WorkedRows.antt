@@ -6,7 +6,7 @@ use Rattle.capnp_wire.specs.Tree.{null, struct, numbers, structs, Trees, none, t
 use Rattle.capnp_wire.specs.Trim.{trim}
 use Rattle.capnp_wire.specs.Object.{near, far, double_far, a_struct, some_numbers, some_structs, is_null, is_object}
 use Rattle.capnp_wire.specs.Reached.{At, nowhere, at, root}
-use Rattle.capnp_wire.specs.Faults.{Fault, no_word, no_segment, past_segment, capability, bad_pad, no_pad, not_far, too_deep, misfits, struct_outside, odd_tag}
+use Rattle.capnp_wire.specs.Faults.{Fault, no_word, no_segment, past_segment, capability, bad_landing_pad, no_landing_pad, not_far, too_deep, misfits, struct_outside, odd_tag}
 use Rattle.capnp_wire.specs.declared.layout.place.Place.{Place}
 
 abbrev at_root : List Place
@@ -25,7 +25,7 @@ hello_stands = at (is_object {start = 1} (near refl (lit< tt) (lit< tt)) refl re
 pub hello_size : total_words hello ≡ 2
 hello_size = refl
 
--- the text "hello world!" behind a far pointer
+-- the text "hello world!" after a far pointer
 abbrev pub hello_far : Trees
 hello_far = tree (numbers 2 (0x68 ∷ 0x65 ∷ 0x6c ∷ 0x6c ∷ 0x6f ∷ 0x20 ∷ 0x77 ∷ 0x6f ∷ 0x72 ∷ 0x6c ∷ 0x64 ∷ 0x21 ∷ 0 ∷ [])) none none
 
@@ -65,7 +65,7 @@ null_stands = at (is_null refl) nowhere nowhere
 pub empty_stands : At ((0xfffffffc ∷ []) ∷ []) at_root (tree (struct []) none none) 0
 empty_stands = at (is_object {start = 0} (near refl (lit< tt) (lit< tt)) refl refl (a_struct refl (lit≤ tt))) nowhere nowhere
 
--- the text "A" behind a pad, and behind two pads
+-- the text "A" after a landing pad, and after two landing pads
 abbrev pub letter : Trees
 letter = tree (numbers 2 (0x41 ∷ 0 ∷ [])) none none
 
@@ -91,14 +91,14 @@ past_end_refused = misfits {start = 2} (near refl (lit< tt) (lit< tt)) (lit< tt)
 pub capability_refused : Fault ((3 ∷ []) ∷ []) root 64 CapabilityRefused
 capability_refused = capability refl refl
 
--- a far pointer into no segment, and a pad that leads to a pad
+-- a far pointer into no segment, and a landing pad that leads to a landing pad
 pub foreign_refused : Fault ((0x700000002 ∷ []) ∷ []) root 64 (InvalidSegmentId 7)
-foreign_refused = bad_pad refl refl (no_pad (no_segment refl))
+foreign_refused = bad_landing_pad refl refl (no_landing_pad (no_segment refl))
 
-pub pad_to_pad_refused : Fault ((0x100000006 ∷ []) ∷ (6 ∷ 1 ∷ []) ∷ []) root 64 PointerOutOfBounds
-pad_to_pad_refused = bad_pad refl refl (not_far refl refl refl (λ is_far. let wide = is_far.wide in absurd (cc)))
+pub landing_pad_to_landing_pad_refused : Fault ((0x100000006 ∷ []) ∷ (6 ∷ 1 ∷ []) ∷ []) root 64 PointerOutOfBounds
+landing_pad_to_landing_pad_refused = bad_landing_pad refl refl (not_far refl refl refl (λ is_far. let wide = is_far.wide in absurd (cc)))
 
--- an object below the last level
+-- an object below the nesting limit
 pub deep_refused : Fault (hello_words ∷ []) root 0 NestingLimitExceeded
 deep_refused = too_deep (near refl (lit< tt) (lit< tt)) refl
 

@@ -2,7 +2,7 @@
 pub mod FaultLemmas
 pub mod RefusalLemmas
 pub mod LandingLemmas
-pub mod PadLemmas
+pub mod LandingPadLemmas
 pub mod NearLemmas
 pub mod NullLemmas
 pub mod NullRunLemmas

@@ -1,6 +1,6 @@
 -- Trees of objects, trimmed and narrowed.
 pub mod StandLemmas
-pub mod PieceLemmas
+pub mod ChunkLemmas
 pub mod NarrowLemmas
 pub mod TrimLemmas
 pub mod RoomLemmas

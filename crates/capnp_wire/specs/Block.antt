@@ -20,7 +20,7 @@ abbrev pub put_rows : ℕ → ℕ → List (List ℕ) → List ℕ → List ℕ
 put_rows at p [] block = block
 put_rows at p (row ∷ rows) block = put_rows (at + length row + p) p rows (put at row block)
 
--- pointers in their slots, and what they lead to, the one behind the other from a word on
+-- pointers in their slots, and what they lead to, the one after the other from a word on
 abbrev pub fill : List ℕ → ℕ → Trees → List ℕ → List ℕ
 fill slots next none block = block
 fill [] next (tree form held rest) block = block

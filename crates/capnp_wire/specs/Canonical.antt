@@ -31,12 +31,12 @@ IsCanon segment form held = (segment ≡ canon (tree form held none)) × AllReac
 -- a message is one segment, which is the canonical form of its root
 abbrev pub IsCanonical : List (List ℕ) → Type 0
 IsCanonical m =
-    (segment : List ℕ) × (m ≡ segment ∷ []) × (form : Form) × (held : Trees) × (charge : ℕ) × Root m form held charge × IsCanon segment form held
+    (segment : List ℕ) × (m ≡ segment ∷ []) × (form : Form) × (held : Trees) × (traversed : ℕ) × Root m form held traversed × IsCanon segment form held
 
 -- of a message of one segment whose root is read, the tests say whether it is canonical
 abbrev pub TestsAreExact : Type 0
 TestsAreExact =
-    (segment : List ℕ) (form : Form) (held : Trees) (charge : ℕ) → All (λ w. w < 2 ^ 64) segment → Root (segment ∷ []) form held charge
+    (segment : List ℕ) (form : Form) (held : Trees) (traversed : ℕ) → All (λ w. w < 2 ^ 64) segment → Root (segment ∷ []) form held traversed
     → (Tidy segment (record { segment = 0; word = 0 } ∷ []) 1 (tree form held none) × Trimmed (tree form held none) × (length segment ≡ 1 + total_words (tree form held none)))
     ↔ IsCanonical (segment ∷ [])
 

@@ -1,4 +1,5 @@
--- Objects that are copied, as they stand or in canonical form (src/layout/copy.rt and begun.rt, copy_rows.rt, row_pair.rt beside it).
+-- Objects that are copied, as they stand or in canonical form (src/layout/copy.rt and begun.rt, copy_rows.rt, row_pair.rt
+-- beside it).
 use Rattle.std.specs.Prelude.{◌≡◌, ◌≢◌, ℕ, ◌+◌, ◌-◌, ◌*◌, ◌/◌, ◌<◌, ◌≤◌, ◌^◌, ◌==◌, if◌then◌else◌, Bool, true, List, [], ◌∷◌, length, Some, slice_get}
 use Rattle.capnp_wire.specs.Pointer.{words_of, words_from}
 use Rattle.capnp_wire.specs.Element.{code_of}
@@ -23,12 +24,12 @@ use Rattle.capnp_wire.specs.declared.layout.object.Object.{Object}
 use Rattle.capnp_wire.specs.declared.layout.object.Body.{Body}
 use Rattle.capnp_wire.specs.declared.layout.object.Body.TheVariants.{Struct, Numbers, Pointers, Structs}
 
--- trees stand at places within a level, every field has room, and there is room for their copies from a word on
-pub record CanCopy (m : List (List ℕ)) (at : List Place) (level : ℕ) (canonical : Bool) (next room : ℕ) : Type 0 where
+-- trees stand at places within the nesting depth left, every field has room, and there is room for their copies from a word on
+pub record CanCopy (m : List (List ℕ)) (at : List Place) (nesting : ℕ) (canonical : Bool) (next room : ℕ) : Type 0 where
   pub trees : Trees
-  pub charge : ℕ
-  pub stand : At m at trees charge
-  pub shallow : depth trees ≤ level
+  pub traversed : ℕ
+  pub stand : At m at trees traversed
+  pub shallow : depth trees ≤ nesting
   pub rooms : AllHaveRoom trees
   pub fits : next + total_words (formed canonical trees) ≤ room
 
@@ -42,8 +43,8 @@ least_size words start size n = record {
 -- what an object is once it is copied
 abbrev pub formed_body : Bool → List ℕ → ℕ → Body → Body
 formed_body true words start (Struct size) = Struct (least_size words start size 1)
-formed_body true words start (Structs elements behind) =
-    Structs (record { size = least_size words (start + 1) elements.size elements.count; count = elements.count }) behind
+formed_body true words start (Structs elements following) =
+    Structs (record { size = least_size words (start + 1) elements.size elements.count; count = elements.count }) following
 formed_body canonical words start there = there
 
 -- the pointer word to it
@@ -52,14 +53,14 @@ pointer_of_body (Struct size) offset =
     struct_pointer (if size.data_words + size.pointers == 0 then minus_one else offset) size.data_words size.pointers
 pointer_of_body (Numbers size n) offset = list_pointer offset (code_of size) n
 pointer_of_body (Pointers n) offset = list_pointer offset 6 n
-pointer_of_body (Structs elements behind) offset =
+pointer_of_body (Structs elements following) offset =
     list_pointer offset 7 (elements.count * (elements.size.data_words + elements.size.pointers))
 
 -- a copy's own words but for its pointers, put into a block; pointers have to be put into it yet
 abbrev pub put_own : List ℕ → ℕ → Body → Body → ℕ → List ℕ → List ℕ
 put_own words start (Struct from) (Struct size) next block = put next (words_from words start size.data_words) block
 put_own words start (Numbers size n) copied next block = put next (own (numbers (code_of size) (numerals words start (code_of size) n)) []) block
-put_own words start (Structs from behind) (Structs elements words_behind) next block =
+put_own words start (Structs from following) (Structs elements words_after) next block =
     put_rows (next + 1) elements.size.pointers
     (rows_from words (start + 1) elements.size.data_words (from.size.data_words + from.size.pointers - elements.size.data_words) elements.count)
     (put next (struct_pointer elements.count elements.size.data_words elements.size.pointers ∷ []) block)
@@ -70,23 +71,23 @@ abbrev pub list_length : Body → ℕ
 list_length (Struct size) = 0
 list_length (Numbers size n) = n
 list_length (Pointers n) = n
-list_length (Structs elements behind) = elements.count * (elements.size.data_words + elements.size.pointers)
+list_length (Structs elements following) = elements.count * (elements.size.data_words + elements.size.pointers)
 
 -- the number of elements in the tag of a list of structs
 abbrev pub element_count : Body → ℕ
-element_count (Structs elements behind) = elements.count
+element_count (Structs elements following) = elements.count
 element_count copied = 0
 
 -- the same kind of object, with no more words in each row
 abbrev pub IsNarrower : Body → Body → Type 0
 IsNarrower (Struct from) (Struct size) = (size.data_words ≤ from.data_words) × (size.pointers ≤ from.pointers)
-IsNarrower (Structs from behind) (Structs elements words) =
+IsNarrower (Structs from following) (Structs elements words) =
     (elements.count ≡ from.count) × (elements.size.data_words ≤ from.size.data_words) × (elements.size.pointers ≤ from.size.pointers)
 IsNarrower (Numbers from n) (Numbers size count) = (size ≡ from) × (count ≡ n)
 IsNarrower (Pointers n) (Pointers count) = count ≡ n
 IsNarrower from copied = ⊥
 
--- what is copied of some trees: the body of them, from a word of a block on, the pointer to it, and the first free word behind it
+-- what is copied of some trees: the body of them, from a word of a block on, the pointer to it, and the first free word after it
 pub record IsCopied (trees : Trees) (gap next : ℕ) (old new : List ℕ) (copied : Copied) : Type 0 where
   pub words_are : new ≡ put next (body trees) old
   pub pointer_is : copied.pointer ≡ pointer_to trees gap
@@ -94,16 +95,17 @@ pub record IsCopied (trees : Trees) (gap next : ℕ) (old new : List ℕ) (copie
 
 -- what the pointer at a place leads to is copied
 pub record Copies (m : List (List ℕ)) (place : Place) (canonical : Bool) (gap next : ℕ) (old new : List ℕ) (copied : Copied) : Type 0 where
-  pub is : (trees : Trees) (charge : ℕ) → At m (place ∷ []) trees charge → IsCopied (formed canonical trees) gap next old new copied
+  pub is : (trees : Trees) (traversed : ℕ) → At m (place ∷ []) trees traversed → IsCopied (formed canonical trees) gap next old new copied
 
--- what some pointers lead to is copied, from a word of a block up to the first free one, and the pointers to that stand in these slots
+-- what some pointers lead to is copied, from a word of a block up to the first free one, and the pointers to that stand in
+-- these slots
 pub record CopiesAll (m : List (List ℕ)) (at : List Place) (canonical : Bool) (slots : List ℕ) (next : ℕ) (old new : List ℕ) (free : ℕ) : Type 0 where
-  pub words_are : (trees : Trees) (charge : ℕ) → At m at trees charge → new ≡ fill slots next (formed canonical trees) old
-  pub next_is : (trees : Trees) (charge : ℕ) → At m at trees charge → free ≡ next + total_words (formed canonical trees)
+  pub words_are : (trees : Trees) (traversed : ℕ) → At m at trees traversed → new ≡ fill slots next (formed canonical trees) old
+  pub next_is : (trees : Trees) (traversed : ℕ) → At m at trees traversed → free ≡ next + total_words (formed canonical trees)
 
--- what pointers of a segment lead to can be copied from a word on, behind the slots of their copies
-pub record CanCopyRows (m : List (List ℕ)) (words : List ℕ) (rows : RowPair) (level : ℕ) (canonical : Bool) (next room : ℕ) : Type 0 where
-  pub there : CanCopy m (places_in rows.from) level canonical next room
+-- what pointers of a segment lead to can be copied from a word on, after the slots of their copies
+pub record CanCopyRows (m : List (List ℕ)) (words : List ℕ) (rows : RowPair) (nesting : ℕ) (canonical : Bool) (next room : ℕ) : Type 0 where
+  pub there : CanCopy m (places_in rows.from) nesting canonical next room
   pub content : places_in rows.from ≢ [] → slice_get m rows.from.next.segment ≡ Some words
   pub as_many : length (places_in rows.from) ≡ length (places_in rows.to)
   pub before : end_of rows.to ≤ next
@@ -111,8 +113,8 @@ pub record CanCopyRows (m : List (List ℕ)) (words : List ℕ) (rows : RowPair)
 -- Rows are those of pointers at some places of a segment and of some slots, which end before a word: what these lead to can
 -- be copied by the rows, and is copied so.
 pub record ArePaired (rows : RowPair) (at : List Place) (segment : ℕ) (slots : List ℕ) (end : ℕ) : Type 0 where
-  pub can : (m : List (List ℕ)) (words : List ℕ) (level : ℕ) (canonical : Bool) (next room : ℕ) → CanCopy m at level canonical next room
-      → (at ≢ [] → slice_get m segment ≡ Some words) → end ≤ next → CanCopyRows m words rows level canonical next room
+  pub can : (m : List (List ℕ)) (words : List ℕ) (nesting : ℕ) (canonical : Bool) (next room : ℕ) → CanCopy m at nesting canonical next room
+      → (at ≢ [] → slice_get m segment ≡ Some words) → end ≤ next → CanCopyRows m words rows nesting canonical next room
   pub copied : (m : List (List ℕ)) (canonical : Bool) (next : ℕ) (old new : List ℕ) (free : ℕ)
       → CopiesAll m (places_in rows.from) canonical (slots_in rows.to) next old new free → CopiesAll m at canonical slots next old new free
 
@@ -130,35 +132,35 @@ pub record TakesPair (old new : RowPair) (place : Place) (slot : ℕ) : Type 0 w
 pub record IsCopyable (object : Object) (canonical : Bool) (next room : ℕ) : Type 0 where
   pub m : List (List ℕ)
   pub place : Place
-  pub level : ℕ
-  pub can : CanCopy m (place ∷ []) level canonical next room
+  pub nesting : ℕ
+  pub can : CanCopy m (place ∷ []) nesting canonical next room
   pub is : IsObject m place object
 
 -- A copy is begun: what the object's own pointers lead to can be copied yet, and then the copy is one.
-pub record Begins (m : List (List ℕ)) (place : Place) (at : List Place) (slots : List ℕ) (level : ℕ) (canonical : Bool) (gap next behind : ℕ)
+pub record Begins (m : List (List ℕ)) (place : Place) (at : List Place) (slots : List ℕ) (nesting : ℕ) (canonical : Bool) (gap next following : ℕ)
     (old mid : List ℕ) (pointer : ℕ) : Type 0 where
-  pub there : CanCopy m at (level - 1) canonical behind (length mid)
-  pub ends : (new : List ℕ) (free : ℕ) → CopiesAll m at canonical slots behind mid new free
+  pub there : CanCopy m at (nesting - 1) canonical following (length mid)
+  pub ends : (new : List ℕ) (free : ℕ) → CopiesAll m at canonical slots following mid new free
       → Copies m place canonical gap next old new (record { pointer = pointer; next = free })
 
 -- The copy of an object is begun, and its pointers are left.
-pub record BeginsObject (m : List (List ℕ)) (place : Place) (level : ℕ) (canonical : Bool) (gap next : ℕ) (old mid : List ℕ) (begun : BegunCopy) : Type 0 where
-  pub begins : Begins m place (kept_in begun.object.start begun.object.body (row_size begun.body).pointers) (slots_of next begun.body) level canonical gap next
+pub record BeginsObject (m : List (List ℕ)) (place : Place) (nesting : ℕ) (canonical : Bool) (gap next : ℕ) (old mid : List ℕ) (begun : BegunCopy) : Type 0 where
+  pub begins : Begins m place (kept_in begun.object.start begun.object.body (row_size begun.body).pointers) (slots_of next begun.body) nesting canonical gap next
       (next + words_in begun.body) old mid begun.pointer
   pub content : slice_get m begun.object.start.segment ≡ Some (words_of begun.object.segment.now)
   pub narrower : IsNarrower begun.object.body begun.body
   pub room : begun.object.start.word + room_of begun.object.body ≤ length begun.object.segment.now / 8
   pub elements : words_in begun.object.body ≤ room_of begun.object.body
-  pub deep : 0 < level
+  pub deep : 0 < nesting
 
--- The copy of a struct is begun whose pointers stand one behind the other, as their copies do.
-pub record BeginsRun (m : List (List ℕ)) (place : Place) (words : List ℕ) (level : ℕ) (canonical : Bool) (gap next : ℕ) (old mid : List ℕ) (left : LeftRun) : Type 0 where
-  pub begins : Begins m place (places left.first.segment left.first.word left.count) (run left.slot left.count) level canonical gap next left.next old mid left.pointer
+-- The copy of a struct is begun whose pointers stand one after the other, as their copies do.
+pub record BeginsRun (m : List (List ℕ)) (place : Place) (words : List ℕ) (nesting : ℕ) (canonical : Bool) (gap next : ℕ) (old mid : List ℕ) (left : LeftRun) : Type 0 where
+  pub begins : Begins m place (places left.first.segment left.first.word left.count) (run left.slot left.count) nesting canonical gap next left.next old mid left.pointer
   pub content : slice_get m left.first.segment ≡ Some words
   pub bound : left.first.word + left.count < 2 ^ 61
   pub before : left.slot + left.count ≤ left.next
 
 -- a struct is copied, or its copy is begun
 abbrev pub BeginsStruct : List (List ℕ) → Place → List ℕ → ℕ → Bool → ℕ → ℕ → List ℕ → List ℕ → StructCopy → Type 0
-BeginsStruct m place words level canonical gap next old new (Whole copied) = Copies m place canonical gap next old new copied
-BeginsStruct m place words level canonical gap next old new (Begun left) = BeginsRun m place words level canonical gap next old new left
+BeginsStruct m place words nesting canonical gap next old new (Whole copied) = Copies m place canonical gap next old new copied
+BeginsStruct m place words nesting canonical gap next old new (Begun left) = BeginsRun m place words nesting canonical gap next old new left

@@ -4,7 +4,7 @@ use Rattle.capnp_frame.specs.declared.error.ErrorKind.{ErrorKind}
 use Rattle.capnp_frame.specs.declared.error.ErrorKind.TheVariants.{PointerOutOfBounds, CapabilityRefused}
 use Rattle.capnp_wire.specs.Pointer.{words_of, pointer_kind}
 use Rattle.capnp_wire.specs.Element.{code_of, width, words_for}
-use Rattle.capnp_wire.specs.Object.{word_at, pad, pad_tag, IsFar, IsStart, Lands, Target, PointsTo, Shape, struct_shape, numbers_shape, pointers_shape, structs_shape}
+use Rattle.capnp_wire.specs.Object.{word_at, landing_pad, landing_pad_tag, IsFar, IsStart, Lands, Target, PointsTo, Shape, struct_shape, numbers_shape, pointers_shape, structs_shape}
 use Rattle.capnp_wire.specs.PointerWord.{IsNearShape}
 use Rattle.capnp_wire.specs.Layout.{HasRoom}
 use Rattle.capnp_wire.specs.declared.layout.place.Place.{Place}
@@ -13,13 +13,13 @@ use Rattle.capnp_wire.specs.declared.layout.object.Body.TheVariants.{Struct, Num
 use Rattle.capnp_wire.specs.declared.layout.landing.Landing.{Landing as ReadLanding}
 use Rattle.capnp_wire.specs.declared.layout.object.Object.{Object as ReadObject}
 
--- a far pointer has a pad of these two words
-pub record HasWidePad (m : List (List ℕ)) (word first tag : ℕ) : Type 0 where
+-- a far pointer has a landing pad of these two words
+pub record HasWideLandingPad (m : List (List ℕ)) (word first tag : ℕ) : Type 0 where
   pub wide : IsFar word 1
-  pub first_there : word_at m (pad word) ≡ Some first
-  pub tag_there : word_at m (pad_tag word) ≡ Some tag
+  pub first_there : word_at m (landing_pad word) ≡ Some first
+  pub tag_there : word_at m (landing_pad_tag word) ≡ Some tag
 
--- a pointer leads there, by way of its pads
+-- a pointer leads there, by way of its landing pads
 pub record IsLanding (m : List (List ℕ)) (place : Place) (read : ReadLanding) : Type 0 where
   pub landing : Target
   pub lands : Lands m place landing
@@ -28,8 +28,8 @@ pub record IsLanding (m : List (List ℕ)) (place : Place) (read : ReadLanding) 
   pub shape : IsNearShape landing.tag read.shape
   pub start : MatchOption read.start ((start : ℕ) → IsStart landing.origin landing.tag start → ⊥)
       (λ start. IsStart landing.origin landing.tag start)
-  pub pads : landing.pads ≡ read.pads
-  pub few_pads : landing.pads ≤ 2
+  pub landing_pads : landing.landing_pads ≡ read.landing_pads
+  pub few_landing_pads : landing.landing_pads ≤ 2
   pub small : landing.tag < 2 ^ 64
 
 -- the object that stands at a place
@@ -37,41 +37,41 @@ abbrev pub shape_of : List ℕ → Place → Body → Shape
 shape_of words start (Struct size) = struct_shape words start size.data_words size.pointers
 shape_of words start (Numbers elements count) = numbers_shape words start (code_of elements) count
 shape_of words start (Pointers count) = pointers_shape start count
-shape_of words start (Structs elements behind) =
-    structs_shape words start elements.size.data_words elements.size.pointers elements.count behind
+shape_of words start (Structs elements following) =
+    structs_shape words start elements.size.data_words elements.size.pointers elements.count following
 
 -- the words that it takes up, and those of them that its elements need
 abbrev pub room_of : Body → ℕ
 room_of (Struct size) = size.data_words + size.pointers
 room_of (Numbers elements count) = words_for count (width (code_of elements))
 room_of (Pointers count) = count
-room_of (Structs elements behind) = 1 + behind
+room_of (Structs elements following) = 1 + following
 
 abbrev pub words_in : Body → ℕ
 words_in (Struct size) = size.data_words + size.pointers
 words_in (Numbers elements count) = words_for count (width (code_of elements))
 words_in (Pointers count) = count
-words_in (Structs elements behind) = 1 + elements.count * (elements.size.data_words + elements.size.pointers)
+words_in (Structs elements following) = 1 + elements.count * (elements.size.data_words + elements.size.pointers)
 
--- what it is charged, without pads
-abbrev pub charge_of : Body → ℕ
-charge_of (Struct size) = size.data_words + size.pointers
-charge_of (Numbers elements count) = if code_of elements == 0 then count else words_for count (width (code_of elements))
-charge_of (Pointers count) = count
-charge_of (Structs elements behind) =
-    1 + behind + (if elements.size.data_words + elements.size.pointers == 0 then elements.count else 0)
+-- what it counts against the traversal limit, without landing pads
+abbrev pub traversed_of : Body → ℕ
+traversed_of (Struct size) = size.data_words + size.pointers
+traversed_of (Numbers elements count) = if code_of elements == 0 then count else words_for count (width (code_of elements))
+traversed_of (Pointers count) = count
+traversed_of (Structs elements following) =
+    1 + following + (if elements.size.data_words + elements.size.pointers == 0 then elements.count else 0)
 
 -- the object to which the pointer at a place leads
 pub record IsObject (m : List (List ℕ)) (place : Place) (read : ReadObject) : Type 0 where
   pub content : slice_get m read.start.segment ≡ Some (words_of read.segment.now)
-  pub object : PointsTo m place (record (shape_of (words_of read.segment.now) read.start read.body) { charge = read.charge })
+  pub object : PointsTo m place (record (shape_of (words_of read.segment.now) read.start read.body) { traversed = read.traversed })
   pub landing : Target
   pub lands : Lands m place landing
   pub number : landing.segment ≡ read.start.segment
   pub begins : IsStart landing.origin landing.tag read.start.word
   pub room : read.start.word + room_of read.body ≤ length read.segment.now / 8
   pub elements : words_in read.body ≤ room_of read.body
-  pub charge : charge_of read.body ≤ read.charge
+  pub traversed : traversed_of read.body ≤ read.traversed
   pub has_room : let shape = shape_of (words_of read.segment.now) read.start read.body in HasRoom shape.form (length shape.held)
 
 -- a word is no struct or list pointer, and how that is refused

@@ -13,7 +13,7 @@ struct_pointer offset d p = 4 * offset + 2 ^ 32 * d + 2 ^ 48 * p
 abbrev pub list_pointer : ℕ → ℕ → ℕ → ℕ
 list_pointer offset code count = 1 + 4 * offset + 2 ^ 32 * code + 2 ^ 35 * count
 
--- the far pointer to a pad of one word
+-- the far pointer to a landing pad of one word
 abbrev pub far_pointer : ℕ → ℕ → ℕ
 far_pointer segment position = 2 + 8 * position + 2 ^ 32 * segment
 
@@ -51,7 +51,7 @@ pointers_to [] next (tree form held rest) = []
 pointers_to (slot ∷ slots) next (tree form held rest) =
     pointer form (count held) (next - (slot + 1)) ∷ pointers_to slots (next + own_words form (count held) + total_words held) rest
 
--- rows of data, each with its p pointers behind it
+-- rows of data, each with its p pointers after it
 abbrev pub woven : ℕ → List (List ℕ) → List ℕ → List ℕ
 woven p [] links = []
 woven p (row ∷ rows) links = row ++ take p links ++ woven p rows (drop p links)
@@ -70,7 +70,7 @@ body none = []
 body (tree form held rest) =
     own form (pointers_to (slots form (count held)) (own_words form (count held)) held) ++ body held ++ body rest
 
--- the pointer to a tree's body, where that begins so many words behind it
+-- the pointer to a tree's body, where that begins a given number of words after it
 abbrev pub pointer_to : Trees → ℕ → ℕ
 pointer_to none offset = 0
 pointer_to (tree form held rest) offset = pointer form (count held) offset

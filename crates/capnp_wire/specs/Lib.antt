@@ -7,7 +7,7 @@ pub mod PointerWord
 pub mod Landing
 pub mod Near
 pub mod Reached
-pub mod Charge
+pub mod Traversed
 pub mod Faults
 pub mod Views
 pub mod Readers

@@ -2,7 +2,7 @@
 use Rattle.std.specs.Prelude.{◌≡◌, ℕ, ◌+◌, List, length}
 use Rattle.capnp_wire.specs.Pointer.{words_from}
 use Rattle.capnp_wire.specs.Trim.{cut_zeros}
-use Rattle.capnp_wire.specs.Landing.{charge_of}
+use Rattle.capnp_wire.specs.Landing.{traversed_of}
 use Rattle.capnp_wire.specs.declared.layout.number_list.NumberList.{NumberList}
 use Rattle.capnp_wire.specs.declared.layout.near.NearStruct.{NearStruct}
 use Rattle.capnp_wire.specs.declared.layout.object.Body.TheVariants.{Struct, Numbers}
@@ -13,18 +13,18 @@ object_of list = record {
   segment = list.segment;
   start = list.start;
   body = Numbers list.size list.count;
-  charge = charge_of (Numbers list.size list.count);
+  traversed = traversed_of (Numbers list.size list.count);
 }
 
 -- and a struct as an object
-abbrev pub struct_of : NearStruct → Object
-struct_of found = record {
+abbrev pub near_struct_of : NearStruct → Object
+near_struct_of found = record {
   segment = found.segment;
   start = found.start;
   body = Struct found.size;
-  charge = found.size.data_words + found.size.pointers;
+  traversed = found.size.data_words + found.size.pointers;
 }
 
--- so many pointers are null, from a word on
+-- a given number of pointers are null, from a word on
 abbrev pub AreNull : List ℕ → ℕ → ℕ → Type 0
 AreNull words start n = length (cut_zeros (words_from words start n)) ≡ 0

@@ -43,12 +43,12 @@ code word = word / 2 ^ 32 % 8
 abbrev pub list_count : ℕ → ℕ
 list_count word = word / 2 ^ 35
 
--- of a far pointer: 1 where its pad has two words, and where the pad is
-abbrev pub has_wide_pad : ℕ → ℕ
-has_wide_pad word = word / 4 % 2
+-- of a far pointer: 1 where its landing pad has two words, and where the landing pad is
+abbrev pub has_wide_landing_pad : ℕ → ℕ
+has_wide_landing_pad word = word / 4 % 2
 
-abbrev pub pad_position : ℕ → ℕ
-pad_position word = word / 8 % 2 ^ 29
+abbrev pub landing_pad_position : ℕ → ℕ
+landing_pad_position word = word / 8 % 2 ^ 29
 
-abbrev pub pad_segment : ℕ → ℕ
-pad_segment word = word / 2 ^ 32
+abbrev pub landing_pad_segment : ℕ → ℕ
+landing_pad_segment word = word / 2 ^ 32

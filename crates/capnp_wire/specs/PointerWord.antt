@@ -1,8 +1,8 @@
 -- What is read of a pointer word (src/layout/pointer.rt).
 use Rattle.std.specs.Prelude.{◌≡◌, ℕ, ◌<◌, ◌^◌, if◌then◌else◌}
-use Rattle.capnp_wire.specs.Pointer.{pointer_kind, offset, data_words, pointer_words, code, list_count, has_wide_pad}
+use Rattle.capnp_wire.specs.Pointer.{pointer_kind, offset, data_words, pointer_words, code, list_count, has_wide_landing_pad}
 use Rattle.capnp_wire.specs.Element.{code_of}
-use Rattle.capnp_wire.specs.Object.{pad}
+use Rattle.capnp_wire.specs.Object.{landing_pad}
 use Rattle.capnp_wire.specs.declared.layout.pointer.Elements.{Elements}
 use Rattle.capnp_wire.specs.declared.layout.pointer.FarPointer.{FarPointer}
 use Rattle.capnp_wire.specs.declared.layout.pointer.NearPointer.{NearPointer}
@@ -34,8 +34,8 @@ pub record IsNear (word : ℕ) (near : NearPointer) : Type 0 where
 
 pub record IsFarPointer (word : ℕ) (far : FarPointer) : Type 0 where
   pub far_kind : pointer_kind word ≡ 2
-  pub pad_is : far.pad ≡ pad word
-  pub width : has_wide_pad word ≡ (if far.is_wide then 1 else 0)
+  pub landing_pad_is : far.landing_pad ≡ landing_pad word
+  pub width : has_wide_landing_pad word ≡ (if far.is_wide then 1 else 0)
 
 abbrev pub IsPointerWord : ℕ → PointerWord → Type 0
 IsPointerWord word (Near near) = IsNear word near

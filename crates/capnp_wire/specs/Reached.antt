@@ -4,19 +4,19 @@ use Rattle.capnp_wire.specs.Tree.{Form, Trees, none, tree}
 use Rattle.capnp_wire.specs.Object.{Shape, PointsTo}
 use Rattle.capnp_wire.specs.declared.layout.place.Place.{Place}
 
--- the trees at places, and what all their objects are charged, each as often as it is joined
+-- the trees at places, and what all their objects count against the traversal limit, each as often as it is joined
 pub data At (m : List (List ℕ)) : List Place → Trees → ℕ → Type 0 where
   nowhere : At m [] none 0
-  at : {place : Place} {others : List Place} {shape : Shape} {held rest : Trees} {inside behind : ℕ} → PointsTo m place shape
-      → At m shape.held held inside → At m others rest behind
-      → At m (place ∷ others) (tree shape.form held rest) (shape.charge + inside + behind)
+  at : {place : Place} {others : List Place} {shape : Shape} {held rest : Trees} {inside following : ℕ} → PointsTo m place shape
+      → At m shape.held held inside → At m others rest following
+      → At m (place ∷ others) (tree shape.form held rest) (shape.traversed + inside + following)
 
 abbrev pub root : Place
 root = record { segment = 0; word = 0 }
 
 -- the tree at the first word of the first segment
 abbrev pub Root : List (List ℕ) → Form → Trees → ℕ → Type 0
-Root m form held charge = At m (root ∷ []) (tree form held none) charge
+Root m form held traversed = At m (root ∷ []) (tree form held none) traversed
 
 -- a place is one of some places
 pub data IsIn (place : Place) : List Place → Type 0 where

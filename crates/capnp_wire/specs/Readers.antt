@@ -7,7 +7,7 @@ use Rattle.capnp_wire.specs.Pointer.{words_of, words_from}
 use Rattle.capnp_wire.specs.Tree.{Form}
 use Rattle.capnp_wire.specs.Object.{message_of, places}
 use Rattle.capnp_wire.specs.Reached.{root}
-use Rattle.capnp_wire.specs.Charge.{Within}
+use Rattle.capnp_wire.specs.Traversed.{Within}
 use Rattle.capnp_wire.specs.Landing.{IsObject, shape_of}
 use Rattle.capnp_wire.specs.Views.{Pointer, Struct}
 use Rattle.capnp_wire.specs.declared.layout.place.Place.{Place}
@@ -17,9 +17,9 @@ use Rattle.capnp_wire.specs.declared.read_limiter.ReadLimiter.{ReadLimiter}
 use Rattle.capnp_wire.specs.declared.any_struct.reader.StructReader.{StructReader}
 
 -- a limit below 0 counts as 0
-abbrev pub level_of : ℤ → ℕ
-level_of (pos level) = level
-level_of (negsuc n) = 0
+abbrev pub nesting_of : ℤ → ℕ
+nesting_of (pos nesting) = nesting
+nesting_of (negsuc n) = 0
 
 -- the most words that may be read; readers of a builder have no limiter
 abbrev pub limit_of : Option (Bor ReadLimiter) → Option ℕ
@@ -31,7 +31,7 @@ abbrev pub pointer_of : {S : Type 0} → (S → List (List ℕ)) → Reader S �
 pointer_of segments reader = record {
   message = message_of (segments reader.segments.now);
   place = reader.place;
-  level = reader.level;
+  nesting = reader.nesting;
   limit = limit_of reader.limiter;
 }
 
@@ -42,11 +42,11 @@ root_place (segment ∷ segments) = Some root
 
 -- the root of segments that are read without limits, as those of a message that is built
 abbrev pub unlimited_root : List (List ℕ) → Pointer
-unlimited_root segments = record { message = message_of segments; place = root_place segments; level = 2 ^ 31 - 1; limit = None }
+unlimited_root segments = record { message = message_of segments; place = root_place segments; nesting = 2 ^ 31 - 1; limit = None }
 
 -- the root of segments that are read by the default options
 abbrev pub default_root : List (List ℕ) → Pointer
-default_root segments = record { message = message_of segments; place = Some root; level = 64; limit = default_limit }
+default_root segments = record { message = message_of segments; place = Some root; nesting = 64; limit = default_limit }
 
 -- the struct of a reader
 abbrev pub struct_of : {S : Type 0} {ghosts : Ghosts S} → (S → List (List ℕ)) → StructReader S ghosts → Struct
@@ -54,17 +54,17 @@ struct_of segments reader = record {
   message = message_of (segments reader.segments.now);
   words = words_from (words_of reader.segment.now) reader.start.word reader.size.data_words;
   held = places reader.start.segment (reader.start.word + reader.size.data_words) reader.size.pointers;
-  level = reader.level;
+  nesting = reader.nesting;
   limit = limit_of reader.limiter;
 }
 
--- an object that the pointer leads to, whose charge is within the limit
+-- an object that the pointer leads to, whose words counted are within the limit
 pub record IsEntered (pointer : Pointer) (object : ReadObject) : Type 0 where
   pub place : Place
   pub stands : pointer.place ≡ Some place
   pub object_is : IsObject pointer.message place object
-  pub level : 0 < pointer.level
-  pub within : Within pointer.limit object.charge
+  pub nesting : 0 < pointer.nesting
+  pub within : Within pointer.limit object.traversed
 
 -- what it is
 abbrev pub form_of : ReadObject → Form

@@ -1,4 +1,4 @@
--- The pointers of an object, in rows: so many in each, behind the data of the row (src/layout/rows.rt).
+-- The pointers of an object, in rows: a given number in each, after the data of the row (src/layout/rows.rt).
 use Rattle.std.specs.Prelude.{◌≡◌, ℕ, zero, suc, ◌+◌, ◌*◌, List, [], ◌∷◌, ◌++◌}
 use Rattle.capnp_wire.specs.Object.{places, row_places}
 use Rattle.capnp_wire.specs.Layout.{run}
@@ -13,19 +13,19 @@ abbrev pub row_size : Body → RowSize
 row_size (Struct size) = record { data_words = size.data_words; pointers = size.pointers }
 row_size (Numbers size n) = record { data_words = 0; pointers = 0 }
 row_size (Pointers n) = record { data_words = 0; pointers = n }
-row_size (Structs elements behind) = record { data_words = elements.size.data_words; pointers = elements.size.pointers }
+row_size (Structs elements following) = record { data_words = elements.size.data_words; pointers = elements.size.pointers }
 
 abbrev pub row_count : Body → ℕ
 row_count (Struct size) = 1
 row_count (Numbers size n) = 0
 row_count (Pointers n) = 1
-row_count (Structs elements behind) = elements.count
+row_count (Structs elements following) = elements.count
 
 abbrev pub first_row : Body → ℕ → ℕ
 first_row (Struct size) start = start
 first_row (Numbers size n) start = start
 first_row (Pointers n) start = start
-first_row (Structs elements behind) start = start + 1
+first_row (Structs elements following) start = start + 1
 
 -- the places of the first q of p pointers in each of n rows
 abbrev pub kept_places : ℕ → ℕ → ℕ → ℕ → ℕ → ℕ → List Place
@@ -46,7 +46,7 @@ kept_in start body q =
 abbrev pub slots_of : ℕ → Body → List ℕ
 slots_of start body = row_slots (first_row body start) (row_size body).data_words (row_size body).pointers (row_count body)
 
--- the places of the pointers that are left, their words, and the word behind the last one
+-- the places of the pointers that are left, their words, and the word after the last one
 abbrev pub places_in : PointerRows → List Place
 places_in rows =
     places rows.next.segment rows.next.word rows.here

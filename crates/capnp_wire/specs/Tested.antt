@@ -7,7 +7,7 @@ use Rattle.capnp_wire.specs.Element.{code_of}
 use Rattle.capnp_wire.specs.Tree.{Form, is_null, null, struct, numbers, structs, Trees, depth, own_words, total_words}
 use Rattle.capnp_wire.specs.Object.{word_at, elements, Shape, PointsTo}
 use Rattle.capnp_wire.specs.Reached.{At, root}
-use Rattle.capnp_wire.specs.Charge.{Within, less}
+use Rattle.capnp_wire.specs.Traversed.{Within, less}
 use Rattle.capnp_wire.specs.Faults.{Fault}
 use Rattle.capnp_wire.specs.Layout.{minus_one, Trimmed}
 use Rattle.capnp_wire.specs.Canonical.{EndsFull, Padded, Tidy}
@@ -36,12 +36,12 @@ IsNext pointer word next (struct words) n =
 IsNext pointer word next (structs d p rows) n = LeadsTo pointer word next × (list_count pointer ≡ length rows * (d + p))
 IsNext pointer word next form n = LeadsTo pointer word next
 
--- the same of an object as it is read
+-- the object that is read stands next: its pointer leads to the next free word
 abbrev pub NextOf : ℕ → ℕ → ℕ → Body → Type 0
 NextOf pointer word next (Struct size) =
     (size.data_words + size.pointers ≡ 0 → offset pointer ≡ minus_one)
     × (0 < size.data_words + size.pointers → LeadsTo pointer word next)
-NextOf pointer word next (Structs elements behind) =
+NextOf pointer word next (Structs elements following) =
     LeadsTo pointer word next × (list_count pointer ≡ elements.count * (elements.size.data_words + elements.size.pointers))
 NextOf pointer word next body = LeadsTo pointer word next
 
@@ -79,31 +79,31 @@ pub record IsLaidOut (segment : List ℕ) (place : Place) (next : ℕ) (shape : 
   pub padded : Padded segment next shape.form
   pub tight : IsTight shape.form (links_at segment shape.held)
 
--- Trees that stand at places within a level, with a charge, all as the canonical form has them, the first at
--- the next free word, up to the one after them.
-pub record Passes (segment : List ℕ) (places : List Place) (level charge next after : ℕ) : Type 0 where
+-- Trees that stand at places within the nesting depth left, with the words traversed, all as the canonical form has them, the
+-- first at the next free word, up to the one after them.
+pub record Passes (segment : List ℕ) (places : List Place) (nesting traversed next after : ℕ) : Type 0 where
   pub trees : Trees
-  pub stand : At (segment ∷ []) places trees charge
-  pub shallow : depth trees ≤ level
+  pub stand : At (segment ∷ []) places trees traversed
+  pub shallow : depth trees ≤ nesting
   pub tidy : Tidy segment places next trees
   pub trimmed : Trimmed trees
   pub after_is : after ≡ next + total_words trees
   pub room : after ≤ length segment
 
 -- An object is met that may be entered, and that no far pointer leads to.
-pub record MeetsObject (segment : List ℕ) (place : Place) (level : ℕ) (limit : Option ℕ) (shape : Shape) : Type 0 where
+pub record MeetsObject (segment : List ℕ) (place : Place) (nesting : ℕ) (limit : Option ℕ) (shape : Shape) : Type 0 where
   pub object : PointsTo (segment ∷ []) place shape
   pub some : is_null shape.form ≡ false
   pub not_far : IsFarAt segment place → ⊥
-  pub deep : 0 < level
-  pub within : Within limit shape.charge
+  pub deep : 0 < nesting
+  pub within : Within limit shape.traversed
 
--- What a walk over the trees at some places finds that passes there: trees within the level and the limit.
-pub record PassesAt (segment : List ℕ) (places : List Place) (level : ℕ) (limit left : Option ℕ) (next after : ℕ) : Type 0 where
-  pub charge : ℕ
-  pub passes : Passes segment places level charge next after
-  pub within : Within limit charge
-  pub left_is : left ≡ less limit charge
+-- What a walk over the trees at some places finds that passes there: trees within the nesting depth left and the limit.
+pub record PassesAt (segment : List ℕ) (places : List Place) (nesting : ℕ) (limit left : Option ℕ) (next after : ℕ) : Type 0 where
+  pub traversed : ℕ
+  pub passes : Passes segment places nesting traversed next after
+  pub within : Within limit traversed
+  pub left_is : left ≡ less limit traversed
 
 -- where a walk ends early: it is refused, or what it met is not canonical
 pub data Ending : Type 0 where
@@ -112,49 +112,49 @@ pub data Ending : Type 0 where
 
 -- A walk over the trees at places, in preorder, ends early: at what it meets first.
 pub data Ends (segment : List ℕ) : List Place → ℕ → Option ℕ → ℕ → Ending → Type 0 where
-  far : {place : Place} {others : List Place} {level : ℕ} {limit : Option ℕ} {next : ℕ} → IsFarAt segment place
-      → Ends segment (place ∷ others) level limit next not_canonical
-  at_pointer : {place : Place} {others : List Place} {level : ℕ} {limit : Option ℕ} {next : ℕ} {kind : ErrorKind}
-      → (IsFarAt segment place → ⊥) → Fault (segment ∷ []) place level kind
-      → Ends segment (place ∷ others) level limit next (refused kind)
-  over_limit : {place : Place} {others : List Place} {level most next : ℕ} {shape : Shape}
-      → (IsFarAt segment place → ⊥) → PointsTo (segment ∷ []) place shape → 0 < level → most < shape.charge
-      → Ends segment (place ∷ others) level (Some most) next (refused ReadLimitExceeded)
-  elsewhere : {place : Place} {others : List Place} {level : ℕ} {limit : Option ℕ} {next : ℕ} {shape : Shape}
-      → MeetsObject segment place level limit shape → (IsLaidOut segment place next shape → ⊥)
-      → Ends segment (place ∷ others) level limit next not_canonical
-  inside : {place : Place} {others : List Place} {level : ℕ} {limit : Option ℕ} {next : ℕ} {shape : Shape} {ending : Ending}
-      → MeetsObject segment place level limit shape → IsLaidOut segment place next shape
-      → Ends segment shape.held (level - 1) (less limit shape.charge) (next + own_words shape.form (length shape.held)) ending
-      → Ends segment (place ∷ others) level limit next ending
-  later : {place : Place} {others : List Place} {level : ℕ} {limit : Option ℕ} {next charge after : ℕ} {ending : Ending}
-      → Passes segment (place ∷ []) level charge next after → Within limit charge
-      → Ends segment others level (less limit charge) after ending
-      → Ends segment (place ∷ others) level limit next ending
+  far : {place : Place} {others : List Place} {nesting : ℕ} {limit : Option ℕ} {next : ℕ} → IsFarAt segment place
+      → Ends segment (place ∷ others) nesting limit next not_canonical
+  at_pointer : {place : Place} {others : List Place} {nesting : ℕ} {limit : Option ℕ} {next : ℕ} {kind : ErrorKind}
+      → (IsFarAt segment place → ⊥) → Fault (segment ∷ []) place nesting kind
+      → Ends segment (place ∷ others) nesting limit next (refused kind)
+  over_limit : {place : Place} {others : List Place} {nesting most next : ℕ} {shape : Shape}
+      → (IsFarAt segment place → ⊥) → PointsTo (segment ∷ []) place shape → 0 < nesting → most < shape.traversed
+      → Ends segment (place ∷ others) nesting (Some most) next (refused ReadLimitExceeded)
+  elsewhere : {place : Place} {others : List Place} {nesting : ℕ} {limit : Option ℕ} {next : ℕ} {shape : Shape}
+      → MeetsObject segment place nesting limit shape → (IsLaidOut segment place next shape → ⊥)
+      → Ends segment (place ∷ others) nesting limit next not_canonical
+  inside : {place : Place} {others : List Place} {nesting : ℕ} {limit : Option ℕ} {next : ℕ} {shape : Shape} {ending : Ending}
+      → MeetsObject segment place nesting limit shape → IsLaidOut segment place next shape
+      → Ends segment shape.held (nesting - 1) (less limit shape.traversed) (next + own_words shape.form (length shape.held)) ending
+      → Ends segment (place ∷ others) nesting limit next ending
+  later : {place : Place} {others : List Place} {nesting : ℕ} {limit : Option ℕ} {next traversed after : ℕ} {ending : Ending}
+      → Passes segment (place ∷ []) nesting traversed next after → Within limit traversed
+      → Ends segment others nesting (less limit traversed) after ending
+      → Ends segment (place ∷ others) nesting limit next ending
 
 -- An object is met that stands as the canonical form has it; these of its pointers are to be tested yet.
-pub record MeetsPointers (segment : List ℕ) (place : Place) (level : ℕ) (limit left : Option ℕ) (next after : ℕ) (pointers : PointerRows) : Type 0 where
+pub record MeetsPointers (segment : List ℕ) (place : Place) (nesting : ℕ) (limit left : Option ℕ) (next after : ℕ) (pointers : PointerRows) : Type 0 where
   pub shape : Shape
-  pub meets : MeetsObject segment place level limit shape
+  pub meets : MeetsObject segment place nesting limit shape
   pub laid_out : IsLaidOut segment place next shape
   pub all : places_in pointers ≡ shape.held
   pub first : pointers.next.segment ≡ 0
   pub before : end_of pointers ≤ after
-  pub left_is : left ≡ less limit shape.charge
+  pub left_is : left ≡ less limit shape.traversed
   pub after_is : after ≡ next + own_words shape.form (length shape.held)
   pub room : after ≤ length segment
 
 -- what is met at a place: null, an object that is not canonical by itself, or one that is
 abbrev pub IsMet : List ℕ → Place → ℕ → Option ℕ → Option ℕ → ℕ → ℕ → Met → Type 0
-IsMet segment place level limit left next after Null =
+IsMet segment place nesting limit left next after Null =
     (word_at (segment ∷ []) place ≡ Some 0) × (left ≡ limit) × (after ≡ next)
-IsMet segment place level limit left next after NotCanonical = Ends segment (place ∷ []) level limit next not_canonical
-IsMet segment place level limit left next after (Pointers pointers) =
-    MeetsPointers segment place level limit left next after pointers
+IsMet segment place nesting limit left next after NotCanonical = Ends segment (place ∷ []) nesting limit next not_canonical
+IsMet segment place nesting limit left next after (Pointers pointers) =
+    MeetsPointers segment place nesting limit left next after pointers
 
 -- Whether a message is canonical is not said: it has no first segment, or the walk over its one segment is
 -- refused. A message of more segments is not canonical, whatever they hold.
-pub data Unsaid (m : List (List ℕ)) (level : ℕ) (limit : Option ℕ) : ErrorKind → Type 0 where
-  no_first_segment : m ≡ [] → Unsaid m level limit (InvalidSegmentId 0)
+pub data Unsaid (m : List (List ℕ)) (nesting : ℕ) (limit : Option ℕ) : ErrorKind → Type 0 where
+  no_first_segment : m ≡ [] → Unsaid m nesting limit (InvalidSegmentId 0)
   on_the_walk : {segment : List ℕ} {kind : ErrorKind} → m ≡ segment ∷ []
-      → Ends segment (root ∷ []) level limit 1 (refused kind) → Unsaid m level limit kind
+      → Ends segment (root ∷ []) nesting limit 1 (refused kind) → Unsaid m nesting limit kind

@@ -14,7 +14,7 @@ pub data Form : Type 0 where
   -- a list of structs: words of data and of pointers of each, and the data of each
   structs : ℕ → ℕ → List (List ℕ) → Form
 
--- Trees, one after the other: the form of the first, the trees that it holds, the trees behind it.
+-- Trees, one after the other: the form of the first, the trees that it holds, the trees after it.
 -- A list of structs holds the trees of its elements in order.
 pub data Trees : Type 0 where
   none : Trees
@@ -41,7 +41,7 @@ own_words (numbers code values) n = words_for (length values) (width code)
 own_words pointers n = n
 own_words (structs d p rows) n = 1 + length rows * (d + p)
 
--- the words of trees, without pads
+-- the words of trees, without landing pads
 abbrev pub total_words : Trees → ℕ
 total_words none = 0
 total_words (tree form held rest) = own_words form (count held) + total_words held + total_words rest

@@ -13,44 +13,44 @@ use Rattle.capnp_wire.specs.Tree.{null, struct, numbers, Trees, none, tree, coun
 use Rattle.capnp_wire.specs.Reached.{At, at, nowhere}
 use Rattle.capnp_wire.specs.Trim.{trim}
 use Rattle.capnp_wire.specs.Layout.{canon, formed, AllHaveRoom}
-use Rattle.capnp_wire.specs.Charge.{Within}
+use Rattle.capnp_wire.specs.Traversed.{Within}
 use Rattle.capnp_wire.specs.Faults.{StopsWalk}
 use Rattle.capnp_wire.specs.declared.layout.place.Place.{Place}
 use Rattle.capnp_wire.specs.declared.layout.pointer.StructSize.{StructSize}
 
--- the tree at a place, within a level and a limit
-pub record TreeAt (m : List (List ℕ)) (place : Place) (level : ℕ) (limit : Option ℕ) (trees : Trees) : Type 0 where
-  pub charge : ℕ
-  pub stand : At m (place ∷ []) trees charge
-  pub shallow : depth trees ≤ level
-  pub within : Within limit charge
+-- the tree at a place, within the nesting depth left and a limit
+pub record TreeAt (m : List (List ℕ)) (place : Place) (nesting : ℕ) (limit : Option ℕ) (trees : Trees) : Type 0 where
+  pub traversed : ℕ
+  pub stand : At m (place ∷ []) trees traversed
+  pub shallow : depth trees ≤ nesting
+  pub within : Within limit traversed
 
--- how a tree is refused that has so many words
+-- how a tree is refused that has a given number of words
 abbrev pub too_large : Bool → ℕ → ErrorKind
 too_large true words = CanonicalTooLarge
 too_large false words = AllocationTooLarge (min words (2 ^ 32 - 1))
 
 -- the words of its body, as it stands or in canonical form, where these are fewer than 2 ^ 29
-pub record Measured (m : List (List ℕ)) (place : Place) (level : ℕ) (limit : Option ℕ) (canonical : Bool) (words : ℕ) : Type 0 where
+pub record Measured (m : List (List ℕ)) (place : Place) (nesting : ℕ) (limit : Option ℕ) (canonical : Bool) (words : ℕ) : Type 0 where
   pub trees : Trees
-  pub tree_is : TreeAt m place level limit trees
+  pub tree_is : TreeAt m place nesting limit trees
   pub rooms : AllHaveRoom trees
   pub words_are : words ≡ total_words (formed canonical trees)
   pub few : words < 2 ^ 29
 
 -- it is refused: where a walk over it stops, or for its words
-abbrev pub Unmeasured : List (List ℕ) → Place → ℕ → Option ℕ → Bool → ErrorKind → Type 0
-Unmeasured m place level limit canonical kind =
-    StopsWalk m (place ∷ []) level limit kind
-    ⊎ ((trees : Trees) × TreeAt m place level limit trees × (2 ^ 29 ≤ total_words (formed canonical trees))
+abbrev pub UnmeasuredTree : List (List ℕ) → Place → ℕ → Option ℕ → Bool → ErrorKind → Type 0
+UnmeasuredTree m place nesting limit canonical kind =
+    StopsWalk m (place ∷ []) nesting limit kind
+    ⊎ ((trees : Trees) × TreeAt m place nesting limit trees × (2 ^ 29 ≤ total_words (formed canonical trees))
     × (kind ≡ too_large canonical (total_words (formed canonical trees))))
 
 -- a tree can be written into a block of just the words of its body
-pub record CanWrite (m : List (List ℕ)) (place : Place) (level : ℕ) (canonical : Bool) (words : ℕ) : Type 0 where
+pub record CanWrite (m : List (List ℕ)) (place : Place) (nesting : ℕ) (canonical : Bool) (words : ℕ) : Type 0 where
   pub trees : Trees
-  pub charge : ℕ
-  pub stand : At m (place ∷ []) trees charge
-  pub shallow : depth trees ≤ level
+  pub traversed : ℕ
+  pub stand : At m (place ∷ []) trees traversed
+  pub shallow : depth trees ≤ nesting
   pub rooms : AllHaveRoom trees
   pub size : words ≡ total_words (formed canonical trees)
   pub few : total_words (formed canonical trees) < 2 ^ 29
@@ -70,34 +70,34 @@ LacksWords has_tree refuses canonical kind =
     ⊎ ((trees : Trees) × has_tree trees × (2 ^ 29 ≤ total_words (formed canonical trees))
     × (kind ≡ too_large canonical (total_words (formed canonical trees))))
 
--- the tree that a pointer leads to, within its level and its limit, and where a walk over it stops
+-- the tree that a pointer leads to, within the nesting depth left and its limit, and where a walk over it stops
 abbrev pub LeadsToTree : Pointer → Trees → Type 0
 LeadsToTree pointer trees = MatchOption pointer.place (trees ≡ tree null none none)
-    (λ place. TreeAt pointer.message place pointer.level pointer.limit trees)
+    (λ place. TreeAt pointer.message place pointer.nesting pointer.limit trees)
 
 abbrev pub StopsWalkFrom : Pointer → ErrorKind → Type 0
 StopsWalkFrom pointer kind = (place : Place) × (pointer.place ≡ Some place)
-    × StopsWalk pointer.message (place ∷ []) pointer.level pointer.limit kind
+    × StopsWalk pointer.message (place ∷ []) pointer.nesting pointer.limit kind
 
--- the tree of a struct that is read, within its level and its limit, and where a walk over its pointers stops
+-- the tree of a struct that is read, within the nesting depth left and its limit, and where a walk over its pointers stops
 pub record IsTreeOf (fields : Struct) (trees : Trees) : Type 0 where
   pub held : Trees
-  pub charge : ℕ
-  pub stand : At fields.message fields.held held charge
-  pub shallow : depth held ≤ fields.level
-  pub within : Within fields.limit charge
+  pub traversed : ℕ
+  pub stand : At fields.message fields.held held traversed
+  pub shallow : depth held ≤ fields.nesting
+  pub within : Within fields.limit traversed
   pub whole : trees ≡ tree (struct fields.words) held none
 
 abbrev pub StopsInside : Struct → ErrorKind → Type 0
-StopsInside fields kind = StopsWalk fields.message fields.held fields.level fields.limit kind
+StopsInside fields kind = StopsWalk fields.message fields.held fields.nesting fields.limit kind
 
 -- a struct whose words stand in a segment
 abbrev pub fields_at : List (List ℕ) → List ℕ → Place → StructSize → ℕ → Option ℕ → Struct
-fields_at m words start size level limit = record {
+fields_at m words start size nesting limit = record {
   message = m;
   words = words_from words start.word size.data_words;
   held = places start.segment (start.word + size.data_words) size.pointers;
-  level = level;
+  nesting = nesting;
   limit = limit;
 }
 
@@ -113,7 +113,7 @@ abbrev pub ManyBytes : List ℕ → ErrorKind → Type 0
 ManyBytes bytes kind =
     (2 ^ 29 ≤ length bytes) × (kind ≡ AllocationTooLarge (min (words_for (length bytes) 8) (2 ^ 32 - 1)))
 
--- a pointer word and a block behind it
+-- a pointer word and a block after it
 abbrev pub pointed : Word → List ℕ → List ℕ
 pointed word block = number_of 256 (bytes_of word) ∷ words_of block
 
@@ -126,8 +126,8 @@ pub record IsCanonicalForm (pointer : Pointer) (words : List ℕ) : Type 0 where
   pub words_are : words ≡ canon trees
 
 -- text, with the zero byte at its end
-abbrev pub IsTextOf : List ℕ → Trees → Type 0
-IsTextOf bytes trees = IsBytes (bytes ++ 0 ∷ []) trees
+abbrev pub IsTextTree : List ℕ → Trees → Type 0
+IsTextTree bytes trees = IsBytes (bytes ++ 0 ∷ []) trees
 
 abbrev pub LongText : List ℕ → ErrorKind → Type 0
 LongText bytes kind = ManyBytes (bytes ++ 0 ∷ []) kind
@@ -140,13 +140,13 @@ abbrev pub ManyWords : List ℕ → ErrorKind → Type 0
 ManyWords words kind = (2 ^ 29 ≤ length words) × (kind ≡ AllocationTooLarge (min (length words) (2 ^ 32 - 1)))
 
 -- a pointer leads to one tree
-one_there : (m : List (List ℕ)) (place : Place) (trees : Trees) (charge : ℕ) → At m (place ∷ []) trees charge → count trees ≡ 1
-one_there m place trees charge (at object inner nowhere) = refl
+one_there : (m : List (List ℕ)) (place : Place) (trees : Trees) (traversed : ℕ) → At m (place ∷ []) trees traversed → count trees ≡ 1
+one_there m place trees traversed (at object inner nowhere) = refl
 
-one_at : (o : Option Place) (m : List (List ℕ)) (level : ℕ) (limit : Option ℕ) (trees : Trees) → MatchOption o (trees ≡ tree null none none) (λ place. TreeAt m place level limit trees)
+one_at : (o : Option Place) (m : List (List ℕ)) (nesting : ℕ) (limit : Option ℕ) (trees : Trees) → MatchOption o (trees ≡ tree null none none) (λ place. TreeAt m place nesting limit trees)
     → count trees ≡ 1
-one_at None m level limit trees is = ap count is
-one_at (Some place) m level limit trees is = one_there m place trees is.charge is.stand
+one_at None m nesting limit trees is = ap count is
+one_at (Some place) m nesting limit trees is = one_there m place trees is.traversed is.stand
 
 pub one_value : (pointer : Pointer) (trees : Trees) → LeadsToTree pointer trees → count trees ≡ 1
-one_value pointer trees is = one_at pointer.place pointer.message pointer.level pointer.limit trees is
+one_value pointer trees is = one_at pointer.place pointer.message pointer.nesting pointer.limit trees is

@@ -7,7 +7,7 @@ use Rattle.capnp_frame.specs.declared.error.ErrorKind.TheVariants.{ReadLimitExce
 use Rattle.capnp_wire.specs.Tree.{Form, is_null, null, struct, numbers}
 use Rattle.capnp_wire.specs.Object.{Shape, PointsTo, nothing}
 use Rattle.capnp_wire.specs.Faults.{Fault, StopsWalk}
-use Rattle.capnp_wire.specs.Charge.{TreesAt, Within}
+use Rattle.capnp_wire.specs.Traversed.{TreesAt, Within}
 use Rattle.capnp_wire.specs.declared.layout.place.Place.{Place}
 
 -- A pointer that is read: the message, where its word stands (one past the end of a struct stands nowhere,
@@ -15,30 +15,30 @@ use Rattle.capnp_wire.specs.declared.layout.place.Place.{Place}
 pub record Pointer : Type 0 where
   pub message : List (List ℕ)
   pub place : Option Place
-  pub level : ℕ
+  pub nesting : ℕ
   pub limit : Option ℕ
 
--- what a pointer stands for: null, or an object within its level
+-- what a pointer stands for: null, or an object within the nesting depth left
 pub data Denotes (pointer : Pointer) : Shape → Type 0 where
   nowhere : pointer.place ≡ None → Denotes pointer nothing
   at_place : {place : Place} {shape : Shape} → pointer.place ≡ Some place → PointsTo pointer.message place shape
-      → (is_null shape.form ≡ false → 0 < pointer.level) → Denotes pointer shape
+      → (is_null shape.form ≡ false → 0 < pointer.nesting) → Denotes pointer shape
 
 -- a pointer stands for some shape of which a fact holds
 abbrev pub Shows : Pointer → (Shape → Type 0) → Type 0
 Shows pointer fact = (shape : Shape) × Denotes pointer shape × fact shape
 
 -- no object stands where a pointer leads, whatever is still read
-abbrev pub LeadsAstray : Pointer → ErrorKind → Type 0
-LeadsAstray pointer kind = (place : Place) × (pointer.place ≡ Some place) × Fault pointer.message place pointer.level kind
+abbrev pub IsInvalidPointer : Pointer → ErrorKind → Type 0
+IsInvalidPointer pointer kind = (place : Place) × (pointer.place ≡ Some place) × Fault pointer.message place pointer.nesting kind
 
--- the words of what stands there are charged, and may be past the limit
+-- the words of what stands there are counted against the traversal limit, and may be past the limit
 abbrev pub MeetsLimit : Pointer → ErrorKind → Type 0
-MeetsLimit pointer kind = Shows pointer (λ shape. 0 < shape.charge) × (pointer.limit ≢ None) × (kind ≡ ReadLimitExceeded)
+MeetsLimit pointer kind = Shows pointer (λ shape. 0 < shape.traversed) × (pointer.limit ≢ None) × (kind ≡ ReadLimitExceeded)
 
 -- no view is had of a pointer: no object stands there, or the traversal limit is met
-abbrev pub Barred : Pointer → ErrorKind → Type 0
-Barred pointer kind = LeadsAstray pointer kind ⊎ MeetsLimit pointer kind
+abbrev pub Unreadable : Pointer → ErrorKind → Type 0
+Unreadable pointer kind = IsInvalidPointer pointer kind ⊎ MeetsLimit pointer kind
 
 -- a view accepts what stands there, or declines it
 abbrev pub Accepts : Pointer → (Form → Type 0) → Type 0
@@ -49,21 +49,21 @@ Declines pointer declines kind = Shows pointer (λ shape. declines shape.form ki
 
 -- a view is refused: none is had there, or it declines what stands there
 abbrev pub Refuses : Pointer → (Form → ErrorKind → Type 0) → ErrorKind → Type 0
-Refuses pointer declines kind = Barred pointer kind ⊎ Declines pointer declines kind
+Refuses pointer declines kind = Unreadable pointer kind ⊎ Declines pointer declines kind
 
--- a view is had: of the form of what stands there a fact holds, and its charge is within the limit
+-- a view is had: of the form of what stands there a fact holds, and the words counted are within the limit
 abbrev pub Reads : Pointer → (Form → Type 0) → Type 0
-Reads pointer fact = Shows pointer (λ shape. fact shape.form × Within pointer.limit shape.charge)
+Reads pointer fact = Shows pointer (λ shape. fact shape.form × Within pointer.limit shape.traversed)
 
 -- What each view that is asked of a pointer keeps: it shows what stands there, or it is refused for a stated
 -- cause. Without a limit it is had of what it accepts, and no limit is met. Where no object stands, that is the
 -- refusal; where one stands that it declines, that is, or the limit.
 pub record IsViewOf {V : Type 0} (pointer : Pointer) (shows : V → Type 0) (accepts : Type 0)
     (refuses declines : ErrorKind → Type 0) (result : Result V Error) : Type 0 where
-  pub answer : MatchResult result shows (λ error. refuses error.kind)
+  pub returned : MatchResult result shows (λ error. refuses error.kind)
   pub found : pointer.limit ≡ None → accepts → IsOk result
   pub unlimited : pointer.limit ≡ None → IfErr result (λ error. error.kind ≢ ReadLimitExceeded)
-  pub exact : (kind : ErrorKind) → LeadsAstray pointer kind → (accepts → ⊥) → IsErrAnd result (λ error. error.kind ≡ kind)
+  pub exact : (kind : ErrorKind) → IsInvalidPointer pointer kind → (accepts → ⊥) → IsErrAnd result (λ error. error.kind ≡ kind)
   pub declined : (kind : ErrorKind) → declines kind
       → IsErrAnd result (λ error. (error.kind ≡ kind) ⊎ MeetsLimit pointer error.kind)
 
@@ -91,7 +91,7 @@ pub record Struct : Type 0 where
   pub message : List (List ℕ)
   pub words : List ℕ
   pub held : List Place
-  pub level : ℕ
+  pub nesting : ℕ
   pub limit : Option ℕ
 
 -- no data from null, the data words of a struct
@@ -100,18 +100,18 @@ HasData null words = words ≡ []
 HasData (struct data_words) words = words ≡ data_words
 HasData _ words = ⊥
 
--- a struct: no fields from null, its fields, a level below
+-- a struct: no fields from null, its fields, with one less of nesting depth left
 pub record IsStruct (pointer : Pointer) (fields : Struct) : Type 0 where
   pub same_message : fields.message ≡ pointer.message
   pub shown : Shows pointer (λ shape. HasData shape.form fields.words × (fields.held ≡ shape.held)
-      × Within pointer.limit shape.charge)
-  pub level_below : fields.level ≡ pointer.level - 1
+      × Within pointer.limit shape.traversed)
+  pub nesting_below : fields.nesting ≡ pointer.nesting - 1
   pub same_limit : fields.limit ≡ pointer.limit
 
 -- a pointer of a struct; null past its pointers
 abbrev pub pointer_in : Struct → ℕ → Pointer
 pointer_in fields index =
-    record { message = fields.message; place = slice_get fields.held index; level = fields.level; limit = fields.limit }
+    record { message = fields.message; place = slice_get fields.held index; nesting = fields.nesting; limit = fields.limit }
 
 -- forms that a view of a list of numbers of some code takes
 abbrev pub TakesNumbers : ℕ → Form → Type 0
@@ -142,13 +142,13 @@ DeclinesText form kind =
     ((TakesNumbers 2 form → ⊥) × (kind ≡ WrongPointerKind))
     ⊎ (TakesNumbers 2 form × (TakesText form → ⊥) × (kind ≡ TextNotTerminated))
 
--- where all the trees of a pointer are within its level and its limit, their words
+-- where all the trees of a pointer are within the nesting depth left and its limit, their words
 abbrev pub Measures : Pointer → ℕ → Type 0
 Measures pointer words = MatchOption pointer.place (words ≡ 0)
-    (λ place. (charge : ℕ) × TreesAt pointer.message (place ∷ []) pointer.level charge words × Within pointer.limit charge)
+    (λ place. (traversed : ℕ) × TreesAt pointer.message (place ∷ []) pointer.nesting traversed words × Within pointer.limit traversed)
 
 -- they are refused: where a walk over them stops, or, once it is done, where there are 2 ^ 64 words
 abbrev pub Unmeasured : Pointer → ErrorKind → Type 0
 Unmeasured pointer kind = (place : Place) × (pointer.place ≡ Some place)
-    × (StopsWalk pointer.message (place ∷ []) pointer.level pointer.limit kind
+    × (StopsWalk pointer.message (place ∷ []) pointer.nesting pointer.limit kind
     ⊎ ((words : ℕ) × Measures pointer words × (2 ^ 64 ≤ words) × (kind ≡ AllocationTooLarge (2 ^ 32 - 1))))

@@ -24,7 +24,7 @@ impl<'a, S: ReaderSegments + 'a> traits::Owned<'a, S> for Owned {
     type Reader = Reader<'a, S>;
 }
 
-// The tree that the pointer leads to, within its levels and the traversal limit.
+// The tree that the pointer leads to, within the nesting depth left and the traversal limit.
 impl<'a, S: ReaderSegments> SetterInput<Owned> for Reader<'a, S> {
     ghost use Rattle.capnp_wire.specs.Readers.{pointer_of};
     ghost use Rattle.capnp_wire.specs.Values.{LeadsToTree, StopsWalkFrom, one_value};
@@ -41,7 +41,7 @@ impl<'a, S: ReaderSegments> SetterInput<Owned> for Reader<'a, S> {
             Some(place) => value::measure(
                 self.segments,
                 place,
-                self.level,
+                self.nesting,
                 limit_in_words(self.limiter),
                 canonical,
             ),
@@ -54,7 +54,7 @@ impl<'a, S: ReaderSegments> SetterInput<Owned> for Reader<'a, S> {
 }
 
 /// Writes the tree that a pointer leads to into a block of just its words, of bytes or of words, and
-/// answers the pointer to it for a block that follows this pointer at once.
+/// returns the pointer to it for a block that follows this pointer at once.
 pub(crate) fn write_into<S: ReaderSegments, T: BlockItem>(
     reader: &Reader<'_, S>,
     canonical: bool,
@@ -68,7 +68,7 @@ pub(crate) fn write_into<S: ReaderSegments, T: BlockItem>(
 {
     let pointer = match reader.place {
         None => 0,
-        Some(place) => value::write(reader.segments, place, reader.level, canonical, block),
+        Some(place) => value::write(reader.segments, place, reader.nesting, canonical, block),
     };
     value::word_of(pointer)
 }

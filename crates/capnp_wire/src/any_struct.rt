@@ -16,7 +16,7 @@ impl<'a, S: ReaderSegments + 'a> traits::Owned<'a, S> for Owned {
     type Reader = StructReader<'a, S>;
 }
 
-// The tree of the struct, within its levels and the traversal limit.
+// The tree of the struct, within the nesting depth left and the traversal limit.
 impl<'a, S: ReaderSegments> SetterInput<Owned> for StructReader<'a, S> {
     ghost use Rattle.capnp_wire.specs.Readers.{struct_of};
     ghost use Rattle.capnp_wire.specs.Values.{IsTreeOf, StopsInside};
@@ -35,7 +35,7 @@ impl<'a, S: ReaderSegments> SetterInput<Owned> for StructReader<'a, S> {
             self.segment,
             self.start,
             self.size,
-            self.level,
+            self.nesting,
             limit_in_words(self.limiter),
             canonical,
         )
@@ -47,7 +47,7 @@ impl<'a, S: ReaderSegments> SetterInput<Owned> for StructReader<'a, S> {
             self.segment,
             self.start,
             self.size,
-            self.level,
+            self.nesting,
             canonical,
             block,
         );

@@ -19,18 +19,18 @@ use std::alloc::Global;
 ///
 /// It is refused where a walk over the tree stops, and by `CanonicalTooLarge` above 2^29 words.
 pub fn canonical_size<S: ReaderSegments>(reader: &any_pointer::Reader<'_, S>) -> Result<u32>
-    ensures answer { let pointer = pointer_of S.segments reader.now in MatchResult result
-        (λ words. (behind : ℕ) × HasWords (LeadsToTree pointer) true behind × (words ≡ behind + 1))
+    ensures returned { let pointer = pointer_of S.segments reader.now in MatchResult result
+        (λ words. (following : ℕ) × HasWords (LeadsToTree pointer) true following × (words ≡ following + 1))
         (λ error. LacksWords (LeadsToTree pointer) (StopsWalkFrom pointer) true error.kind) }
-    ensures found { (behind : ℕ) →
-        HasWords (LeadsToTree (pointer_of S.segments reader.now)) true behind →
-        result ≡ Ok (behind + 1) }
+    ensures found { (following : ℕ) →
+        HasWords (LeadsToTree (pointer_of S.segments reader.now)) true following →
+        result ≡ Ok (following + 1) }
     ensures exact { let pointer = pointer_of S.segments reader.now in
         (kind : ErrorKind) → LacksWords (LeadsToTree pointer) (StopsWalkFrom pointer) true kind →
         IsErrAnd result (λ error. error.kind ≡ kind) }
 {
-    let behind = reader.measure(true)?;
-    Ok(behind + 1)
+    let following = reader.measure(true)?;
+    Ok(following + 1)
 }
 
 /// The canonical form of what a pointer leads to, as bytes.
@@ -38,13 +38,13 @@ pub fn canonical_bytes<S: ReaderSegments>(
     alloc: Global,
     reader: &any_pointer::Reader<'_, S>,
 ) -> Result<Vec<u8>>
-    ensures answer { let pointer = pointer_of S.segments reader.now in MatchResult result
+    ensures returned { let pointer = pointer_of S.segments reader.now in MatchResult result
         (λ bytes. IsCanonicalForm pointer (words_of bytes.items))
         (λ error. LacksWords (LeadsToTree pointer) (StopsWalkFrom pointer) true error.kind
         ⊎ (error.kind ≡ OutOfMemory)) }
     ensures whole { IfOk result (λ bytes. IsWholeWords bytes.items) }
-    ensures found { (behind : ℕ) →
-        HasWords (LeadsToTree (pointer_of S.segments reader.now)) true behind →
+    ensures found { (following : ℕ) →
+        HasWords (LeadsToTree (pointer_of S.segments reader.now)) true following →
         IfErr result (λ error. error.kind ≡ OutOfMemory) }
     ensures exact { let pointer = pointer_of S.segments reader.now in
         (kind : ErrorKind) → LacksWords (LeadsToTree pointer) (StopsWalkFrom pointer) true kind →
@@ -57,11 +57,11 @@ pub fn canonical_bytes<S: ReaderSegments>(
 }
 
 /// Writes the canonical form of what a pointer leads to into zeros of just its words, those that
-/// `canonical_size` answers.
+/// `canonical_size` returns.
 pub fn write_form<S: ReaderSegments>(reader: &any_pointer::Reader<'_, S>, bytes: &mut [u8])
-    requires words { (behind : ℕ)
-        × HasWords (LeadsToTree (pointer_of S.segments reader.now)) true behind
-        × (length bytes.old ≡ 8 * (behind + 1)) }
+    requires words { (following : ℕ)
+        × HasWords (LeadsToTree (pointer_of S.segments reader.now)) true following
+        × (length bytes.old ≡ 8 * (following + 1)) }
     requires zero { bytes.old ≡ replicate (length bytes.old) 0 }
     ensures form { IsCanonicalForm (pointer_of S.segments reader.now) (words_of bytes.new) }
     ensures len { length bytes.new ≡ length bytes.old }
@@ -75,12 +75,12 @@ pub fn canonical_words<S: ReaderSegments>(
     alloc: Global,
     reader: &any_pointer::Reader<'_, S>,
 ) -> Result<Vec<Word>>
-    ensures answer { let pointer = pointer_of S.segments reader.now in MatchResult result
+    ensures returned { let pointer = pointer_of S.segments reader.now in MatchResult result
         (λ words. IsCanonicalForm pointer (numbers_of words.items))
         (λ error. LacksWords (LeadsToTree pointer) (StopsWalkFrom pointer) true error.kind
         ⊎ (error.kind ≡ OutOfMemory)) }
-    ensures found { (behind : ℕ) →
-        HasWords (LeadsToTree (pointer_of S.segments reader.now)) true behind →
+    ensures found { (following : ℕ) →
+        HasWords (LeadsToTree (pointer_of S.segments reader.now)) true following →
         IfErr result (λ error. error.kind ≡ OutOfMemory) }
     ensures exact { let pointer = pointer_of S.segments reader.now in
         (kind : ErrorKind) → LacksWords (LeadsToTree pointer) (StopsWalkFrom pointer) true kind →
@@ -94,8 +94,8 @@ pub fn canonical_words<S: ReaderSegments>(
 
 // Writes the canonical form of what a pointer leads to into just its words.
 fn write_words<S: ReaderSegments>(reader: &any_pointer::Reader<'_, S>, words: &mut [Word])
-    requires { (behind : ℕ) × HasWords (LeadsToTree (pointer_of S.segments reader.now)) true behind
-        × (length words.old ≡ behind + 1) }
+    requires { (following : ℕ) × HasWords (LeadsToTree (pointer_of S.segments reader.now)) true following
+        × (length words.old ≡ following + 1) }
     ensures { IsCanonicalForm (pointer_of S.segments reader.now) (numbers_of words.new) }
 {
     words[0] = any_pointer::write_into(reader, true, &mut words[1..]);

@@ -47,7 +47,7 @@ impl<'a> Object<'a> {
     }
 }
 
-// So many bytes from a word of a segment on.
+// A given number of bytes from a word of a segment on.
 fn bytes_at(segment: &[u8], start: usize, count: u32) -> &[u8]
     requires { start + words_for count 8 ≤ length segment.now / 8 }
     ensures { result.now ≡ elements (words_of segment.now) start 2 count }
@@ -56,7 +56,7 @@ fn bytes_at(segment: &[u8], start: usize, count: u32) -> &[u8]
     &segment[begin..begin + count as usize]
 }
 
-// The bytes of so many words from a word of a segment on.
+// The bytes of a given number of words from a word of a segment on.
 fn words_at(segment: &[u8], start: usize, count: u32) -> &[u8]
     requires { start + words_for count 64 ≤ length segment.now / 8 }
     ensures words { words_of result.now ≡ elements (words_of segment.now) start 5 count }

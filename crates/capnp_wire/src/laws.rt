@@ -7,13 +7,13 @@ ghost use Rattle.capnp_wire.specs.Object.{Shape, PointsTo, word_at};
 ghost use Rattle.capnp_wire.specs.Reached.{At, Below, root};
 ghost use Rattle.capnp_wire.specs.Layout.{layout, canon, pointer_to, far_pointer, Laid, AllHaveRoom, AllWords};
 ghost use Rattle.capnp_wire.specs.Faults.{Fault, StopsWalk};
-ghost use Rattle.capnp_wire.specs.Charge.{Within};
+ghost use Rattle.capnp_wire.specs.Traversed.{Within};
 ghost use Rattle.capnp_wire.specs.Canonical.{IsCanonical, TestsAreExact};
 ghost use Rattle.capnp_wire.specs.Views.{Pointer};
 ghost use Rattle.capnp_wire.specs.Values.{IsCanonicalForm};
 ghost use Rattle.capnp_wire.specs.declared.layout.place.Place.{Place};
 
-/// At most one tree stands at each of some places, and it has one charge.
+/// At most one tree stands at each of some places, and the words counted there are the same.
 pub fn one_tree_at_a_place()
     ensures { (m : List (List ℕ)) (places : List Place) (some others : Trees) (x y : ℕ) →
         At m places some x → At m places others y → (some ≡ others) × (x ≡ y) }
@@ -27,36 +27,36 @@ pub fn one_object_at_a_place()
 
 /// Where an object leads back to itself, no tree stands.
 pub fn cycle_has_no_tree()
-    ensures { (m : List (List ℕ)) (place : Place) (form : Form) (held : Trees) (charge : ℕ) →
-        Below m place place → At m (place ∷ []) (tree form held none) charge → ⊥ }
+    ensures { (m : List (List ℕ)) (place : Place) (form : Form) (held : Trees) (traversed : ℕ) →
+        Below m place place → At m (place ∷ []) (tree form held none) traversed → ⊥ }
 {}
 
-/// Where a pointer is refused, no object stands within its level.
+/// Where a pointer is refused, no object stands within the nesting depth left.
 pub fn refused_has_no_object()
-    ensures { (m : List (List ℕ)) (place : Place) (level : ℕ) (kind : ErrorKind) (shape : Shape) →
-        Fault m place level kind → PointsTo m place shape →
-        (is_null shape.form ≡ false → 0 < level) → ⊥ }
+    ensures { (m : List (List ℕ)) (place : Place) (nesting : ℕ) (kind : ErrorKind) (shape : Shape) →
+        Fault m place nesting kind → PointsTo m place shape →
+        (is_null shape.form ≡ false → 0 < nesting) → ⊥ }
 {}
 
-/// At most one refusal stands at a place, at a level.
+/// At most one refusal stands at a place, at the nesting depth left.
 pub fn one_refusal_at_a_place()
-    ensures { (m : List (List ℕ)) (place : Place) (level : ℕ) (kind other : ErrorKind) →
-        Fault m place level kind → Fault m place level other → kind ≡ other }
+    ensures { (m : List (List ℕ)) (place : Place) (nesting : ℕ) (kind other : ErrorKind) →
+        Fault m place nesting kind → Fault m place nesting other → kind ≡ other }
 {}
 
-/// Where a walk stops, no trees stand within its level and its limit.
+/// Where a walk stops, no trees stand within the nesting depth left and its limit.
 pub fn stopped_walk_has_no_trees()
-    ensures { (m : List (List ℕ)) (places : List Place) (level charge : ℕ) (limit : Option ℕ)
+    ensures { (m : List (List ℕ)) (places : List Place) (nesting traversed : ℕ) (limit : Option ℕ)
         (kind : ErrorKind) (trees : Trees) →
-        StopsWalk m places level limit kind → At m places trees charge → depth trees ≤ level →
-        Within limit charge → ⊥ }
+        StopsWalk m places nesting limit kind → At m places trees traversed → depth trees ≤ nesting →
+        Within limit traversed → ⊥ }
 {}
 
 /// At most one refusal stops a walk.
 pub fn one_refusal_stops_a_walk()
-    ensures { (m : List (List ℕ)) (places : List Place) (level : ℕ) (limit : Option ℕ)
+    ensures { (m : List (List ℕ)) (places : List Place) (nesting : ℕ) (limit : Option ℕ)
         (kind other : ErrorKind) →
-        StopsWalk m places level limit kind → StopsWalk m places level limit other →
+        StopsWalk m places nesting limit kind → StopsWalk m places nesting limit other →
         kind ≡ other }
 {}
 
@@ -64,40 +64,40 @@ pub fn one_refusal_stops_a_walk()
 pub fn root_of_a_layout()
     ensures { (form : Form) (held : Trees) → AllHaveRoom (tree form held none) →
         total_words (tree form held none) < 2 ^ 29 →
-        (charge : ℕ)
-        × At (layout (tree form held none) ∷ []) (root ∷ []) (tree form held none) charge }
+        (traversed : ℕ)
+        × At (layout (tree form held none) ∷ []) (root ∷ []) (tree form held none) traversed }
 {}
 
-/// Where a body stands so many words behind its pointer, in any segment, its tree stands.
-pub fn tree_behind_its_pointer()
+/// Where a body stands a given number of words after its pointer, in any segment, its tree stands.
+pub fn tree_after_its_pointer()
     ensures { (m : List (List ℕ)) (segment word offset : ℕ) (words : List ℕ)
         (form : Form) (held : Trees) →
         slice_get m segment ≡ Some words → AllHaveRoom (tree form held none) →
         total_words (tree form held none) < 2 ^ 29 → offset < 2 ^ 29 →
         slice_get words word ≡ Some (pointer_to (tree form held none) offset) →
         Laid words (word + 1 + offset) (tree form held none) →
-        (charge : ℕ)
-        × At m (record { segment = segment; word = word } ∷ []) (tree form held none) charge }
+        (traversed : ℕ)
+        × At m (record { segment = segment; word = word } ∷ []) (tree form held none) traversed }
 {}
 
-/// Where a body follows its pad, a far pointer to the pad stands for its tree.
-pub fn tree_behind_its_pad()
-    ensures { (m : List (List ℕ)) (place : Place) (segment pad : ℕ) (words : List ℕ)
+/// Where a body follows its landing pad, a far pointer to the landing pad stands for its tree.
+pub fn tree_after_its_landing_pad()
+    ensures { (m : List (List ℕ)) (place : Place) (segment landing_pad : ℕ) (words : List ℕ)
         (form : Form) (held : Trees) →
         slice_get m segment ≡ Some words → AllHaveRoom (tree form held none) →
-        total_words (tree form held none) < 2 ^ 29 → is_null form ≡ false → pad < 2 ^ 29 →
-        word_at m place ≡ Some (far_pointer segment pad) →
-        slice_get words pad ≡ Some (pointer_to (tree form held none) 0) →
-        Laid words (pad + 1) (tree form held none) →
-        (charge : ℕ) × At m (place ∷ []) (tree form held none) charge }
+        total_words (tree form held none) < 2 ^ 29 → is_null form ≡ false → landing_pad < 2 ^ 29 →
+        word_at m place ≡ Some (far_pointer segment landing_pad) →
+        slice_get words landing_pad ≡ Some (pointer_to (tree form held none) 0) →
+        Laid words (landing_pad + 1) (tree form held none) →
+        (traversed : ℕ) × At m (place ∷ []) (tree form held none) traversed }
 {}
 
 /// The root of a canonical form is the trimmed tree.
 pub fn root_of_a_canonical_form()
     ensures { (form : Form) (held : Trees) → AllHaveRoom (tree form held none) →
         total_words (trim (tree form held none)) < 2 ^ 29 →
-        (charge : ℕ)
-        × At (canon (tree form held none) ∷ []) (root ∷ []) (trim (tree form held none)) charge }
+        (traversed : ℕ)
+        × At (canon (tree form held none) ∷ []) (root ∷ []) (trim (tree form held none)) traversed }
 {}
 
 /// Canonical forms of different trees differ.
@@ -111,8 +111,8 @@ pub fn canonical_forms_differ()
 
 /// The trees that stand in a message have room for their fields.
 pub fn trees_have_room()
-    ensures { (m : List (List ℕ)) (places : List Place) (trees : Trees) (charge : ℕ) →
-        AllWords m → At m places trees charge → AllHaveRoom trees }
+    ensures { (m : List (List ℕ)) (places : List Place) (trees : Trees) (traversed : ℕ) →
+        AllWords m → At m places trees traversed → AllHaveRoom trees }
 {}
 
 /// The canonical forms of two pointers are equal exactly where their trees are equal, trimmed.

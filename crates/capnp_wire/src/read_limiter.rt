@@ -1,7 +1,7 @@
 //! How many words of a message may still be read.
 ghost use Rattle.std.specs.Prelude.{◌≡◌, ◌≢◌, ◌<◌, None, IfErr, OnOk, OnErr};
 ghost use Rattle.capnp_frame.specs.declared.error.ErrorKind.{ErrorKind};
-ghost use Rattle.capnp_wire.specs.Charge.{Within};
+ghost use Rattle.capnp_wire.specs.Traversed.{Within};
 ghost use Rattle.capnp_wire.specs.Readers.{limit_of};
 
 use capnp_frame::{Error, ErrorKind, Result};
@@ -36,9 +36,9 @@ pub(crate) fn limit_in_words(limiter: Option<&ReadLimiter>) -> Option<usize>
     }
 }
 
-/// Counts words that are read. A charge that would pass the limit is refused, and counts nothing; one of
+/// Counts words that are read. A count that would pass the limit is refused, and counts nothing; one of
 /// no words never is.
-pub(crate) fn charge(limiter: Option<&ReadLimiter>, words: u64) -> Result<()>
+pub(crate) fn traversed(limiter: Option<&ReadLimiter>, words: u64) -> Result<()>
     ensures kind { IfErr result (λ error. error.kind ≡ ErrorKind.ReadLimitExceeded) }
     ensures limited { OnErr result (limit_of limiter.entry ≢ None) }
     ensures some { OnErr result (0 < words) }

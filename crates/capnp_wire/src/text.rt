@@ -16,11 +16,11 @@ impl<'a, S: ReaderSegments> traits::Owned<'a, S> for Owned {
 
 // A list of bytes with a zero byte at its end.
 impl<'a> SetterInput<Owned> for Reader<'a> {
-    ghost use Rattle.capnp_wire.specs.Values.{IsTextOf, LongText};
+    ghost use Rattle.capnp_wire.specs.Values.{IsTextTree, LongText};
     ghost use Rattle.capnp_wire.specs.Tree.{count};
     ghost use Rattle.std.proofs.Common.{ap};
 
-    ghost has_tree = { λ text trees. IsTextOf text.bytes.now trees };
+    ghost has_tree = { λ text trees. IsTextTree text.bytes.now trees };
 
     ghost refuses = { λ text kind. LongText text.bytes.now kind };
 
@@ -35,13 +35,13 @@ impl<'a> SetterInput<Owned> for Reader<'a> {
     }
 }
 
-// The same of a string.
+// A string is set as its bytes and a zero byte.
 impl<'a> SetterInput<Owned> for &'a str {
-    ghost use Rattle.capnp_wire.specs.Values.{IsTextOf, LongText};
+    ghost use Rattle.capnp_wire.specs.Values.{IsTextTree, LongText};
     ghost use Rattle.capnp_wire.specs.Tree.{count};
     ghost use Rattle.std.proofs.Common.{ap};
 
-    ghost has_tree = { λ text trees. IsTextOf text.now trees };
+    ghost has_tree = { λ text trees. IsTextTree text.now trees };
 
     ghost refuses = { λ text kind. LongText text.now kind };
 

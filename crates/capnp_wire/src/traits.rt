@@ -47,12 +47,12 @@ pub trait SetterInput<T> {
     /// The value has no tree, or it may not be read, and this says why.
     ghost refuses: { Self → ErrorKind → Type 0 };
 
-    /// The words of the value behind its pointer, as it stands or in canonical form.
+    /// The words of the value after its pointer, as it stands or in canonical form.
     ///
-    /// 2^29 words and more are refused by `AllocationTooLarge`, in canonical form by
+    /// 2^29 words and more fail with `AllocationTooLarge`, in canonical form by
     /// `CanonicalTooLarge`.
     fn measure(&self, canonical: bool) -> Result<u32>
-        ensures answer { MatchResult result (λ words. HasWords (has_tree self.now) canonical words)
+        ensures returned { MatchResult result (λ words. HasWords (has_tree self.now) canonical words)
             (λ error. LacksWords (has_tree self.now) (refuses self.now) canonical error.kind) }
         ensures found { (words : ℕ) → HasWords (has_tree self.now) canonical words →
             result ≡ Ok words }
@@ -60,7 +60,7 @@ pub trait SetterInput<T> {
             LacksWords (has_tree self.now) (refuses self.now) canonical kind →
             IsErrAnd result (λ error. error.kind ≡ kind) };
 
-    /// Writes the value into a block of zeros of just its words, and answers the pointer to it for a
+    /// Writes the value into a block of zeros of just its words, and returns the pointer to it for a
     /// block that follows this pointer at once.
     fn write(&self, canonical: bool, block: &mut [u8]) -> Word
         requires words { HasWords (has_tree self.now) canonical (length block.old / 8) }

@@ -17,7 +17,7 @@ use std::io::BufReader;
 
 /// A device as a source, with a buffer before it.
 ///
-/// What the device gives isn't known to contracts in general. Where it is, each call answers just
+/// What the device gives isn't known to contracts in general. Where it is, each call returns just
 /// those bytes, and a refused one takes none.
 #[derive(Drop)]
 pub struct Input<R> {
@@ -69,7 +69,7 @@ impl<R: io::Read> Read for Input<R> {
             (take count buffer.new)) }
         ensures at_end { IfOk result (λ count. count ≡ 0 → 0 < length buffer.new →
             IsAtEnd (coming R.remaining self.old)) }
-        // `read_exact` is refused by this kind where `read` answers no byte.
+        // `read_exact` fails with this kind where `read` returns no byte.
         ensures spent { IfOk result (λ count. count ≡ 0 → 0 < length buffer.new →
             IsRefused RunsShort (length buffer.new) None ErrorKind.FailedToFillTheWholeBuffer) }
 

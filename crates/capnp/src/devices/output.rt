@@ -22,7 +22,7 @@ pub struct Output<W: io::Write + Drop> {
 
 impl<W: io::Write + Drop> Output<W> {
     /// The device, with nothing written, and a buffer of `capacity` bytes. With no capacity each
-    /// piece goes straight to the device, and no memory is taken.
+    /// chunk goes straight to the device, and no memory is taken.
     ///
     /// The only refusal is `OutOfMemory`, for the buffer.
     pub fn new(alloc: Global, capacity: usize, device: W) -> Result<Output<W>>
@@ -82,10 +82,10 @@ impl<W: io::Write + Drop> Write for Output<W> {
     ghost same = { λ _ _. ⊤ };
 
     // `write_all` of std says nothing of what a refused call leaves.
-    fn write_all(&mut self, piece: &[u8]) -> Result<()> {
+    fn write_all(&mut self, chunk: &[u8]) -> Result<()> {
         let mut done = 0;
-        while done < piece.len() {
-            match io::Write::write(&mut self.buffered, &piece[done..]) {
+        while done < chunk.len() {
+            match io::Write::write(&mut self.buffered, &chunk[done..]) {
                 Ok(count) if count > 0 => done += count,
                 _ => return Err(self.failures.add()),
             }

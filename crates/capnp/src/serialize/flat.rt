@@ -11,7 +11,7 @@ use capnp_frame::serialize::{
 use capnp_message::Reader;
 use std::alloc::Global;
 
-/// Reads the message at the front of a slice, and moves the slice behind it. A slice that is refused
+/// Reads the message at the front of a slice, and moves the slice after it. A slice that is refused
 /// stays as it was.
 ///
 /// No segment is copied. Memory is taken for the lengths of the segments, once their number is
@@ -56,7 +56,7 @@ fn take_message<'a>(
     Ok(Reader::new(segments, options))
 }
 
-/// Reads the message at the front of a slice, and moves the slice behind it. A slice that is refused
+/// Reads the message at the front of a slice, and moves the slice after it. A slice that is refused
 /// stays as it was. No memory is taken.
 ///
 /// ```
@@ -77,7 +77,8 @@ pub fn read_message_from_flat_slice_no_alloc<'a>(
     take_message_no_alloc(slice, Padding::Zero, options)
 }
 
-/// Reads the message at the front of a slice as `read_message_from_flat_slice_no_alloc` does, of any padding.
+/// Reads the message at the front of a slice as `read_message_from_flat_slice_no_alloc` does, of any
+/// padding.
 pub fn read_message_from_flat_slice_no_alloc_lenient<'a>(
     slice: &mut &'a [u8],
     options: ReaderOptions,

@@ -13,9 +13,9 @@ use capnp_frame::serialize::{NoAllocBufferSegments, OwnedSegments, Padding};
 use capnp_message::Reader;
 use std::alloc::Global;
 
-/// Reads the next message of a source, or answers `None` where nothing is unread.
+/// Reads the next message of a source, or returns `None` where nothing is unread.
 ///
-/// The message is answered exactly where the unread bytes begin with a framed text of it, and just
+/// The message is returned exactly where the unread bytes begin with a framed text of it, and just
 /// that text is consumed. Memory is taken for the lengths of the segments once their number is
 /// accepted, and for the segments once the limit of words is tested.
 ///
@@ -43,7 +43,7 @@ pub fn try_read_message<R: Read>(
     reading::try_read_message(alloc, source, Padding::Zero, options)
 }
 
-/// Reads the next message of a source. Where nothing is unread it is refused by
+/// Reads the next message of a source. Where nothing is unread it fails with
 /// `PrematureEndOfFile`.
 pub fn read_message<R: Read>(
     alloc: Global,
@@ -62,11 +62,11 @@ pub fn read_message<R: Read>(
     reading::read_message(alloc, source, Padding::Zero, options)
 }
 
-/// Reads the next message of a source into a lent buffer, or answers `None` where nothing is
+/// Reads the next message of a source into a caller-provided buffer, or returns `None` where nothing is
 /// unread.
 ///
 /// The buffer holds the table and the segments: one that is shorter than 8 bytes, than the table or
-/// than both is refused by `BufferNotLargeEnough`. No memory is taken.
+/// than both fails with `BufferNotLargeEnough`. No memory is taken.
 pub fn try_read_message_no_alloc<'b, R: Read>(
     source: &mut R,
     buffer: &'b mut [u8],
@@ -84,8 +84,8 @@ pub fn try_read_message_no_alloc<'b, R: Read>(
     reading::try_read_message_no_alloc(source, buffer, Padding::Zero, options)
 }
 
-/// Reads the next message of a source into a lent buffer. Where nothing is unread it is refused by
-/// `PrematureEndOfFile`.
+/// Reads the next message of a source into a caller-provided buffer. Where nothing is unread it
+/// fails with `PrematureEndOfFile`.
 pub fn read_message_no_alloc<'b, R: Read>(
     source: &mut R,
     buffer: &'b mut [u8],

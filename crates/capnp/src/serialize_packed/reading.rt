@@ -60,7 +60,8 @@ pub(crate) fn read_message<R: BufRead>(
     }
 }
 
-// Reads the next packed message of a source into a caller-provided buffer, or none where nothing is unread.
+// Reads the next packed message of a source into a caller-provided buffer, or none where nothing is
+// unread.
 pub(crate) fn try_read_message_no_alloc<'b, R: BufRead>(
     source: &mut R,
     buffer: &'b mut [u8],

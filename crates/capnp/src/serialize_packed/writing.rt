@@ -27,8 +27,8 @@ pub fn write_message<W: Write, A: Allocator>(
 }
 
 /// Writes a message, packed: the first word of its table, the table's other words, and each segment
-/// are packed one by one ("Packing"). What it needs of the segments, and that more than 511 of them fail
-/// with `InvalidNumberOfSegments`, is as for the framed writer.
+/// are packed one by one ("Packing"). What it needs of the segments, and that more than 511 of them
+/// fail with `InvalidNumberOfSegments`, is as for the framed writer.
 ///
 /// ```
 /// let segments = [[0; 8].as_slice()];

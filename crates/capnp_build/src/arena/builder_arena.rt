@@ -2,9 +2,9 @@
 ghost use Rattle.std.specs.Prelude.{⊤, MatchOption, ◌≡◌, ℕ, ◌+◌, ◌-◌, ◌*◌, ◌/◌, ◌<◌, ◌≤◌, [], ◌∷◌, length, map, max, slice_index_or, take, drop, Some, None, IfErr, IsOk, OnOk, OnErr};
 ghost use Rattle.capnp_build.specs.Out.{MayRefuse};
 ghost use Rattle.capnp_build.specs.Held.{used_of, space_at};
-ghost use Rattle.capnp_build.specs.Built.{held_of, ForRoot, IsShown, size_in_words, message, HasNullRoot, Built};
+ghost use Rattle.capnp_build.specs.Built.{held_of, ForRoot, IsRootKind, size_in_words, message, HasNullRoot, Built};
 ghost use Rattle.capnp_build.specs.Placed.{HasRootAlone, IsZeroAt, KeepsRooms};
-ghost use Rattle.capnp_build.specs.Shown.{Shows, HoldsForm};
+ghost use Rattle.capnp_build.specs.RootKind.{ShowsRoot, HoldsForm};
 ghost use Rattle.capnp_build.specs.Output.{CanBeWritten};
 ghost use Rattle.capnp_wire.specs.Tree.{Form, Trees, none, tree, count};
 ghost use Rattle.capnp_wire.specs.Reached.{At, root};
@@ -14,9 +14,9 @@ ghost use Rattle.capnp_build.specs.Outcomes.{ClearsRoot, EnsuresRoot, NotTakenAt
 ghost use Rattle.capnp_build.specs.Blocks.{LeavesNull};
 
 use crate::allocator::Allocator;
-use crate::arena::spot::Spot;
+use crate::arena::location::RootLocation;
+use crate::root_kind::{RootKind, read_tag};
 use crate::segments::Segments;
-use crate::shown::{Shown, read_tag};
 use capnp_frame::Result;
 use capnp_frame::message::ReaderSegments;
 use capnp_wire::any_pointer;
@@ -27,7 +27,7 @@ use std::marker::Model;
 #[derive(Drop)]
 pub struct BuilderArena<A: Allocator> {
     pub(crate) segments: Segments<A>,
-    pub(crate) spot: Option<Spot>,
+    pub(crate) location: Option<RootLocation>,
 }
 
 impl<A: Allocator> Model for BuilderArena<A> {
@@ -35,9 +35,9 @@ impl<A: Allocator> Model for BuilderArena<A> {
 
     ghost Value = { Built A };
 
-    ghost view = { λ arena. record { spaces = arena.segments.spaces; spot = arena.spot; allocator = arena.segments.allocator } };
+    ghost view = { λ arena. record { spaces = arena.segments.spaces; location = arena.location; allocator = arena.segments.allocator } };
 
-    ghost invariant = { λ arena. IsBuilt arena.segments.spaces arena.spot };
+    ghost invariant = { λ arena. IsBuilt arena.segments.spaces arena.location };
 }
 
 impl<A: Allocator> BuilderArena<A> {
@@ -47,7 +47,7 @@ impl<A: Allocator> BuilderArena<A> {
     {
         BuilderArena {
             segments: Segments::new(alloc, allocator),
-            spot: None,
+            location: None,
         }
     }
 
@@ -62,26 +62,26 @@ impl<A: Allocator> BuilderArena<A> {
     fn zero_root(&mut self) -> Result<()>
         ensures leaves { LeavesNull A.Allocator self.old self.new }
         ensures null_word { HasNullRoot self.new.spaces }
-        ensures zero { MatchOption self.old.spot ⊤ (IsZeroAt self.new.spaces) }
-        ensures behind { MatchOption self.old.spot ⊤ (λ spot. 0 < spot.start) }
+        ensures zero { MatchOption self.old.location ⊤ (IsZeroAt self.new.spaces) }
+        ensures following { MatchOption self.old.location ⊤ (λ location. 0 < location.start) }
         ensures there { OnOk result (0 < length self.new.spaces) }
         ensures none { OnErr result (self.new.spaces ≡ []) }
         ensures kind { IfErr result (λ error. (length self.old.spaces ≡ 0) × MayRefuse 1 error.kind) }
         ensures size { OnOk result (size_in_words self.new.spaces ≡ max 1 (size_in_words self.old.spaces)) }
         ensures rooms { KeepsRooms self.old.spaces self.new.spaces }
-        ensures fresh { self.old.spaces ≡ [] → OnOk result (HasRootAlone self.new.spaces) }
+        ensures new_object { self.old.spaces ≡ [] → OnOk result (HasRootAlone self.new.spaces) }
         ensures granted { self.old.spaces ≡ [] → (most : ℕ) → A.grants self.old.allocator 1 most →
             IsOk result × ((space_at self.new.spaces 0).size / 8 ≡ most) }
         ensures home { NotTakenAtHome A.Allocator (λ kind. ⊥) self.old result }
     {
         if self.segments.len() == 0 {
-            self.spot = None;
+            self.location = None;
             self.segments.add(1)?;
             self.segments.grow(0, 1);
             return Ok(());
         }
-        self.segments.wipe(self.spot);
-        self.spot = None;
+        self.segments.wipe(self.location);
+        self.location = None;
         Ok(())
     }
 
@@ -99,33 +99,40 @@ impl<A: Allocator> BuilderArena<A> {
     pub fn into_allocator(self) -> A
         ensures { GivesBack A.Allocator (held_of self) result }
     {
-        let BuilderArena { segments, spot: _ } = self;
+        let BuilderArena {
+            segments,
+            location: _,
+        } = self;
         segments.into_allocator()
     }
 
     /// What the object at the root is.
-    pub fn root_shown(&self) -> Shown
-        ensures form { ForRoot self.now.spaces (Shows result) }
-        ensures stands { IsShown result self.now.spaces }
+    pub fn root_kind(&self) -> RootKind
+        ensures form { ForRoot self.now.spaces (ShowsRoot result) }
+        ensures stands { IsRootKind result self.now.spaces }
     {
-        match self.spot {
-            None => Shown::Null,
-            Some(spot) => read_tag(spot.tag),
+        match self.location {
+            None => RootKind::Null,
+            Some(location) => read_tag(location.tag),
         }
     }
 
-    /// The words of the tree at the root, behind its pointer; none where it is null.
+    /// The words of the tree at the root, after its pointer; none where it is null.
     pub fn root_bytes(&self) -> &[u8]
         ensures { ForRoot self.now.spaces (HoldsForm result.now) }
     {
-        let Some(spot) = self.spot else {
+        let Some(location) = self.location else {
             return &[];
         };
-        let Some(used) = self.segments.get(spot.segment) else {
+        let Some(used) = self.segments.get(location.segment) else {
             return &[];
         };
         each_is_a_byte(used);
-        stretch(used, 8 * spot.start as usize, 8 * spot.words as usize)
+        stretch(
+            used,
+            8 * location.start as usize,
+            8 * location.words as usize,
+        )
     }
 
     /// The root, to be read from the segments as they are; null where there are none.
@@ -152,9 +159,9 @@ impl<A: Allocator> BuilderArena<A> {
 
     /// The tree at the root.
     pub fn root_stands(&self)
-        ensures { 0 < length self.now.spaces → (form : Form) × (held : Trees) × (charge : ℕ) × At (message self.now.spaces) (root ∷ []) (tree form held none) charge }
+        ensures { 0 < length self.now.spaces → (form : Form) × (held : Trees) × (traversed : ℕ) × At (message self.now.spaces) (root ∷ []) (tree form held none) traversed }
     {
-        let spot = self.spot;
+        let location = self.location;
     }
 }
 
@@ -166,7 +173,7 @@ impl<A: Allocator> ReaderSegments for BuilderArena<A> {
     }
 }
 
-// So many bytes from an index on.
+// A given number of bytes from an index on.
 fn stretch(bytes: &[u8], from: usize, count: usize) -> &[u8]
     requires { from + count ≤ length bytes.now }
     ensures { result.now ≡ take count (drop from bytes.now) }

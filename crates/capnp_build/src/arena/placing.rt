@@ -2,7 +2,7 @@
 ghost use Rattle.std.specs.Prelude.{◌≡◌, ℕ, ◌+◌, ◌-◌, ◌*◌, ◌/◌, ◌^◌, ◌<◌, ◌≤◌, List, length, Some, None, IfOk, IfErr, OnErr};
 ghost use Rattle.capnp_frame.specs.declared.error.ErrorKind.TheVariants.{SegmentTaken};
 ghost use Rattle.capnp_build.specs.Out.{Out, HasLarge, MayRefuse};
-ghost use Rattle.capnp_build.specs.Held.{space_at, room_of, pairs};
+ghost use Rattle.capnp_build.specs.Held.{space_at, free_words_of, pairs};
 ghost use Rattle.capnp_build.specs.Built.{IsSet, IsWhole};
 ghost use Rattle.capnp_build.specs.Placed.{IsAdded};
 ghost use Rattle.capnp_wire.specs.Tree.{count};
@@ -17,18 +17,18 @@ use capnp_frame::Result;
 use capnp_wire::traits::SetterInput;
 
 impl<A: Allocator> BuilderArena<A> {
-    // A segment with room for so many words, behind the first.
+    // A segment with room for a given number of words, after the first.
     pub(crate) fn find_room(&mut self, words: u32) -> Result<u32>
         requires there { 0 < length self.old.spaces }
-        requires null { self.old.spot ≡ None }
+        requires null { self.old.location ≡ None }
         requires few { words ≤ 2 ^ 29 }
-        ensures found { IfOk result (λ segment. (0 < segment) × (segment < length self.new.spaces) × (words ≤ room_of (space_at self.new.spaces segment))) }
-        ensures first { IfOk result (λ segment. (i : ℕ) → 0 < i → i < segment → room_of (space_at self.old.spaces i) < words) }
+        ensures found { IfOk result (λ segment. (0 < segment) × (segment < length self.new.spaces) × (words ≤ free_words_of (space_at self.new.spaces segment))) }
+        ensures first { IfOk result (λ segment. (i : ℕ) → 0 < i → i < segment → free_words_of (space_at self.old.spaces i) < words) }
         ensures older { IfOk result (λ segment. segment < length self.old.spaces → self.new.spaces ≡ self.old.spaces) }
         ensures newer { IfOk result (λ segment. length self.old.spaces ≤ segment → (segment ≡ length self.old.spaces) × IsAdded self.old.spaces self.new.spaces) }
         ensures leaves { LeavesNull A.Allocator self.old self.new }
         ensures kept { OnErr result (self.new.spaces ≡ self.old.spaces) }
-        ensures full { OnErr result ((i : ℕ) → 0 < i → i < length self.old.spaces → room_of (space_at self.old.spaces i) < words) }
+        ensures full { OnErr result ((i : ℕ) → 0 < i → i < length self.old.spaces → free_words_of (space_at self.old.spaces i) < words) }
         ensures kind { IfErr result (λ error. MayRefuse words error.kind) }
         ensures taken { IfErr result (λ error. error.kind ≡ SegmentTaken → (others : List Out) →
             A.out self.old.allocator (pairs self.old.spaces others) →
@@ -46,16 +46,16 @@ impl<A: Allocator> BuilderArena<A> {
 
     pub(crate) fn put_near<T, V: SetterInput<T>>(&mut self, canonical: bool, value: &V, words: u32)
         requires there { 0 < length self.old.spaces }
-        requires null { self.old.spot ≡ None }
+        requires null { self.old.location ≡ None }
         requires value { HasWords (V.has_tree value.now) canonical words }
-        requires room { words ≤ room_of (space_at self.old.spaces 0) }
+        requires room { words ≤ free_words_of (space_at self.old.spaces 0) }
         ensures whole { length self.old.spaces ≡ 1 → length (space_at self.old.spaces 0).used ≡ 8 → IsWhole (V.has_tree value.now) canonical self.new.spaces }
         ensures block { PlacesBlock A.Allocator (V.has_tree value.now) canonical 0 0 words
             self.old self.new }
     {
-        let spot = self.segments.fill(0, canonical, value, words);
-        self.segments.point_near(spot);
-        self.spot = Some(spot);
+        let location = self.segments.fill(0, canonical, value, words);
+        self.segments.point_near(location);
+        self.location = Some(location);
     }
 
     pub(crate) fn put_far<T, V: SetterInput<T>>(
@@ -67,17 +67,17 @@ impl<A: Allocator> BuilderArena<A> {
     )
         requires within { segment < length self.old.spaces }
         requires other { 0 < segment }
-        requires null { self.old.spot ≡ None }
+        requires null { self.old.location ≡ None }
         requires some { 0 < words }
         requires value { HasWords (V.has_tree value.now) canonical words }
-        requires room { words + 1 ≤ room_of (space_at self.old.spaces segment) }
+        requires room { words + 1 ≤ free_words_of (space_at self.old.spaces segment) }
         ensures { PlacesBlock A.Allocator (V.has_tree value.now) canonical segment 1 words
             self.old self.new }
     {
         self.segments.grow(segment, 1);
-        let spot = self.segments.fill(segment, canonical, value, words);
-        self.segments.point_far(spot);
-        self.spot = Some(spot);
+        let location = self.segments.fill(segment, canonical, value, words);
+        self.segments.point_far(location);
+        self.location = Some(location);
     }
 
     // Places a value at the null root.
@@ -88,7 +88,7 @@ impl<A: Allocator> BuilderArena<A> {
         words: u32,
     ) -> Result<()>
         requires there { 0 < length self.old.spaces }
-        requires null { self.old.spot ≡ None }
+        requires null { self.old.location ≡ None }
         requires value { HasWords (V.has_tree value.now) canonical words }
         ensures { PutsBlock A.Allocator (IsSet (V.has_tree value.now) canonical) words
             self.old self.new result }

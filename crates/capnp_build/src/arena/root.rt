@@ -44,7 +44,7 @@ impl<A: Allocator> BuilderArena<A> {
         ensures { LooksAtRoot A.Allocator K.OwnedBuilder self.old self.new result }
     {
         self.ensure_root()?;
-        K::accept(self.root_shown(), self.root_bytes())
+        K::accept(self.root_kind(), self.root_bytes())
     }
 
     /// The object at the root, as a view that writes it. Where it is refused, the root stays.

@@ -10,7 +10,7 @@ ghost use Rattle.capnp_build.specs.Blocks.{IsNew, PutsBlock};
 
 use crate::allocator::Allocator;
 use crate::arena::builder_arena::BuilderArena;
-use crate::fresh::Fresh;
+use crate::new_object::NewObject;
 use crate::object::Body;
 use crate::owned_builder::OwnedBuilder;
 use capnp_frame::{Error, ErrorKind, Result};
@@ -41,14 +41,14 @@ impl<A: Allocator> BuilderArena<A> {
     // A new object at the null root.
     fn put_new(&mut self, body: Body) -> Result<()>
         requires there { 0 < length self.old.spaces }
-        requires null { self.old.spot ≡ None }
+        requires null { self.old.location ≡ None }
         requires fits { Fits body }
         ensures { (words : ℕ) × NewWords (zero_form body) words
             × PutsBlock A.Allocator (IsNew (zero_form body)) words self.old self.new result }
     {
-        let fresh = Fresh::new(body);
-        let words = fresh.words();
-        self.put(false, &fresh, words)
+        let new_object = NewObject::new(body);
+        let words = new_object.words();
+        self.put(false, &new_object, words)
     }
 
     /// Sets the root to a value in canonical form, in the first segment.

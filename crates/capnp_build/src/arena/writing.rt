@@ -13,10 +13,10 @@ impl<A: Allocator> BuilderArena<A> {
         requires { HasField self.old.spaces index }
         ensures { WritesRoot (λ old new. IsFieldSet old new index word) self.old self.new }
     {
-        if let Some(spot) = self.spot {
-            let at = 8 * (spot.start as usize + index as usize);
+        if let Some(location) = self.location {
+            let at = 8 * (location.start as usize + index as usize);
             self.segments
-                .write_at(spot.segment, at, &word.to_le_bytes());
+                .write_at(location.segment, at, &word.to_le_bytes());
         }
     }
 
@@ -25,10 +25,10 @@ impl<A: Allocator> BuilderArena<A> {
         requires { HasNumber self.old.spaces index }
         ensures { WritesRoot (λ old new. IsNumberSet old new index number) self.old self.new }
     {
-        if let Some(spot) = self.spot {
-            let at = 8 * spot.start as usize + 8 * index as usize;
+        if let Some(location) = self.location {
+            let at = 8 * location.start as usize + 8 * index as usize;
             self.segments
-                .write_at(spot.segment, at, &number.to_le_bytes());
+                .write_at(location.segment, at, &number.to_le_bytes());
         }
     }
 
@@ -37,15 +37,15 @@ impl<A: Allocator> BuilderArena<A> {
         requires { HasBytes self.old.spaces index (length bytes.now) }
         ensures { WritesRoot (λ old new. IsBytesSet old new index bytes.now) self.old self.new }
     {
-        let Some(spot) = self.spot else {
+        let Some(location) = self.location else {
             return;
         };
-        let Some(used) = self.segments.get(spot.segment) else {
+        let Some(used) = self.segments.get(location.segment) else {
             return;
         };
         each_is_a_byte(used);
         each_is_a_byte(bytes);
-        let at = 8 * spot.start as usize + index as usize;
-        self.segments.write_at(spot.segment, at, bytes);
+        let at = 8 * location.start as usize + index as usize;
+        self.segments.write_at(location.segment, at, bytes);
     }
 }

@@ -63,8 +63,8 @@ impl<W: Write> Write for &mut W {
 
     ghost same = { λ old new. (new.ghost_name ≡ old.ghost_name) × W.same old.now new.now };
 
-    fn write_all(&mut self, piece: &[u8]) -> Result<()> {
-        Write::write_all(&mut **self, piece)
+    fn write_all(&mut self, chunk: &[u8]) -> Result<()> {
+        Write::write_all(&mut **self, chunk)
     }
 
     ghost keeps = { record {

@@ -50,7 +50,7 @@ impl BufRead for &[u8] {
     ghost plain_refusals = { λ _ _ _. (λ p. p, λ p. p) };
 }
 
-/// A piece goes to the end. Where memory is refused the vector is unchanged.
+/// A chunk goes to the end. Where memory is refused the vector is unchanged.
 impl Write for Vec<u8> {
     ghost written = { λ sink. Some sink.items };
 
@@ -66,20 +66,20 @@ impl Write for Vec<u8> {
 
     ghost same = { λ _ _. ⊤ };
 
-    fn write_all(&mut self, piece: &[u8]) -> Result<()>
-        ensures added { OnOk result (self.new.items ≡ self.old.items ++ piece.now) }
+    fn write_all(&mut self, chunk: &[u8]) -> Result<()>
+        ensures added { OnOk result (self.new.items ≡ self.old.items ++ chunk.now) }
         ensures refused { IfErr result (λ error. (error.kind ≡ ErrorKind.OutOfMemory)
             × (self.new.items ≡ self.old.items)) }
     {
-        self.extend_from_slice(piece)?;
+        self.extend_from_slice(chunk)?;
         Ok(())
     }
 
     ghost keeps = { always };
 }
 
-/// The slice moves past what was written, so what is left of it doesn't show that. A piece that
-/// does not fit is refused by `BufferNotLargeEnough`, and nothing of it is written.
+/// The slice moves past what was written, so what is left of it doesn't show that. A chunk that
+/// does not fit fails with `BufferNotLargeEnough`, and nothing of it is written.
 impl Write for &mut [u8] {
     ghost written = { λ _. None };
 
@@ -95,26 +95,26 @@ impl Write for &mut [u8] {
 
     ghost same = { λ _ _. ⊤ };
 
-    fn write_all(&mut self, piece: &[u8]) -> Result<()>
-        ensures added { OnOk result (IfKnown None None (Adds (AppendsSame piece.now))) }
-        ensures left { OnErr result (IfKnown None None (Adds (LeavesNothing piece.now))) }
-        ensures granted { (more : ℕ) → length piece.now + more ≤ length self.old.now →
+    fn write_all(&mut self, chunk: &[u8]) -> Result<()>
+        ensures added { OnOk result (IfKnown None None (Adds (AppendsSame chunk.now))) }
+        ensures left { OnErr result (IfKnown None None (Adds (LeavesNothing chunk.now))) }
+        ensures granted { (more : ℕ) → length chunk.now + more ≤ length self.old.now →
             IsOk result × (more ≤ length self.new.now) }
         ensures failed { IfErr result (λ error. error.kind ≡ ErrorKind.DeviceFailed → Fails 0 0) }
-        ensures moved { OnOk result (self.new.now ≡ drop (length piece.now) self.old.now) }
-        ensures fits { OnOk result (length piece.now ≤ length self.old.now) }
+        ensures moved { OnOk result (self.new.now ≡ drop (length chunk.now) self.old.now) }
+        ensures fits { OnOk result (length chunk.now ≤ length self.old.now) }
         ensures refused { IfErr result (λ error. (error.kind ≡ ErrorKind.DeviceFailed)
-            ⊎ ByKind ErrorKind.BufferNotLargeEnough piece.now error.kind) }
+            ⊎ ByKind ErrorKind.BufferNotLargeEnough chunk.now error.kind) }
         ensures grows { Grows (λ _. None) (λ _. 0) (λ _ _. ⊤) self.old self.new }
         ensures short { IfErr result (λ error. (error.kind ≡ ErrorKind.BufferNotLargeEnough)
-            × (length self.old.now < length piece.now) × (self.new.now ≡ self.old.now)) }
+            × (length self.old.now < length chunk.now) × (self.new.now ≡ self.old.now)) }
     {
-        if self.len() < piece.len() {
+        if self.len() < chunk.len() {
             return Err(Error::from_kind(ErrorKind::BufferNotLargeEnough));
         }
         let all = std::mem::take(self);
-        all[..piece.len()].copy_from_slice(piece);
-        *self = &mut all[piece.len()..];
+        all[..chunk.len()].copy_from_slice(chunk);
+        *self = &mut all[chunk.len()..];
         Ok(())
     }
 

@@ -15,7 +15,7 @@ pub struct ReaderOptions {
     pub nesting_limit: i32,
 }
 
-/// 8 * 1024 * 1024 words, which are 64 MiB, and 64 levels.
+/// 8 * 1024 * 1024 words, which are 64 MiB, and a nesting depth of 64.
 pub const DEFAULT_READER_OPTIONS: ReaderOptions = ReaderOptions {
     traversal_limit_in_words: Some(8 * 1024 * 1024),
     nesting_limit: 64,
@@ -25,7 +25,7 @@ impl ReaderOptions {
     /// The default options.
     pub const fn new() -> ReaderOptions
         ensures words { result.traversal_limit_in_words ≡ default_limit }
-        ensures levels { result.nesting_limit ≡ pos 64 }
+        ensures nesting_limit { result.nesting_limit ≡ pos 64 }
         ensures default { result ≡ DEFAULT_READER_OPTIONS }
     {
         DEFAULT_READER_OPTIONS

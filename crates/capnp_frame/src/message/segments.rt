@@ -6,7 +6,7 @@ use std::marker::Model;
 
 /// The segments of a message, numbered from 0, each its bytes.
 ///
-/// For implementers: `get_segment` answers item `id` of one list, so the first `None` ends it.
+/// For implementers: `get_segment` returns item `id` of one list, so the first `None` ends it.
 pub trait ReaderSegments {
     /// The list of segments.
     ghost segments: { Self → List (List ℕ) };

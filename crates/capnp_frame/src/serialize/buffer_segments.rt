@@ -16,7 +16,7 @@ use crate::serialize::stream::read_table;
 use std::alloc::Global;
 use std::marker::Model;
 
-/// A message's segments in a buffer that holds its table and behind it the segments.
+/// A message's segments in a buffer that holds its table and after it the segments.
 ///
 /// Where each segment begins and ends is kept, so no segment is copied and the table is read once.
 #[derive(Drop)]
@@ -30,9 +30,9 @@ pub struct BufferSegments<T: AsBytes> {
 impl<T: AsBytes> Model for BufferSegments<T> {
     ghost use Rattle.std.specs.Prelude.{◌≡◌, ◌+◌, ◌*◌, ◌≤◌, length, map, drop, sum};
     ghost use Rattle.capnp_frame.specs.SegmentLengths.{ranges, range_len, cut};
-    ghost use Rattle.capnp_frame.specs.Views.{Held};
+    ghost use Rattle.capnp_frame.specs.Views.{SeenBuffer};
 
-    ghost Value = { Held T };
+    ghost Value = { SeenBuffer T };
 
     ghost view = { λ held. record {
       buffer = held.buffer;
@@ -45,7 +45,7 @@ impl<T: AsBytes> Model for BufferSegments<T> {
 }
 
 impl<T: AsBytes> BufferSegments<T> {
-    /// The parts of `buffer` behind its first `table_len` bytes that lie between these indices, in
+    /// The parts of `buffer` after its first `table_len` bytes that lie between these indices, in
     /// words.
     pub(crate) fn from_parts(
         buffer: T,
@@ -76,10 +76,10 @@ impl<T: AsBytes> BufferSegments<T> {
 }
 
 impl<T: AsBytes + Drop> BufferSegments<T> {
-    /// Finds the message at the front of a buffer. Behind it anything may stand.
+    /// Finds the message at the front of a buffer. After it anything may stand.
     ///
     /// Memory is taken for the lengths of the segments alone, once their number is accepted. A
-    /// padding that isn't zero is refused by `NonZeroPadding`, once the limit of words is tested.
+    /// padding that isn't zero fails with `NonZeroPadding`, once the limit of words is tested.
     pub fn new(alloc: Global, buffer: T, options: ReaderOptions) -> Result<BufferSegments<T>>
         ensures buffer { IfOk result (λ found. found.buffer ≡ buffer) }
         ensures reads { ReadsFlat (buffer_rules Padding.Zero options.traversal_limit_in_words)
@@ -151,11 +151,11 @@ impl<T: AsBytes> ReaderSegments for BufferSegments<T> {
     }
 }
 
-/// Finds the message at the front of a slice, and moves the slice behind it. A slice that is refused
+/// Finds the message at the front of a slice, and moves the slice after it. A slice that is refused
 /// stays as it was.
 ///
 /// No segment is copied. Memory is taken for the lengths of the segments, once their number is
-/// accepted. A padding that isn't zero is refused by `NonZeroPadding`, once the limit of words is
+/// accepted. A padding that isn't zero fails with `NonZeroPadding`, once the limit of words is
 /// tested.
 pub fn take_segments<'a>(
     alloc: Global,
@@ -187,7 +187,7 @@ pub fn take_segments_lenient<'a>(
     take_front(alloc, slice, options.traversal_limit_in_words, Padding::Any)
 }
 
-// The message at the front of a slice, which moves behind it.
+// The message at the front of a slice, which moves after it.
 fn take_front<'a>(
     alloc: Global,
     slice: &mut &'a [u8],
@@ -205,7 +205,7 @@ fn take_front<'a>(
 }
 
 // The lengths of the segments of the message at the front of these bytes, in words, and the length
-// of its table, in bytes. No bytes are refused by `empty`.
+// of its table, in bytes. No bytes fail with `empty`.
 fn find_message(
     alloc: Global,
     bytes: &[u8],

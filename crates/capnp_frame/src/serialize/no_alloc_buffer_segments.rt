@@ -10,10 +10,10 @@ use crate::serialize::segment_table::{Padding, field_at, table_len};
 use crate::serialize::segment_table_info::{NoAllocSegmentTableInfo, read_table_info};
 use std::marker::Model;
 
-// The ends of so many segments are kept.
+// The ends of a given number of segments are kept.
 const KEPT_ENDS: usize = 8;
 
-/// A message's segments in a buffer that holds its table and behind it the segments.
+/// A message's segments in a buffer that holds its table and after it the segments.
 ///
 /// No segment is copied and no memory is taken. Where the first eight segments end is kept, and of
 /// those after them the table is read anew, from the ninth length on, each time that one is asked
@@ -32,10 +32,10 @@ pub type NoAllocSliceSegments<'b> = NoAllocBufferSegments<&'b [u8]>;
 // Clauses see the buffer and the segments.
 impl<T: AsBytes> Model for NoAllocBufferSegments<T> {
     ghost use Rattle.capnp_frame.specs.Front.{told_segments, HoldsMessage};
-    ghost use Rattle.capnp_frame.specs.Views.{Held};
+    ghost use Rattle.capnp_frame.specs.Views.{SeenBuffer};
     ghost use Rattle.capnp_frame.specs.KeptTables.{KeepsEnds};
 
-    ghost Value = { Held T };
+    ghost Value = { SeenBuffer T };
 
     ghost view = { λ held. record {
       buffer = held.buffer;
@@ -59,7 +59,7 @@ impl<T: AsBytes> NoAllocBufferSegments<T> {
         NoAllocBufferSegments::of_held(buffer, info.segments_count)
     }
 
-    /// The message that the buffer holds, of so many segments.
+    /// The message that the buffer holds, of a given number of segments.
     pub(crate) fn of_held(buffer: T, segments_count: usize) -> NoAllocBufferSegments<T>
         requires { HoldsMessage (T.bytes buffer) segments_count }
         ensures { result ≡ record {
@@ -77,8 +77,8 @@ impl<T: AsBytes> NoAllocBufferSegments<T> {
 }
 
 impl<T: AsBytes + Drop> NoAllocBufferSegments<T> {
-    /// Finds the message at the front of a buffer. Behind it anything may stand. A padding that
-    /// isn't zero is refused by `NonZeroPadding`, once the table is whole.
+    /// Finds the message at the front of a buffer. After it anything may stand. A padding that
+    /// isn't zero fails with `NonZeroPadding`, once the table is whole.
     pub fn from_buffer(buffer: T, options: ReaderOptions) -> Result<NoAllocBufferSegments<T>>
         ensures buffer { IfOk result (λ found. found.buffer ≡ buffer) }
         ensures reads { ReadsFlat (no_alloc_rules Padding.Zero options.traversal_limit_in_words)
@@ -111,8 +111,8 @@ impl<T: AsBytes + Drop> NoAllocBufferSegments<T> {
 }
 
 impl<'b> NoAllocBufferSegments<&'b [u8]> {
-    /// Finds the message at the front of a slice, and moves the slice behind it. A slice that is
-    /// refused stays as it was. A padding that isn't zero is refused by `NonZeroPadding`, once the
+    /// Finds the message at the front of a slice, and moves the slice after it. A slice that is
+    /// refused stays as it was. A padding that isn't zero fails with `NonZeroPadding`, once the
     /// table is whole.
     pub fn from_slice(
         slice: &mut &'b [u8],
@@ -135,7 +135,7 @@ impl<'b> NoAllocBufferSegments<&'b [u8]> {
         NoAllocBufferSegments::take_front(slice, options.traversal_limit_in_words, Padding::Any)
     }
 
-    // The message at the front of a slice, which moves behind it.
+    // The message at the front of a slice, which moves after it.
     fn take_front(
         slice: &mut &'b [u8],
         limit: Option<usize>,
@@ -173,7 +173,7 @@ impl<T: AsBytes> ReaderSegments for NoAllocBufferSegments<T> {
     }
 }
 
-// Where the first segments end, in words after the table, of a message of so many segments.
+// Where the first segments end, in words after the table, of a message of a given number of segments.
 fn first_ends(bytes: &[u8], count: usize) -> [usize; KEPT_ENDS]
     requires { HoldsMessage bytes.now count }
     ensures { KeepsEnds result count bytes.now }

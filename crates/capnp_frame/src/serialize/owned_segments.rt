@@ -8,7 +8,7 @@ use crate::serialize::segment_lengths::part;
 use std::alloc::Global;
 use std::marker::Model;
 
-/// The segments of a message in one piece of memory.
+/// The segments of a message in one chunk of memory.
 #[derive(Drop)]
 pub struct OwnedSegments {
     segment_indices: Vec<(usize, usize)>,

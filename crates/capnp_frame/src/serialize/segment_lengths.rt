@@ -1,4 +1,4 @@
-//! The lengths of segments that stand behind one another.
+//! The lengths of segments that stand after one another.
 ghost use Rattle.std.specs.Prelude.{◌≡◌, ℕ, ◌+◌, ◌*◌, ◌<◌, ◌≤◌, ◌^◌, ◌↔◌, List, [], ◌∷◌, ◌++◌, length, map, drop, sum, replicate, IfOk, OnOk, OnErr, IfErr, ◌⊎◌, vec_len, slice_get, option_copied};
 ghost use Rattle.capnp_frame.specs.SegmentLengths.{ranges, range_len, cut, AreRanges};
 ghost use Rattle.capnp_frame.specs.Errors.{MayOverflow};
@@ -9,7 +9,7 @@ use crate::serialize::owned_segments::OwnedSegments;
 use std::alloc::Global;
 use std::marker::Model;
 
-/// The lengths of segments in words, one pushed behind the other, and what is made of them.
+/// The lengths of segments in words, one pushed after the other, and what is made of them.
 #[derive(Drop)]
 pub struct SegmentLengthsBuilder {
     segment_indices: Vec<(usize, usize)>,
@@ -92,7 +92,7 @@ impl SegmentLengthsBuilder {
         Ok(OwnedSegments::from_parts(self.to_segment_indices(), bytes))
     }
 
-    /// The parts of these lengths of `slice` behind its first `table_len` bytes.
+    /// The parts of these lengths of `slice` after its first `table_len` bytes.
     pub fn into_slice_segments(self, slice: &[u8], table_len: usize) -> BufferSegments<&[u8]>
         requires { table_len + 8 * sum self ≤ length slice.now }
         ensures buffer { result.buffer.now ≡ slice.now }

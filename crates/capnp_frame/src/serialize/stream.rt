@@ -25,13 +25,13 @@ use crate::serialize::segment_table::{
 };
 use std::alloc::Global;
 
-/// Reads the next message of a source, or answers `None` where nothing is unread.
+/// Reads the next message of a source, or returns `None` where nothing is unread.
 ///
-/// The message is three pieces to the source: the first word of its table, the table's other words,
-/// and all segments together; a piece of no bytes is not asked for. Just these bytes are consumed,
-/// so the next message stands unread behind them. Memory is taken for the lengths once the number
+/// The message is three chunks to the source: the first word of its table, the table's other words,
+/// and all segments together; a chunk of no bytes is not asked for. Just these bytes are consumed,
+/// so the next message stands unread after them. Memory is taken for the lengths once the number
 /// of segments is accepted, and for the segments once the limit of words and the padding are tested:
-/// a padding that isn't zero is refused by `NonZeroPadding`, with the table consumed.
+/// a padding that isn't zero fails with `NonZeroPadding`, with the table consumed.
 pub fn try_read_segments<R: Read>(
     alloc: Global,
     source: &mut R,
@@ -140,7 +140,7 @@ fn read_segments<R: Read>(
     };
     let mut bytes = spare;
     bytes.resize(8 * lengths.total_words(), 0)?;
-    read_piece(source, &mut bytes)?;
+    read_chunk(source, &mut bytes)?;
     Ok(Some(OwnedSegments::from_parts(lengths.to_segment_indices(), bytes)))
 }
 
@@ -169,7 +169,8 @@ pub(crate) fn read_table<R: Read>(
 }
 
 // Reads the table's other words, tests the limit and the padding, fills in where each segment begins
-// and ends, and answers the sum of the lengths. Only a long table takes the long buffer, since each buffer is filled with zeros first.
+// and ends, and returns the sum of the lengths. Only a long table takes the long buffer, since each
+// buffer is filled with zeros first.
 fn read_lengths<R: Read>(
     source: &mut R,
     first: &[u8; 8],
@@ -207,7 +208,7 @@ fn read_lengths_by<R: Read>(
 }
 
 // Fills in where each segment begins and ends by a table that is complete, tests the limit and the
-// padding, and answers the sum of the lengths.
+// padding, and returns the sum of the lengths.
 fn fill_lengths(
     indices: &mut [(usize, usize)],
     table: &[u8],
@@ -231,7 +232,7 @@ fn fill_lengths(
     Ok(total)
 }
 
-// Puts a table's first word into its place, and reads the other words behind it.
+// Puts a table's first word into its place, and reads the other words after it.
 pub(crate) fn complete_table<R: Read>(
     source: &mut R,
     first: &[u8; 8],
@@ -246,7 +247,7 @@ pub(crate) fn complete_table<R: Read>(
     ensures asked { Asked R.unread R.failures R.same source.old source.new result }
 {
     table[..8].copy_from_slice(first);
-    read_piece(source, &mut table[8..])
+    read_chunk(source, &mut table[8..])
 }
 
 // The next word, or none at the source's end.
@@ -265,21 +266,21 @@ pub(crate) fn read_first<R: Read>(source: &mut R) -> Result<Option<[u8; 8]>>
     if count == 0 {
         return Ok(None);
     }
-    read_piece(source, &mut word[count..])?;
+    read_chunk(source, &mut word[count..])?;
     Ok(Some(word))
 }
 
-// Fills a piece by one request. A piece of no bytes asks for nothing.
-pub(crate) fn read_piece<R: Read>(source: &mut R, piece: &mut [u8]) -> Result<()>
+// Fills a chunk by one request. A chunk of no bytes asks for nothing.
+pub(crate) fn read_chunk<R: Read>(source: &mut R, chunk: &mut [u8]) -> Result<()>
     ensures given { OnOk result (IfKnown (R.unread source.old) (R.unread source.new)
-        (λ raw rest. R.gives raw (length piece.new) piece.new rest)) }
-    ensures quiet { piece.old ≡ [] → (source.new ≡ source.old) × IsOk result }
+        (λ raw rest. R.gives raw (length chunk.new) chunk.new rest)) }
+    ensures quiet { chunk.old ≡ [] → (source.new ≡ source.old) × IsOk result }
     ensures refused { FailsOr result
-        (IsRefused R.refuses (length piece.new) (R.unread source.old)) }
+        (IsRefused R.refuses (length chunk.new) (R.unread source.old)) }
     ensures asked { Asked R.unread R.failures R.same source.old source.new result }
 {
-    if piece.is_empty() {
+    if chunk.is_empty() {
         return Ok(());
     }
-    source.read_exact(piece)
+    source.read_exact(chunk)
 }

@@ -6,7 +6,7 @@ ghost use Rattle.capnp_frame.specs.Streams.{next_in, framed_rules, ReadsStreamIn
 use crate::error::Result;
 use crate::io::Read;
 use crate::message::ReaderOptions;
-use crate::serialize::lent_stream::read_into;
+use crate::serialize::provided_stream::read_into;
 use crate::serialize::segment_table::{Padding, table_len};
 use crate::serialize::segment_table_info::NoAllocSegmentTableInfo;
 

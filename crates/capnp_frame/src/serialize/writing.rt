@@ -3,9 +3,9 @@ ghost use Rattle.std.specs.Prelude.{◌≡◌, ◌+◌, ◌<◌, ◌≤◌, ◌^
 ghost use Rattle.std.specs.List.{AllByRecursion};
 ghost use Rattle.capnp_frame.specs.Message.{IsWholeWords, lengths};
 ghost use Rattle.capnp_frame.specs.SegmentTable.{field, zero_padded_table, table_size};
-ghost use Rattle.capnp_frame.specs.Writing.{IsWritable, RefusesMany, word_and_rest, table_pieces};
+ghost use Rattle.capnp_frame.specs.Writing.{IsWritable, RefusesMany, word_and_rest, table_chunks};
 ghost use Rattle.capnp_frame.specs.Sink.{AppendsAll, LeavesSome, DeclinesSome};
-ghost use Rattle.capnp_frame.specs.Writers.{WritesTo, WritesPieces, WritesSegments, LacksTable, KeepsCount, ReturnsText, CountsWords};
+ghost use Rattle.capnp_frame.specs.Writers.{WritesTo, WritesChunks, WritesSegments, LacksTable, KeepsCount, ReturnsText, CountsWords};
 
 use crate::error::{Error, ErrorKind, Result};
 use crate::io::Write;
@@ -14,7 +14,7 @@ use crate::serialize::segment_table::{SEGMENTS_COUNT_LIMIT, table_len};
 use std::alloc::Global;
 
 /// Writes a message: the first word of its table, with two segments or more the table's other words
-/// as one piece, and then each segment as a piece ("Serialization Over a Stream").
+/// as one chunk, and then each segment as a chunk ("Serialization Over a Stream").
 ///
 /// More than 511 segments, which no reader accepts, fail with `InvalidNumberOfSegments` before all
 /// else. Memory is taken for a table of four segments or more, before anything is written.
@@ -80,8 +80,8 @@ fn keep_count<S: ReaderSegments>(segments: &S) -> Result<()>
 // Writes the table, with memory for it from four segments on.
 fn write_table<W: Write, S: ReaderSegments>(alloc: Global, sink: &mut W, segments: &S) -> Result<()>
     requires { IsWritable (S.segments segments.now) }
-    ensures { WritesPieces W.Write sink.old sink.new
-        (table_pieces (lengths (S.segments segments.now)))
+    ensures { WritesChunks W.Write sink.old sink.new
+        (table_chunks (lengths (S.segments segments.now)))
         (LacksTable (S.segments segments.now)) result }
 {
     let count = segments.len();
@@ -110,7 +110,7 @@ fn write_in_parts<W: Write>(sink: &mut W, table: &[u8]) -> Result<()>
     Ok(())
 }
 
-// Writes each segment as a piece.
+// Writes each segment as a chunk.
 fn write_each<W: Write, S: ReaderSegments>(sink: &mut W, segments: &S) -> Result<()>
     requires { length (S.segments segments.now) < 2 ^ 32 }
     ensures { WritesTo W.Write sink.old sink.new (AppendsAll W.appends (S.segments segments.now))
@@ -125,7 +125,7 @@ fn write_each<W: Write, S: ReaderSegments>(sink: &mut W, segments: &S) -> Result
     Ok(())
 }
 
-// The segment at an index, as a walk over all segments asks for it: none stands behind the last.
+// The segment at an index, as a walk over all segments asks for it: none stands after the last.
 fn segment_at<S: ReaderSegments>(segments: &S, index: u32) -> Option<&[u8]>
     ensures here { IfSome result (λ segment.
         slice_get (S.segments segments.now) index ≡ Some segment.now) }

@@ -30,8 +30,8 @@ fn a_fault_is_no_end_and_gives_no_bytes(rt: HostRuntime) -> Result<(), Fail> {
         device.bad_read = bad_read;
         let mut input = Input::new(rt.alloc(), device)?;
         let mut got = [0; 8];
-        let answer = Read::read_exact(&mut input, &mut got);
-        let refused = answer.is_err_and(|error| error.kind == ErrorKind::DeviceFailed);
+        let returned = Read::read_exact(&mut input, &mut got);
+        let refused = returned.is_err_and(|error| error.kind == ErrorKind::DeviceFailed);
         assert!(rt; refused, "at read {bad_read}");
         assert_eq!(rt; input.failures(), 1);
         let rest = BufRead::fill_buf(&mut input)?;

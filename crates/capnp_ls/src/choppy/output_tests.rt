@@ -5,8 +5,8 @@ use capnp::io::Write;
 use std::io;
 use std::test::*;
 
-fn is_device_failed(answer: capnp::Result<()>) -> bool {
-    answer.is_err_and(|error| error.kind == ErrorKind::DeviceFailed)
+fn is_device_failed(returned: capnp::Result<()>) -> bool {
+    returned.is_err_and(|error| error.kind == ErrorKind::DeviceFailed)
 }
 
 #[test]
@@ -15,8 +15,8 @@ fn parts_and_interruptions_lose_nothing(rt: HostRuntime) -> Result<(), Fail> {
         let mut device = taking(rt.alloc(), 2);
         device.interruptions = interruptions;
         let mut output = Output::new(rt.alloc(), capacity, &mut device)?;
-        for piece in ["abc", "", "defgh", "i"] {
-            output.write_all(piece.as_bytes())?;
+        for chunk in ["abc", "", "defgh", "i"] {
+            output.write_all(chunk.as_bytes())?;
         }
         output.flush()?;
         assert_eq!(rt; output.failures(), 0);
@@ -31,7 +31,7 @@ fn parts_and_interruptions_lose_nothing(rt: HostRuntime) -> Result<(), Fail> {
 }
 
 #[test]
-fn a_fault_of_a_write_is_answered(rt: HostRuntime) -> Result<(), Fail> {
+fn a_fault_of_a_write_is_returned(rt: HostRuntime) -> Result<(), Fail> {
     let mut device = taking(rt.alloc(), 4);
     device.bad_write = 2;
     let mut unbuffered = Output::new(rt.alloc(), 0, &mut device)?;
@@ -46,7 +46,7 @@ fn a_fault_of_a_write_is_answered(rt: HostRuntime) -> Result<(), Fail> {
 }
 
 #[test]
-fn a_fault_of_the_last_flush_is_answered(rt: HostRuntime) -> Result<(), Fail> {
+fn a_fault_of_the_last_flush_is_returned(rt: HostRuntime) -> Result<(), Fail> {
     let mut device = taking(rt.alloc(), 4);
     device.bad_write = 2;
     let mut output = Output::new(rt.alloc(), 64, &mut device)?;

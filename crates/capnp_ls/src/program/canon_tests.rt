@@ -13,10 +13,10 @@ const HELLO: &[u8] = b"\0\0\0\0\x03\0\0\0\x01\0\0\0\x72\0\0\0Hello, World!\0\0\0
 const FORMS: [(&[u8], &[u8]); 12] = [
     (b"", b""),
     (HELLO, HELLO),
-    // "hello world!" behind a far pointer
+    // "hello world!" after a far pointer
     (b"\x01\0\0\0\x01\0\0\0\x03\0\0\0\0\0\0\0\x02\0\0\0\x01\0\0\0\x01\0\0\0\x6a\0\0\0hello world!\0\0\0\0",
         b"\0\0\0\0\x03\0\0\0\x01\0\0\0\x6a\0\0\0hello world!\0\0\0\0"),
-    // a text that is set anew behind a shorter one, which became zero
+    // a text that is set anew after a shorter one, which became zero
     (b"\0\0\0\0\x04\0\0\0\x05\0\0\0\x72\0\0\0\0\0\0\0\0\0\0\0Hello, World!\0\0\0", HELLO),
     // a struct of two words and a null pointer
     (b"\0\0\0\0\x04\0\0\0\0\0\0\0\x02\0\x01\0\x05\0\0\0\0\0\0\0\0\0\0\0\0\0\0\0\0\0\0\0\0\0\0\0",
@@ -30,12 +30,12 @@ const FORMS: [(&[u8], &[u8]); 12] = [
     // a list of no structs, whose tag is the root's own word
     (b"\0\0\0\0\x02\0\0\0\0\0\0\0\0\0\x01\0\xf9\xff\xff\xff\x0f\0\0\0",
         b"\0\0\0\0\x03\0\0\0\0\0\0\0\0\0\x01\0\x01\0\0\0\x07\0\0\0\0\0\0\0\0\0\0\0"),
-    // "A" behind pads of one and of two words
+    // "A" after landing pads of one and of two words
     (b"\0\0\0\0\x03\0\0\0\x0a\0\0\0\0\0\0\0\x01\0\0\0\x12\0\0\0\x41\0\0\0\0\0\0\0",
         b"\0\0\0\0\x02\0\0\0\x01\0\0\0\x12\0\0\0\x41\0\0\0\0\0\0\0"),
     (b"\x02\0\0\0\x01\0\0\0\x02\0\0\0\x01\0\0\0\x06\0\0\0\x01\0\0\0\x02\0\0\0\x02\0\0\0\x01\0\0\0\x12\0\0\0\x41\0\0\0\0\0\0\0",
         b"\0\0\0\0\x02\0\0\0\x01\0\0\0\x12\0\0\0\x41\0\0\0\0\0\0\0"),
-    // a byte with another behind it
+    // a byte with another after it
     (b"\0\0\0\0\x02\0\0\0\x01\0\0\0\x0a\0\0\0\x41\0\0\0\0\0\0\x01",
         b"\0\0\0\0\x02\0\0\0\x01\0\0\0\x0a\0\0\0\x41\0\0\0\0\0\0\0"),
 ];
@@ -48,8 +48,8 @@ fn forms_of_framed_messages(rt: HostRuntime) -> Result<(), Fail> {
     for (message, form) in FORMS {
         let mut source = message;
         let mut sink = Vec::new(rt.alloc());
-        let answer = run(rt.alloc(), &words, &mut source, &mut sink);
-        assert!(rt; answer.is_ok(), "{message:?}");
+        let returned = run(rt.alloc(), &words, &mut source, &mut sink);
+        assert!(rt; returned.is_ok(), "{message:?}");
         assert_eq!(rt; sink.as_slice(), form, "{message:?}");
         all.extend_from_slice(message)?;
         forms.extend_from_slice(form)?;
@@ -62,7 +62,8 @@ fn forms_of_framed_messages(rt: HostRuntime) -> Result<(), Fail> {
     Ok(())
 }
 
-// Packed messages: "Hello, World!", and a struct of two words and a null pointer. Their forms are framed.
+// Packed messages: "Hello, World!", and a struct of two words and a null pointer. Their forms are
+// framed.
 #[test]
 fn forms_of_packed_messages(rt: HostRuntime) -> Result<(), Fail> {
     let words = words(rt.alloc(), &["canon", "--packed"])?;
@@ -91,7 +92,7 @@ const STOPS: [(&[u8], u8); 12] = [
     (b"\0\0\0\0\x01\0\0\0\x04\0\0\0\0\0\0\0", 17),
     (b"\0\0\0\0\0\0\0\0", 17),
     (b"\0\0\0\0\x01\0\0\0\x02\0\0\0\x07\0\0\0", 18),
-    // a pad that is a far pointer again
+    // a landing pad that is a far pointer again
     (b"\x01\0\0\0\x01\0\0\0\x01\0\0\0\0\0\0\0\x02\0\0\0\x01\0\0\0\x02\0\0\0\0\0\0\0", 17),
     // a struct that holds itself
     (b"\0\0\0\0\x02\0\0\0\0\0\0\0\0\0\x01\0\xfc\xff\xff\xff\0\0\x01\0", 19),
@@ -119,8 +120,8 @@ fn stops_where_no_form_stands(rt: HostRuntime) -> Result<(), Fail> {
         }
         let mut source = bytes.as_slice();
         let mut sink = Vec::new(rt.alloc());
-        let answer = run(rt.alloc(), &words, &mut source, &mut sink);
-        assert_eq!(rt; refusal(answer), Some((1, number)), "{message:?}");
+        let returned = run(rt.alloc(), &words, &mut source, &mut sink);
+        assert_eq!(rt; refusal(returned), Some((1, number)), "{message:?}");
         assert_eq!(rt; sink.as_slice(), HELLO, "{message:?}");
         // A message is read as a whole before it is looked into.
         if number > 5 {
@@ -139,8 +140,8 @@ fn stops_where_a_form_has_no_room(rt: HostRuntime) -> Result<(), Fail> {
     let mut source = bytes.as_slice();
     let mut room = [0; 40];
     let mut sink = room.as_mut_slice();
-    let answer = run(rt.alloc(), &words, &mut source, &mut sink);
-    assert_eq!(rt; refusal(answer), Some((1, 2)));
+    let returned = run(rt.alloc(), &words, &mut source, &mut sink);
+    assert_eq!(rt; refusal(returned), Some((1, 2)));
     assert!(rt; sink.is_empty());
     let written = room.as_slice();
     assert_eq!(rt; written.get(..32), Some(HELLO));
@@ -148,7 +149,7 @@ fn stops_where_a_form_has_no_room(rt: HostRuntime) -> Result<(), Fail> {
     Ok(())
 }
 
-// The device fails at its nth write of the four pieces of two messages.
+// The device fails at its nth write of the four chunks of two messages.
 #[test]
 fn stops_at_the_message_of_a_failed_write(rt: HostRuntime) -> Result<(), Fail> {
     let words = words(rt.alloc(), &["canon"])?;
@@ -159,8 +160,8 @@ fn stops_at_the_message_of_a_failed_write(rt: HostRuntime) -> Result<(), Fail> {
         device.bad_write = bad_write;
         let mut sink = Output::new(rt.alloc(), 0, &mut device)?;
         let mut source = bytes.as_slice();
-        let answer = run(rt.alloc(), &words, &mut source, &mut sink);
-        assert_eq!(rt; refusal(answer), Some((message, 13)), "write {bad_write}");
+        let returned = run(rt.alloc(), &words, &mut source, &mut sink);
+        assert_eq!(rt; refusal(returned), Some((message, 13)), "write {bad_write}");
         drop(sink);
         assert_eq!(rt; device.got.len(), taken, "write {bad_write}");
     }

@@ -46,7 +46,7 @@ fn messages_of_any_padding(rt: HostRuntime) -> Result<(), Fail> {
     Ok(())
 }
 
-// Nothing is printed of the message, and the source stands right behind its table.
+// Nothing is printed of the message, and the source stands right after its table.
 #[test]
 fn other_paddings_stop_a_run(rt: HostRuntime) -> Result<(), Fail> {
     let rows: [(&[&str], &[u8], usize); 6] = [
@@ -61,8 +61,8 @@ fn other_paddings_stop_a_run(rt: HostRuntime) -> Result<(), Fail> {
         let words = words(rt.alloc(), texts)?;
         let mut source = input;
         let mut sink = Vec::new(rt.alloc());
-        let answer = run(rt.alloc(), &words, &mut source, &mut sink);
-        assert_eq!(rt; refusal(answer), Some((0, 26)), "{texts:?}");
+        let returned = run(rt.alloc(), &words, &mut source, &mut sink);
+        assert_eq!(rt; refusal(returned), Some((0, 26)), "{texts:?}");
         assert!(rt; sink.is_empty(), "{texts:?}");
         assert_eq!(rt; source.len(), unread, "{texts:?}");
     }

@@ -32,8 +32,8 @@ pub(crate) fn words(alloc: Global, texts: &[&str]) -> Result<Vec<String>, AllocE
 }
 
 // The message and the number of a refusal's kind.
-pub(crate) fn refusal(answer: Result<(), Stop>) -> Option<(u64, u8)> {
-    match answer {
+pub(crate) fn refusal(returned: Result<(), Stop>) -> Option<(u64, u8)> {
+    match returned {
         Err(Stop::Refused { message, error }) => Some((message, error.kind.number())),
         _ => None,
     }
@@ -74,8 +74,8 @@ fn lines_before_a_refusal_stay(rt: HostRuntime) -> Result<(), Fail> {
         bytes.extend_from_slice(others)?;
         let mut source = bytes.as_slice();
         let mut sink = Vec::new(rt.alloc());
-        let answer = run(rt.alloc(), &words, &mut source, &mut sink);
-        assert_eq!(rt; refusal(answer), Some((1, number)));
+        let returned = run(rt.alloc(), &words, &mut source, &mut sink);
+        assert_eq!(rt; refusal(returned), Some((1, number)));
         assert_eq!(rt; sink.as_slice(), LINES[1].as_bytes());
         assert_eq!(rt; source.len(), unread, "kind {number}");
     }
@@ -112,9 +112,9 @@ fn other_words_read_nothing(rt: HostRuntime) -> Result<(), Fail> {
         let words = words(rt.alloc(), texts)?;
         let mut source = STREAM.as_slice();
         let mut sink = Vec::new(rt.alloc());
-        let answer = run(rt.alloc(), &words, &mut source, &mut sink);
-        assert!(rt; matches!(&answer, Err(Stop::Usage)), "{texts:?}");
-        assert!(rt; answer.is_err_and(|stop| stop.status() == 2), "{texts:?}");
+        let returned = run(rt.alloc(), &words, &mut source, &mut sink);
+        assert!(rt; matches!(&returned, Err(Stop::Usage)), "{texts:?}");
+        assert!(rt; returned.is_err_and(|stop| stop.status() == 2), "{texts:?}");
         assert_eq!(rt; source.len(), STREAM.len());
         assert!(rt; sink.is_empty());
     }
@@ -172,8 +172,8 @@ fn output_before_a_refusal_stays(rt: HostRuntime) -> Result<(), Fail> {
         let words = words(rt.alloc(), texts)?;
         let mut source = input;
         let mut sink = Vec::new(rt.alloc());
-        let answer = run(rt.alloc(), &words, &mut source, &mut sink);
-        assert_eq!(rt; refusal(answer), Some(refused), "{texts:?}");
+        let returned = run(rt.alloc(), &words, &mut source, &mut sink);
+        assert_eq!(rt; refusal(returned), Some(refused), "{texts:?}");
         assert_eq!(rt; sink.as_slice(), output, "{texts:?}");
     }
     Ok(())
@@ -189,8 +189,8 @@ fn a_failed_read_stops_after_the_messages_done(rt: HostRuntime) -> Result<(), Fa
         device.bad_read = bad_read;
         let mut source = Input::new(rt.alloc(), device)?;
         let mut sink = Vec::new(rt.alloc());
-        let answer = run(rt.alloc(), &words, &mut source, &mut sink);
-        assert_eq!(rt; refusal(answer), Some((messages, 13)), "read {bad_read}");
+        let returned = run(rt.alloc(), &words, &mut source, &mut sink);
+        assert_eq!(rt; refusal(returned), Some((messages, 13)), "read {bad_read}");
         assert_eq!(rt; sink.as_slice(), LINES[messages as usize % 4].as_bytes());
     }
     let mut source = Input::new(rt.alloc(), giving(&STREAM, 8))?;
@@ -208,8 +208,8 @@ fn a_failed_write_stops_at_its_message(rt: HostRuntime) -> Result<(), Fail> {
         device.bad_write = bad_write;
         let mut sink = Output::new(rt.alloc(), 0, &mut device)?;
         let mut source = STREAM.as_slice();
-        let answer = run(rt.alloc(), &words, &mut source, &mut sink);
-        assert_eq!(rt; refusal(answer), Some((bad_write - 1, 13)));
+        let returned = run(rt.alloc(), &words, &mut source, &mut sink);
+        assert_eq!(rt; refusal(returned), Some((bad_write - 1, 13)));
         drop(sink);
         assert_eq!(rt;
             device.got.as_slice(),
@@ -234,12 +234,12 @@ fn list_or_lack_memory(
 ) -> Result<(), AllocError> {
     let mut source = STREAM.as_slice();
     let mut sink = Vec::new(rt.alloc());
-    let answer = run(rt.alloc(), words, &mut source, &mut sink);
-    if answer.is_ok() {
+    let returned = run(rt.alloc(), words, &mut source, &mut sink);
+    if returned.is_ok() {
         assert_eq!(rt; sink.as_slice(), LINES[3].as_bytes());
         return Ok(());
     }
-    let stopped = refusal(answer);
+    let stopped = refusal(returned);
     assert!(rt; stopped.is_some_and(|(message, number)| message < 3 && number == 12));
     if let Some((message, _)) = stopped
         && let Some(lines) = LINES.get(message as usize)

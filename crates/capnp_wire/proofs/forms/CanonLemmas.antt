@@ -20,7 +20,7 @@ layout_tells f g h k room small room_too small_too same =
 
 -- the root of a canonical form is the trimmed tree
 pub root_of_canon : (form : Form) (held : Trees) → AllHaveRoom (tree form held none) → total_words (trim (tree form held none)) < 2 ^ 29
-    → (charge : ℕ) × At (canon (tree form held none) ∷ []) (root ∷ []) (trim (tree form held none)) charge
+    → (traversed : ℕ) × At (canon (tree form held none) ∷ []) (root ∷ []) (trim (tree form held none)) traversed
 root_of_canon form held room small = root_of_layout (trim_form form (trim held)) (trim_held form (trim held)) (room_trim (tree form held none) room) small
 
 -- trees with equal canonical forms are equal, trimmed

@@ -40,25 +40,25 @@ trim_same form held same =
     let h : trim_held form (trim held) ≡ held = cc in
     rw (f, h) refl
 
-canon_of_tidy : (segment : List ℕ) (form : Form) (held : Trees) (charge : ℕ) → All (λ w. w < 2 ^ 64) segment → Root (segment ∷ []) form held charge
+canon_of_tidy : (segment : List ℕ) (form : Form) (held : Trees) (traversed : ℕ) → All (λ w. w < 2 ^ 64) segment → Root (segment ∷ []) form held traversed
     → Tidy segment (record { segment = 0; word = 0 } ∷ []) 1 (tree form held none) → Trimmed (tree form held none) → length segment ≡ 1 + total_words (tree form held none) → IsCanon segment form held
-canon_of_tidy segment form held charge all root tidy trimmed long =
-    let room : AllHaveRoom (tree form held none) = read_has_room (segment ∷ []) (record { segment = 0; word = 0 } ∷ []) (tree form held none) charge (one_segment segment all) root in
-    let laid = laid_of_tidy segment 0 (0 ∷ []) 1 (tree form held none) charge root room refl (omega arith, tt) (omega arith) tidy in
+canon_of_tidy segment form held traversed all root tidy trimmed long =
+    let room : AllHaveRoom (tree form held none) = read_has_room (segment ∷ []) (record { segment = 0; word = 0 } ∷ []) (tree form held none) traversed (one_segment segment all) root in
+    let laid = laid_of_tidy segment 0 (0 ∷ []) 1 (tree form held none) traversed root room refl (omega arith, tt) (omega arith) tidy in
     let first : Holds segment 0 (pointer form (count held) 0 ∷ []) = holds_one segment 0 (pointer form (count held) 0) laid.linked.0 in
     let there : Holds segment 0 (layout (tree form held none)) = holds_join segment 0 1 (pointer form (count held) 0 ∷ []) (body (tree form held none)) refl first laid.stand in
     let is : segment ≡ layout (tree form held none) = holds_whole segment (layout (tree form held none)) there (omega (arith, length-body (tree form held none) room)) in
     let same : trim (tree form held none) ≡ tree form held none = trim_trimmed (tree form held none) trimmed in
     (is ∙ sym (trim_same form held same), subst (λ (t : Trees). AllReach (0 ∷ []) 1 t) (sym same) (reach_of_tidy segment 0 (0 ∷ []) 1 (tree form held none) tidy))
 
-tidy_of_canon : (segment : List ℕ) (form : Form) (held : Trees) (charge : ℕ) → All (λ w. w < 2 ^ 64) segment → Root (segment ∷ []) form held charge → IsCanon segment form held
+tidy_of_canon : (segment : List ℕ) (form : Form) (held : Trees) (traversed : ℕ) → All (λ w. w < 2 ^ 64) segment → Root (segment ∷ []) form held traversed → IsCanon segment form held
     → Tidy segment (record { segment = 0; word = 0 } ∷ []) 1 (tree form held none) × Trimmed (tree form held none) × (length segment ≡ 1 + total_words (tree form held none))
-tidy_of_canon segment form held charge all root canonical =
-    let room : AllHaveRoom (tree form held none) = read_has_room (segment ∷ []) (record { segment = 0; word = 0 } ∷ []) (tree form held none) charge (one_segment segment all) root in
+tidy_of_canon segment form held traversed all root canonical =
+    let room : AllHaveRoom (tree form held none) = read_has_room (segment ∷ []) (record { segment = 0; word = 0 } ∷ []) (tree form held none) traversed (one_segment segment all) root in
     let back = root_of_reaching (trim_form form (trim held)) (trim_held form (trim held)) (room_trim (tree form held none) room) canonical.1 in
     let again : At (segment ∷ []) (record { segment = 0; word = 0 } ∷ []) (trim (tree form held none)) back.0 =
     subst (λ (words : List ℕ). At (words ∷ []) (record { segment = 0; word = 0 } ∷ []) (trim (tree form held none)) back.0) (sym canonical.0) back.1 in
-    let both = one_tree (segment ∷ []) (record { segment = 0; word = 0 } ∷ []) (trim (tree form held none)) (tree form held none) back.0 charge again root in
+    let both = one_tree (segment ∷ []) (record { segment = 0; word = 0 } ∷ []) (trim (tree form held none)) (tree form held none) back.0 traversed again root in
     let same : trim (tree form held none) ≡ tree form held none = both.0 in
     let is : segment ≡ layout (tree form held none) = canonical.0 ∙ trim_same form held same in
     let reach : AllReach (0 ∷ []) 1 (tree form held none) = subst (λ (t : Trees). AllReach (0 ∷ []) 1 t) same canonical.1 in
@@ -73,13 +73,13 @@ tidy_of_canon segment form held charge all root canonical =
     )
 
 pub tests_are_exact : TestsAreExact
-tests_are_exact segment form held charge all root = (
-  λ t. (segment, refl, form, held, charge, root, canon_of_tidy segment form held charge all root t.0 t.1 t.2),
+tests_are_exact segment form held traversed all root = (
+  λ t. (segment, refl, form, held, traversed, root, canon_of_tidy segment form held traversed all root t.0 t.1 t.2),
   λ c.
       let same_words : segment ≡ c.0 = cc in
-      let both = one_tree (segment ∷ []) (record { segment = 0; word = 0 } ∷ []) (tree c.2 c.3 none) (tree form held none) c.4 charge c.5 root in
+      let both = one_tree (segment ∷ []) (record { segment = 0; word = 0 } ∷ []) (tree c.2 c.3 none) (tree form held none) c.4 traversed c.5 root in
       let f : c.2 ≡ form = cc in
       let h : c.3 ≡ held = cc in
       let there : IsCanon segment c.2 c.3 = subst (λ (words : List ℕ). IsCanon words c.2 c.3) (sym same_words) c.6 in
-      tidy_of_canon segment form held charge all root (subst (λ (t : Trees). IsCanon segment form t) h (subst (λ (t : Form). IsCanon segment t c.3) f there)),
+      tidy_of_canon segment form held traversed all root (subst (λ (t : Trees). IsCanon segment form t) h (subst (λ (t : Form). IsCanon segment t c.3) f there)),
 )

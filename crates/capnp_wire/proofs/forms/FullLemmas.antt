@@ -5,7 +5,7 @@ use Rattle.std.proofs.lemmas.Bool.{cases_lt}
 use Rattle.std.proofs.lemmas.Option.{slice_get_within, get_or_from_slice_get}
 use Rattle.std.proofs.lemmas.List.Elements.{All-head, All-tail}
 use Rattle.capnp_wire.specs.Tree.{null, struct, numbers, pointers, structs, Trees, none, tree, count}
-use Rattle.capnp_wire.specs.Trim.{first, behind, keep_word, cut_zeros, keep_tree, cut_nulls, least_data, least_pointers, narrowed, trim_form, trim_held}
+use Rattle.capnp_wire.specs.Trim.{first, following, keep_word, cut_zeros, keep_tree, cut_nulls, least_data, least_pointers, narrowed, trim_form, trim_held}
 use Rattle.capnp_wire.specs.declared.layout.place.Place.{Place}
 use Rattle.capnp_wire.specs.Object.{Shape, ShapeStands, a_struct, some_numbers, some_pointers, some_structs, is_null, is_object, PointsTo, word_at}
 use Rattle.capnp_wire.specs.Canonical.{EndsFull, nth_form, EndsSome}
@@ -13,7 +13,7 @@ use Rattle.capnp_wire.proofs.objects.ObjectLemmas.{null_lands_nowhere}
 use Rattle.capnp_wire.proofs.layouts.SizeLemmas.{rows_even}
 use Rattle.capnp_wire.proofs.pointers.SlotLemmas.{AllOf}
 use Rattle.capnp_wire.proofs.words.CutLemmas.{length-keep_word, least_data_within}
-use Rattle.capnp_wire.proofs.trees.PieceLemmas.{kept, before_pieces}
+use Rattle.capnp_wire.proofs.trees.ChunkLemmas.{kept, before_chunks}
 use Rattle.capnp_wire.proofs.trees.NarrowLemmas.{rows_split, first_all}
 use Rattle.capnp_wire.specs.Layout.{HasRoom}
 use Rattle.std.specs.Prelude.{All, ◌↔◌}
@@ -83,8 +83,8 @@ narrowed_all p [] (tree form held rest) long = absurd (omega arith)
 narrowed_all p (row ∷ rows) held long =
     let s = rows_split p p rows held (omega arith) long in
     let one : first p (first p held) ≡ first p held = first_all p (first p held) s.whole in
-    let rest : narrowed p p rows (behind p held) ≡ behind p held = narrowed_all p rows (behind p held) s.others in
-    rw (one, rest) (before_pieces p held)
+    let rest : narrowed p p rows (following p held) ≡ following p held = narrowed_all p rows (following p held) s.others in
+    rw (one, rest) (before_chunks p held)
 
 -- a list of structs is trimmed where its elements need all their words
 pub structs_are_trimmed : (d p : ℕ) (rows : List (List ℕ)) (held : Trees) → HasRoom (structs d p rows) (count held)

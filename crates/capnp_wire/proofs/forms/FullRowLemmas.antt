@@ -2,9 +2,9 @@
 use Rattle.std.proofs.Common.{◌≡◌, inl, inr, ℕ, zero, suc, ◌+◌, ◌*◌, ◌<◌, ◌≤◌, List, [], ◌∷◌, length, Some, refl, sym, ◌∙◌, ap, arith, ◌⊎◌}
 use Rattle.std.proofs.lemmas.Bool.{cases_lt}
 use Rattle.capnp_wire.specs.Tree.{null, Trees, none, tree, count}
-use Rattle.capnp_wire.specs.Trim.{first, behind, cut_nulls, least_pointers}
+use Rattle.capnp_wire.specs.Trim.{first, following, cut_nulls, least_pointers}
 use Rattle.capnp_wire.specs.Canonical.{nth_form, EndsSome}
-use Rattle.capnp_wire.proofs.trees.PieceLemmas.{least_pointers_within}
+use Rattle.capnp_wire.proofs.trees.ChunkLemmas.{least_pointers_within}
 use Rattle.capnp_wire.proofs.trees.NarrowLemmas.{rows_split}
 use Rattle.capnp_wire.proofs.forms.FullLemmas.{fewer, some_same}
 use Rattle.std.specs.Prelude.{◌↔◌}
@@ -15,11 +15,11 @@ nth-first (suc n) none k less = refl
 nth-first (suc n) (tree form held rest) zero less = refl
 nth-first (suc n) (tree form held rest) (suc k) less = nth-first n rest k (omega arith)
 
-nth-behind : (n : ℕ) (trees : Trees) (j i : ℕ) → n + j ≡ i → nth_form (behind n trees) j ≡ nth_form trees i
-nth-behind zero trees j i same = ap (nth_form trees) (omega arith)
-nth-behind (suc n) none j i same = refl
-nth-behind (suc n) (tree form held rest) j zero same = absurd (omega arith)
-nth-behind (suc n) (tree form held rest) j (suc i) same = nth-behind n rest j i (omega arith)
+nth-following : (n : ℕ) (trees : Trees) (j i : ℕ) → n + j ≡ i → nth_form (following n trees) j ≡ nth_form trees i
+nth-following zero trees j i same = ap (nth_form trees) (omega arith)
+nth-following (suc n) none j i same = refl
+nth-following (suc n) (tree form held rest) j zero same = absurd (omega arith)
+nth-following (suc n) (tree form held rest) j (suc i) same = nth-following n rest j i (omega arith)
 
 abbrev NeedsIn : ℕ → ℕ → List (List ℕ) → Trees → Type 0
 NeedsIn p k rows held = (i : ℕ) × (i < length rows) × (nth_form held (i * p + k) ≡ Some null → ⊥)
@@ -28,7 +28,7 @@ found_in : (p k : ℕ) (rows : List (List ℕ)) (held : Trees) → p ≡ k + 1 �
 found_in p k [] held some long same = absurd (omega arith)
 found_in p k (row ∷ rows) held some long same =
     let s = rows_split p p rows held (omega arith) long in
-    elim (cases_lt (least_pointers p rows (behind p held)) p) [
+    elim (cases_lt (least_pointers p rows (following p held)) p) [
       | inl less ↦ (
         0,
         omega arith,
@@ -37,8 +37,8 @@ found_in p k (row ∷ rows) held some long same =
             omega (arith, fewer (first p held) k (omega (arith, s.whole)) here),
       )
       | inr most ↦
-          let rest = found_in p k rows (behind p held) some s.others (omega (arith, least_pointers_within p rows (behind p held))) in
-          (suc rest.0, omega (arith, rest.1), λ last. rest.2 (nth-behind p held (rest.0 * p + k) (suc rest.0 * p + k) (omega arith) ∙ last))
+          let rest = found_in p k rows (following p held) some s.others (omega (arith, least_pointers_within p rows (following p held))) in
+          (suc rest.0, omega (arith, rest.1), λ last. rest.2 (nth-following p held (rest.0 * p + k) (suc rest.0 * p + k) (omega arith) ∙ last))
     ]
 
 needed_in : (p k : ℕ) (rows : List (List ℕ)) (held : Trees) (i : ℕ) → p ≡ k + 1 → count held ≡ length rows * p → i < length rows → (nth_form held (i * p + k) ≡ Some null → ⊥)
@@ -53,7 +53,7 @@ needed_in p k (row ∷ rows) held zero some long less full =
     omega (arith, s.whole)
 needed_in p k (row ∷ rows) held (suc i) some long less full =
     let s = rows_split p p rows held (omega arith) long in
-    let rest = needed_in p k rows (behind p held) i some s.others (omega arith) (λ last. full (sym (nth-behind p held (i * p + k) (suc i * p + k) (omega arith)) ∙ last)) in
+    let rest = needed_in p k rows (following p held) i some s.others (omega arith) (λ last. full (sym (nth-following p held (i * p + k) (suc i * p + k) (omega arith)) ∙ last)) in
     omega arith
 
 -- and all their pointers where these are none, or the last pointer of one of them is not null

@@ -17,17 +17,17 @@ use Rattle.capnp_wire.proofs.layouts.ExactLemmas.{Exactly, exactly}
 -- the first of some trees at places, and the others
 pub record Parts (m : List (List ℕ)) (place : Place) (others : List Place) (form : Form) (held rest : Trees) : Type 0 where
   pub places : List Place
-  pub charge : ℕ
+  pub traversed : ℕ
   pub inside : ℕ
-  pub behind : ℕ
-  pub object : PointsTo m place (record { form = form; held = places; charge = charge })
+  pub following : ℕ
+  pub object : PointsTo m place (record { form = form; held = places; traversed = traversed })
   pub inner : At m places held inside
-  pub after : At m others rest behind
+  pub after : At m others rest following
 
-pub at_parts : (m : List (List ℕ)) (place : Place) (others : List Place) (form : Form) (held rest : Trees) (charge : ℕ) → At m (place ∷ others) (tree form held rest) charge
+pub at_parts : (m : List (List ℕ)) (place : Place) (others : List Place) (form : Form) (held rest : Trees) (traversed : ℕ) → At m (place ∷ others) (tree form held rest) traversed
     → Parts m place others form held rest
-at_parts m place others form held rest charge (at {shape = s} {inside = i} {behind = b} object inner after) =
-    record { places = s.held; charge = s.charge; inside = i; behind = b; object = object; inner = inner; after = after }
+at_parts m place others form held rest traversed (at {shape = s} {inside = i} {following = b} object inner after) =
+    record { places = s.held; traversed = s.traversed; inside = i; following = b; object = object; inner = inner; after = after }
 
 -- a near pointer that is not null, and where its object starts
 pub record Near (segment : List ℕ) (word tag : ℕ) (form : Form) (held : List Place) : Type 0 where
@@ -65,33 +65,33 @@ null_object segment word shape here (is_null e) = refl
 null_object segment word shape here (is_object {landing = c} lands w begins stands) = absurd (null_lands_nowhere (segment ∷ []) (record { segment = 0; word = word }) c here lands)
 
 -- an object with a pointer whose offset leads to the next free word
-near_exactly : (segment : List ℕ) (word next tag : ℕ) (form : Form) (held : List Place) (charge : ℕ) → word < next → next - (word + 1) < 2 ^ 29
+near_exactly : (segment : List ℕ) (word next tag : ℕ) (form : Form) (held : List Place) (traversed : ℕ) → word < next → next - (word + 1) < 2 ^ 29
     → slice_get segment word ≡ Some tag → 0 < tag → pointer_kind tag < 2 → offset tag ≡ next - (word + 1) → Padded segment next form
-    → PointsTo (segment ∷ []) (record { segment = 0; word = word }) (record { form = form; held = held; charge = charge }) → Exactly segment next form held (length held)
-near_exactly segment word next tag form held charge before small there positive is_near offset_is padded object =
-    let n = near_object segment word tag (record { form = form; held = held; charge = charge }) there positive is_near object in
+    → PointsTo (segment ∷ []) (record { segment = 0; word = word }) (record { form = form; held = held; traversed = traversed }) → Exactly segment next form held (length held)
+near_exactly segment word next tag form held traversed before small there positive is_near offset_is padded object =
+    let n = near_object segment word tag (record { form = form; held = held; traversed = traversed }) there positive is_near object in
     let at_next : n.start ≡ next = omega (arith, n.target) in
     let stands : ShapeStands segment (record { segment = 0; word = next }) tag n.shape = subst (λ (x : ℕ). ShapeStands segment (record { segment = 0; word = x }) tag n.shape) at_next n.stands in
     let exact : Exactly segment next n.shape.form n.shape.held (length held) =
     exactly segment next tag n.shape (length held) stands (ap (λ (l : List Place). length l) n.held_is) (subst (λ (f : Form). Padded segment next f) (sym n.form_is) padded) in
     subst (λ (f : Form). Exactly segment next f held (length held)) n.form_is (subst (λ (l : List Place). Exactly segment next n.shape.form l (length held)) n.held_is exact)
 
-struct_exactly : (segment : List ℕ) (word next : ℕ) (words : List ℕ) (held : List Place) (charge : ℕ) → word < next → 0 < length words + length held → HasRoom (struct words) (length held)
+struct_exactly : (segment : List ℕ) (word next : ℕ) (words : List ℕ) (held : List Place) (traversed : ℕ) → word < next → 0 < length words + length held → HasRoom (struct words) (length held)
     → slice_get segment word ≡ Some (pointer (struct words) (length held) (next - (word + 1))) → next - (word + 1) < 2 ^ 29
-    → PointsTo (segment ∷ []) (record { segment = 0; word = word }) (record { form = struct words; held = held; charge = charge }) → Exactly segment next (struct words) held (length held)
-struct_exactly segment word next words held charge before some room there small object =
+    → PointsTo (segment ∷ []) (record { segment = 0; word = word }) (record { form = struct words; held = held; traversed = traversed }) → Exactly segment next (struct words) held (length held)
+struct_exactly segment word next words held traversed before some room there small object =
     let f = struct_fields (next - (word + 1)) (length words) (length held) (omega arith) room.0 in
     let is : pointer (struct words) (length held) (next - (word + 1)) ≡ struct_pointer (next - (word + 1)) (length words) (length held) =
     ap (λ (o : ℕ). struct_pointer o (length words) (length held)) (if_positive (length words + length held) minus_one (next - (word + 1)) some) in
-    near_exactly segment word next (struct_pointer (next - (word + 1)) (length words) (length held)) (struct words) held charge before small (there
+    near_exactly segment word next (struct_pointer (next - (word + 1)) (length words) (length held)) (struct words) held traversed before small (there
     ∙ ap Some is) (omega arith) (omega (arith, f.kind_is)) f.offset_is tt object
 
-list_exactly : (segment : List ℕ) (word next c n : ℕ) (form : Form) (held : List Place) (charge : ℕ) → word < next → c < 8
+list_exactly : (segment : List ℕ) (word next c n : ℕ) (form : Form) (held : List Place) (traversed : ℕ) → word < next → c < 8
     → slice_get segment word ≡ Some (list_pointer (next - (word + 1)) c n) → next - (word + 1) < 2 ^ 29 → Padded segment next form
-    → PointsTo (segment ∷ []) (record { segment = 0; word = word }) (record { form = form; held = held; charge = charge }) → Exactly segment next form held (length held)
-list_exactly segment word next c n form held charge before code there small padded object =
+    → PointsTo (segment ∷ []) (record { segment = 0; word = word }) (record { form = form; held = held; traversed = traversed }) → Exactly segment next form held (length held)
+list_exactly segment word next c n form held traversed before code there small padded object =
     let f = list_fields (next - (word + 1)) c n (omega arith) code in
-    near_exactly segment word next (list_pointer (next - (word + 1)) c n) form held charge before small there (omega arith) (omega (arith, f.kind_is)) f.offset_is padded object
+    near_exactly segment word next (list_pointer (next - (word + 1)) c n) form held traversed before small there (omega arith) (omega (arith, f.kind_is)) f.offset_is padded object
 
 null_exactly : (segment : List ℕ) (next : ℕ) (held : List Place) → next ≤ length segment → held ≡ [] → Exactly segment next null held (length held)
 null_exactly segment next held within nothing =
@@ -103,19 +103,19 @@ empty_exactly segment next within =
     record { held_is = refl; holds = λ links long linked. subst (λ (l : List ℕ). Holds segment next l) (sym (nil_from_length links long)) (holds_none segment next within) }
 
 -- at the next free word, an object's pointers stand where they belong, and then its own words do
-pub tidy_object : (segment : List ℕ) (word next : ℕ) (form : Form) (held : List Place) (charge : ℕ) → word < next → next ≤ length segment → HasRoom form (length held)
+pub tidy_object : (segment : List ℕ) (word next : ℕ) (form : Form) (held : List Place) (traversed : ℕ) → word < next → next ≤ length segment → HasRoom form (length held)
     → slice_get segment word ≡ Some (pointer form (length held) (next - (word + 1))) → Reaches form (length held) (next - (word + 1)) → Padded segment next form
-    → PointsTo (segment ∷ []) (record { segment = 0; word = word }) (record { form = form; held = held; charge = charge }) → Exactly segment next form held (length held)
-tidy_object segment word next null held charge before within room there reach padded object = null_exactly segment next held within (null_object segment word
-    (record { form = null; held = held; charge = charge }) there object)
-tidy_object segment word next (struct []) [] charge before within room there reach padded object = empty_exactly segment next within
-tidy_object segment word next (struct (w ∷ words)) held charge before within room there reach padded object =
-    struct_exactly segment word next (w ∷ words) held charge before (omega arith) room there (reach (omega arith)) object
-tidy_object segment word next (struct []) (p ∷ held) charge before within room there reach padded object =
-    struct_exactly segment word next [] (p ∷ held) charge before (omega arith) room there (reach (omega arith)) object
-tidy_object segment word next (numbers c values) held charge before within room there reach padded object =
-    list_exactly segment word next c (length values) (numbers c values) held charge before (omega (arith, room.0)) there reach padded object
-tidy_object segment word next pointers held charge before within room there reach padded object =
-    list_exactly segment word next 6 (length held) pointers held charge before (omega arith) there reach padded object
-tidy_object segment word next (structs d p rows) held charge before within room there reach padded object =
-    list_exactly segment word next 7 (length rows * (d + p)) (structs d p rows) held charge before (omega arith) there reach padded object
+    → PointsTo (segment ∷ []) (record { segment = 0; word = word }) (record { form = form; held = held; traversed = traversed }) → Exactly segment next form held (length held)
+tidy_object segment word next null held traversed before within room there reach padded object = null_exactly segment next held within (null_object segment word
+    (record { form = null; held = held; traversed = traversed }) there object)
+tidy_object segment word next (struct []) [] traversed before within room there reach padded object = empty_exactly segment next within
+tidy_object segment word next (struct (w ∷ words)) held traversed before within room there reach padded object =
+    struct_exactly segment word next (w ∷ words) held traversed before (omega arith) room there (reach (omega arith)) object
+tidy_object segment word next (struct []) (p ∷ held) traversed before within room there reach padded object =
+    struct_exactly segment word next [] (p ∷ held) traversed before (omega arith) room there (reach (omega arith)) object
+tidy_object segment word next (numbers c values) held traversed before within room there reach padded object =
+    list_exactly segment word next c (length values) (numbers c values) held traversed before (omega (arith, room.0)) there reach padded object
+tidy_object segment word next pointers held traversed before within room there reach padded object =
+    list_exactly segment word next 6 (length held) pointers held traversed before (omega arith) there reach padded object
+tidy_object segment word next (structs d p rows) held traversed before within room there reach padded object =
+    list_exactly segment word next 7 (length rows * (d + p)) (structs d p rows) held traversed before (omega arith) there reach padded object

@@ -50,7 +50,7 @@ put_none at block =
     let none : at + 0 ≡ at = omega arith in
     ap (λ (n : ℕ). take at block ++ ([] ++ drop n block)) none ∙ take-append-drop at block
 
--- words behind others
+-- words after others
 pub put_both : (at : ℕ) (xs ys block : List ℕ) → at + length xs + length ys ≤ length block → put (at + length xs) ys (put at xs block) ≡ put at (xs ++ ys) block
 put_both at xs ys block room =
     let p = parts at (length xs) block (omega arith) in

@@ -13,7 +13,7 @@ use Rattle.capnp_wire.specs.Block.{put, fill}
 use Rattle.capnp_wire.specs.Rows.{row_size, row_count, first_row, kept_places, kept_in, slots_of}
 use Rattle.capnp_wire.specs.Copy.{CanCopy, IsCopied, Copies, IsCopyable, Begins, BeginsRun, IsNarrower, formed_body, pointer_of_body, put_own}
 use Rattle.capnp_wire.specs.declared.layout.place.Place.{Place}
-use Rattle.capnp_wire.specs.Near.{struct_of}
+use Rattle.capnp_wire.specs.Near.{near_struct_of}
 use Rattle.capnp_wire.specs.declared.layout.near.NearStruct.{NearStruct}
 use Rattle.capnp_wire.specs.declared.layout.pointer.StructSize.{StructSize}
 use Rattle.capnp_wire.specs.declared.layout.object.Body.{Body}
@@ -30,17 +30,17 @@ use Rattle.capnp_wire.proofs.layouts.OpenedLemmas.{opened}
 use Rattle.capnp_wire.proofs.pointers.PointerRowLemmas.{kept_held}
 
 -- the object that is read
-pub opened_here : {m : List (List ℕ)} {place : Place} {object : ReadObject} {copied : Body} {level : ℕ} {c : Bool} {next room : ℕ} (can : CanCopy m (place ∷ []) level c next room)
+pub opened_here : {m : List (List ℕ)} {place : Place} {object : ReadObject} {copied : Body} {nesting : ℕ} {c : Bool} {next room : ℕ} (can : CanCopy m (place ∷ []) nesting c next room)
     → IsObject m place object → copied ≡ formed_body c (words_of object.segment.now) object.start.word object.body
-    → Opened m (words_of object.segment.now) object.start object.body copied (level - 1) c next room can.trees
-opened_here {m} {place} {object} {copied} {level} {c} {next} {room} can is copied_is =
-    let o = opened m (words_of object.segment.now) place object.start object.body object.charge level c next room can is.content is.object (omega (
+    → Opened m (words_of object.segment.now) object.start object.body copied (nesting - 1) c next room can.trees
+opened_here {m} {place} {object} {copied} {nesting} {c} {next} {room} can is copied_is =
+    let o = opened m (words_of object.segment.now) place object.start object.body object.traversed nesting c next room can is.content is.object (omega (
       arith,
       is.room,
       length-words_of
           object.segment.now,
     )) is.elements in
-    subst (λ (b : Body). Opened m (words_of object.segment.now) object.start object.body b (level - 1) c next room can.trees) (sym copied_is) o
+    subst (λ (b : Body). Opened m (words_of object.segment.now) object.start object.body b (nesting - 1) c next room can.trees) (sym copied_is) o
 
 -- a copy has as many rows, with no more pointers in each
 pub fewer_pointers : (from copied : Body) → IsNarrower from copied → ((row_size copied).pointers ≤ (row_size from).pointers) × (row_count copied ≡ row_count from)
@@ -79,17 +79,17 @@ null_formed : (c : Bool) → formed c (tree null none none) ≡ tree null none n
 null_formed true = refl
 null_formed false = refl
 
-null_copied : (m : List (List ℕ)) (place : Place) (c : Bool) (trees : Trees) (charge : ℕ) → word_at m place ≡ Some 0 → At m (place ∷ []) trees charge → formed c trees ≡ tree null none none
-null_copied m place c trees charge word stand =
-    let u = under m place nothing trees charge stand (null_there word) in
+null_copied : (m : List (List ℕ)) (place : Place) (c : Bool) (trees : Trees) (traversed : ℕ) → word_at m place ≡ Some 0 → At m (place ∷ []) trees traversed → formed c trees ≡ tree null none none
+null_copied m place c trees traversed word stand =
+    let u = under m place nothing trees traversed stand (null_there word) in
     let held_is : u.held ≡ none = none_at m u.held u.inside u.stand in
     let whole : trees ≡ tree null none none = u.whole ∙ ap (λ (t : Trees). tree null t none) held_is in
     ap (formed c) whole ∙ null_formed c
 
-pub fault_no_tree : (m : List (List ℕ)) (place : Place) (level : ℕ) (kind : ErrorKind) (trees : Trees) (charge : ℕ) → Fault m place level kind → At m (place ∷ []) trees charge
-    → depth trees ≤ level → ⊥
-fault_no_tree m place level kind trees charge fault (at {shape = s} {held = h} object inner nowhere) shallow =
-    refused_has_no_object m place level kind s fault object (λ some.
+pub fault_no_tree : (m : List (List ℕ)) (place : Place) (nesting : ℕ) (kind : ErrorKind) (trees : Trees) (traversed : ℕ) → Fault m place nesting kind → At m (place ∷ []) trees traversed
+    → depth trees ≤ nesting → ⊥
+fault_no_tree m place nesting kind trees traversed fault (at {shape = s} {held = h} object inner nowhere) shallow =
+    refused_has_no_object m place nesting kind s fault object (λ some.
     let plain : (if is_null s.form then 0 else depth h + 1) ≡ depth h + 1 = ap (λ (b : Bool). if b then 0 else depth h + 1) some in
     omega arith)
 
@@ -97,8 +97,8 @@ fault_no_tree m place level kind trees charge fault (at {shape = s} {held = h} o
 pub null_is_copied : {m : List (List ℕ)} {place : Place} {gap next : ℕ} {block : List ℕ} (c : Bool) → word_at m place ≡ Some 0
     → Copies m place c gap next block block (record { pointer = 0; next = next })
 null_is_copied {m} {place} {gap} {next} {block} c word = record {
-  is = λ trees charge stand.
-      let is = null_copied m place c trees charge word stand in
+  is = λ trees traversed stand.
+      let is = null_copied m place c trees traversed word stand in
       record {
         words_are = sym (ap (λ (t : Trees). put next (body t) block) is ∙ put_none next block);
         pointer_is = sym (ap (λ (t : Trees). pointer_to t gap) is);
@@ -107,40 +107,40 @@ null_is_copied {m} {place} {gap} {next} {block} c word = record {
 }
 
 -- an object's own words are copied, and then what its pointers lead to
-pub object_begins : {m : List (List ℕ)} {place : Place} {words : List ℕ} {start : Place} {from copied : Body} {level : ℕ} {c : Bool} {gap next pointer : ℕ}
-    {old mid : List ℕ} (can : CanCopy m (place ∷ []) level c next (length old))
-    → Opened m words start from copied (level - 1) c next (length old) can.trees → mid ≡ put_own words start.word from copied next old → length mid ≡ length old
+pub object_begins : {m : List (List ℕ)} {place : Place} {words : List ℕ} {start : Place} {from copied : Body} {nesting : ℕ} {c : Bool} {gap next pointer : ℕ}
+    {old mid : List ℕ} (can : CanCopy m (place ∷ []) nesting c next (length old))
+    → Opened m words start from copied (nesting - 1) c next (length old) can.trees → mid ≡ put_own words start.word from copied next old → length mid ≡ length old
     → pointer ≡ pointer_of_body copied gap
-    → Begins m place (kept_in start from (row_size copied).pointers) (slots_of next copied) level c gap next (next + words_in copied) old mid pointer
-object_begins {m} {place} {words} {start} {from} {copied} {level} {c} {gap} {next} {pointer} {old} {mid} can o mid_is mid_long pointer_is =
+    → Begins m place (kept_in start from (row_size copied).pointers) (slots_of next copied) nesting c gap next (next + words_in copied) old mid pointer
+object_begins {m} {place} {words} {start} {from} {copied} {nesting} {c} {gap} {next} {pointer} {old} {mid} can o mid_is mid_long pointer_is =
     let k = o.kept in
     record {
-      there = subst (λ (n : ℕ). CanCopy m (kept_in start from (row_size copied).pointers) (level - 1) c (next + words_in copied) n) (sym mid_long) k;
+      there = subst (λ (n : ℕ). CanCopy m (kept_in start from (row_size copied).pointers) (nesting - 1) c (next + words_in copied) n) (sym mid_long) k;
       ends = λ new free done. record {
-        is = λ trees charge stand.
-            let same = one_tree m (place ∷ []) can.trees trees can.charge charge can.stand stand in
+        is = λ trees traversed stand.
+            let same = one_tree m (place ∷ []) can.trees trees can.traversed traversed can.stand stand in
             subst (λ (t : Trees). IsCopied (formed c t) gap next old new (record { pointer = pointer; next = free })) same.0 (record {
-              words_are = done.words_are k.trees k.charge k.stand ∙ ap (λ (b : List ℕ). fill (slots_of next copied) (next + words_in copied) (formed c k.trees) b) mid_is ∙ o.fills old refl;
+              words_are = done.words_are k.trees k.traversed k.stand ∙ ap (λ (b : List ℕ). fill (slots_of next copied) (next + words_in copied) (formed c k.trees) b) mid_is ∙ o.fills old refl;
               pointer_is = pointer_is ∙ o.pointers_are gap;
-              next_is = omega (arith, done.next_is k.trees k.charge k.stand, o.totals);
+              next_is = omega (arith, done.next_is k.trees k.traversed k.stand, o.totals);
             });
       };
     }
 
--- a struct's, and then what its pointers lead to, which stand one behind the other
-pub struct_begins : {m : List (List ℕ)} {place : Place} {found : NearStruct} {size : StructSize} {level : ℕ} {c : Bool} {gap next behind pointer : ℕ} {first : Place} {old mid : List ℕ}
-    (can : CanCopy m (place ∷ []) level c next (length old)) → IsObject m place (struct_of found)
+-- a struct's, and then what its pointers lead to, which stand one after the other
+pub struct_begins : {m : List (List ℕ)} {place : Place} {found : NearStruct} {size : StructSize} {nesting : ℕ} {c : Bool} {gap next following pointer : ℕ} {first : Place} {old mid : List ℕ}
+    (can : CanCopy m (place ∷ []) nesting c next (length old)) → IsObject m place (near_struct_of found)
     → Struct size ≡ formed_body c (words_of found.segment.now) found.start.word (Struct found.size) → size.pointers ≤ found.size.pointers
     → mid ≡ put next (words_from (words_of found.segment.now) found.start.word size.data_words) old → length mid ≡ length old → pointer ≡ pointer_of_body (Struct size) gap
-    → first.segment ≡ found.start.segment → first.word ≡ found.start.word + found.size.data_words → first.word + found.size.pointers < 2 ^ 61 → behind ≡ next + (size.data_words + size.pointers)
-    → BeginsRun m place (words_of found.segment.now) level c gap next old mid (record {
+    → first.segment ≡ found.start.segment → first.word ≡ found.start.word + found.size.data_words → first.word + found.size.pointers < 2 ^ 61 → following ≡ next + (size.data_words + size.pointers)
+    → BeginsRun m place (words_of found.segment.now) nesting c gap next old mid (record {
       pointer = pointer;
       first = first;
       count = size.pointers;
       slot = next + size.data_words;
-      next = behind;
+      next = following;
     })
-struct_begins {m} {place} {found} {size} {level} {c} {gap} {next} {behind} {pointer} {first} {old} {mid} can is size_is fewer mid_is long pointer_is segment_is word_is bound behind_is =
+struct_begins {m} {place} {found} {size} {nesting} {c} {gap} {next} {following} {pointer} {first} {old} {mid} can is size_is fewer mid_is long pointer_is segment_is word_is bound after_is =
     let b = object_begins can (opened_here can is size_is) mid_is long pointer_is in
     let e : ℕ = size.data_words in
     let q : ℕ = size.pointers in
@@ -148,20 +148,20 @@ struct_begins {m} {place} {found} {size} {level} {c} {gap} {next} {behind} {poin
     append-nil (places found.start.segment (found.start.word + found.size.data_words) size.pointers)
     ∙ ap (λ (w : ℕ). places found.start.segment w size.pointers) (sym word_is) ∙ ap (λ (s : ℕ). places s first.word size.pointers) (sym segment_is) in
     record {
-      begins = subst (λ (n : ℕ). Begins m place (places first.segment first.word q) (run (next + e) q) level c gap next n old mid pointer) (sym behind_is)
-          (subst (λ (l : List Place). Begins m place l (run (next + e) q) level c gap next (next + (e + q)) old mid pointer) at_is
-          (subst (λ (l : List ℕ). Begins m place (places found.start.segment (found.start.word + found.size.data_words) q ++ []) l level c gap next (next + (e + q)) old mid pointer)
+      begins = subst (λ (n : ℕ). Begins m place (places first.segment first.word q) (run (next + e) q) nesting c gap next n old mid pointer) (sym after_is)
+          (subst (λ (l : List Place). Begins m place l (run (next + e) q) nesting c gap next (next + (e + q)) old mid pointer) at_is
+          (subst (λ (l : List ℕ). Begins m place (places found.start.segment (found.start.word + found.size.data_words) q ++ []) l nesting c gap next (next + (e + q)) old mid pointer)
           (append-nil (run (next + e) q)) b));
       content = ap (slice_get m) segment_is ∙ is.content;
       bound = omega (arith, bound, fewer);
-      before = omega (arith, behind_is);
+      before = omega (arith, after_is);
     }
 
-pub copyable : {m : List (List ℕ)} {place : Place} {object : ReadObject} {level : ℕ} {c : Bool} {next room : ℕ} → CanCopy m (place ∷ []) level c next room → IsObject m place object
+pub copyable : {m : List (List ℕ)} {place : Place} {object : ReadObject} {nesting : ℕ} {c : Bool} {next room : ℕ} → CanCopy m (place ∷ []) nesting c next room → IsObject m place object
     → IsCopyable object c next room
-copyable {m} {place} {object} {level} can is = record { m = m; place = place; level = level; can = can; is = is }
+copyable {m} {place} {object} {nesting} can is = record { m = m; place = place; nesting = nesting; can = can; is = is }
 
--- The pointers of a list of pointers stand one behind the other, as their copies do.
+-- The pointers of a list of pointers stand one after the other, as their copies do.
 pub record AreInRun (start : Place) (from copied : Body) (next n : ℕ) : Type 0 where
   pub places_are : kept_in start from (row_size copied).pointers ≡ places start.segment start.word n
   pub slots_are : slots_of next copied ≡ run next n
@@ -171,7 +171,7 @@ list_narrower : (n : ℕ) (copied : Body) → IsNarrower (Pointers n) copied →
 list_narrower n (Struct size) is = absurd is
 list_narrower n (Numbers size k) is = absurd is
 list_narrower n (Pointers k) is = ap Pointers is
-list_narrower n (Structs elements behind) is = absurd is
+list_narrower n (Structs elements following) is = absurd is
 
 pub in_run : (start : Place) (from copied : Body) (next n : ℕ) → from ≡ Pointers n → IsNarrower from copied → AreInRun start from copied next n
 in_run start from copied next n from_is narrower =

@@ -12,7 +12,7 @@ use Rattle.capnp_wire.specs.declared.layout.place.Place.{Place}
 use Rattle.capnp_wire.specs.declared.layout.copy.Copied.{Copied}
 use Rattle.capnp_wire.proofs.objects.ObjectLemmas.{one_tree}
 
--- the first of some trees, and those behind it
+-- the first of some trees, and those after it
 pub totals_step : (c : Bool) (form : Form) (held rest : Trees) → total_words (formed c (tree form held rest)) ≡ total_words (formed c (tree form held none)) + total_words (formed c rest)
 totals_step true form held rest = omega arith
 totals_step false form held rest = omega arith
@@ -32,36 +32,36 @@ fill_step true slot slots next form held rest block = fill_one slot slots next (
 fill_step false slot slots next form held rest block = fill_one slot slots next form held rest block
 
 -- what is to be copied, split into the first and the others
-pub record Split (m : List (List ℕ)) (place : Place) (others : List Place) (level : ℕ) (c : Bool) (next room : ℕ) (trees : Trees) : Type 0 where
-  pub first : CanCopy m (place ∷ []) level c next room
-  pub behind : CanCopy m others level c (next + total_words (formed c first.trees)) room
+pub record Split (m : List (List ℕ)) (place : Place) (others : List Place) (nesting : ℕ) (c : Bool) (next room : ℕ) (trees : Trees) : Type 0 where
+  pub first : CanCopy m (place ∷ []) nesting c next room
+  pub following : CanCopy m others nesting c (next + total_words (formed c first.trees)) room
   pub fills : (slot : ℕ) (slots : List ℕ) (block : List ℕ) → fill (slot ∷ slots) next (formed c trees) block
-      ≡ fill slots (next + total_words (formed c first.trees)) (formed c behind.trees)
+      ≡ fill slots (next + total_words (formed c first.trees)) (formed c following.trees)
       (put slot (pointer_to (formed c first.trees) (next - (slot + 1)) ∷ []) (put next (body (formed c first.trees)) block))
-  pub totals : total_words (formed c trees) ≡ total_words (formed c first.trees) + total_words (formed c behind.trees)
+  pub totals : total_words (formed c trees) ≡ total_words (formed c first.trees) + total_words (formed c following.trees)
 
-split_tree : (m : List (List ℕ)) (place : Place) (others : List Place) (level : ℕ) (c : Bool) (next room : ℕ) (trees : Trees) (charge : ℕ)
-    → At m (place ∷ others) trees charge → depth trees ≤ level → AllHaveRoom trees → next + total_words (formed c trees) ≤ room → Split m place others level c next room trees
-split_tree m place others level c next room trees charge (at {shape = s} {held = h} {rest = r} {inside = i} {behind = b} object inner after) shallow rooms fits = record {
+split_tree : (m : List (List ℕ)) (place : Place) (others : List Place) (nesting : ℕ) (c : Bool) (next room : ℕ) (trees : Trees) (traversed : ℕ)
+    → At m (place ∷ others) trees traversed → depth trees ≤ nesting → AllHaveRoom trees → next + total_words (formed c trees) ≤ room → Split m place others nesting c next room trees
+split_tree m place others nesting c next room trees traversed (at {shape = s} {held = h} {rest = r} {inside = i} {following = b} object inner after) shallow rooms fits = record {
   first = record {
     trees = tree s.form h none;
-    charge = s.charge + i + 0;
+    traversed = s.traversed + i + 0;
     stand = at object inner nowhere;
     shallow = omega arith;
     rooms = (rooms.0, rooms.1, tt);
     fits = omega (arith, totals_step c s.form h r);
   };
-  behind = record { trees = r; charge = b; stand = after; shallow = omega arith; rooms = rooms.2; fits = omega (arith, totals_step c s.form h r) };
+  following = record { trees = r; traversed = b; stand = after; shallow = omega arith; rooms = rooms.2; fits = omega (arith, totals_step c s.form h r) };
   fills = λ slot slots block. fill_step c slot slots next s.form h r block;
   totals = totals_step c s.form h r;
 }
 
-pub split_first : (m : List (List ℕ)) (place : Place) (others : List Place) (level : ℕ) (c : Bool) (next room : ℕ) (can : CanCopy m (place ∷ others) level c next room)
-    → Split m place others level c next room can.trees
-split_first m place others level c next room can = split_tree m place others level c next room can.trees can.charge can.stand can.shallow can.rooms can.fits
+pub split_first : (m : List (List ℕ)) (place : Place) (others : List Place) (nesting : ℕ) (c : Bool) (next room : ℕ) (can : CanCopy m (place ∷ others) nesting c next room)
+    → Split m place others nesting c next room can.trees
+split_first m place others nesting c next room can = split_tree m place others nesting c next room can.trees can.traversed can.stand can.shallow can.rooms can.fits
 
-pub none_at : (m : List (List ℕ)) (trees : Trees) (charge : ℕ) → At m [] trees charge → trees ≡ none
-none_at m trees charge nowhere = refl
+pub none_at : (m : List (List ℕ)) (trees : Trees) (traversed : ℕ) → At m [] trees traversed → trees ≡ none
+none_at m trees traversed nowhere = refl
 
 pub none_formed : (c : Bool) → formed c none ≡ none
 none_formed true = refl
@@ -74,90 +74,90 @@ fill_nothing next (tree form held rest) block = refl
 -- where no pointers are, nothing is copied
 pub copies_none : {m : List (List ℕ)} {at : List Place} {c : Bool} {slots : List ℕ} {next free : ℕ} {block : List ℕ} → at ≡ [] → free ≡ next → CopiesAll m at c slots next block block free
 copies_none {m} {at} {c} {slots} {next} {free} {block} none_there free_is =
-    let is : (trees : Trees) (charge : ℕ) → At m at trees charge → formed c trees ≡ none = λ trees charge stand.
-    ap (formed c) (none_at m trees charge (subst (λ (l : List Place). At m l trees charge) none_there stand)) ∙ none_formed c in
+    let is : (trees : Trees) (traversed : ℕ) → At m at trees traversed → formed c trees ≡ none = λ trees traversed stand.
+    ap (formed c) (none_at m trees traversed (subst (λ (l : List Place). At m l trees traversed) none_there stand)) ∙ none_formed c in
     record {
-      words_are = λ trees charge stand. sym (ap (λ (t : Trees). fill slots next t block) (is trees charge stand));
-      next_is = λ trees charge stand. omega (arith, free_is, ap total_words (is trees charge stand));
+      words_are = λ trees traversed stand. sym (ap (λ (t : Trees). fill slots next t block) (is trees traversed stand));
+      next_is = λ trees traversed stand. omega (arith, free_is, ap total_words (is trees traversed stand));
     }
 
 -- the first is copied, and then the others
-copies_both : {m : List (List ℕ)} {place : Place} {others : List Place} {level : ℕ} {c : Bool} {slot : ℕ} {slots : List ℕ} {free room after : ℕ} {now mid new last : List ℕ} {inner : Copied}
-    → CanCopy m (place ∷ others) level c free room → Copies m place c (free - (slot + 1)) free now mid inner → new ≡ put slot (inner.pointer ∷ []) mid
+copies_both : {m : List (List ℕ)} {place : Place} {others : List Place} {nesting : ℕ} {c : Bool} {slot : ℕ} {slots : List ℕ} {free room after : ℕ} {now mid new last : List ℕ} {inner : Copied}
+    → CanCopy m (place ∷ others) nesting c free room → Copies m place c (free - (slot + 1)) free now mid inner → new ≡ put slot (inner.pointer ∷ []) mid
     → CopiesAll m others c slots inner.next new last after → CopiesAll m (place ∷ others) c (slot ∷ slots) free now last after
-copies_both {m} {place} {others} {level} {c} {slot} {slots} {free} {room} {after} {now} {mid} {new} {last} {inner} can first new_is rest =
-    let s = split_first m place others level c free room can in
-    let d = first.is s.first.trees s.first.charge s.first.stand in
+copies_both {m} {place} {others} {nesting} {c} {slot} {slots} {free} {room} {after} {now} {mid} {new} {last} {inner} can first new_is rest =
+    let s = split_first m place others nesting c free room can in
+    let d = first.is s.first.trees s.first.traversed s.first.stand in
     let words_are : mid ≡ put free (body (formed c s.first.trees)) now = d.words_are in
     let pointer_there : inner.pointer ≡ pointer_to (formed c s.first.trees) (free - (slot + 1)) = d.pointer_is in
     let next_is : inner.next ≡ free + total_words (formed c s.first.trees) = d.next_is in
-    let filled : fill slots inner.next (formed c s.behind.trees) new ≡ fill (slot ∷ slots) free (formed c can.trees) now =
+    let filled : fill slots inner.next (formed c s.following.trees) new ≡ fill (slot ∷ slots) free (formed c can.trees) now =
     rw (new_is, words_are, pointer_there, next_is) (sym (s.fills slot slots now)) in
-    let same : (trees : Trees) (charge : ℕ) → At m (place ∷ others) trees charge → can.trees ≡ trees = λ trees charge stand.
-    (one_tree m (place ∷ others) can.trees trees can.charge charge can.stand stand).0 in
+    let same : (trees : Trees) (traversed : ℕ) → At m (place ∷ others) trees traversed → can.trees ≡ trees = λ trees traversed stand.
+    (one_tree m (place ∷ others) can.trees trees can.traversed traversed can.stand stand).0 in
     record {
-      words_are = λ trees charge stand. rest.words_are s.behind.trees s.behind.charge s.behind.stand ∙ filled ∙ ap (λ (t : Trees). fill (slot ∷ slots) free (formed c t) now) (same trees charge stand);
-      next_is = λ trees charge stand. omega (
+      words_are = λ trees traversed stand. rest.words_are s.following.trees s.following.traversed s.following.stand ∙ filled ∙ ap (λ (t : Trees). fill (slot ∷ slots) free (formed c t) now) (same trees traversed stand);
+      next_is = λ trees traversed stand. omega (
         arith,
-        rest.next_is s.behind.trees s.behind.charge s.behind.stand,
+        rest.next_is s.following.trees s.following.traversed s.following.stand,
         next_is,
         s.totals,
-        ap (λ (t : Trees). total_words (formed c t)) (same trees charge stand),
+        ap (λ (t : Trees). total_words (formed c t)) (same trees traversed stand),
       );
     }
 
 -- How far the copying of what some pointers lead to has come: those that are left can be copied, and with them all is.
-pub record Copying (m : List (List ℕ)) (words : List ℕ) (level : ℕ) (c : Bool) (whole : RowPair) (start : ℕ) (old : List ℕ) (rows : RowPair) (free : ℕ) (now : List ℕ) : Type 0 where
-  pub can : CanCopyRows m words rows level c free (length now)
+pub record Copying (m : List (List ℕ)) (words : List ℕ) (nesting : ℕ) (c : Bool) (whole : RowPair) (start : ℕ) (old : List ℕ) (rows : RowPair) (free : ℕ) (now : List ℕ) : Type 0 where
+  pub can : CanCopyRows m words rows nesting c free (length now)
   pub long : length now ≡ length old
   pub ends : (new : List ℕ) (after : ℕ) → CopiesAll m (places_in rows.from) c (slots_in rows.to) free now new after
       → CopiesAll m (places_in whole.from) c (slots_in whole.to) start old new after
 
-pub copying_begins : {m : List (List ℕ)} {words : List ℕ} {level : ℕ} {c : Bool} {rows : RowPair} {start : ℕ} {old : List ℕ} → CanCopyRows m words rows level c start (length old)
-    → Copying m words level c rows start old rows start old
+pub copying_begins : {m : List (List ℕ)} {words : List ℕ} {nesting : ℕ} {c : Bool} {rows : RowPair} {start : ℕ} {old : List ℕ} → CanCopyRows m words rows nesting c start (length old)
+    → Copying m words nesting c rows start old rows start old
 copying_begins can = record { can = can; long = refl; ends = λ new after done. done }
 
 some_left : {place : Place} {rest others : List Place} → rest ≡ place ∷ others → rest ≢ []
 some_left is nothing = absurd (omega (arith, ap length is, ap length nothing))
 
 -- what is to be copied next
-pub record CanCopyNext (m : List (List ℕ)) (words : List ℕ) (place : Place) (level : ℕ) (c : Bool) (slot free room : ℕ) : Type 0 where
-  pub there : CanCopy m (place ∷ []) level c free room
+pub record CanCopyNext (m : List (List ℕ)) (words : List ℕ) (place : Place) (nesting : ℕ) (c : Bool) (slot free room : ℕ) : Type 0 where
+  pub there : CanCopy m (place ∷ []) nesting c free room
   pub content : slice_get m place.segment ≡ Some words
-  pub behind : slot + 1 ≤ free
+  pub following : slot + 1 ≤ free
   pub within : slot < room
 
-left_at : {m : List (List ℕ)} {words : List ℕ} {level : ℕ} {c : Bool} {rows others : RowPair} {place : Place} {slot free room : ℕ}
-    → TakesPair rows others place slot → CanCopyRows m words rows level c free room → CanCopy m (place ∷ places_in others.from) level c free room
-left_at {m} {level = level} {c = c} {free = free} {room = room} takes can = subst (λ (l : List Place). CanCopy m l level c free room) takes.from.places_are can.there
+left_at : {m : List (List ℕ)} {words : List ℕ} {nesting : ℕ} {c : Bool} {rows others : RowPair} {place : Place} {slot free room : ℕ}
+    → TakesPair rows others place slot → CanCopyRows m words rows nesting c free room → CanCopy m (place ∷ places_in others.from) nesting c free room
+left_at {m} {nesting = nesting} {c = c} {free = free} {room = room} takes can = subst (λ (l : List Place). CanCopy m l nesting c free room) takes.from.places_are can.there
 
-pub copying_first : {m : List (List ℕ)} {words : List ℕ} {level : ℕ} {c : Bool} {whole rows others : RowPair} {place : Place} {slot start free : ℕ} {old now : List ℕ}
-    → Copying m words level c whole start old rows free now → TakesPair rows others place slot → CanCopyNext m words place level c slot free (length now)
-copying_first {m} {words} {level} {c} {whole} {rows} {others} {place} {slot} {start} {free} {old} {now} so_far takes =
-    let s = split_first m place (places_in others.from) level c free (length now) (left_at takes so_far.can) in
+pub copying_first : {m : List (List ℕ)} {words : List ℕ} {nesting : ℕ} {c : Bool} {whole rows others : RowPair} {place : Place} {slot start free : ℕ} {old now : List ℕ}
+    → Copying m words nesting c whole start old rows free now → TakesPair rows others place slot → CanCopyNext m words place nesting c slot free (length now)
+copying_first {m} {words} {nesting} {c} {whole} {rows} {others} {place} {slot} {start} {free} {old} {now} so_far takes =
+    let s = split_first m place (places_in others.from) nesting c free (length now) (left_at takes so_far.can) in
     record {
       there = s.first;
       content = ap (slice_get m) takes.in_segment ∙ so_far.can.content (some_left takes.from.places_are);
-      behind = omega (arith, takes.before, so_far.can.before);
+      following = omega (arith, takes.before, so_far.can.before);
       within = omega (arith, takes.before, so_far.can.before, s.first.fits);
     }
 
-pub copying_next : {m : List (List ℕ)} {words : List ℕ} {level : ℕ} {c : Bool} {whole rows others : RowPair} {place : Place} {slot start free : ℕ} {old now mid new : List ℕ} {inner : Copied}
-    → Copying m words level c whole start old rows free now → TakesPair rows others place slot → Copies m place c (free - (slot + 1)) free now mid inner → length mid ≡ length now
-    → new ≡ put slot (inner.pointer ∷ []) mid → length new ≡ length mid → Copying m words level c whole start old others inner.next new
-copying_next {m} {words} {level} {c} {whole} {rows} {others} {place} {slot} {start} {free} {old} {now} {mid} {new} {inner} so_far takes copied mid_long new_is new_long =
+pub copying_next : {m : List (List ℕ)} {words : List ℕ} {nesting : ℕ} {c : Bool} {whole rows others : RowPair} {place : Place} {slot start free : ℕ} {old now mid new : List ℕ} {inner : Copied}
+    → Copying m words nesting c whole start old rows free now → TakesPair rows others place slot → Copies m place c (free - (slot + 1)) free now mid inner → length mid ≡ length now
+    → new ≡ put slot (inner.pointer ∷ []) mid → length new ≡ length mid → Copying m words nesting c whole start old others inner.next new
+copying_next {m} {words} {nesting} {c} {whole} {rows} {others} {place} {slot} {start} {free} {old} {now} {mid} {new} {inner} so_far takes copied mid_long new_is new_long =
     let left = left_at takes so_far.can in
-    let s = split_first m place (places_in others.from) level c free (length now) left in
-    let next_is : inner.next ≡ free + total_words (formed c s.first.trees) = (copied.is s.first.trees s.first.charge s.first.stand).next_is in
+    let s = split_first m place (places_in others.from) nesting c free (length now) left in
+    let next_is : inner.next ≡ free + total_words (formed c s.first.trees) = (copied.is s.first.trees s.first.traversed s.first.stand).next_is in
     record {
       can = record {
         there = record {
-          trees = s.behind.trees;
-          charge = s.behind.charge;
-          stand = s.behind.stand;
-          shallow = s.behind.shallow;
-          rooms = s.behind.rooms;
-          fits = omega (arith, s.behind.fits, next_is, mid_long, new_long);
+          trees = s.following.trees;
+          traversed = s.following.traversed;
+          stand = s.following.stand;
+          shallow = s.following.shallow;
+          rooms = s.following.rooms;
+          fits = omega (arith, s.following.fits, next_is, mid_long, new_long);
         };
         content = λ some. ap (slice_get m) takes.same_segment ∙ so_far.can.content (some_left takes.from.places_are);
         as_many = omega (arith, so_far.can.as_many, ap length takes.from.places_are, takes.as_many);
@@ -170,16 +170,16 @@ copying_next {m} {words} {level} {c} {whole} {rows} {others} {place} {slot} {sta
           (subst (λ (l : List ℕ). CopiesAll m (place ∷ places_in others.from) c l free now last after) (sym takes.slots_are) both));
     }
 
-pub copying_ends : {m : List (List ℕ)} {words : List ℕ} {level : ℕ} {c : Bool} {whole rows : RowPair} {start free : ℕ} {old now : List ℕ}
-    → Copying m words level c whole start old rows free now → places_in rows.from ≡ [] → CopiesAll m (places_in whole.from) c (slots_in whole.to) start old now free
+pub copying_ends : {m : List (List ℕ)} {words : List ℕ} {nesting : ℕ} {c : Bool} {whole rows : RowPair} {start free : ℕ} {old now : List ℕ}
+    → Copying m words nesting c whole start old rows free now → places_in rows.from ≡ [] → CopiesAll m (places_in whole.from) c (slots_in whole.to) start old now free
 copying_ends {free = free} {now = now} so_far done = so_far.ends now free (copies_none done refl)
 
 -- rows by the places and the slots that they go over
 pub paired : {rows : RowPair} {at : List Place} {segment : ℕ} {slots : List ℕ} {end : ℕ} → places_in rows.from ≡ at → slots_in rows.to ≡ slots → length at ≡ length (places_in rows.to)
     → rows.from.next.segment ≡ segment → end_of rows.to ≤ end → ArePaired rows at segment slots end
 paired {rows} {at} {segment} {slots} {end} places_are slots_are many segment_is ends = record {
-  can = λ m words level c next room can content behind. record {
-    there = subst (λ (l : List Place). CanCopy m l level c next room) (sym places_are) can;
+  can = λ m words nesting c next room can content following. record {
+    there = subst (λ (l : List Place). CanCopy m l nesting c next room) (sym places_are) can;
     content = λ some. ap (slice_get m) segment_is ∙ content (subst (λ (l : List Place). l ≢ []) places_are some);
     as_many = ap length places_are ∙ many;
     before = omega arith;

@@ -23,7 +23,7 @@ holds_rest segment start words h =
     let cut : drop (start + length words) (h.front ++ words ++ h.rest) ≡ h.rest = drop_at (h.front ++ words) h.rest (start + length words) long in
     ap (λ (l : List ℕ). drop (start + length words) l) (h.parts ∙ sym (append_assoc h.front words h.rest)) ∙ cut
 
--- words behind others
+-- words after others
 pub holds_join : (segment : List ℕ) (start next : ℕ) (xs ys : List ℕ) → start + length xs ≡ next → Holds segment start xs → Holds segment next ys → Holds segment start (xs ++ ys)
 holds_join segment start next xs ys here a b =
     let end_a : drop next segment ≡ a.rest = ap (λ (n : ℕ). drop n segment) (sym here) ∙ holds_rest segment start xs a in

@@ -23,7 +23,7 @@ pointers_moved base (slot ∷ slots) next (tree form held rest) =
     let onward : base + next + own_words form (count held) + total_words held ≡ base + (next + own_words form (count held) + total_words held) = omega arith in
     rw (offset, onward, pointers_moved base slots (next + own_words form (count held) + total_words held) rest) refl
 
--- what lies behind the slots can be put before them
+-- what lies after the slots can be put before them
 set_later : (slots links : List ℕ) (next : ℕ) (words block : List ℕ) → Before next slots → next + length words ≤ length block
     → set_all slots links (put next words block) ≡ put next words (set_all slots links block)
 set_later [] links next words block before room = refl
@@ -44,7 +44,7 @@ fill_splits (slot ∷ slots) next (tree form held rest) block before room long f
     let link : ℕ = pointer form (count held) (next - (slot + 1)) in
     let after : ℕ = next + own_words form (count held) + total_words held in
     let size : length (body (tree form held none)) ≡ own_words form (count held) + total_words held = omega (arith, length-body (tree form held none) (room.0, room.1, tt)) in
-    let behind : length (body rest) ≡ total_words rest = length-body rest room.2 in
+    let following : length (body rest) ≡ total_words rest = length-body rest room.2 in
     let after_is : next + length (body (tree form held none)) ≡ next + own_words form (count held) + total_words held = omega arith in
     let put_first = length-put next (body (tree form held none)) block (omega arith) in
     let put_link = length-put slot (link ∷ []) (put next (body (tree form held none)) block) (omega (arith, before.0)) in

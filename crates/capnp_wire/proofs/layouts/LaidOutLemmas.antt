@@ -7,7 +7,7 @@ use Rattle.capnp_wire.specs.Tree.{Form, is_null, null, struct, numbers, pointers
 use Rattle.capnp_wire.specs.Trim.{trim_form, trim_held}
 use Rattle.capnp_wire.specs.Object.{word_at, near, far, double_far, Shape, ShapeStands, PointsTo, is_null as null_there, is_object}
 use Rattle.capnp_wire.specs.Reached.{At, nowhere, at}
-use Rattle.capnp_wire.specs.Charge.{less}
+use Rattle.capnp_wire.specs.Traversed.{less}
 use Rattle.capnp_wire.specs.Layout.{pointer, Reaches, HasRoom}
 use Rattle.capnp_wire.specs.Canonical.{EndsFull, EndsSome, nth_form, Padded, Tidy}
 use Rattle.capnp_wire.specs.Tested.{IsFarAt, IsNext, links_at, NeedPointers, IsTight, IsLaidOut, MeetsObject, Passes}
@@ -45,25 +45,25 @@ null_link segment place shape object =
 some_null : (form : Form) → (◌≡◌ (Some form) (Some null)) ↔ (form ≡ null)
 some_null form = (λ t. cc, λ t. ap Some t)
 
-pub links_null : (segment : List ℕ) (places : List Place) (trees : Trees) (charge k : ℕ) → At (segment ∷ []) places trees charge → k < length places
+pub links_null : (segment : List ℕ) (places : List Place) (trees : Trees) (traversed k : ℕ) → At (segment ∷ []) places trees traversed → k < length places
     → (nth_form trees k ≡ Some null) ↔ (slice_index_or (links_at segment places) k 0 ≡ 0)
-links_null segment places trees charge k nowhere less = absurd (omega arith)
-links_null segment places trees charge zero (at {place = place} {shape = s} object inner after) less =
+links_null segment places trees traversed k nowhere less = absurd (omega arith)
+links_null segment places trees traversed zero (at {place = place} {shape = s} object inner after) less =
     let e = null_link segment place s object in
     let f = some_null s.form in
     (λ t. e.0 (f.0 t), λ t. f.1 (e.1 t))
-links_null segment places trees charge (suc k) (at {others = others} {rest = rest} {behind = b} object inner after) less = links_null segment others rest b k after (omega arith)
+links_null segment places trees traversed (suc k) (at {others = others} {rest = rest} {following = b} object inner after) less = links_null segment others rest b k after (omega arith)
 
 pub length-links_at : (segment : List ℕ) (places : List Place) → length (links_at segment places) ≡ length places
 length-links_at segment [] = refl
 length-links_at segment (place ∷ places) = ap (λ (k : ℕ). suc k) (length-links_at segment places)
 
-ends_some_is : (segment : List ℕ) (places : List Place) (trees : Trees) (charge : ℕ) → At (segment ∷ []) places trees charge → EndsSome trees ↔ EndsFull (links_at segment places)
-ends_some_is segment places trees charge stand =
-    let many : length places ≡ count trees = sym (count_at (segment ∷ []) places trees charge stand) in
+ends_some_is : (segment : List ℕ) (places : List Place) (trees : Trees) (traversed : ℕ) → At (segment ∷ []) places trees traversed → EndsSome trees ↔ EndsFull (links_at segment places)
+ends_some_is segment places trees traversed stand =
+    let many : length places ≡ count trees = sym (count_at (segment ∷ []) places trees traversed stand) in
     let long : length (links_at segment places) ≡ length places = length-links_at segment places in (
-      λ some k is last. some k (omega arith) ((links_null segment places trees charge k stand (omega arith)).1 (or_there (links_at segment places) k 0 last)),
-      λ full k is last. full k (omega arith) (there_or (links_at segment places) k (omega arith) ∙ ap Some ((links_null segment places trees charge k stand (omega arith)).0 last)),
+      λ some k is last. some k (omega arith) ((links_null segment places trees traversed k stand (omega arith)).1 (or_there (links_at segment places) k 0 last)),
+      λ full k is last. full k (omega arith) (there_or (links_at segment places) k (omega arith) ∙ ap Some ((links_null segment places trees traversed k stand (omega arith)).0 last)),
     )
 
 -- the last pointers of rows
@@ -72,11 +72,11 @@ row_less n p i some less =
     let h : p * suc i ≤ p * n = mul-le-mul_left p less in
     omega arith
 
-need_pointers_is : (segment : List ℕ) (places : List Place) (held : Trees) (charge p n : ℕ) → At (segment ∷ []) places held charge → count held ≡ n * p
+need_pointers_is : (segment : List ℕ) (places : List Place) (held : Trees) (traversed p n : ℕ) → At (segment ∷ []) places held traversed → count held ≡ n * p
     → ((p ≡ 0) ⊎ ((k : ℕ) × (p ≡ k + 1) × (i : ℕ) × (i < n) × (nth_form held (i * p + k) ≡ Some null → ⊥))) ↔ NeedPointers p n (links_at segment places)
-need_pointers_is segment places held charge zero n stand many = (λ t. inl refl, λ t. inl refl)
-need_pointers_is segment places held charge (suc q) n stand many =
-    let long : length places ≡ count held = sym (count_at (segment ∷ []) places held charge stand) in (
+need_pointers_is segment places held traversed zero n stand many = (λ t. inl refl, λ t. inl refl)
+need_pointers_is segment places held traversed (suc q) n stand many =
+    let long : length places ≡ count held = sym (count_at (segment ∷ []) places held traversed stand) in (
       λ t. elim t [
         | inl nothing ↦ inl nothing
         | inr found ↦
@@ -85,7 +85,7 @@ need_pointers_is segment places held charge (suc q) n stand many =
             inr (
               found.2,
               found.3,
-              λ is. found.4 ((links_null segment places held charge (found.2 * suc q + found.0) stand (omega arith)).1
+              λ is. found.4 ((links_null segment places held traversed (found.2 * suc q + found.0) stand (omega arith)).1
                   (ap (λ (k : ℕ). slice_index_or (links_at segment places) k 0) (sym same) ∙ is)),
             )
       ],
@@ -100,25 +100,25 @@ need_pointers_is segment places held charge (suc q) n stand many =
               found.0,
               found.1,
               λ is. found.2 (ap (λ (k : ℕ). slice_index_or (links_at segment places) k 0) same
-                  ∙ (links_null segment places held charge (found.0 * suc q + q) stand (omega arith)).0 is),
+                  ∙ (links_null segment places held traversed (found.0 * suc q + q) stand (omega arith)).0 is),
             )
       ],
     )
 
-pub tight_is_trimmed : (segment : List ℕ) (form : Form) (places : List Place) (held : Trees) (charge : ℕ) → At (segment ∷ []) places held charge → HasRoom form (count held)
+pub tight_is_trimmed : (segment : List ℕ) (form : Form) (places : List Place) (held : Trees) (traversed : ℕ) → At (segment ∷ []) places held traversed → HasRoom form (count held)
     → IsTight form (links_at segment places) ↔ ((trim_form form held ≡ form) × (trim_held form held ≡ held))
-tight_is_trimmed segment null places held charge stand room = (λ t. (refl, refl), λ t. tt)
-tight_is_trimmed segment (struct words) places held charge stand room =
+tight_is_trimmed segment null places held traversed stand room = (λ t. (refl, refl), λ t. tt)
+tight_is_trimmed segment (struct words) places held traversed stand room =
     let e = struct_is_trimmed words held in
-    let f = ends_some_is segment places held charge stand in
+    let f = ends_some_is segment places held traversed stand in
     (λ t. e.1 (t.0, f.1 t.1), λ t. let both = e.0 t in (both.0, f.0 both.1))
-tight_is_trimmed segment (numbers c values) places held charge stand room = (λ t. (refl, refl), λ t. tt)
-tight_is_trimmed segment pointers places held charge stand room = (λ t. (refl, refl), λ t. tt)
-tight_is_trimmed segment (structs d p rows) places held charge stand room =
+tight_is_trimmed segment (numbers c values) places held traversed stand room = (λ t. (refl, refl), λ t. tt)
+tight_is_trimmed segment pointers places held traversed stand room = (λ t. (refl, refl), λ t. tt)
+tight_is_trimmed segment (structs d p rows) places held traversed stand room =
     let e = structs_are_trimmed d p rows held room in
     let data_e = rows_need_data d rows (rows_even d rows room.5) in
     let links_e = rows_need_pointers p rows held room.4 in
-    let f = need_pointers_is segment places held charge p (length rows) stand room.4 in (
+    let f = need_pointers_is segment places held traversed p (length rows) stand room.4 in (
       λ t. e.1 (data_e.1 t.0, links_e.1 (f.1 t.1)),
       λ t. let both = e.0 t in (data_e.0 both.0, f.0 (links_e.0 both.1)),
     )
@@ -132,10 +132,10 @@ object_near segment word shape tag (is_object (near {word = w} e p k) f b s) som
 object_near segment word shape tag (is_object (far {word = w} e g p k) f b s) some not_far there = absurd (not_far (w, e, g.far))
 object_near segment word shape tag (is_object (double_far {word = w} e g p h q r k) f b s) some not_far there = absurd (not_far (w, e, g.far))
 
-pub near_met : (segment : List ℕ) (word level : ℕ) (limit : Option ℕ) (shape : Shape) (tag : ℕ) → MeetsObject segment (record { segment = 0; word = word }) level limit shape
+pub near_met : (segment : List ℕ) (word nesting : ℕ) (limit : Option ℕ) (shape : Shape) (tag : ℕ) → MeetsObject segment (record { segment = 0; word = word }) nesting limit shape
     → slice_get segment word ≡ Some tag
     → Near segment word tag shape.form shape.held
-near_met segment word level limit shape tag meets there =
+near_met segment word nesting limit shape tag meets there =
     let near_tag : (0 < tag) × (pointer_kind tag < 2) = object_near segment word shape tag meets.object meets.some meets.not_far there in
     near_object segment word tag shape there near_tag.0 near_tag.1 meets.object
 
@@ -149,51 +149,51 @@ placed_as segment start tag word next shape form held stands f h =
     let whole : Form → List Place → Type 0 = λ a b. IsNext tag word next a (length b) ↔ ((tag ≡ pointer a (length b) (next - (word + 1))) × Reaches a (length b) (next - (word + 1))) in
     subst (λ (a : Form). whole a held) f (subst (λ (b : List Place). whole shape.form b) h (next_is_laid_out segment start tag word next shape stands))
 
-pub laid_is_placed : (segment : List ℕ) (word level next : ℕ) (limit : Option ℕ) (shape : Shape) → MeetsObject segment (record { segment = 0; word = word }) level limit shape
+pub laid_is_placed : (segment : List ℕ) (word nesting next : ℕ) (limit : Option ℕ) (shape : Shape) → MeetsObject segment (record { segment = 0; word = word }) nesting limit shape
     → IsLaidOut segment (record { segment = 0; word = word }) next shape
     ↔ (IsPlaced segment word next shape.form (length shape.held) × Padded segment next shape.form × IsTight shape.form (links_at segment shape.held))
-laid_is_placed segment word level next limit shape meets = (
+laid_is_placed segment word nesting next limit shape meets = (
   λ l.
-      let n = near_met segment word level limit shape l.pointer meets l.there in
+      let n = near_met segment word nesting limit shape l.pointer meets l.there in
       let e = placed_as segment (record { segment = 0; word = n.start }) l.pointer word next n.shape shape.form shape.held n.stands n.form_is n.held_is in
       let both = e.0 l.is_next in
       ((l.there ∙ ap Some both.0, both.1), l.padded, l.tight),
   λ t.
-      let n = near_met segment word level limit shape (pointer shape.form (length shape.held) (next - (word + 1))) meets t.0.0 in
+      let n = near_met segment word nesting limit shape (pointer shape.form (length shape.held) (next - (word + 1))) meets t.0.0 in
       let e = placed_as segment (record { segment = 0; word = n.start }) (pointer shape.form (length shape.held) (next -
       (word + 1))) word next n.shape shape.form shape.held n.stands n.form_is n.held_is in
       record { pointer = pointer shape.form (length shape.held) (next - (word + 1)); there = t.0.0; is_next = e.1 (refl, t.0.1); padded = t.1; tight = t.2 },
 )
 
--- its words lie behind the next free word
-pub laid_room : (segment : List ℕ) (word level next : ℕ) (limit : Option ℕ) (shape : Shape) → MeetsObject segment (record { segment = 0; word = word }) level limit shape
+-- its words lie after the next free word
+pub laid_room : (segment : List ℕ) (word nesting next : ℕ) (limit : Option ℕ) (shape : Shape) → MeetsObject segment (record { segment = 0; word = word }) nesting limit shape
     → IsLaidOut segment (record { segment = 0; word = word }) next shape → word < next → next ≤ length segment → next + own_words shape.form (length shape.held) ≤ length segment
-laid_room segment word level next limit shape meets l before within =
-    let n = near_met segment word level limit shape l.pointer meets l.there in
+laid_room segment word nesting next limit shape meets l before within =
+    let n = near_met segment word nesting limit shape l.pointer meets l.there in
     let is : IsNext l.pointer word next n.shape.form (length n.shape.held) = rw (n.form_is, n.held_is) l.is_next in
     let room = next_room segment n.start l.pointer word next n.shape n.stands before within n.target is in
     rw (n.form_is, n.held_is) at room
 
 -- an object that passes, over what it holds
-pub passes_over : (segment : List ℕ) (word level next charge after : ℕ) (limit : Option ℕ) (shape : Shape) → All (λ w. w < 2 ^ 64) segment → word < next → next ≤ length segment
-    → MeetsObject segment (record { segment = 0; word = word }) level limit shape → IsLaidOut segment (record { segment = 0; word = word }) next shape
-    → Passes segment shape.held (level - 1) charge (next + own_words shape.form (length shape.held)) after
-    → Passes segment (record { segment = 0; word = word } ∷ []) level (shape.charge + charge) next after
-passes_over segment word level next charge after limit shape all before within meets l p =
-    let many : length shape.held ≡ count p.trees = sym (count_at (segment ∷ []) shape.held p.trees charge p.stand) in
-    let t = (laid_is_placed segment word level next limit shape meets).0 l in
+pub passes_over : (segment : List ℕ) (word nesting next traversed after : ℕ) (limit : Option ℕ) (shape : Shape) → All (λ w. w < 2 ^ 64) segment → word < next → next ≤ length segment
+    → MeetsObject segment (record { segment = 0; word = word }) nesting limit shape → IsLaidOut segment (record { segment = 0; word = word }) next shape
+    → Passes segment shape.held (nesting - 1) traversed (next + own_words shape.form (length shape.held)) after
+    → Passes segment (record { segment = 0; word = word } ∷ []) nesting (shape.traversed + traversed) next after
+passes_over segment word nesting next traversed after limit shape all before within meets l p =
+    let many : length shape.held ≡ count p.trees = sym (count_at (segment ∷ []) shape.held p.trees traversed p.stand) in
+    let t = (laid_is_placed segment word nesting next limit shape meets).0 l in
     let placed : IsPlaced segment word next shape.form (count p.trees) = subst (λ (n : ℕ). IsPlaced segment word next shape.form n) many t.0 in
     let tidy : Tidy segment shape.held (next + own_words shape.form (count p.trees)) p.trees =
     subst (λ (n : ℕ). Tidy segment shape.held (next + own_words shape.form n) p.trees) many p.tidy in
     let room : HasRoom shape.form (count p.trees) =
     subst (λ (n : ℕ). HasRoom shape.form n) many (object_room (segment ∷ []) (record { segment = 0; word = word }) shape (one_segment segment all) meets.object) in
-    let trims = (tight_is_trimmed segment shape.form shape.held p.trees charge p.stand room).0 t.2 in
+    let trims = (tight_is_trimmed segment shape.form shape.held p.trees traversed p.stand room).0 t.2 in
     let own : own_words shape.form (length shape.held) ≡ own_words shape.form (count p.trees) = ap (own_words shape.form) many in
     record {
       trees = tree shape.form p.trees none;
       stand = subst (At (segment ∷ []) (record { segment = 0; word = word } ∷ []) (tree shape.form p.trees none)) (omega arith) (at meets.object p.stand nowhere);
-      shallow = one_deeper (is_null shape.form) (depth p.trees) level p.shallow meets.deep;
-      tidy = (tidy_step segment word next shape.held [] shape.form p.trees none shape.charge charge all meets.object p.stand before within).1
+      shallow = one_deeper (is_null shape.form) (depth p.trees) nesting p.shallow meets.deep;
+      tidy = (tidy_step segment word next shape.held [] shape.form p.trees none shape.traversed traversed all meets.object p.stand before within).1
           (placed.0, placed.1, t.1, tidy, tt);
       trimmed = ((trims.0, trims.1, p.trimmed), tt);
       after_is = omega (arith, p.after_is, own);

@@ -49,13 +49,13 @@ here_struct m k segment there base slot next words links before small some room 
 read_here : (m : List (List ℕ)) (k : ℕ) (segment : List ℕ) (there : slice_get m k ≡ Some segment) (base slot next : ℕ) (form : Form) (links : List ℕ) → slot < next
     → Reaches form (length links) (next - (slot + 1)) → base + next ≤ length segment → HasRoom form (length links)
     → slice_get segment (base + slot) ≡ Some (pointer form (length links) (next - (slot + 1))) → Holds segment (base + next) (own form links) → Read m k segment (base + slot) (base + next) form links
-read_here m k segment there base slot next null [] before small within room stands h = record { charge = 0; object = is_null (rw there stands); linked = refl }
+read_here m k segment there base slot next null [] before small within room stands h = record { traversed = 0; object = is_null (rw there stands); linked = refl }
 read_here m k segment there base slot next null (x ∷ links) before small within room stands h = absurd (omega (arith, room))
 read_here m k segment there base slot next (struct []) [] before small within room stands h =
     let f = struct_fields minus_one 0 0 (omega arith) (omega arith) in
     let r = read_struct m k segment there (base + slot) (base + slot) (struct_pointer minus_one 0 0) minus_one [] [] (empty_points segment (base + slot) stands) f (holds_none segment
     (base + slot) (omega arith)) in
-    record { charge = r.charge; object = r.object; linked = refl }
+    record { traversed = r.traversed; object = r.object; linked = refl }
 read_here m k segment there base slot next (struct (w ∷ words)) links before small within room stands h = here_struct m k segment there base slot next (w ∷ words) links before (small
     (omega arith)) (omega arith) room stands h
 read_here m k segment there base slot next (struct []) (x ∷ links) before small within room stands h = here_struct m k segment there base slot next [] (x ∷ links) before (small (omega arith))
@@ -77,10 +77,10 @@ read_here m k segment there base slot next (structs d p rows) links before small
     (length rows) d p) d p rows links points f g
     (rows_even d rows room.5) room.4 h
 
--- the first of some trees, and where the words behind its own stand
+-- the first of some trees, and where the words after its own stand
 pub record First (m : List (List ℕ)) (k : ℕ) (segment : List ℕ) (base slot next : ℕ) (form : Form) (held rest : Trees) : Type 0 where
-  pub charge : ℕ
-  pub object : PointsTo m (record { segment = k; word = base + slot }) (record { form = form; held = placed k (base + next) (slots form (count held)); charge = charge })
+  pub traversed : ℕ
+  pub object : PointsTo m (record { segment = k; word = base + slot }) (record { form = form; held = placed k (base + next) (slots form (count held)); traversed = traversed })
   pub linked : Linked segment (base + next) (slots form (count held)) (links_of form held)
   pub words : Holds segment (base + next) (own form (links_of form held))
   pub inner : Holds segment (base + next + own_words form (count held)) (body held)
@@ -104,8 +104,8 @@ first_read m k segment there base slot next form held rest before reach room sta
     (omega (arith, holds_room segment (base + next) (own form (links_of form held)) own_there)) (subst (λ (n : ℕ). HasRoom form n) (sym long) room.0)
     (subst (λ (n : ℕ). slice_get segment (base + slot) ≡ Some (pointer form n (next - (slot + 1)))) (sym long) stand) own_there in
     record {
-      charge = read.charge;
-      object = subst (λ (n : ℕ). PointsTo m (record { segment = k; word = base + slot }) (record { form = form; held = placed k (base + next) (slots form n); charge = read.charge })) long read.object;
+      traversed = read.traversed;
+      object = subst (λ (n : ℕ). PointsTo m (record { segment = k; word = base + slot }) (record { form = form; held = placed k (base + next) (slots form n); traversed = read.traversed })) long read.object;
       linked = subst (λ (n : ℕ). Linked segment (base + next) (slots form n) (links_of form held)) long read.linked;
       words = own_there;
       inner = holds_right segment (base + next) (own_words form (count held)) (own form (links_of form held)) (body held) own_long front;
@@ -115,7 +115,7 @@ first_read m k segment there base slot next form held rest before reach room sta
 -- trees that stand in slots, counted from a base, with their bodies from a word on
 pub stands : (m : List (List ℕ)) (k : ℕ) (segment : List ℕ) (there : slice_get m k ≡ Some segment) (base : ℕ) (places : List ℕ) (next : ℕ) (trees : Trees) → AllReach places next trees
     → AllHaveRoom trees → length places ≡ count trees → Before next places
-    → Linked segment base places (pointers_to places next trees) → Holds segment (base + next) (body trees) → (charge : ℕ) × At m (placed k base places) trees charge
+    → Linked segment base places (pointers_to places next trees) → Holds segment (base + next) (body trees) → (traversed : ℕ) × At m (placed k base places) trees traversed
 stands m k segment there base [] next none reach room long before linked h = (0, nowhere)
 stands m k segment there base (slot ∷ more) next none reach room long before linked h = absurd (omega arith)
 stands m k segment there base [] next (tree form held rest) reach room long before linked h = absurd (omega arith)
@@ -123,13 +123,13 @@ stands m k segment there base (slot ∷ more) next (tree form held rest) reach r
     let f = first_read m k segment there base slot next form held rest before.0 reach.0 room linked.0 h in
     let inner = stands m k segment there (base + next) (slots form (count held)) (own_words form (count held)) held reach.1 room.1 (length-slots form (count held) room.0) (slots_before form
     (count held) room.0) f.linked f.inner in
-    let behind = stands m k segment there base more (next + own_words form (count held) + total_words held) rest reach.2 room.2 (omega arith)
+    let following = stands m k segment there base more (next + own_words form (count held) + total_words held) rest reach.2 room.2 (omega arith)
     (before_more next (next + own_words form (count held) + total_words held) more (omega arith) before.1) linked.1 f.others in
-    (f.charge + inner.0 + behind.0, at f.object inner.1 behind.1)
+    (f.traversed + inner.0 + following.0, at f.object inner.1 following.1)
 
 -- the root of the one segment in which a tree is laid out is that tree, where every field has room
 pub root_of_reaching : (form : Form) (held : Trees) → AllHaveRoom (tree form held none) → AllReach (0 ∷ []) 1 (tree form held none)
-    → (charge : ℕ) × At (layout (tree form held none) ∷ []) (root ∷ []) (tree form held none) charge
+    → (traversed : ℕ) × At (layout (tree form held none) ∷ []) (root ∷ []) (tree form held none) traversed
 root_of_reaching form held room reach =
     let words : List ℕ = layout (tree form held none) in
     let all : Holds words 0 words = holds_all words in
@@ -159,5 +159,5 @@ small_reaches form held small = few_reach (0 ∷ []) 1 (tree form held none) (om
 
 -- so the root of a small layout is its tree
 pub root_of_layout : (form : Form) (held : Trees) → AllHaveRoom (tree form held none) → total_words (tree form held none) < 2 ^ 29
-    → (charge : ℕ) × At (layout (tree form held none) ∷ []) (root ∷ []) (tree form held none) charge
+    → (traversed : ℕ) × At (layout (tree form held none) ∷ []) (root ∷ []) (tree form held none) traversed
 root_of_layout form held room small = root_of_reaching form held room (small_reaches form held small)

@@ -13,14 +13,14 @@ use Rattle.capnp_wire.proofs.layouts.CopiedLemmas.{opened_here, object_begins}
 use Rattle.capnp_wire.proofs.pointers.NearLemmas.{list_formed}
 use Rattle.capnp_wire.proofs.layouts.OpenLemmas.{Opened}
 
-pub number_list_opened : {m : List (List ℕ)} {place : Place} {level : ℕ} {c : Bool} {next room : ℕ} (list : NumberList) (can : CanCopy m (place ∷ []) level c next room)
+pub number_list_opened : {m : List (List ℕ)} {place : Place} {nesting : ℕ} {c : Bool} {next room : ℕ} (list : NumberList) (can : CanCopy m (place ∷ []) nesting c next room)
     → IsObject m place (object_of list)
-    → Opened m (words_of list.segment.now) list.start (Numbers list.size list.count) (Numbers list.size list.count) (level - 1) c next room can.trees
+    → Opened m (words_of list.segment.now) list.start (Numbers list.size list.count) (Numbers list.size list.count) (nesting - 1) c next room can.trees
 number_list_opened {c = c} list can is = opened_here can is (list_formed c (words_of list.segment.now) list.start.word (Numbers list.size list.count) tt)
 
 -- it holds no pointers, so its own words are its copy
-pub number_list_copied : {m : List (List ℕ)} {place : Place} {level : ℕ} {c : Bool} {gap next free pointer : ℕ} {old new : List ℕ}
-    (list : NumberList) (can : CanCopy m (place ∷ []) level c next (length old))
+pub number_list_copied : {m : List (List ℕ)} {place : Place} {nesting : ℕ} {c : Bool} {gap next free pointer : ℕ} {old new : List ℕ}
+    (list : NumberList) (can : CanCopy m (place ∷ []) nesting c next (length old))
     → IsObject m place (object_of list) → new ≡ put_own (words_of list.segment.now) list.start.word (Numbers list.size list.count) (Numbers list.size list.count) next old
     → length new ≡ length old → pointer ≡ pointer_of_body (Numbers list.size list.count) gap
     → free ≡ next + words_for list.count (width (code_of list.size))

@@ -28,8 +28,8 @@ use Rattle.capnp_wire.proofs.words.DigitLemmas.{length-digits}
 use Rattle.capnp_wire.proofs.layouts.BlockRowLemmas.{moved_run, moved_rows, put_short, put_rows_woven}
 
 -- what an object opens to: the places of the pointers that are copied, and what is left to be put into the block
-pub record Opened (m : List (List ℕ)) (words : List ℕ) (start : Place) (from copied : Body) (level : ℕ) (c : Bool) (next room : ℕ) (trees : Trees) : Type 0 where
-  pub kept : CanCopy m (kept_in start from (row_size copied).pointers) level c (next + words_in copied) room
+pub record Opened (m : List (List ℕ)) (words : List ℕ) (start : Place) (from copied : Body) (nesting : ℕ) (c : Bool) (next room : ℕ) (trees : Trees) : Type 0 where
+  pub kept : CanCopy m (kept_in start from (row_size copied).pointers) nesting c (next + words_in copied) room
   pub fills : (block : List ℕ) → length block ≡ room
       → fill (slots_of next copied) (next + words_in copied) (formed c kept.trees) (put_own words start.word from copied next block)
       ≡ put next (body (formed c trees)) block
@@ -45,8 +45,8 @@ pub record Under (m : List (List ℕ)) (shape : Shape) (trees : Trees) : Type 0 
   pub whole : trees ≡ tree shape.form held none
   pub stand : At m shape.held held inside
 
-pub under : (m : List (List ℕ)) (place : Place) (shape : Shape) (trees : Trees) (charge : ℕ) → At m (place ∷ []) trees charge → PointsTo m place shape → Under m shape trees
-under m place shape trees charge (at {shape = s} {held = h} {inside = i} object inner nowhere) there =
+pub under : (m : List (List ℕ)) (place : Place) (shape : Shape) (trees : Trees) (traversed : ℕ) → At m (place ∷ []) trees traversed → PointsTo m place shape → Under m shape trees
+under m place shape trees traversed (at {shape = s} {held = h} {inside = i} object inner nowhere) there =
     let same : s ≡ shape = one_object m place s shape object there in
     record {
       held = h;
@@ -61,11 +61,11 @@ room_formed true trees rooms = room_trim trees rooms
 room_formed false trees rooms = rooms
 
 -- a struct
-pub struct_opens : (m : List (List ℕ)) (words : List ℕ) (start : Place) (d p e q level : ℕ) (c : Bool) (next room : ℕ) (trees kept held : Trees) (charge : ℕ)
-    → formed c trees ≡ tree (struct (words_from words start.word e)) held none → formed c kept ≡ held → At m (places start.segment (start.word + d) q) kept charge
-    → depth kept ≤ level → AllHaveRoom kept → AllHaveRoom (formed c trees) → start.word + e ≤ length words → count held ≡ q → next + total_words (formed c trees) ≤ room
-    → Opened m words start (Struct (record { data_words = d; pointers = p })) (Struct (record { data_words = e; pointers = q })) level c next room trees
-struct_opens m words start d p e q level c next room trees kept held charge form_is kept_is stand shallow rooms all there many fits =
+pub struct_opens : (m : List (List ℕ)) (words : List ℕ) (start : Place) (d p e q nesting : ℕ) (c : Bool) (next room : ℕ) (trees kept held : Trees) (traversed : ℕ)
+    → formed c trees ≡ tree (struct (words_from words start.word e)) held none → formed c kept ≡ held → At m (places start.segment (start.word + d) q) kept traversed
+    → depth kept ≤ nesting → AllHaveRoom kept → AllHaveRoom (formed c trees) → start.word + e ≤ length words → count held ≡ q → next + total_words (formed c trees) ≤ room
+    → Opened m words start (Struct (record { data_words = d; pointers = p })) (Struct (record { data_words = e; pointers = q })) nesting c next room trees
+struct_opens m words start d p e q nesting c next room trees kept held traversed form_is kept_is stand shallow rooms all there many fits =
     let form : Form = struct (words_from words start.word e) in
     let rooms_there : AllHaveRoom (tree form held none) = subst AllHaveRoom form_is all in
     let wide : length (words_from words start.word e) ≡ e = omega (arith, length-take e (drop start.word words), length-drop start.word words) in
@@ -78,8 +78,8 @@ struct_opens m words start d p e q level c next room trees kept held charge form
     record {
       kept = record {
         trees = kept;
-        charge = charge;
-        stand = subst (λ (l : List Place). At m l kept charge) (sym (append-nil (places start.segment (start.word + d) q))) stand;
+        traversed = traversed;
+        stand = subst (λ (l : List Place). At m l kept traversed) (sym (append-nil (places start.segment (start.word + d) q))) stand;
         shallow = shallow;
         rooms = rooms;
         fits = omega arith;
@@ -109,11 +109,11 @@ struct_opens m words start d p e q level c next room trees kept held charge form
     }
 
 -- a list of pointers
-pub pointers_open : (m : List (List ℕ)) (words : List ℕ) (start : Place) (n level : ℕ) (c : Bool) (next room : ℕ) (trees kept held : Trees) (charge : ℕ)
-    → formed c trees ≡ tree pointers held none → formed c kept ≡ held → At m (places start.segment start.word n) kept charge
-    → depth kept ≤ level → AllHaveRoom kept → AllHaveRoom (formed c trees) → count held ≡ n → next + total_words (formed c trees) ≤ room
-    → Opened m words start (Pointers n) (Pointers n) level c next room trees
-pointers_open m words start n level c next room trees kept held charge form_is kept_is stand shallow rooms all many fits =
+pub pointers_open : (m : List (List ℕ)) (words : List ℕ) (start : Place) (n nesting : ℕ) (c : Bool) (next room : ℕ) (trees kept held : Trees) (traversed : ℕ)
+    → formed c trees ≡ tree pointers held none → formed c kept ≡ held → At m (places start.segment start.word n) kept traversed
+    → depth kept ≤ nesting → AllHaveRoom kept → AllHaveRoom (formed c trees) → count held ≡ n → next + total_words (formed c trees) ≤ room
+    → Opened m words start (Pointers n) (Pointers n) nesting c next room trees
+pointers_open m words start n nesting c next room trees kept held traversed form_is kept_is stand shallow rooms all many fits =
     let rooms_there : AllHaveRoom (tree pointers held none) = subst AllHaveRoom form_is all in
     let small : count held < 2 ^ 29 = rooms_there.0 in
     let total_is : total_words (formed c trees) ≡ count held + total_words held = ap total_words form_is ∙ omega arith in
@@ -124,8 +124,8 @@ pointers_open m words start n level c next room trees kept held charge form_is k
     record {
       kept = record {
         trees = kept;
-        charge = charge;
-        stand = subst (λ (l : List Place). At m l kept charge) (ap (λ (k : ℕ). places start.segment k n) first ∙ sym (append-nil (places start.segment (start.word + 0) n))) stand;
+        traversed = traversed;
+        stand = subst (λ (l : List Place). At m l kept traversed) (ap (λ (k : ℕ). places start.segment k n) first ∙ sym (append-nil (places start.segment (start.word + 0) n))) stand;
         shallow = shallow;
         rooms = rooms;
         fits = omega arith;
@@ -151,10 +151,10 @@ no_trees none e = refl
 no_trees (tree form held rest) e = absurd (omega arith)
 
 -- a list of numbers
-pub numbers_open : (m : List (List ℕ)) (words : List ℕ) (start : Place) (n level : ℕ) (size : ElementSize) (c : Bool) (next room : ℕ) (trees held : Trees)
+pub numbers_open : (m : List (List ℕ)) (words : List ℕ) (start : Place) (n nesting : ℕ) (size : ElementSize) (c : Bool) (next room : ℕ) (trees held : Trees)
     → formed c trees ≡ tree (numbers (code_of size) (numerals words start.word (code_of size) n)) held none → AllHaveRoom (formed c trees) → next + total_words (formed c trees) ≤ room
-    → Opened m words start (Numbers size n) (Numbers size n) level c next room trees
-numbers_open m words start n level size c next room trees held form_is all fits =
+    → Opened m words start (Numbers size n) (Numbers size n) nesting c next room trees
+numbers_open m words start n nesting size c next room trees held form_is all fits =
     let form : Form = numbers (code_of size) (numerals words start.word (code_of size) n) in
     let rooms_there : AllHaveRoom (tree form held none) = subst AllHaveRoom form_is all in
     let empty : held ≡ none = no_trees held rooms_there.0.2 in
@@ -167,7 +167,7 @@ numbers_open m words start n level size c next room trees held form_is all fits 
     let nothing_total : total_words (formed c none) ≡ 0 = ap total_words nothing_formed in
     let small : n < 2 ^ 29 = subst (λ (k : ℕ). k < 2 ^ 29) long_values rooms_there.0.1 in
     record {
-      kept = record { trees = none; charge = 0; stand = nowhere; shallow = omega arith; rooms = tt; fits = omega arith };
+      kept = record { trees = none; traversed = 0; stand = nowhere; shallow = omega arith; rooms = tt; fits = omega arith };
       fills = λ block long.
           let words_are : body (tree form held none) ≡ own form [] = ap (λ (t : Trees). body (tree form t none)) empty ∙ append-nil (own form [] ++ []) ∙ append-nil (own form []) in
           fill_nothing (next + words_for n (width (code_of size))) (formed c none) (put next (own form []) block)
@@ -179,14 +179,14 @@ numbers_open m words start n level size c next room trees held form_is all fits 
     }
 
 -- a list of structs
-pub structs_open : (m : List (List ℕ)) (words : List ℕ) (start : Place) (d p e q n behind words_kept level : ℕ) (c : Bool) (next room : ℕ) (trees kept held : Trees) (charge : ℕ)
+pub structs_open : (m : List (List ℕ)) (words : List ℕ) (start : Place) (d p e q n following words_kept nesting : ℕ) (c : Bool) (next room : ℕ) (trees kept held : Trees) (traversed : ℕ)
     → e ≤ d → start.word + 1 + n * (d + p) ≤ length words
     → formed c trees ≡ tree (structs e q (rows_from words (start.word + 1) e (d + p - e) n)) held none → formed c kept ≡ held
-    → At m (kept_places start.segment (start.word + 1) d p q n) kept charge
-    → depth kept ≤ level → AllHaveRoom kept → AllHaveRoom (formed c trees) → next + total_words (formed c trees) ≤ room
-    → Opened m words start (Structs (record { size = record { data_words = d; pointers = p }; count = n }) behind)
-    (Structs (record { size = record { data_words = e; pointers = q }; count = n }) words_kept) level c next room trees
-structs_open m words start d p e q n behind words_kept level c next room trees kept held charge less there form_is kept_is stand shallow rooms all fits =
+    → At m (kept_places start.segment (start.word + 1) d p q n) kept traversed
+    → depth kept ≤ nesting → AllHaveRoom kept → AllHaveRoom (formed c trees) → next + total_words (formed c trees) ≤ room
+    → Opened m words start (Structs (record { size = record { data_words = d; pointers = p }; count = n }) following)
+    (Structs (record { size = record { data_words = e; pointers = q }; count = n }) words_kept) nesting c next room trees
+structs_open m words start d p e q n following words_kept nesting c next room trees kept held traversed less there form_is kept_is stand shallow rooms all fits =
     let rows : List (List ℕ) = rows_from words (start.word + 1) e (d + p - e) n in
     let form : Form = structs e q (rows_from words (start.word + 1) e (d + p - e) n) in
     let rooms_there : AllHaveRoom (tree form held none) = subst AllHaveRoom form_is all in
@@ -202,7 +202,7 @@ structs_open m words start d p e q n behind words_kept level c next room trees k
     let few_words : length (rows_from words (start.word + 1) e (d + p - e) n) * (e + q) < 2 ^ 29 = rooms_there.0.3 in
     let few_rows : length (rows_from words (start.word + 1) e (d + p - e) n) < 2 ^ 30 = rooms_there.0.2 in
     record {
-      kept = record { trees = kept; charge = charge; stand = stand; shallow = shallow; rooms = rooms; fits = omega arith };
+      kept = record { trees = kept; traversed = traversed; stand = stand; shallow = shallow; rooms = rooms; fits = omega arith };
       fills = λ block long.
           let tagged : List ℕ = put next (struct_pointer n e q ∷ []) block in
           let tagged_long : length (put next (struct_pointer n e q ∷ []) block) ≡ length block = length-put next (struct_pointer n e q ∷ []) block (omega arith) in

@@ -25,9 +25,9 @@ use Rattle.capnp_wire.proofs.trees.KeptLemmas.{front_stands, kept_stand, long_pl
 use Rattle.capnp_wire.proofs.trees.KeptLemmas.{rooms_narrowed}
 use Rattle.capnp_wire.proofs.trees.FrontLemmas.{trim_first, trim_narrowed, first_cut, count_cut_trim, cut_words}
 
-under_depth : (level : ℕ) (form : Form) (held trees : Trees) → trees ≡ tree form held none → is_null form ≡ false → depth trees ≤ level → depth held ≤ level - 1
-under_depth level form held trees whole some shallow =
-    let deep : depth (tree form held none) ≤ level = subst (λ (t : Trees). depth t ≤ level) whole shallow in
+under_depth : (nesting : ℕ) (form : Form) (held trees : Trees) → trees ≡ tree form held none → is_null form ≡ false → depth trees ≤ nesting → depth held ≤ nesting - 1
+under_depth nesting form held trees whole some shallow =
+    let deep : depth (tree form held none) ≤ nesting = subst (λ (t : Trees). depth t ≤ nesting) whole shallow in
     let plain : (if is_null form then 0 else depth held + 1) ≡ depth held + 1 = ap (λ (b : Bool). if b then 0 else depth held + 1) some in
     omega arith
 
@@ -38,21 +38,21 @@ pub most_within_rows : (words : List ℕ) (start k step n : ℕ) → most_used w
 most_within_rows words start k step zero = omega arith
 most_within_rows words start k step (suc n) = omega (arith, most_within words start k, most_within_rows words (start + step) k step n)
 
-pub struct_plain : (m : List (List ℕ)) (words : List ℕ) (start : Place) (size : StructSize) (level next room : ℕ) (trees held : Trees) (inside : ℕ)
+pub struct_plain : (m : List (List ℕ)) (words : List ℕ) (start : Place) (size : StructSize) (nesting next room : ℕ) (trees held : Trees) (inside : ℕ)
     → trees ≡ tree (struct (words_from words start.word size.data_words)) held none → At m (places start.segment (start.word + size.data_words) size.pointers) held inside
-    → depth held ≤ level → AllHaveRoom held → AllHaveRoom trees → start.word + (size.data_words + size.pointers) ≤ length words → next + total_words trees ≤ room
-    → Opened m words start (Struct size) (Struct size) level false next room trees
-struct_plain m words start size level next room trees held inside whole stand shallow rooms all there fits =
-    struct_opens m words start size.data_words size.pointers size.data_words size.pointers level false next room trees held held inside
+    → depth held ≤ nesting → AllHaveRoom held → AllHaveRoom trees → start.word + (size.data_words + size.pointers) ≤ length words → next + total_words trees ≤ room
+    → Opened m words start (Struct size) (Struct size) nesting false next room trees
+struct_plain m words start size nesting next room trees held inside whole stand shallow rooms all there fits =
+    struct_opens m words start size.data_words size.pointers size.data_words size.pointers nesting false next room trees held held inside
     whole refl stand shallow rooms all (omega arith) (count_at m (places start.segment (start.word + size.data_words) size.pointers) held inside stand
     ∙ long_places start.segment (start.word + size.data_words) size.pointers) fits
 
-pub struct_trimmed : (m : List (List ℕ)) (words : List ℕ) (start : Place) (size : StructSize) (level next room : ℕ) (trees held : Trees) (inside : ℕ)
+pub struct_trimmed : (m : List (List ℕ)) (words : List ℕ) (start : Place) (size : StructSize) (nesting next room : ℕ) (trees held : Trees) (inside : ℕ)
     → (0 < size.pointers → slice_get m start.segment ≡ Some words) → trees ≡ tree (struct (words_from words start.word size.data_words)) held none
     → At m (places start.segment (start.word + size.data_words) size.pointers) held inside
-    → depth held ≤ level → AllHaveRoom held → AllHaveRoom (trim trees) → start.word + (size.data_words + size.pointers) ≤ length words → next + total_words (trim trees) ≤ room
-    → Opened m words start (Struct size) (Struct (least_size words start.word size 1)) level true next room trees
-struct_trimmed m words start size level next room trees held inside here whole stand shallow rooms all there fits =
+    → depth held ≤ nesting → AllHaveRoom held → AllHaveRoom (trim trees) → start.word + (size.data_words + size.pointers) ≤ length words → next + total_words (trim trees) ≤ room
+    → Opened m words start (Struct size) (Struct (least_size words start.word size 1)) nesting true next room trees
+struct_trimmed m words start size nesting next room trees held inside here whole stand shallow rooms all there fits =
     let d : ℕ = size.data_words in
     let p : ℕ = size.pointers in
     let e : ℕ = (least_size words start.word size 1).data_words in
@@ -70,36 +70,36 @@ struct_trimmed m words start size level next room trees held inside here whole s
     let form_is : trim trees ≡ tree (struct (words_from words start.word (least_size words start.word size 1).data_words)) (cut_nulls (trim held)) none =
     ap trim whole ∙ ap (λ (l : List ℕ). tree (struct l) (cut_nulls (trim held)) none) data_is in
     let s = front_stands m start.segment (start.word + size.data_words) (least_size words start.word size 1).pointers size.pointers held inside fewer stand in
-    struct_opens m words start size.data_words size.pointers (least_size words start.word size 1).data_words (least_size words start.word size 1).pointers level true next room trees
+    struct_opens m words start size.data_words size.pointers (least_size words start.word size 1).data_words (least_size words start.word size 1).pointers nesting true next room trees
     (first (least_size words start.word size 1).pointers held) (cut_nulls (trim held)) s.0
-    form_is kept_is s.1 (shallow_first level (least_size words start.word size 1).pointers held shallow) (rooms_first (least_size words start.word size 1).pointers held rooms) all
+    form_is kept_is s.1 (shallow_first nesting (least_size words start.word size 1).pointers held shallow) (rooms_first (least_size words start.word size 1).pointers held rooms) all
     (omega arith) cut_count fits
 
-structs_plain : (m : List (List ℕ)) (words : List ℕ) (start : Place) (elements : Elements) (behind level next room : ℕ) (trees held : Trees) (inside : ℕ)
+structs_plain : (m : List (List ℕ)) (words : List ℕ) (start : Place) (elements : Elements) (following nesting next room : ℕ) (trees held : Trees) (inside : ℕ)
     → trees ≡ tree (structs elements.size.data_words elements.size.pointers (rows_from words (start.word + 1) elements.size.data_words elements.size.pointers elements.count)) held none
     → At m (row_places start.segment (start.word + 1) elements.size.data_words elements.size.pointers elements.count) held inside
-    → depth held ≤ level → AllHaveRoom held → AllHaveRoom trees → start.word + 1 + elements.count * (elements.size.data_words + elements.size.pointers) ≤ length words → next + total_words trees ≤ room
-    → Opened m words start (Structs elements behind) (Structs elements behind) level false next room trees
-structs_plain m words start elements behind level next room trees held inside whole stand shallow rooms all there fits =
+    → depth held ≤ nesting → AllHaveRoom held → AllHaveRoom trees → start.word + 1 + elements.count * (elements.size.data_words + elements.size.pointers) ≤ length words → next + total_words trees ≤ room
+    → Opened m words start (Structs elements following) (Structs elements following) nesting false next room trees
+structs_plain m words start elements following nesting next room trees held inside whole stand shallow rooms all there fits =
     let d : ℕ = elements.size.data_words in
     let p : ℕ = elements.size.pointers in
     let skip : elements.size.pointers ≡ elements.size.data_words + elements.size.pointers - elements.size.data_words = omega arith in
     let form_is : trees ≡ tree (structs elements.size.data_words elements.size.pointers (rows_from words (start.word + 1) elements.size.data_words
     (elements.size.data_words + elements.size.pointers - elements.size.data_words) elements.count)) held none =
     whole ∙ ap (λ (k : ℕ). tree (structs elements.size.data_words elements.size.pointers (rows_from words (start.word + 1) elements.size.data_words k elements.count)) held none) skip in
-    structs_open m words start elements.size.data_words elements.size.pointers elements.size.data_words elements.size.pointers elements.count behind behind level false next room trees held held inside
+    structs_open m words start elements.size.data_words elements.size.pointers elements.size.data_words elements.size.pointers elements.count following following nesting false next room trees held held inside
     (omega arith) there form_is refl (subst (λ (l : List Place). At m l held inside) (kept_all start.segment
     (start.word + 1) elements.size.data_words elements.size.pointers elements.count) stand) shallow rooms all fits
 
-structs_trimmed : (m : List (List ℕ)) (words : List ℕ) (start : Place) (elements : Elements) (behind level next room : ℕ) (trees held : Trees) (inside : ℕ)
+structs_trimmed : (m : List (List ℕ)) (words : List ℕ) (start : Place) (elements : Elements) (following nesting next room : ℕ) (trees held : Trees) (inside : ℕ)
     → slice_get m start.segment ≡ Some words
     → trees ≡ tree (structs elements.size.data_words elements.size.pointers (rows_from words (start.word + 1) elements.size.data_words elements.size.pointers elements.count)) held none
     → At m (row_places start.segment (start.word + 1) elements.size.data_words elements.size.pointers elements.count) held inside
-    → depth held ≤ level → AllHaveRoom held → AllHaveRoom (trim trees) → start.word + 1 + elements.count * (elements.size.data_words + elements.size.pointers) ≤ length words
+    → depth held ≤ nesting → AllHaveRoom held → AllHaveRoom (trim trees) → start.word + 1 + elements.count * (elements.size.data_words + elements.size.pointers) ≤ length words
     → next + total_words (trim trees) ≤ room
-    → Opened m words start (Structs elements behind) (Structs (record { size = least_size words (start.word + 1) elements.size elements.count; count = elements.count }) behind)
-    level true next room trees
-structs_trimmed m words start elements behind level next room trees held inside here whole stand shallow rooms all there fits =
+    → Opened m words start (Structs elements following) (Structs (record { size = least_size words (start.word + 1) elements.size elements.count; count = elements.count }) following)
+    nesting true next room trees
+structs_trimmed m words start elements following nesting next room trees held inside here whole stand shallow rooms all there fits =
     let d : ℕ = elements.size.data_words in
     let p : ℕ = elements.size.pointers in
     let n : ℕ = elements.count in
@@ -129,45 +129,45 @@ structs_trimmed m words start elements behind level next room trees held inside 
     let s = kept_stand m start.segment (start.word + 1) d p least.pointers rows held inside fewer stand_long in
     let s_there : At m (kept_places start.segment (start.word + 1) d p least.pointers n) (narrowed least.pointers p rows held) s.0 =
     subst (λ (k : ℕ). At m (kept_places start.segment (start.word + 1) d p least.pointers k) (narrowed least.pointers p rows held) s.0) long s.1 in
-    structs_open m words start d p least.data_words least.pointers n behind behind level true next room trees (narrowed least.pointers p rows held)
+    structs_open m words start d p least.data_words least.pointers n following following nesting true next room trees (narrowed least.pointers p rows held)
     (narrowed (least_pointers p rows (trim held)) p rows (trim held)) s.0 less there form_is kept_is s_there
-    (shallow_narrowed level least.pointers p rows held shallow) (rooms_narrowed least.pointers p rows held rooms) all fits
+    (shallow_narrowed nesting least.pointers p rows held shallow) (rooms_narrowed least.pointers p rows held rooms) all fits
 
 -- an object as it is read
 abbrev pub OpenedAt : List (List ℕ) → List ℕ → Place → Body → ℕ → Bool → ℕ → ℕ → Trees → Type 0
-OpenedAt m words start there level c next room trees = Opened m words start there (formed_body c words start.word there) level c next room trees
+OpenedAt m words start there nesting c next room trees = Opened m words start there (formed_body c words start.word there) nesting c next room trees
 
-open_body : (m : List (List ℕ)) (words : List ℕ) (start : Place) (there : Body) (level : ℕ) (c : Bool) (next room : ℕ) (trees held : Trees) (inside : ℕ)
+open_body : (m : List (List ℕ)) (words : List ℕ) (start : Place) (there : Body) (nesting : ℕ) (c : Bool) (next room : ℕ) (trees held : Trees) (inside : ℕ)
     → slice_get m start.segment ≡ Some words → trees ≡ tree (shape_of words start there).form held none → At m (shape_of words start there).held held inside
-    → depth trees ≤ level → AllHaveRoom trees → start.word + room_of there ≤ length words → words_in there ≤ room_of there → next + total_words (formed c trees) ≤ room
-    → OpenedAt m words start there (level - 1) c next room trees
-open_body m words start (Struct size) level false next room trees held inside here whole stand shallow rooms fits_there inner fits =
-    struct_plain m words start size (level - 1) next room trees held inside whole stand (under_depth level _ held trees whole refl shallow) (under_rooms _ held trees whole rooms) rooms fits_there fits
-open_body m words start (Struct size) level true next room trees held inside here whole stand shallow rooms fits_there inner fits =
-    struct_trimmed m words start size (level - 1) next room trees held inside (λ some. here) whole stand (under_depth level _ held trees whole refl shallow)
+    → depth trees ≤ nesting → AllHaveRoom trees → start.word + room_of there ≤ length words → words_in there ≤ room_of there → next + total_words (formed c trees) ≤ room
+    → OpenedAt m words start there (nesting - 1) c next room trees
+open_body m words start (Struct size) nesting false next room trees held inside here whole stand shallow rooms fits_there inner fits =
+    struct_plain m words start size (nesting - 1) next room trees held inside whole stand (under_depth nesting _ held trees whole refl shallow) (under_rooms _ held trees whole rooms) rooms fits_there fits
+open_body m words start (Struct size) nesting true next room trees held inside here whole stand shallow rooms fits_there inner fits =
+    struct_trimmed m words start size (nesting - 1) next room trees held inside (λ some. here) whole stand (under_depth nesting _ held trees whole refl shallow)
     (under_rooms _ held trees whole rooms) (room_formed true trees rooms) fits_there fits
-open_body m words start (Numbers size n) level false next room trees held inside here whole stand shallow rooms fits_there inner fits =
-    numbers_open m words start n (level - 1) size false next room trees held whole rooms fits
-open_body m words start (Numbers size n) level true next room trees held inside here whole stand shallow rooms fits_there inner fits =
-    numbers_open m words start n (level - 1) size true next room trees (trim held) (ap trim whole) (room_formed true trees rooms) fits
-open_body m words start (Pointers n) level false next room trees held inside here whole stand shallow rooms fits_there inner fits =
-    pointers_open m words start n (level - 1) false next room trees held held inside whole refl stand (under_depth level _ held trees whole refl shallow) (under_rooms _ held trees whole rooms) rooms
+open_body m words start (Numbers size n) nesting false next room trees held inside here whole stand shallow rooms fits_there inner fits =
+    numbers_open m words start n (nesting - 1) size false next room trees held whole rooms fits
+open_body m words start (Numbers size n) nesting true next room trees held inside here whole stand shallow rooms fits_there inner fits =
+    numbers_open m words start n (nesting - 1) size true next room trees (trim held) (ap trim whole) (room_formed true trees rooms) fits
+open_body m words start (Pointers n) nesting false next room trees held inside here whole stand shallow rooms fits_there inner fits =
+    pointers_open m words start n (nesting - 1) false next room trees held held inside whole refl stand (under_depth nesting _ held trees whole refl shallow) (under_rooms _ held trees whole rooms) rooms
     (count_at m (places start.segment start.word n) held inside stand ∙ long_places start.segment start.word n) fits
-open_body m words start (Pointers n) level true next room trees held inside here whole stand shallow rooms fits_there inner fits =
-    pointers_open m words start n (level - 1) true next room trees held (trim held) inside (ap trim whole) refl stand (under_depth level _ held trees whole refl shallow)
+open_body m words start (Pointers n) nesting true next room trees held inside here whole stand shallow rooms fits_there inner fits =
+    pointers_open m words start n (nesting - 1) true next room trees held (trim held) inside (ap trim whole) refl stand (under_depth nesting _ held trees whole refl shallow)
     (under_rooms _ held trees whole rooms) (room_formed true trees rooms)
     (count-trim held ∙ count_at m (places start.segment start.word n) held inside stand ∙ long_places start.segment start.word n) fits
-open_body m words start (Structs elements behind) level false next room trees held inside here whole stand shallow rooms fits_there inner fits =
-    structs_plain m words start elements behind (level - 1) next room trees held inside whole stand (under_depth level _ held trees whole refl shallow)
+open_body m words start (Structs elements following) nesting false next room trees held inside here whole stand shallow rooms fits_there inner fits =
+    structs_plain m words start elements following (nesting - 1) next room trees held inside whole stand (under_depth nesting _ held trees whole refl shallow)
     (under_rooms _ held trees whole rooms) rooms (omega arith) fits
-open_body m words start (Structs elements behind) level true next room trees held inside here whole stand shallow rooms fits_there inner fits =
-    structs_trimmed m words start elements behind (level - 1) next room trees held inside here whole stand (under_depth level _ held trees whole refl shallow)
+open_body m words start (Structs elements following) nesting true next room trees held inside here whole stand shallow rooms fits_there inner fits =
+    structs_trimmed m words start elements following (nesting - 1) next room trees held inside here whole stand (under_depth nesting _ held trees whole refl shallow)
     (under_rooms _ held trees whole rooms) (room_formed true trees rooms) (omega arith) fits
 
-pub opened : (m : List (List ℕ)) (words : List ℕ) (place start : Place) (there : Body) (charge level : ℕ) (c : Bool) (next room : ℕ) (can : CanCopy m (place ∷ []) level c next room)
-    → slice_get m start.segment ≡ Some words → PointsTo m place (record (shape_of words start there) { charge = charge })
+pub opened : (m : List (List ℕ)) (words : List ℕ) (place start : Place) (there : Body) (traversed nesting : ℕ) (c : Bool) (next room : ℕ) (can : CanCopy m (place ∷ []) nesting c next room)
+    → slice_get m start.segment ≡ Some words → PointsTo m place (record (shape_of words start there) { traversed = traversed })
     → start.word + room_of there ≤ length words → words_in there ≤ room_of there
-    → OpenedAt m words start there (level - 1) c next room can.trees
-opened m words place start there charge level c next room can here object fits_there inner =
-    let u = under m place (record (shape_of words start there) { charge = charge }) can.trees can.charge can.stand object in
-    open_body m words start there level c next room can.trees u.held u.inside here u.whole u.stand can.shallow can.rooms fits_there inner can.fits
+    → OpenedAt m words start there (nesting - 1) c next room can.trees
+opened m words place start there traversed nesting c next room can here object fits_there inner =
+    let u = under m place (record (shape_of words start there) { traversed = traversed }) can.trees can.traversed can.stand object in
+    open_body m words start there nesting c next room can.trees u.held u.inside here u.whole u.stand can.shallow can.rooms fits_there inner can.fits

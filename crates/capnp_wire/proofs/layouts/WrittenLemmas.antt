@@ -5,7 +5,7 @@ use Rattle.capnp_wire.specs.Pointer.{digits, number_of, words_from, pointer_kind
 use Rattle.capnp_wire.specs.Element.{width, words_for}
 use Rattle.capnp_wire.specs.Tree.{Form, struct, numbers, pointers, structs}
 use Rattle.capnp_wire.specs.declared.layout.place.Place.{Place}
-use Rattle.capnp_wire.specs.Object.{Lands, near, behind, Shape, ShapeStands, places, row_places, rows_from, struct_shape, numbers_shape, pointers_shape, structs_shape, a_struct}
+use Rattle.capnp_wire.specs.Object.{Lands, near, following, Shape, ShapeStands, places, row_places, rows_from, struct_shape, numbers_shape, pointers_shape, structs_shape, a_struct}
 use Rattle.capnp_wire.specs.Object.{some_numbers, some_pointers, some_structs, PointsTo, is_object}
 use Rattle.capnp_wire.specs.Layout.{run, row_run, slots, woven}
 use Rattle.capnp_wire.specs.Layout.{placed}
@@ -17,8 +17,8 @@ use Rattle.capnp_wire.proofs.layouts.SizeLemmas.{length-woven}
 
 -- an object of some form is read, and its pointers stand in its slots
 pub record Read (m : List (List ℕ)) (k : ℕ) (segment : List ℕ) (word start : ℕ) (form : Form) (links : List ℕ) : Type 0 where
-  pub charge : ℕ
-  pub object : PointsTo m (record { segment = k; word = word }) (record { form = form; held = placed k start (slots form (length links)); charge = charge })
+  pub traversed : ℕ
+  pub object : PointsTo m (record { segment = k; word = word }) (record { form = form; held = placed k start (slots form (length links)); traversed = traversed })
   pub linked : Linked segment start (slots form (length links)) links
 
 -- a pointer word at a word of the segment, and the start of what it points to
@@ -31,10 +31,10 @@ pub record Points (segment : List ℕ) (word tag start : ℕ) : Type 0 where
 -- an object as it stands, under other names for its parts
 read_as : (m : List (List ℕ)) (k : ℕ) (segment : List ℕ) (there : slice_get m k ≡ Some segment) (word start tag : ℕ) (form : Form) (held : List Place) (shape : Shape)
     → Points segment word tag start → ShapeStands segment (record { segment = k; word = start }) tag shape → shape.form ≡ form → shape.held ≡ held
-    → PointsTo m (record { segment = k; word = word }) (record { form = form; held = held; charge = 0 + shape.charge })
+    → PointsTo m (record { segment = k; word = word }) (record { form = form; held = held; traversed = 0 + shape.traversed })
 read_as m k segment there word start tag form held shape p stands f h =
-    let same : ◌≡◌ {A = Shape} (record { form = shape.form; held = shape.held; charge = 0 + shape.charge }) (record { form = form; held = held; charge = 0 + shape.charge }) = cc in
-    let lands : Lands m (record { segment = k; word = word }) (record { segment = k; origin = behind word; tag = tag; pads = 0 }) =
+    let same : ◌≡◌ {A = Shape} (record { form = shape.form; held = shape.held; traversed = 0 + shape.traversed }) (record { form = form; held = held; traversed = 0 + shape.traversed }) = cc in
+    let lands : Lands m (record { segment = k; word = word }) (record { segment = k; origin = following word; tag = tag; landing_pads = 0 }) =
     near (rw there p.stands) p.positive p.is_near in
     subst (λ (s : Shape). PointsTo m (record { segment = k; word = word }) s) same (is_object lands there p.target stands)
 
@@ -51,7 +51,7 @@ read_struct m k segment there word start tag o words links p f h =
     (length links) refl in
     let held_same : places k (start + data_words tag) (pointer_words tag) ≡ placed k start (run (length words) (length links)) = rw (f.data_is, f.pointers_are) (sym run_there) in
     record {
-      charge = 0 + (data_words tag + pointer_words tag);
+      traversed = 0 + (data_words tag + pointer_words tag);
       object = read_as m k segment there word start tag (struct words) (placed k start (run (length words) (length links))) (struct_shape segment (record { segment = k; word = start })
           (data_words tag) (pointer_words tag)) p stands (ap struct data_same) held_same;
       linked = linked_run segment start (start + length words) (length words) links refl (holds_right segment start (length words) words links refl h);
@@ -66,7 +66,7 @@ read_pointers m k segment there word start tag o links p f h =
     let run_there : placed k start (run 0 (length links)) ≡ places k start (length links) = placed-run k start start 0 (length links) (omega arith) in
     let held_same : places k start (list_count tag) ≡ placed k start (run 0 (length links)) = rw f.count_is (sym run_there) in
     record {
-      charge = 0 + list_count tag;
+      traversed = 0 + list_count tag;
       object = read_as m k segment there word start tag pointers (placed k start (run 0 (length links))) (pointers_shape (record { segment = k; word = start })
           (list_count tag)) p stands refl held_same;
       linked = linked_run segment start start 0 links (omega arith) h;
@@ -93,20 +93,20 @@ read_numbers m k segment there word start tag o c values p f small fits h =
     subst (λ (x : ℕ). ShapeStands segment (record { segment = k; word = start }) tag (numbers_shape segment (record { segment = k; word = start }) x (length values))) code_is
     (subst (λ (x : ℕ). ShapeStands segment (record { segment = k; word = start }) tag (numbers_shape segment (record { segment = k; word = start }) (code tag) x)) count_is stands) in
     record {
-      charge = 0 + (numbers_shape segment (record { segment = k; word = start }) c (length values)).charge;
+      traversed = 0 + (numbers_shape segment (record { segment = k; word = start }) c (length values)).traversed;
       object = read_as m k segment there word start tag (numbers c values) [] (numbers_shape segment (record { segment = k; word = start }) c (length values)) p known (rw words_there
           (ap (numbers c) back)) refl;
       linked = refl;
     }
 
--- the elements behind a tag word
+-- the elements after a tag word
 pub read_structs : (m : List (List ℕ)) (k : ℕ) (segment : List ℕ) (there : slice_get m k ≡ Some segment) (word start tag o inner d q : ℕ) (rows : List (List ℕ)) (links : List ℕ)
     → Points segment word tag start → ListFields tag o 7 (length rows * (d + q))
     → StructFields inner (length rows) d q → AllOf d rows → length links ≡ length rows * q
     → Holds segment start (inner ∷ woven q rows links) → Read m k segment word start (structs d q rows) links
 read_structs m k segment there word start tag o inner d q rows links p f g even long h =
-    let behind : Holds segment (start + 1) (woven q rows links) = holds_right segment start 1 (inner ∷ []) (woven q rows links) refl h in
-    let rows_there : rows_from segment (start + 1) d q (length rows) ≡ rows = rows_woven segment (start + 1) d q rows links even long behind in
+    let following : Holds segment (start + 1) (woven q rows links) = holds_right segment start 1 (inner ∷ []) (woven q rows links) refl h in
+    let rows_there : rows_from segment (start + 1) d q (length rows) ≡ rows = rows_woven segment (start + 1) d q rows links even long following in
     let room : start + 1 + list_count tag ≤ length segment = omega (arith, holds_room segment start (inner ∷ woven q rows links) h, length-woven d q rows links even long, f.count_is) in
     let sizes_are : data_words inner + pointer_words inner ≡ d + q = omega (arith, g.data_is, g.pointers_are) in
     let enough : offset inner * (data_words inner + pointer_words inner) ≤ list_count tag =
@@ -120,8 +120,8 @@ read_structs m k segment there word start tag o inner d q rows links p f g even 
     let held_same : row_places k (start + 1) (data_words inner) (pointer_words inner) (offset inner) ≡ placed k start (row_run 1 d q rows) =
     rw (g.data_is, g.pointers_are, g.offset_is) (sym slots_there) in
     record {
-      charge = 0 + (structs_shape segment (record { segment = k; word = start }) (data_words inner) (pointer_words inner) (offset inner) (list_count tag)).charge;
+      traversed = 0 + (structs_shape segment (record { segment = k; word = start }) (data_words inner) (pointer_words inner) (offset inner) (list_count tag)).traversed;
       object = read_as m k segment there word start tag (structs d q rows) (placed k start (row_run 1 d q rows)) (structs_shape segment (record { segment = k; word = start }) (data_words inner)
           (pointer_words inner) (offset inner) (list_count tag)) p stands form_same held_same;
-      linked = linked_rows segment start (start + 1) 1 d q rows links refl even long behind;
+      linked = linked_rows segment start (start + 1) 1 d q rows links refl even long following;
     }

@@ -2,7 +2,7 @@
 use Rattle.std.proofs.Common.{◌≡◌, ℕ, List, Some, refl, ap, subst, sym, ◌∙◌, arith}
 use Rattle.capnp_wire.specs.Pointer.{list_count, offset, data_words, pointer_words}
 use Rattle.capnp_wire.specs.Tree.{Trees}
-use Rattle.capnp_wire.specs.Object.{word_at, Origin, behind, exactly, IsStart, Target, Lands, near, far, double_far, pad, pad_tag, Shape, ShapeStands, structs_shape, a_struct, some_numbers}
+use Rattle.capnp_wire.specs.Object.{word_at, Origin, following, exactly, IsStart, Target, Lands, near, far, double_far, landing_pad, landing_pad_tag, Shape, ShapeStands, structs_shape, a_struct, some_numbers}
 use Rattle.capnp_wire.specs.Object.{some_pointers, some_structs, PointsTo, is_null, is_object}
 use Rattle.capnp_wire.specs.Reached.{At, nowhere, at}
 use Rattle.capnp_wire.specs.declared.layout.place.Place.{Place}
@@ -11,7 +11,7 @@ pub same_word : (m : List (List ℕ)) (place : Place) (v w : ℕ) → word_at m 
 same_word m place v w e f = cc
 
 pub one_start : (origin : Origin) (tag s t : ℕ) → IsStart origin tag s → IsStart origin tag t → s ≡ t
-one_start (behind word) tag s t p q = omega arith
+one_start (following word) tag s t p q = omega arith
 one_start (exactly word) tag s t p q = p ∙ sym q
 
 pub one_landing : (m : List (List ℕ)) (place : Place) (c d : Target) → Lands m place c → Lands m place d → c ≡ d
@@ -22,15 +22,15 @@ one_landing m place c d (near {word = v} e _ k) (double_far {word = w} f x _ _ _
 one_landing m place c d (far {word = v} e x _ _) (near {word = w} f _ k) = let same : v ≡ w = same_word m place v w e f in absurd (omega arith)
 one_landing m place c d (far {word = v} {tag = a} e x p _) (far {word = w} {tag = b} f y q _) =
     let same : v ≡ w = same_word m place v w e f in
-    let tags : a ≡ b = same_word m (pad w) a b (subst (λ z. word_at m (pad z) ≡ Some a) same p) q in
+    let tags : a ≡ b = same_word m (landing_pad w) a b (subst (λ z. word_at m (landing_pad z) ≡ Some a) same p) q in
     cc
 one_landing m place c d (far {word = v} e x _ _) (double_far {word = w} f y _ _ _ _ _) = let same : v ≡ w = same_word m place v w e f in absurd (omega arith)
 one_landing m place c d (double_far {word = v} e x _ _ _ _ _) (near {word = w} f _ k) = let same : v ≡ w = same_word m place v w e f in absurd (omega arith)
 one_landing m place c d (double_far {word = v} e x _ _ _ _ _) (far {word = w} f y _ _) = let same : v ≡ w = same_word m place v w e f in absurd (omega arith)
 one_landing m place c d (double_far {word = v} {inner = i} {tag = a} e _ p _ x _ _) (double_far {word = w} {inner = j} {tag = b} f _ q _ y _ _) =
     let same : v ≡ w = same_word m place v w e f in
-    let inside : i ≡ j = same_word m (pad w) i j (subst (λ z. word_at m (pad z) ≡ Some i) same p) q in
-    let tags : a ≡ b = same_word m (pad_tag w) a b (subst (λ z. word_at m (pad_tag z) ≡ Some a) same x) y in
+    let inside : i ≡ j = same_word m (landing_pad w) i j (subst (λ z. word_at m (landing_pad z) ≡ Some i) same p) q in
+    let tags : a ≡ b = same_word m (landing_pad_tag w) a b (subst (λ z. word_at m (landing_pad_tag z) ≡ Some a) same x) y in
     cc
 
 pub one_shape : (words : List ℕ) (start : Place) (pointer : ℕ) (s t : Shape) → ShapeStands words start pointer s → ShapeStands words start pointer t → s ≡ t
@@ -75,8 +75,8 @@ one_object m place s t (is_object {landing = c} {words = v} {start = i} {shape =
 
 pub one_tree : (m : List (List ℕ)) (places : List Place) (a b : Trees) (x y : ℕ) → At m places a x → At m places b y → (a ≡ b) × (x ≡ y)
 one_tree m places a b x y nowhere nowhere = (refl, refl)
-one_tree m places a b x y (at {others = others} {shape = s} {held = h} {rest = r} {inside = i} {behind = n} o inner after)
-    (at {shape = t} {held = h'} {rest = r'} {inside = i'} {behind = n'} o' inner' after') =
+one_tree m places a b x y (at {others = others} {shape = s} {held = h} {rest = r} {inside = i} {following = n} o inner after)
+    (at {shape = t} {held = h'} {rest = r'} {inside = i'} {following = n'} o' inner' after') =
     let shape : s ≡ t = one_object m _ s t o o' in
     let held = one_tree m t.held h h' i i' (subst (λ z. At m z.held h i) shape inner) inner' in
     let rest = one_tree m others r r' n n' after after' in

@@ -10,7 +10,7 @@ struct_there_as : (start there : ℕ) (body : Body) (size : StructSize) → IsNa
 struct_there_as start there (Struct from) size narrower room = let less : size.data_words ≤ from.data_words = narrower.0 in omega arith
 struct_there_as start there (Numbers from n) size narrower room = absurd narrower
 struct_there_as start there (Pointers n) size narrower room = absurd narrower
-struct_there_as start there (Structs from behind) size narrower room = absurd narrower
+struct_there_as start there (Structs from following) size narrower room = absurd narrower
 
 pub struct_there : (start there : ℕ) (body copied : Body) (size : StructSize) → copied ≡ Struct size → IsNarrower body copied → start + room_of body ≤ there → start + size.data_words ≤ there
 struct_there start there body copied size is narrower room = struct_there_as start there body size (subst (IsNarrower body) is narrower) room

@@ -28,5 +28,5 @@ own_words_are words start (Numbers sizes n) room =
     ap (λ (k : ℕ). words_for k (width (code_of sizes)))
     (length-digits (2 ^ width (code_of sizes)) n (number_of (2 ^ 64) (words_from words start.word (words_for n (width (code_of sizes))))))
 own_words_are words start (Pointers n) room = length-places start.segment start.word n
-own_words_are words start (Structs e behind) room =
+own_words_are words start (Structs e following) room =
     ap (λ (k : ℕ). 1 + k * (e.size.data_words + e.size.pointers)) (length-rows words (start.word + 1) e.size.data_words e.size.pointers e.count)

@@ -110,9 +110,9 @@ part_is_padded words s code n all room some =
       λ padded. e.1 (small_padded words s (width code) n (n * width code / 64 + 1) is (p.1 padded)),
     )
 
--- the bits behind some are zero
-pub no_bits_behind : (last r : ℕ) → (last / 2 ^ r ≡ 0) ↔ (last < 2 ^ r)
-no_bits_behind last r = (
+-- the bits after some are zero
+pub no_bits_after : (last r : ℕ) → (last / 2 ^ r ≡ 0) ↔ (last < 2 ^ r)
+no_bits_after last r = (
   λ none.
       let h : last < last / 2 ^ r * 2 ^ r + 2 ^ r = lt-div-mul-add (pow_pos r) in
       let zero_there : last / 2 ^ r * 2 ^ r ≡ 0 = ap (λ (j : ℕ). j * 2 ^ r) none ∙ zero-mul (2 ^ r) in

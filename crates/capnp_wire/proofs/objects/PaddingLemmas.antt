@@ -1,4 +1,4 @@
--- The words of a list, with zero bits behind its last element.
+-- The words of a list, with zero bits after its last element.
 use native.Mathlib.Nat.{pow-zero, pow-suc, pow-le-pow_right}
 use Rattle.std.proofs.Math.Arith.{mod-mul}
 use Rattle.std.proofs.Math.Pow.{shl_exact}
@@ -16,7 +16,7 @@ use Rattle.capnp_wire.specs.Layout.{own}
 use Rattle.capnp_wire.specs.Block.{put}
 use Rattle.capnp_wire.proofs.words.DigitLemmas.{length-digits, pow-mul}
 use Rattle.capnp_wire.proofs.objects.ElementLemmas.{low_digit, high_digits, digits_back}
-use Rattle.capnp_wire.proofs.words.UsedLemmas.{take_more, get_behind}
+use Rattle.capnp_wire.proofs.words.UsedLemmas.{take_more, get_after}
 use Rattle.capnp_wire.proofs.layouts.BlockLemmas.{put_parts, put_inside}
 
 -- the lowest digit of a remainder, and those above it
@@ -104,7 +104,7 @@ part_below words start k small i =
       | inr past ↦ rw (get_or_past (words_from words start k) i 0 past.0) (lit< tt)
     ]
 
--- no bits are left behind the last element
+-- no bits are left after the last element
 pub whole_words : (words : List ℕ) (start code n : ℕ) → ((i : ℕ) → slice_index_or words i 0 < 2 ^ 64) → start + words_for n (width code) ≤ length words → n * width code % 64 ≡ 0
     → own (numbers code (elements words start code n)) [] ≡ words_from words start (words_for n (width code))
 whole_words words start code n small room none =
@@ -142,7 +142,7 @@ part_word words start code n last small room some there slot block fits =
       length-drop start words,
     ) in
     let here : start + words_for n (width code) - 1 ≡ start + (words_for n (width code) - 1) = omega arith in
-    let last_is : slice_get (drop start words) (words_for n (width code) - 1) ≡ Some last = get_behind start (words_for n (width code) - 1) words last (ap (λ (i : ℕ). slice_get words i)
+    let last_is : slice_get (drop start words) (words_for n (width code) - 1) ≡ Some last = get_after start (words_for n (width code) - 1) words last (ap (λ (i : ℕ). slice_get words i)
     (sym here) ∙ there) in
     let parts : words_from words start (words_for n (width code)) ≡ front ++ last ∷ [] = ap (λ (i : ℕ). take i (drop start words)) next
     ∙ take_more (words_for n (width code) - 1) (drop start words) last last_is in

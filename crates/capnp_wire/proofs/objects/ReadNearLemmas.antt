@@ -4,7 +4,7 @@ use Rattle.std.specs.Prelude.{◌↔◌}
 use Rattle.capnp_wire.specs.Pointer.{pointer_kind, offset, words_of}
 use Rattle.capnp_wire.specs.Element.{code_of}
 use Rattle.capnp_wire.specs.Tree.{numbers, own_words}
-use Rattle.capnp_wire.specs.Object.{word_at, behind, IsStart, Target, Lands, near, far, double_far, Shape, ShapeStands, PointsTo, elements}
+use Rattle.capnp_wire.specs.Object.{word_at, following, IsStart, Target, Lands, near, far, double_far, Shape, ShapeStands, PointsTo, elements}
 use Rattle.capnp_wire.specs.Landing.{IsObject, shape_of, room_of, words_in}
 use Rattle.capnp_wire.specs.Canonical.{Padded}
 use Rattle.capnp_wire.specs.Tested.{IsNext, NextOf, PaddedOf, IsTight, links_at, IsLaidOut}
@@ -21,7 +21,7 @@ use Rattle.capnp_wire.proofs.forms.TightLemmas.{length-stretch}
 
 -- how a pointer leads that is no far pointer
 record LandsNear (place : Place) (landing : Target) (word : ℕ) : Type 0 where
-  is : landing ≡ record { segment = place.segment; origin = behind place.word; tag = word; pads = 0 }
+  is : landing ≡ record { segment = place.segment; origin = following place.word; tag = word; landing_pads = 0 }
   positive : 0 < word
   is_near : pointer_kind word < 2
 
@@ -29,7 +29,7 @@ lands_near : (m : List (List ℕ)) (place : Place) (landing : Target) (word : �
 lands_near m place landing word (near {word = w} e p k) there not_far =
     let same : w ≡ word = cc in
     record {
-      is = ap (λ (x : ℕ). record { segment = place.segment; origin = behind place.word; tag = x; pads = 0 }) same;
+      is = ap (λ (x : ℕ). record { segment = place.segment; origin = following place.word; tag = x; landing_pads = 0 }) same;
       positive = omega arith;
       is_near = subst (λ (x : ℕ). pointer_kind x < 2) same k;
     }
@@ -40,7 +40,7 @@ lands_near m place landing word (double_far {word = w} e f p g q r k) there not_
 
 -- an object, and where it begins
 abbrev pub shape_as : List ℕ → ReadObject → Shape
-shape_as segment object = record (shape_of segment object.start object.body) { charge = object.charge }
+shape_as segment object = record (shape_of segment object.start object.body) { traversed = object.traversed }
 
 pub record ReadNear (segment : List ℕ) (word pointer : ℕ) (object : ReadObject) : Type 0 where
   pub positive : 0 < pointer
@@ -109,7 +109,7 @@ padded_of_is segment start (Numbers size count) pointer word next before target 
 padded_of_is segment start (Pointers count) pointer word next before target is = (λ t. tt, λ t. tt)
 padded_of_is segment start (Structs e more) pointer word next before target is = (λ t. tt, λ t. tt)
 
--- the object's words lie behind the next free word
+-- the object's words lie after the next free word
 pub read_room : (segment : List ℕ) (word pointer next : ℕ) (object : ReadObject) → ReadNear segment word pointer object → word < next → next ≤ length segment
     → NextOf pointer word next object.body → next + words_in object.body ≤ length segment
 read_room segment word pointer next object r before within is =

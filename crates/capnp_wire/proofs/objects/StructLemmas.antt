@@ -8,7 +8,7 @@ use Rattle.capnp_wire.specs.Tree.{struct, Trees, none, tree, count, own_words, t
 use Rattle.capnp_wire.specs.Object.{places}
 use Rattle.capnp_wire.specs.Landing.{words_in}
 use Rattle.capnp_wire.specs.Reached.{At}
-use Rattle.capnp_wire.specs.Charge.{WalkedAll}
+use Rattle.capnp_wire.specs.Traversed.{WalkedAll}
 use Rattle.capnp_wire.specs.Layout.{layout, body, pointer_to, formed, HasRoom, AllHaveRoom}
 use Rattle.capnp_wire.specs.Block.{put, fill}
 use Rattle.capnp_wire.specs.Copy.{formed_body, pointer_of_body, put_own}
@@ -50,79 +50,79 @@ struct_room m words start size held inside d p all stand = (
   words_below words start.word size.data_words all,
 )
 
-tree_of : (m : List (List ℕ)) (words : List ℕ) (start : Place) (size : StructSize) (level : ℕ) (limit left : Option ℕ) (c : Bool) (counted_then counted_now : Option ℕ)
-    → (w : WalkedAll m c (places start.segment (start.word + size.data_words) size.pointers) level limit left counted_then counted_now)
-    → IsTreeOf (fields_at m words start size level limit) (tree (struct (words_from words start.word size.data_words)) w.stand.trees none)
-tree_of m words start size level limit left c counted_then counted_now w =
-    record { held = w.stand.trees; charge = w.charge; stand = w.stand.stand; shallow = w.stand.shallow; within = w.within; whole = refl }
+tree_of : (m : List (List ℕ)) (words : List ℕ) (start : Place) (size : StructSize) (nesting : ℕ) (limit left : Option ℕ) (c : Bool) (counted_then counted_now : Option ℕ)
+    → (w : WalkedAll m c (places start.segment (start.word + size.data_words) size.pointers) nesting limit left counted_then counted_now)
+    → IsTreeOf (fields_at m words start size nesting limit) (tree (struct (words_from words start.word size.data_words)) w.stand.trees none)
+tree_of m words start size nesting limit left c counted_then counted_now w =
+    record { held = w.stand.trees; traversed = w.traversed; stand = w.stand.stand; shallow = w.stand.shallow; within = w.within; whole = refl }
 
 -- what is measured of it
-pub struct_measured : (m : List (List ℕ)) (words : List ℕ) (start : Place) (size : StructSize) (level : ℕ) (limit left : Option ℕ) (c : Bool) (counted_then counted_now : Option ℕ)
+pub struct_measured : (m : List (List ℕ)) (words : List ℕ) (start : Place) (size : StructSize) (nesting : ℕ) (limit left : Option ℕ) (c : Bool) (counted_then counted_now : Option ℕ)
     → HoldsPointers m words start size → start.word + (size.data_words + size.pointers) ≤ length words → size.data_words < 2 ^ 16 → size.pointers < 2 ^ 16 → All (λ w. w < 2 ^ 64) words
-    → (w : WalkedAll m c (places start.segment (start.word + size.data_words) size.pointers) level limit left counted_then counted_now) → (total : ℕ)
+    → (w : WalkedAll m c (places start.segment (start.word + size.data_words) size.pointers) nesting limit left counted_then counted_now) → (total : ℕ)
     → total ≡ words_in (formed_body c words start.word (Struct size)) + w.words → (r : Result ℕ Error)
     → MatchResult r (λ number. (number ≡ total) × (number < 2 ^ 29)) (λ error. (2 ^ 29 ≤ total) × (error.kind ≡ too_large c total))
-    → MatchResult r (λ number. HasWords (IsTreeOf (fields_at m words start size level limit)) c number)
-    (λ error. LacksWords (IsTreeOf (fields_at m words start size level limit)) (StopsInside (fields_at m words start size level limit)) c error.kind)
-struct_measured m words start size level limit left c counted_then counted_now here room d p all w total total_is (Ok number) answer =
-    let sum = formed_total m words start size c w.stand.trees w.charge here room w.stand.stand w.stand.rooms in
+    → MatchResult r (λ number. HasWords (IsTreeOf (fields_at m words start size nesting limit)) c number)
+    (λ error. LacksWords (IsTreeOf (fields_at m words start size nesting limit)) (StopsInside (fields_at m words start size nesting limit)) c error.kind)
+struct_measured m words start size nesting limit left c counted_then counted_now here room d p all w total total_is (Ok number) returned =
+    let sum = formed_total m words start size c w.stand.trees w.traversed here room w.stand.stand w.stand.rooms in
     record {
       trees = tree (struct (words_from words start.word size.data_words)) w.stand.trees none;
-      tree_is = tree_of m words start size level limit left c counted_then counted_now w;
-      rooms = (struct_room m words start size w.stand.trees w.charge d p all w.stand.stand, w.stand.rooms, tt);
-      words_are = answer.0 ∙ total_is ∙ ap (λ (k : ℕ). words_in (formed_body c words start.word (Struct size)) + k) (sym w.stand.words_are) ∙ sum;
-      few = answer.1;
+      tree_is = tree_of m words start size nesting limit left c counted_then counted_now w;
+      rooms = (struct_room m words start size w.stand.trees w.traversed d p all w.stand.stand, w.stand.rooms, tt);
+      words_are = returned.0 ∙ total_is ∙ ap (λ (k : ℕ). words_in (formed_body c words start.word (Struct size)) + k) (sym w.stand.words_are) ∙ sum;
+      few = returned.1;
     }
-struct_measured m words start size level limit left c counted_then counted_now here room d p all w total total_is (Err error) answer =
-    let sum = formed_total m words start size c w.stand.trees w.charge here room w.stand.stand w.stand.rooms in
+struct_measured m words start size nesting limit left c counted_then counted_now here room d p all w total total_is (Err error) returned =
+    let sum = formed_total m words start size c w.stand.trees w.traversed here room w.stand.stand w.stand.rooms in
     let whole : total ≡ total_words (formed c (tree (struct (words_from words start.word size.data_words)) w.stand.trees none)) =
     total_is ∙ ap (λ (k : ℕ). words_in (formed_body c words start.word (Struct size)) + k) (sym w.stand.words_are) ∙ sum in
     inr (
       tree (struct (words_from words start.word size.data_words)) w.stand.trees none,
-      tree_of m words start size level limit left c counted_then counted_now w,
-      subst (λ (k : ℕ). 2 ^ 29 ≤ k) whole answer.0,
-      answer.1 ∙ ap (too_large c) whole,
+      tree_of m words start size nesting limit left c counted_then counted_now w,
+      subst (λ (k : ℕ). 2 ^ 29 ≤ k) whole returned.0,
+      returned.1 ∙ ap (too_large c) whole,
     )
 
 -- what is copied of it
-pub struct_opened : (m : List (List ℕ)) (words : List ℕ) (start : Place) (size : StructSize) (level : ℕ) (limit : Option ℕ) (c : Bool) (room : ℕ) → HoldsPointers m words start size
-    → start.word + (size.data_words + size.pointers) ≤ length words → (w : HasWords (IsTreeOf (fields_at m words start size level limit)) c room)
-    → Opened m words start (Struct size) (formed_body c words start.word (Struct size)) level c 0 room w.trees
-struct_opened m words start size level limit false room here there w =
-    struct_plain m words start size level 0 room w.trees w.tree_is.held w.tree_is.charge w.tree_is.whole w.tree_is.stand w.tree_is.shallow (subst AllHaveRoom w.tree_is.whole w.rooms).1 w.rooms there
+pub struct_opened : (m : List (List ℕ)) (words : List ℕ) (start : Place) (size : StructSize) (nesting : ℕ) (limit : Option ℕ) (c : Bool) (room : ℕ) → HoldsPointers m words start size
+    → start.word + (size.data_words + size.pointers) ≤ length words → (w : HasWords (IsTreeOf (fields_at m words start size nesting limit)) c room)
+    → Opened m words start (Struct size) (formed_body c words start.word (Struct size)) nesting c 0 room w.trees
+struct_opened m words start size nesting limit false room here there w =
+    struct_plain m words start size nesting 0 room w.trees w.tree_is.held w.tree_is.traversed w.tree_is.whole w.tree_is.stand w.tree_is.shallow (subst AllHaveRoom w.tree_is.whole w.rooms).1 w.rooms there
     (omega (arith, w.words_are))
-struct_opened m words start size level limit true room here there w =
-    struct_trimmed m words start size level 0 room w.trees w.tree_is.held w.tree_is.charge here w.tree_is.whole w.tree_is.stand w.tree_is.shallow (subst AllHaveRoom w.tree_is.whole w.rooms).1
+struct_opened m words start size nesting limit true room here there w =
+    struct_trimmed m words start size nesting 0 room w.trees w.tree_is.held w.tree_is.traversed here w.tree_is.whole w.tree_is.stand w.tree_is.shallow (subst AllHaveRoom w.tree_is.whole w.rooms).1
     (room_trim w.trees w.rooms) there (omega (arith, w.words_are))
 
-pub struct_opened_as : (m : List (List ℕ)) (words : List ℕ) (start : Place) (size : StructSize) (copied : Body) (level : ℕ) (limit : Option ℕ) (c : Bool) (room : ℕ) → HoldsPointers m words start size
+pub struct_opened_as : (m : List (List ℕ)) (words : List ℕ) (start : Place) (size : StructSize) (copied : Body) (nesting : ℕ) (limit : Option ℕ) (c : Bool) (room : ℕ) → HoldsPointers m words start size
     → start.word + (size.data_words + size.pointers) ≤ length words → copied ≡ formed_body c words start.word (Struct size)
-    → (w : HasWords (IsTreeOf (fields_at m words start size level limit)) c room)
-    → Opened m words start (Struct size) copied level c 0 room w.trees
-struct_opened_as m words start size copied level limit c room here there is w =
-    subst (λ (b : Body). Opened m words start (Struct size) b level c 0 room w.trees) (sym is)
-    (struct_opened m words start size level limit c room here there w)
+    → (w : HasWords (IsTreeOf (fields_at m words start size nesting limit)) c room)
+    → Opened m words start (Struct size) copied nesting c 0 room w.trees
+struct_opened_as m words start size copied nesting limit c room here there is w =
+    subst (λ (b : Body). Opened m words start (Struct size) b nesting c 0 room w.trees) (sym is)
+    (struct_opened m words start size nesting limit c room here there w)
 
-pub struct_written : (m : List (List ℕ)) (words : List ℕ) (start : Place) (size : StructSize) (copied : Body) (level : ℕ) (c : Bool) (room : ℕ) (trees : Trees) (old mid new : List ℕ) (pointer_is : ℕ)
-    → Opened m words start (Struct size) copied level c 0 room trees
+pub struct_written : (m : List (List ℕ)) (words : List ℕ) (start : Place) (size : StructSize) (copied : Body) (nesting : ℕ) (c : Bool) (room : ℕ) (trees : Trees) (old mid new : List ℕ) (pointer_is : ℕ)
+    → Opened m words start (Struct size) copied nesting c 0 room trees
     → AllHaveRoom trees → room ≡ total_words (formed c trees) → length old ≡ room → mid ≡ put_own words start.word (Struct size) copied 0 old
-    → ((held : Trees) (charge : ℕ) → At m (kept_in start (Struct size) (row_size copied).pointers) held charge → new ≡ fill (slots_of 0 copied) (0 + words_in copied) (formed c held) mid)
+    → ((held : Trees) (traversed : ℕ) → At m (kept_in start (Struct size) (row_size copied).pointers) held traversed → new ≡ fill (slots_of 0 copied) (0 + words_in copied) (formed c held) mid)
     → pointer_is ≡ pointer_of_body copied 0 → pointer_is ∷ new ≡ layout (formed c trees)
-struct_written m words start size copied level c room trees old mid new pointer_is o rooms full long mid_is filled pointer =
+struct_written m words start size copied nesting c room trees old mid new pointer_is o rooms full long mid_is filled pointer =
     let new_is : new ≡ put 0 (body (formed c trees)) old =
-    filled o.kept.trees o.kept.charge o.kept.stand
+    filled o.kept.trees o.kept.traversed o.kept.stand
     ∙ ap (λ (b : List ℕ). fill (slots_of 0 copied) (0 + words_in copied) (formed c o.kept.trees) b) mid_is
     ∙ o.fills old long in
     let whole = put_whole (body (formed c trees)) old (omega (arith, length-body (formed c trees) (room_formed c trees rooms), full, long)) in
     ap (λ (p : ℕ). p ∷ new) (pointer ∙ o.pointers_are 0) ∙ ap (λ (l : List ℕ). pointer_to (formed c trees) 0 ∷ l) (new_is ∙ whole)
 
 -- one struct is one tree, whatever the limit
-pub same_struct : (m : List (List ℕ)) (words : List ℕ) (start : Place) (size : StructSize) (level : ℕ) (limit other : Option ℕ) (a b : Trees)
-    → IsTreeOf (fields_at m words start size level limit) a → IsTreeOf (fields_at m words start size level other) b → a ≡ b
-same_struct m words start size level limit other a b x y =
+pub same_struct : (m : List (List ℕ)) (words : List ℕ) (start : Place) (size : StructSize) (nesting : ℕ) (limit other : Option ℕ) (a b : Trees)
+    → IsTreeOf (fields_at m words start size nesting limit) a → IsTreeOf (fields_at m words start size nesting other) b → a ≡ b
+same_struct m words start size nesting limit other a b x y =
     x.whole
     ∙ ap (λ (t : Trees). tree (struct (words_from words start.word size.data_words)) t none)
-    (one_tree m (places start.segment (start.word + size.data_words) size.pointers) x.held y.held x.charge y.charge x.stand y.stand).0
+    (one_tree m (places start.segment (start.word + size.data_words) size.pointers) x.held y.held x.traversed y.traversed x.stand y.stand).0
     ∙ sym y.whole
 
 -- a struct that has pointers to keep stands in a segment of the message

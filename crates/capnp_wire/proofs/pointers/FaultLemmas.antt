@@ -1,13 +1,13 @@
--- Where a pointer is refused, no object stands within its level.
+-- Where a pointer is refused, no object stands within the nesting depth left.
 use Rattle.std.proofs.Common.{◌≡◌, ℕ, ◌+◌, ◌*◌, ◌<◌, ◌≤◌, true, false, List, Some, None, slice_get, refl, sym, ◌∙◌, ap, subst, arith}
 use Rattle.capnp_frame.specs.declared.error.ErrorKind.{ErrorKind}
 use Rattle.capnp_wire.specs.Element.{width, words_for}
-use Rattle.capnp_wire.specs.Pointer.{pointer_kind, code, has_wide_pad, pad_segment, offset, data_words, pointer_words, list_count}
+use Rattle.capnp_wire.specs.Pointer.{pointer_kind, code, has_wide_landing_pad, landing_pad_segment, offset, data_words, pointer_words, list_count}
 use Rattle.capnp_wire.specs.Tree.{is_null}
-use Rattle.capnp_wire.specs.Object.{word_at, IsFar, pad, pad_tag, IsStart, Target, Lands, near, far, double_far, Shape, ShapeStands, a_struct}
+use Rattle.capnp_wire.specs.Object.{word_at, IsFar, landing_pad, landing_pad_tag, IsStart, Target, Lands, near, far, double_far, Shape, ShapeStands, a_struct}
 use Rattle.capnp_wire.specs.Object.{some_numbers, some_pointers, some_structs, PointsTo, nothing, is_null as null_there, is_object}
-use Rattle.capnp_wire.specs.Faults.{NoWord, no_segment, past_segment, BadPad, no_pad, far_again, pad_capability, no_tag, not_far, no_content, far_tag, capability_tag, Misfits}
-use Rattle.capnp_wire.specs.Faults.{struct_outside, list_outside, structs_outside, odd_tag, many_elements, Fault, no_word, capability, bad_pad, too_deep, no_start, misfits}
+use Rattle.capnp_wire.specs.Faults.{NoWord, no_segment, past_segment, BadLandingPad, no_landing_pad, far_again, landing_pad_capability, no_tag, not_far, no_content, far_tag, capability_tag, Misfits}
+use Rattle.capnp_wire.specs.Faults.{struct_outside, list_outside, structs_outside, odd_tag, many_elements, Fault, no_word, capability, bad_landing_pad, too_deep, no_start, misfits}
 use Rattle.capnp_wire.specs.declared.layout.place.Place.{Place}
 use Rattle.capnp_wire.proofs.objects.ObjectLemmas.{same_word, one_landing, one_start, null_lands_nowhere}
 
@@ -26,75 +26,75 @@ capability_lands_nowhere m place word c e k (near {word = w} f _ t) = let same :
 capability_lands_nowhere m place word c e k (far {word = w} f t _ _) = let same : word ≡ w = cc in omega arith
 capability_lands_nowhere m place word c e k (double_far {word = w} f t _ _ _ _ _) = let same : word ≡ w = cc in omega arith
 
--- what the pad of a far pointer has where the pointer leads somewhere
+-- what the landing pad of a far pointer has where the pointer leads somewhere
 record Narrow (m : List (List ℕ)) (word : ℕ) : Type 0 where
   tag : ℕ
-  there : word_at m (pad word) ≡ Some tag
+  there : word_at m (landing_pad word) ≡ Some tag
   near_kind : pointer_kind tag < 2
 
 record Wide (m : List (List ℕ)) (word : ℕ) : Type 0 where
   inner : ℕ
   tag : ℕ
   words : List ℕ
-  first : word_at m (pad word) ≡ Some inner
+  first : word_at m (landing_pad word) ≡ Some inner
   is_far : IsFar inner 0
-  second : word_at m (pad_tag word) ≡ Some tag
-  content : slice_get m (pad_segment inner) ≡ Some words
+  second : word_at m (landing_pad_tag word) ≡ Some tag
+  content : slice_get m (landing_pad_segment inner) ≡ Some words
   near_kind : pointer_kind tag < 2
 
-narrow_pad : (m : List (List ℕ)) (place : Place) (word : ℕ) (c : Target) → word_at m place ≡ Some word → pointer_kind word ≡ 2 → has_wide_pad word ≡ 0 → Lands m place c → Narrow m word
-narrow_pad m place word c e k narrow (near {word = w} f _ t) = let same : word ≡ w = cc in absurd (omega arith)
-narrow_pad m place word c e k narrow (far {word = w} {tag = a} f x p t) =
-    let same : w ≡ word = cc in record { tag = a; there = subst (λ z. word_at m (pad z) ≡ Some a) same p; near_kind = t }
-narrow_pad m place word c e k narrow (double_far {word = w} f x _ _ _ _ _) = let same : word ≡ w = cc in absurd (omega arith)
+narrow_landing_pad : (m : List (List ℕ)) (place : Place) (word : ℕ) (c : Target) → word_at m place ≡ Some word → pointer_kind word ≡ 2 → has_wide_landing_pad word ≡ 0 → Lands m place c → Narrow m word
+narrow_landing_pad m place word c e k narrow (near {word = w} f _ t) = let same : word ≡ w = cc in absurd (omega arith)
+narrow_landing_pad m place word c e k narrow (far {word = w} {tag = a} f x p t) =
+    let same : w ≡ word = cc in record { tag = a; there = subst (λ z. word_at m (landing_pad z) ≡ Some a) same p; near_kind = t }
+narrow_landing_pad m place word c e k narrow (double_far {word = w} f x _ _ _ _ _) = let same : word ≡ w = cc in absurd (omega arith)
 
-wide_pad : (m : List (List ℕ)) (place : Place) (word : ℕ) (c : Target) → word_at m place ≡ Some word → pointer_kind word ≡ 2 → has_wide_pad word ≡ 1 → Lands m place c → Wide m word
-wide_pad m place word c e k wide (near {word = w} f _ t) = let same : word ≡ w = cc in absurd (omega arith)
-wide_pad m place word c e k wide (far {word = w} f x _ _) = let same : word ≡ w = cc in absurd (omega arith)
-wide_pad m place word c e k wide (double_far {word = w} {inner = i} {tag = a} {words = l} f _ p x q s t) =
+wide_landing_pad : (m : List (List ℕ)) (place : Place) (word : ℕ) (c : Target) → word_at m place ≡ Some word → pointer_kind word ≡ 2 → has_wide_landing_pad word ≡ 1 → Lands m place c → Wide m word
+wide_landing_pad m place word c e k wide (near {word = w} f _ t) = let same : word ≡ w = cc in absurd (omega arith)
+wide_landing_pad m place word c e k wide (far {word = w} f x _ _) = let same : word ≡ w = cc in absurd (omega arith)
+wide_landing_pad m place word c e k wide (double_far {word = w} {inner = i} {tag = a} {words = l} f _ p x q s t) =
     let same : w ≡ word = cc in
     record {
       inner = i;
       tag = a;
       words = l;
-      first = subst (λ z. word_at m (pad z) ≡ Some i) same p;
+      first = subst (λ z. word_at m (landing_pad z) ≡ Some i) same p;
       is_far = x;
-      second = subst (λ z. word_at m (pad_tag z) ≡ Some a) same q;
+      second = subst (λ z. word_at m (landing_pad_tag z) ≡ Some a) same q;
       content = s;
       near_kind = t;
     }
 
-first_of_pad : (m : List (List ℕ)) (place : Place) (word : ℕ) (c : Target) → word_at m place ≡ Some word → pointer_kind word ≡ 2 → word_at m (pad word) ≡ None → Lands m place c → ⊥
-first_of_pad m place word c e k none (near {word = w} f _ t) = let same : word ≡ w = cc in omega arith
-first_of_pad m place word c e k none (far {word = w} {tag = a} f x p t) =
-    let same : w ≡ word = cc in let there : word_at m (pad word) ≡ Some a = subst (λ z. word_at m (pad z) ≡ Some a) same p in cc
-first_of_pad m place word c e k none (double_far {word = w} {inner = i} f _ p x q s t) =
-    let same : w ≡ word = cc in let there : word_at m (pad word) ≡ Some i = subst (λ z. word_at m (pad z) ≡ Some i) same p in cc
+first_of_landing_pad : (m : List (List ℕ)) (place : Place) (word : ℕ) (c : Target) → word_at m place ≡ Some word → pointer_kind word ≡ 2 → word_at m (landing_pad word) ≡ None → Lands m place c → ⊥
+first_of_landing_pad m place word c e k none (near {word = w} f _ t) = let same : word ≡ w = cc in omega arith
+first_of_landing_pad m place word c e k none (far {word = w} {tag = a} f x p t) =
+    let same : w ≡ word = cc in let there : word_at m (landing_pad word) ≡ Some a = subst (λ z. word_at m (landing_pad z) ≡ Some a) same p in cc
+first_of_landing_pad m place word c e k none (double_far {word = w} {inner = i} f _ p x q s t) =
+    let same : w ≡ word = cc in let there : word_at m (landing_pad word) ≡ Some i = subst (λ z. word_at m (landing_pad z) ≡ Some i) same p in cc
 
-pub bad_pad_leads_nowhere : (m : List (List ℕ)) (place : Place) (word : ℕ) (kind : ErrorKind) (c : Target) → word_at m place ≡ Some word → pointer_kind word ≡ 2
-    → BadPad m word kind → Lands m place c → ⊥
-bad_pad_leads_nowhere m place word kind c e k (no_pad none) lands = first_of_pad m place word c e k (no_word_there m (pad word) kind none) lands
-bad_pad_leads_nowhere m place word kind c e k (far_again {tag = a} narrow f g) lands =
-    let n = narrow_pad m place word c e k narrow lands in
-    let same : a ≡ n.tag = same_word m (pad word) a n.tag f n.there in omega (arith, n.near_kind)
-bad_pad_leads_nowhere m place word kind c e k (pad_capability {tag = a} narrow f g) lands =
-    let n = narrow_pad m place word c e k narrow lands in
-    let same : a ≡ n.tag = same_word m (pad word) a n.tag f n.there in omega (arith, n.near_kind)
-bad_pad_leads_nowhere m place word kind c e k (no_tag wide f g) lands =
-    let w = wide_pad m place word c e k wide lands in let second = w.second in cc
-bad_pad_leads_nowhere m place word kind c e k (not_far {inner = i} wide f g none) lands =
-    let w = wide_pad m place word c e k wide lands in
-    none (subst (λ z. IsFar z 0) (same_word m (pad word) w.inner i w.first f) w.is_far)
-bad_pad_leads_nowhere m place word kind c e k (no_content {inner = i} wide f g _ none) lands =
-    let w = wide_pad m place word c e k wide lands in
-    let content : slice_get m (pad_segment i) ≡ Some w.words = subst (λ z. slice_get m (pad_segment z) ≡ Some w.words) (same_word m (pad word) w.inner i w.first f) w.content in
+pub bad_landing_pad_leads_nowhere : (m : List (List ℕ)) (place : Place) (word : ℕ) (kind : ErrorKind) (c : Target) → word_at m place ≡ Some word → pointer_kind word ≡ 2
+    → BadLandingPad m word kind → Lands m place c → ⊥
+bad_landing_pad_leads_nowhere m place word kind c e k (no_landing_pad none) lands = first_of_landing_pad m place word c e k (no_word_there m (landing_pad word) kind none) lands
+bad_landing_pad_leads_nowhere m place word kind c e k (far_again {tag = a} narrow f g) lands =
+    let n = narrow_landing_pad m place word c e k narrow lands in
+    let same : a ≡ n.tag = same_word m (landing_pad word) a n.tag f n.there in omega (arith, n.near_kind)
+bad_landing_pad_leads_nowhere m place word kind c e k (landing_pad_capability {tag = a} narrow f g) lands =
+    let n = narrow_landing_pad m place word c e k narrow lands in
+    let same : a ≡ n.tag = same_word m (landing_pad word) a n.tag f n.there in omega (arith, n.near_kind)
+bad_landing_pad_leads_nowhere m place word kind c e k (no_tag wide f g) lands =
+    let w = wide_landing_pad m place word c e k wide lands in let second = w.second in cc
+bad_landing_pad_leads_nowhere m place word kind c e k (not_far {inner = i} wide f g none) lands =
+    let w = wide_landing_pad m place word c e k wide lands in
+    none (subst (λ z. IsFar z 0) (same_word m (landing_pad word) w.inner i w.first f) w.is_far)
+bad_landing_pad_leads_nowhere m place word kind c e k (no_content {inner = i} wide f g _ none) lands =
+    let w = wide_landing_pad m place word c e k wide lands in
+    let content : slice_get m (landing_pad_segment i) ≡ Some w.words = subst (λ z. slice_get m (landing_pad_segment z) ≡ Some w.words) (same_word m (landing_pad word) w.inner i w.first f) w.content in
     cc
-bad_pad_leads_nowhere m place word kind c e k (far_tag {tag = a} wide f g _ _ h) lands =
-    let w = wide_pad m place word c e k wide lands in
-    let same : a ≡ w.tag = same_word m (pad_tag word) a w.tag g w.second in omega (arith, w.near_kind)
-bad_pad_leads_nowhere m place word kind c e k (capability_tag {tag = a} wide f g _ _ h) lands =
-    let w = wide_pad m place word c e k wide lands in
-    let same : a ≡ w.tag = same_word m (pad_tag word) a w.tag g w.second in omega (arith, w.near_kind)
+bad_landing_pad_leads_nowhere m place word kind c e k (far_tag {tag = a} wide f g _ _ h) lands =
+    let w = wide_landing_pad m place word c e k wide lands in
+    let same : a ≡ w.tag = same_word m (landing_pad_tag word) a w.tag g w.second in omega (arith, w.near_kind)
+bad_landing_pad_leads_nowhere m place word kind c e k (capability_tag {tag = a} wide f g _ _ h) lands =
+    let w = wide_landing_pad m place word c e k wide lands in
+    let same : a ≡ w.tag = same_word m (landing_pad_tag word) a w.tag g w.second in omega (arith, w.near_kind)
 
 -- a list of pointers has a word for each
 pub words_for_pointers : (n code : ℕ) → code ≡ 6 → words_for n (width code) ≡ n
@@ -149,10 +149,10 @@ reached m place landing shape lands (is_object {landing = c} {words = w} {start 
     record { landing = c; words = w; start = i; shape = s; lands = lands'; content = e; begins = b; stands = stands }
 
 -- where a pointer leads somewhere, an object stands for it
-pub deep_enough : (m : List (List ℕ)) (place : Place) (landing : Target) (level : ℕ) (shape : Shape) → Lands m place landing → PointsTo m place shape
-    → (is_null shape.form ≡ false → 0 < level) → 0 < level
-deep_enough m place landing level shape lands (null_there e) deep = absurd (null_lands_nowhere m place landing e lands)
-deep_enough m place landing level shape lands (is_object {landing = c} {words = w} {start = i} {shape = s} _ _ _ stands) deep = deep (not_null w _ c.tag s stands)
+pub deep_enough : (m : List (List ℕ)) (place : Place) (landing : Target) (nesting : ℕ) (shape : Shape) → Lands m place landing → PointsTo m place shape
+    → (is_null shape.form ≡ false → 0 < nesting) → 0 < nesting
+deep_enough m place landing nesting shape lands (null_there e) deep = absurd (null_lands_nowhere m place landing e lands)
+deep_enough m place landing nesting shape lands (is_object {landing = c} {words = w} {start = i} {shape = s} _ _ _ stands) deep = deep (not_null w _ c.tag s stands)
 
 null_word : (m : List (List ℕ)) (place : Place) (shape : Shape) → is_null shape.form ≡ true → PointsTo m place shape → word_at m place ≡ Some 0
 null_word m place shape e (null_there f) = f
@@ -170,23 +170,23 @@ capability_is_no_object : (m : List (List ℕ)) (place : Place) (word : ℕ) (sh
 capability_is_no_object m place word shape e k (null_there f) = let same : word ≡ 0 = same_word m place word 0 e f in omega arith
 capability_is_no_object m place word shape e k (is_object {landing = c} lands _ _ _) = capability_lands_nowhere m place word c e k lands
 
-bad_pad_has_no_object : (m : List (List ℕ)) (place : Place) (word : ℕ) (kind : ErrorKind) (shape : Shape) → word_at m place ≡ Some word → pointer_kind word ≡ 2
-    → BadPad m word kind → PointsTo m place shape → ⊥
-bad_pad_has_no_object m place word kind shape e k bad (null_there f) = let same : word ≡ 0 = same_word m place word 0 e f in omega arith
-bad_pad_has_no_object m place word kind shape e k bad (is_object {landing = c} lands _ _ _) = bad_pad_leads_nowhere m place word kind c e k bad lands
+bad_landing_pad_has_no_object : (m : List (List ℕ)) (place : Place) (word : ℕ) (kind : ErrorKind) (shape : Shape) → word_at m place ≡ Some word → pointer_kind word ≡ 2
+    → BadLandingPad m word kind → PointsTo m place shape → ⊥
+bad_landing_pad_has_no_object m place word kind shape e k bad (null_there f) = let same : word ≡ 0 = same_word m place word 0 e f in omega arith
+bad_landing_pad_has_no_object m place word kind shape e k bad (is_object {landing = c} lands _ _ _) = bad_landing_pad_leads_nowhere m place word kind c e k bad lands
 
-pub refused_has_no_object : (m : List (List ℕ)) (place : Place) (level : ℕ) (kind : ErrorKind) (shape : Shape) → Fault m place level kind → PointsTo m place shape
-    → (is_null shape.form ≡ false → 0 < level) → ⊥
-refused_has_no_object m place level kind shape (no_word none) object deep = word_of_object m place shape (no_word_there m place kind none) object
-refused_has_no_object m place level kind shape (capability {word = w} e k) object deep = capability_is_no_object m place w shape e k object
-refused_has_no_object m place level kind shape (bad_pad {word = w} e k bad) object deep = bad_pad_has_no_object m place w kind shape e k bad object
-refused_has_no_object m place level kind shape (too_deep {landing = c} lands level_is) object deep =
-    let enough = deep_enough m place c level shape lands object deep in omega arith
-refused_has_no_object m place level kind shape (no_start {landing = c} lands _ none) object deep =
+pub refused_has_no_object : (m : List (List ℕ)) (place : Place) (nesting : ℕ) (kind : ErrorKind) (shape : Shape) → Fault m place nesting kind → PointsTo m place shape
+    → (is_null shape.form ≡ false → 0 < nesting) → ⊥
+refused_has_no_object m place nesting kind shape (no_word none) object deep = word_of_object m place shape (no_word_there m place kind none) object
+refused_has_no_object m place nesting kind shape (capability {word = w} e k) object deep = capability_is_no_object m place w shape e k object
+refused_has_no_object m place nesting kind shape (bad_landing_pad {word = w} e k bad) object deep = bad_landing_pad_has_no_object m place w kind shape e k bad object
+refused_has_no_object m place nesting kind shape (too_deep {landing = c} lands nesting_is) object deep =
+    let enough = deep_enough m place c nesting shape lands object deep in omega arith
+refused_has_no_object m place nesting kind shape (no_start {landing = c} lands _ none) object deep =
     let r = reached m place c shape lands object in
     let same : r.landing ≡ c = one_landing m place r.landing c r.lands lands in
     none r.start (subst (λ (x : Target). IsStart x.origin x.tag r.start) same r.begins)
-refused_has_no_object m place level kind shape (misfits {landing = c} {words = w} {start = i} lands _ begins content misfit) object deep =
+refused_has_no_object m place nesting kind shape (misfits {landing = c} {words = w} {start = i} lands _ begins content misfit) object deep =
     let r = reached m place c shape lands object in
     let same : r.landing ≡ c = one_landing m place r.landing c r.lands lands in
     let content_there : slice_get m c.segment ≡ Some r.words = subst (λ (x : Target). slice_get m x.segment ≡ Some r.words) same r.content in

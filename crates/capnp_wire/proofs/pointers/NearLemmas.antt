@@ -4,10 +4,10 @@ use Rattle.std.specs.Prelude.{⊤}
 use Rattle.capnp_wire.specs.Pointer.{words_of, offset, pointer_kind}
 use Rattle.capnp_wire.specs.PointerWord.{IsNearShape}
 use Rattle.capnp_wire.specs.Element.{code_of, width, words_for}
-use Rattle.capnp_wire.specs.Object.{word_at, near, behind, Target, Lands, Shape, ShapeStands, PointsTo, is_object}
-use Rattle.capnp_wire.specs.Landing.{IsObject, shape_of, room_of, words_in, charge_of}
-use Rattle.capnp_wire.specs.Near.{object_of, struct_of}
-use Rattle.capnp_wire.specs.Charge.{Within, CountsMore, EntersObject, Walked, less}
+use Rattle.capnp_wire.specs.Object.{word_at, near, following, Target, Lands, Shape, ShapeStands, PointsTo, is_object}
+use Rattle.capnp_wire.specs.Landing.{IsObject, shape_of, room_of, words_in, traversed_of}
+use Rattle.capnp_wire.specs.Near.{object_of, near_struct_of}
+use Rattle.capnp_wire.specs.Traversed.{Within, CountsMore, EntersObject, Walked, less}
 use Rattle.capnp_wire.specs.Copy.{least_size, formed_body}
 use Rattle.capnp_wire.specs.declared.layout.place.Place.{Place}
 use Rattle.capnp_wire.specs.declared.layout.element.ElementSize.{ElementSize}
@@ -22,52 +22,52 @@ use Rattle.capnp_wire.proofs.trees.RoomLemmas.{stands_room}
 use Rattle.capnp_wire.proofs.walks.ProgressLemmas.{entered, walked_alone}
 
 -- what a near pointer says stands where it has room
-near_stands : (m : List (List ℕ)) (place : Place) (pointer : ℕ) (segment : Bor (List ℕ)) (start : ℕ) (body : Body) (charge : ℕ)
+near_stands : (m : List (List ℕ)) (place : Place) (pointer : ℕ) (segment : Bor (List ℕ)) (start : ℕ) (body : Body) (traversed : ℕ)
     → word_at m place ≡ Some pointer → 0 < pointer → pointer < 2 ^ 64 → pointer_kind pointer < 2 → slice_get m place.segment ≡ Some (words_of segment.now)
     → start + 2 ^ 30 * (offset pointer / 2 ^ 29) ≡ place.word + 1 + offset pointer
     → (let here : Place = record { segment = place.segment; word = start } in let shape = shape_of (words_of segment.now) here body in
-    ShapeStands (words_of segment.now) here pointer shape × (shape.charge ≡ charge))
-    → charge_of body ≤ charge → All (λ w. w < 2 ^ 64) (words_of segment.now) → start + room_of body ≤ length segment.now / 8 → words_in body ≤ room_of body
-    → IsObject m place (record { segment = segment; start = record { segment = place.segment; word = start }; body = body; charge = charge })
-near_stands m place pointer segment start body charge word positive small kind content begins there charged words_fit room inside =
+    ShapeStands (words_of segment.now) here pointer shape × (shape.traversed ≡ traversed))
+    → traversed_of body ≤ traversed → All (λ w. w < 2 ^ 64) (words_of segment.now) → start + room_of body ≤ length segment.now / 8 → words_in body ≤ room_of body
+    → IsObject m place (record { segment = segment; start = record { segment = place.segment; word = start }; body = body; traversed = traversed })
+near_stands m place pointer segment start body traversed word positive small kind content begins there traversal words_fit room inside =
     let words = words_of segment.now in
     let here : Place = record { segment = place.segment; word = start } in
-    let landing : Target = record { segment = place.segment; origin = behind place.word; tag = pointer; pads = 0 } in
+    let landing : Target = record { segment = place.segment; origin = following place.word; tag = pointer; landing_pads = 0 } in
     let shape : Shape = shape_of words here body in
     let lands : Lands m place landing = near word positive kind in
-    let object : PointsTo m place (record shape { charge = 0 + shape.charge }) = is_object lands content begins there.0 in
-    let charge_is : 0 + shape.charge ≡ charge = omega (arith, there.1) in
+    let object : PointsTo m place (record shape { traversed = 0 + shape.traversed }) = is_object lands content begins there.0 in
+    let traversed_is : 0 + shape.traversed ≡ traversed = omega (arith, there.1) in
     record {
       content = content;
-      object = subst (λ (x : ℕ). PointsTo m place (record shape { charge = x })) charge_is object;
+      object = subst (λ (x : ℕ). PointsTo m place (record shape { traversed = x })) traversed_is object;
       landing = landing;
       lands = lands;
       number = refl;
       begins = begins;
       room = room;
       elements = inside;
-      charge = charged;
+      traversed = traversal;
       has_room = stands_room words here pointer shape small words_fit there.0;
     }
 
 -- a list of numbers
-pub number_list_stands : (m : List (List ℕ)) (place : Place) (pointer : ℕ) (segment : Bor (List ℕ)) (start : ℕ) (size : ElementSize) (count charge : ℕ)
+pub number_list_stands : (m : List (List ℕ)) (place : Place) (pointer : ℕ) (segment : Bor (List ℕ)) (start : ℕ) (size : ElementSize) (count traversed : ℕ)
     → word_at m place ≡ Some pointer → pointer < 2 ^ 64 → slice_get m place.segment ≡ Some (words_of segment.now)
     → start + 2 ^ 30 * (offset pointer / 2 ^ 29) ≡ place.word + 1 + offset pointer → IsNearShape pointer (NearNumbers size count)
-    → charge ≡ charge_of (Numbers size count) → All (λ w. w < 2 ^ 64) (words_of segment.now) → start + words_for count (width (code_of size)) ≤ length segment.now / 8
-    → IsObject m place (record { segment = segment; start = record { segment = place.segment; word = start }; body = Numbers size count; charge = charge })
-number_list_stands m place pointer segment start size count charge word small content begins list charge_is words_fit room =
+    → traversed ≡ traversed_of (Numbers size count) → All (λ w. w < 2 ^ 64) (words_of segment.now) → start + words_for count (width (code_of size)) ≤ length segment.now / 8
+    → IsObject m place (record { segment = segment; start = record { segment = place.segment; word = start }; body = Numbers size count; traversed = traversed })
+number_list_stands m place pointer segment start size count traversed word small content begins list traversed_is words_fit room =
     let here : Place = record { segment = place.segment; word = start } in
     let stands = numbers_stand segment.now here pointer (code_of size) count list.0 list.1 list.2 list.3 room in
-    near_stands m place pointer segment start (Numbers size count) charge word (omega (arith, list.0)) small (omega (arith, list.0)) content begins
-    (stands, omega (arith, charge_is)) (omega (arith, charge_is)) words_fit room (omega arith)
+    near_stands m place pointer segment start (Numbers size count) traversed word (omega (arith, list.0)) small (omega (arith, list.0)) content begins
+    (stands, omega (arith, traversed_is)) (omega (arith, traversed_is)) words_fit room (omega arith)
 
 -- a struct
 pub struct_stands_near : (m : List (List ℕ)) (place : Place) (pointer : ℕ) (segment : Bor (List ℕ)) (start : ℕ) (size : StructSize)
     → word_at m place ≡ Some pointer → 0 < pointer → pointer < 2 ^ 64 → slice_get m place.segment ≡ Some (words_of segment.now)
     → start + 2 ^ 30 * (offset pointer / 2 ^ 29) ≡ place.word + 1 + offset pointer → IsNearShape pointer (NearStructShape size)
     → All (λ w. w < 2 ^ 64) (words_of segment.now) → start + (size.data_words + size.pointers) ≤ length segment.now / 8
-    → IsObject m place (struct_of (record { segment = segment; start = record { segment = place.segment; word = start }; size = size }))
+    → IsObject m place (near_struct_of (record { segment = segment; start = record { segment = place.segment; word = start }; size = size }))
 struct_stands_near m place pointer segment start size word positive small content begins is words_fit room =
     let here : Place = record { segment = place.segment; word = start } in
     let stands = struct_stands segment.now here pointer size.data_words size.pointers is.0 is.1 is.2 room in
@@ -84,36 +84,36 @@ pub list_formed : (c : Bool) (words : List ℕ) (start : ℕ) (list : Body) → 
 list_formed true words start (Numbers size count) plain = refl
 list_formed true words start (Pointers count) plain = refl
 list_formed true words start (Struct size) plain = absurd plain
-list_formed true words start (Structs elements words_behind) plain = absurd plain
+list_formed true words start (Structs elements words_after) plain = absurd plain
 list_formed false words start list plain = refl
 
 -- a walk that meets a list of numbers meets nothing below it
-pub number_list_walked : {m : List (List ℕ)} {c : Bool} {place : Place} {level : ℕ} {limit left counted_then counted_now : Option ℕ} {charge words : ℕ}
+pub number_list_walked : {m : List (List ℕ)} {c : Bool} {place : Place} {nesting : ℕ} {limit left counted_then counted_now : Option ℕ} {traversed words : ℕ}
     (list : NumberList)
-    → IsObject m place (object_of list) → 0 < level → charge ≡ charge_of (Numbers list.size list.count) → words ≡ words_for list.count (width (code_of list.size))
-    → Within limit charge → left ≡ less limit charge → CountsMore counted_then counted_now words → Walked m c place level limit left counted_then counted_now
-number_list_walked {c = c} {limit = limit} {left = left} {counted_then = before} {counted_now = now} list is deep charge_is words_are within left_is counted =
+    → IsObject m place (object_of list) → 0 < nesting → traversed ≡ traversed_of (Numbers list.size list.count) → words ≡ words_for list.count (width (code_of list.size))
+    → Within limit traversed → left ≡ less limit traversed → CountsMore counted_then counted_now words → Walked m c place nesting limit left counted_then counted_now
+number_list_walked {c = c} {limit = limit} {left = left} {counted_then = before} {counted_now = now} list is deep traversed_is words_are within left_is counted =
     let formed_words = words_are ∙ ap words_in (list_formed c (words_of list.segment.now) list.start.word (Numbers list.size list.count) tt) in
     walked_alone
     (entered (record {
       there = is;
       deep = deep;
-      within = subst (Within limit) charge_is within;
-      left_is = subst (λ (x : ℕ). left ≡ less limit x) charge_is left_is;
+      within = subst (Within limit) traversed_is within;
+      left_is = subst (λ (x : ℕ). left ≡ less limit x) traversed_is left_is;
       counted = subst (CountsMore before now) formed_words counted;
     }))
     refl
 
 -- and one that meets a struct enters it
-pub struct_enters : {m : List (List ℕ)} {c : Bool} {place : Place} {found : NearStruct} {size : StructSize} {level : ℕ} {limit left counted_then counted_now : Option ℕ} {charge words : ℕ}
-    → IsObject m place (struct_of found) → 0 < level → charge ≡ found.size.data_words + found.size.pointers → words ≡ size.data_words + size.pointers
+pub struct_enters : {m : List (List ℕ)} {c : Bool} {place : Place} {found : NearStruct} {size : StructSize} {nesting : ℕ} {limit left counted_then counted_now : Option ℕ} {traversed words : ℕ}
+    → IsObject m place (near_struct_of found) → 0 < nesting → traversed ≡ found.size.data_words + found.size.pointers → words ≡ size.data_words + size.pointers
     → Struct size ≡ formed_body c (words_of found.segment.now) found.start.word (Struct found.size)
-    → Within limit charge → left ≡ less limit charge → CountsMore counted_then counted_now words → EntersObject m c place (struct_of found) level limit left counted_then counted_now
-struct_enters {limit = limit} {left = left} {counted_then = before} {counted_now = now} is deep charge_is words_are formed within left_is counted = record {
+    → Within limit traversed → left ≡ less limit traversed → CountsMore counted_then counted_now words → EntersObject m c place (near_struct_of found) nesting limit left counted_then counted_now
+struct_enters {limit = limit} {left = left} {counted_then = before} {counted_now = now} is deep traversed_is words_are formed within left_is counted = record {
   there = is;
   deep = deep;
-  within = subst (Within limit) charge_is within;
-  left_is = subst (λ (x : ℕ). left ≡ less limit x) charge_is left_is;
+  within = subst (Within limit) traversed_is within;
+  left_is = subst (λ (x : ℕ). left ≡ less limit x) traversed_is left_is;
   counted = subst (CountsMore before now) (words_are ∙ ap words_in formed) counted;
 }
 

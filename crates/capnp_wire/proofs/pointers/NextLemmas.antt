@@ -96,7 +96,7 @@ struct_room segment start tag word next [] (suc n) room before within target is 
 struct_room segment start tag word next (w ∷ words) n room before within target is =
     let at : start ≡ next = lead_start word next start (offset tag) before (is.1 (omega arith)) target in omega arith
 
--- and where it leads there, the object's words lie behind that word
+-- and where it leads there, the object's words lie after that word
 pub next_room : (segment : List ℕ) (start tag word next : ℕ) (shape : Shape) → ShapeStands segment (record { segment = 0; word = start }) tag shape → word < next → next ≤ length segment
     → start + 2 ^ 30 * (offset tag / 2 ^ 29) ≡ word + 1 + offset tag
     → IsNext tag word next shape.form (length shape.held) → next + own_words shape.form (length shape.held) ≤ length segment

@@ -11,8 +11,8 @@ use Rattle.capnp_wire.specs.Landing.{IsObject}
 use Rattle.capnp_wire.specs.Reached.{At, nowhere, at}
 use Rattle.capnp_wire.specs.Layout.{formed, run, AllHaveRoom}
 use Rattle.capnp_wire.specs.Block.{put, fill}
-use Rattle.capnp_wire.specs.Near.{AreNull, struct_of}
-use Rattle.capnp_wire.specs.Charge.{WalkedAll}
+use Rattle.capnp_wire.specs.Near.{AreNull, near_struct_of}
+use Rattle.capnp_wire.specs.Traversed.{WalkedAll}
 use Rattle.capnp_wire.specs.Copy.{CanCopy, Copies, least_size, formed_body, pointer_of_body}
 use Rattle.capnp_wire.specs.declared.layout.place.Place.{Place}
 use Rattle.capnp_wire.specs.declared.layout.near.NearStruct.{NearStruct}
@@ -29,14 +29,14 @@ use Rattle.capnp_wire.proofs.pointers.NearLemmas.{word_there}
 use Rattle.capnp_wire.proofs.layouts.CopiedLemmas.{opened_here, object_begins}
 use Rattle.capnp_wire.proofs.trees.StandLemmas.{within_none, less_none, counts_none}
 
--- so many nulls
+-- a given number of nulls
 abbrev pub nulls : ℕ → Trees
 nulls zero = none
 nulls (suc n) = tree null none (nulls n)
 
-shallow_nulls : (level n : ℕ) → depth (nulls n) ≤ level
-shallow_nulls level zero = omega arith
-shallow_nulls level (suc n) = omega (arith, shallow_nulls level n)
+shallow_nulls : (nesting n : ℕ) → depth (nulls n) ≤ nesting
+shallow_nulls nesting zero = omega arith
+shallow_nulls nesting (suc n) = omega (arith, shallow_nulls nesting n)
 
 roomy_nulls : (n : ℕ) → AllHaveRoom (nulls n)
 roomy_nulls zero = tt
@@ -86,15 +86,15 @@ nulls_stand m segment words start (suc n) there room are =
     (nulls_stand m segment words (start + 1) n there (omega arith) f.rest)
 
 -- a walk over them meets nothing
-pub nulls_walked : {m : List (List ℕ)} {c : Bool} {level : ℕ} {left counted_now : Option ℕ} (segment : ℕ) (words : List ℕ) (start n : ℕ)
-    → slice_get m segment ≡ Some words → start + n ≤ length words → AreNull words start n → WalkedAll m c (places segment start n) level left left counted_now counted_now
-nulls_walked {m} {c} {level} {left} {counted_now = b} segment words start n there room are = record {
-  charge = 0;
+pub nulls_walked : {m : List (List ℕ)} {c : Bool} {nesting : ℕ} {left counted_now : Option ℕ} (segment : ℕ) (words : List ℕ) (start n : ℕ)
+    → slice_get m segment ≡ Some words → start + n ≤ length words → AreNull words start n → WalkedAll m c (places segment start n) nesting left left counted_now counted_now
+nulls_walked {m} {c} {nesting} {left} {counted_now = b} segment words start n there room are = record {
+  traversed = 0;
   words = 0;
   stand = record {
     trees = nulls n;
     stand = nulls_stand m segment words start n there room are;
-    shallow = shallow_nulls level n;
+    shallow = shallow_nulls nesting n;
     rooms = roomy_nulls n;
     words_are = ap total_words (nulls_formed c n) ∙ no_words n;
   };
@@ -137,14 +137,14 @@ seam words start d e q (inr all_data) =
     ∙ ap (λ (k : ℕ). words_from words start e ++ words_from words (start + k) q) all_data
 
 -- Its words are its copy then.
-pub struct_of_nulls : {m : List (List ℕ)} {place : Place} {found : NearStruct} {size : StructSize} {level : ℕ} {c : Bool} {gap next free pointer : ℕ} {old new : List ℕ}
-    (can : CanCopy m (place ∷ []) level c next (length old)) → IsObject m place (struct_of found)
+pub struct_of_nulls : {m : List (List ℕ)} {place : Place} {found : NearStruct} {size : StructSize} {nesting : ℕ} {c : Bool} {gap next free pointer : ℕ} {old new : List ℕ}
+    (can : CanCopy m (place ∷ []) nesting c next (length old)) → IsObject m place (near_struct_of found)
     → Struct size ≡ formed_body c (words_of found.segment.now) found.start.word (Struct found.size) → size.data_words ≤ found.size.data_words → size.pointers ≤ found.size.pointers
     → AreNull (words_of found.segment.now) (found.start.word + found.size.data_words) size.pointers
     → new ≡ put next (words_from (words_of found.segment.now) found.start.word (size.data_words + size.pointers)) old
     → pointer ≡ pointer_of_body (Struct size) gap → free ≡ next + (size.data_words + size.pointers)
     → Copies m place c gap next old new (record { pointer = pointer; next = free })
-struct_of_nulls {m} {place} {found} {size} {level} {c} {gap} {next} {free} {pointer} {old} {new} can is size_is less fewer are new_is pointer_is free_is =
+struct_of_nulls {m} {place} {found} {size} {nesting} {c} {gap} {next} {free} {pointer} {old} {new} can is size_is less fewer are new_is pointer_is free_is =
     let words : List ℕ = words_of found.segment.now in
     let start : ℕ = found.start.word in
     let d : ℕ = found.size.data_words in
@@ -162,12 +162,12 @@ struct_of_nulls {m} {place} {found} {size} {level} {c} {gap} {next} {free} {poin
       length-drop found.start.word (words_of found.segment.now),
     ) in
     let room_there : found.start.word + found.size.data_words + size.pointers ≤ length (words_of found.segment.now) = omega (arith, is.room, size_there, fewer) in
-    let held_is : (trees : Trees) (charge : ℕ) → At m (places found.start.segment (found.start.word + found.size.data_words) size.pointers ++ []) trees charge → formed c trees ≡ nulls size.pointers =
-    λ trees charge stand.
+    let held_is : (trees : Trees) (traversed : ℕ) → At m (places found.start.segment (found.start.word + found.size.data_words) size.pointers ++ []) trees traversed → formed c trees ≡ nulls size.pointers =
+    λ trees traversed stand.
     let there = nulls_stand m found.start.segment (words_of found.segment.now) (found.start.word + found.size.data_words) size.pointers is.content room_there are in
-    let plain : At m (places found.start.segment (found.start.word + found.size.data_words) size.pointers) trees charge =
-    subst (λ (l : List Place). At m l trees charge) (append-nil (places found.start.segment (found.start.word + found.size.data_words) size.pointers)) stand in
-    ap (formed c) (one_tree m (places found.start.segment (found.start.word + found.size.data_words) size.pointers) trees (nulls size.pointers) charge 0 plain there).0 ∙ nulls_formed c size.pointers in
+    let plain : At m (places found.start.segment (found.start.word + found.size.data_words) size.pointers) trees traversed =
+    subst (λ (l : List Place). At m l trees traversed) (append-nil (places found.start.segment (found.start.word + found.size.data_words) size.pointers)) stand in
+    ap (formed c) (one_tree m (places found.start.segment (found.start.word + found.size.data_words) size.pointers) trees (nulls size.pointers) traversed 0 plain there).0 ∙ nulls_formed c size.pointers in
     let put_data : length (put next (words_from (words_of found.segment.now) found.start.word size.data_words) old) ≡ length old =
     length-put next (words_from (words_of found.segment.now) found.start.word size.data_words) old (omega (arith, o.kept.fits, long_data)) in
     let filled : new ≡ fill (run (next + size.data_words) size.pointers) (next + (size.data_words + size.pointers)) (nulls size.pointers)
@@ -178,8 +178,8 @@ struct_of_nulls {m} {place} {found} {size} {level} {c} {gap} {next} {free} {poin
     ∙ ap (λ (k : ℕ). put (next + k) (words_from words (start + d) q) (put next own old)) long_data
     ∙ sym (nulls_filled words (start + d) q (next + e) (next + (e + q)) (put next own old) room_there are (omega (arith, put_data, o.kept.fits))) in
     (object_begins can o refl put_data pointer_is).ends new free (record {
-      words_are = λ trees charge stand.
+      words_are = λ trees traversed stand.
           filled ∙ ap (λ (l : List ℕ). fill l (next + (e + q)) (nulls q) (put next own old)) (sym (append-nil (run (next + e) q)))
-          ∙ ap (λ (t : Trees). fill (run (next + e) q ++ []) (next + (e + q)) t (put next own old)) (sym (held_is trees charge stand));
-      next_is = λ trees charge stand. omega (arith, free_is, ap total_words (held_is trees charge stand), no_words size.pointers);
+          ∙ ap (λ (t : Trees). fill (run (next + e) q ++ []) (next + (e + q)) t (put next own old)) (sym (held_is trees traversed stand));
+      next_is = λ trees traversed stand. omega (arith, free_is, ap total_words (held_is trees traversed stand), no_words size.pointers);
     })

@@ -62,5 +62,5 @@ kept_held words start (Numbers size n) = refl
 kept_held words start (Pointers n) =
     let here : start.word + 0 ≡ start.word = omega arith in
     append-nil (places start.segment (start.word + 0) n) ∙ ap (λ (w : ℕ). places start.segment w n) here
-kept_held words start (Structs elements behind) =
+kept_held words start (Structs elements following) =
     sym (kept_all start.segment (start.word + 1) elements.size.data_words elements.size.pointers elements.count)

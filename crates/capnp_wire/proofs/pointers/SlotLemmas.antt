@@ -49,7 +49,7 @@ placed-row_run k base at start d p (row ∷ rows) here =
 abbrev pub AllOf : ℕ → List (List ℕ) → Type 0
 AllOf d rows = All (λ row. length row ≡ d) rows
 
--- the parts of a row: its data, its links, and the rows behind it
+-- the parts of a row: its data, its links, and the rows after it
 record Row (segment : List ℕ) (at d p : ℕ) (row : List ℕ) (rows : List (List ℕ)) (links : List ℕ) : Type 0 where
   data_words : Holds segment at row
   own_links : Holds segment (at + d) (take p links)

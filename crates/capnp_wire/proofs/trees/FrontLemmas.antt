@@ -4,18 +4,18 @@ use Rattle.std.proofs.Common.{◌≡◌, ℕ, zero, suc, ◌+◌, ◌≤◌, Boo
 use Rattle.std.proofs.Common.{◌∙◌, ap, arith}
 use Rattle.capnp_wire.specs.Pointer.{words_from}
 use Rattle.capnp_wire.specs.Tree.{Form, null, struct, numbers, pointers, structs, Trees, none, tree, count, is_null}
-use Rattle.capnp_wire.specs.Trim.{first, behind, before, keep_word, cut_zeros, keep_tree, cut_nulls, narrowed, trim_form, trim_held, trim}
+use Rattle.capnp_wire.specs.Trim.{first, following, before, keep_word, cut_zeros, keep_tree, cut_nulls, narrowed, trim_form, trim_held, trim}
 
--- trimming, piece by piece
+-- trimming, chunk by chunk
 pub trim_first : (n : ℕ) (t : Trees) → trim (first n t) ≡ first n (trim t)
 trim_first zero t = refl
 trim_first (suc n) none = refl
 trim_first (suc n) (tree form held rest) = ap (λ (r : Trees). tree (trim_form form (trim held)) (trim_held form (trim held)) r) (trim_first n rest)
 
-pub trim_behind : (n : ℕ) (t : Trees) → trim (behind n t) ≡ behind n (trim t)
-trim_behind zero t = refl
-trim_behind (suc n) none = refl
-trim_behind (suc n) (tree form held rest) = trim_behind n rest
+pub trim_after : (n : ℕ) (t : Trees) → trim (following n t) ≡ following n (trim t)
+trim_after zero t = refl
+trim_after (suc n) none = refl
+trim_after (suc n) (tree form held rest) = trim_after n rest
 
 pub trim_before : (a b : Trees) → trim (before a b) ≡ before (trim a) (trim b)
 trim_before none b = refl
@@ -25,8 +25,8 @@ pub trim_narrowed : (q p : ℕ) (rows : List (List ℕ)) (t : Trees) → trim (n
 trim_narrowed q p [] t = refl
 trim_narrowed q p (row ∷ rows) t =
     let one : trim (first q (first p t)) ≡ first q (first p (trim t)) = trim_first q (first p t) ∙ ap (first q) (trim_first p t) in
-    let two : trim (narrowed q p rows (behind p t)) ≡ narrowed q p rows (behind p (trim t)) = trim_narrowed q p rows (behind p t) ∙ ap (narrowed q p rows) (trim_behind p t) in
-    rw (trim_before (first q (first p t)) (narrowed q p rows (behind p t)), one, two) refl
+    let two : trim (narrowed q p rows (following p t)) ≡ narrowed q p rows (following p (trim t)) = trim_narrowed q p rows (following p t) ∙ ap (narrowed q p rows) (trim_after p t) in
+    rw (trim_before (first q (first p t)) (narrowed q p rows (following p t)), one, two) refl
 
 first_keep : (rest whole : Trees) (form : Form) (held : Trees) → first (count rest) whole ≡ rest → first (count (keep_tree rest form held)) (tree form held whole) ≡ keep_tree rest form held
 first_keep (tree f h r) whole form held e =

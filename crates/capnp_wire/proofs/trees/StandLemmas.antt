@@ -1,9 +1,9 @@
--- Trees at places, and what walks over them are charged and count.
+-- Trees at places, and what walks over them count, in all and against the traversal limit.
 use Rattle.std.proofs.Common.{◌≡◌, ℕ, ◌+◌, ◌-◌, ◌<◌, ◌≤◌, max, Bool, true, false, if◌then◌else◌, List, ◌++◌, length, Option, Some, None, refl, sym, ap, subst, arith, zero-add}
 use Rattle.capnp_wire.specs.Tree.{Trees, none, tree, count, depth}
 use Rattle.capnp_wire.specs.Trim.{before}
 use Rattle.capnp_wire.specs.Reached.{At, nowhere, at}
-use Rattle.capnp_wire.specs.Charge.{Within, Counts, CountsMore, less}
+use Rattle.capnp_wire.specs.Traversed.{Within, Counts, CountsMore, less}
 use Rattle.capnp_wire.specs.declared.layout.place.Place.{Place}
 
 -- limits
@@ -38,21 +38,21 @@ counts_none words = λ before h. subst (Counts words) (omega arith) h
 pub counts_both : (a b c : Option ℕ) (x y : ℕ) → CountsMore a b x → CountsMore b c y → CountsMore a c (x + y)
 counts_both a b c x y p q = λ before h. subst (Counts c) (omega arith) (q (before + x) (p before h))
 
--- trees at places, and others behind them
+-- trees at places, and others after them
 pub at_both : (m : List (List ℕ)) (ps qs : List Place) (a b : Trees) (x y : ℕ) → At m ps a x → At m qs b y → At m (ps ++ qs) (before a b) (x + y)
 at_both m ps qs a b x y nowhere q = subst (λ (n : ℕ). At m qs b n) (sym (zero-add y)) q
-at_both m ps qs a b x y (at {others = others} {shape = s} {held = h} {rest = r} {inside = i} {behind = n} o inner after) q =
+at_both m ps qs a b x y (at {others = others} {shape = s} {held = h} {rest = r} {inside = i} {following = n} o inner after) q =
     subst (At m (ps ++ qs) (before a b)) (omega arith) (at o inner (at_both m others qs r b n y after q))
 
-pub depth_both : (a b : Trees) (level : ℕ) → depth a ≤ level → depth b ≤ level → depth (before a b) ≤ level
-depth_both none b level p q = q
-depth_both (tree form held rest) b level p q = let rest_too = depth_both rest b level (omega arith) q in omega arith
+pub depth_both : (a b : Trees) (nesting : ℕ) → depth a ≤ nesting → depth b ≤ nesting → depth (before a b) ≤ nesting
+depth_both none b nesting p q = q
+depth_both (tree form held rest) b nesting p q = let rest_too = depth_both rest b nesting (omega arith) q in omega arith
 
 -- as many trees as places
 pub count_at : (m : List (List ℕ)) (ps : List Place) (t : Trees) (c : ℕ) → At m ps t c → count t ≡ length ps
 count_at m ps t c nowhere = refl
-count_at m ps t c (at {others = others} {rest = r} {behind = n} o inner after) = omega (arith, count_at m others r n after)
+count_at m ps t c (at {others = others} {rest = r} {following = n} o inner after) = omega (arith, count_at m others r n after)
 
-pub one_deeper : (b : Bool) (d level : ℕ) → d ≤ level - 1 → 0 < level → max (if b then 0 else d + 1) 0 ≤ level
-one_deeper true d level p q = omega arith
-one_deeper false d level p q = omega arith
+pub one_deeper : (b : Bool) (d nesting : ℕ) → d ≤ nesting - 1 → 0 < nesting → max (if b then 0 else d + 1) 0 ≤ nesting
+one_deeper true d nesting p q = omega arith
+one_deeper false d nesting p q = omega arith

@@ -3,22 +3,22 @@ use Rattle.std.proofs.Common.{◌≡◌, ℕ, suc, ◌+◌, ◌-◌, ◌*◌, �
 use Rattle.std.proofs.lemmas.List.{length-map}
 use Rattle.capnp_wire.specs.Pointer.{words_of, words_from}
 use Rattle.capnp_wire.specs.Tree.{Form, null, struct, numbers, pointers, structs, Trees, none, tree, count, depth, is_null, own_words, total_words}
-use Rattle.capnp_wire.specs.Trim.{first, behind, before, keep_tree, cut_zeros, cut_nulls, least_data, least_pointers, narrowed, trim}
+use Rattle.capnp_wire.specs.Trim.{first, following, before, keep_tree, cut_zeros, cut_nulls, least_data, least_pointers, narrowed, trim}
 use Rattle.capnp_wire.specs.Object.{Shape, PointsTo, nothing, places, row_places, rows_from}
 use Rattle.capnp_wire.specs.Landing.{IsObject, shape_of, room_of, words_in}
 use Rattle.capnp_wire.specs.Reached.{At, nowhere, at}
 use Rattle.capnp_wire.specs.Layout.{formed, HasRoom, AllHaveRoom}
 use Rattle.capnp_wire.specs.Block.{most_used}
 use Rattle.capnp_wire.specs.Copy.{formed_body}
-use Rattle.capnp_wire.specs.Charge.{TreesAt, TreesWithRoom}
+use Rattle.capnp_wire.specs.Traversed.{TreesAt, TreesWithRoom}
 use Rattle.capnp_wire.specs.declared.layout.place.Place.{Place}
 use Rattle.capnp_wire.specs.declared.layout.object.Body.{Body}
 use Rattle.capnp_wire.specs.declared.layout.object.Body.TheVariants.{Struct, Numbers, Pointers, Structs}
 use Rattle.capnp_wire.specs.declared.layout.object.Object.{Object as ReadObject}
 use Rattle.capnp_wire.proofs.words.WordLemmas.{length-words_of}
 use Rattle.capnp_wire.proofs.trees.StandLemmas.{at_both, depth_both, one_deeper, count_at}
-use Rattle.capnp_wire.proofs.trees.PieceLemmas.{cut-first, count-behind, total-before, total-pieces}
-use Rattle.capnp_wire.proofs.trees.KeptLemmas.{rooms_first, rooms_behind, used_where_some, least_data_is, least_pointers_is, long_places}
+use Rattle.capnp_wire.proofs.trees.ChunkLemmas.{cut-first, count-following, total-before, total-chunks}
+use Rattle.capnp_wire.proofs.trees.KeptLemmas.{rooms_first, rooms_after, used_where_some, least_data_is, least_pointers_is, long_places}
 use Rattle.capnp_wire.proofs.trees.FrontLemmas.{trim_before, count_cut_trim}
 use Rattle.capnp_wire.proofs.trees.RoomLemmas.{length-rows_from, length-row_places}
 use Rattle.capnp_wire.proofs.trees.TrimLemmas.{count-trim, room_trim}
@@ -29,15 +29,15 @@ pub record OwnOf (m : List (List ℕ)) (c : Bool) (shape : Shape) (own : ℕ) : 
   pub counts : (held : Trees) (inside : ℕ) → At m shape.held held inside → AllHaveRoom held → own + total_words (formed c held) ≡ total_words (formed c (tree shape.form held none))
   pub room : HasRoom shape.form (length shape.held)
 
-pub plain_stand : (m : List (List ℕ)) (ps : List Place) (level x : ℕ) (c : Bool) (words : ℕ) (s : TreesWithRoom m ps level x c words) → TreesAt m ps level x (total_words s.trees)
-plain_stand m ps level x c words s = record { trees = s.trees; stand = s.stand; shallow = s.shallow; words_are = refl }
+pub plain_stand : (m : List (List ℕ)) (ps : List Place) (nesting x : ℕ) (c : Bool) (words : ℕ) (s : TreesWithRoom m ps nesting x c words) → TreesAt m ps nesting x (total_words s.trees)
+plain_stand m ps nesting x c words s = record { trees = s.trees; stand = s.stand; shallow = s.shallow; words_are = refl }
 
 none_is : (c : Bool) → total_words (formed c none) ≡ 0
 none_is true = refl
 none_is false = refl
 
-pub stood_nowhere : (m : List (List ℕ)) (c : Bool) (level : ℕ) → TreesWithRoom m [] level 0 c 0
-stood_nowhere m c level = record { trees = none; stand = nowhere; shallow = omega arith; rooms = tt; words_are = none_is c }
+pub stood_nowhere : (m : List (List ℕ)) (c : Bool) (nesting : ℕ) → TreesWithRoom m [] nesting 0 c 0
+stood_nowhere m c nesting = record { trees = none; stand = nowhere; shallow = omega arith; rooms = tt; words_are = none_is c }
 
 formed_both : (c : Bool) (a b : Trees) → total_words (formed c (before a b)) ≡ total_words (formed c a) + total_words (formed c b)
 formed_both true a b = ap total_words (trim_before a b) ∙ total-before (trim a) (trim b)
@@ -47,22 +47,22 @@ rooms_both : (a b : Trees) → AllHaveRoom a → AllHaveRoom b → AllHaveRoom (
 rooms_both none b p q = q
 rooms_both (tree form held rest) b p q = (p.0, p.1, rooms_both rest b p.2 q)
 
-pub stood_both : (m : List (List ℕ)) (c : Bool) (ps qs : List Place) (level x y v w : ℕ) → TreesWithRoom m ps level x c v → TreesWithRoom m qs level y c w
-    → TreesWithRoom m (ps ++ qs) level (x + y) c (v + w)
-stood_both m c ps qs level x y v w p q = record {
+pub stood_both : (m : List (List ℕ)) (c : Bool) (ps qs : List Place) (nesting x y v w : ℕ) → TreesWithRoom m ps nesting x c v → TreesWithRoom m qs nesting y c w
+    → TreesWithRoom m (ps ++ qs) nesting (x + y) c (v + w)
+stood_both m c ps qs nesting x y v w p q = record {
   trees = before p.trees q.trees;
   stand = at_both m ps qs p.trees q.trees x y p.stand q.stand;
-  shallow = depth_both p.trees q.trees level p.shallow q.shallow;
+  shallow = depth_both p.trees q.trees nesting p.shallow q.shallow;
   rooms = rooms_both p.trees q.trees p.rooms q.rooms;
   words_are = formed_both c p.trees q.trees ∙ omega (arith, p.words_are, q.words_are);
 }
 
-pub stood_over : (m : List (List ℕ)) (c : Bool) (place : Place) (shape : Shape) (level x own words : ℕ) → PointsTo m place shape → 0 < level
-    → OwnOf m c shape own → TreesWithRoom m shape.held (level - 1) x c words → TreesWithRoom m (place ∷ []) level (shape.charge + x) c (own + words)
-stood_over m c place shape level x own words object deep own_is s = record {
+pub stood_over : (m : List (List ℕ)) (c : Bool) (place : Place) (shape : Shape) (nesting x own words : ℕ) → PointsTo m place shape → 0 < nesting
+    → OwnOf m c shape own → TreesWithRoom m shape.held (nesting - 1) x c words → TreesWithRoom m (place ∷ []) nesting (shape.traversed + x) c (own + words)
+stood_over m c place shape nesting x own words object deep own_is s = record {
   trees = tree shape.form s.trees none;
   stand = subst (At m (place ∷ []) (tree shape.form s.trees none)) (omega arith) (at object s.stand nowhere);
-  shallow = one_deeper (is_null shape.form) (depth s.trees) level s.shallow deep;
+  shallow = one_deeper (is_null shape.form) (depth s.trees) nesting s.shallow deep;
   rooms = (subst (λ (n : ℕ). HasRoom shape.form n) (sym (count_at m shape.held s.trees x s.stand)) own_is.room, s.rooms, tt);
   words_are = sym (own_is.counts s.trees x s.stand s.rooms) ∙ omega (arith, s.words_are);
 }
@@ -71,8 +71,8 @@ null_total : (c : Bool) → total_words (formed c (tree null none none)) ≡ 0
 null_total true = refl
 null_total false = refl
 
-pub stood_null : (m : List (List ℕ)) (c : Bool) (place : Place) (level : ℕ) → PointsTo m place nothing → TreesWithRoom m (place ∷ []) level 0 c 0
-stood_null m c place level object = record { trees = tree nothing.form none none; stand = at object nowhere nowhere; shallow = omega arith; rooms = (refl, tt, tt); words_are = null_total c }
+pub stood_null : (m : List (List ℕ)) (c : Bool) (place : Place) (nesting : ℕ) → PointsTo m place nothing → TreesWithRoom m (place ∷ []) nesting 0 c 0
+stood_null m c place nesting object = record { trees = tree nothing.form none none; stand = at object nowhere nowhere; shallow = omega arith; rooms = (refl, tt, tt); words_are = null_total c }
 
 -- what is cut has no words
 keep_total : (rest : Trees) (form : Form) (held : Trees) → HasRoom form (count held) → total_words (keep_tree rest form held) ≡ own_words form (count held) + total_words held + total_words rest
@@ -98,8 +98,8 @@ total_narrowed q p [] (tree form held rest) rooms long le = absurd (omega arith)
 total_narrowed q p (row ∷ rows) t rooms long le =
     let split : suc (length rows) * p ≡ p + length rows * p = omega arith in
     let own = total_first q (first p t) (rooms_first p t rooms) (rooms_first q (first p t) (rooms_first p t rooms)) (omega arith) in
-    let rest = total_narrowed q p rows (behind p t) (rooms_behind p t rooms) (omega (arith, count-behind p t (omega arith))) (omega arith) in
-    omega (arith, total-before (first q (first p t)) (narrowed q p rows (behind p t)), total-pieces p t, own, rest)
+    let rest = total_narrowed q p rows (following p t) (rooms_after p t rooms) (omega (arith, count-following p t (omega arith))) (omega arith) in
+    omega (arith, total-before (first q (first p t)) (narrowed q p rows (following p t)), total-chunks p t, own, rest)
 
 -- an object's own words, in each form
 pub struct_total : (m : List (List ℕ)) (words : List ℕ) (segment start d p : ℕ) (held : Trees) (inside : ℕ) → (0 < p → slice_get m segment ≡ Some words)
@@ -144,11 +144,11 @@ body_total m words start (Numbers size n) true held inside here room stand rooms
 body_total m words start (Pointers n) true held inside here room stand rooms =
     let many : count (trim held) ≡ n = count-trim held ∙ count_at m (places start.segment start.word n) held inside stand ∙ long_places start.segment start.word n in
     omega (arith, many)
-body_total m words start (Structs elements behind) true held inside here room stand rooms =
+body_total m words start (Structs elements following) true held inside here room stand rooms =
     structs_total m words start.segment (start.word + 1) elements.size.data_words elements.size.pointers elements.count held inside here stand rooms
 
 pub own_formed : (m : List (List ℕ)) (object : ReadObject) (place : Place) (c : Bool) → IsObject m place object
-    → OwnOf m c (record (shape_of (words_of object.segment.now) object.start object.body) { charge = object.charge }) (words_in (formed_body c
+    → OwnOf m c (record (shape_of (words_of object.segment.now) object.start object.body) { traversed = object.traversed }) (words_in (formed_body c
     (words_of object.segment.now) object.start.word object.body))
 own_formed m object place c is = record {
   counts = λ held inside stand rooms.

@@ -13,8 +13,8 @@ use Rattle.capnp_wire.proofs.pointers.SlotLemmas.{AllOf}
 use Rattle.capnp_wire.proofs.layouts.SizeLemmas.{rows_even}
 use Rattle.capnp_wire.proofs.words.CutLemmas.{length-cut, all_cut, least_data_within, least_data-take, take-rows}
 use Rattle.capnp_wire.proofs.words.CutLemmas as words
-use Rattle.capnp_wire.proofs.trees.PieceLemmas.{Each, each_cut, each_narrowed, count-cut, total-cut, count-narrowed, total-narrowed, least_pointers_within}
-use Rattle.capnp_wire.proofs.trees.PieceLemmas as trees
+use Rattle.capnp_wire.proofs.trees.ChunkLemmas.{Each, each_cut, each_narrowed, count-cut, total-cut, count-narrowed, total-narrowed, least_pointers_within}
+use Rattle.capnp_wire.proofs.trees.ChunkLemmas as trees
 use Rattle.capnp_wire.proofs.trees.NarrowLemmas.{least-narrowed, narrowed-narrowed}
 
 abbrev TrimmedOne : Form → Trees → Type 0

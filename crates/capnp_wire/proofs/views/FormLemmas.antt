@@ -8,7 +8,7 @@ use Rattle.capnp_wire.specs.Pointer.{words_of, words_from}
 use Rattle.capnp_wire.specs.Element.{code_of}
 use Rattle.capnp_wire.specs.Tree.{Form, numbers}
 use Rattle.capnp_wire.specs.Object.{elements, places}
-use Rattle.capnp_wire.specs.Charge.{Within}
+use Rattle.capnp_wire.specs.Traversed.{Within}
 use Rattle.capnp_wire.specs.Landing.{shape_of}
 use Rattle.capnp_wire.specs.Views.{Pointer, at_place, Shows, Reads, IsText, HasData, TakesNumbers, TakesText, TakesStruct, DeclinesNumbers, DeclinesText, DeclinesStruct}
 use Rattle.capnp_wire.specs.Readers.{IsEntered, form_of}
@@ -23,15 +23,15 @@ use Rattle.capnp_wire.specs.declared.layout.object.Object.{Object as ReadObject}
 -- what holds of the form of an object that was entered is shown of its pointer, and read of it
 pub entered_shows : (p : Pointer) (object : ReadObject) (fact : Form → Type 0) → IsEntered p object → fact (form_of object) → Shows p (λ shape. fact shape.form)
 entered_shows p object fact entered holds = (
-  record (shape_of (words_of object.segment.now) object.start object.body) { charge = object.charge },
-  at_place entered.stands entered.object_is.object (λ not. entered.level),
+  record (shape_of (words_of object.segment.now) object.start object.body) { traversed = object.traversed },
+  at_place entered.stands entered.object_is.object (λ not. entered.nesting),
   holds,
 )
 
 pub entered_reads : (p : Pointer) (object : ReadObject) (fact : Form → Type 0) → IsEntered p object → fact (form_of object) → Reads p fact
 entered_reads p object fact entered holds = (
-  record (shape_of (words_of object.segment.now) object.start object.body) { charge = object.charge },
-  at_place entered.stands entered.object_is.object (λ not. entered.level),
+  record (shape_of (words_of object.segment.now) object.start object.body) { traversed = object.traversed },
+  at_place entered.stands entered.object_is.object (λ not. entered.nesting),
   (holds, entered.within),
 )
 
@@ -58,7 +58,7 @@ other_numbers : (words : List ℕ) (start : Place) (body : Body) (wanted : Eleme
 other_numbers words start (Struct size) wanted none t = t
 other_numbers words start (Numbers size n) wanted none t = none n (ap (λ x. Numbers x n) (same_size size wanted t))
 other_numbers words start (Pointers n) wanted none t = t
-other_numbers words start (Structs elements_there behind) wanted none t = t
+other_numbers words start (Structs elements_there following) wanted none t = t
 
 pub other_than_numbers : (object : ReadObject) (wanted : ElementSize) (kind : ErrorKind) → ((n : ℕ) → object.body ≡ Numbers wanted n → ⊥)
     → kind ≡ WrongPointerKind → DeclinesNumbers (code_of wanted) (form_of object) kind
@@ -68,7 +68,7 @@ other_struct : (words : List ℕ) (start : Place) (body : Body) → ((size : Str
 other_struct words start (Struct size) none t = none size refl
 other_struct words start (Numbers size n) none t = t
 other_struct words start (Pointers n) none t = t
-other_struct words start (Structs elements_there behind) none t = t
+other_struct words start (Structs elements_there following) none t = t
 
 pub other_than_struct : (object : ReadObject) (kind : ErrorKind) → ((size : StructSize) → object.body ≡ Struct size → ⊥) → kind ≡ WrongPointerKind → DeclinesStruct (form_of object) kind
 other_than_struct object kind none is = (other_struct (words_of object.segment.now) object.start object.body none, is)
@@ -76,26 +76,26 @@ other_than_struct object kind none is = (other_struct (words_of object.segment.n
 -- the fields of a struct that was entered
 pub struct_shows : (p : Pointer) (object : ReadObject) (size : StructSize) → IsEntered p object → object.body ≡ Struct size
     → Shows p (λ shape. HasData shape.form (words_from (words_of object.segment.now) object.start.word size.data_words)
-    × (places object.start.segment (object.start.word + size.data_words) size.pointers ≡ shape.held) × Within p.limit shape.charge)
+    × (places object.start.segment (object.start.word + size.data_words) size.pointers ≡ shape.held) × Within p.limit shape.traversed)
 struct_shows p object size entered body =
     let words = words_of object.segment.now in
     let fact : Body → Type 0 = λ b. HasData (shape_of words object.start b).form (words_from words object.start.word size.data_words)
     × (places object.start.segment (object.start.word + size.data_words) size.pointers ≡ (shape_of words object.start b).held) in
     let holds : fact object.body = subst fact (sym body) (refl, refl) in (
-      record (shape_of words object.start object.body) { charge = object.charge },
-      at_place entered.stands entered.object_is.object (λ not. entered.level),
+      record (shape_of words object.start object.body) { traversed = object.traversed },
+      at_place entered.stands entered.object_is.object (λ not. entered.nesting),
       (holds.0, holds.1, entered.within),
     )
 
 -- a list of bytes that ends with a zero, and one that does not
-pub zero_behind : (bytes : List ℕ) (n : ℕ) → suc n ≡ length bytes → slice_index_or bytes n 0 ≡ 0 → bytes ≡ take n bytes ++ 0 ∷ []
-zero_behind bytes n long zero_is =
+pub zero_after : (bytes : List ℕ) (n : ℕ) → suc n ≡ length bytes → slice_index_or bytes n 0 ≡ 0 → bytes ≡ take n bytes ++ 0 ∷ []
+zero_after bytes n long zero_is =
     let all : take (suc n) bytes ≡ bytes = take_all (suc n) bytes (omega arith) in
     let split : take (suc n) bytes ≡ take n bytes ++ slice_index_or bytes n 0 ∷ [] = take-suc bytes n 0 (omega arith) in
     sym all ∙ split ∙ ap (λ (x : ℕ). take n bytes ++ x ∷ []) zero_is
 
-pub no_zero_behind : (bytes text : List ℕ) (n : ℕ) → bytes ≡ text ++ 0 ∷ [] → suc n ≡ length bytes → slice_index_or bytes n 0 ≡ 0
-no_zero_behind bytes text n e long =
+pub no_zero_after : (bytes text : List ℕ) (n : ℕ) → bytes ≡ text ++ 0 ∷ [] → suc n ≡ length bytes → slice_index_or bytes n 0 ≡ 0
+no_zero_after bytes text n e long =
     let one_more : length bytes ≡ length text + 1 = ap (λ (l : List ℕ). length l) e ∙ length-append text (0 ∷ []) in
     let at : n ≡ length text = omega arith in
     ap (λ (l : List ℕ). slice_index_or l n 0) e ∙ ap (λ (i : ℕ). slice_index_or (text ++ 0 ∷ []) i 0) at ∙ get_or-append_seam text 0 [] 0

@@ -35,41 +35,41 @@ one_lack h r one c a b (inr x) (inl y) = absurd (one.apart b x.0 y x.1)
 one_lack h r one c a b (inr x) (inr y) =
     x.3 ∙ ap (λ (t : Trees). too_large c (total_words (formed c t))) (one.same_tree x.0 y.0 x.1 y.1) ∙ sym y.3
 
--- a value that lacks words is refused by just that
-pub measured_exactly : (h : Trees → Type 0) (r : ErrorKind → Type 0) → IsOne h r → (c : Bool) (answer : Result ℕ Error)
-    → MatchResult answer (λ words. HasWords h c words) (λ error. LacksWords h r c error.kind)
-    → (kind : ErrorKind) → LacksWords h r c kind → IsErrAnd answer (λ error. error.kind ≡ kind)
+-- a value that lacks words fails for just that
+pub measured_exactly : (h : Trees → Type 0) (r : ErrorKind → Type 0) → IsOne h r → (c : Bool) (returned : Result ℕ Error)
+    → MatchResult returned (λ words. HasWords h c words) (λ error. LacksWords h r c error.kind)
+    → (kind : ErrorKind) → LacksWords h r c kind → IsErrAnd returned (λ error. error.kind ≡ kind)
 measured_exactly h r one c (Ok words) m kind lacks = absurd (has_or_lacks h r one c words kind m lacks)
 measured_exactly h r one c (Err error) m kind lacks = one_lack h r one c error.kind kind m lacks
 
--- and one that has words is answered by just these
-pub measured_found : (h : Trees → Type 0) (r : ErrorKind → Type 0) → IsOne h r → (c : Bool) (answer : Result ℕ Error)
-    → MatchResult answer (λ words. HasWords h c words) (λ error. LacksWords h r c error.kind)
-    → (words : ℕ) → HasWords h c words → answer ≡ Ok words
+-- and one that has words is returned by just these
+pub measured_found : (h : Trees → Type 0) (r : ErrorKind → Type 0) → IsOne h r → (c : Bool) (returned : Result ℕ Error)
+    → MatchResult returned (λ words. HasWords h c words) (λ error. LacksWords h r c error.kind)
+    → (words : ℕ) → HasWords h c words → returned ≡ Ok words
 measured_found h r one c (Ok others) m words w = ap (λ (n : ℕ). Ok n) (one_measure h r one c others words m w)
 measured_found h r one c (Err error) m words w = absurd (has_or_lacks h r one c words error.kind w m)
 
 -- the tree that a pointer leads to
-one_there : (o : Option Place) (m : List (List ℕ)) (level : ℕ) (limit : Option ℕ) (a b : Trees) → MatchOption o (a ≡ tree null none none) (λ place. TreeAt m place level limit a)
-    → MatchOption o (b ≡ tree null none none) (λ place. TreeAt m place level limit b) → a ≡ b
-one_there None m level limit a b x y = x ∙ sym y
-one_there (Some place) m level limit a b x y = (one_tree m (place ∷ []) a b x.charge y.charge x.stand y.stand).0
+one_there : (o : Option Place) (m : List (List ℕ)) (nesting : ℕ) (limit : Option ℕ) (a b : Trees) → MatchOption o (a ≡ tree null none none) (λ place. TreeAt m place nesting limit a)
+    → MatchOption o (b ≡ tree null none none) (λ place. TreeAt m place nesting limit b) → a ≡ b
+one_there None m nesting limit a b x y = x ∙ sym y
+one_there (Some place) m nesting limit a b x y = (one_tree m (place ∷ []) a b x.traversed y.traversed x.stand y.stand).0
 
 one_way : (p : Pointer) (a b : ErrorKind) → StopsWalkFrom p a → StopsWalkFrom p b → a ≡ b
 one_way p a b x y =
     let there = x.1 in
     let there_too = y.1 in
     let same : y.0 ≡ x.0 = cc in
-    one_stop p.message (x.0 ∷ []) p.level p.limit a b x.2 (subst (λ (place : Place). StopsWalk p.message (place ∷ []) p.level p.limit b) same y.2)
+    one_stop p.message (x.0 ∷ []) p.nesting p.limit a b x.2 (subst (λ (place : Place). StopsWalk p.message (place ∷ []) p.nesting p.limit b) same y.2)
 
 stops_or_leads : (p : Pointer) (kind : ErrorKind) (trees : Trees) → StopsWalkFrom p kind → LeadsToTree p trees → ⊥
 stops_or_leads p kind trees stops leads =
     let t = from_tree p stops.0 trees stops.1 leads in
-    stops_has_no_trees p.message (stops.0 ∷ []) p.level t.charge p.limit kind trees stops.2 t.stand t.shallow t.within
+    stops_has_no_trees p.message (stops.0 ∷ []) p.nesting t.traversed p.limit kind trees stops.2 t.stand t.shallow t.within
 
 pub one_of_pointer : (p : Pointer) → IsOne (LeadsToTree p) (StopsWalkFrom p)
 one_of_pointer p = record {
-  same_tree = one_there p.place p.message p.level p.limit;
+  same_tree = one_there p.place p.message p.nesting p.limit;
   same_refusal = one_way p;
   apart = stops_or_leads p;
 }
@@ -78,7 +78,7 @@ one_of_pointer p = record {
 pub one_of_struct : (fields : Struct) → IsOne (IsTreeOf fields) (StopsInside fields)
 one_of_struct fields = record {
   same_tree = λ a b x y.
-      x.whole ∙ ap (λ (t : Trees). tree (struct fields.words) t none) (one_tree fields.message fields.held x.held y.held x.charge y.charge x.stand y.stand).0 ∙ sym y.whole;
-  same_refusal = one_stop fields.message fields.held fields.level fields.limit;
-  apart = λ kind trees stops t. stops_has_no_trees fields.message fields.held fields.level t.charge fields.limit kind t.held stops t.stand t.shallow t.within;
+      x.whole ∙ ap (λ (t : Trees). tree (struct fields.words) t none) (one_tree fields.message fields.held x.held y.held x.traversed y.traversed x.stand y.stand).0 ∙ sym y.whole;
+  same_refusal = one_stop fields.message fields.held fields.nesting fields.limit;
+  apart = λ kind trees stops t. stops_has_no_trees fields.message fields.held fields.nesting t.traversed fields.limit kind t.held stops t.stand t.shallow t.within;
 }

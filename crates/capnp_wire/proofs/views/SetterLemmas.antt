@@ -16,7 +16,7 @@ use Rattle.capnp_wire.specs.Layout.{layout, canon, formed, AllHaveRoom, AllReach
 use Rattle.capnp_wire.specs.Canonical.{IsCanonical}
 use Rattle.capnp_wire.specs.Views.{Pointer}
 use Rattle.capnp_wire.specs.Block.{numbers_of}
-use Rattle.capnp_wire.specs.Values.{TreeAt, Measured, Unmeasured, HasWords, LacksWords, LeadsToTree, StopsWalkFrom, pointed, IsCanonicalForm}
+use Rattle.capnp_wire.specs.Values.{TreeAt, Measured, UnmeasuredTree, HasWords, LacksWords, LeadsToTree, StopsWalkFrom, pointed, IsCanonicalForm}
 use Rattle.capnp_wire.specs.declared.layout.place.Place.{Place}
 use Rattle.capnp_wire.proofs.forms.CanonLemmas.{root_of_canon, canon_tells}
 use Rattle.capnp_wire.proofs.layouts.LayoutLemmas.{small_reaches}
@@ -24,12 +24,12 @@ use Rattle.capnp_wire.proofs.trees.TrimLemmas.{trim_twice}
 use Rattle.capnp_wire.proofs.words.PutLemmas.{words_split}
 use Rattle.capnp_wire.proofs.views.ValueLemmas.{drop_past}
 
-to_tree : (p : Pointer) (place : Place) (trees : Trees) → p.place ≡ Some place → TreeAt p.message place p.level p.limit trees → LeadsToTree p trees
+to_tree : (p : Pointer) (place : Place) (trees : Trees) → p.place ≡ Some place → TreeAt p.message place p.nesting p.limit trees → LeadsToTree p trees
 to_tree p place trees e t =
-    subst (λ (o : Option Place). MatchOption o (trees ≡ tree null none none) (λ there. TreeAt p.message there p.level p.limit trees)) (sym e) t
+    subst (λ (o : Option Place). MatchOption o (trees ≡ tree null none none) (λ there. TreeAt p.message there p.nesting p.limit trees)) (sym e) t
 
-pub from_tree : (p : Pointer) (place : Place) (trees : Trees) → p.place ≡ Some place → LeadsToTree p trees → TreeAt p.message place p.level p.limit trees
-from_tree p place trees e t = subst (λ (o : Option Place). MatchOption o (trees ≡ tree null none none) (λ there. TreeAt p.message there p.level p.limit trees)) e t
+pub from_tree : (p : Pointer) (place : Place) (trees : Trees) → p.place ≡ Some place → LeadsToTree p trees → TreeAt p.message place p.nesting p.limit trees
+from_tree p place trees e t = subst (λ (o : Option Place). MatchOption o (trees ≡ tree null none none) (λ there. TreeAt p.message there p.nesting p.limit trees)) e t
 
 null_words : (c : Bool) → 0 ≡ total_words (formed c (tree null none none))
 null_words true = refl
@@ -38,14 +38,14 @@ null_words false = refl
 pub none_has_words : (p : Pointer) (c : Bool) → p.place ≡ None → HasWords (LeadsToTree p) c 0
 none_has_words p c e = record {
   trees = tree null none none;
-  tree_is = subst (λ (o : Option Place). MatchOption o (tree null none none ≡ tree null none none) (λ there. TreeAt p.message there p.level p.limit (tree null none none))) (sym e) refl;
+  tree_is = subst (λ (o : Option Place). MatchOption o (tree null none none ≡ tree null none none) (λ there. TreeAt p.message there p.nesting p.limit (tree null none none))) (sym e) refl;
   rooms = (refl, tt, tt);
   words_are = null_words c;
   few = omega arith;
 }
 
 pub measured_value : (p : Pointer) (place : Place) (c : Bool) (r : Result ℕ Error) → p.place ≡ Some place
-    → MatchResult r (λ words. Measured p.message place p.level p.limit c words) (λ error. Unmeasured p.message place p.level p.limit c error.kind)
+    → MatchResult r (λ words. Measured p.message place p.nesting p.limit c words) (λ error. UnmeasuredTree p.message place p.nesting p.limit c error.kind)
     → MatchResult r (λ words. HasWords (LeadsToTree p) c words) (λ error. LacksWords (LeadsToTree p) (StopsWalkFrom p) c error.kind)
 measured_value p place c (Ok words) e m = record { trees = m.trees; tree_is = to_tree p place m.trees e m.tree_is; rooms = m.rooms; words_are = m.words_are; few = m.few }
 measured_value p place c (Err error) e (inl stops) = inl (place, e, stops)
@@ -54,7 +54,7 @@ measured_value p place c (Err error) e (inr many) = inr (many.0, to_tree p place
 abbrev words_in : ℕ → List ℕ → List ℕ
 words_in k block = map (number_of 256) (first_chunks 8 k block)
 
--- a block behind the eight bytes of its pointer
+-- a block after the eight bytes of its pointer
 after_eight : (old block : List ℕ) → 8 ≤ length old → length block ≡ length old - 8 → drop 8 (take 8 old ++ (block ++ drop (length old - 8) (drop 8 old))) ≡ block
 after_eight old block some long =
     let eight : length (take 8 old) ≡ 8 = omega (arith, length-take 8 old) in
@@ -70,7 +70,7 @@ one_word bytes eight =
 
 pub whole_form : (p : Pointer) (word : Word) (front old block : List ℕ) → front ≡ bytes_of word
     → length front ≡ length (take 8 (take 8 old ++ (block ++ drop (length old - 8) (drop 8 old))))
-    → (behind : ℕ) × HasWords (LeadsToTree p) true behind × (length old ≡ 8 * (behind + 1)) → length block ≡ length old - 8
+    → (following : ℕ) × HasWords (LeadsToTree p) true following × (length old ≡ 8 * (following + 1)) → length block ≡ length old - 8
     → ((trees : Trees) → LeadsToTree p trees → pointed word block ≡ layout (formed true trees))
     → IsCanonicalForm p (words_of (front ++ drop 8 (take 8 old ++ (block ++ drop (length old - 8) (drop 8 old)))))
 whole_form p word front old block front_is room w long written =
@@ -96,7 +96,7 @@ whole_form p word front old block front_is room w long written =
     }
 
 -- the same in words
-pub words_form : (p : Pointer) (word : Word) (old block : List Word) → (behind : ℕ) × HasWords (LeadsToTree p) true behind × (length old ≡ behind + 1)
+pub words_form : (p : Pointer) (word : Word) (old block : List Word) → (following : ℕ) × HasWords (LeadsToTree p) true following × (length old ≡ following + 1)
     → ((trees : Trees) → LeadsToTree p trees → number_of 256 (bytes_of word) ∷ numbers_of block ≡ layout (formed true trees))
     → IsCanonicalForm p (numbers_of (set (take 1 old ++ (block ++ drop (length old - 1) (drop 1 old))) 0 word))
 words_form p word [] block w written = absurd (omega (arith, w.2))
@@ -112,19 +112,19 @@ words_form p word (x ∷ xs) block w written =
       words_are = ap (λ (l : List Word). numbers_of (word ∷ l)) whole ∙ written h.trees h.tree_is;
     }
 
-one_root : (m : List (List ℕ)) (place : Place) (trees : Trees) (charge : ℕ) → At m (place ∷ []) trees charge → (f : Form) × (h : Trees) × (trees ≡ tree f h none)
-one_root m place trees charge (at {shape = s} {held = h} object inner nowhere) = (s.form, h, refl)
+one_root : (m : List (List ℕ)) (place : Place) (trees : Trees) (traversed : ℕ) → At m (place ∷ []) trees traversed → (f : Form) × (h : Trees) × (trees ≡ tree f h none)
+one_root m place trees traversed (at {shape = s} {held = h} object inner nowhere) = (s.form, h, refl)
 
-one_root_at : (o : Option Place) (m : List (List ℕ)) (level : ℕ) (limit : Option ℕ) (trees : Trees) → MatchOption o (trees ≡ tree null none none) (λ place. TreeAt m place level limit trees)
+one_root_at : (o : Option Place) (m : List (List ℕ)) (nesting : ℕ) (limit : Option ℕ) (trees : Trees) → MatchOption o (trees ≡ tree null none none) (λ place. TreeAt m place nesting limit trees)
     → (f : Form) × (h : Trees) × (trees ≡ tree f h none)
-one_root_at None m level limit trees t = (null, none, t)
-one_root_at (Some place) m level limit trees t = one_root m place trees t.charge t.stand
+one_root_at None m nesting limit trees t = (null, none, t)
+one_root_at (Some place) m nesting limit trees t = one_root m place trees t.traversed t.stand
 
 -- canonical forms are equal exactly where their trees are, trimmed
 pub forms_tell : (p q : Pointer) (words others : List ℕ) (a : IsCanonicalForm p words) (b : IsCanonicalForm q others) → (words ≡ others) ↔ (trim a.trees ≡ trim b.trees)
 forms_tell p q words others a b =
-    let x = one_root_at p.place p.message p.level p.limit a.trees a.tree_is in
-    let y = one_root_at q.place q.message q.level q.limit b.trees b.tree_is in (
+    let x = one_root_at p.place p.message p.nesting p.limit a.trees a.tree_is in
+    let y = one_root_at q.place q.message q.nesting q.limit b.trees b.tree_is in (
       λ same.
           let canons : canon (tree x.0 x.1 none) ≡ canon (tree y.0 y.1 none) = ap canon (sym x.2) ∙ sym a.words_are ∙ same ∙ b.words_are ∙ ap canon y.2 in
           ap trim x.2
@@ -137,7 +137,7 @@ forms_tell p q words others a b =
 -- and each, as the one segment of a message, is canonical
 pub form_is_canonical : (p : Pointer) (words : List ℕ) → IsCanonicalForm p words → IsCanonical (words ∷ [])
 form_is_canonical p words a =
-    let x = one_root_at p.place p.message p.level p.limit a.trees a.tree_is in
+    let x = one_root_at p.place p.message p.nesting p.limit a.trees a.tree_is in
     let rooms : AllHaveRoom (tree x.0 x.1 none) = subst AllHaveRoom x.2 a.rooms in
     let few : total_words (trim (tree x.0 x.1 none)) < 2 ^ 29 = subst (λ (t : Trees). total_words (trim t) < 2 ^ 29) x.2 a.few in
     let is : words ≡ canon (tree x.0 x.1 none) = a.words_are ∙ ap canon x.2 in

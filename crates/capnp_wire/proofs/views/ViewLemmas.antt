@@ -6,9 +6,9 @@ use Rattle.capnp_frame.specs.declared.error.ErrorKind.{ErrorKind}
 use Rattle.capnp_frame.specs.declared.error.ErrorKind.TheVariants.{ReadLimitExceeded, WrongPointerKind, TextNotTerminated}
 use Rattle.capnp_wire.specs.Tree.{Form, null, struct, numbers, pointers, structs}
 use Rattle.capnp_wire.specs.Object.{Shape, PointsTo}
-use Rattle.capnp_wire.specs.Faults.{NoWord, no_segment, past_segment, BadPad, no_pad, far_again, pad_capability, no_tag, not_far, no_content, far_tag, capability_tag, Misfits}
-use Rattle.capnp_wire.specs.Faults.{struct_outside, list_outside, structs_outside, odd_tag, many_elements, Fault, no_word, capability, bad_pad, too_deep, no_start, misfits}
-use Rattle.capnp_wire.specs.Views.{Pointer, Struct, IsViewOf, Denotes, nowhere, at_place, Barred, LeadsAstray, MeetsLimit, Reads, Accepts, Declines, Refuses, IsData}
+use Rattle.capnp_wire.specs.Faults.{NoWord, no_segment, past_segment, BadLandingPad, no_landing_pad, far_again, landing_pad_capability, no_tag, not_far, no_content, far_tag, capability_tag, Misfits}
+use Rattle.capnp_wire.specs.Faults.{struct_outside, list_outside, structs_outside, odd_tag, many_elements, Fault, no_word, capability, bad_landing_pad, too_deep, no_start, misfits}
+use Rattle.capnp_wire.specs.Views.{Pointer, Struct, IsViewOf, Denotes, nowhere, at_place, Unreadable, IsInvalidPointer, MeetsLimit, Reads, Accepts, Declines, Refuses, IsData}
 use Rattle.capnp_wire.specs.Views.{IsText, IsWords, HasData, IsStruct, TakesNumbers, TakesText, TakesStruct, DeclinesNumbers, DeclinesText, DeclinesStruct}
 use Rattle.capnp_wire.specs.declared.layout.place.Place.{Place}
 use Rattle.capnp_wire.proofs.objects.ObjectLemmas.{one_object}
@@ -23,34 +23,34 @@ one_denoted p s t (at_place e _ _) (nowhere f) = cc
 one_denoted p s t (at_place {place = a} e o _) (at_place {place = b} f q _) =
     let same : a ≡ b = cc in one_object p.message b s t (subst (λ x. PointsTo p.message x s) same o) q
 
--- without a limit a pointer is barred only where it stands for nothing
-fault_denotes_nothing : (p : Pointer) (place : Place) (kind : ErrorKind) (s : Shape) → p.place ≡ Some place → Fault p.message place p.level kind → Denotes p s → ⊥
+-- without a limit a pointer is unreadable only where it stands for nothing
+fault_denotes_nothing : (p : Pointer) (place : Place) (kind : ErrorKind) (s : Shape) → p.place ≡ Some place → Fault p.message place p.nesting kind → Denotes p s → ⊥
 fault_denotes_nothing p place kind s e fault (nowhere f) = cc
 fault_denotes_nothing p place kind s e fault (at_place {place = b} f o deep) =
     let same : b ≡ place = cc in
-    refused_has_no_object p.message place p.level kind s fault (subst (λ x. PointsTo p.message x s) same o) deep
+    refused_has_no_object p.message place p.nesting kind s fault (subst (λ x. PointsTo p.message x s) same o) deep
 
-astray_denotes_nothing : (p : Pointer) (kind : ErrorKind) (s : Shape) → LeadsAstray p kind → Denotes p s → ⊥
-astray_denotes_nothing p kind s astray there = fault_denotes_nothing p astray.0 kind s astray.1 astray.2 there
+invalid_pointer_denotes_nothing : (p : Pointer) (kind : ErrorKind) (s : Shape) → IsInvalidPointer p kind → Denotes p s → ⊥
+invalid_pointer_denotes_nothing p kind s invalid_pointer there = fault_denotes_nothing p invalid_pointer.0 kind s invalid_pointer.1 invalid_pointer.2 there
 
-barred_denotes_nothing : (p : Pointer) (kind : ErrorKind) (s : Shape) → Barred p kind → p.limit ≡ None → Denotes p s → ⊥
-barred_denotes_nothing p kind s (inl astray) free there = astray_denotes_nothing p kind s astray there
-barred_denotes_nothing p kind s (inr met) free there = met.1 free
+unreadable_denotes_nothing : (p : Pointer) (kind : ErrorKind) (s : Shape) → Unreadable p kind → p.limit ≡ None → Denotes p s → ⊥
+unreadable_denotes_nothing p kind s (inl invalid_pointer) free there = invalid_pointer_denotes_nothing p kind s invalid_pointer there
+unreadable_denotes_nothing p kind s (inr met) free there = met.1 free
 
 -- and never by the limit
 no_word_unlimited : (m : List (List ℕ)) (place : Place) (kind : ErrorKind) → NoWord m place kind → kind ≢ ReadLimitExceeded
 no_word_unlimited m place kind (no_segment e) = λ is. cc
 no_word_unlimited m place kind (past_segment e f) = λ is. cc
 
-bad_pad_unlimited : (m : List (List ℕ)) (word : ℕ) (kind : ErrorKind) → BadPad m word kind → kind ≢ ReadLimitExceeded
-bad_pad_unlimited m word kind (no_pad none) = no_word_unlimited m _ kind none
-bad_pad_unlimited m word kind (far_again _ _ _) = λ is. cc
-bad_pad_unlimited m word kind (pad_capability _ _ _) = λ is. cc
-bad_pad_unlimited m word kind (no_tag _ _ _) = λ is. cc
-bad_pad_unlimited m word kind (not_far _ _ _ _) = λ is. cc
-bad_pad_unlimited m word kind (no_content _ _ _ _ _) = λ is. cc
-bad_pad_unlimited m word kind (far_tag _ _ _ _ _ _) = λ is. cc
-bad_pad_unlimited m word kind (capability_tag _ _ _ _ _ _) = λ is. cc
+bad_landing_pad_unlimited : (m : List (List ℕ)) (word : ℕ) (kind : ErrorKind) → BadLandingPad m word kind → kind ≢ ReadLimitExceeded
+bad_landing_pad_unlimited m word kind (no_landing_pad none) = no_word_unlimited m _ kind none
+bad_landing_pad_unlimited m word kind (far_again _ _ _) = λ is. cc
+bad_landing_pad_unlimited m word kind (landing_pad_capability _ _ _) = λ is. cc
+bad_landing_pad_unlimited m word kind (no_tag _ _ _) = λ is. cc
+bad_landing_pad_unlimited m word kind (not_far _ _ _ _) = λ is. cc
+bad_landing_pad_unlimited m word kind (no_content _ _ _ _ _) = λ is. cc
+bad_landing_pad_unlimited m word kind (far_tag _ _ _ _ _ _) = λ is. cc
+bad_landing_pad_unlimited m word kind (capability_tag _ _ _ _ _ _) = λ is. cc
 
 misfits_unlimited : (words : List ℕ) (start pointer : ℕ) (kind : ErrorKind) → Misfits words start pointer kind → kind ≢ ReadLimitExceeded
 misfits_unlimited words start pointer kind (struct_outside _ _) = λ is. cc
@@ -59,17 +59,17 @@ misfits_unlimited words start pointer kind (structs_outside _ _ _) = λ is. cc
 misfits_unlimited words start pointer kind (odd_tag _ _ _ _ _) = λ is. cc
 misfits_unlimited words start pointer kind (many_elements _ _ _ _ _ _) = λ is. cc
 
-pub fault_unlimited : (m : List (List ℕ)) (place : Place) (level : ℕ) (kind : ErrorKind) → Fault m place level kind → kind ≢ ReadLimitExceeded
-fault_unlimited m place level kind (no_word none) = no_word_unlimited m place kind none
-fault_unlimited m place level kind (capability _ _) = λ is. cc
-fault_unlimited m place level kind (bad_pad _ _ bad) = bad_pad_unlimited m _ kind bad
-fault_unlimited m place level kind (too_deep _ _) = λ is. cc
-fault_unlimited m place level kind (no_start _ _ _) = λ is. cc
-fault_unlimited m place level kind (misfits _ _ _ _ misfit) = misfits_unlimited _ _ _ kind misfit
+pub fault_unlimited : (m : List (List ℕ)) (place : Place) (nesting : ℕ) (kind : ErrorKind) → Fault m place nesting kind → kind ≢ ReadLimitExceeded
+fault_unlimited m place nesting kind (no_word none) = no_word_unlimited m place kind none
+fault_unlimited m place nesting kind (capability _ _) = λ is. cc
+fault_unlimited m place nesting kind (bad_landing_pad _ _ bad) = bad_landing_pad_unlimited m _ kind bad
+fault_unlimited m place nesting kind (too_deep _ _) = λ is. cc
+fault_unlimited m place nesting kind (no_start _ _ _) = λ is. cc
+fault_unlimited m place nesting kind (misfits _ _ _ _ misfit) = misfits_unlimited _ _ _ kind misfit
 
-barred_unlimited : (p : Pointer) (kind : ErrorKind) → Barred p kind → p.limit ≡ None → kind ≢ ReadLimitExceeded
-barred_unlimited p kind (inl astray) free = fault_unlimited p.message astray.0 p.level kind astray.2
-barred_unlimited p kind (inr met) free = absurd (met.1 free)
+unreadable_unlimited : (p : Pointer) (kind : ErrorKind) → Unreadable p kind → p.limit ≡ None → kind ≢ ReadLimitExceeded
+unreadable_unlimited p kind (inl invalid_pointer) free = fault_unlimited p.message invalid_pointer.0 p.nesting kind invalid_pointer.2
+unreadable_unlimited p kind (inr met) free = absurd (met.1 free)
 
 -- What a view declines it does not take; it declines it by one error, which is not the limit's.
 pub record Decides (takes : Form → Type 0) (declines : Form → ErrorKind → Type 0) : Type 0 where
@@ -86,38 +86,38 @@ module _ {V : Type 0} (p : Pointer) (takes : Form → Type 0) (declines : Form �
       decides.apart taken.0.form kind (subst (λ (x : Shape). declines x.form kind) same declined.2) taken.2
 
   refused_not_taken : (kind : ErrorKind) → Refuses p declines kind → p.limit ≡ None → Accepts p takes → ⊥
-  refused_not_taken kind (inl barred) free taken = barred_denotes_nothing p kind taken.0 barred free taken.1
+  refused_not_taken kind (inl unreadable) free taken = unreadable_denotes_nothing p kind taken.0 unreadable free taken.1
   refused_not_taken kind (inr declined) free taken = apart_there kind declined taken
 
   refused_unlimited : (kind : ErrorKind) → Refuses p declines kind → p.limit ≡ None → kind ≢ ReadLimitExceeded
-  refused_unlimited kind (inl barred) free = barred_unlimited p kind barred free
+  refused_unlimited kind (inl unreadable) free = unreadable_unlimited p kind unreadable free
   refused_unlimited kind (inr declined) free = decides.unlimited declined.0.form kind declined.2
 
   found : (r : Result V Error) → MatchResult r shows (λ e. Refuses p declines e.kind) → p.limit ≡ None → Accepts p takes → IsOk r
-  found (Ok v) answer free taken = refl
-  found (Err e) answer free taken = absurd (refused_not_taken e.kind answer free taken)
+  found (Ok v) returned free taken = refl
+  found (Err e) returned free taken = absurd (refused_not_taken e.kind returned free taken)
 
   unlimited : (r : Result V Error) → MatchResult r shows (λ e. Refuses p declines e.kind) → p.limit ≡ None → IfErr r (λ e. e.kind ≢ ReadLimitExceeded)
-  unlimited (Ok v) answer free = tt
-  unlimited (Err e) answer free = refused_unlimited e.kind answer free
+  unlimited (Ok v) returned free = tt
+  unlimited (Err e) returned free = refused_unlimited e.kind returned free
 
   -- where no object stands, by just the one error
-  refused_astray : (kind other : ErrorKind) → LeadsAstray p kind → Refuses p declines other → other ≡ kind
-  refused_astray kind other astray (inl (inl another)) =
+  refused_invalid_pointer : (kind other : ErrorKind) → IsInvalidPointer p kind → Refuses p declines other → other ≡ kind
+  refused_invalid_pointer kind other invalid_pointer (inl (inl another)) =
       let there : p.place ≡ Some another.0 = another.1 in
-      let it : p.place ≡ Some astray.0 = astray.1 in
-      let same : another.0 ≡ astray.0 = cc in
-      one_refusal p.message astray.0 p.level other kind (subst (λ (x : Place). Fault p.message x p.level other) same another.2) astray.2
-  refused_astray kind other astray (inl (inr met)) = absurd (astray_denotes_nothing p kind met.0.0 astray met.0.1)
-  refused_astray kind other astray (inr declined) = absurd (astray_denotes_nothing p kind declined.0 astray declined.1)
+      let it : p.place ≡ Some invalid_pointer.0 = invalid_pointer.1 in
+      let same : another.0 ≡ invalid_pointer.0 = cc in
+      one_refusal p.message invalid_pointer.0 p.nesting other kind (subst (λ (x : Place). Fault p.message x p.nesting other) same another.2) invalid_pointer.2
+  refused_invalid_pointer kind other invalid_pointer (inl (inr met)) = absurd (invalid_pointer_denotes_nothing p kind met.0.0 invalid_pointer met.0.1)
+  refused_invalid_pointer kind other invalid_pointer (inr declined) = absurd (invalid_pointer_denotes_nothing p kind declined.0 invalid_pointer declined.1)
 
-  exact : (r : Result V Error) → MatchResult r shows (λ e. Refuses p declines e.kind) → (kind : ErrorKind) → LeadsAstray p kind → IsErrAnd r (λ e. e.kind ≡ kind)
-  exact (Ok v) answer kind astray = let taken = shown v answer in absurd (astray_denotes_nothing p kind taken.0 astray taken.1)
-  exact (Err e) answer kind astray = refused_astray kind e.kind astray answer
+  exact : (r : Result V Error) → MatchResult r shows (λ e. Refuses p declines e.kind) → (kind : ErrorKind) → IsInvalidPointer p kind → IsErrAnd r (λ e. e.kind ≡ kind)
+  exact (Ok v) returned kind invalid_pointer = let taken = shown v returned in absurd (invalid_pointer_denotes_nothing p kind taken.0 invalid_pointer taken.1)
+  exact (Err e) returned kind invalid_pointer = refused_invalid_pointer kind e.kind invalid_pointer returned
 
   -- what a view declines, by the error that it declines it by, or by the limit
   refused_declined : (kind other : ErrorKind) → Declines p declines kind → Refuses p declines other → (other ≡ kind) ⊎ MeetsLimit p other
-  refused_declined kind other declined (inl (inl astray)) = absurd (astray_denotes_nothing p other declined.0 astray declined.1)
+  refused_declined kind other declined (inl (inl invalid_pointer)) = absurd (invalid_pointer_denotes_nothing p other declined.0 invalid_pointer declined.1)
   refused_declined kind other declined (inl (inr met)) = inr met
   refused_declined kind other declined (inr another) =
       let same : another.0 ≡ declined.0 = one_denoted p another.0 declined.0 another.1 declined.1 in
@@ -125,17 +125,17 @@ module _ {V : Type 0} (p : Pointer) (takes : Form → Type 0) (declines : Form �
 
   declined_is_err : (r : Result V Error) → MatchResult r shows (λ e. Refuses p declines e.kind) → (kind : ErrorKind) → Declines p declines kind
       → IsErrAnd r (λ e. (e.kind ≡ kind) ⊎ MeetsLimit p e.kind)
-  declined_is_err (Ok v) answer kind declined = absurd (apart_there kind declined (shown v answer))
-  declined_is_err (Err e) answer kind declined = refused_declined kind e.kind declined answer
+  declined_is_err (Ok v) returned kind declined = absurd (apart_there kind declined (shown v returned))
+  declined_is_err (Err e) returned kind declined = refused_declined kind e.kind declined returned
 
   pub is_view_of : (r : Result V Error) → MatchResult r shows (λ e. Refuses p declines e.kind)
       → IsViewOf p shows (Accepts p takes) (Refuses p declines) (Declines p declines) r
-  is_view_of r answer = record {
-    answer = answer;
-    found = found r answer;
-    unlimited = unlimited r answer;
-    exact = λ kind astray untaken. exact r answer kind astray;
-    declined = declined_is_err r answer;
+  is_view_of r returned = record {
+    returned = returned;
+    found = found r returned;
+    unlimited = unlimited r returned;
+    exact = λ kind invalid_pointer untaken. exact r returned kind invalid_pointer;
+    declined = declined_is_err r returned;
   }
 
 wrong_kind_unlimited : (kind : ErrorKind) → kind ≡ WrongPointerKind → kind ≢ ReadLimitExceeded

@@ -6,7 +6,7 @@ use Rattle.capnp_frame.specs.declared.error.Error.{Error}
 use Rattle.capnp_frame.specs.declared.error.ErrorKind.{ErrorKind}
 use Rattle.capnp_frame.specs.declared.error.ErrorKind.TheVariants.{AllocationTooLarge}
 use Rattle.capnp_wire.specs.Tree.{total_words}
-use Rattle.capnp_wire.specs.Charge.{Within, TreesAt, TreesWithRoom, Walked}
+use Rattle.capnp_wire.specs.Traversed.{Within, TreesAt, TreesWithRoom, Walked}
 use Rattle.capnp_wire.specs.Faults.{StopsWalk}
 use Rattle.capnp_wire.specs.Views.{Pointer, Measures, Unmeasured}
 use Rattle.capnp_wire.specs.declared.layout.place.Place.{Place}
@@ -16,39 +16,39 @@ use Rattle.capnp_wire.proofs.walks.StopLemmas.{stops_has_no_trees, one_stop}
 
 pub measures_nothing : (p : Pointer) → p.place ≡ None → Measures p 0
 measures_nothing p e =
-    subst (λ (o : Option Place). MatchOption o (◌≡◌ {A = ℕ} 0 0) (λ place. (charge : ℕ) × TreesAt p.message (place ∷ []) p.level charge 0 × Within p.limit charge)) (sym e) refl
+    subst (λ (o : Option Place). MatchOption o (◌≡◌ {A = ℕ} 0 0) (λ place. (traversed : ℕ) × TreesAt p.message (place ∷ []) p.nesting traversed 0 × Within p.limit traversed)) (sym e) refl
 
-pub measures_at : (p : Pointer) (place : Place) (words charge : ℕ) → p.place ≡ Some place → TreesAt p.message (place ∷ []) p.level charge words → Within p.limit charge → Measures p words
-measures_at p place words charge e s w =
-    subst (λ (o : Option Place). MatchOption o (words ≡ 0) (λ at. (c : ℕ) × TreesAt p.message (at ∷ []) p.level c words × Within p.limit c)) (sym e) (charge, s, w)
+pub measures_at : (p : Pointer) (place : Place) (words traversed : ℕ) → p.place ≡ Some place → TreesAt p.message (place ∷ []) p.nesting traversed words → Within p.limit traversed → Measures p words
+measures_at p place words traversed e s w =
+    subst (λ (o : Option Place). MatchOption o (words ≡ 0) (λ at. (c : ℕ) × TreesAt p.message (at ∷ []) p.nesting c words × Within p.limit c)) (sym e) (traversed, s, w)
 
-measured_there : (p : Pointer) (place : Place) (words : ℕ) → p.place ≡ Some place → Measures p words → (c : ℕ) × TreesAt p.message (place ∷ []) p.level c words × Within p.limit c
+measured_there : (p : Pointer) (place : Place) (words : ℕ) → p.place ≡ Some place → Measures p words → (c : ℕ) × TreesAt p.message (place ∷ []) p.nesting c words × Within p.limit c
 measured_there p place words e m =
-    subst (λ (o : Option Place). MatchOption o (words ≡ 0) (λ at. (c : ℕ) × TreesAt p.message (at ∷ []) p.level c words × Within p.limit c)) e m
+    subst (λ (o : Option Place). MatchOption o (words ≡ 0) (λ at. (c : ℕ) × TreesAt p.message (at ∷ []) p.nesting c words × Within p.limit c)) e m
 
-pub walked_as : (m : List (List ℕ)) (place : Place) (level : ℕ) (limit limit_is left counted counted_is now now_is : Option ℕ) → limit ≡ limit_is → counted ≡ counted_is → now ≡ now_is
-    → Walked m false place level limit left counted now → Walked m false place level limit_is left counted_is now_is
-walked_as m place level limit limit_is left counted counted_is now now_is e f g w =
-    subst (λ (x : Option ℕ). Walked m false place level limit_is left counted_is x) g
-    (subst (λ (x : Option ℕ). Walked m false place level limit_is left x now) f
-    (subst (λ (x : Option ℕ). Walked m false place level x left counted now) e w))
+pub walked_as : (m : List (List ℕ)) (place : Place) (nesting : ℕ) (limit limit_is left counted counted_is now now_is : Option ℕ) → limit ≡ limit_is → counted ≡ counted_is → now ≡ now_is
+    → Walked m false place nesting limit left counted now → Walked m false place nesting limit_is left counted_is now_is
+walked_as m place nesting limit limit_is left counted counted_is now now_is e f g w =
+    subst (λ (x : Option ℕ). Walked m false place nesting limit_is left counted_is x) g
+    (subst (λ (x : Option ℕ). Walked m false place nesting limit_is left x now) f
+    (subst (λ (x : Option ℕ). Walked m false place nesting x left counted now) e w))
 
-as_stood : (m : List (List ℕ)) (place : Place) (level charge words : ℕ) → TreesWithRoom m (place ∷ []) level charge false words → TreesAt m (place ∷ []) level charge words
-as_stood m place level charge words s = record { trees = s.trees; stand = s.stand; shallow = s.shallow; words_are = s.words_are }
+as_stood : (m : List (List ℕ)) (place : Place) (nesting traversed words : ℕ) → TreesWithRoom m (place ∷ []) nesting traversed false words → TreesAt m (place ∷ []) nesting traversed words
+as_stood m place nesting traversed words s = record { trees = s.trees; stand = s.stand; shallow = s.shallow; words_are = s.words_are }
 
-pub walk_measures : (p : Pointer) (place : Place) (words : ℕ) (left : Option ℕ) → p.place ≡ Some place → Walked p.message false place p.level p.limit left (Some 0) (Some words) → Measures p words
+pub walk_measures : (p : Pointer) (place : Place) (words : ℕ) (left : Option ℕ) → p.place ≡ Some place → Walked p.message false place p.nesting p.limit left (Some 0) (Some words) → Measures p words
 walk_measures p place words left e w =
     let counted : words ≡ 0 + w.words = w.counted 0 refl in
     let same : w.words ≡ words = omega arith in
-    measures_at p place words w.charge e (subst (λ (n : ℕ). TreesAt p.message (place ∷ []) p.level w.charge n) same (as_stood p.message place p.level w.charge w.words w.stand)) w.within
+    measures_at p place words w.traversed e (subst (λ (n : ℕ). TreesAt p.message (place ∷ []) p.nesting w.traversed n) same (as_stood p.message place p.nesting w.traversed w.words w.stand)) w.within
 
-pub walk_overflows : (p : Pointer) (place : Place) (left : Option ℕ) (kind : ErrorKind) → p.place ≡ Some place → Walked p.message false place p.level p.limit left (Some 0) None
+pub walk_overflows : (p : Pointer) (place : Place) (left : Option ℕ) (kind : ErrorKind) → p.place ≡ Some place → Walked p.message false place p.nesting p.limit left (Some 0) None
     → kind ≡ AllocationTooLarge (2 ^ 32 - 1) → Unmeasured p kind
 walk_overflows p place left kind e w is =
     let counted : 2 ^ 64 ≤ 0 + w.words = w.counted 0 refl in
-    (place, e, inr (w.words, measures_at p place w.words w.charge e (as_stood p.message place p.level w.charge w.words w.stand) w.within, omega arith, is))
+    (place, e, inr (w.words, measures_at p place w.words w.traversed e (as_stood p.message place p.nesting w.traversed w.words w.stand) w.within, omega arith, is))
 
-pub walk_stops : (p : Pointer) (place : Place) (kind : ErrorKind) → p.place ≡ Some place → StopsWalk p.message (place ∷ []) p.level p.limit kind → Unmeasured p kind
+pub walk_stops : (p : Pointer) (place : Place) (kind : ErrorKind) → p.place ≡ Some place → StopsWalk p.message (place ∷ []) p.nesting p.limit kind → Unmeasured p kind
 walk_stops p place kind e stops = (place, e, inl stops)
 
 same_words : (p : Pointer) (place : Place) (v w : ℕ) → p.place ≡ Some place → Measures p v → Measures p w → v ≡ w
@@ -58,13 +58,13 @@ same_words p place v w e a b =
     let same = one_tree p.message (place ∷ []) x.1.trees y.1.trees x.0 y.0 x.1.stand y.1.stand in
     sym x.1.words_are ∙ ap total_words same.0 ∙ y.1.words_are
 
-stops_unmeasured : (p : Pointer) (place : Place) (words : ℕ) (kind : ErrorKind) → p.place ≡ Some place → Measures p words → StopsWalk p.message (place ∷ []) p.level p.limit kind → ⊥
+stops_unmeasured : (p : Pointer) (place : Place) (words : ℕ) (kind : ErrorKind) → p.place ≡ Some place → Measures p words → StopsWalk p.message (place ∷ []) p.nesting p.limit kind → ⊥
 stops_unmeasured p place words kind e m stops =
     let x = measured_there p place words e m in
-    stops_has_no_trees p.message (place ∷ []) p.level x.0 p.limit kind x.1.trees stops x.1.stand x.1.shallow x.2
+    stops_has_no_trees p.message (place ∷ []) p.nesting x.0 p.limit kind x.1.trees stops x.1.stand x.1.shallow x.2
 
 stops_or_measures : (p : Pointer) (place : Place) (words : ℕ) (kind : ErrorKind) → p.place ≡ Some place → Measures p words → words < 2 ^ 64
-    → StopsWalk p.message (place ∷ []) p.level p.limit kind ⊎ ((n : ℕ) × Measures p n × (2 ^ 64 ≤ n) × (kind ≡ AllocationTooLarge (2 ^ 32 - 1))) → ⊥
+    → StopsWalk p.message (place ∷ []) p.nesting p.limit kind ⊎ ((n : ℕ) × Measures p n × (2 ^ 64 ≤ n) × (kind ≡ AllocationTooLarge (2 ^ 32 - 1))) → ⊥
 stops_or_measures p place words kind e m small (inl stops) = stops_unmeasured p place words kind e m stops
 stops_or_measures p place words kind e m small (inr large) =
     let same : words ≡ large.0 = same_words p place words large.0 e m large.1 in
@@ -76,10 +76,10 @@ measured_is_ok p shows (Ok v) found words m small = refl
 measured_is_ok p shows (Err e) refused words m small = absurd (stops_or_measures p refused.0 words e.kind refused.1 m small refused.2)
 
 one_way_to_stop : (p : Pointer) (place : Place) (a b : ErrorKind) → p.place ≡ Some place
-    → StopsWalk p.message (place ∷ []) p.level p.limit a ⊎ ((n : ℕ) × Measures p n × (2 ^ 64 ≤ n) × (a ≡ AllocationTooLarge (2 ^ 32 - 1)))
-    → StopsWalk p.message (place ∷ []) p.level p.limit b ⊎ ((n : ℕ) × Measures p n × (2 ^ 64 ≤ n) × (b ≡ AllocationTooLarge (2 ^ 32 - 1)))
+    → StopsWalk p.message (place ∷ []) p.nesting p.limit a ⊎ ((n : ℕ) × Measures p n × (2 ^ 64 ≤ n) × (a ≡ AllocationTooLarge (2 ^ 32 - 1)))
+    → StopsWalk p.message (place ∷ []) p.nesting p.limit b ⊎ ((n : ℕ) × Measures p n × (2 ^ 64 ≤ n) × (b ≡ AllocationTooLarge (2 ^ 32 - 1)))
     → a ≡ b
-one_way_to_stop p place a b e (inl stops) (inl others) = one_stop p.message (place ∷ []) p.level p.limit a b stops others
+one_way_to_stop p place a b e (inl stops) (inl others) = one_stop p.message (place ∷ []) p.nesting p.limit a b stops others
 one_way_to_stop p place a b e (inl stops) (inr large) = absurd (stops_unmeasured p place large.0 a e large.1 stops)
 one_way_to_stop p place a b e (inr large) (inl stops) = absurd (stops_unmeasured p place large.0 b e large.1 stops)
 one_way_to_stop p place a b e (inr large) (inr others) = large.3 ∙ sym others.3
@@ -90,7 +90,7 @@ one_unmeasured p a b x y =
     let there_too = y.1 in
     let same : y.0 ≡ x.0 = cc in
     one_way_to_stop p x.0 a b x.1 x.2
-    (subst (λ (place : Place). StopsWalk p.message (place ∷ []) p.level p.limit b ⊎ ((n : ℕ) × Measures p n × (2 ^ 64 ≤ n) × (b ≡ AllocationTooLarge (2 ^ 32 - 1)))) same y.2)
+    (subst (λ (place : Place). StopsWalk p.message (place ∷ []) p.nesting p.limit b ⊎ ((n : ℕ) × Measures p n × (2 ^ 64 ≤ n) × (b ≡ AllocationTooLarge (2 ^ 32 - 1)))) same y.2)
 
 pub unmeasured_is_err : (p : Pointer) (r : Result MessageSize Error) → MatchResult r (λ size. Measures p size.word_count × (size.cap_count ≡ 0)) (λ e. Unmeasured p e.kind)
     → IfOk r (λ size. size.word_count < 2 ^ 64) → (kind : ErrorKind) → Unmeasured p kind → IsErrAnd r (λ e. e.kind ≡ kind)

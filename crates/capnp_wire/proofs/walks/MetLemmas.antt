@@ -7,7 +7,7 @@ use Rattle.capnp_frame.specs.declared.error.ErrorKind.TheVariants.{ReadLimitExce
 use Rattle.capnp_wire.specs.Pointer.{pointer_kind, offset, words_of}
 use Rattle.capnp_wire.specs.Tree.{is_null}
 use Rattle.capnp_wire.specs.Object.{word_at}
-use Rattle.capnp_wire.specs.Charge.{Within, Exceeds, less}
+use Rattle.capnp_wire.specs.Traversed.{Within, Exceeds, less}
 use Rattle.capnp_wire.specs.Rows.{places_in, end_of}
 use Rattle.capnp_wire.specs.Faults.{NoWord, Fault, no_word}
 use Rattle.capnp_wire.specs.Layout.{minus_one}
@@ -36,16 +36,16 @@ not_far_at segment word pointer there not_far f =
     not_far (ap pointer_kind (sym same) ∙ f.2)
 
 -- what is read of it
-pub record Met (segment : List ℕ) (word level next pointer : ℕ) (limit : Option ℕ) (object : ReadObject) : Type 0 where
+pub record Met (segment : List ℕ) (word nesting next pointer : ℕ) (limit : Option ℕ) (object : ReadObject) : Type 0 where
   pub there : slice_get segment word ≡ Some pointer
   pub near : ReadNear segment word pointer object
-  pub deep : 0 < level
-  pub meets : Within limit object.charge → MeetsObject segment (record { segment = 0; word = word }) level limit (shape_as segment object)
+  pub deep : 0 < nesting
+  pub meets : Within limit object.traversed → MeetsObject segment (record { segment = 0; word = word }) nesting limit (shape_as segment object)
 
-pub met : (segment : List ℕ) (m : List (List ℕ)) (word level next pointer : ℕ) (limit : Option ℕ) (object : ReadObject) → m ≡ segment ∷ [] → IsObject m (record { segment = 0; word = word }) object
-    → length (words_of object.segment.now) ≡ length object.segment.now / 8 → word_at m (record { segment = 0; word = word }) ≡ Some pointer → (pointer_kind pointer ≡ 2 → ⊥) → 0 < level
-    → Met segment word level next pointer limit object
-met segment m word level next pointer limit object one found long there not_far deep =
+pub met : (segment : List ℕ) (m : List (List ℕ)) (word nesting next pointer : ℕ) (limit : Option ℕ) (object : ReadObject) → m ≡ segment ∷ [] → IsObject m (record { segment = 0; word = word }) object
+    → length (words_of object.segment.now) ≡ length object.segment.now / 8 → word_at m (record { segment = 0; word = word }) ≡ Some pointer → (pointer_kind pointer ≡ 2 → ⊥) → 0 < nesting
+    → Met segment word nesting next pointer limit object
+met segment m word nesting next pointer limit object one found long there not_far deep =
     let here : slice_get segment word ≡ Some pointer = subst (λ (x : List (List ℕ)). word_at x (record { segment = 0; word = word }) ≡ Some pointer) one there in
     let r = read_near segment word pointer object (subst (λ (x : List (List ℕ)). IsObject x (record { segment = 0; word = word }) object) one found) long here not_far in
     record {
@@ -62,26 +62,26 @@ met segment m word level next pointer limit object one found long there not_far 
     }
 
 -- its tests, done on its own segment
-tests_as : {segment : List ℕ} {word level next pointer : ℕ} {limit : Option ℕ} {object : ReadObject} → Met segment word level next pointer limit object → word < next
+tests_as : {segment : List ℕ} {word nesting next pointer : ℕ} {limit : Option ℕ} {object : ReadObject} → Met segment word nesting next pointer limit object → word < next
     → (NextOf pointer word next object.body × PaddedOf segment next object.body
     × IsTight (shape_of (words_of object.segment.now) object.start object.body).form (links_at (words_of object.segment.now) (shape_of (words_of object.segment.now) object.start object.body).held))
     ↔ IsLaidOut segment (record { segment = 0; word = word }) next (shape_as segment object)
-tests_as {segment} {word} {level} {next} {pointer} {limit} {object} m before =
+tests_as {segment} {word} {nesting} {next} {pointer} {limit} {object} m before =
     let e = laid_out_is segment word pointer next object m.near before m.there in
     let tight : List ℕ → Type 0 = λ l. IsTight (shape_of l object.start object.body).form (links_at l (shape_of l object.start object.body).held) in (
       λ t. e.0 (t.0, t.1, subst tight m.near.content t.2),
       λ l. let t = e.1 l in (t.0, t.1, subst tight (sym m.near.content) t.2),
     )
 
--- what the test of these answers says of it, where the segment has so many words
-pub tests_say : {segment : List ℕ} {word level next pointer there : ℕ} {limit : Option ℕ} {object : ReadObject} (answer : Bool)
-    → Met segment word level next pointer limit object
+-- what the test of these returns says of it, where the segment has a given number of words
+pub tests_say : {segment : List ℕ} {word nesting next pointer there : ℕ} {limit : Option ℕ} {object : ReadObject} (returned : Bool)
+    → Met segment word nesting next pointer limit object
     → word < next → next ≤ there → length segment ≡ there
     → ((NextOf pointer word next object.body → next + words_in object.body ≤ there)
-    → IsTrue answer ↔ (NextOf pointer word next object.body × PaddedOf segment next object.body
+    → IsTrue returned ↔ (NextOf pointer word next object.body × PaddedOf segment next object.body
     × IsTight (shape_of (words_of object.segment.now) object.start object.body).form (links_at (words_of object.segment.now) (shape_of (words_of object.segment.now) object.start object.body).held)))
-    → IsTrue answer ↔ IsLaidOut segment (record { segment = 0; word = word }) next (shape_as segment object)
-tests_say {segment} {word} {level} {next} {pointer} {there} {limit} {object} answer m before within long said =
+    → IsTrue returned ↔ IsLaidOut segment (record { segment = 0; word = word }) next (shape_as segment object)
+tests_say {segment} {word} {nesting} {next} {pointer} {there} {limit} {object} returned m before within long said =
     let inside : next ≤ length segment = omega (arith, within, long) in
     let tests = said (λ is. omega (arith, long, read_room segment word pointer next object m.near before inside is)) in
     let laid = tests_as m before in
@@ -105,22 +105,22 @@ start_of (Pointers count) word next pointer start before target is = let at = le
 start_of (Structs e more) word next pointer start before target is = let at = lead_start word next start (offset pointer) before is.0 target in omega arith
 
 -- its words end where the next free word is then
-met_end : {segment : List ℕ} {word level next pointer : ℕ} {limit : Option ℕ} {object : ReadObject} → Met segment word level next pointer limit object → word < next
+met_end : {segment : List ℕ} {word nesting next pointer : ℕ} {limit : Option ℕ} {object : ReadObject} → Met segment word nesting next pointer limit object → word < next
     → NextOf pointer word next object.body
     → object.start.word + words_in object.body ≤ next + words_in object.body
-met_end {segment} {word} {level} {next} {pointer} {limit} {object} m before is =
+met_end {segment} {word} {nesting} {next} {pointer} {limit} {object} m before is =
     let start = start_of object.body word next pointer object.start.word before m.near.target is in
     omega arith
 
 -- it stands as the canonical form has it, and its pointers are to be tested yet
-pub met_pointers : {segment : List ℕ} {word level next pointer : ℕ} {limit : Option ℕ} {object : ReadObject} (left : Option ℕ) (more : ℕ) (pointers : PointerRows)
-    → Met segment word level next pointer limit object → word < next → next ≤ length segment
+pub met_pointers : {segment : List ℕ} {word nesting next pointer : ℕ} {limit : Option ℕ} {object : ReadObject} (left : Option ℕ) (more : ℕ) (pointers : PointerRows)
+    → Met segment word nesting next pointer limit object → word < next → next ≤ length segment
     → IsLaidOut segment (record { segment = 0; word = word }) next (shape_as segment object)
-    → Within limit object.charge → left ≡ less limit object.charge → more ≡ words_in object.body
+    → Within limit object.traversed → left ≡ less limit object.traversed → more ≡ words_in object.body
     → places_in pointers ≡ (shape_of (words_of object.segment.now) object.start object.body).held → pointers.next.segment ≡ object.start.segment
     → end_of pointers ≤ object.start.word + words_in object.body
-    → MeetsPointers segment (record { segment = 0; word = word }) level limit left next (next + more) pointers
-met_pointers {segment} {word} {level} {next} {pointer} {limit} {object} left more pointers m before within laid fits left_is more_is places_are first end =
+    → MeetsPointers segment (record { segment = 0; word = word }) nesting limit left next (next + more) pointers
+met_pointers {segment} {word} {nesting} {next} {pointer} {limit} {object} left more pointers m before within laid fits left_is more_is places_are first end =
     let passed = (tests_as m before).1 laid in
     let room = read_room segment word pointer next object m.near before within passed.0 in
     let ends = met_end m before passed.0 in
@@ -138,24 +138,24 @@ met_pointers {segment} {word} {level} {next} {pointer} {limit} {object} left mor
     }
 
 -- refusals
-pub no_word_ends : (segment : List ℕ) (m : List (List ℕ)) (word level next : ℕ) (limit : Option ℕ) (kind : ErrorKind) → m ≡ segment ∷ [] → NoWord m (record { segment = 0; word = word }) kind
-    → Ends segment (record { segment = 0; word = word } ∷ []) level limit next (refused kind)
-no_word_ends segment m word level next limit kind one none =
+pub no_word_ends : (segment : List ℕ) (m : List (List ℕ)) (word nesting next : ℕ) (limit : Option ℕ) (kind : ErrorKind) → m ≡ segment ∷ [] → NoWord m (record { segment = 0; word = word }) kind
+    → Ends segment (record { segment = 0; word = word } ∷ []) nesting limit next (refused kind)
+no_word_ends segment m word nesting next limit kind one none =
     let here : NoWord (segment ∷ []) (record { segment = 0; word = word }) kind = subst (λ (x : List (List ℕ)). NoWord x (record { segment = 0; word = word }) kind) one none in
     at_pointer (λ f. (let past = no_word_there (segment ∷ []) (record { segment = 0; word = word }) kind here in let there = f.1 in cc)) (no_word here)
 
-pub fault_ends : (segment : List ℕ) (m : List (List ℕ)) (word level next pointer : ℕ) (limit : Option ℕ) (kind : ErrorKind) → m ≡ segment ∷ []
+pub fault_ends : (segment : List ℕ) (m : List (List ℕ)) (word nesting next pointer : ℕ) (limit : Option ℕ) (kind : ErrorKind) → m ≡ segment ∷ []
     → word_at m (record { segment = 0; word = word }) ≡ Some pointer
-    → (pointer_kind pointer ≡ 2 → ⊥) → Fault m (record { segment = 0; word = word }) level kind → Ends segment (record { segment = 0; word = word } ∷ []) level limit next (refused kind)
-fault_ends segment m word level next pointer limit kind one there not_far fault =
+    → (pointer_kind pointer ≡ 2 → ⊥) → Fault m (record { segment = 0; word = word }) nesting kind → Ends segment (record { segment = 0; word = word } ∷ []) nesting limit next (refused kind)
+fault_ends segment m word nesting next pointer limit kind one there not_far fault =
     let here : slice_get segment word ≡ Some pointer = subst (λ (x : List (List ℕ)). word_at x (record { segment = 0; word = word }) ≡ Some pointer) one there in
-    at_pointer (not_far_at segment word pointer here not_far) (subst (λ (x : List (List ℕ)). Fault x (record { segment = 0; word = word }) level kind) one fault)
+    at_pointer (not_far_at segment word pointer here not_far) (subst (λ (x : List (List ℕ)). Fault x (record { segment = 0; word = word }) nesting kind) one fault)
 
-pub limit_ends : {segment : List ℕ} {word level next pointer : ℕ} {limit : Option ℕ} {object : ReadObject} (kind : ErrorKind) → Met segment word level next pointer limit object
-    → (pointer_kind pointer ≡ 2 → ⊥) → 0 < level
-    → Exceeds limit object.charge → kind ≡ ReadLimitExceeded → Ends segment (record { segment = 0; word = word } ∷ []) level limit next (refused kind)
-limit_ends {segment} {word} {level} {next} {pointer} {limit} {object} kind m not_far deep past is =
-    let there : Ends segment (record { segment = 0; word = word } ∷ []) level (Some past.0) next (refused ReadLimitExceeded) =
+pub limit_ends : {segment : List ℕ} {word nesting next pointer : ℕ} {limit : Option ℕ} {object : ReadObject} (kind : ErrorKind) → Met segment word nesting next pointer limit object
+    → (pointer_kind pointer ≡ 2 → ⊥) → 0 < nesting
+    → Exceeds limit object.traversed → kind ≡ ReadLimitExceeded → Ends segment (record { segment = 0; word = word } ∷ []) nesting limit next (refused kind)
+limit_ends {segment} {word} {nesting} {next} {pointer} {limit} {object} kind m not_far deep past is =
+    let there : Ends segment (record { segment = 0; word = word } ∷ []) nesting (Some past.0) next (refused ReadLimitExceeded) =
     over_limit (not_far_at segment word pointer m.there not_far) m.near.object_is deep past.2 in
-    subst (λ (l : Option ℕ). Ends segment (record { segment = 0; word = word } ∷ []) level l next (refused kind)) (sym past.1)
-    (subst (λ (k : ErrorKind). Ends segment (record { segment = 0; word = word } ∷ []) level (Some past.0) next (refused k)) (sym is) there)
+    subst (λ (l : Option ℕ). Ends segment (record { segment = 0; word = word } ∷ []) nesting l next (refused kind)) (sym past.1)
+    (subst (λ (k : ErrorKind). Ends segment (record { segment = 0; word = word } ∷ []) nesting (Some past.0) next (refused k)) (sym is) there)

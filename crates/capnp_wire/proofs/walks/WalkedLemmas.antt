@@ -21,13 +21,13 @@ pub record Laid (segment : List ℕ) (base : ℕ) (slots : List ℕ) (next : ℕ
   pub linked : Linked segment base slots (pointers_to slots next trees)
   pub stand : Holds segment (base + next) (body trees)
 
-pub laid_of_tidy : (segment : List ℕ) (base : ℕ) (slots : List ℕ) (next : ℕ) (trees : Trees) (charge : ℕ) → At (segment ∷ []) (placed 0 base slots) trees charge → AllHaveRoom trees
+pub laid_of_tidy : (segment : List ℕ) (base : ℕ) (slots : List ℕ) (next : ℕ) (trees : Trees) (traversed : ℕ) → At (segment ∷ []) (placed 0 base slots) trees traversed → AllHaveRoom trees
     → length slots ≡ count trees → Before next slots → base + next + total_words trees ≤ length segment → Tidy segment (placed 0 base slots) (base + next) trees → Laid segment base slots next trees
-laid_of_tidy segment base [] next none charge stands room long before within tidy = record { linked = refl; stand = holds_none segment (base + next) (omega arith) }
-laid_of_tidy segment base (slot ∷ more) next none charge stands room long before within tidy = absurd (omega arith)
-laid_of_tidy segment base [] next (tree form held rest) charge stands room long before within tidy = absurd (omega arith)
-laid_of_tidy segment base (slot ∷ more) next (tree form held rest) charge stands room long before within tidy =
-    let parts = at_parts (segment ∷ []) (record { segment = 0; word = base + slot }) (placed 0 base more) form held rest charge stands in
+laid_of_tidy segment base [] next none traversed stands room long before within tidy = record { linked = refl; stand = holds_none segment (base + next) (omega arith) }
+laid_of_tidy segment base (slot ∷ more) next none traversed stands room long before within tidy = absurd (omega arith)
+laid_of_tidy segment base [] next (tree form held rest) traversed stands room long before within tidy = absurd (omega arith)
+laid_of_tidy segment base (slot ∷ more) next (tree form held rest) traversed stands room long before within tidy =
+    let parts = at_parts (segment ∷ []) (record { segment = 0; word = base + slot }) (placed 0 base more) form held rest traversed stands in
     let many : length parts.places ≡ count held = sym (count_at (segment ∷ []) parts.places held parts.inside parts.inner) in
     let first : slot < next = before.0 in
     let own_room : HasRoom form (length parts.places) = subst (λ (n : ℕ). HasRoom form n) (sym many) room.0 in
@@ -36,13 +36,13 @@ laid_of_tidy segment base (slot ∷ more) next (tree form held rest) charge stan
     let reach : Reaches form (length parts.places) (base + next - (base + slot + 1)) = subst (λ (n : ℕ). Reaches form n (base + next - (base + slot + 1))) (sym many) tidy.1 in
     let exact : Exactly segment (base + next) form parts.places (count held) =
     subst (λ (n : ℕ). Exactly segment (base + next) form parts.places n) many
-    (tidy_object segment (base + slot) (base + next) form parts.places parts.charge (omega arith) (omega arith) own_room there reach tidy.2 parts.object) in
+    (tidy_object segment (base + slot) (base + next) form parts.places parts.traversed (omega arith) (omega arith) own_room there reach tidy.2 parts.object) in
     let inner_at : At (segment ∷ []) (placed 0 (base + next) (slots form (count held))) held parts.inside = subst (λ (l : List Place). At
     (segment ∷ []) l held parts.inside) exact.held_is parts.inner in
     let inner = laid_of_tidy segment (base + next) (slots form (count held)) (own_words form (count held)) held parts.inside inner_at room.1
     (length-slots form (count held) room.0) (slots_before form (count held) room.0) (omega arith) tidy.3 in
     let onward : base + next + own_words form (count held) + total_words held ≡ base + (next + own_words form (count held) + total_words held) = omega arith in
-    let behind = laid_of_tidy segment base more (next + own_words form (count held) + total_words held) rest parts.behind parts.after room.2 (omega arith)
+    let following = laid_of_tidy segment base more (next + own_words form (count held) + total_words held) rest parts.following parts.after room.2 (omega arith)
     (before_more next (next + own_words form (count held) + total_words held) more (omega arith) before.1) (omega arith)
     (subst (λ (n : ℕ). Tidy segment (placed 0 base more) n rest) onward tidy.4) in
     let offsets : base + next - (base + slot + 1) ≡ next - (slot + 1) = omega arith in
@@ -51,9 +51,9 @@ laid_of_tidy segment base (slot ∷ more) next (tree form held rest) charge stan
     let front : Holds segment (base + next) (own form (links_of form held) ++ body held) =
     holds_join segment (base + next) (base + next + own_words form (count held)) (own form (links_of form held)) (body held) (omega arith) own_there inner.stand in
     record {
-      linked = (subst (λ (o : ℕ). slice_get segment (base + slot) ≡ Some (pointer form (count held) o)) offsets tidy.0, behind.linked);
+      linked = (subst (λ (o : ℕ). slice_get segment (base + slot) ≡ Some (pointer form (count held) o)) offsets tidy.0, following.linked);
       stand = holds_join segment (base + next) (base + (next + own_words form (count held) + total_words held)) (own form (links_of form held) ++ body held) (body rest)
-          (omega (arith, length-append (own form (links_of form held)) (body held), length-body held room.1)) front behind.stand;
+          (omega (arith, length-append (own form (links_of form held)) (body held), length-body held room.1)) front following.stand;
     }
 
 padded_own : (segment : List ℕ) (start : ℕ) (form : Form) (links : List ℕ) → Holds segment start (own form links) → Padded segment start form
@@ -77,11 +77,11 @@ tidy_of_laid segment base (slot ∷ more) next (tree form held rest) reach room 
     let onward : base + (next + own_words form (count held) + total_words held) ≡ base + next + own_words form (count held) + total_words held = omega arith in
     let inner = tidy_of_laid segment (base + next) (slots form (count held)) (own_words form (count held)) held reach.1 room.1 (length-slots form (count held) room.0) (slots_before form
     (count held) room.0) f.linked f.inner in
-    let behind = tidy_of_laid segment base more (next + own_words form (count held) + total_words held) rest reach.2 room.2 (omega arith)
+    let following = tidy_of_laid segment base more (next + own_words form (count held) + total_words held) rest reach.2 room.2 (omega arith)
     (before_more next (next + own_words form (count held) + total_words held) more (omega arith) before.1) linked.1 f.others in (
       subst (λ (o : ℕ). slice_get segment (base + slot) ≡ Some (pointer form (count held) o)) offsets linked.0,
       subst (λ (o : ℕ). Reaches form (count held) o) offsets reach.0,
       padded_own segment (base + next) form (links_of form held) f.words,
       inner,
-      subst (λ (n : ℕ). Tidy segment (placed 0 base more) n rest) onward behind,
+      subst (λ (n : ℕ). Tidy segment (placed 0 base more) n rest) onward following,
     )

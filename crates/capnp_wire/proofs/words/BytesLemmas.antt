@@ -53,9 +53,9 @@ padded bytes k n fits long =
 pub bytes_written : (bytes block new : List ℕ) (word : Word) → ((j : ℕ) → slice_index_or bytes j 0 < 256) → length block ≡ 8 * words_for (length bytes) 8 → block ≡ replicate (length block) 0
     → new ≡ bytes ++ drop (length bytes) block → number_of 256 (bytes_of word) ≡ list_pointer 0 2 (length bytes) → pointed word new ≡ layout (tree (numbers 2 bytes) none none)
 bytes_written bytes block new word fits room zeros new_is pointer_is =
-    let behind : drop (length bytes) block ≡ replicate (length block - length bytes) 0 = ap (λ (l : List ℕ). drop (length bytes) l) zeros ∙ drop_zeros (length bytes) (length block) in
+    let following : drop (length bytes) block ≡ replicate (length block - length bytes) 0 = ap (λ (l : List ℕ). drop (length bytes) l) zeros ∙ drop_zeros (length bytes) (length block) in
     let words : words_of new ≡ own (numbers 2 bytes) [] =
-    ap words_of (new_is ∙ ap (λ (l : List ℕ). bytes ++ l) behind) ∙ padded bytes (length block - length bytes) (words_for (length bytes) 8) fits (omega arith) in
+    ap words_of (new_is ∙ ap (λ (l : List ℕ). bytes ++ l) following) ∙ padded bytes (length block - length bytes) (words_for (length bytes) 8) fits (omega arith) in
     ap (λ (n : ℕ). n ∷ words_of new) pointer_is
     ∙ ap (λ (l : List ℕ). list_pointer 0 2 (length bytes) ∷ l) (words ∙ sym (append-nil (own (numbers 2 bytes) [] ++ []) ∙ append-nil (own (numbers 2 bytes) [])))
 
@@ -70,10 +70,10 @@ long_end bytes = length-append bytes (0 ∷ [])
 pub text_written : (bytes block new : List ℕ) (word : Word) → ((j : ℕ) → slice_index_or bytes j 0 < 256) → length block ≡ 8 * words_for (length bytes + 1) 8 → block ≡ replicate (length block) 0
     → new ≡ bytes ++ drop (length bytes) block → number_of 256 (bytes_of word) ≡ list_pointer 0 2 (length bytes + 1) → pointed word new ≡ layout (tree (numbers 2 (bytes ++ 0 ∷ [])) none none)
 text_written bytes block new word fits room zeros new_is pointer_is =
-    let behind : drop (length bytes) block ≡ replicate (length block - length bytes) 0 = ap (λ (l : List ℕ). drop (length bytes) l) zeros ∙ drop_zeros (length bytes) (length block) in
+    let following : drop (length bytes) block ≡ replicate (length block - length bytes) 0 = ap (λ (l : List ℕ). drop (length bytes) l) zeros ∙ drop_zeros (length bytes) (length block) in
     let long = long_end bytes in
     let words : words_of new ≡ own (numbers 2 (bytes ++ 0 ∷ [])) [] =
-    ap words_of (new_is ∙ ap (λ (l : List ℕ). bytes ++ l) behind) ∙ padded bytes (length block - length bytes) (words_for (length bytes + 1) 8) fits (omega arith)
+    ap words_of (new_is ∙ ap (λ (l : List ℕ). bytes ++ l) following) ∙ padded bytes (length block - length bytes) (words_for (length bytes + 1) 8) fits (omega arith)
     ∙ ap (digits (2 ^ 64) (words_for (length bytes + 1) 8)) (sym (number_end bytes)) ∙ ap (λ (n : ℕ). digits (2 ^ 64) (words_for n 8) (number_of 256 (bytes ++ 0 ∷ []))) (sym long) in
     ap (λ (n : ℕ). n ∷ words_of new) (pointer_is ∙ ap (list_pointer 0 2) (sym long))
     ∙ ap (λ (l : List ℕ). list_pointer 0 2 (length (bytes ++ 0 ∷ [])) ∷ l) (words ∙ sym (append-nil (own (numbers 2 (bytes ++ 0 ∷ [])) [] ++ []) ∙ append-nil (own (numbers 2 (bytes ++ 0 ∷ [])) [])))

@@ -11,12 +11,12 @@ take_more k [] x there = absurd (cc)
 take_more zero (y ∷ xs) x there = let same : y ≡ x = cc in ap (λ (n : ℕ). n ∷ []) same
 take_more (suc k) (y ∷ xs) x there = ap (λ (l : List ℕ). y ∷ l) (take_more k xs x there)
 
-pub get_behind : (start k : ℕ) (words : List ℕ) (x : ℕ) → slice_get words (start + k) ≡ Some x → slice_get (drop start words) k ≡ Some x
-get_behind zero k words x there = ap (λ (n : ℕ). slice_get words n) (omega arith) ∙ there
-get_behind (suc start) k [] x there = absurd (cc)
-get_behind (suc start) k (w ∷ words) x there =
+pub get_after : (start k : ℕ) (words : List ℕ) (x : ℕ) → slice_get words (start + k) ≡ Some x → slice_get (drop start words) k ≡ Some x
+get_after zero k words x there = ap (λ (n : ℕ). slice_get words n) (omega arith) ∙ there
+get_after (suc start) k [] x there = absurd (cc)
+get_after (suc start) k (w ∷ words) x there =
     let next : suc start + k ≡ suc (start + k) = omega arith in
-    get_behind start k words x (ap (λ (n : ℕ). slice_get (w ∷ words) n) (sym next) ∙ there)
+    get_after start k words x (ap (λ (n : ℕ). slice_get (w ∷ words) n) (sym next) ∙ there)
 
 cut_last : (xs : List ℕ) → cut_zeros (xs ++ 0 ∷ []) ≡ cut_zeros xs
 cut_last [] = refl
@@ -31,11 +31,11 @@ cut_full [] w = refl
 cut_full (x ∷ xs) w = ap (λ (l : List ℕ). keep_word l x) (cut_full xs w) ∙ keep_full xs w x
 
 pub one_unused : (words : List ℕ) (start k : ℕ) → slice_get words (start + k) ≡ Some 0 → length (cut_zeros (words_from words start (suc k))) ≡ length (cut_zeros (words_from words start k))
-one_unused words start k there = ap (λ (l : List ℕ). length (cut_zeros l)) (take_more k (drop start words) 0 (get_behind start k words 0 there)) ∙ ap length (cut_last (words_from words start k))
+one_unused words start k there = ap (λ (l : List ℕ). length (cut_zeros l)) (take_more k (drop start words) 0 (get_after start k words 0 there)) ∙ ap length (cut_last (words_from words start k))
 
 all_used : (words : List ℕ) (start k w : ℕ) → start + suc k ≤ length words → slice_get words (start + k) ≡ Some (suc w) → length (cut_zeros (words_from words start (suc k))) ≡ suc k
 all_used words start k w room there =
-    ap (λ (l : List ℕ). length (cut_zeros l)) (take_more k (drop start words) (suc w) (get_behind start k words (suc w) there)) ∙ ap length (cut_full (words_from words start k) w)
+    ap (λ (l : List ℕ). length (cut_zeros l)) (take_more k (drop start words) (suc w) (get_after start k words (suc w) there)) ∙ ap length (cut_full (words_from words start k) w)
     ∙ omega (arith, length-append (take k (drop start words)) (suc w ∷ []), length-take k (drop start words), length-drop start words)
 
 -- the word before the end

@@ -4,14 +4,14 @@ ghost use Rattle.std.specs.Result.{IsErrAnd};
 ghost use Rattle.capnp_frame.specs.declared.error.ErrorKind.{ErrorKind};
 ghost use Rattle.capnp_frame.specs.declared.error.ErrorKind.TheVariants.{ReadLimitExceeded};
 ghost use Rattle.capnp_wire.specs.Object.{nothing};
-ghost use Rattle.capnp_wire.specs.Views.{Pointer, IsViewOf, Denotes, Barred, LeadsAstray, MeetsLimit, Measures, Unmeasured};
+ghost use Rattle.capnp_wire.specs.Views.{Pointer, IsViewOf, Denotes, Unreadable, IsInvalidPointer, MeetsLimit, Measures, Unmeasured};
 ghost use Rattle.capnp_wire.specs.Readers.{pointer_of, unlimited_root, IsEntered};
 
 use crate::layout::object::{Object, object_at};
 use crate::layout::place::{Place, pointer_at};
 use crate::layout::walk::Walk;
 use crate::message_size::MessageSize;
-use crate::read_limiter::{ReadLimiter, charge, limit_in_words};
+use crate::read_limiter::{ReadLimiter, limit_in_words, traversed};
 use crate::traits::FromPointerReader;
 use capnp_frame::message::ReaderSegments;
 use capnp_frame::{Error, ErrorKind, Result};
@@ -22,7 +22,7 @@ pub struct Reader<'a, S> {
     pub(crate) segments: &'a S,
     pub(crate) limiter: Option<&'a ReadLimiter>,
     pub(crate) place: Option<Place>,
-    pub(crate) level: u32,
+    pub(crate) nesting: u32,
 }
 
 impl<'a, S: ReaderSegments> Reader<'a, S> {
@@ -42,7 +42,7 @@ impl<'a, S: ReaderSegments> Reader<'a, S> {
             segments,
             limiter: None,
             place,
-            level: i32::MAX as u32,
+            nesting: i32::MAX as u32,
         }
     }
 
@@ -59,14 +59,15 @@ impl<'a, S: ReaderSegments> Reader<'a, S> {
         }
     }
 
-    /// The size of the object behind the pointer with all below it, without the pads of far pointers.
+    /// The size of the object after the pointer with all below it, without the landing pads of far
+    /// pointers.
     ///
     /// It is refused where the walk over these objects stops: as a view of one of them is, or by
     /// `ReadLimitExceeded` where they come to more words than the traversal limit. The walk counts
-    /// from 0, and what is read of the message by views stays as it was. A size past 64 bits is
-    /// refused by `AllocationTooLarge(4294967295)`.
+    /// from 0, and what is read of the message by views stays as it was. A size past 64 bits     ///
+    /// fails with `AllocationTooLarge(4294967295)`.
     pub fn target_size(&self) -> Result<MessageSize>
-        ensures answer { let pointer = pointer_of S.segments self.now in MatchResult result
+        ensures returned { let pointer = pointer_of S.segments self.now in MatchResult result
             (λ size. Measures pointer size.word_count × (size.cap_count ≡ 0))
             (λ error. Unmeasured pointer error.kind) }
         ensures measured { (words : ℕ) → Measures (pointer_of S.segments self.now) words →
@@ -79,7 +80,7 @@ impl<'a, S: ReaderSegments> Reader<'a, S> {
 
     // The size of all that the pointer leads to.
     fn measure(&self) -> Result<MessageSize>
-        ensures answer { let pointer = pointer_of S.segments self.now in MatchResult result
+        ensures returned { let pointer = pointer_of S.segments self.now in MatchResult result
             (λ size. Measures pointer size.word_count × (size.cap_count ≡ 0))
             (λ error. Unmeasured pointer error.kind) }
         ensures bound { IfOk result (λ size. size.word_count < 2 ^ 64) }
@@ -91,7 +92,7 @@ impl<'a, S: ReaderSegments> Reader<'a, S> {
                 cap_count: 0,
             });
         };
-        walk.walk(self.segments, place, self.level, false)?;
+        walk.walk(self.segments, place, self.nesting, false)?;
         match walk.words() {
             Some(word_count) => Ok(MessageSize {
                 word_count,
@@ -101,14 +102,14 @@ impl<'a, S: ReaderSegments> Reader<'a, S> {
         }
     }
 
-    /// The object behind the pointer as a view, which borrows it from the segments.
+    /// The object after the pointer as a view, which borrows it from the segments.
     ///
-    /// A view is refused by `InvalidSegmentId`, `PointerOutOfBounds` or `CapabilityRefused` where the
+    /// A view fails with `InvalidSegmentId`, `PointerOutOfBounds` or `CapabilityRefused` where the
     /// pointer leads to no object, by `NestingLimitExceeded` where the object lies deeper than the
     /// nesting limit, by `ReadLimitExceeded` where it would bring what is read past the traversal
     /// limit, and else by `WrongPointerKind` or `TextNotTerminated` as the type of the view says.
     pub fn get_as<T: FromPointerReader<'a, S>>(&self) -> Result<T>
-        ensures answer { let pointer = pointer_of S.segments self.now in MatchResult result
+        ensures returned { let pointer = pointer_of S.segments self.now in MatchResult result
             (λ view. T.shows pointer view) (λ error. T.refuses pointer error.kind) }
         ensures found { let pointer = pointer_of S.segments self.now in
             pointer.limit ≡ None → T.accepts pointer → IsOk result }
@@ -116,7 +117,7 @@ impl<'a, S: ReaderSegments> Reader<'a, S> {
             pointer.limit ≡ None → IfErr result (λ error. error.kind ≢ ReadLimitExceeded) }
         // Where no object stands, and the pointer itself is no view, whatever was read before.
         ensures exact { let pointer = pointer_of S.segments self.now in
-            (kind : ErrorKind) → LeadsAstray pointer kind → (T.accepts pointer → ⊥) →
+            (kind : ErrorKind) → IsInvalidPointer pointer kind → (T.accepts pointer → ⊥) →
             IsErrAnd result (λ error. error.kind ≡ kind) }
         // Where an object stands that is no such view.
         ensures declined { let pointer = pointer_of S.segments self.now in
@@ -127,25 +128,26 @@ impl<'a, S: ReaderSegments> Reader<'a, S> {
             segments: self.segments,
             limiter: self.limiter,
             place: self.place,
-            level: self.level,
+            nesting: self.nesting,
         })
     }
 
-    /// The object that the pointer leads to, once it is charged; `None` for null.
+    /// The object that the pointer leads to, once it is counted against the traversal limit; `None`
+    /// for null.
     pub(crate) fn enter(&self) -> Result<Option<Object<'a>>>
         ensures found { let pointer = pointer_of S.segments self.now in
             IfOk result (λ found. MatchOption found (Denotes pointer nothing)
             (λ object. IsEntered pointer object)) }
         ensures refused { let pointer = pointer_of S.segments self.now in
-            IfErr result (λ error. Barred pointer error.kind) }
+            IfErr result (λ error. Unreadable pointer error.kind) }
     {
         let Some(place) = self.place else {
             return Ok(None);
         };
-        let Some(object) = object_at(self.segments, place, self.level)? else {
+        let Some(object) = object_at(self.segments, place, self.nesting)? else {
             return Ok(None);
         };
-        charge(self.limiter, object.charge)?;
+        traversed(self.limiter, object.traversed)?;
         Ok(Some(object))
     }
 }

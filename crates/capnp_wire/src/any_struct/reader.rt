@@ -21,7 +21,7 @@ pub struct StructReader<'a, S: ReaderSegments> {
     pub(crate) segment: &'a [u8],
     pub(crate) start: Place,
     pub(crate) size: StructSize,
-    pub(crate) level: u32,
+    pub(crate) nesting: u32,
     ghost room: { start.word + (size.data_words + size.pointers) ≤ length segment.now / 8 },
     ghost content: { HoldsPointers (message_of (S.segments segments.now)) (words_of segment.now)
         start size },
@@ -75,7 +75,7 @@ impl<'a, S: ReaderSegments> StructReader<'a, S> {
             segments: self.segments,
             limiter: self.limiter,
             place,
-            level: self.level,
+            nesting: self.nesting,
         }
     }
 
@@ -87,7 +87,7 @@ impl<'a, S: ReaderSegments> StructReader<'a, S> {
     {
         let segments = reader.segments;
         let limiter = reader.limiter;
-        let level = reader.level.saturating_sub(1);
+        let nesting = reader.nesting.saturating_sub(1);
         let Some(object) = reader.enter()? else {
             return Ok(StructReader {
                 segments,
@@ -101,7 +101,7 @@ impl<'a, S: ReaderSegments> StructReader<'a, S> {
                     data_words: 0,
                     pointers: 0,
                 },
-                level,
+                nesting,
             });
         };
         let Some(size) = object.body.as_struct() else {
@@ -113,12 +113,12 @@ impl<'a, S: ReaderSegments> StructReader<'a, S> {
             segment: object.segment,
             start: object.start,
             size,
-            level,
+            nesting,
         })
     }
 }
 
-// No data and no pointers from null; any object but a struct is refused by `WrongPointerKind`.
+// No data and no pointers from null; any object but a struct fails with `WrongPointerKind`.
 impl<'a, S: ReaderSegments> FromPointerReader<'a, S> for StructReader<'a, S> {
     ghost use Rattle.capnp_wire.specs.Readers.{struct_of, pointer_of};
     ghost use Rattle.capnp_wire.specs.Views.{IsViewOf, Accepts, Refuses, Declines, IsStruct, TakesStruct, DeclinesStruct};

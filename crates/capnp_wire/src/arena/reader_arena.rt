@@ -6,11 +6,11 @@ ghost use Rattle.capnp_frame.specs.declared.error.ErrorKind.{ErrorKind};
 ghost use Rattle.capnp_wire.specs.Object.{message_of, word_at};
 ghost use Rattle.capnp_wire.specs.Tree.{Form, Trees, none, tree, depth};
 ghost use Rattle.capnp_wire.specs.Reached.{root, Root};
-ghost use Rattle.capnp_wire.specs.Charge.{Within};
+ghost use Rattle.capnp_wire.specs.Traversed.{Within};
 ghost use Rattle.capnp_wire.specs.Faults.{NoWord, StopsWalk};
 ghost use Rattle.capnp_wire.specs.Canonical.{IsCanonical};
 ghost use Rattle.capnp_wire.specs.Tested.{Unsaid};
-ghost use Rattle.capnp_wire.specs.Readers.{pointer_of, level_of};
+ghost use Rattle.capnp_wire.specs.Readers.{pointer_of, nesting_of};
 
 use crate::any_pointer;
 use crate::layout::canonical::is_canonical;
@@ -43,12 +43,12 @@ impl<S: ReaderSegments> ReaderArena<S> {
 
     /// The root pointer, which is the first word of the first segment.
     pub fn get_root(&self) -> Result<any_pointer::Reader<'_, S>>
-        ensures answer { let m = message_of (S.segments self.now.segments) in
+        ensures returned { let m = message_of (S.segments self.now.segments) in
             MatchResult result
             (λ reader. pointer_of S.segments reader ≡ record {
               message = m;
               place = Some root;
-              level = level_of self.now.nesting_limit;
+              nesting = nesting_of self.now.nesting_limit;
               limit = self.now.limiter.limit;
             })
             (λ error. NoWord m root error.kind) }
@@ -64,34 +64,34 @@ impl<S: ReaderSegments> ReaderArena<S> {
             segments: &self.segments,
             limiter: Some(&self.limiter),
             place: Some(place),
-            level: self.level(),
+            nesting: self.nesting(),
         })
     }
 
     /// Whether the message is in canonical form: one segment, whose words are the canonical form of its
     /// root tree.
     ///
-    /// A message of more than one segment is not canonical, nor is one with a far pointer. It is
-    /// refused by `InvalidSegmentId(0)` without a segment, and else where the walk over its objects
-    /// is, before it meets what is not canonical: as a view of one of them, or by `ReadLimitExceeded`
-    /// where they come to more words than the traversal limit. The walk counts from 0, takes no
-    /// memory, and what is read of the message by views stays as it was.
+    /// A message of more than one segment is not canonical, nor is one with a far pointer. It
+    /// /// fails with `InvalidSegmentId(0)` without a segment, and else where the walk over its
+    /// objects is, before it meets what is not canonical: as a view of one of them, or by
+    /// `ReadLimitExceeded` where they come to more words than the traversal limit. The walk counts
+    /// from 0, takes no memory, and what is read of the message by views stays as it was.
     pub fn is_canonical(&self) -> Result<bool>
-        ensures answer { let m = message_of (S.segments self.now.segments) in
-            let level = level_of self.now.nesting_limit in
+        ensures returned { let m = message_of (S.segments self.now.segments) in
+            let nesting = nesting_of self.now.nesting_limit in
             MatchResult result (λ is. IsTrue is ↔ IsCanonical m)
-            (λ error. Unsaid m level self.now.limiter.limit error.kind) }
+            (λ error. Unsaid m nesting self.now.limiter.limit error.kind) }
         ensures exact { let m = message_of (S.segments self.now.segments) in
-            let level = level_of self.now.nesting_limit in
-            (kind : ErrorKind) → Unsaid m level self.now.limiter.limit kind →
+            let nesting = nesting_of self.now.nesting_limit in
+            (kind : ErrorKind) → Unsaid m nesting self.now.limiter.limit kind →
             IsErrAnd result (λ error. error.kind ≡ kind) }
         ensures found { let m = message_of (S.segments self.now.segments) in
-            (form : Form) (held : Trees) (charge : ℕ) → Root m form held charge →
-            depth (tree form held none) ≤ level_of self.now.nesting_limit →
-            Within self.now.limiter.limit charge → IsOk result }
+            (form : Form) (held : Trees) (traversed : ℕ) → Root m form held traversed →
+            depth (tree form held none) ≤ nesting_of self.now.nesting_limit →
+            Within self.now.limiter.limit traversed → IsOk result }
         ensures stops { let m = message_of (S.segments self.now.segments) in
-            let level = level_of self.now.nesting_limit in
-            IfErr result (λ error. StopsWalk m (root ∷ []) level self.now.limiter.limit error.kind) }
+            let nesting = nesting_of self.now.nesting_limit in
+            IfErr result (λ error. StopsWalk m (root ∷ []) nesting self.now.limiter.limit error.kind) }
     {
         let Some(segment) = self.segments.get_segment(0) else {
             return Err(Error::from_kind(ErrorKind::InvalidSegmentId(0)));
@@ -99,12 +99,12 @@ impl<S: ReaderSegments> ReaderArena<S> {
         if self.segments.get_segment(1).is_some() {
             return Ok(false);
         }
-        is_canonical(&self.segments, segment, self.level(), self.limiter.limit)
+        is_canonical(&self.segments, segment, self.nesting(), self.limiter.limit)
     }
 
     // How many objects may follow one another from the root on.
-    fn level(&self) -> u32
-        ensures { result ≡ level_of self.now.nesting_limit }
+    fn nesting(&self) -> u32
+        ensures { result ≡ nesting_of self.now.nesting_limit }
     {
         self.nesting_limit.max(0) as u32
     }
@@ -135,7 +135,7 @@ impl<S: ReaderSegments> ReaderArena<S> {
         self.nesting_limit
     }
 
-    /// The words of all segments, at most `usize::MAX`. Bytes behind the last whole word of a segment
+    /// The words of all segments, at most `usize::MAX`. Bytes after the last whole word of a segment
     /// count for nothing.
     pub fn size_in_words(&self) -> usize
         requires { length (S.segments self.now.segments) < 2 ^ 32 }

@@ -11,7 +11,7 @@ use capnp_frame::message::ReaderSegments;
 /// The bytes themselves.
 pub type Reader<'a> = &'a [u8];
 
-// Empty from null, else the bytes of a list of bytes; any other object is refused by
+// Empty from null, else the bytes of a list of bytes; any other object fails with
 // `WrongPointerKind`.
 impl<'a, S: ReaderSegments> FromPointerReader<'a, S> for &'a [u8] {
     ghost shows = { λ pointer view. Reads pointer (λ form. IsData form view.now) };

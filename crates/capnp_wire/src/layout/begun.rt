@@ -3,7 +3,7 @@ ghost use Rattle.std.specs.Prelude.{◌≡◌, ◌+◌, ◌-◌, ◌^◌, ◌<�
 ghost use Rattle.capnp_wire.specs.Pointer.{words_of};
 ghost use Rattle.capnp_wire.specs.Object.{message_of};
 ghost use Rattle.capnp_wire.specs.Landing.{IsObject};
-ghost use Rattle.capnp_wire.specs.Near.{object_of, struct_of};
+ghost use Rattle.capnp_wire.specs.Near.{object_of, near_struct_of};
 ghost use Rattle.capnp_wire.specs.Copy.{CanCopy, Copies, IsCopyable, BeginsObject, BeginsStruct};
 ghost use Rattle.capnp_wire.specs.declared.layout.copy.Copied.{Copied};
 
@@ -33,8 +33,8 @@ pub(crate) enum StructCopy {
     Begun(LeftRun),
 }
 
-/// The pointer to a struct's copy, and what is left of that: so many pointers, whose copies stand
-/// one behind the other. What they lead to goes from the word `next` on.
+/// The pointer to a struct's copy, and what is left of that: a given number of pointers, whose
+/// copies stand one after the other. What they lead to goes from the word `next` on.
 #[derive(Clone, Copy)]
 pub(crate) struct LeftRun {
     pub pointer: u64,
@@ -45,36 +45,36 @@ pub(crate) struct LeftRun {
 }
 
 /// Begins the copy of the object that the pointer at a place leads to, at the word `next` of a block;
-/// `None` for null. The pointer to the copy stands just before the word `behind`.
+/// `None` for null. The pointer to the copy stands just before the word `following`.
 #[inline(always)]
 pub(crate) fn begin<'a, S: ReaderSegments, T: BlockItem>(
     segments: &'a S,
     place: Place,
-    level: u32,
+    nesting: u32,
     canonical: bool,
     block: &mut [T],
-    behind: usize,
+    following: usize,
     next: usize,
 ) -> Option<BegunCopy<'a>>
-    requires there { CanCopy (message_of (S.segments segments.now)) (place ∷ []) level canonical
+    requires there { CanCopy (message_of (S.segments segments.now)) (place ∷ []) nesting canonical
         next (length (T.as_words block.old)) }
-    requires behind { behind ≤ next }
+    requires following { following ≤ next }
     requires small { length (T.as_words block.old) < 2 ^ 29 }
     ensures begun { let m = message_of (S.segments segments.now) in
-        let gap = next - behind in
+        let gap = next - following in
         let nothing : Copied = record { pointer = 0; next = next } in
         MatchOption result
         (Copies m place canonical gap next (T.as_words block.old) (T.as_words block.new) nothing)
-        (λ begun. BeginsObject m place level canonical gap next
+        (λ begun. BeginsObject m place nesting canonical gap next
         (T.as_words block.old) (T.as_words block.new) begun) }
     ensures len { length (T.as_words block.new) ≡ length (T.as_words block.old) }
 {
-    let Some(object) = object_there(segments, place, level) else {
+    let Some(object) = object_there(segments, place, nesting) else {
         return None;
     };
     let body = formed_as(&object, canonical);
     put_own_words(&object, body, block, next);
-    let pointer = pointer_word(body, (next - behind) as u64);
+    let pointer = pointer_word(body, (next - following) as u64);
     Some(BegunCopy {
         object,
         body,
@@ -82,29 +82,30 @@ pub(crate) fn begin<'a, S: ReaderSegments, T: BlockItem>(
     })
 }
 
-/// Begins the copy of a struct in the same way, which is whole where the pointers that it keeps are null.
+/// Begins the copy of a struct in the same way, which is whole where the pointers that it keeps are
+/// null.
 #[inline(always)]
 pub(crate) fn begin_struct<T: BlockItem>(
     found: &NearStruct<'_>,
     canonical: bool,
     block: &mut [T],
-    behind: usize,
+    following: usize,
     next: usize,
 ) -> StructCopy
-    requires there { IsCopyable (struct_of found.now) canonical
+    requires there { IsCopyable (near_struct_of found.now) canonical
         next (length (T.as_words block.old)) }
-    requires behind { behind ≤ next }
+    requires following { following ≤ next }
     requires small { length (T.as_words block.old) < 2 ^ 29 }
-    ensures begun { (m : List (List ℕ)) (place : Place) (level : ℕ) →
-        CanCopy m (place ∷ []) level canonical next (length (T.as_words block.old)) →
-        IsObject m place (struct_of found.now) →
-        BeginsStruct m place (words_of found.now.segment.now) level canonical
-        (next - behind) next (T.as_words block.old) (T.as_words block.new) result }
+    ensures begun { (m : List (List ℕ)) (place : Place) (nesting : ℕ) →
+        CanCopy m (place ∷ []) nesting canonical next (length (T.as_words block.old)) →
+        IsObject m place (near_struct_of found.now) →
+        BeginsStruct m place (words_of found.now.segment.now) nesting canonical
+        (next - following) next (T.as_words block.old) (T.as_words block.new) result }
     ensures len { length (T.as_words block.new) ≡ length (T.as_words block.old) }
 {
     let size = found.formed(canonical);
     let words = size.words() as usize;
-    let pointer = struct_pointer_word(size, (next - behind) as u64);
+    let pointer = struct_pointer_word(size, (next - following) as u64);
     if found.holds_nulls(size.pointers) {
         put_words(block, next, found.segment, found.start.word, words);
         return StructCopy::Whole(Copied {
@@ -128,22 +129,26 @@ pub(crate) fn begin_struct<T: BlockItem>(
 pub(crate) fn copy_list<T: BlockItem>(
     list: &NumberList<'_>,
     block: &mut [T],
-    behind: usize,
+    following: usize,
     next: usize,
 ) -> Copied
     requires there { (canonical : Bool)
         × IsCopyable (object_of list.now) canonical next (length (T.as_words block.old)) }
-    requires behind { behind ≤ next }
+    requires following { following ≤ next }
     requires small { length (T.as_words block.old) < 2 ^ 29 }
-    ensures copied { (m : List (List ℕ)) (place : Place) (level : ℕ) (canonical : Bool) →
-        CanCopy m (place ∷ []) level canonical next (length (T.as_words block.old)) →
+    ensures copied { (m : List (List ℕ)) (place : Place) (nesting : ℕ) (canonical : Bool) →
+        CanCopy m (place ∷ []) nesting canonical next (length (T.as_words block.old)) →
         IsObject m place (object_of list.now) → Copies m place canonical
-        (next - behind) next (T.as_words block.old) (T.as_words block.new) result }
+        (next - following) next (T.as_words block.old) (T.as_words block.new) result }
     ensures len { length (T.as_words block.new) ≡ length (T.as_words block.old) }
 {
     put_elements(block, next, list);
     Copied {
-        pointer: list_word((next - behind) as u64, list.size.code(), list.count as u64),
+        pointer: list_word(
+            (next - following) as u64,
+            list.size.code(),
+            list.count as u64,
+        ),
         next: next + list.words() as usize,
     }
 }

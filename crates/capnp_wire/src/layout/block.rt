@@ -106,7 +106,7 @@ pub(crate) fn put_word<T: BlockItem>(block: &mut [T], at: usize, word: u64)
     T::put_bytes(block, at, &word.to_le_bytes());
 }
 
-/// Puts so many words of a segment into a block.
+/// Puts a given number of words of a segment into a block.
 #[inline(always)]
 pub(crate) fn put_words<T: BlockItem>(
     block: &mut [T],
@@ -125,7 +125,7 @@ pub(crate) fn put_words<T: BlockItem>(
     T::put_bytes(block, at, &segment[begin..begin + 8 * count]);
 }
 
-/// Puts the elements of a list into a block, with zero bits behind the last one.
+/// Puts the elements of a list into a block, with zero bits after the last one.
 #[inline(always)]
 pub(crate) fn put_elements<T: BlockItem>(block: &mut [T], at: usize, list: &NumberList<'_>)
     requires there { let words = words_for list.now.count (width (code_of list.now.size)) in
@@ -144,10 +144,10 @@ pub(crate) fn put_elements<T: BlockItem>(block: &mut [T], at: usize, list: &Numb
     let start = list.start.word;
     let words = list.words() as usize;
     put_words(block, at, segment, start, words);
-    let behind = list.bits % 64;
-    if behind != 0 {
+    let following = list.bits % 64;
+    if following != 0 {
         let last = word_at(segment, start + words - 1);
-        put_word(block, at + words - 1, last % (1 << behind));
+        put_word(block, at + words - 1, last % (1 << following));
     }
 }
 
@@ -167,7 +167,7 @@ pub(crate) fn used(segment: &[u8], start: usize, count: usize) -> usize
     0
 }
 
-/// The same of that one of some stretches of words that has most.
+/// How many words are used in the one of some stretches of words that has most.
 pub(crate) fn most_used(segment: &[u8], start: usize, count: usize, step: usize, rows: u32) -> usize
     requires there { start + rows * step ≤ length segment.now / 8 + (step - count) }
     requires inside { count ≤ step }

@@ -19,7 +19,7 @@ use crate::layout::walk::Walk;
 use capnp_frame::Result;
 use capnp_frame::message::ReaderSegments;
 
-/// A walk over the objects of a message of one segment, and the first word behind those that it
+/// A walk over the objects of a message of one segment, and the first word after those that it
 /// met.
 #[derive(Drop)]
 pub(crate) struct CanonicalWalk {
@@ -48,7 +48,7 @@ impl CanonicalWalk {
         }
     }
 
-    /// The first word behind all objects that it has met.
+    /// The first word after all objects that it has met.
     pub(crate) fn next(&self) -> usize
         ensures { result ≡ self.now.next }
     {
@@ -64,54 +64,54 @@ impl CanonicalWalk {
         segments: &S,
         segment: &[u8],
         word: usize,
-        level: u32,
+        nesting: u32,
     ) -> Result<bool>
         requires one { message_of (S.segments segments.now) ≡ words_of segment.now ∷ [] }
         requires before { word < self.now.next }
         requires within { self.now.next ≤ length segment.now / 8 }
         ensures passed { let place : Place = record { segment = 0; word = word } in
             IfOk result (λ passes. passes ≡ true →
-            PassesAt (words_of segment.now) (place ∷ []) level
+            PassesAt (words_of segment.now) (place ∷ []) nesting
             self.old.walk.left self.new.walk.left self.old.next self.new.next) }
         ensures ended { let place : Place = record { segment = 0; word = word } in
-            IfOk result (λ passes. passes ≡ false → Ends (words_of segment.now) (place ∷ []) level
+            IfOk result (λ passes. passes ≡ false → Ends (words_of segment.now) (place ∷ []) nesting
             self.old.walk.left self.old.next not_canonical) }
         ensures refused { let place : Place = record { segment = 0; word = word } in
-            IfErr result (λ error. Ends (words_of segment.now) (place ∷ []) level
+            IfErr result (λ error. Ends (words_of segment.now) (place ∷ []) nesting
             self.old.walk.left self.old.next (refused error.kind)) }
     {
-        match self.meet(segments, segment, word, level)? {
+        match self.meet(segments, segment, word, nesting)? {
             Met::Null => Ok(true),
             Met::NotCanonical => Ok(false),
-            Met::Pointers(pointers) => self.test_pointers(segments, segment, pointers, level - 1),
+            Met::Pointers(pointers) => self.test_pointers(segments, segment, pointers, nesting - 1),
         }
     }
 
-    // The same of all objects that these pointers lead to.
+    // Tests all objects that these pointers lead to.
     #[cycle(testing)]
     fn test_pointers<S: ReaderSegments>(
         &mut self,
         segments: &S,
         segment: &[u8],
         mut pointers: PointerRows,
-        level: u32,
+        nesting: u32,
     ) -> Result<bool>
         requires one { message_of (S.segments segments.now) ≡ words_of segment.now ∷ [] }
         requires first { pointers.next.segment ≡ 0 }
         requires before { end_of pointers ≤ self.now.next }
         requires within { self.now.next ≤ length segment.now / 8 }
         ensures passed { IfOk result (λ passes. passes ≡ true →
-            PassesAt (words_of segment.now) (places_in pointers) level
+            PassesAt (words_of segment.now) (places_in pointers) nesting
             self.old.walk.left self.new.walk.left self.old.next self.new.next) }
         ensures ended { IfOk result (λ passes. passes ≡ false → Ends (words_of segment.now)
-            (places_in pointers) level self.old.walk.left self.old.next not_canonical) }
+            (places_in pointers) nesting self.old.walk.left self.old.next not_canonical) }
         ensures refused { IfErr result (λ error.
-            Ends (words_of segment.now) (places_in pointers) level
+            Ends (words_of segment.now) (places_in pointers) nesting
             self.old.walk.left self.old.next (refused error.kind)) }
     {
         'pointers: while !pointers.is_empty() {
             let place = pointers.take();
-            if !self.test(segments, segment, place.word, level)? {
+            if !self.test(segments, segment, place.word, nesting)? {
                 return Ok(false);
             }
         }
@@ -124,16 +124,16 @@ impl CanonicalWalk {
         segments: &S,
         segment: &[u8],
         word: usize,
-        level: u32,
+        nesting: u32,
     ) -> Result<Met>
         requires one { message_of (S.segments segments.now) ≡ words_of segment.now ∷ [] }
         requires before { word < self.now.next }
         requires within { self.now.next ≤ length segment.now / 8 }
         ensures found { let place : Place = record { segment = 0; word = word } in
-            IfOk result (λ met. IsMet (words_of segment.now) place level
+            IfOk result (λ met. IsMet (words_of segment.now) place nesting
             self.old.walk.left self.new.walk.left self.old.next self.new.next met) }
         ensures refused { let place : Place = record { segment = 0; word = word } in
-            IfErr result (λ error. Ends (words_of segment.now) (place ∷ []) level
+            IfErr result (λ error. Ends (words_of segment.now) (place ∷ []) nesting
             self.old.walk.left self.old.next (refused error.kind)) }
     {
         let place = Place { segment: 0, word };
@@ -141,7 +141,7 @@ impl CanonicalWalk {
         if pointer % 4 == 2 {
             return Ok(Met::NotCanonical);
         }
-        let Some(object) = object_at(segments, place, level)? else {
+        let Some(object) = object_at(segments, place, nesting)? else {
             return Ok(Met::Null);
         };
         self.walk.enter(&object, false)?;
@@ -157,15 +157,15 @@ impl CanonicalWalk {
 pub(crate) fn is_canonical<S: ReaderSegments>(
     segments: &S,
     segment: &[u8],
-    level: u32,
+    nesting: u32,
     limit: Option<usize>,
 ) -> Result<bool>
     requires { message_of (S.segments segments.now) ≡ words_of segment.now ∷ [] }
     ensures said { IfOk result (λ is. IsTrue is ↔ IsCanonical (words_of segment.now ∷ [])) }
     ensures refused { IfErr result (λ error.
-        Ends (words_of segment.now) (root ∷ []) level limit 1 (refused error.kind)) }
+        Ends (words_of segment.now) (root ∷ []) nesting limit 1 (refused error.kind)) }
     ensures exact { (kind : ErrorKind) →
-        Ends (words_of segment.now) (root ∷ []) level limit 1 (refused kind) →
+        Ends (words_of segment.now) (root ∷ []) nesting limit 1 (refused kind) →
         IsErrAnd result (λ error. error.kind ≡ kind) }
 {
     let root = Place {
@@ -174,7 +174,7 @@ pub(crate) fn is_canonical<S: ReaderSegments>(
     };
     pointer_at(segments, root)?;
     let mut walk = CanonicalWalk::new(limit);
-    let passes = walk.test(segments, segment, 0, level)?;
+    let passes = walk.test(segments, segment, 0, nesting)?;
     Ok(passes && walk.next() == segment.len() / 8)
 }
 

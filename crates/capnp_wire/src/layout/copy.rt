@@ -1,4 +1,4 @@
-//! Copies of objects, laid out one behind the other in one block of words.
+//! Copies of objects, laid out one after the other in one block of words.
 ghost use Rattle.std.specs.Prelude.{◌≡◌, ◌-◌, ◌^◌, ◌<◌, ◌≤◌, [], ◌∷◌, length, slice_get, Some};
 ghost use Rattle.capnp_wire.specs.Pointer.{words_of};
 ghost use Rattle.capnp_wire.specs.Object.{message_of};
@@ -11,7 +11,7 @@ use crate::layout::near::{is_null, near_list, near_struct};
 use crate::layout::place::Place;
 use capnp_frame::message::ReaderSegments;
 
-/// The pointer word to a copy, and the first free word behind it.
+/// The pointer word to a copy, and the first free word after it.
 #[derive(Clone, Copy)]
 pub(crate) struct Copied {
     pub pointer: u64,
@@ -19,33 +19,33 @@ pub(crate) struct Copied {
 }
 
 /// Copies the object that the pointer at a place leads to, with all below it, into a block from the
-/// word `next` on. The pointer to the copy stands just before the word `behind`.
+/// word `next` on. The pointer to the copy stands just before the word `following`.
 #[cycle(copy)]
 pub(crate) fn copy<S: ReaderSegments, T: BlockItem>(
     segments: &S,
     place: Place,
-    level: u32,
+    nesting: u32,
     canonical: bool,
     block: &mut [T],
-    behind: usize,
+    following: usize,
     next: usize,
 ) -> Copied
-    requires there { CanCopy (message_of (S.segments segments.now)) (place ∷ []) level canonical
+    requires there { CanCopy (message_of (S.segments segments.now)) (place ∷ []) nesting canonical
         next (length (T.as_words block.old)) }
-    requires behind { behind ≤ next }
+    requires following { following ≤ next }
     requires small { length (T.as_words block.old) < 2 ^ 29 }
     ensures copied { Copies (message_of (S.segments segments.now)) place canonical
-        (next - behind) next (T.as_words block.old) (T.as_words block.new) result }
+        (next - following) next (T.as_words block.old) (T.as_words block.new) result }
     ensures len { length (T.as_words block.new) ≡ length (T.as_words block.old) }
 {
-    let Some(begun) = begin(segments, place, level, canonical, block, behind, next) else {
+    let Some(begun) = begin(segments, place, nesting, canonical, block, following, next) else {
         return Copied { pointer: 0, next };
     };
     let free = copy_pointers(
         segments,
         &begun.object,
         begun.body,
-        level - 1,
+        nesting - 1,
         canonical,
         block,
         next,
@@ -63,27 +63,27 @@ pub(crate) fn copy_target<S: ReaderSegments, T: BlockItem>(
     segments: &S,
     segment: &[u8],
     place: Place,
-    level: u32,
+    nesting: u32,
     canonical: bool,
     block: &mut [T],
-    behind: usize,
+    following: usize,
     next: usize,
 ) -> Copied
-    requires there { CanCopy (message_of (S.segments segments.now)) (place ∷ []) level canonical
+    requires there { CanCopy (message_of (S.segments segments.now)) (place ∷ []) nesting canonical
         next (length (T.as_words block.old)) }
     requires content { slice_get (message_of (S.segments segments.now)) place.segment
         ≡ Some (words_of segment.now) }
-    requires behind { behind ≤ next }
+    requires following { following ≤ next }
     requires small { length (T.as_words block.old) < 2 ^ 29 }
     ensures copied { Copies (message_of (S.segments segments.now)) place canonical
-        (next - behind) next (T.as_words block.old) (T.as_words block.new) result }
+        (next - following) next (T.as_words block.old) (T.as_words block.new) result }
     ensures len { length (T.as_words block.new) ≡ length (T.as_words block.old) }
 {
     if is_null(segment, place.word) {
         return Copied { pointer: 0, next };
     }
-    if let Some(found) = near_struct(segment, place, level) {
-        let left = match begin_struct(&found, canonical, block, behind, next) {
+    if let Some(found) = near_struct(segment, place, nesting) {
+        let left = match begin_struct(&found, canonical, block, following, next) {
             StructCopy::Whole(copied) => return copied,
             StructCopy::Begun(left) => left,
         };
@@ -92,7 +92,7 @@ pub(crate) fn copy_target<S: ReaderSegments, T: BlockItem>(
             found.segment,
             left.first,
             left.count,
-            level - 1,
+            nesting - 1,
             canonical,
             block,
             left.slot,
@@ -103,8 +103,8 @@ pub(crate) fn copy_target<S: ReaderSegments, T: BlockItem>(
             next: free,
         };
     }
-    let Some(list) = near_list(segment, place, level) else {
-        return copy(segments, place, level, canonical, block, behind, next);
+    let Some(list) = near_list(segment, place, nesting) else {
+        return copy(segments, place, nesting, canonical, block, following, next);
     };
-    copy_list(&list, block, behind, next)
+    copy_list(&list, block, following, next)
 }

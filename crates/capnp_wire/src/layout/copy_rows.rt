@@ -14,8 +14,8 @@ use crate::layout::place::Place;
 use crate::layout::row_pair::RowPair;
 use capnp_frame::message::ReaderSegments;
 
-/// Copies what the pointers of an object lead to, one behind the other behind its own copy, which
-/// begins at the word `next`, and puts the pointers to these copies into that. Answers the first
+/// Copies what the pointers of an object lead to, one after the other after its own copy, which
+/// begins at the word `next`, and puts the pointers to these copies into that. Returns the first
 /// free word.
 #[inline(always)]
 #[cycle(copy)]
@@ -23,14 +23,14 @@ pub(crate) fn copy_pointers<S: ReaderSegments, T: BlockItem>(
     segments: &S,
     object: &Object<'_>,
     copied: Body,
-    level: u32,
+    nesting: u32,
     canonical: bool,
     block: &mut [T],
     next: usize,
 ) -> usize
     requires there { CanCopy (message_of (S.segments segments.now))
         (kept_in object.now.start object.now.body (row_size copied).pointers)
-        level canonical (next + words_in copied) (length (T.as_words block.old)) }
+        nesting canonical (next + words_in copied) (length (T.as_words block.old)) }
     requires content { let m = message_of (S.segments segments.now) in
         kept_in object.now.start object.now.body (row_size copied).pointers ≢ [] →
         slice_get m object.now.start.segment ≡ Some (words_of object.now.segment.now) }
@@ -52,7 +52,7 @@ pub(crate) fn copy_pointers<S: ReaderSegments, T: BlockItem>(
             object.segment,
             object.start,
             count,
-            level,
+            nesting,
             canonical,
             block,
             next,
@@ -65,28 +65,28 @@ pub(crate) fn copy_pointers<S: ReaderSegments, T: BlockItem>(
         segments,
         object.segment,
         rows,
-        level,
+        nesting,
         canonical,
         block,
         free,
     )
 }
 
-// Copies what these pointers of a segment lead to, one behind the other from the word `next` on, and
-// puts the pointers to these copies into their slots. Answers the first free word.
+// Copies what these pointers of a segment lead to, one after the other from the word `next` on, and
+// puts the pointers to these copies into their slots. Returns the first free word.
 #[inline(always)]
 #[cycle(copy)]
 fn copy_rows<S: ReaderSegments, T: BlockItem>(
     segments: &S,
     segment: &[u8],
     mut rows: RowPair,
-    level: u32,
+    nesting: u32,
     canonical: bool,
     block: &mut [T],
     next: usize,
 ) -> usize
     requires there { CanCopyRows (message_of (S.segments segments.now)) (words_of segment.now) rows
-        level canonical next (length (T.as_words block.old)) }
+        nesting canonical next (length (T.as_words block.old)) }
     requires small { length (T.as_words block.old) < 2 ^ 29 }
     ensures copied { CopiesAll (message_of (S.segments segments.now)) (places_in rows.from) canonical
         (slots_in rows.to) next (T.as_words block.old) (T.as_words block.new) result }
@@ -99,7 +99,7 @@ fn copy_rows<S: ReaderSegments, T: BlockItem>(
             segments,
             segment,
             source,
-            level,
+            nesting,
             canonical,
             block,
             slot + 1,
@@ -111,15 +111,15 @@ fn copy_rows<S: ReaderSegments, T: BlockItem>(
     free
 }
 
-// As `copy_rows`, of so many pointers that stand one behind the other, as their copies do. All that
-// it is told fits registers.
+// As `copy_rows`, of a given number of pointers that stand one after the other, as their copies do.
+// All that it is told fits registers.
 #[cycle(copy)]
 pub(crate) fn copy_run<S: ReaderSegments, T: BlockItem>(
     segments: &S,
     segment: &[u8],
     first: Place,
     count: u32,
-    level: u32,
+    nesting: u32,
     canonical: bool,
     block: &mut [T],
     slot: usize,
@@ -127,7 +127,7 @@ pub(crate) fn copy_run<S: ReaderSegments, T: BlockItem>(
 ) -> usize
     requires bound { first.word + count < 2 ^ 61 }
     requires there { CanCopy (message_of (S.segments segments.now))
-        (places first.segment first.word count) level canonical
+        (places first.segment first.word count) nesting canonical
         next (length (T.as_words block.old)) }
     requires content { places first.segment first.word count ≢ [] →
         slice_get (message_of (S.segments segments.now)) first.segment
@@ -140,5 +140,5 @@ pub(crate) fn copy_run<S: ReaderSegments, T: BlockItem>(
     ensures len { length (T.as_words block.new) ≡ length (T.as_words block.old) }
 {
     let rows = RowPair::run(first, count, slot);
-    copy_rows(segments, segment, rows, level, canonical, block, next)
+    copy_rows(segments, segment, rows, nesting, canonical, block, next)
 }

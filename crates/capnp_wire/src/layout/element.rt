@@ -43,7 +43,7 @@ impl ElementSize {
         }
     }
 
-    /// The bits of so many elements.
+    /// The bits of a given number of elements.
     pub(crate) fn bits_of_list(self, count: u32) -> u64
         ensures bits { result ≡ count * width (code_of self) }
         ensures bound { result < 2 ^ 39 }
@@ -51,7 +51,7 @@ impl ElementSize {
         count as u64 * self.bits()
     }
 
-    /// The words of a list of so many elements.
+    /// The words of a list of a given number of elements.
     pub(crate) fn words_of_list(self, count: u32) -> u64
         ensures { result ≡ words_for count (width (code_of self)) }
     {

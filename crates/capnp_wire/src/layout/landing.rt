@@ -1,10 +1,10 @@
-//! Where pointers lead, by way of pads.
+//! Where pointers lead, by way of landing pads.
 ghost use Rattle.std.specs.Prelude.{◌≡◌, ◌+◌, ◌*◌, ◌/◌, ◌^◌, ◌<◌, ℕ, Some, None, IfOk, IfErr, MatchOption, MatchResult, false};
 ghost use Rattle.capnp_frame.specs.declared.error.ErrorKind.{ErrorKind};
 ghost use Rattle.capnp_wire.specs.PointerWord.{IsNear, IsFarPointer};
 ghost use Rattle.capnp_wire.specs.Object.{message_of, word_at};
-ghost use Rattle.capnp_wire.specs.Landing.{HasWidePad, IsLanding, NotNear};
-ghost use Rattle.capnp_wire.specs.Faults.{BadPad, Fault};
+ghost use Rattle.capnp_wire.specs.Landing.{HasWideLandingPad, IsLanding, NotNear};
+ghost use Rattle.capnp_wire.specs.Faults.{BadLandingPad, Fault};
 ghost use Rattle.capnp_wire.specs.declared.layout.place.Place.{Place};
 ghost use Rattle.capnp_wire.specs.declared.layout.pointer.FarPointer.{FarPointer};
 
@@ -21,7 +21,7 @@ pub(crate) struct Landing<'a> {
     pub number: u32,
     pub start: Option<usize>,
     pub shape: NearShape,
-    pub pads: u64,
+    pub landing_pads: u64,
 }
 
 /// Where the pointer at a place leads; `None` for null.
@@ -30,8 +30,8 @@ pub(crate) fn land<S: ReaderSegments>(segments: &S, place: Place) -> Result<Opti
     ensures found { let m = message_of (S.segments segments.now) in
         IfOk result (λ found. MatchOption found (word_at m place ≡ Some 0)
         (λ landing. IsLanding m place landing)) }
-    ensures refused { IfErr result (λ error. (level : ℕ) →
-        Fault (message_of (S.segments segments.now)) place level error.kind) }
+    ensures refused { IfErr result (λ error. (nesting : ℕ) →
+        Fault (message_of (S.segments segments.now)) place nesting error.kind) }
 {
     let segment = segment(segments, place.segment)?;
     let pointer = existing_word(segment, place.word)?;
@@ -47,13 +47,18 @@ pub(crate) fn land<S: ReaderSegments>(segments: &S, place: Place) -> Result<Opti
 
 /// Where a struct or list pointer leads that stands at a place of this segment.
 #[inline(always)]
-pub(crate) fn land_near(segment: &[u8], place: Place, near: NearPointer, pads: u64) -> Landing<'_>
+pub(crate) fn land_near(
+    segment: &[u8],
+    place: Place,
+    near: NearPointer,
+    landing_pads: u64,
+) -> Landing<'_>
     requires offset { near.offset.0 < 2 ^ 30 }
     requires place { place.word < 2 ^ 61 }
     ensures segment { result.segment.now ≡ segment.now }
     ensures number { result.number ≡ place.segment }
     ensures shape { result.shape ≡ near.shape }
-    ensures pads { result.pads ≡ pads }
+    ensures landing_pads { result.landing_pads ≡ landing_pads }
     ensures start { let leads_to = λ (start : ℕ).
         start + 2 ^ 30 * (near.offset.0 / 2 ^ 29) ≡ place.word + 1 + near.offset.0 in
         MatchOption result.start ((start : ℕ) → leads_to start → ⊥) leads_to }
@@ -63,7 +68,7 @@ pub(crate) fn land_near(segment: &[u8], place: Place, near: NearPointer, pads: u
         number: place.segment,
         start: near.offset.target(place.word),
         shape: near.shape,
-        pads,
+        landing_pads,
     }
 }
 
@@ -73,26 +78,26 @@ fn land_far<S: ReaderSegments>(segments: &S, far: FarPointer) -> Result<Landing<
         IfOk result (λ landing. (place : Place) (word : ℕ) → word_at m place ≡ Some word →
         IsFarPointer word far → IsLanding m place landing) }
     ensures refused { IfErr result (λ error. (word : ℕ) → IsFarPointer word far →
-        BadPad (message_of (S.segments segments.now)) word error.kind) }
+        BadLandingPad (message_of (S.segments segments.now)) word error.kind) }
 {
-    let pad = segment(segments, far.pad.segment)?;
-    let first = existing_word(pad, far.pad.word)?;
+    let landing_pad = segment(segments, far.landing_pad.segment)?;
+    let first = existing_word(landing_pad, far.landing_pad.word)?;
     if !far.is_wide {
         let near = near_pointer(first)?;
-        return Ok(land_near(pad, far.pad, near, 1));
+        return Ok(land_near(landing_pad, far.landing_pad, near, 1));
     }
-    let tag = existing_word(pad, far.pad.word + 1)?;
+    let tag = existing_word(landing_pad, far.landing_pad.word + 1)?;
     land_wide(segments, first, tag)
 }
 
-// Where a far pointer leads by way of a pad of these two words.
+// Where a far pointer leads by way of a landing pad of these two words.
 fn land_wide<S: ReaderSegments>(segments: &S, first: u64, tag: u64) -> Result<Landing<'_>>
     ensures found { let m = message_of (S.segments segments.now) in
         IfOk result (λ landing. (place : Place) (word : ℕ) → word_at m place ≡ Some word →
-        HasWidePad m word first tag → IsLanding m place landing) }
+        HasWideLandingPad m word first tag → IsLanding m place landing) }
     ensures refused { let m = message_of (S.segments segments.now) in
         IfErr result (λ error. (word : ℕ) →
-        HasWidePad m word first tag → BadPad m word error.kind) }
+        HasWideLandingPad m word first tag → BadLandingPad m word error.kind) }
 {
     let content = content_pointer(first)?;
     let segment = segment(segments, content.segment)?;
@@ -102,19 +107,19 @@ fn land_wide<S: ReaderSegments>(segments: &S, first: u64, tag: u64) -> Result<La
         number: content.segment,
         start: Some(content.word),
         shape: near.shape,
-        pads: 2,
+        landing_pads: 2,
     })
 }
 
-// What the first word of a pad of two words says: where the content is.
+// What the first word of a landing pad of two words says: where the content is.
 fn content_pointer(first: u64) -> Result<Place>
     ensures { let is_far = λ (far : FarPointer). IsFarPointer first far × (far.is_wide ≡ false) in
-        MatchResult result (λ place. (far : FarPointer) × is_far far × (place ≡ far.pad))
+        MatchResult result (λ place. (far : FarPointer) × is_far far × (place ≡ far.landing_pad))
         (λ error. ((far : FarPointer) → is_far far → ⊥)
         × (error.kind ≡ ErrorKind.PointerOutOfBounds)) }
 {
     match PointerWord::read(first) {
-        PointerWord::Far(far) if !far.is_wide => Ok(far.pad),
+        PointerWord::Far(far) if !far.is_wide => Ok(far.landing_pad),
         _ => Err(Error::from_kind(ErrorKind::PointerOutOfBounds)),
     }
 }

@@ -4,7 +4,7 @@ ghost use Rattle.capnp_wire.specs.Pointer.{words_of};
 ghost use Rattle.capnp_wire.specs.Object.{places};
 ghost use Rattle.capnp_wire.specs.Landing.{IsObject};
 ghost use Rattle.capnp_wire.specs.Rows.{places_in};
-ghost use Rattle.capnp_wire.specs.Near.{AreNull, object_of, struct_of};
+ghost use Rattle.capnp_wire.specs.Near.{AreNull, object_of, near_struct_of};
 ghost use Rattle.capnp_wire.specs.Copy.{formed_body, IsNarrower};
 ghost use Rattle.capnp_wire.specs.declared.layout.object.Body.{Body};
 
@@ -32,12 +32,13 @@ pub(crate) fn is_null(segment: &[u8], index: usize) -> bool
     }
 }
 
-/// The list of numbers that the pointer at a place of this segment leads to without a pad, where it
-/// may be entered at this level. `None` says nothing of what stands there: `object_at` does.
+/// The list of numbers that the pointer at a place of this segment leads to without a landing pad,
+/// where it may be entered at this nesting depth left. `None` says nothing of what stands there:
+/// `object_at` does.
 #[inline(always)]
-pub(crate) fn near_list(segment: &[u8], place: Place, level: u32) -> Option<NumberList<'_>>
+pub(crate) fn near_list(segment: &[u8], place: Place, nesting: u32) -> Option<NumberList<'_>>
     ensures { (m : List (List ℕ)) → slice_get m place.segment ≡ Some (words_of segment.now) →
-        IfSome result (λ list. IsObject m place (object_of list) × (0 < level)) }
+        IfSome result (λ list. IsObject m place (object_of list) × (0 < nesting)) }
 {
     let pointer = word(segment, place.word)?;
     let PointerWord::Near(near) = PointerWord::read(pointer) else {
@@ -49,7 +50,7 @@ pub(crate) fn near_list(segment: &[u8], place: Place, level: u32) -> Option<Numb
     let landing = land_near(segment, place, near, 0);
     let start = landing.start?;
     let bits = size.bits_of_list(count);
-    if level == 0 || !fits(segment, start, bits.div_ceil(64)) {
+    if nesting == 0 || !fits(segment, start, bits.div_ceil(64)) {
         return None;
     }
     words_fit(segment);
@@ -65,11 +66,11 @@ pub(crate) fn near_list(segment: &[u8], place: Place, level: u32) -> Option<Numb
     })
 }
 
-/// The same of a struct.
+/// The struct that the pointer at a place of this segment leads to without a landing pad.
 #[inline(always)]
-pub(crate) fn near_struct(segment: &[u8], place: Place, level: u32) -> Option<NearStruct<'_>>
+pub(crate) fn near_struct(segment: &[u8], place: Place, nesting: u32) -> Option<NearStruct<'_>>
     ensures { (m : List (List ℕ)) → slice_get m place.segment ≡ Some (words_of segment.now) →
-        IfSome result (λ found. IsObject m place (struct_of found) × (0 < level)) }
+        IfSome result (λ found. IsObject m place (near_struct_of found) × (0 < nesting)) }
 {
     let pointer = word(segment, place.word)?;
     if pointer == 0 {
@@ -83,7 +84,7 @@ pub(crate) fn near_struct(segment: &[u8], place: Place, level: u32) -> Option<Ne
     };
     let landing = land_near(segment, place, near, 0);
     let start = landing.start?;
-    if level == 0 || !fits(segment, start, size.words()) {
+    if nesting == 0 || !fits(segment, start, size.words()) {
         return None;
     }
     words_fit(segment);
@@ -146,7 +147,7 @@ impl NearStruct<'_> {
         PointerRows::run(self.first_pointer(), self.size.pointers as u32)
     }
 
-    /// Whether its first pointers are null, so many of them.
+    /// Whether its first pointers are null, a given number of them.
     #[inline(always)]
     pub(crate) fn holds_nulls(&self, count: u16) -> bool
         requires room { self.now.start.word + (self.now.size.data_words + self.now.size.pointers)

@@ -1,7 +1,7 @@
 //! Lists of numbers.
 ghost use Rattle.std.specs.Prelude.{◌≡◌, ◌*◌};
 ghost use Rattle.capnp_wire.specs.Element.{code_of, width, words_for};
-ghost use Rattle.capnp_wire.specs.Landing.{charge_of};
+ghost use Rattle.capnp_wire.specs.Landing.{traversed_of};
 ghost use Rattle.capnp_wire.specs.declared.layout.object.Body.{Body};
 
 use crate::layout::element::ElementSize;
@@ -28,10 +28,10 @@ impl NumberList<'_> {
         self.bits.div_ceil(64)
     }
 
-    /// The words that a reader is charged for it.
+    /// The words that a reader counts against the traversal limit for it.
     #[inline(always)]
-    pub(crate) fn charge(&self) -> u64
-        ensures { result ≡ charge_of (Body.Numbers self.now.size self.now.count) }
+    pub(crate) fn traversed(&self) -> u64
+        ensures { result ≡ traversed_of (Body.Numbers self.now.size self.now.count) }
     {
         if self.size == ElementSize::Void {
             self.count as u64

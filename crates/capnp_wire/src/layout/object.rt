@@ -1,4 +1,5 @@
-//! From a place to the object that its pointer leads to: the level, bounds, and a list's tag.
+//! From a place to the object that its pointer leads to: the nesting depth left, bounds, and a
+//! list's tag.
 ghost use Rattle.std.specs.Prelude.{◌≡◌, ◌↔◌, ◌+◌, ◌/◌, ◌^◌, ◌<◌, ◌≤◌, ℕ, [], ◌∷◌, All, length, Some, None, IfOk, IfErr, MatchOption, MatchResult, IsTrue};
 ghost use Rattle.capnp_frame.specs.declared.error.ErrorKind.{ErrorKind};
 ghost use Rattle.capnp_wire.specs.Pointer.{words_of};
@@ -6,7 +7,7 @@ ghost use Rattle.capnp_wire.specs.PointerWord.{IsNearShape};
 ghost use Rattle.capnp_wire.specs.Object.{message_of, word_at, elements, ShapeStands};
 ghost use Rattle.capnp_wire.specs.Tree.{numbers, Trees, depth};
 ghost use Rattle.capnp_wire.specs.Reached.{At};
-ghost use Rattle.capnp_wire.specs.Landing.{IsObject, shape_of, room_of, words_in, charge_of};
+ghost use Rattle.capnp_wire.specs.Landing.{IsObject, shape_of, room_of, words_in, traversed_of};
 ghost use Rattle.capnp_wire.specs.Faults.{Misfits, Fault};
 ghost use Rattle.capnp_wire.specs.Rows.{places_in, end_of};
 ghost use Rattle.capnp_wire.specs.declared.layout.place.Place.{Place};
@@ -26,8 +27,9 @@ pub(crate) struct Object<'a> {
     pub segment: &'a [u8],
     pub start: Place,
     pub body: Body,
-    /// The words that a reader is charged for it, those of pads among them.
-    pub charge: u64,
+    /// The words that a reader counts against the traversal limit for it, those of landing pads
+    /// among them.
+    pub traversed: u64,
 }
 
 /// What an object is.
@@ -36,28 +38,28 @@ pub(crate) enum Body {
     Struct(StructSize),
     Numbers(ElementSize, u32),
     Pointers(u32),
-    /// The elements, and the words behind their tag.
+    /// The elements, and the words after their tag.
     Structs(Elements, u32),
 }
 
-/// The object that the pointer at a place leads to, where it may be entered at this level; `None`
-/// for null.
+/// The object that the pointer at a place leads to, where it may be entered at this nesting depth
+/// left; `None` for null.
 #[inline(always)]
 pub(crate) fn object_at<S: ReaderSegments>(
     segments: &S,
     place: Place,
-    level: u32,
+    nesting: u32,
 ) -> Result<Option<Object<'_>>>
     ensures found { let m = message_of (S.segments segments.now) in
         IfOk result (λ found. MatchOption found (word_at m place ≡ Some 0)
-        (λ object. IsObject m place object × (0 < level))) }
+        (λ object. IsObject m place object × (0 < nesting))) }
     ensures refused { IfErr result (λ error.
-        Fault (message_of (S.segments segments.now)) place level error.kind) }
+        Fault (message_of (S.segments segments.now)) place nesting error.kind) }
 {
     let Some(landing) = land(segments, place)? else {
         return Ok(None);
     };
-    if level == 0 {
+    if nesting == 0 {
         return Err(Error::from_kind(ErrorKind::NestingLimitExceeded));
     }
     let Some(start) = landing.start else {
@@ -72,7 +74,7 @@ pub(crate) fn object_at<S: ReaderSegments>(
             word: start,
         },
         body,
-        charge: landing.pads + body.charge(),
+        traversed: landing.landing_pads + body.traversed(),
     }))
 }
 
@@ -81,16 +83,16 @@ pub(crate) fn object_at<S: ReaderSegments>(
 pub(crate) fn object_there<S: ReaderSegments>(
     segments: &S,
     place: Place,
-    level: u32,
+    nesting: u32,
 ) -> Option<Object<'_>>
-    requires { (trees : Trees) × (charge : ℕ)
-        × At (message_of (S.segments segments.now)) (place ∷ []) trees charge
-        × (depth trees ≤ level) }
+    requires { (trees : Trees) × (traversed : ℕ)
+        × At (message_of (S.segments segments.now)) (place ∷ []) trees traversed
+        × (depth trees ≤ nesting) }
     ensures { let m = message_of (S.segments segments.now) in
         MatchOption result (word_at m place ≡ Some 0)
-        (λ object. IsObject m place object × (0 < level)) }
+        (λ object. IsObject m place object × (0 < nesting)) }
 {
-    match object_at(segments, place, level) {
+    match object_at(segments, place, nesting) {
         Ok(found) => found,
         Err(_) => None,
     }
@@ -131,7 +133,7 @@ fn body_at(segment: &[u8], start: usize, shape: NearShape) -> Result<Body>
     }
 }
 
-// A list of structs at a word of a segment, with so many words behind its tag.
+// A list of structs at a word of a segment, with a given number of words after its tag.
 fn structs(segment: &[u8], start: usize, words: u32) -> Result<Body>
     ensures found { let words_there = words_of segment.now in
         IfOk result (λ body. (tag number : ℕ) → IsNearShape tag (NearShape.Structs words) →
@@ -192,10 +194,10 @@ impl<'a> Object<'a> {
 }
 
 impl Body {
-    /// The words that a reader is charged for it.
+    /// The words that a reader counts against the traversal limit for it.
     #[inline(always)]
-    pub(crate) fn charge(self) -> u64
-        ensures charge { result ≡ charge_of self }
+    pub(crate) fn traversed(self) -> u64
+        ensures traversed { result ≡ traversed_of self }
         ensures bound { result < 2 ^ 40 }
     {
         match self {

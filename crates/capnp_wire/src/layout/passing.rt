@@ -2,8 +2,8 @@
 ghost use Rattle.std.specs.Prelude.{◌+◌, ◌/◌, ◌<◌, ◌≤◌, Bool, ℕ, List, [], ◌∷◌, length, IfErr, IfOk, OnOk, MatchOption, IsTrue};
 ghost use Rattle.capnp_wire.specs.Object.{message_of};
 ghost use Rattle.capnp_wire.specs.Landing.{IsObject};
-ghost use Rattle.capnp_wire.specs.Near.{object_of, struct_of};
-ghost use Rattle.capnp_wire.specs.Charge.{counted, EntersObject, Walked};
+ghost use Rattle.capnp_wire.specs.Near.{object_of, near_struct_of};
+ghost use Rattle.capnp_wire.specs.Traversed.{counted, EntersObject, Walked};
 ghost use Rattle.capnp_wire.specs.Faults.{StopsWalk};
 
 use crate::layout::near::NearStruct;
@@ -21,39 +21,39 @@ impl Walk {
         &mut self,
         segments: &'a S,
         place: Place,
-        level: u32,
+        nesting: u32,
         canonical: bool,
     ) -> Result<Option<Object<'a>>>
         ensures found { let m = message_of (S.segments segments.now) in
             IfOk result (λ met. MatchOption met
-            (Walked m canonical place level
+            (Walked m canonical place nesting
             self.old.left self.new.left (counted self.old) (counted self.new))
-            (λ object. EntersObject m canonical place object level
+            (λ object. EntersObject m canonical place object nesting
             self.old.left self.new.left (counted self.old) (counted self.new))) }
         ensures refused { let m = message_of (S.segments segments.now) in
-            IfErr result (λ error. StopsWalk m (place ∷ []) level self.old.left error.kind) }
+            IfErr result (λ error. StopsWalk m (place ∷ []) nesting self.old.left error.kind) }
     {
-        let Some(object) = object_at(segments, place, level)? else {
+        let Some(object) = object_at(segments, place, nesting)? else {
             return Ok(None);
         };
         self.enter(&object, canonical)?;
         Ok(Some(object))
     }
 
-    /// Enters a struct, and answers whether it holds no others.
+    /// Enters a struct, and returns whether it holds no others.
     #[inline(always)]
     pub(crate) fn pass_struct(&mut self, found: &NearStruct<'_>, canonical: bool) -> Result<bool>
         requires room { found.now.start.word + (found.now.size.data_words + found.now.size.pointers)
             ≤ length found.now.segment.now / 8 }
-        ensures found { (m : List (List ℕ)) (place : Place) (level : ℕ) →
-            IsObject m place (struct_of found.now) → 0 < level → IfOk result (λ alone.
-            EntersObject m canonical place (struct_of found.now) level
+        ensures found { (m : List (List ℕ)) (place : Place) (nesting : ℕ) →
+            IsObject m place (near_struct_of found.now) → 0 < nesting → IfOk result (λ alone.
+            EntersObject m canonical place (near_struct_of found.now) nesting
             self.old.left self.new.left (counted self.old) (counted self.new)
-            × (IsTrue alone → Walked m canonical place level
+            × (IsTrue alone → Walked m canonical place nesting
             self.old.left self.new.left (counted self.old) (counted self.new))) }
-        ensures refused { (m : List (List ℕ)) (place : Place) (level : ℕ) →
-            IsObject m place (struct_of found.now) → 0 < level → IfErr result (λ error.
-            StopsWalk m (place ∷ []) level self.old.left error.kind) }
+        ensures refused { (m : List (List ℕ)) (place : Place) (nesting : ℕ) →
+            IsObject m place (near_struct_of found.now) → 0 < nesting → IfErr result (λ error.
+            StopsWalk m (place ∷ []) nesting self.old.left error.kind) }
     {
         self.pay(found.size.words())?;
         self.count(found.formed(canonical).words());
@@ -63,15 +63,15 @@ impl Walk {
     /// Goes over a list of numbers, which holds none.
     #[inline(always)]
     pub(crate) fn pass_list(&mut self, list: &NumberList<'_>) -> Result<()>
-        ensures found { (m : List (List ℕ)) (canonical : Bool) (place : Place) (level : ℕ) →
-            IsObject m place (object_of list.now) → 0 < level →
-            OnOk result (Walked m canonical place level
+        ensures found { (m : List (List ℕ)) (canonical : Bool) (place : Place) (nesting : ℕ) →
+            IsObject m place (object_of list.now) → 0 < nesting →
+            OnOk result (Walked m canonical place nesting
             self.old.left self.new.left (counted self.old) (counted self.new)) }
-        ensures refused { (m : List (List ℕ)) (place : Place) (level : ℕ) →
-            IsObject m place (object_of list.now) → 0 < level → IfErr result (λ error.
-            StopsWalk m (place ∷ []) level self.old.left error.kind) }
+        ensures refused { (m : List (List ℕ)) (place : Place) (nesting : ℕ) →
+            IsObject m place (object_of list.now) → 0 < nesting → IfErr result (λ error.
+            StopsWalk m (place ∷ []) nesting self.old.left error.kind) }
     {
-        self.pay(list.charge())?;
+        self.pay(list.traversed())?;
         self.count(list.words());
         Ok(())
     }

@@ -50,10 +50,10 @@ pub(crate) struct Elements {
     pub count: u32,
 }
 
-/// Where the pad of a far pointer is, and whether it has two words.
+/// Where the landing pad of a far pointer is, and whether it has two words.
 #[derive(Clone, Copy)]
 pub(crate) struct FarPointer {
-    pub pad: Place,
+    pub landing_pad: Place,
     pub is_wide: bool,
 }
 
@@ -71,7 +71,7 @@ impl PointerWord {
                 shape: list_shape(word),
             }),
             2 => PointerWord::Far(FarPointer {
-                pad: Place {
+                landing_pad: Place {
                     segment: (word / (1 << 32)) as u32,
                     word: (word / 8 % (1 << 29)) as usize,
                 },

@@ -7,7 +7,7 @@ ghost use Rattle.capnp_wire.specs.declared.layout.object.Body.{Body};
 use crate::layout::object::Body;
 use crate::layout::pointer::StructSize;
 
-// The pointer word to a copy that begins so many words behind it.
+// The pointer word to a copy that begins a given number of words after it.
 #[inline(always)]
 pub(crate) fn pointer_word(copied: Body, offset: u64) -> u64
     requires offset { offset < 2 ^ 29 }

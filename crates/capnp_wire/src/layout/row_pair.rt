@@ -41,7 +41,7 @@ impl RowPair {
         RowPair { from, to }
     }
 
-    /// So many pointers, one behind the other, as their slots are.
+    /// A given number of pointers, one after the other, as their slots are.
     #[inline(always)]
     pub(crate) fn run(first: Place, count: u32, slot: usize) -> RowPair
         requires there { first.word + count < 2 ^ 61 }

@@ -1,4 +1,4 @@
-//! The pointers of an object, in rows: so many in each, behind the data of the row.
+//! The pointers of an object, in rows: a given number in each, after the data of the row.
 ghost use Rattle.std.specs.Prelude.{◌≡◌, ◌≢◌, ◌↔◌, ◌+◌, ◌*◌, ◌^◌, ◌<◌, ◌≤◌, [], IsTrue};
 
 use crate::layout::object::Body;
@@ -154,7 +154,7 @@ impl PointerRows {
         }
     }
 
-    /// So many pointers, one behind the other.
+    /// A given number of pointers, one after the other.
     #[inline(always)]
     pub(crate) fn run(first: Place, count: u32) -> PointerRows
         requires bound { first.word + count < 2 ^ 61 }

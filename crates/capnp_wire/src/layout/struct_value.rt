@@ -18,13 +18,13 @@ use crate::layout::walk::Walk;
 use capnp_frame::Result;
 use capnp_frame::message::ReaderSegments;
 
-/// The words of a struct with all below it, behind its pointer, as it stands or in canonical form.
+/// The words of a struct with all below it, after its pointer, as it stands or in canonical form.
 pub(crate) fn measure<S: ReaderSegments>(
     segments: &S,
     segment: &[u8],
     start: Place,
     size: StructSize,
-    level: u32,
+    nesting: u32,
     limit: Option<usize>,
     canonical: bool,
 ) -> Result<u32>
@@ -32,7 +32,7 @@ pub(crate) fn measure<S: ReaderSegments>(
     requires content { HoldsPointers (message_of (S.segments segments.now))
         (words_of segment.now) start size }
     ensures { let fields = fields_at (message_of (S.segments segments.now))
-        (words_of segment.now) start size level limit in
+        (words_of segment.now) start size nesting limit in
         MatchResult result (λ words. HasWords (IsTreeOf fields) canonical words)
         (λ error. LacksWords (IsTreeOf fields) (StopsInside fields) canonical error.kind) }
 {
@@ -41,22 +41,22 @@ pub(crate) fn measure<S: ReaderSegments>(
         segment,
         start,
         body: Body::Struct(size),
-        charge: 0,
+        traversed: 0,
     };
     let mut walk = Walk::new(limit);
     walk.count(formed_as(&object, canonical).words());
-    walk.walk_pointers(segments, segment, object.pointers(), level, canonical)?;
+    walk.walk_pointers(segments, segment, object.pointers(), nesting, canonical)?;
     fitting(walk.words(), canonical)
 }
 
-/// Writes the words of a struct with all below it into a block of just these, and answers the
+/// Writes the words of a struct with all below it into a block of just these, and returns the
 /// pointer to it for a block that follows this pointer at once.
 pub(crate) fn write<S: ReaderSegments>(
     segments: &S,
     segment: &[u8],
     start: Place,
     size: StructSize,
-    level: u32,
+    nesting: u32,
     canonical: bool,
     block: &mut [u8],
 ) -> u64
@@ -65,11 +65,11 @@ pub(crate) fn write<S: ReaderSegments>(
         (words_of segment.now) start size }
     requires words { (limit : Option ℕ) × HasWords (IsTreeOf
         (fields_at (message_of (S.segments segments.now))
-        (words_of segment.now) start size level limit)) canonical (length block.old / 8) }
+        (words_of segment.now) start size nesting limit)) canonical (length block.old / 8) }
     requires whole { length block.old % 8 ≡ 0 }
     ensures written { (limit : Option ℕ) (trees : Trees) →
         IsTreeOf (fields_at (message_of (S.segments segments.now))
-        (words_of segment.now) start size level limit) trees →
+        (words_of segment.now) start size nesting limit) trees →
         result ∷ words_of block.new ≡ layout (formed canonical trees) }
     ensures len { length block.new ≡ length block.old }
 {
@@ -77,10 +77,10 @@ pub(crate) fn write<S: ReaderSegments>(
         segment,
         start,
         body: Body::Struct(size),
-        charge: 0,
+        traversed: 0,
     };
     let copied = formed_as(&object, canonical);
     put_own_words(&object, copied, block, 0);
-    copy_pointers(segments, &object, copied, level, canonical, block, 0);
+    copy_pointers(segments, &object, copied, nesting, canonical, block, 0);
     pointer_word(copied, 0)
 }

@@ -122,7 +122,7 @@ pub(crate) fn is_tight(object: &Object<'_>) -> bool
     }
 }
 
-// Whether the bits behind the elements of a list of numbers are zero, in its last word.
+// Whether the bits after the elements of a list of numbers are zero, in its last word.
 fn is_padded(segment: &[u8], start: usize, size: ElementSize, count: u32) -> bool
     requires { start < 2 ^ 62 }
     ensures { let words = words_of segment.now in
@@ -130,12 +130,12 @@ fn is_padded(segment: &[u8], start: usize, size: ElementSize, count: u32) -> boo
         ↔ Padded words start (numbers (code_of size) (elements words start (code_of size) count)) }
 {
     let bits = count as u64 * size.bits();
-    let behind = bits % 64;
-    if behind == 0 {
+    let following = bits % 64;
+    if following == 0 {
         return true;
     }
     match word(segment, start + (bits / 64) as usize) {
-        Some(last) => last >> behind == 0,
+        Some(last) => last >> following == 0,
         None => false,
     }
 }

@@ -6,9 +6,9 @@ ghost use Rattle.capnp_wire.specs.Element.{words_for};
 ghost use Rattle.capnp_wire.specs.Tree.{Trees, numbers, none, tree};
 ghost use Rattle.capnp_wire.specs.Object.{message_of};
 ghost use Rattle.capnp_wire.specs.Reached.{At};
-ghost use Rattle.capnp_wire.specs.Charge.{Counts};
+ghost use Rattle.capnp_wire.specs.Traversed.{Counts};
 ghost use Rattle.capnp_wire.specs.Layout.{layout, formed};
-ghost use Rattle.capnp_wire.specs.Values.{Measured, Unmeasured, CanWrite, too_large, ManyBytes, ManyWords, pointed};
+ghost use Rattle.capnp_wire.specs.Values.{Measured, UnmeasuredTree, CanWrite, too_large, ManyBytes, ManyWords, pointed};
 
 use crate::layout::block::BlockItem;
 use crate::layout::copy::copy;
@@ -18,20 +18,20 @@ use crate::layout::walk::Walk;
 use capnp_frame::message::ReaderSegments;
 use capnp_frame::{Error, ErrorKind, Result, Word, word};
 
-/// The words of the tree at a place, behind its pointer, as it stands or in canonical form.
+/// The words of the tree at a place, after its pointer, as it stands or in canonical form.
 pub(crate) fn measure<S: ReaderSegments>(
     segments: &S,
     place: Place,
-    level: u32,
+    nesting: u32,
     limit: Option<usize>,
     canonical: bool,
 ) -> Result<u32>
-    ensures answer { let m = message_of (S.segments segments.now) in MatchResult result
-        (λ words. Measured m place level limit canonical words)
-        (λ error. Unmeasured m place level limit canonical error.kind) }
+    ensures returned { let m = message_of (S.segments segments.now) in MatchResult result
+        (λ words. Measured m place nesting limit canonical words)
+        (λ error. UnmeasuredTree m place nesting limit canonical error.kind) }
 {
     let mut walk = Walk::new(limit);
-    walk.walk(segments, place, level, canonical)?;
+    walk.walk(segments, place, nesting, canonical)?;
     fitting(walk.words(), canonical)
 }
 
@@ -56,23 +56,23 @@ pub(crate) fn fitting(words: Option<u64>, canonical: bool) -> Result<u32>
     Err(Error::from_kind(ErrorKind::AllocationTooLarge(told)))
 }
 
-/// Writes the body of the tree at a place into a block of just its words, and answers the pointer
+/// Writes the body of the tree at a place into a block of just its words, and returns the pointer
 /// to it for a block that follows this pointer at once.
 pub(crate) fn write<S: ReaderSegments, T: BlockItem>(
     segments: &S,
     place: Place,
-    level: u32,
+    nesting: u32,
     canonical: bool,
     block: &mut [T],
 ) -> u64
-    requires { CanWrite (message_of (S.segments segments.now)) place level canonical
+    requires { CanWrite (message_of (S.segments segments.now)) place nesting canonical
         (length (T.as_words block.old)) }
-    ensures written { (trees : Trees) (charge : ℕ) →
-        At (message_of (S.segments segments.now)) (place ∷ []) trees charge →
+    ensures written { (trees : Trees) (traversed : ℕ) →
+        At (message_of (S.segments segments.now)) (place ∷ []) trees traversed →
         result ∷ T.as_words block.new ≡ layout (formed canonical trees) }
     ensures len { length (T.as_words block.new) ≡ length (T.as_words block.old) }
 {
-    copy(segments, place, level, canonical, block, 0, 0).pointer
+    copy(segments, place, nesting, canonical, block, 0, 0).pointer
 }
 
 /// A number as the word that it is.
@@ -104,7 +104,7 @@ pub(crate) fn measure_bytes(bytes: &[u8]) -> Result<u32>
     Err(Error::from_kind(ErrorKind::AllocationTooLarge(told)))
 }
 
-/// Writes a list of bytes into a block of zeros of its words, and answers the pointer to it.
+/// Writes a list of bytes into a block of zeros of its words, and returns the pointer to it.
 pub(crate) fn write_bytes(bytes: &[u8], block: &mut [u8]) -> Word
     requires few { length bytes.now < 2 ^ 29 }
     requires room { length block.old ≡ 8 * words_for (length bytes.now) 8 }
@@ -137,7 +137,7 @@ pub(crate) fn measure_text(bytes: &[u8]) -> Result<u32>
     Err(Error::from_kind(ErrorKind::AllocationTooLarge(told)))
 }
 
-/// Writes a text into a block of zeros of its words, and answers the pointer to it.
+/// Writes a text into a block of zeros of its words, and returns the pointer to it.
 pub(crate) fn write_text(bytes: &[u8], block: &mut [u8]) -> Word
     requires few { length bytes.now + 1 < 2 ^ 29 }
     requires room { length block.old ≡ 8 * words_for (length bytes.now + 1) 8 }
@@ -170,7 +170,7 @@ pub(crate) fn measure_words(bytes: &[u8]) -> Result<u32>
     Err(Error::from_kind(ErrorKind::AllocationTooLarge(told)))
 }
 
-/// Writes a list of words into a block of just these, and answers the pointer to it.
+/// Writes a list of words into a block of just these, and returns the pointer to it.
 #[tactic(auto, using(crate::proofs::words::WordListLemmas::words_counted))]
 pub(crate) fn write_words(bytes: &[u8], block: &mut [u8]) -> Word
     requires few { length (words_of bytes.now) < 2 ^ 29 }

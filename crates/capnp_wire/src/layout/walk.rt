@@ -4,7 +4,7 @@ ghost use Rattle.capnp_frame.specs.declared.error.ErrorKind.{ErrorKind};
 ghost use Rattle.capnp_wire.specs.Pointer.{words_of};
 ghost use Rattle.capnp_wire.specs.Object.{message_of, places};
 ghost use Rattle.capnp_wire.specs.Landing.{room_of, words_in};
-ghost use Rattle.capnp_wire.specs.Charge.{counted, Within, Exceeds, CountsMore, Walked, WalkedAll, WalkedTo, less};
+ghost use Rattle.capnp_wire.specs.Traversed.{counted, Within, Exceeds, CountsMore, Walked, WalkedAll, WalkedTo, less};
 ghost use Rattle.capnp_wire.specs.Faults.{StopsWalk};
 ghost use Rattle.capnp_wire.specs.Copy.{formed_body};
 ghost use Rattle.capnp_wire.specs.Rows.{places_in};
@@ -17,7 +17,7 @@ use crate::layout::rows::PointerRows;
 use capnp_frame::message::ReaderSegments;
 use capnp_frame::{Error, ErrorKind, Result};
 
-/// What a walk may still be charged, and the words of what it has met.
+/// What a walk may still count against the traversal limit, and the words of what it has met.
 #[derive(Drop)]
 pub(crate) struct Walk {
     pub(crate) left: Option<usize>,
@@ -39,8 +39,8 @@ impl Walk {
         }
     }
 
-    /// The words of all objects that it has met, without pads, as they stand or in canonical form;
-    /// `None` where they don't fit.
+    /// The words of all objects that it has met, without landing pads, as they stand or in canonical
+    /// form; `None` where they don't fit.
     pub(crate) fn words(&self) -> Option<u64>
         ensures { result ≡ counted self.now }
     {
@@ -50,27 +50,27 @@ impl Walk {
         Some(self.words)
     }
 
-    // Charges an object, and counts its words.
+    // Counts an object against the traversal limit, and its words.
     #[inline(always)]
     pub(crate) fn enter(&mut self, object: &Object<'_>, canonical: bool) -> Result<()>
         requires room { object.now.start.word + room_of object.now.body
             ≤ length object.now.segment.now / 8 }
         requires elements { words_in object.now.body ≤ room_of object.now.body }
-        ensures within { OnOk result (Within self.old.left object.now.charge) }
-        ensures left { OnOk result (self.new.left ≡ less self.old.left object.now.charge) }
+        ensures within { OnOk result (Within self.old.left object.now.traversed) }
+        ensures left { OnOk result (self.new.left ≡ less self.old.left object.now.traversed) }
         ensures words { OnOk result (CountsMore (counted self.old) (counted self.new)
             (words_in (formed_body canonical
             (words_of object.now.segment.now) object.now.start.word object.now.body))) }
-        ensures refused { IfErr result (λ error. Exceeds self.old.left object.now.charge
+        ensures refused { IfErr result (λ error. Exceeds self.old.left object.now.traversed
             × (error.kind ≡ ErrorKind.ReadLimitExceeded)) }
     {
-        self.pay(object.charge)?;
+        self.pay(object.traversed)?;
         let more = formed_as(object, canonical).words();
         self.count(more);
         Ok(())
     }
 
-    /// Charges some words.
+    /// Counts some words against the traversal limit.
     #[inline(always)]
     pub(crate) fn pay(&mut self, words: u64) -> Result<()>
         ensures within { OnOk result (Within self.old.left words) }
@@ -100,34 +100,34 @@ impl Walk {
     }
 
     /// Enters the object that the pointer at a place leads to, where it may be entered at this
-    /// level, and all below it, in preorder. It stops at the first refusal.
+    /// nesting depth, and all below it, in preorder. It stops at the first refusal.
     #[cycle(walk)]
     pub(crate) fn walk<S: ReaderSegments>(
         &mut self,
         segments: &S,
         place: Place,
-        level: u32,
+        nesting: u32,
         canonical: bool,
     ) -> Result<()>
         ensures found { let m = message_of (S.segments segments.now) in
-            OnOk result (Walked m canonical place level
+            OnOk result (Walked m canonical place nesting
             self.old.left self.new.left (counted self.old) (counted self.new)) }
         ensures refused { let m = message_of (S.segments segments.now) in
-            IfErr result (λ error. StopsWalk m (place ∷ []) level self.old.left error.kind) }
+            IfErr result (λ error. StopsWalk m (place ∷ []) nesting self.old.left error.kind) }
     {
-        let Some(object) = self.meet(segments, place, level, canonical)? else {
+        let Some(object) = self.meet(segments, place, nesting, canonical)? else {
             return Ok(());
         };
         self.walk_pointers(
             segments,
             object.segment,
             object.pointers(),
-            level - 1,
+            nesting - 1,
             canonical,
         )
     }
 
-    /// The same of all objects that these pointers lead to, which stand in this segment.
+    /// Walks over all objects that these pointers lead to, which stand in this segment.
     #[inline(always)]
     #[cycle(walk)]
     pub(crate) fn walk_pointers<S: ReaderSegments>(
@@ -135,29 +135,29 @@ impl Walk {
         segments: &S,
         segment: &[u8],
         mut pointers: PointerRows,
-        level: u32,
+        nesting: u32,
         canonical: bool,
     ) -> Result<()>
         requires content { places_in pointers ≢ [] →
             slice_get (message_of (S.segments segments.now)) pointers.next.segment
             ≡ Some (words_of segment.now) }
         ensures found { let m = message_of (S.segments segments.now) in
-            OnOk result (WalkedAll m canonical (places_in pointers) level
+            OnOk result (WalkedAll m canonical (places_in pointers) nesting
             self.old.left self.new.left (counted self.old) (counted self.new)) }
         ensures refused { let m = message_of (S.segments segments.now) in
             IfErr result (λ error.
-            StopsWalk m (places_in pointers) level self.old.left error.kind) }
+            StopsWalk m (places_in pointers) nesting self.old.left error.kind) }
     {
         // Only what a parent's children hold takes a call.
         'parents: while let Some(parent) = self.next_parent(
             segments,
             segment,
             &mut pointers,
-            level,
+            nesting,
             canonical,
         )? {
             let mut below = parent.pointers();
-            let inside = level - 1;
+            let inside = nesting - 1;
             'children: while let Some(child) = self.next_parent(
                 segments,
                 parent.segment,
@@ -178,7 +178,7 @@ impl Walk {
         Ok(())
     }
 
-    // The same up to a struct that holds others: that is entered alone, and answered.
+    // The same up to a struct that holds others: that is entered alone, and returned.
     #[inline(always)]
     #[cycle(walk)]
     fn next_parent<'a, S: ReaderSegments>(
@@ -186,7 +186,7 @@ impl Walk {
         segments: &S,
         segment: &'a [u8],
         pointers: &mut PointerRows,
-        level: u32,
+        nesting: u32,
         canonical: bool,
     ) -> Result<Option<NearStruct<'a>>>
         requires content { places_in pointers.old ≢ [] →
@@ -194,14 +194,14 @@ impl Walk {
             ≡ Some (words_of segment.now) }
         ensures found { let m = message_of (S.segments segments.now) in
             IfOk result (λ met. MatchOption met
-            (WalkedAll m canonical (places_in pointers.old) level
+            (WalkedAll m canonical (places_in pointers.old) nesting
             self.old.left self.new.left (counted self.old) (counted self.new))
             (λ parent. WalkedTo m canonical (places_in pointers.old) (places_in pointers.new)
-            parent level self.old.left self.new.left (counted self.old) (counted self.new)
+            parent nesting self.old.left self.new.left (counted self.old) (counted self.new)
             × (pointers.new.next.segment ≡ pointers.old.next.segment))) }
         ensures refused { let m = message_of (S.segments segments.now) in
             IfErr result (λ error.
-            StopsWalk m (places_in pointers.old) level self.old.left error.kind) }
+            StopsWalk m (places_in pointers.old) nesting self.old.left error.kind) }
     {
         'pointers: while !pointers.is_empty() {
             let place = pointers.take();
@@ -209,22 +209,22 @@ impl Walk {
             if is_null(segment, place.word) {
                 continue 'pointers;
             }
-            if let Some(found) = near_struct(segment, place, level) {
+            if let Some(found) = near_struct(segment, place, nesting) {
                 let alone = self.pass_struct(&found, canonical)?;
                 if !alone {
                     return Ok(Some(found));
                 }
-            } else if let Some(list) = near_list(segment, place, level) {
+            } else if let Some(list) = near_list(segment, place, nesting) {
                 self.pass_list(&list)?;
             } else {
-                self.walk(segments, place, level, canonical)?;
+                self.walk(segments, place, nesting, canonical)?;
             }
         }
         Ok(None)
     }
 
-    // As `walk_pointers`, of so many pointers that stand one behind the other. All that it is told
-    // fits registers.
+    // As `walk_pointers`, of a given number of pointers that stand one after the other. All that it
+    // is told fits registers.
     #[cycle(walk)]
     fn walk_run<S: ReaderSegments>(
         &mut self,
@@ -232,20 +232,20 @@ impl Walk {
         segment: &[u8],
         first: Place,
         count: u32,
-        level: u32,
+        nesting: u32,
         canonical: bool,
     ) -> Result<()>
         requires bound { first.word + count < 2 ^ 61 }
         requires content { slice_get (message_of (S.segments segments.now)) first.segment
             ≡ Some (words_of segment.now) }
         ensures found { let m = message_of (S.segments segments.now) in
-            OnOk result (WalkedAll m canonical (places first.segment first.word count) level
+            OnOk result (WalkedAll m canonical (places first.segment first.word count) nesting
             self.old.left self.new.left (counted self.old) (counted self.new)) }
         ensures refused { let m = message_of (S.segments segments.now) in
-            IfErr result (λ error. StopsWalk m (places first.segment first.word count) level
+            IfErr result (λ error. StopsWalk m (places first.segment first.word count) nesting
             self.old.left error.kind) }
     {
         let pointers = PointerRows::run(first, count);
-        self.walk_pointers(segments, segment, pointers, level, canonical)
+        self.walk_pointers(segments, segment, pointers, nesting, canonical)
     }
 }

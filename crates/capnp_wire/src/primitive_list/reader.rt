@@ -36,7 +36,7 @@ impl<'a> Reader<'a, u64> {
     }
 }
 
-// Empty from null, else the words of a list of 8 bytes each; any other object is refused by
+// Empty from null, else the words of a list of 8 bytes each; any other object fails with
 // `WrongPointerKind`.
 impl<'a, S: ReaderSegments> FromPointerReader<'a, S> for Reader<'a, u64> {
     ghost shows = { λ pointer view.

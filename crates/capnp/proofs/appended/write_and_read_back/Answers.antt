@@ -20,7 +20,7 @@ returns-in_err-readers g c =
     let texts = read_texts Zero c.args.format c.args.options.traversal_limit_in_words
     (map g.S.ReaderSegments.segments c.args.messages.now) c.new-text.result.items _ c.deref-source.result.now
     c.new-text.ensures.items c.deref-source.ensures.value c.requires.writable c.in_ok-write_messages.ensures.few
-    c.requires.size (c.in_ok-write_messages.ensures.text (λ piece text same. same)) in
+    c.requires.size (c.in_ok-write_messages.ensures.text (λ chunk text same. same)) in
     let memory = memory_only c.in_err-readers.field-0.0.kind (told.accepted (map g.S.ReaderSegments.segments c.args.messages.now) [] texts
     (length-map c.args.messages.now g.S.ReaderSegments.segments)) told.failed in
     rw (p.1, p.2) (record { written = tt; read = tt; back = tt; options_are = tt; ends = tt; few = tt; refused = inr memory })
@@ -31,7 +31,7 @@ returns-in_err-end g c =
     let texts = read_texts Zero c.args.format c.args.options.traversal_limit_in_words
     (map g.S.ReaderSegments.segments c.args.messages.now) c.new-text.result.items _ c.deref-source.result.now
     c.new-text.ensures.items c.deref-source.ensures.value c.requires.writable c.in_ok-write_messages.ensures.few
-    c.requires.size (c.in_ok-write_messages.ensures.text (λ piece text same. same)) in
+    c.requires.size (c.in_ok-write_messages.ensures.text (λ chunk text same. same)) in
     let same = read_same Zero c.args.format c.args.options.traversal_limit_in_words (λ reader. reader.segments) g.S.ReaderSegments.segments
     c.in_ok-readers.readers.items c.args.messages.now c.deref-source.result.now _ c.in_ok-readers.ensures.found texts
     c.in_ok-readers.ensures.counted in
@@ -42,7 +42,7 @@ pub returns : goal.returns
 returns g c =
     let limit = c.args.options.traversal_limit_in_words in
     let messages = map g.S.ReaderSegments.segments c.args.messages.now in
-    let wrote = c.in_ok-write_messages.ensures.text (λ piece text same. same) in
+    let wrote = c.in_ok-write_messages.ensures.text (λ chunk text same. same) in
     let texts = read_texts Zero c.args.format limit messages c.new-text.result.items _ c.deref-source.result.now
     c.new-text.ensures.items c.deref-source.ensures.value c.requires.writable c.in_ok-write_messages.ensures.few c.requires.size wrote in
     let same = read_same Zero c.args.format limit (λ reader. reader.segments) g.S.ReaderSegments.segments

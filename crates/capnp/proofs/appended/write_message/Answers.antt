@@ -1,5 +1,5 @@
 -- The text of the format, and the writer's refusals.
-use Rattle.capnp.proofs.PieceLemmas.{framed_appending, packed_appending}
+use Rattle.capnp.proofs.ChunkLemmas.{framed_appending, packed_appending}
 use Rattle.capnp.proofs.appended.write_message.Goals as goal
 
 pub returns-in-Framed-clause-text : goal.returns-in-Framed-clause-text

@@ -14,5 +14,5 @@ write_and_read_back-requires g c =
 pub returns-clause-tree : goal.returns-clause-tree
 returns-clause-tree g c =
     let set = c.in_ok-set_root.ensures.set in
-    tree_again (g.V.SetterInput.has_tree c.args.value) (λ reader. reader.segments) c.write_and_read_back.result _ (set.trees, set.tree_is, (set.charge, set.stands))
+    tree_again (g.V.SetterInput.has_tree c.args.value) (λ reader. reader.segments) c.write_and_read_back.result _ (set.trees, set.tree_is, (set.traversed, set.stands))
     c.write_and_read_back.ensures.back

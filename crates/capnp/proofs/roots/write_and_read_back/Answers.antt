@@ -10,7 +10,7 @@ returns g c =
     let output = c.get_segments_for_output-output in
     let written = c.in_ok-write_message.ensures in
     let alone = added_alone c.args.format output.result c.new-text.result.items _ c.deref-source.result.now
-    c.new-text.ensures.items c.deref-source.ensures.value (written.text (λ piece text same. same)) in
+    c.new-text.ensures.items c.deref-source.ensures.value (written.text (λ chunk text same. same)) in
     rw (← output.ensures.segments) (written_and_read Zero c.args.format c.args.options _ _ _ output.result (λ reader. reader.segments) (λ reader. reader.options)
     c.read_message.result c.deref-source.result.now alone (output.ensures.writable c.requires) written.few refl refl refl c.read_message.ensures.texts
     c.read_message.ensures.reads c.read_message.ensures.options)

@@ -1,11 +1,11 @@
 -- What was written is what the stream's end asks for.
-use Rattle.capnp.proofs.EndLemmas.{answered_known}
+use Rattle.capnp.proofs.EndLemmas.{returned_known}
 use Rattle.capnp.proofs.streams.write_each_message.Goals as goal
 
 pub returns : goal.returns
 returns g c = record {
   written = c.write_all.ensures.written;
-  exact = answered_known c.args.padding c.args.format c.args.options.traversal_limit_in_words
+  exact = returned_known c.args.padding c.args.format c.args.options.traversal_limit_in_words
       (g.M.MessageWriter.writes c.args.writer.now g.W.Write.appends)
       (g.M.MessageWriter.declines c.args.writer.now g.W.Write.refuses) c.write_all.result _ _ _ _
       c.write_all.ensures.written;

@@ -1,6 +1,6 @@
 -- Whether the last byte is zero.
 use Rattle.std.proofs.Common.{◌≡◌, ℕ, suc, ◌+◌, ◌-◌, List, [], ◌∷◌, ◌++◌, length, take, true, false, ap, ◌∙◌, arith, length-append}
-use Rattle.capnp_wire.proofs.views.FormLemmas.{zero_behind}
+use Rattle.capnp_wire.proofs.views.FormLemmas.{zero_after}
 use Rattle.capnp_build.proofs.text.ends_with_zero.Goals as goal
 
 none_in : (bytes text : List ℕ) → length bytes ≡ 0 → bytes ≡ text ++ 0 ∷ [] → ⊥
@@ -11,7 +11,7 @@ returns c =
     let bytes : List ℕ = c.args.bytes.now in
     let n : ℕ = length bytes in
     let last : suc (n - 1) ≡ length bytes = omega arith in
-    record { yes = λ e. (take (n - 1) bytes, zero_behind bytes (n - 1) last (omega arith)); no = λ e. absurd (let no : true ≡ false = e in cc) }
+    record { yes = λ e. (take (n - 1) bytes, zero_after bytes (n - 1) last (omega arith)); no = λ e. absurd (let no : true ≡ false = e in cc) }
 
 pub returns-then-n-eq0 : goal.returns-then-n-eq0
 returns-then-n-eq0 c = record { yes = λ e. absurd (let no : false ≡ true = e in cc); no = λ e text h. none_in c.args.bytes.now text (omega arith) h }

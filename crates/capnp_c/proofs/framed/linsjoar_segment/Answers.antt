@@ -1,7 +1,7 @@
 -- The segment is the one of this number, where there is one.
 use Rattle.std.proofs.Common.{sym, ap, ◌∙◌}
 use Rattle.std.specs.Prelude.{option_copied}
-use Rattle.capnp_frame.specs.Numbers.{number_of}
+use Rattle.capnp_frame.specs.Numbers.{kind_number}
 use Rattle.capnp_c.proofs.FrontLemmas.{one_front, segment_words, segment_there, no_segment_there}
 use Rattle.capnp_c.proofs.framed.linsjoar_segment.Goals as goal
 
@@ -36,4 +36,4 @@ pub returns-in-Err-clause-none : goal.returns-in-Err-clause-none
 returns-in-Err-clause-none c segments rest front outside = let never = c.in-Err.ensures.reads.accepted segments rest front in absurd (cc)
 
 pub returns-in-Err-clause-refused : goal.returns-in-Err-clause-refused
-returns-in-Err-clause-refused c kind refused = c.number-in-Err.ensures ∙ ap number_of (c.in-Err.ensures.reads.exact kind refused)
+returns-in-Err-clause-refused c kind refused = c.number-in-Err.ensures ∙ ap kind_number (c.in-Err.ensures.reads.exact kind refused)

@@ -1,8 +1,8 @@
 -- A text that begins with such a packing is not refused, and any other is, by its line.
 use Rattle.std.proofs.Common.{ap, ◌∙◌}
-use Rattle.capnp_frame.specs.Numbers.{number_of}
+use Rattle.capnp_frame.specs.Numbers.{kind_number}
 use Rattle.capnp_pack.specs.RefusingLaws.{unpacking}
-use Rattle.capnp_c.proofs.PackedLemmas.{piece_refused}
+use Rattle.capnp_c.proofs.PackedLemmas.{chunk_refused}
 use Rattle.capnp_c.proofs.packed.linsjoar_unpack.Goals as goal
 
 pub returns-in-Ok-clause-refused : goal.returns-in-Ok-clause-refused
@@ -10,8 +10,8 @@ returns-in-Ok-clause-refused c kind refused = absurd (unpacking.apart _ _ _ _ ki
 
 pub returns-in-Err-clause-accepted : goal.returns-in-Err-clause-accepted
 returns-in-Err-clause-accepted c bytes rest given =
-    absurd (unpacking.apart _ _ bytes rest _ given (piece_refused _ _ c.in-Err.error.kind c.in-Err.ensures.refused c.in-Err.ensures.failed))
+    absurd (unpacking.apart _ _ bytes rest _ given (chunk_refused _ _ c.in-Err.error.kind c.in-Err.ensures.refused c.in-Err.ensures.failed))
 
 pub returns-in-Err-clause-refused : goal.returns-in-Err-clause-refused
 returns-in-Err-clause-refused c kind refused =
-    c.number.ensures ∙ ap number_of (unpacking.one_kind _ _ c.in-Err.error.kind kind (piece_refused _ _ c.in-Err.error.kind c.in-Err.ensures.refused c.in-Err.ensures.failed) refused)
+    c.number.ensures ∙ ap kind_number (unpacking.one_kind _ _ c.in-Err.error.kind kind (chunk_refused _ _ c.in-Err.error.kind c.in-Err.ensures.refused c.in-Err.ensures.failed) refused)

@@ -1,6 +1,6 @@
 -- What is unpacked is the framed text of the message that stands there.
 use Rattle.std.proofs.Common.{◌≡◌, length, rules, arith, ap, ◌∙◌, Some}
-use Rattle.capnp_frame.specs.Numbers.{number_of}
+use Rattle.capnp_frame.specs.Numbers.{kind_number}
 use Rattle.capnp_frame.proofs.AskLemmas.{never_fails}
 use Rattle.capnp_c.proofs.UnpackedLemmas.{front_message, taken, none_stands, own_kind, in_room}
 use Rattle.capnp_c.proofs.packed_messages.linsjoar_unpack_message.Goals as goal
@@ -49,4 +49,4 @@ pub returns-in-Err-clause-refused : goal.returns-in-Err-clause-refused
 returns-in-Err-clause-refused c kind left refused =
     let reads = c.in-Err.ensures.reads in
     let long : length c.try_read_packed_text_into.new.buffer ≡ length c.args.framed.now = search rules in
-    c.number-in-Err.ensures ∙ ap number_of (own_kind c.in-Err.error.kind kind (reads.exact kind left (in_room _ left kind _ _ long refused)) reads.failed)
+    c.number-in-Err.ensures ∙ ap kind_number (own_kind c.in-Err.error.kind kind (reads.exact kind left (in_room _ left kind _ _ long refused)) reads.failed)

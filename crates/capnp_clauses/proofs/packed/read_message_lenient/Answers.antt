@@ -1,7 +1,7 @@
 -- Where nothing is unread no packed text stands, and the kinds of a failure.
 use Rattle.capnp_frame.specs.declared.serialize.segment_table.Padding.TheVariants.{Any}
 use Rattle.capnp_frame.specs.Refusals.{IsReaderKind}
-use Rattle.capnp_pack.specs.PackedSource.{RefusesPiece}
+use Rattle.capnp_pack.specs.PackedSource.{RefusesChunk}
 use Rattle.capnp_pack.specs.RefusingLaws.{unpacking}
 use Rattle.capnp_pack.proofs.PackedFrameLemmas.{packed_requests}
 use Rattle.capnp.proofs.ReaderLemmas.{nothing_begins_known}
@@ -14,4 +14,4 @@ returns-in-Ok-clause-end g c = λ none. nothing_begins_known Any unpacking (pack
 
 pub returns-in-Err-clause-kinds : goal.returns-in-Err-clause-kinds
 returns-in-Err-clause-kinds g c =
-    or_fails_kinds (IsReaderKind Any RefusesPiece) c.in-Err.error c.in-Err.ensures.reads (λ reads. reads.kinds)
+    or_fails_kinds (IsReaderKind Any RefusesChunk) c.in-Err.error c.in-Err.ensures.reads (λ reads. reads.kinds)

@@ -1,10 +1,10 @@
--- The pieces are the frame, joined.
+-- The chunks are the frame, joined.
 use Rattle.std.proofs.Common.{sym, ◌∙◌}
-use Rattle.capnp_frame.specs.Writing.{pieces}
+use Rattle.capnp_frame.specs.Writing.{chunks}
 use Rattle.capnp_frame.proofs.SinkLemmas.{left_is_front}
-use Rattle.capnp_frame.proofs.SizeLemmas.{concat-pieces}
+use Rattle.capnp_frame.proofs.SizeLemmas.{concat-chunks}
 use Rattle.capnp_frame.proofs.laws.what_is_left_of_a_message_is_a_front.Goals as goal
 
 pub returns : goal.returns
-returns g c within segments text left = let (tail, e) = left_is_front g.W.Write.leaves within (pieces segments) text left in
-    (tail, sym (concat-pieces segments) ∙ e)
+returns g c within segments text left = let (tail, e) = left_is_front g.W.Write.leaves within (chunks segments) text left in
+    (tail, sym (concat-chunks segments) ∙ e)

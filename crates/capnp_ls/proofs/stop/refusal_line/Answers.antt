@@ -1,4 +1,4 @@
--- The pieces are joined in the order of the line.
+-- The chunks are joined in the order of the line.
 use Rattle.std.proofs.Common.{rules, string_bytes}
 use Rattle.std.proofs.lemmas.Grind.{common_steps}
 use Rattle.capnp_ls.proofs.stop.refusal_line.Goals as goal

@@ -15,8 +15,8 @@ fn assert_prints(
     let words = words(rt.alloc(), texts)?;
     let mut source = input;
     let mut sink = Vec::new(rt.alloc());
-    let answer = run(rt.alloc(), &words, &mut source, &mut sink);
-    assert!(rt; answer.is_ok(), "{texts:?}");
+    let returned = run(rt.alloc(), &words, &mut source, &mut sink);
+    assert!(rt; returned.is_ok(), "{texts:?}");
     assert!(rt; source.is_empty(), "{texts:?}");
     assert!(rt; sink.as_slice() == output, "{texts:?}");
     Ok(())
@@ -50,9 +50,9 @@ fn a_thousand_messages_and_one(rt: HostRuntime) -> Result<(), Fail> {
     assert_prints(&rt, &["canon", "--packed"], &packed, &framed)
 }
 
-// A message of so many segments, from two on: a root's word, the text "hello world!" behind its pad in
-// the last segment, and between these none has words.
-fn crowded(alloc: Global, segments: u32) -> Result<Vec<u8>, AllocError> {
+// A message of a given number of segments, from two on: a root's word, the text "hello world!" after
+// its landing pad in the last segment, and between these none has words.
+fn no_room(alloc: Global, segments: u32) -> Result<Vec<u8>, AllocError> {
     let last = segments.saturating_sub(1);
     let mut text = last.to_le_bytes().to_vec(alloc)?;
     for segment in 0..segments {
@@ -77,7 +77,7 @@ const FORM: &[u8] = b"\0\0\0\0\x03\0\0\0\x01\0\0\0\x6a\0\0\0hello world!\0\0\0\0
 #[test]
 fn messages_of_many_segments(rt: HostRuntime) -> Result<(), Fail> {
     for segments in [9, 10, 511] {
-        let framed = crowded(rt.alloc(), segments)?;
+        let framed = no_room(rt.alloc(), segments)?;
         let mut line = format!(in rt.alloc(); "0 {segments} 4 1")?;
         for _ in 2..segments {
             line.push_str(" 0")?;
@@ -89,8 +89,8 @@ fn messages_of_many_segments(rt: HostRuntime) -> Result<(), Fail> {
         let words = words(rt.alloc(), &["pack"])?;
         let mut packed = Vec::new(rt.alloc());
         let mut source = framed.as_slice();
-        let answer = run(rt.alloc(), &words, &mut source, &mut packed);
-        assert!(rt; answer.is_ok(), "{segments} segments");
+        let returned = run(rt.alloc(), &words, &mut source, &mut packed);
+        assert!(rt; returned.is_ok(), "{segments} segments");
         assert_prints(&rt, &["unpack"], &packed, &framed)?;
         assert_prints(&rt, &["list", "--packed"], &packed, line.as_bytes())?;
         assert_prints(&rt, &["canon", "--packed"], &packed, FORM)?;

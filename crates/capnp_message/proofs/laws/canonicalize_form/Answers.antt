@@ -18,9 +18,9 @@ returns-in_err-words-clause-kind c =
 pub returns-clause-canonical : goal.returns-clause-canonical
 returns-clause-canonical c =
     let own = own_of _ _ _ _ c.new-reader.ensures c.new.ensures c.requires.unlimited c.requires.form in
-    c.in_ok-is_canonical.ensures.answer.1 (form_canonical _ _ own.0 own.1)
+    c.in_ok-is_canonical.ensures.returned.1 (form_canonical _ _ own.0 own.1)
 
 pub returns-clause-same : goal.returns-clause-same
 returns-clause-same c =
     let own = own_of _ _ _ _ c.new-reader.ensures c.new.ensures c.requires.unlimited c.requires.form in
-    one_form _ _ _ c.in_ok-words.ensures.answer own.0
+    one_form _ _ _ c.in_ok-words.ensures.returned own.0

@@ -4,4 +4,4 @@ use Rattle.capnp_build.specs.Out.{here}
 use Rattle.capnp_message_calls.proofs.allocators.heap_sizes.Goals as goal
 
 pub deallocate_segment-requires-clause-is_out : goal.deallocate_segment-requires-clause-is_out
-deallocate_segment-requires-clause-is_out c there = (record { length = length there.in_ok-segment.segment.items; is_lent = false } ∷ [], [], tt, here)
+deallocate_segment-requires-clause-is_out c there = (record { length = length there.in_ok-segment.segment.items; is_provided = false } ∷ [], [], tt, here)

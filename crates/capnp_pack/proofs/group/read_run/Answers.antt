@@ -1,4 +1,4 @@
--- The run is a request of so many bytes, after its count.
+-- The run is a request of a given number of bytes, after its count.
 use Rattle.std.proofs.Common.{rules, arith}
 use Rattle.std.proofs.lemmas.Grind.{common_steps}
 use Rattle.capnp_pack.proofs.CallLemmas.{takes_passed, takes_err, takes_own, takes_ok}

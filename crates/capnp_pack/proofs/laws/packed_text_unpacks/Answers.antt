@@ -1,4 +1,4 @@
--- A packed text is a piece, and a request has one answer.
+-- A packed text is a chunk, and a request has one result.
 use Rattle.capnp_pack.proofs.PackerLemmas.{Packs-unpacks, Packs-unpacks-alone}
 use Rattle.capnp_pack.proofs.laws.packed_text_unpacks.Goals as goal
 

@@ -26,34 +26,34 @@ loop-done-preserved g c =
 pub returns-in_err-packed-clause-writes : goal.returns-in_err-packed-clause-writes
 returns-in_err-packed-clause-writes g c =
     let words = c.as_chunks.result.0.now in
-    let cut = whole_words c.args.piece.now words c.requires c.as_chunks.ensures.front in
+    let cut = whole_words c.args.chunk.now words c.requires c.as_chunks.ensures.front in
     let front = next_words words c.loop-done.done c.loop-done-test.true in
     hands_stopped g.W.Write g.met.W.Write.keeps _ _ _ _ _ _ _ _ _ c.from_residual.ensures.1
-    (left_group g.W.Write.appends g.W.Write.leaves c.args.piece.now words c.loop-done.done _ _ _ _ _ _ cut.0 cut.1 front c.loop-done.invariant.2)
+    (left_group g.W.Write.appends g.W.Write.leaves c.args.chunk.now words c.loop-done.done _ _ _ _ _ _ cut.0 cut.1 front c.loop-done.invariant.2)
     c.loop-done.invariant.3 c.in_err-packed.ensures.hands
 
 pub returns-clause-writes : goal.returns-clause-writes
 returns-clause-writes g c =
     let words = c.as_chunks.result.0.now in
-    let cut = whole_words c.args.piece.now words c.requires c.as_chunks.ensures.front in
+    let cut = whole_words c.args.chunk.now words c.requires c.as_chunks.ensures.front in
     hands_last g.W.Write g.met.W.Write.keeps _ _ _ _ _ _ _ c.flush.result
-    (λ last. packed_all g.W.Write.appends c.args.piece.now words c.loop-done.done (take c.loop-done.used c.loop-done.bytes) [] _ _ _
+    (λ last. packed_all g.W.Write.appends c.args.chunk.now words c.loop-done.done (take c.loop-done.used c.loop-done.bytes) [] _ _ _
     cut.0 c.loop-done-test.false refl c.loop-done.invariant.2 last)
-    (left_last g.W.Write.appends g.W.Write.leaves c.args.piece.now words c.loop-done.done _ _ _ _ cut.0 c.loop-done-test.false c.loop-done.invariant.2)
+    (left_last g.W.Write.appends g.W.Write.leaves c.args.chunk.now words c.loop-done.done _ _ _ _ cut.0 c.loop-done-test.false c.loop-done.invariant.2)
     c.loop-done.invariant.3 c.flush.ensures.hands
 
 pub returns-in_err-packed-clause-granted : goal.returns-in_err-packed-clause-granted
 returns-in_err-packed-clause-granted g c text more packs granted =
     let words = c.as_chunks.result.0.now in
-    let cut = whole_words c.args.piece.now words c.requires c.as_chunks.ensures.front in
+    let cut = whole_words c.args.chunk.now words c.requires c.as_chunks.ensures.front in
     let front = next_words words c.loop-done.done c.loop-done-test.true in
-    let (group, count, others, made, given) = grants_group (g.W.Write.grants c.args.sink.now) (g.W.Write.grants c.loop-done.sink) c.args.piece.now text more
+    let (group, count, others, made, given) = grants_group (g.W.Write.grants c.args.sink.now) (g.W.Write.grants c.loop-done.sink) c.args.chunk.now text more
     words c.loop-done.done c.loop-done.used (get_or words c.loop-done.done []) _ cut.0 cut.1 front packs granted c.loop-done.invariant.4 in
     absurd (c.in_err-packed.ensures.granted group count others made given)
 
 pub returns-clause-granted : goal.returns-clause-granted
 returns-clause-granted g c text more packs granted =
     let words = c.as_chunks.result.0.now in
-    let cut = whole_words c.args.piece.now words c.requires c.as_chunks.ensures.front in
-    c.flush.ensures.granted more (grants_last (g.W.Write.grants c.args.sink.now) (g.W.Write.grants c.loop-done.sink) c.args.piece.now text more words
+    let cut = whole_words c.args.chunk.now words c.requires c.as_chunks.ensures.front in
+    c.flush.ensures.granted more (grants_last (g.W.Write.grants c.args.sink.now) (g.W.Write.grants c.loop-done.sink) c.args.chunk.now text more words
     c.loop-done.done c.loop-done.used cut.0 c.loop-done-test.false packs granted c.loop-done.invariant.4)

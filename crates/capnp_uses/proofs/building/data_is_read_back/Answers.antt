@@ -8,5 +8,5 @@ use Rattle.capnp_uses.proofs.building.data_is_read_back.Goals as goal
 pub returns : goal.returns
 returns g c =
     let there = root_is_read _ (numbers 2 c.args.bytes.now) (λ form. IsData form c.in_ok-data.data.now)
-    c.in_ok-write_data.ensures.stands c.in_ok-data.ensures.answer in
+    c.in_ok-write_data.ensures.stands c.in_ok-data.ensures.returned in
     record { stands = c.in_ok-write_data.ensures.stands; back = search rules }

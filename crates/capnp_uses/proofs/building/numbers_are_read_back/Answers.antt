@@ -11,6 +11,6 @@ pub returns : goal.returns
 returns g c =
     let words = words_of c.in_ok-list.list.bytes.now in
     let there = root_is_read _ (numbers 5 (c.args.first ∷ c.args.second ∷ [])) (λ form. IsWords form words)
-    c.in_ok-write_numbers.ensures.stands c.in_ok-list.ensures.answer in
+    c.in_ok-write_numbers.ensures.stands c.in_ok-list.ensures.returned in
     let all : take c.loop-index.index words ≡ words = take_all c.loop-index.index words (omega arith) in
     record { stands = c.in_ok-write_numbers.ensures.stands; back = c.loop-index.invariant ∙ all ∙ there.1 }

@@ -9,6 +9,6 @@ use Rattle.capnp_uses.proofs.building.text_is_read_back.Goals as goal
 pub returns : goal.returns
 returns g c =
     let there = root_is_read _ (numbers 2 (c.args.bytes.now ++ 0 ∷ [])) (λ form. IsText form c.in_ok-text.text.bytes.now)
-    c.in_ok-write_text.ensures.stands c.in_ok-text.ensures.answer in
+    c.in_ok-write_text.ensures.stands c.in_ok-text.ensures.returned in
     let same = append_cancel_right c.args.bytes.now c.in_ok-text.text.bytes.now (0 ∷ []) there.1 in
     record { stands = c.in_ok-write_text.ensures.stands; back = search rules }

@@ -15,7 +15,7 @@ returns c =
     record {
       form = λ message rest begins. form_of_root (λ words. numbers_of words.items) _ c.canonicalize.result _ _
           (root_is_default reader.segments.segments message reader.options (c.in_ok-message.ensures.exact message rest begins) c.in_ok-message.ensures.options)
-          c.canonicalize.ensures.answer;
+          c.canonicalize.ensures.returned;
       found = λ message rest begins.
           subst (λ pointer. HasForm pointer → IfErr c.canonicalize.result (λ error. error.kind ≡ OutOfMemory))
           (root_is_default reader.segments.segments message reader.options (c.in_ok-message.ensures.exact message rest begins) c.in_ok-message.ensures.options)

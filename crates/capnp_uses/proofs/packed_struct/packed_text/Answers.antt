@@ -12,5 +12,5 @@ returns g c =
       subst HasFew output.ensures.segments c.in_ok-write_message_segments.ensures.count.few,
       subst (λ m. IsPackedTextOf m c.write_message_segments.new.sink.items) output.ensures.segments
           (added_text output.result c.new-text.result.items c.write_message_segments.new.sink.items c.new-text.ensures.items
-          (c.in_ok-write_message_segments.ensures.text (λ piece text same. same))),
+          (c.in_ok-write_message_segments.ensures.text (λ chunk text same. same))),
     )

@@ -8,7 +8,7 @@ use Rattle.capnp_wire.specs.Views.{DeclinesStruct}
 use Rattle.capnp_message.specs.Seen.{root_of}
 use Rattle.capnp.proofs.AppendedLemmas.{memory_only}
 use Rattle.capnp_frame.specs.Limits.{default_limit}
-use Rattle.capnp_uses.specs.Roots.{HasRoot}
+use Rattle.capnp_uses.specs.Roots.{HasPlainRoot}
 use Rattle.capnp_uses.proofs.ReadingLemmas.{default_depth}
 use Rattle.capnp_uses.proofs.RootLemmas.{read_at_root, root_meets_limit, struct_is_taken}
 use Rattle.capnp_uses.proofs.PackedStructLemmas.{packed_read, begins_packed}
@@ -24,15 +24,15 @@ pub returns-in_err-fields-clause-found : goal.returns-in_err-fields-clause-found
 returns-in_err-fields-clause-found c message first second writable few size packed stands =
     let reader = c.in_ok-message.message in
     let same = packed_read default_limit reader.segments message c.args.text.now _ c.in_ok-message.ensures.texts.found writable packed in
-    let here = subst (λ m. HasRoot m (struct (first ∷ second ∷ []))) (sym same) stands in
+    let here = subst (λ m. HasPlainRoot m (struct (first ∷ second ∷ []))) (sym same) stands in
     let p = err_from_is_err_and c.from_residual-in_err-fields.result c.from_residual-in_err-fields.ensures.1 in
     rw (p.1, p.2) (inr (root_meets_limit (root_of (λ segments. segments) reader) (struct (first ∷ second ∷ [])) DeclinesStruct c.in_err-fields.field-0.0.kind refl here (default_depth reader.options c.in_ok-message.ensures.options)
-    (struct_is_taken (first ∷ second ∷ []) c.in_err-fields.field-0.0.kind) c.in_err-fields.ensures.answer).2)
+    (struct_is_taken (first ∷ second ∷ []) c.in_err-fields.field-0.0.kind) c.in_err-fields.ensures.returned).2)
 
 pub returns-clause-words : goal.returns-clause-words
 returns-clause-words c message first second writable packed stands =
     let reader = c.in_ok-message.message in
     let same = packed_read default_limit reader.segments message c.args.text.now _ c.in_ok-message.ensures.texts.found writable packed in
-    let here = subst (λ m. HasRoot m (struct (first ∷ second ∷ []))) (sym same) stands in
-    let there = read_at_root (root_of (λ segments. segments) reader) (struct (first ∷ second ∷ [])) _ refl here c.in_ok-fields.ensures.answer.shown in
+    let here = subst (λ m. HasPlainRoot m (struct (first ∷ second ∷ []))) (sym same) stands in
+    let there = read_at_root (root_of (λ segments. segments) reader) (struct (first ∷ second ∷ [])) _ refl here c.in_ok-fields.ensures.returned.shown in
     search rules

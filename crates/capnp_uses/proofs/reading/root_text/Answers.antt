@@ -6,6 +6,6 @@ use Rattle.capnp_uses.proofs.reading.root_text.Goals as goal
 
 pub returns : goal.returns
 returns g c = record {
-  shown = λ bytes stands. root_text_is _ (λ view. view.bytes.now) (root_of g.S.ReaderSegments.segments c.args.message.now) bytes c.get_root.result refl stands c.get_root.ensures.answer;
-  found = λ bytes stands deep. text_meets_limit _ (root_of g.S.ReaderSegments.segments c.args.message.now) bytes c.get_root.result refl stands deep c.get_root.ensures.answer;
+  shown = λ bytes stands. root_text_is _ (λ view. view.bytes.now) (root_of g.S.ReaderSegments.segments c.args.message.now) bytes c.get_root.result refl stands c.get_root.ensures.returned;
+  found = λ bytes stands deep. text_meets_limit _ (root_of g.S.ReaderSegments.segments c.args.message.now) bytes c.get_root.result refl stands deep c.get_root.ensures.returned;
 }

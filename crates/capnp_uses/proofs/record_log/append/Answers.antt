@@ -3,13 +3,13 @@ use Rattle.std.proofs.Common.{◌≡◌, length, Err, arith}
 use Rattle.capnp_frame.specs.declared.error.ErrorKind.TheVariants.{OutOfMemory}
 use Rattle.capnp_frame.specs.Sink.{ByKind}
 use Rattle.capnp.proofs.AppendedLemmas.{appending_memory}
-use Rattle.capnp.proofs.PieceLemmas.{packed_appending}
+use Rattle.capnp.proofs.ChunkLemmas.{packed_appending}
 use Rattle.capnp_uses.proofs.LogLemmas.{appended_log, cut_back}
 use Rattle.capnp_uses.proofs.record_log.append.Goals as goal
 
 pub returns-in-Ok-clause-appended : goal.returns-in-Ok-clause-appended
 returns-in-Ok-clause-appended g c = appended_log (g.S.ReaderSegments.segments c.args.message.now) c.args.log.now.items c.write_message_segments.new.sink.items
-    c.requires c.in-Ok.ensures.count.few (c.in-Ok.ensures.text (λ piece text same. same))
+    c.requires c.in-Ok.ensures.count.few (c.in-Ok.ensures.text (λ chunk text same. same))
 
 pub returns-in-Err-clause-unchanged : goal.returns-in-Err-clause-unchanged
 returns-in-Err-clause-unchanged g c =

@@ -10,5 +10,5 @@ returns-in_err-view-clause-cleared g c =
 
 pub returns-clause-back : goal.returns-clause-back
 returns-clause-back g c =
-    let same = text_read _ _ _ c.in_ok-set_root.ensures.set c.in_ok-view.ensures.answer in
+    let same = text_read _ _ _ c.in_ok-set_root.ensures.set c.in_ok-view.ensures.returned in
     bytes_same _ _ _ c.eq.ensures (c.as_bytes.ensures ∙ same ∙ sym c.as_bytes-2.ensures.value)

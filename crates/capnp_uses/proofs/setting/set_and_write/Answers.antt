@@ -6,4 +6,4 @@ use Rattle.capnp_uses.proofs.setting.set_and_write.Goals as goal
 pub returns-clause-written : goal.returns-clause-written
 returns-clause-written g c =
     added_frame (output_of c.set_root.new.self) c.new-text.result.items c.write_message.new.sink.items c.new-text.ensures.items
-    (c.in_ok-write_message.ensures.text (λ piece text same. same))
+    (c.in_ok-write_message.ensures.text (λ chunk text same. same))

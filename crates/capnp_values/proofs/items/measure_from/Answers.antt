@@ -12,7 +12,7 @@ returns-in_err-_plain g c =
     let here = from_here c.args.items.now c.args.from c.index-items-from.result c.requires.within c.index-items-from.is in
     let was : c.from_residual.result ≡ Err c.in_err-_plain.field-0.0 = search rules in
     let refused = first_refused h r c.index-items-from.result (drop (c.args.from + 1) c.args.items.now) c.args.canonical c.measure.result c.in_err-_plain.field-0.0
-    c.in_err-_plain.was c.in_err-_plain.ensures.answer c.measure.ensures.found c.measure.ensures.exact in
+    c.in_err-_plain.was c.in_err-_plain.ensures.returned c.measure.ensures.found c.measure.ensures.exact in
     subst (λ (l : List g.row.V.Denot). MeasuresRow (λ t. AreItems h l t) (λ k. RefusesItems h r l k) c.args.canonical c.from_residual.result) (sym here)
     (subst (λ (x : Result ℕ Error). MeasuresRow (λ t. AreItems h (c.index-items-from.result ∷ drop (c.args.from + 1) c.args.items.now) t)
     (λ k. RefusesItems h r (c.index-items-from.result ∷ drop (c.args.from + 1) c.args.items.now) k) c.args.canonical x) (sym was) refused)
@@ -29,4 +29,4 @@ returns g c =
     let here = from_here c.args.items.now c.args.from c.index-items-from.result c.requires.within c.index-items-from.is in
     subst (λ (l : List g.row.V.Denot). MeasuresRow (λ t. AreItems h l t) (λ k. RefusesItems h r l k) c.args.canonical (Ok (c.part_words.result + c.in_ok-words.words))) (sym here)
     (items_measured h r c.index-items-from.result (drop (c.args.from + 1) c.args.items.now) c.args.canonical c.measure.result c.args.rest c.in_ok-_plain._plain c.part_words.result c.in_ok-words.words
-    c.in_ok-_plain.was c.in_ok-words.was c.in_ok-_plain.ensures.answer (g.met.V.SetterInput.one c.index-items-from.result) c.measure.ensures.exact c.part_words.ensures c.requires.rest)
+    c.in_ok-_plain.was c.in_ok-words.was c.in_ok-_plain.ensures.returned (g.met.V.SetterInput.one c.index-items-from.result) c.measure.ensures.exact c.part_words.ensures c.requires.rest)

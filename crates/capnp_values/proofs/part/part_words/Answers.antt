@@ -1,6 +1,6 @@
 -- A part is measured.
 use Rattle.capnp_values.proofs.PartLemmas.{part_total, part_words}
-use Rattle.capnp_values.proofs.AnswerLemmas.{unwrapped}
+use Rattle.capnp_values.proofs.ResultLemmas.{unwrapped}
 use Rattle.capnp_values.proofs.part.part_words.Goals as goal
 
 pub returns : goal.returns

@@ -3,7 +3,7 @@ use Rattle.std.proofs.lemmas.Result.{err_from_is_err_and}
 use Rattle.capnp_wire.proofs.canonical.canonical_words.Goals as goal
 
 pub returns-in_err-size-clause-found : goal.returns-in_err-size-clause-found
-returns-in_err-size-clause-found g c behind has = let never = c.in_err-size.ensures.found behind has in absurd (cc)
+returns-in_err-size-clause-found g c following has = let never = c.in_err-size.ensures.found following has in absurd (cc)
 
 pub returns-in_err-size-clause-exact : goal.returns-in_err-size-clause-exact
 returns-in_err-size-clause-exact g c kind lacks =

@@ -1,4 +1,4 @@
--- The pointer and the body behind it are the canonical form.
+-- The pointer and the body after it are the canonical form.
 use Rattle.std.proofs.Common.{◌∙◌, arith}
 use Rattle.capnp_wire.specs.Readers.{pointer_of}
 use Rattle.capnp_wire.proofs.views.SetterLemmas.{whole_form}

@@ -1,4 +1,4 @@
--- The pointer and the body behind it are the canonical form.
+-- The pointer and the body after it are the canonical form.
 use Rattle.std.proofs.Common.{◌≡◌, ℕ, ◌-◌, length, take, drop, subst, arith, length-take, length-drop}
 use Rattle.capnp_wire.specs.Block.{numbers_of}
 use Rattle.capnp_wire.specs.Readers.{pointer_of}

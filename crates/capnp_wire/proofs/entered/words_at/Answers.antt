@@ -1,4 +1,4 @@
--- The words of a list stand one behind the other.
+-- The words of a list stand one after the other.
 use Rattle.std.proofs.Common.{◌≡◌, ◌+◌, ◌-◌, ◌*◌, ℕ, take, drop, ap, ◌∙◌, arith, length-take}
 use Rattle.capnp_wire.specs.Pointer.{words_of}
 use Rattle.capnp_wire.proofs.objects.ElementLemmas.{elements_are_words}

@@ -23,7 +23,7 @@ copy_rows::copy_pointers-copy_rows-requires g t c κs within =
 pub copy_rows::copy_rows-copy_target-inner-requires : goal.copy_rows::copy_rows-copy_target-inner-requires
 copy_rows::copy_rows-copy_target-inner-requires g t c κs within =
     let f = copying_first c.pointers.invariant c.take-slot.ensures in
-    (omega arith, (within.0, (within.1, (f.there, (f.content, (f.behind, omega (arith, c.pointers.invariant.long, c.requires.small)))))))
+    (omega arith, (within.0, (within.1, (f.there, (f.content, (f.following, omega (arith, c.pointers.invariant.long, c.requires.small)))))))
 
 pub copy_rows::copy_rows-pointers-preserved : goal.copy_rows::copy_rows-pointers-preserved
 copy_rows::copy_rows-pointers-preserved g t c =

@@ -7,23 +7,23 @@ use Rattle.capnp_wire.proofs.layouts.CopyLemmas.{Copying}
 use Rattle.capnp_wire.proofs.layout.+copy.Given as goal
 
 abbrev pub decreases-copy::copy : goal.decreases-copy::copy
-decreases-copy::copy g l = 5 * l.level
+decreases-copy::copy g l = 5 * l.nesting
 
 abbrev pub decreases-copy::copy_target : goal.decreases-copy::copy_target
-decreases-copy::copy_target g l = 5 * l.level + 1
+decreases-copy::copy_target g l = 5 * l.nesting + 1
 
 abbrev pub decreases-copy_rows::copy_rows : goal.decreases-copy_rows::copy_rows
-decreases-copy_rows::copy_rows g l = 5 * l.level + 2
+decreases-copy_rows::copy_rows g l = 5 * l.nesting + 2
 
 abbrev pub decreases-copy_rows::copy_run : goal.decreases-copy_rows::copy_run
-decreases-copy_rows::copy_run g l = 5 * l.level + 3
+decreases-copy_rows::copy_run g l = 5 * l.nesting + 3
 
 abbrev pub decreases-copy_rows::copy_pointers : goal.decreases-copy_rows::copy_pointers
-decreases-copy_rows::copy_pointers g l = 5 * l.level + 4
+decreases-copy_rows::copy_pointers g l = 5 * l.nesting + 4
 
 abbrev pub invariant-copy_rows::copy_rows-pointers : goal.invariant-copy_rows::copy_rows-pointers
 invariant-copy_rows::copy_rows-pointers g l =
-    Copying (message_of (g.S.ReaderSegments.segments l.segments)) (words_of l.segment) l.level l.canonical l.fn.rows l.fn.next (g.T.BlockItem.as_words l.fn.block) l.rows l.free
+    Copying (message_of (g.S.ReaderSegments.segments l.segments)) (words_of l.segment) l.nesting l.canonical l.fn.rows l.fn.next (g.T.BlockItem.as_words l.fn.block) l.rows l.free
     (g.T.BlockItem.as_words l.block)
 
 abbrev pub decreases-copy_rows::copy_rows-pointers : goal.decreases-copy_rows::copy_rows-pointers

@@ -1,4 +1,4 @@
--- The pieces of the one segment of the form.
+-- The chunks of the one segment of the form.
 use Rattle.std.proofs.Common.{◌≡◌, ◌∙◌, ℕ, List, ◌∷◌, [], Err, inr, refl, sym, ap, subst}
 use Rattle.std.proofs.lemmas.Result.{err_from_is_err_and}
 use Rattle.capnp_frame.specs.Writing.{IsWritable}
@@ -17,13 +17,13 @@ returns-in_err-form g c =
     rw (p.1, p.2) (record {
       text = λ plain. tt;
       lacks = λ kind lacks. (told.exact kind lacks, refl);
-      writes = form_lacking g.W.Write g.met.W.Write.keeps _ _ _ (Err c.in_err-form.field-0.0) refl told.answer;
+      writes = form_lacking g.W.Write g.met.W.Write.keeps _ _ _ (Err c.in_err-form.field-0.0) refl told.returned;
       untouched = inr (inr refl);
     })
 
--- the form that was answered
+-- the form that was returned
 form : (g : given.Over) (c : goal.After-drop-form g) → IsForm (root_of g.S.ReaderSegments.segments c.args.reader.now) c.in_ok-form.form.items
-form g c = record { words_are = c.in_ok-form.ensures.answer; whole = c.in_ok-form.ensures.whole }
+form g c = record { words_are = c.in_ok-form.ensures.returned; whole = c.in_ok-form.ensures.whole }
 
 segment : (g : given.Over) (c : goal.After-drop-form g) → c.new.result ≡ c.in_ok-form.form.items ∷ []
 segment g c = c.new.ensures ∙ ap (λ (b : List ℕ). b ∷ []) c.as_slice.ensures.value
@@ -31,7 +31,7 @@ segment g c = c.new.ensures ∙ ap (λ (b : List ℕ). b ∷ []) c.as_slice.ensu
 pub write_segments-requires : goal.write_segments-requires
 write_segments-requires g c =
     let form : IsForm (root_of g.S.ReaderSegments.segments c.args.reader.now) c.in_ok-form.form.items =
-    record { words_are = c.in_ok-form.ensures.answer; whole = c.in_ok-form.ensures.whole } in
+    record { words_are = c.in_ok-form.ensures.returned; whole = c.in_ok-form.ensures.whole } in
     let segment : c.new.result ≡ c.in_ok-form.form.items ∷ [] = c.new.ensures ∙ ap (λ (b : List ℕ). b ∷ []) c.as_slice.ensures.value in
     subst IsWritable (sym segment) (one_writable _ _ form)
 

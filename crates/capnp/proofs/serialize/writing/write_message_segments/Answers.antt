@@ -1,4 +1,4 @@
--- The engine's pieces, joined.
+-- The engine's chunks, joined.
 use Rattle.capnp.proofs.WriterLemmas.{frame_written}
 use Rattle.capnp.proofs.serialize.writing.write_message_segments.Goals as goal
 

@@ -1,4 +1,4 @@
--- The engine's pieces, packed.
+-- The engine's chunks, packed.
 use Rattle.std.proofs.Common.{rules, ◌≡◌}
 use Rattle.capnp.proofs.WriterLemmas.{packed_written}
 use Rattle.capnp.proofs.serialize_packed.writing.write_message_segments.Goals as goal
@@ -11,5 +11,5 @@ returns g c =
     let packed = packed_written g.W.Write (λ p. p.sink.now) c.new-packed.result c.write_segments.new.sink
     (g.S.ReaderSegments.segments c.args.segments.now) c.write_segments.result all.count all.unwritten
     told.written told.refused told.untouched told.failed (record { front = kept.front; counted = kept.counted; same_sink = kept.same_sink.1 }) in
-    let behind : c.sink-1.given.0 ≡ c.write_segments.new.sink.sink.now = search rules in
-    rw behind (rw c.new-packed.ensures.sink at packed)
+    let following : c.sink-1.given.0 ≡ c.write_segments.new.sink.sink.now = search rules in
+    rw following (rw c.new-packed.ensures.sink at packed)

@@ -14,7 +14,7 @@ invariant_of-self-2 g c =
     let few : length c.self.inside.others.items + 2 < 2 ^ 32 = search rules in
     let kept =
     other_added (g.A.Allocator.out c.self.inside.allocator) (g.A.Allocator.out c.allocate_segment-2.new.self) first c.self.inside.others.items c.push_reserved.new.self.items
-    _ c.new-2.result some c.self.invariant.1 few c.in_ok-segment-2.ensures.adds (same_pair _ _ _ _ (sym c.new-2.ensures.size) (sym c.new-2.ensures.lent))
+    _ c.new-2.result some c.self.invariant.1 few c.in_ok-segment-2.ensures.adds (same_pair _ _ _ _ (sym c.new-2.ensures.size) (sym c.new-2.ensures.provided))
     (c.push_reserved.ensures.items ∙ ap (λ (l : List Space). l ++ c.new-2.result ∷ []) c.reserve.ensures.items) in (
       kept.0,
       kept.1,
@@ -28,6 +28,6 @@ returns-clause-others g c = λ others is.
     let first = c.self.inside.first in
     let some : MatchOption first ⊥ (λ _. ⊤) = search rules in
     other_keeps (g.A.Allocator.out c.self.inside.allocator) (g.A.Allocator.out c.allocate_segment-2.new.self) first c.self.inside.others.items c.push_reserved.new.self.items
-    _ c.new-2.result others some c.in_ok-segment-2.ensures.adds (same_pair _ _ _ _ (sym c.new-2.ensures.size) (sym c.new-2.ensures.lent))
+    _ c.new-2.result others some c.in_ok-segment-2.ensures.adds (same_pair _ _ _ _ (sym c.new-2.ensures.size) (sym c.new-2.ensures.provided))
     (c.push_reserved.ensures.items ∙ ap (λ (l : List Space). l ++ c.new-2.result ∷ []) c.reserve.ensures.items)
     (subst (λ (h : Held g.row.A.Denot). g.A.Allocator.out h.allocator (pairs h.spaces others)) (sym c.self.view_is) is)

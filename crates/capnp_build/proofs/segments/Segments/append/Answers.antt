@@ -2,7 +2,7 @@
 use Rattle.std.proofs.Common.{◌<◌, ◌≤◌, List, length, ap, sym, subst}
 use Rattle.capnp_build.specs.Bytes.{Space}
 use Rattle.capnp_build.specs.Filled.{with_more}
-use Rattle.capnp_build.specs.Held.{Held, pair, spaces_of, space_at, room_of}
+use Rattle.capnp_build.specs.Held.{Held, pair, spaces_of, space_at, free_words_of}
 use Rattle.capnp_build.proofs.HeldLemmas.{other_edit}
 use Rattle.capnp_build.proofs.OutputLemmas.{edited_words, more_words}
 use Rattle.capnp_build.proofs.segments.Segments.append.Goals as goal
@@ -16,7 +16,7 @@ invariant_of-self-2 g c =
     let kept =
     other_edit (g.A.Allocator.out c.self.inside.allocator) first others c.args.index c.index_mut-part.result.now c.append-2.new.self
     c.self.invariant.0 c.self.invariant.1 c.self.invariant.2 within c.if-index-eq0.false c.index_mut-part.ensures.value (ap pair c.append-2.ensures.space) in
-    let room : c.args.words ≤ room_of (space_at (spaces_of first others) c.args.index) = subst (λ (h : Held g.row.A.Denot). c.args.words ≤ room_of (space_at h.spaces c.args.index)) (sym c.self.view_is) c.requires.room in (
+    let room : c.args.words ≤ free_words_of (space_at (spaces_of first others) c.args.index) = subst (λ (h : Held g.row.A.Denot). c.args.words ≤ free_words_of (space_at h.spaces c.args.index)) (sym c.self.view_is) c.requires.room in (
       kept.0,
       kept.1,
       kept.2,

@@ -24,7 +24,7 @@ returns-clause-body g c =
       held = r.held;
       same = r.same;
       body_is = block_there c.args.self.now.spaces c.append-word.new.self.spaces c.args.segment c.words-start.result c.args.words c.from_le_bytes.result a.block r.form r.held
-          c.requires.within (ap (λ (h : Held g.row.A.Denot). h.spaces) a.held) c.words-start.ensures.words (omega (arith, c.requires.behind, c.words-start.ensures.words))
+          c.requires.within (ap (λ (h : Held g.row.A.Denot). h.spaces) a.held) c.words-start.ensures.words (omega (arith, c.requires.following, c.words-start.ensures.words))
           c.words-start.ensures.bound a.len r.size r.few r.rooms tag r.body_is;
     }
 

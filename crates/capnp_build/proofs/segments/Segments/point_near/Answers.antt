@@ -9,13 +9,13 @@ use Rattle.capnp_build.proofs.segments.Segments.point_near.Goals as goal
 
 pub returns : goal.returns
 returns g c =
-    let room = first_room c.args.self.now.spaces c.args.spot c.requires.body c.requires.first in
+    let room = first_room c.args.self.now.spaces c.args.location c.requires.body c.requires.first in
     record {
       stands = λ form held b.
-          near_points c.args.self.now.spaces c.write_at.new.self.spaces c.args.spot form held c.to_le_bytes.result c.requires.first b
+          near_points c.args.self.now.spaces c.write_at.new.self.spaces c.args.location form held c.to_le_bytes.result c.requires.first b
           (c.to_le_bytes.ensures ∙ ap (to_le_bytes w64) (c.moved-pointer.ensures form (count held) b.rooms.0 b.tag)) (ap length c.to_le_bytes.ensures)
           (ap (λ (h : Held g.row.A.Denot). h.spaces) c.write_at.ensures);
       rewritten = rewritten_by c.args.self.now c.write_at.new.self 0 0 c.to_le_bytes.result (omega (arith, room, ap length c.to_le_bytes.ensures)) c.write_at.ensures;
-      bytes = λ i from n root pad fits. kept_past c.args.self.now.spaces c.write_at.new.self.spaces 0 0 i from n c.to_le_bytes.result (ap (λ (h : Held g.row.A.Denot). h.spaces) c.write_at.ensures)
+      bytes = λ i from n root landing_pad fits. kept_past c.args.self.now.spaces c.write_at.new.self.spaces 0 0 i from n c.to_le_bytes.result (ap (λ (h : Held g.row.A.Denot). h.spaces) c.write_at.ensures)
           (λ same. let far = root (sym same) in omega (arith, far, ap length c.to_le_bytes.ensures)) fits;
     }

@@ -9,17 +9,17 @@ use Rattle.capnp_frame.proofs.serialize.stream.complete_table.Goals as goal
 pub returns-clause-front : goal.returns-clause-front
 returns-clause-front g c =
     let word = c.copy_from_slice.new.self in
-    let behind = drop 8 c.args.table.now in
-    let piece = c.read_piece.new.piece in
+    let following = drop 8 c.args.table.now in
+    let chunk = c.read_chunk.new.chunk in
     let long : length word ≡ 8 = ap length c.copy_from_slice.ensures.after ∙ c.told-first in
-    let is = completed word behind piece long (search rules) in
-    on_ok_weaker c.read_piece.result (λ read. ap (take 8) is ∙ take_at word piece 8 long ∙ c.copy_from_slice.ensures.after) c.read_piece.ensures.given
+    let is = completed word following chunk long (search rules) in
+    on_ok_weaker c.read_chunk.result (λ read. ap (take 8) is ∙ take_at word chunk 8 long ∙ c.copy_from_slice.ensures.after) c.read_chunk.ensures.given
 
 pub returns-clause-others : goal.returns-clause-others
 returns-clause-others g c =
     let word = c.copy_from_slice.new.self in
-    let behind = drop 8 c.args.table.now in
-    let piece = c.read_piece.new.piece in
+    let following = drop 8 c.args.table.now in
+    let chunk = c.read_chunk.new.chunk in
     let long : length word ≡ 8 = ap length c.copy_from_slice.ensures.after ∙ c.told-first in
-    let is = completed word behind piece long (search rules) in
-    on_ok_weaker c.read_piece.result (completed_given g.R.Read.gives word piece (put_mid 8 (length (word ++ behind) - 8) (word ++ behind) piece) _ _ long is) c.read_piece.ensures.given
+    let is = completed word following chunk long (search rules) in
+    on_ok_weaker c.read_chunk.result (completed_given g.R.Read.gives word chunk (put_mid 8 (length (word ++ following) - 8) (word ++ following) chunk) _ _ long is) c.read_chunk.ensures.given

@@ -1,5 +1,5 @@
--- Each line of the table is answered, and a message that is accepted meets none.
-use Rattle.capnp_frame.proofs.AnswerLemmas.{reads_stream}
+-- Each line of the table is returned, and a message that is accepted meets none.
+use Rattle.capnp_frame.proofs.ResultLemmas.{reads_stream}
 use Rattle.capnp_frame.proofs.serialize.stream.next_segments.Goals as goal
 
 pub returns : goal.returns

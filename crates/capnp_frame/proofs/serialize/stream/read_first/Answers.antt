@@ -1,4 +1,4 @@
--- The word is the answer of one or two reads.
+-- The word is the result of one or two reads.
 use Rattle.std.proofs.Common.{rules, ◌≡◌}
 use Rattle.capnp_frame.specs.declared.error.Error.{Error}
 use Rattle.capnp_frame.specs.declared.error.ErrorKind.TheVariants.{DeviceFailed}
@@ -6,13 +6,13 @@ use Rattle.capnp_frame.proofs.AskLemmas.{Asked-ok, Asked-err}
 use Rattle.capnp_frame.proofs.SourceLemmas.{not_at_end, IfErr-vacuous}
 use Rattle.capnp_frame.proofs.serialize.stream.read_first.Goals as goal
 
-pub returns-in_err-read_piece-clause-end : goal.returns-in_err-read_piece-clause-end
-returns-in_err-read_piece-clause-end g c =
+pub returns-in_err-read_chunk-clause-end : goal.returns-in_err-read_chunk-clause-end
+returns-in_err-read_chunk-clause-end g c =
     let here = not_at_end (g.R.Read.unread c.args.source.now) c.in_ok-count.count _ c.in_ok-count.ensures.end (search rules) c.if-count-eq0.false in
     IfErr-vacuous (λ (error : Error). error.kind ≡ DeviceFailed) _ here
 
-pub returns-in_err-read_piece-clause-asked : goal.returns-in_err-read_piece-clause-asked
-returns-in_err-read_piece-clause-asked g c = Asked-err (g.met.R.Read.keeps.transitive _ _ _) c.from_residual-in_err-read_piece.ensures.1 c.read.ensures.advances c.in_err-read_piece.ensures.asked
+pub returns-in_err-read_chunk-clause-asked : goal.returns-in_err-read_chunk-clause-asked
+returns-in_err-read_chunk-clause-asked g c = Asked-err (g.met.R.Read.keeps.transitive _ _ _) c.from_residual-in_err-read_chunk.ensures.1 c.read.ensures.advances c.in_err-read_chunk.ensures.asked
 
 pub returns-clause-asked : goal.returns-clause-asked
-returns-clause-asked g c = Asked-ok (g.met.R.Read.keeps.transitive _ _ _) c.read.ensures.advances c.read_piece.ensures.asked.advances
+returns-clause-asked g c = Asked-ok (g.met.R.Read.keeps.transitive _ _ _) c.read.ensures.advances c.read_chunk.ensures.asked.advances

@@ -5,7 +5,7 @@ use Rattle.capnp_frame.specs.declared.serialize.segment_table.Padding.TheVariant
 use Rattle.capnp_frame.specs.Limits.{KeepsLimit}
 use Rattle.capnp_frame.specs.Source.{IfKnown}
 use Rattle.capnp_frame.specs.Requests.{MessageStands}
-use Rattle.capnp_frame.proofs.LentLemmas.{reads_into, refused_into}
+use Rattle.capnp_frame.proofs.ProvidedLemmas.{reads_into, refused_into}
 use Rattle.capnp_frame.proofs.TextIntoLemmas.{padding_zeroed, zeroed_begins}
 use Rattle.capnp_frame.proofs.serialize.text.try_read_text_into.Goals as goal
 

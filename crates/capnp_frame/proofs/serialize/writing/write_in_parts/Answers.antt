@@ -1,4 +1,4 @@
--- Two pieces exactly where there is more than a word.
+-- Two chunks exactly where there is more than a word.
 use Rattle.std.proofs.Common.{◌≡◌, ◌-◌, [], ◌∷◌, length, take, drop, arith, Err}
 use Rattle.std.proofs.lemmas.List.{take_all, length-drop}
 use Rattle.std.proofs.lemmas.Result.{err_from_is_err_and}

@@ -7,14 +7,14 @@ use Rattle.capnp_message.proofs.reader.Reader.canonical_segment.Given as given
 use Rattle.capnp_message.proofs.reader.Reader.canonical_segment.Goals as goal
 
 refused : (g : given.Over) (c : goal.After-from_residual g) → ReturnsForm (root_of g.S.ReaderSegments.segments c.args.self.now) (λ bytes. words_of bytes.items) c.from_residual.result
-refused g c = no_form g.S.ReaderSegments.segments _ c.args.self.now _ c.from_residual.result c.self.view_is c.from_residual.ensures.1 c.in_err-root.ensures.answer
+refused g c = no_form g.S.ReaderSegments.segments _ c.args.self.now _ c.from_residual.result c.self.view_is c.from_residual.ensures.1 c.in_err-root.ensures.returned
 
 form : (g : given.Over) (c : goal.After-canonical_bytes g) → ReturnsForm (root_of g.S.ReaderSegments.segments c.args.self.now) (λ bytes. words_of bytes.items) c.canonical_bytes.result
 form g c =
-    root_form g.S.ReaderSegments.segments _ c.args.self.now _ _ c.canonical_bytes.result c.self.view_is c.in_ok-root.ensures.answer c.canonical_bytes.ensures.answer c.canonical_bytes.ensures.exact
+    root_form g.S.ReaderSegments.segments _ c.args.self.now _ _ c.canonical_bytes.result c.self.view_is c.in_ok-root.ensures.returned c.canonical_bytes.ensures.returned c.canonical_bytes.ensures.exact
 
-pub returns-in_err-root-clause-answer : goal.returns-in_err-root-clause-answer
-returns-in_err-root-clause-answer g c = (refused g c).answer
+pub returns-in_err-root-clause-returned : goal.returns-in_err-root-clause-returned
+returns-in_err-root-clause-returned g c = (refused g c).returned
 
 pub returns-in_err-root-clause-found : goal.returns-in_err-root-clause-found
 returns-in_err-root-clause-found g c = (refused g c).found

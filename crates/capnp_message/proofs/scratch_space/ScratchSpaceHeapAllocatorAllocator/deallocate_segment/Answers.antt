@@ -1,4 +1,4 @@
--- What comes back as lent is the region, which is made zero; all else goes to the heap.
+-- What comes back as caller-provided is the region, which is made zero; all else goes to the heap.
 use Rattle.std.proofs.Common.{◌≡◌, ℕ, ◌*◌, ◌≤◌, List, ◌++◌, length, drop, refl, subst, ◌∙◌}
 use Rattle.capnp_build.specs.Bytes.{ZeroFrom}
 use Rattle.capnp_message.proofs.RegionLemmas.{all_zero, held, filled_length, comes_home_as, stays_out}

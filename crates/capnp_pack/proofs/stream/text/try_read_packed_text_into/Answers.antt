@@ -1,4 +1,4 @@
--- The three requests take the three pieces.
+-- The three requests take the three chunks.
 use Rattle.std.proofs.Common.{rules, ◌≡◌, length}
 use Rattle.capnp_frame.specs.declared.serialize.segment_table.Padding.TheVariants.{Zero}
 use Rattle.capnp_pack.proofs.PackedStreamLemmas.{packed_reads_into}

@@ -6,7 +6,7 @@ use Rattle.capnp_values.proofs.null.NullSetterInput.measure.Goals as goal
 
 pub returns : goal.returns
 returns g c = record {
-  answer = null_has c.args._canonical;
+  returned = null_has c.args._canonical;
   found = measured_found IsNull (λ kind. ⊥) one_null c.args._canonical (Ok 0) (null_has c.args._canonical);
   exact = measured_exactly IsNull (λ kind. ⊥) one_null c.args._canonical (Ok 0) (null_has c.args._canonical);
 }

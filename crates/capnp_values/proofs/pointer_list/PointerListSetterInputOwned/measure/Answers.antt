@@ -1,7 +1,7 @@
 -- A list of pointers has a word for each, and those of the values.
 use Rattle.std.proofs.Common.{arith}
 use Rattle.capnp_values.proofs.ItemLemmas.{measured_few}
-use Rattle.capnp_values.proofs.PointerListLemmas.{list_answer, list_found, list_exact}
+use Rattle.capnp_values.proofs.PointerListLemmas.{list_result, list_found, list_exact}
 use Rattle.capnp_values.proofs.pointer_list.PointerListSetterInputOwned.measure.Goals as goal
 
 pub overflow_add-count : goal.overflow_add-count
@@ -9,10 +9,10 @@ overflow_add-count g c =
     let few = measured_few g.V.SetterInput.has_tree g.V.SetterInput.refuses c.args.self.now.items.now c.args.canonical c.measure_items.result c.in_ok-words.words c.in_ok-words.was c.measure_items.ensures in
     record { fits = omega (arith, few, c.if-count.false) }
 
-pub returns-clause-answer : goal.returns-clause-answer
-returns-clause-answer g c =
-    let a = c.in_ok-words.ensures.answer in
-    list_answer g.V.SetterInput.has_tree g.V.SetterInput.refuses c.args.self.now.items.now c.args.canonical c.in_ok-words.words a.0 c.fitting.result a.1 (omega (arith, c.if-count.false)) a.2 c.fitting.ensures
+pub returns-clause-returned : goal.returns-clause-returned
+returns-clause-returned g c =
+    let a = c.in_ok-words.ensures.returned in
+    list_result g.V.SetterInput.has_tree g.V.SetterInput.refuses c.args.self.now.items.now c.args.canonical c.in_ok-words.words a.0 c.fitting.result a.1 (omega (arith, c.if-count.false)) a.2 c.fitting.ensures
 
 pub returns-clause-found : goal.returns-clause-found
 returns-clause-found g c words has =

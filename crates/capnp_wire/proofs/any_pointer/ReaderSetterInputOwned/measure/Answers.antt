@@ -11,19 +11,19 @@ pub returns-in-None : goal.returns-in-None
 returns-in-None g c =
     let p = pointer_of g.S.ReaderSegments.segments c.args.self.now in
     let nothing : Result ℕ Error = Ok 0 in
-    let answer = none_has_words p c.args.canonical c.in-None.is in
+    let returned = none_has_words p c.args.canonical c.in-None.is in
     record {
-      answer = answer;
-      found = measured_found (LeadsToTree p) (StopsWalkFrom p) (one_of_pointer p) c.args.canonical nothing answer;
-      exact = measured_exactly (LeadsToTree p) (StopsWalkFrom p) (one_of_pointer p) c.args.canonical nothing answer;
+      returned = returned;
+      found = measured_found (LeadsToTree p) (StopsWalkFrom p) (one_of_pointer p) c.args.canonical nothing returned;
+      exact = measured_exactly (LeadsToTree p) (StopsWalkFrom p) (one_of_pointer p) c.args.canonical nothing returned;
     }
 
 pub returns-in-Some : goal.returns-in-Some
 returns-in-Some g c =
     let p = pointer_of g.S.ReaderSegments.segments c.args.self.now in
-    let answer = measured_value p c.in-Some.place c.args.canonical c.measure.result c.in-Some.is (rw c.limit_in_words.ensures at c.measure.ensures.answer) in
+    let returned = measured_value p c.in-Some.place c.args.canonical c.measure.result c.in-Some.is (rw c.limit_in_words.ensures at c.measure.ensures.returned) in
     record {
-      answer = answer;
-      found = measured_found (LeadsToTree p) (StopsWalkFrom p) (one_of_pointer p) c.args.canonical c.measure.result answer;
-      exact = measured_exactly (LeadsToTree p) (StopsWalkFrom p) (one_of_pointer p) c.args.canonical c.measure.result answer;
+      returned = returned;
+      found = measured_found (LeadsToTree p) (StopsWalkFrom p) (one_of_pointer p) c.args.canonical c.measure.result returned;
+      exact = measured_exactly (LeadsToTree p) (StopsWalkFrom p) (one_of_pointer p) c.args.canonical c.measure.result returned;
     }

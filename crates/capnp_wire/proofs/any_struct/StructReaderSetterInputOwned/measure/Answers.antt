@@ -7,9 +7,9 @@ use Rattle.capnp_wire.proofs.any_struct.StructReaderSetterInputOwned.measure.Goa
 pub returns : goal.returns
 returns g c =
     let fields = struct_of g.S.ReaderSegments.segments c.args.self.now in
-    let answer = rw c.limit_in_words.ensures at c.measure.ensures in
+    let returned = rw c.limit_in_words.ensures at c.measure.ensures in
     record {
-      answer = answer;
-      found = measured_found (IsTreeOf fields) (StopsInside fields) (one_of_struct fields) c.args.canonical c.measure.result answer;
-      exact = measured_exactly (IsTreeOf fields) (StopsInside fields) (one_of_struct fields) c.args.canonical c.measure.result answer;
+      returned = returned;
+      found = measured_found (IsTreeOf fields) (StopsInside fields) (one_of_struct fields) c.args.canonical c.measure.result returned;
+      exact = measured_exactly (IsTreeOf fields) (StopsInside fields) (one_of_struct fields) c.args.canonical c.measure.result returned;
     }

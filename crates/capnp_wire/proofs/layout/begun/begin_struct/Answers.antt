@@ -17,7 +17,7 @@ put_words-requires g c =
     }
 
 pub returns-then-holds_nulls-clause-begun : goal.returns-then-holds_nulls-clause-begun
-returns-then-holds_nulls-clause-begun g c m place level can is =
+returns-then-holds_nulls-clause-begun g c m place nesting can is =
     struct_of_nulls can is c.formed-size.ensures.body c.formed-size.ensures.narrower.0 c.formed-size.ensures.narrower.1 (c.holds_nulls.ensures.0 c.if-holds_nulls.true)
     (rw c.words-words.ensures at c.put_words.ensures.words) c.struct_pointer_word-pointer.ensures (omega (arith, c.words-words.ensures))
 
@@ -27,7 +27,7 @@ put_words-requires-2 g c =
     record { there = omega (arith, c.requires.there.is.room, c.formed-size.ensures.narrower.0); room = omega (arith, o.kept.fits) }
 
 pub returns-clause-begun : goal.returns-clause-begun
-returns-clause-begun g c m place level can is =
+returns-clause-begun g c m place nesting can is =
     let first = c.first_pointer.ensures in
     struct_begins can is c.formed-size.ensures.body c.formed-size.ensures.narrower.1 c.put_words-2.ensures.words c.put_words-2.ensures.len c.struct_pointer_word-pointer.ensures first.segment first.word
     first.bound (omega (arith, c.words-words.ensures))

@@ -15,5 +15,5 @@ list_word-requires g c =
     record { offset = omega (arith, c.requires.small, o.kept.fits); code = omega (arith, c.code.ensures.few); count = o.few }
 
 pub returns-clause-copied : goal.returns-clause-copied
-returns-clause-copied g c m place level canonical can is =
+returns-clause-copied g c m place nesting canonical can is =
     number_list_copied c.args.list.now can is c.put_elements.ensures.words c.put_elements.ensures.len (rw c.code.ensures.code at c.list_word.ensures) (omega (arith, c.words.ensures))

@@ -1,4 +1,4 @@
--- The last word of a list is put again, without the bits behind its elements.
+-- The last word of a list is put again, without the bits after its elements.
 use Rattle.std.proofs.Common.{◌≡◌, ℕ, ◌*◌, ◌%◌, ◌<◌, sym, ◌∙◌, ap, arith}
 use Rattle.capnp_wire.specs.Pointer.{words_of}
 use Rattle.capnp_wire.specs.Element.{code_of, width, words_for}
@@ -7,8 +7,8 @@ use Rattle.capnp_wire.proofs.words.WordLemmas.{length-words_of}
 use Rattle.capnp_wire.proofs.objects.PaddingLemmas.{whole_words, part_word, shifted, any_below}
 use Rattle.capnp_wire.proofs.layout.block.put_elements.Goals as goal
 
-pub returns-then-behind-ne0-clause-words : goal.returns-then-behind-ne0-clause-words
-returns-then-behind-ne0-clause-words g c =
+pub returns-then-following-ne0-clause-words : goal.returns-then-following-ne0-clause-words
+returns-then-following-ne0-clause-words g c =
     let list = c.args.list.now in
     let words = words_of list.segment.now in
     let code : ℕ = code_of list.size in
@@ -22,8 +22,8 @@ returns-then-behind-ne0-clause-words g c =
     (omega (arith, c.requires.there, length-words_of list.segment.now)) some there
     c.args.at (g.T.BlockItem.as_words c.args.block.now) (omega (arith, c.requires.room))
 
-pub returns-else-behind-ne0-clause-words : goal.returns-else-behind-ne0-clause-words
-returns-else-behind-ne0-clause-words g c =
+pub returns-else-following-ne0-clause-words : goal.returns-else-following-ne0-clause-words
+returns-else-following-ne0-clause-words g c =
     let list = c.args.list.now in
     let words = words_of list.segment.now in
     let code : ℕ = code_of list.size in

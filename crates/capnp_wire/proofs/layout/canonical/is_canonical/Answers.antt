@@ -5,7 +5,7 @@ use Rattle.capnp_wire.specs.Pointer.{words_of}
 use Rattle.capnp_wire.specs.Reached.{root}
 use Rattle.capnp_wire.proofs.words.WordLemmas.{length-words_of}
 use Rattle.capnp_wire.proofs.objects.ElementLemmas.{all_words_below}
-use Rattle.capnp_wire.proofs.pointers.PadLemmas.{passed_on, passed_kind}
+use Rattle.capnp_wire.proofs.pointers.LandingPadLemmas.{passed_on, passed_kind}
 use Rattle.capnp_wire.proofs.walks.MetLemmas.{no_word_ends}
 use Rattle.capnp_wire.proofs.walks.OneEndLemmas.{refused_passes, one_way_to_end, one_refusal_ends}
 use Rattle.capnp_wire.proofs.forms.CanonicalLemmas.{ended_is_not, whole_or_not, root_some}
@@ -13,24 +13,24 @@ use Rattle.capnp_wire.proofs.layout.canonical.is_canonical.Goals as goal
 
 pub returns-in_err-pointer_at-clause-refused : goal.returns-in_err-pointer_at-clause-refused
 returns-in_err-pointer_at-clause-refused g c =
-    passed_on _ _ c.from_residual.ensures.1 (no_word_ends (words_of c.args.segment.now) _ 0 c.args.level 1 c.args.limit _ c.requires c.in_err-pointer_at.ensures)
+    passed_on _ _ c.from_residual.ensures.1 (no_word_ends (words_of c.args.segment.now) _ 0 c.args.nesting 1 c.args.limit _ c.requires c.in_err-pointer_at.ensures)
 
 pub returns-in_err-pointer_at-clause-exact : goal.returns-in_err-pointer_at-clause-exact
 returns-in_err-pointer_at-clause-exact g c kind ends =
-    passed_kind _ c.from_residual.ensures.1 (one_refusal_ends (words_of c.args.segment.now) (root ∷ []) c.args.level 1 c.args.limit _ kind
-    (no_word_ends (words_of c.args.segment.now) _ 0 c.args.level 1 c.args.limit _ c.requires c.in_err-pointer_at.ensures) ends)
+    passed_kind _ c.from_residual.ensures.1 (one_refusal_ends (words_of c.args.segment.now) (root ∷ []) c.args.nesting 1 c.args.limit _ kind
+    (no_word_ends (words_of c.args.segment.now) _ 0 c.args.nesting 1 c.args.limit _ c.requires c.in_err-pointer_at.ensures) ends)
 
 pub returns-in_err-passes-clause-exact : goal.returns-in_err-passes-clause-exact
 returns-in_err-passes-clause-exact g c kind ends =
     let stopped = rw (c.new-walk.ensures.left, c.new-walk.ensures.next) at c.in_err-passes.ensures.refused in
-    passed_kind _ c.from_residual-in_err-passes.ensures.1 (one_refusal_ends (words_of c.args.segment.now) (root ∷ []) c.args.level 1 c.args.limit _ kind stopped ends)
+    passed_kind _ c.from_residual-in_err-passes.ensures.1 (one_refusal_ends (words_of c.args.segment.now) (root ∷ []) c.args.nesting 1 c.args.limit _ kind stopped ends)
 
 pub returns-then-passes-clause-said : goal.returns-then-passes-clause-said
 returns-then-passes-clause-said g c =
     let all = all_words_below c.args.segment.now (λ i. omega (arith, c.type_inv.segment i)) in
     let passed = c.in_ok-passes.ensures.passed c.if-passes.true in
     let at_first = rw c.new-walk.ensures.next at passed.passes in
-    let e = whole_or_not (words_of c.args.segment.now) c.args.level passed.charge c.test.new.self.next (length c.args.segment.now / 8) all at_first (length-words_of c.args.segment.now) in
+    let e = whole_or_not (words_of c.args.segment.now) c.args.nesting passed.traversed c.test.new.self.next (length c.args.segment.now / 8) all at_first (length-words_of c.args.segment.now) in
     let is : c.next.result ≡ c.test.new.self.next = c.next.ensures in (
       λ t. (let same : c.next.result ≡ length c.args.segment.now / 8 = grind (arith, nat_tests) in e.0 (sym is ∙ same)),
       λ canonical. (let same : c.next.result ≡ length c.args.segment.now / 8 = is ∙ e.1 canonical in grind (arith, nat_tests)),
@@ -39,7 +39,7 @@ returns-then-passes-clause-said g c =
 pub returns-then-passes-clause-exact : goal.returns-then-passes-clause-exact
 returns-then-passes-clause-exact g c kind ends =
     let passed = c.in_ok-passes.ensures.passed c.if-passes.true in
-    refused_passes (words_of c.args.segment.now) (root ∷ []) c.args.level passed.charge 1 c.new-walk.result.next c.test.new.self.next c.args.limit kind ends passed.passes
+    refused_passes (words_of c.args.segment.now) (root ∷ []) c.args.nesting passed.traversed 1 c.new-walk.result.next c.test.new.self.next c.args.limit kind ends passed.passes
     (rw c.new-walk.ensures.left at passed.within)
 
 pub returns-else-passes-clause-said : goal.returns-else-passes-clause-said
@@ -48,7 +48,7 @@ returns-else-passes-clause-said g c =
     let ended = rw (c.new-walk.ensures.left, c.new-walk.ensures.next) at (c.in_ok-passes.ensures.ended c.if-passes.false) in
     let some : 1 ≤ length (words_of c.args.segment.now) = root_some _ (words_of c.args.segment.now) _ c.requires c.in_ok-pointer_at.ensures in (
       λ t. absurd (let off : c.in_ok-passes.passes ≡ false = c.if-passes.false in cc),
-      λ canonical. absurd (ended_is_not (words_of c.args.segment.now) c.args.level c.args.limit all some ended canonical),
+      λ canonical. absurd (ended_is_not (words_of c.args.segment.now) c.args.nesting c.args.limit all some ended canonical),
     )
 
 pub returns-else-passes-clause-exact : goal.returns-else-passes-clause-exact
@@ -56,4 +56,4 @@ returns-else-passes-clause-exact g c kind ends =
     let all = all_words_below c.args.segment.now (λ i. omega (arith, c.type_inv.segment i)) in
     let ended = rw (c.new-walk.ensures.left, c.new-walk.ensures.next) at (c.in_ok-passes.ensures.ended c.if-passes.false) in
     let some : 1 ≤ length (words_of c.args.segment.now) = root_some _ (words_of c.args.segment.now) _ c.requires c.in_ok-pointer_at.ensures in
-    one_way_to_end (words_of c.args.segment.now) (root ∷ []) c.args.level 1 c.args.limit kind all (refl, omega arith, tt) some ends ended
+    one_way_to_end (words_of c.args.segment.now) (root ∷ []) c.args.nesting 1 c.args.limit kind all (refl, omega arith, tt) some ends ended

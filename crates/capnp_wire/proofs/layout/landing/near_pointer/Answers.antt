@@ -1,4 +1,4 @@
--- A word that is no struct or list pointer is refused by its kind.
+-- A word that is no struct or list pointer fails for its kind.
 use Rattle.std.proofs.Common.{inl, inr}
 use Rattle.capnp_wire.proofs.layout.landing.near_pointer.Goals as goal
 

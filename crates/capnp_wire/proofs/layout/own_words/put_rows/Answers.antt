@@ -1,4 +1,4 @@
--- Each row is put behind the one before, with room for its pointers.
+-- Each row is put after the one before, with room for its pointers.
 use Rattle.std.proofs.Common.{◌≡◌, ◌+◌, ◌-◌, ◌/◌, ◌<◌, length, sym, ◌∙◌, arith}
 use Rattle.capnp_wire.specs.Pointer.{words_of}
 use Rattle.capnp_wire.proofs.words.WordLemmas.{length-words_of}

@@ -1,4 +1,4 @@
--- The walk over a struct's pointers counts what is behind its own words.
+-- The walk over a struct's pointers counts what is after its own words.
 use Rattle.std.proofs.Common.{◌≡◌, ◌+◌, ◌≤◌, ◌∙◌, ap, refl, length, arith}
 use Rattle.capnp_wire.specs.Pointer.{words_of}
 use Rattle.capnp_wire.specs.Object.{message_of}
@@ -7,7 +7,7 @@ use Rattle.capnp_wire.specs.Copy.{formed_body}
 use Rattle.capnp_wire.specs.declared.layout.object.Body.TheVariants.{Struct}
 use Rattle.capnp_wire.proofs.words.WordLemmas.{length-words_of}
 use Rattle.capnp_wire.proofs.objects.StructLemmas.{struct_measured}
-use Rattle.capnp_wire.specs.Charge.{counted as counted_by}
+use Rattle.capnp_wire.specs.Traversed.{counted as counted_by}
 use Rattle.capnp_wire.proofs.layout.struct_value.measure.Goals as goal
 
 pub returns : goal.returns
@@ -20,6 +20,6 @@ returns g c =
     let counted = rw (← c.words-2.ensures) at found.counted (0 + c.words.result) (first 0 refl) in
     let own : c.words.result ≡ words_in (formed_body c.args.canonical (words_of c.args.segment.now) c.args.start.word (Struct c.args.size)) = c.words.ensures ∙ ap words_in c.formed_as.ensures.body in
     let room : c.args.start.word + (c.args.size.data_words + c.args.size.pointers) ≤ length (words_of c.args.segment.now) = omega (arith, c.requires.room, length-words_of c.args.segment.now) in
-    struct_measured m words c.args.start c.args.size c.args.level c.args.limit c.walk_pointers.new.self.left c.args.canonical (counted_by c.count.new.self) (counted_by c.walk_pointers.new.self)
+    struct_measured m words c.args.start c.args.size c.args.nesting c.args.limit c.walk_pointers.new.self.left c.args.canonical (counted_by c.count.new.self) (counted_by c.walk_pointers.new.self)
     c.requires.content room (omega arith) (omega arith) c.words_fit.ensures.words found (0 + c.words.result + found.words) (omega (arith, own)) c.fitting.result
     (c.fitting.ensures (0 + c.words.result + found.words) counted)

@@ -15,9 +15,9 @@ pub put_own_words-requires-clause-fits : goal.put_own_words-requires-clause-fits
 put_own_words-requires-clause-fits g c =
     let m = message_of (g.S.ReaderSegments.segments c.args.segments.now) in
     let w = c.requires.words.1 in
-    let full = subst (λ (n : ℕ). HasWords (IsTreeOf (fields_at m (words_of c.args.segment.now) c.args.start c.args.size c.args.level c.requires.words.0)) c.args.canonical n)
+    let full = subst (λ (n : ℕ). HasWords (IsTreeOf (fields_at m (words_of c.args.segment.now) c.args.start c.args.size c.args.nesting c.requires.words.0)) c.args.canonical n)
     (sym (length-words_of c.args.block.now)) w in
-    let o = struct_opened_as m (words_of c.args.segment.now) c.args.start c.args.size c.formed_as-copied.result c.args.level c.requires.words.0 c.args.canonical (length (words_of c.args.block.now))
+    let o = struct_opened_as m (words_of c.args.segment.now) c.args.start c.args.size c.formed_as-copied.result c.args.nesting c.requires.words.0 c.args.canonical (length (words_of c.args.block.now))
     c.requires.content (omega (arith, c.requires.room, length-words_of c.args.segment.now)) c.formed_as-copied.ensures.body full in
     omega (arith, o.totals, full.words_are)
 
@@ -25,9 +25,9 @@ pub copy_pointers-requires-clause-there : goal.copy_pointers-requires-clause-the
 copy_pointers-requires-clause-there g c =
     let m = message_of (g.S.ReaderSegments.segments c.args.segments.now) in
     let w = c.requires.words.1 in
-    let full = subst (λ (n : ℕ). HasWords (IsTreeOf (fields_at m (words_of c.args.segment.now) c.args.start c.args.size c.args.level c.requires.words.0)) c.args.canonical n)
+    let full = subst (λ (n : ℕ). HasWords (IsTreeOf (fields_at m (words_of c.args.segment.now) c.args.start c.args.size c.args.nesting c.requires.words.0)) c.args.canonical n)
     (sym (length-words_of c.args.block.now)) w in
-    let o = struct_opened_as m (words_of c.args.segment.now) c.args.start c.args.size c.formed_as-copied.result c.args.level c.requires.words.0 c.args.canonical (length (words_of c.args.block.now))
+    let o = struct_opened_as m (words_of c.args.segment.now) c.args.start c.args.size c.formed_as-copied.result c.args.nesting c.requires.words.0 c.args.canonical (length (words_of c.args.block.now))
     c.requires.content (omega (arith, c.requires.room, length-words_of c.args.segment.now)) c.formed_as-copied.ensures.body full in
     rw c.put_own_words.ensures.len o.kept
 
@@ -35,14 +35,14 @@ pub returns-clause-written : goal.returns-clause-written
 returns-clause-written g c limit trees is =
     let m = message_of (g.S.ReaderSegments.segments c.args.segments.now) in
     let w = c.requires.words.1 in
-    let full = subst (λ (n : ℕ). HasWords (IsTreeOf (fields_at m (words_of c.args.segment.now) c.args.start c.args.size c.args.level c.requires.words.0)) c.args.canonical n)
+    let full = subst (λ (n : ℕ). HasWords (IsTreeOf (fields_at m (words_of c.args.segment.now) c.args.start c.args.size c.args.nesting c.requires.words.0)) c.args.canonical n)
     (sym (length-words_of c.args.block.now)) w in
-    let o = struct_opened_as m (words_of c.args.segment.now) c.args.start c.args.size c.formed_as-copied.result c.args.level c.requires.words.0 c.args.canonical (length (words_of c.args.block.now))
+    let o = struct_opened_as m (words_of c.args.segment.now) c.args.start c.args.size c.formed_as-copied.result c.args.nesting c.requires.words.0 c.args.canonical (length (words_of c.args.block.now))
     c.requires.content (omega (arith, c.requires.room, length-words_of c.args.segment.now)) c.formed_as-copied.ensures.body full in
-    struct_written m (words_of c.args.segment.now) c.args.start c.args.size c.formed_as-copied.result c.args.level c.args.canonical (length (words_of c.args.block.now)) full.trees (words_of c.args.block.now)
+    struct_written m (words_of c.args.segment.now) c.args.start c.args.size c.formed_as-copied.result c.args.nesting c.args.canonical (length (words_of c.args.block.now)) full.trees (words_of c.args.block.now)
     (words_of c.put_own_words.new.block) (words_of c.copy_pointers.new.block) c.pointer_word.result o full.rooms full.words_are refl c.put_own_words.ensures.words
     c.copy_pointers.ensures.copied.words_are c.pointer_word.ensures
-    ∙ ap (λ (t : Trees). layout (formed c.args.canonical t)) (same_struct m (words_of c.args.segment.now) c.args.start c.args.size c.args.level c.requires.words.0 limit w.trees trees w.tree_is is)
+    ∙ ap (λ (t : Trees). layout (formed c.args.canonical t)) (same_struct m (words_of c.args.segment.now) c.args.start c.args.size c.args.nesting c.requires.words.0 limit w.trees trees w.tree_is is)
 
 pub put_own_words-requires-clause-bound : goal.put_own_words-requires-clause-bound
 put_own_words-requires-clause-bound g c = omega (arith, c.requires.words.1.few, length-words_of c.args.block.now)

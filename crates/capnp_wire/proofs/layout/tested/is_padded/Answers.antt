@@ -1,4 +1,4 @@
--- What stands behind the bits of a list in its last word.
+-- What stands after the bits of a list in its last word.
 use Rattle.std.proofs.Common.{◌≡◌, ◌<◌, ◌+◌, ◌*◌, ◌/◌, ◌%◌, ◌^◌, ℕ, length, slice_get, slice_index_or, None, refl, sym, ap, arith}
 use Rattle.std.proofs.lemmas.Bool.Decides.{nat_tests}
 use Rattle.capnp_wire.specs.Pointer.{words_of}
@@ -6,14 +6,14 @@ use Rattle.capnp_wire.specs.Element.{code_of, width}
 use Rattle.capnp_wire.proofs.words.WordLemmas.{length-words_of}
 use Rattle.capnp_wire.proofs.forms.TightLemmas.{or_there, there_or}
 use Rattle.capnp_wire.proofs.objects.ElementLemmas.{all_words_below}
-use Rattle.capnp_wire.proofs.objects.PaddedLemmas.{whole_is_padded, part_is_padded, no_bits_behind}
+use Rattle.capnp_wire.proofs.objects.PaddedLemmas.{whole_is_padded, part_is_padded, no_bits_after}
 use Rattle.capnp_wire.proofs.layout.tested.is_padded.Goals as goal
 
-pub returns-then-behind-eq0 : goal.returns-then-behind-eq0
-returns-then-behind-eq0 c room =
+pub returns-then-following-eq0 : goal.returns-then-following-eq0
+returns-then-following-eq0 c room =
     let words = words_of c.args.segment.now in
     let code = code_of c.args.size in
-    let bits : c.args.count * width code % 64 ≡ 0 = rw (← c.bits.ensures.bits) c.if-behind-eq0.true in
+    let bits : c.args.count * width code % 64 ≡ 0 = rw (← c.bits.ensures.bits) c.if-following-eq0.true in
     let all = all_words_below c.args.segment.now (λ i. omega (arith, c.type_inv.segment i)) in
     (λ t. whole_is_padded words c.args.start code c.args.count all (omega (arith, room, length-words_of c.args.segment.now)) bits, λ t. refl)
 
@@ -27,7 +27,7 @@ returns-in-Some c room =
     let there : slice_index_or words (c.args.start + c.args.count * c.bits.result / 64) 0 ≡ c.in-Some.last =
     or_there words (c.args.start + c.args.count * c.bits.result / 64) c.in-Some.last (sym c.in-Some.ensures.value) in
     let last : slice_index_or words (c.args.start + c.args.count * width code / 64) 0 ≡ c.in-Some.last = rw (← c.bits.ensures.bits) there in
-    let b = no_bits_behind c.in-Some.last (c.args.count * c.bits.result % 64) in
+    let b = no_bits_after c.in-Some.last (c.args.count * c.bits.result % 64) in
     let bits : c.args.count * c.bits.result % 64 ≡ c.args.count * width code % 64 = ap (λ (k : ℕ). c.args.count * k % 64) c.bits.ensures.bits in (
       λ t.
           let none : c.in-Some.last / 2 ^ (c.args.count * c.bits.result % 64) ≡ 0 = grind (arith, nat_tests) in

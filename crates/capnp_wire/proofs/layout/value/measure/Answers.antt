@@ -1,8 +1,8 @@
 -- What a walk counts is measured.
 use Rattle.std.proofs.Common.{◌+◌, refl}
 use Rattle.capnp_wire.specs.Object.{message_of}
-use Rattle.capnp_wire.specs.Charge.{counted as counted_by}
-use Rattle.capnp_wire.proofs.views.ValueLemmas.{answer_fits}
+use Rattle.capnp_wire.specs.Traversed.{counted as counted_by}
+use Rattle.capnp_wire.proofs.views.ValueLemmas.{result_fits}
 use Rattle.capnp_wire.proofs.layout.value.measure.Goals as goal
 
 pub returns : goal.returns
@@ -11,6 +11,6 @@ returns g c =
     let found = rw (c.new-walk.ensures.left, c.new-walk.ensures.words) at c.in_ok-walk.ensures.found in
     let all_counted = rw (← c.words.ensures) at found.counted 0 refl in
     record {
-      answer = answer_fits m c.args.place c.args.level c.args.limit c.walk.new.self.left c.args.canonical (counted_by c.walk.new.self) found c.fitting.result (c.fitting.ensures
+      returned = result_fits m c.args.place c.args.nesting c.args.limit c.walk.new.self.left c.args.canonical (counted_by c.walk.new.self) found c.fitting.result (c.fitting.ensures
           (0 + found.words) all_counted);
     }

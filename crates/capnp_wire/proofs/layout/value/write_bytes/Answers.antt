@@ -1,4 +1,4 @@
--- The bytes of a list, and zeros behind them, are its words.
+-- The bytes of a list, and zeros after them, are its words.
 use Rattle.std.proofs.Common.{ℕ, ◌++◌, ◌∙◌, List, length, drop, ap, arith}
 use Rattle.capnp_wire.proofs.words.BytesLemmas.{bytes_written}
 use Rattle.capnp_wire.proofs.layout.value.write_bytes.Goals as goal

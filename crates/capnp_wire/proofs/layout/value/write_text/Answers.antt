@@ -1,4 +1,4 @@
--- The bytes of a text, and zeros behind them, are its words.
+-- The bytes of a text, and zeros after them, are its words.
 use Rattle.std.proofs.Common.{ℕ, ◌++◌, ◌∙◌, List, length, drop, ap, arith}
 use Rattle.capnp_wire.proofs.words.BytesLemmas.{text_written}
 use Rattle.capnp_wire.proofs.layout.value.write_text.Goals as goal

@@ -1,6 +1,6 @@
 -- The bytes before a last zero are there just where the last byte is zero.
 use Rattle.std.proofs.Common.{◌≡◌, ◌+◌, ℕ, List, [], ◌∷◌, suc, length, ap, ◌∙◌, arith, length-append}
-use Rattle.capnp_wire.proofs.views.FormLemmas.{zero_behind, no_zero_behind}
+use Rattle.capnp_wire.proofs.views.FormLemmas.{zero_after, no_zero_after}
 use Rattle.capnp_wire.proofs.text.reader.before_zero.Goals as goal
 
 pub returns-in_default : goal.returns-in_default
@@ -11,9 +11,9 @@ returns-in_default c = λ text e.
 pub returns-then-last-ne0 : goal.returns-then-last-ne0
 returns-then-last-ne0 c = λ text e.
     let long : suc c.in-Some.end ≡ length c.args.bytes.now = omega (arith, c.in-Some.ensures) in
-    c.if-last-ne0.true (no_zero_behind c.args.bytes.now text c.in-Some.end e long)
+    c.if-last-ne0.true (no_zero_after c.args.bytes.now text c.in-Some.end e long)
 
 pub returns : goal.returns
 returns c =
     let long : suc c.in-Some.end ≡ length c.args.bytes.now = omega (arith, c.in-Some.ensures) in
-    zero_behind c.args.bytes.now c.in-Some.end long c.if-last-ne0.false
+    zero_after c.args.bytes.now c.in-Some.end long c.if-last-ne0.false

@@ -4,7 +4,7 @@ use Rattle.capnp_build.specs.Bytes.{Space}
 use Rattle.capnp_build.specs.Built.{HasNullRoot, message, Built, IsBuilt}
 use Rattle.capnp_wire.specs.Object.{word_at}
 use Rattle.capnp_wire.specs.Reached.{root}
-use Rattle.capnp_build.specs.declared.arena.spot.Spot.{Spot}
+use Rattle.capnp_build.specs.declared.arena.location.RootLocation.{RootLocation}
 use Rattle.capnp_build.proofs.SpaceLemmas.{root_appended}
 use Rattle.capnp_build.proofs.arena.builder_arena.BuilderArena.find_room.Goals as goal
 
@@ -18,7 +18,7 @@ pub invariant_of-self-2 : goal.invariant_of-self-2
 invariant_of-self-2 g c =
     let spaces : List Space = c.self.inside.segments.spaces in
     let there : 0 < length spaces = subst (λ (v : Built g.row.A.Denot). 0 < length v.spaces) (sym c.self.view_is) c.requires.there in
-    let null : c.self.inside.spot ≡ None = ap (λ (v : Built g.row.A.Denot). v.spot) c.self.view_is ∙ c.requires.null in
+    let null : c.self.inside.location ≡ None = ap (λ (v : Built g.row.A.Denot). v.location) c.self.view_is ∙ c.requires.null in
     let more = c.in_ok-add.ensures.added in
-    subst (λ (o : Option Spot). IsBuilt c.add.new.self.spaces o) (sym null)
-    (added spaces c.add.new.self.spaces more.0 there more.1 (subst (λ (o : Option Spot). IsBuilt spaces o) null c.self.invariant))
+    subst (λ (o : Option RootLocation). IsBuilt c.add.new.self.spaces o) (sym null)
+    (added spaces c.add.new.self.spaces more.0 there more.1 (subst (λ (o : Option RootLocation). IsBuilt spaces o) null c.self.invariant))

@@ -1,56 +1,56 @@
--- A tree stands behind the used words of the first segment, and the root leads to it.
+-- A tree stands after the used words of the first segment, and the root leads to it.
 use Rattle.std.proofs.Common.{◌≡◌, ◌<◌, length, Option, Some, None, ap, sym, subst, ◌∙◌, arith}
 use Rattle.capnp_build.specs.Held.{space_at, KeepsOthers}
 use Rattle.capnp_build.specs.Built.{size_in_words, Built, held_of, IsBuilt, KeepsBytes}
 use Rattle.capnp_build.specs.Placed.{IsAtEnd}
-use Rattle.capnp_build.specs.declared.arena.spot.Spot.{Spot}
+use Rattle.capnp_build.specs.declared.arena.location.RootLocation.{RootLocation}
 use Rattle.capnp_build.proofs.NullLemmas.{root_room}
 use Rattle.capnp_build.proofs.PointLemmas.{keeps_of}
 use Rattle.capnp_build.proofs.ReadyLemmas.{value_set, value_whole}
 use Rattle.capnp_build.proofs.arena.builder_arena.BuilderArena.put_near.Goals as goal
 
-pub fill-spot-requires-clause-behind : goal.fill-spot-requires-clause-behind
-fill-spot-requires-clause-behind g c =
+pub fill-location-requires-clause-following : goal.fill-location-requires-clause-following
+fill-location-requires-clause-following g c =
     let there : 0 < length c.self.inside.segments.spaces = subst (λ (v : Built g.row.A.Denot). 0 < length v.spaces) (sym c.self.view_is) c.requires.there in
-    let null : c.self.inside.spot ≡ None = ap (λ (v : Built g.row.A.Denot). v.spot) c.self.view_is ∙ c.requires.null in
-    root_room c.self.inside.segments.spaces there (subst (λ (o : Option Spot). IsBuilt c.self.inside.segments.spaces o) null c.self.invariant)
+    let null : c.self.inside.location ≡ None = ap (λ (v : Built g.row.A.Denot). v.location) c.self.view_is ∙ c.requires.null in
+    root_room c.self.inside.segments.spaces there (subst (λ (o : Option RootLocation). IsBuilt c.self.inside.segments.spaces o) null c.self.invariant)
 
 pub invariant_of-self : goal.invariant_of-self
-invariant_of-self g c = let v = c.fill-spot.ensures.body in (v.form, v.held, c.point_near.ensures.stands v.form v.held v.body_is)
+invariant_of-self g c = let v = c.fill-location.ensures.body in (v.form, v.held, c.point_near.ensures.stands v.form v.held v.body_is)
 
 pub returns-clause-whole : goal.returns-clause-whole
 returns-clause-whole g c = λ one short.
-    let v = c.fill-spot.ensures.body in
-    let p = c.fill-spot.ensures.place in
-    let here : c.fill-spot.result ≡ p.place = cc in
-    let first : c.fill-spot.result.segment ≡ 0 = ap (λ (s : Spot). s.segment) here ∙ p.segment_is in
-    let start : c.fill-spot.result.start ≡ p.place.start = ap (λ (s : Spot). s.start) here in
-    let many : c.fill-spot.result.words ≡ c.args.words = ap (λ (s : Spot). s.words) here ∙ p.words_are in
-    let more = c.fill-spot.ensures.longer in
+    let v = c.fill-location.ensures.body in
+    let p = c.fill-location.ensures.place in
+    let here : c.fill-location.result ≡ p.place = cc in
+    let first : c.fill-location.result.segment ≡ 0 = ap (λ (s : RootLocation). s.segment) here ∙ p.segment_is in
+    let start : c.fill-location.result.start ≡ p.place.start = ap (λ (s : RootLocation). s.start) here in
+    let many : c.fill-location.result.words ≡ c.args.words = ap (λ (s : RootLocation). s.words) here ∙ p.words_are in
+    let more = c.fill-location.ensures.longer in
     let kept = c.point_near.ensures.rewritten in
     let alone : length c.self.inside.segments.spaces ≡ 1 = subst (λ (w : Built g.row.A.Denot). length w.spaces ≡ 1) (sym c.self.view_is) one in
     let eight : length (space_at c.self.inside.segments.spaces 0).used ≡ 8 =
     subst (λ (w : Built g.row.A.Denot). length (space_at w.spaces 0).used ≡ 8) (sym c.self.view_is) short in
-    value_whole (g.V.SetterInput.has_tree c.args.value.now) c.args.canonical c.fill-spot.new.self.spaces c.point_near.new.self.spaces c.fill-spot.result v
+    value_whole (g.V.SetterInput.has_tree c.args.value.now) c.args.canonical c.fill-location.new.self.spaces c.point_near.new.self.spaces c.fill-location.result v
     (c.point_near.ensures.stands v.form v.held v.body_is) (kept.count ∙ more.count ∙ alone) first (omega (arith, start, p.start_is, eight))
     (omega (arith, kept.used 0, more.used, eight, many))
 
 pub returns-clause-block : goal.returns-clause-block
 returns-clause-block g c =
-    let v = c.fill-spot.ensures.body in
-    let more = c.fill-spot.ensures.longer in
+    let v = c.fill-location.ensures.body in
+    let more = c.fill-location.ensures.longer in
     let kept = c.point_near.ensures.rewritten in
-    let p = c.fill-spot.ensures.place in
-    let here : c.fill-spot.result ≡ p.place = cc in
-    let first : c.fill-spot.result.segment ≡ 0 = ap (λ (s : Spot). s.segment) here ∙ p.segment_is in
+    let p = c.fill-location.ensures.place in
+    let here : c.fill-location.result ≡ p.place = cc in
+    let first : c.fill-location.result.segment ≡ 0 = ap (λ (s : RootLocation). s.segment) here ∙ p.segment_is in
     record {
-      set = value_set (g.V.SetterInput.has_tree c.args.value.now) c.args.canonical c.fill-spot.new.self.spaces c.point_near.new.self.spaces c.fill-spot.result v
+      set = value_set (g.V.SetterInput.has_tree c.args.value.now) c.args.canonical c.fill-location.new.self.spaces c.point_near.new.self.spaces c.fill-location.result v
           (c.point_near.ensures.stands v.form v.held v.body_is);
       count = kept.count ∙ more.count ∙ ap (λ (v : Built g.row.A.Denot). length v.spaces) c.self.view_is;
-      spot = subst (λ (v : Built g.row.A.Denot). IsAtEnd v.spaces (Some c.fill-spot.result) 0 0 c.args.words) c.self.view_is c.fill-spot.ensures.place;
+      location = subst (λ (v : Built g.row.A.Denot). IsAtEnd v.spaces (Some c.fill-location.result) 0 0 c.args.words) c.self.view_is c.fill-location.ensures.place;
       size = omega (arith, kept.size, more.size, ap (λ (v : Built g.row.A.Denot). size_in_words v.spaces) c.self.view_is);
       bytes = subst (λ (v : Built g.row.A.Denot). KeepsBytes v.spaces c.point_near.new.self.spaces) c.self.view_is
-          (λ i from n root fits. let wide = more.each i in c.point_near.ensures.bytes i from n root (λ behind same. absurd (omega (arith, behind, same, first))) (omega (arith, fits, wide))
+          (λ i from n root fits. let wide = more.each i in c.point_near.ensures.bytes i from n root (λ following same. absurd (omega (arith, following, same, first))) (omega (arith, fits, wide))
           ∙ more.bytes i from n root fits);
       sizes = λ i. kept.sizes i ∙ more.sizes i ∙ ap (λ (v : Built g.row.A.Denot). (space_at v.spaces i).size) c.self.view_is;
       same = kept.allocator ∙ more.allocator ∙ ap (λ (v : Built g.row.A.Denot). v.allocator) c.self.view_is;

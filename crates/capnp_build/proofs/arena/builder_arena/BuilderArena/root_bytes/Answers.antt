@@ -6,50 +6,50 @@ use Rattle.capnp_wire.specs.Reached.{Root}
 use Rattle.capnp_build.specs.Bytes.{Space}
 use Rattle.capnp_build.specs.Held.{space_at}
 use Rattle.capnp_build.specs.Built.{Built, message, HasNullRoot, IsBuilt}
-use Rattle.capnp_build.specs.Shown.{HoldsForm}
-use Rattle.capnp_build.specs.declared.arena.spot.Spot.{Spot}
+use Rattle.capnp_build.specs.RootKind.{HoldsForm}
+use Rattle.capnp_build.specs.declared.arena.location.RootLocation.{RootLocation}
 use Rattle.capnp_build.proofs.SpaceLemmas.{got_used, got_none}
 use Rattle.capnp_build.proofs.NullLemmas.{null_only}
 use Rattle.capnp_build.proofs.LaidLemmas.{laid_as}
 use Rattle.capnp_build.proofs.ReadLemmas.{holds_form}
 use Rattle.capnp_build.proofs.arena.builder_arena.BuilderArena.root_bytes.Goals as goal
 
-holds_there : (spaces : List Space) (spot : Spot) (used : List ℕ) → IsBuilt spaces (Some spot) → ((i : ℕ) → slice_index_or (space_at spaces spot.segment).used i 0 < 256)
-    → used ≡ (space_at spaces spot.segment).used
-    → (form : Form) (held : Trees) (charge : ℕ) → Root (message spaces) form held charge → HoldsForm (take (8 * spot.words) (drop (8 * spot.start) used)) form
-holds_there spaces spot used p low e form held charge there =
-    let r = laid_as spaces spot p.0 form p.1 held charge p.2 there in
-    subst (λ (l : List ℕ). HoldsForm (take (8 * spot.words) (drop (8 * spot.start) l)) form) (sym e) (holds_form spaces spot form held r low)
+holds_there : (spaces : List Space) (location : RootLocation) (used : List ℕ) → IsBuilt spaces (Some location) → ((i : ℕ) → slice_index_or (space_at spaces location.segment).used i 0 < 256)
+    → used ≡ (space_at spaces location.segment).used
+    → (form : Form) (held : Trees) (traversed : ℕ) → Root (message spaces) form held traversed → HoldsForm (take (8 * location.words) (drop (8 * location.start) used)) form
+holds_there spaces location used p low e form held traversed there =
+    let r = laid_as spaces location p.0 form p.1 held traversed p.2 there in
+    subst (λ (l : List ℕ). HoldsForm (take (8 * location.words) (drop (8 * location.start) l)) form) (sym e) (holds_form spaces location form held r low)
 
 pub returns-in_default : goal.returns-in_default
-returns-in_default g c = λ form held charge there.
+returns-in_default g c = λ form held traversed there.
     let spaces : List Space = c.self.inside.segments.spaces in
-    let r : HasNullRoot spaces = subst (λ (o : Option Spot). IsBuilt spaces o) c.in_default.is c.self.invariant in
-    let no : form ≡ null = null_only spaces form held charge r (subst (λ (v : Built g.row.A.Denot). Root (message v.spaces) form held charge) (sym c.self.view_is) there) in
+    let r : HasNullRoot spaces = subst (λ (o : Option RootLocation). IsBuilt spaces o) c.in_default.is c.self.invariant in
+    let no : form ≡ null = null_only spaces form held traversed r (subst (λ (v : Built g.row.A.Denot). Root (message v.spaces) form held traversed) (sym c.self.view_is) there) in
     subst (λ (f : Form). HoldsForm [] f) (sym no) tt
 
 pub returns-in_default-get : goal.returns-in_default-get
 returns-in_default-get g c =
     let spaces : List Space = c.self.inside.segments.spaces in
-    let p : IsBuilt spaces (Some c.in-Some.spot) = subst (λ (o : Option Spot). IsBuilt spaces o) c.in-Some.is c.self.invariant in
-    absurd (got_none spaces c.in-Some.spot.segment (option_copied c.get.result) p.2.body_is.within c.get.ensures (ap option_copied c.in_default-get.is))
+    let p : IsBuilt spaces (Some c.in-Some.location) = subst (λ (o : Option RootLocation). IsBuilt spaces o) c.in-Some.is c.self.invariant in
+    absurd (got_none spaces c.in-Some.location.segment (option_copied c.get.result) p.2.body_is.within c.get.ensures (ap option_copied c.in_default-get.is))
 
 pub stretch-requires : goal.stretch-requires
 stretch-requires g c =
     let spaces : List Space = c.self.inside.segments.spaces in
-    let spot : Spot = c.in-Some.spot in
-    let p : IsBuilt spaces (Some spot) = subst (λ (o : Option Spot). IsBuilt spaces o) c.in-Some.is c.self.invariant in
-    let same : c.in-Some-get.used.now ≡ (space_at spaces spot.segment).used =
-    got_used spaces spot.segment (option_copied c.get.result) c.in-Some-get.used.now p.2.body_is.within c.get.ensures (ap option_copied c.in-Some-get.is) in
+    let location : RootLocation = c.in-Some.location in
+    let p : IsBuilt spaces (Some location) = subst (λ (o : Option RootLocation). IsBuilt spaces o) c.in-Some.is c.self.invariant in
+    let same : c.in-Some-get.used.now ≡ (space_at spaces location.segment).used =
+    got_used spaces location.segment (option_copied c.get.result) c.in-Some-get.used.now p.2.body_is.within c.get.ensures (ap option_copied c.in-Some-get.is) in
     omega (arith, p.2.body_is.room, ap length same)
 
 pub returns : goal.returns
-returns g c = λ form held charge there.
+returns g c = λ form held traversed there.
     let spaces : List Space = c.self.inside.segments.spaces in
-    let spot : Spot = c.in-Some.spot in
-    let p : IsBuilt spaces (Some spot) = subst (λ (o : Option Spot). IsBuilt spaces o) c.in-Some.is c.self.invariant in
-    let same : c.in-Some-get.used.now ≡ (space_at spaces spot.segment).used =
-    got_used spaces spot.segment (option_copied c.get.result) c.in-Some-get.used.now p.2.body_is.within c.get.ensures (ap option_copied c.in-Some-get.is) in
-    let low : (j : ℕ) → slice_index_or (space_at spaces spot.segment).used j 0 < 256 = subst (λ (l : List ℕ). (j : ℕ) → slice_index_or l j 0 < 256) same c.each_is_a_byte.ensures in
+    let location : RootLocation = c.in-Some.location in
+    let p : IsBuilt spaces (Some location) = subst (λ (o : Option RootLocation). IsBuilt spaces o) c.in-Some.is c.self.invariant in
+    let same : c.in-Some-get.used.now ≡ (space_at spaces location.segment).used =
+    got_used spaces location.segment (option_copied c.get.result) c.in-Some-get.used.now p.2.body_is.within c.get.ensures (ap option_copied c.in-Some-get.is) in
+    let low : (j : ℕ) → slice_index_or (space_at spaces location.segment).used j 0 < 256 = subst (λ (l : List ℕ). (j : ℕ) → slice_index_or l j 0 < 256) same c.each_is_a_byte.ensures in
     subst (λ (l : List ℕ). HoldsForm l form) (sym c.stretch.ensures)
-    (holds_there spaces spot c.in-Some-get.used.now p low same form held charge (subst (λ (v : Built g.row.A.Denot). Root (message v.spaces) form held charge) (sym c.self.view_is) there))
+    (holds_there spaces location c.in-Some-get.used.now p low same form held traversed (subst (λ (v : Built g.row.A.Denot). Root (message v.spaces) form held traversed) (sym c.self.view_is) there))

@@ -4,17 +4,17 @@ use Rattle.capnp_build.specs.Bytes.{Space}
 use Rattle.capnp_build.specs.Built.{message, Built, IsBuilt}
 use Rattle.capnp_wire.specs.Tree.{Form, null, Trees, none, tree}
 use Rattle.capnp_wire.specs.Reached.{At, root}
-use Rattle.capnp_build.specs.declared.arena.spot.Spot.{Spot}
+use Rattle.capnp_build.specs.declared.arena.location.RootLocation.{RootLocation}
 use Rattle.capnp_build.proofs.LaidLemmas.{laid_root}
 use Rattle.capnp_build.proofs.NullLemmas.{null_root}
 use Rattle.capnp_build.proofs.arena.builder_arena.BuilderArena.root_stands.Goals as goal
 
 abbrev HasRoot : List Space → Type 0
-HasRoot spaces = 0 < length spaces → (form : Form) × (held : Trees) × (charge : ℕ) × At (message spaces) (root ∷ []) (tree form held none) charge
+HasRoot spaces = 0 < length spaces → (form : Form) × (held : Trees) × (traversed : ℕ) × At (message spaces) (root ∷ []) (tree form held none) traversed
 
-has_root : (spaces : List Space) (o : Option Spot) → IsBuilt spaces o → HasRoot spaces
+has_root : (spaces : List Space) (o : Option RootLocation) → IsBuilt spaces o → HasRoot spaces
 has_root spaces None r there = let t = null_root spaces there r in (null, none, t.0, t.1)
-has_root spaces (Some spot) p there = let t = laid_root spaces spot p.0 p.1 p.2 in (p.0, p.1, t.0, t.1)
+has_root spaces (Some location) p there = let t = laid_root spaces location p.0 p.1 p.2 in (p.0, p.1, t.0, t.1)
 
 pub returns : goal.returns
-returns g c = subst (λ (v : Built g.row.A.Denot). HasRoot v.spaces) c.self.view_is (has_root c.self.inside.segments.spaces c.self.inside.spot c.self.invariant)
+returns g c = subst (λ (v : Built g.row.A.Denot). HasRoot v.spaces) c.self.view_is (has_root c.self.inside.segments.spaces c.self.inside.location c.self.invariant)

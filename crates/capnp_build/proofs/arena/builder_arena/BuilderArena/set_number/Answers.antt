@@ -5,7 +5,7 @@ use Rattle.capnp_build.specs.Bytes.{Space}
 use Rattle.capnp_build.specs.Held.{Held}
 use Rattle.capnp_build.specs.Built.{Built, HasNullRoot, IsBuilt}
 use Rattle.capnp_build.specs.Written.{IsWritten, HasNumber, IsNumberSet}
-use Rattle.capnp_build.specs.declared.arena.spot.Spot.{Spot}
+use Rattle.capnp_build.specs.declared.arena.location.RootLocation.{RootLocation}
 use Rattle.capnp_build.proofs.WriteLemmas.{written_at, number_known, number_room, number_set, no_list}
 use Rattle.capnp_build.proofs.NullLemmas.{null_only}
 use Rattle.capnp_build.proofs.ReadLemmas.{number_laid}
@@ -15,39 +15,39 @@ pub write_at-requires-clause-room : goal.write_at-requires-clause-room
 write_at-requires-clause-room g c =
     let spaces : List Space = c.self.inside.segments.spaces in
     let f : HasNumber spaces c.args.index = subst (λ (v : Built g.row.A.Denot). HasNumber v.spaces c.args.index) (sym c.self.view_is) c.requires in
-    let p : IsBuilt spaces (Some c.in-Some.spot) = subst (λ (o : Option Spot). IsBuilt spaces o) c.in-Some.is c.self.invariant in
-    number_room spaces c.in-Some.spot c.args.index (length c.to_le_bytes.result) f p (ap length c.to_le_bytes.ensures)
+    let p : IsBuilt spaces (Some c.in-Some.location) = subst (λ (o : Option RootLocation). IsBuilt spaces o) c.in-Some.is c.self.invariant in
+    number_room spaces c.in-Some.location c.args.index (length c.to_le_bytes.result) f p (ap length c.to_le_bytes.ensures)
 
 pub invariant_of-self : goal.invariant_of-self
 invariant_of-self g c =
     let spaces : List Space = c.self.inside.segments.spaces in
     let f : HasNumber spaces c.args.index = subst (λ (v : Built g.row.A.Denot). HasNumber v.spaces c.args.index) (sym c.self.view_is) c.requires in
-    let p : IsBuilt spaces (Some c.in-Some.spot) = subst (λ (o : Option Spot). IsBuilt spaces o) c.in-Some.is c.self.invariant in
-    let r = number_known spaces c.in-Some.spot c.args.index f p in
-    let laid = number_laid spaces c.write_at.new.self.spaces c.in-Some.spot f.values c.args.index c.args.number c.to_le_bytes.result r f.within c.ranges.number.fits
+    let p : IsBuilt spaces (Some c.in-Some.location) = subst (λ (o : Option RootLocation). IsBuilt spaces o) c.in-Some.is c.self.invariant in
+    let r = number_known spaces c.in-Some.location c.args.index f p in
+    let laid = number_laid spaces c.write_at.new.self.spaces c.in-Some.location f.values c.args.index c.args.number c.to_le_bytes.result r f.within c.ranges.number.fits
     c.to_le_bytes.ensures (ap length c.to_le_bytes.ensures) (ap (λ (h : Held g.row.A.Denot). h.spaces) c.write_at.ensures) in
-    let after : IsBuilt c.write_at.new.self.spaces (Some c.in-Some.spot) = (numbers 5 (slice_set f.values c.args.index c.args.number), none, laid) in
-    subst (λ (o : Option Spot). IsBuilt c.write_at.new.self.spaces o) (sym c.in-Some.is) after
+    let after : IsBuilt c.write_at.new.self.spaces (Some c.in-Some.location) = (numbers 5 (slice_set f.values c.args.index c.args.number), none, laid) in
+    subst (λ (o : Option RootLocation). IsBuilt c.write_at.new.self.spaces o) (sym c.in-Some.is) after
 
 pub returns-in-Some : goal.returns-in-Some
 returns-in-Some g c =
     let spaces : List Space = c.self.inside.segments.spaces in
     let f : HasNumber spaces c.args.index = subst (λ (v : Built g.row.A.Denot). HasNumber v.spaces c.args.index) (sym c.self.view_is) c.requires in
-    let p : IsBuilt spaces (Some c.in-Some.spot) = subst (λ (o : Option Spot). IsBuilt spaces o) c.in-Some.is c.self.invariant in
-    let spot : Spot = c.in-Some.spot in
-    let new : Built g.row.A.Denot = record { spaces = c.write_at.new.self.spaces; spot = c.self.inside.spot; allocator = c.write_at.new.self.allocator } in
-    let a = number_set spaces c.write_at.new.self.spaces c.in-Some.spot c.args.index c.args.number c.to_le_bytes.result f p c.ranges.number.fits
+    let p : IsBuilt spaces (Some c.in-Some.location) = subst (λ (o : Option RootLocation). IsBuilt spaces o) c.in-Some.is c.self.invariant in
+    let location : RootLocation = c.in-Some.location in
+    let new : Built g.row.A.Denot = record { spaces = c.write_at.new.self.spaces; location = c.self.inside.location; allocator = c.write_at.new.self.allocator } in
+    let a = number_set spaces c.write_at.new.self.spaces c.in-Some.location c.args.index c.args.number c.to_le_bytes.result f p c.ranges.number.fits
     c.to_le_bytes.ensures (ap length c.to_le_bytes.ensures) (ap (λ (h : Held g.row.A.Denot). h.spaces) c.write_at.ensures) in
     record {
       set = subst (λ (v : Built g.row.A.Denot). IsNumberSet v.spaces c.write_at.new.self.spaces c.args.index c.args.number) c.self.view_is a;
       written = subst (λ (v : Built g.row.A.Denot). IsWritten v new) c.self.view_is
-          (written_at c.self.inside.segments c.write_at.new.self c.self.inside.spot spot.segment (8 * spot.start + 8 * c.args.index) c.to_le_bytes.result c.write_at.ensures
-          (number_room spaces spot c.args.index (length c.to_le_bytes.result) f p (ap length c.to_le_bytes.ensures)));
+          (written_at c.self.inside.segments c.write_at.new.self c.self.inside.location location.segment (8 * location.start + 8 * c.args.index) c.to_le_bytes.result c.write_at.ensures
+          (number_room spaces location c.args.index (length c.to_le_bytes.result) f p (ap length c.to_le_bytes.ensures)));
     }
 
 pub returns-in_default : goal.returns-in_default
 returns-in_default g c =
     let spaces : List Space = c.self.inside.segments.spaces in
     let f : HasNumber spaces c.args.index = subst (λ (v : Built g.row.A.Denot). HasNumber v.spaces c.args.index) (sym c.self.view_is) c.requires in
-    let r : HasNullRoot spaces = subst (λ (o : Option Spot). IsBuilt spaces o) c.in_default.is c.self.invariant in
-    absurd (no_list f.values (null_only spaces (numbers 5 f.values) none f.charge r f.stands))
+    let r : HasNullRoot spaces = subst (λ (o : Option RootLocation). IsBuilt spaces o) c.in_default.is c.self.invariant in
+    absurd (no_list f.values (null_only spaces (numbers 5 f.values) none f.traversed r f.stands))

@@ -1,7 +1,7 @@
 -- The root is cleared first, and then the canonical form is placed.
 use Rattle.std.proofs.Common.{rules, length, ap, arith, refl}
 use Rattle.std.proofs.lemmas.Result.{err_from_is_err_and}
-use Rattle.capnp_build.specs.Held.{space_at, room_of}
+use Rattle.capnp_build.specs.Held.{space_at, free_words_of}
 use Rattle.capnp_build.specs.Built.{Built}
 use Rattle.capnp_build.proofs.OutcomeLemmas.{cleared_root, still_granted}
 use Rattle.capnp_build.proofs.CanonicalLemmas.{canonical_unmeasured, canonical_full, none_refused}
@@ -15,21 +15,21 @@ returns g c =
     let clear = c.in_ok-clear_root.ensures in
     let near = c.put_near.ensures.block in
     let alone = ap (λ (v : Built g.row.A.Denot). length v.spaces) c.self.view_is in
-    let placed = placed_near c.clear_root.new.self.spaces c.put_near.new.self c.in_ok-words.words (search rules) near.spot near.count (omega (arith, near.size)) in
+    let placed = placed_near c.clear_root.new.self.spaces c.put_near.new.self c.in_ok-words.words (search rules) near.location near.count (omega (arith, near.size)) in
     record {
       set = near.set;
       placed = record {
         cleared = c.clear_root.new.self;
         words = c.in_ok-words.words;
         is_cleared = cleared_root g.A.Allocator _ _ clear;
-        words_are = c.in_ok-words.ensures.answer;
+        words_are = c.in_ok-words.ensures.returned;
         placed = placed;
-        first = λ none. first_put c.clear_root.new.self c.put_near.new.self c.in_ok-words.words (clear.fresh none) placed (near.sizes 0);
+        first = λ none. first_put c.clear_root.new.self c.put_near.new.self c.in_ok-words.words (clear.new_object none) placed (near.sizes 0);
         granted = still_granted g.A.Allocator _ c.clear_root.new.self c.put_near.new.self.spaces clear (near.sizes 0);
-        zero = zero_stays _ c.clear_root.new.self.spaces c.put_near.new.self.spaces clear.behind clear.zero near.bytes;
+        zero = zero_stays _ c.clear_root.new.self.spaces c.put_near.new.self.spaces clear.following clear.zero near.bytes;
       };
       one = omega (arith, near.count, alone, c.if-len-gt1.false, c.len.ensures, clear.there);
-      whole = λ none. c.put_near.ensures.whole (clear.fresh none).0 (clear.fresh none).1;
+      whole = λ none. c.put_near.ensures.whole (clear.new_object none).0 (clear.new_object none).1;
       nulled = tt;
       kind = tt;
       exact = λ kind refused. absurd (none_refused g.A.Allocator _ _ _ c.clear_root.new.self c.in_ok-words.words kind clear (omega (arith, alone, c.if-len-gt1.false, c.len.ensures)) (search rules)
@@ -46,13 +46,13 @@ returns-in_err-words g c =
     let p = err_from_is_err_and c.from_residual-in_err-words.result c.from_residual-in_err-words.ensures.1 in
     let alone = ap (λ (v : Built g.row.A.Denot). length v.spaces) c.self.view_is in
     rw (p.1, p.2) (canonical_unmeasured g.A.Allocator (g.V.SetterInput.has_tree c.args.value.now) (g.V.SetterInput.refuses c.args.value.now) _ c.clear_root.new.self _ c.in_ok-clear_root.ensures
-    (omega (arith, alone, c.if-len-gt1.false, c.len.ensures, c.in_ok-clear_root.ensures.there)) c.in_err-words.ensures.answer c.in_err-words.ensures.exact
+    (omega (arith, alone, c.if-len-gt1.false, c.len.ensures, c.in_ok-clear_root.ensures.there)) c.in_err-words.ensures.returned c.in_err-words.ensures.exact
     (λ words has. let same = c.in_err-words.ensures.found words has in absurd (cc)))
 
 pub returns-then-words-room : goal.returns-then-words-room
 returns-then-words-room g c =
     let alone = ap (λ (v : Built g.row.A.Denot). length v.spaces) c.self.view_is in
-    let same = ap (λ (v : Built g.row.A.Denot). room_of (space_at v.spaces 0)) c.self.view_is in
+    let same = ap (λ (v : Built g.row.A.Denot). free_words_of (space_at v.spaces 0)) c.self.view_is in
     canonical_full g.A.Allocator (g.V.SetterInput.has_tree c.args.value.now) (g.V.SetterInput.refuses c.args.value.now) _ c.clear_root.new.self _ c.in_ok-words.words c.in_ok-clear_root.ensures
-    (omega (arith, alone, c.if-len-gt1.false, c.len.ensures, c.in_ok-clear_root.ensures.there)) (search rules) c.in_ok-words.ensures.answer
+    (omega (arith, alone, c.if-len-gt1.false, c.len.ensures, c.in_ok-clear_root.ensures.there)) (search rules) c.in_ok-words.ensures.returned
     (omega (arith, same, c.if-words-room.true, c.room.ensures)) (λ k lacks. c.in_ok-words.ensures.exact k lacks) (λ other has. let same = c.in_ok-words.ensures.found other has in cc)

@@ -3,7 +3,7 @@ use Rattle.std.proofs.Common.{rules, ◌≡◌, false, refl, Ok, Err, arith}
 use Rattle.capnp_wire.specs.Tree.{tree}
 use Rattle.capnp_values.proofs.PartLemmas.{part_total, part_words, part_of}
 use Rattle.capnp_values.proofs.ReachLemmas.{bounded}
-use Rattle.capnp_values.proofs.AnswerLemmas.{same_ok, ok_not_err, err_kind, refused_first, refused_rest}
+use Rattle.capnp_values.proofs.ResultLemmas.{same_ok, ok_not_err, err_kind, refused_first, refused_rest}
 use Rattle.capnp_values.proofs.fields.field.FieldFields.measure.Goals as goal
 
 pub returns-in_err-plain-clause-found : goal.returns-in_err-plain-clause-found
@@ -37,18 +37,18 @@ front-requires-clause-plain g c form held part =
 
 pub front-requires-clause-pointers : goal.front-requires-clause-pointers
 front-requires-clause-pointers g c =
-    let a = c.in_ok-rest.ensures.answer in
+    let a = c.in_ok-rest.ensures.returned in
     (bounded c.args.canonical g.F.Fields.size a.0 c.in_ok-rest.rest (omega (arith, c.requires)) (g.met.F.Fields.settled c.args.self.now.rest a.0 a.1) a.2).pointers_few
 
 pub front-requires-clause-words : goal.front-requires-clause-words
 front-requires-clause-words g c =
-    let a = c.in_ok-rest.ensures.answer in
+    let a = c.in_ok-rest.ensures.returned in
     (bounded c.args.canonical g.F.Fields.size a.0 c.in_ok-rest.rest (omega (arith, c.requires)) (g.met.F.Fields.settled c.args.self.now.rest a.0 a.1) a.2).words_few
 
-pub returns-clause-answer : goal.returns-clause-answer
-returns-clause-answer g c =
-    let a = c.in_ok-rest.ensures.answer in
-    let p = part_of (g.V.SetterInput.has_tree c.args.self.now.value) c.in_ok-plain.plain (g.met.V.SetterInput.one c.args.self.now.value) c.in_ok-plain.ensures.answer in
+pub returns-clause-returned : goal.returns-clause-returned
+returns-clause-returned g c =
+    let a = c.in_ok-rest.ensures.returned in
+    let p = part_of (g.V.SetterInput.has_tree c.args.self.now.value) c.in_ok-plain.plain (g.met.V.SetterInput.one c.args.self.now.value) c.in_ok-plain.ensures.returned in
     (tree p.0 p.1 a.0, record { form = p.0; held = p.1; rest = a.0; whole = refl; part = p.2; others = a.1 }, c.front.ensures p.0 p.1 a.0 p.2 a.2)
 
 pub returns-clause-exact : goal.returns-clause-exact

@@ -1,4 +1,5 @@
--- What a pointer leads to is entered once it is charged, and refused where no object stands or the limit is met.
+-- What a pointer leads to is entered once it is counted against the traversal limit, and refused where no object stands or
+-- the limit is met.
 use Rattle.std.proofs.Common.{inl, inr}
 use Rattle.std.proofs.lemmas.Result.{err_from_is_err_and}
 use Rattle.capnp_wire.specs.Object.{is_null as null_there}
@@ -19,9 +20,9 @@ returns-in_default-2-clause-found g c =
     let word = rw c.in_default-2.is at c.in_ok-object.ensures.found in
     at_place c.in-Some.is (null_there word) (λ not. cc)
 
-pub returns-in_err-charge-clause-refused : goal.returns-in_err-charge-clause-refused
-returns-in_err-charge-clause-refused g c =
-    let p = err_from_is_err_and c.from_residual-in_err-charge.result c.from_residual-in_err-charge.ensures.1 in
+pub returns-in_err-traversed-clause-refused : goal.returns-in_err-traversed-clause-refused
+returns-in_err-traversed-clause-refused g c =
+    let p = err_from_is_err_and c.from_residual-in_err-traversed.result c.from_residual-in_err-traversed.ensures.1 in
     let pointer = pointer_of g.S.ReaderSegments.segments c.args.self.now in
     let found = rw c.in-Some-2.is at c.in_ok-object.ensures.found in
-    rw (p.1, p.2) (inr ((_, at_place c.in-Some.is found.0.object (λ not. found.1), c.in_err-charge.ensures.some), c.in_err-charge.ensures.limited, c.in_err-charge.ensures.kind))
+    rw (p.1, p.2) (inr ((_, at_place c.in-Some.is found.0.object (λ not. found.1), c.in_err-traversed.ensures.some), c.in_err-traversed.ensures.limited, c.in_err-traversed.ensures.kind))

@@ -1,4 +1,4 @@
--- A pointer of a struct stands behind the data words, and past the last one nowhere.
+-- A pointer of a struct stands after the data words, and past the last one nowhere.
 use Rattle.std.proofs.Common.{◌+◌, ◌<◌, ◌≤◌, Option, sym, ap, ◌∙◌, arith}
 use Rattle.capnp_wire.specs.Object.{message_of}
 use Rattle.capnp_wire.specs.Readers.{limit_of}
@@ -14,7 +14,7 @@ returns g c =
     let pointer : Option Place → Pointer = λ place. record {
       message = message_of (g.S.ReaderSegments.segments self.segments.now);
       place = place;
-      level = self.level;
+      nesting = self.nesting;
       limit = limit_of self.limiter;
     } in
     let start = self.start.word + self.size.data_words in

@@ -1,4 +1,4 @@
--- The fields of a struct are those of the object that the pointer leads to, a level below.
+-- The fields of a struct are those of the object that the pointer leads to, with one less of nesting depth left.
 use Rattle.std.proofs.Common.{inr, refl}
 use Rattle.capnp_wire.specs.Views.{DeclinesStruct}
 use Rattle.capnp_wire.specs.Readers.{pointer_of, IsEntered}
@@ -19,6 +19,6 @@ returns g c =
     record {
       same_message = refl;
       shown = struct_shows p c.in-Some.object c.in-Some-as_struct.size entered c.in-Some-as_struct.ensures;
-      level_below = c.saturating_sub-level.ensures;
+      nesting_below = c.saturating_sub-nesting.ensures;
       same_limit = refl;
     }

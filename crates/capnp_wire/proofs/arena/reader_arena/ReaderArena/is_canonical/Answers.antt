@@ -3,7 +3,7 @@ use Rattle.std.proofs.Common.{ℕ, sym, ◌∙◌, subst}
 use Rattle.capnp_wire.specs.Object.{message_of}
 use Rattle.capnp_wire.specs.Pointer.{words_of}
 use Rattle.capnp_wire.specs.Tested.{Unsaid, no_first_segment}
-use Rattle.capnp_wire.specs.Readers.{level_of}
+use Rattle.capnp_wire.specs.Readers.{nesting_of}
 use Rattle.capnp_wire.proofs.forms.CanonicalLemmas.{no_segment_there, one_segment_there, more_is_not, said_of_more, unsaid_of_none, unsaid_stops, said_at}
 use Rattle.capnp_wire.proofs.forms.CanonicalLemmas.{said_exactly, said_where_found, said_stops, second_shown, no_second, none_has_no_root}
 use Rattle.capnp_wire.proofs.arena.reader_arena.ReaderArena.is_canonical.Goals as goal
@@ -11,19 +11,19 @@ use Rattle.capnp_wire.proofs.arena.reader_arena.ReaderArena.is_canonical.Goals a
 pub returns-in_default : goal.returns-in_default
 returns-in_default g c =
     let m = message_of (g.S.ReaderSegments.segments c.args.self.now.segments) in
-    let level = level_of c.args.self.now.nesting_limit in
+    let nesting = nesting_of c.args.self.now.nesting_limit in
     let limit = c.args.self.now.limiter.limit in
     let none = no_segment_there _ (sym c.in_default.ensures) in
-    let unsaid : Unsaid m level limit c.from_kind.result.kind = subst (Unsaid m level limit) (sym c.from_kind.ensures) (no_first_segment none) in
+    let unsaid : Unsaid m nesting limit c.from_kind.result.kind = subst (Unsaid m nesting limit) (sym c.from_kind.ensures) (no_first_segment none) in
     record {
-      answer = unsaid;
+      returned = unsaid;
       exact = λ kind other. c.from_kind.ensures ∙ unsaid_of_none _ _ _ kind none other;
-      found = λ form held charge stand shallow fits. absurd (none_has_no_root _ form held charge none stand);
-      stops = unsaid_stops m level limit _ unsaid;
+      found = λ form held traversed stand shallow fits. absurd (none_has_no_root _ form held traversed none stand);
+      stops = unsaid_stops m nesting limit _ unsaid;
     }
 
-pub returns-then-is_some-clause-answer : goal.returns-then-is_some-clause-answer
-returns-then-is_some-clause-answer g c =
+pub returns-then-is_some-clause-returned : goal.returns-then-is_some-clause-returned
+returns-then-is_some-clause-returned g c =
     let segments = g.S.ReaderSegments.segments c.args.self.now.segments in
     let second = second_shown c.get_segment-2.result segments c.is_some.result c.is_some.ensures c.get_segment-2.ensures c.if-is_some.true in
     (λ never. absurd (cc), λ canonical. absurd (more_is_not segments second.0 second.1 canonical))
@@ -44,15 +44,15 @@ returns g c =
     let segments = g.S.ReaderSegments.segments c.args.self.now.segments in
     let m = message_of segments in
     let words = words_of c.in-Some.segment.now in
-    let level = level_of c.args.self.now.nesting_limit in
+    let nesting = nesting_of c.args.self.now.nesting_limit in
     let limit = c.args.self.now.limiter.limit in
     let one = one_segment_there segments c.in-Some.segment.now (sym c.in-Some.ensures)
     (no_second c.get_segment-2.result segments c.is_some.result c.is_some.ensures c.get_segment-2.ensures c.if-is_some.false) in
-    let said = said_at m words c.level.result _ limit c.is_canonical.result c.level.ensures one c.is_canonical.ensures.said c.is_canonical.ensures.refused in
+    let said = said_at m words c.nesting.result _ limit c.is_canonical.result c.nesting.ensures one c.is_canonical.ensures.said c.is_canonical.ensures.refused in
     record {
-      answer = said;
-      exact = λ kind unsaid. said_exactly m words c.level.result limit c.is_canonical.result kind one c.is_canonical.ensures.exact
-          (subst (λ (l : ℕ). Unsaid m l limit kind) (sym c.level.ensures) unsaid);
-      found = said_where_found m level limit c.is_canonical.result said;
-      stops = said_stops m level limit c.is_canonical.result said;
+      returned = said;
+      exact = λ kind unsaid. said_exactly m words c.nesting.result limit c.is_canonical.result kind one c.is_canonical.ensures.exact
+          (subst (λ (l : ℕ). Unsaid m l limit kind) (sym c.nesting.ensures) unsaid);
+      found = said_where_found m nesting limit c.is_canonical.result said;
+      stops = said_stops m nesting limit c.is_canonical.result said;
     }

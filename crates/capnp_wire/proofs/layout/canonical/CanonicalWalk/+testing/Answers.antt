@@ -3,7 +3,7 @@ use Rattle.std.proofs.Common.{◌≤◌, ◌∙◌, length, arith}
 use Rattle.capnp_wire.specs.Pointer.{words_of}
 use Rattle.capnp_wire.proofs.words.WordLemmas.{length-words_of}
 use Rattle.capnp_wire.proofs.objects.ElementLemmas.{all_words_below}
-use Rattle.capnp_wire.proofs.pointers.PadLemmas.{passed_on}
+use Rattle.capnp_wire.proofs.pointers.LandingPadLemmas.{passed_on}
 use Rattle.capnp_wire.proofs.walks.GoingLemmas.{null_passes, going_begins, going_next, going_ends, pointers_pass, pointers_end, pointers_refused}
 use Rattle.capnp_wire.proofs.layout.canonical.CanonicalWalk.+testing.Goals as goal
 
@@ -35,7 +35,7 @@ test-returns-in-Pointers-clause-refused g t c =
 pub test_pointers-pointers-init : goal.test_pointers-pointers-init
 test_pointers-pointers-init g t c =
     let room : c.args.self.now.next ≤ length (words_of c.args.segment.now) = omega (arith, c.requires.within, length-words_of c.args.segment.now) in
-    (going_begins _ _ c.args.level c.args.self.now.walk.left c.args.self.now.next room, c.requires.first, c.requires.before)
+    (going_begins _ _ c.args.nesting c.args.self.now.walk.left c.args.self.now.next room, c.requires.first, c.requires.before)
 
 pub test_pointers-test-requires : goal.test_pointers-test-requires
 test_pointers-test-requires g t c κs lives =

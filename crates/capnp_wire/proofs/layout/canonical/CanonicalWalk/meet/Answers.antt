@@ -4,21 +4,21 @@ use Rattle.capnp_wire.specs.Pointer.{words_of}
 use Rattle.capnp_wire.specs.Object.{word_at}
 use Rattle.capnp_wire.specs.Tested.{far, elsewhere}
 use Rattle.capnp_wire.proofs.words.WordLemmas.{length-words_of}
-use Rattle.capnp_wire.proofs.pointers.PadLemmas.{passed_on}
+use Rattle.capnp_wire.proofs.pointers.LandingPadLemmas.{passed_on}
 use Rattle.capnp_wire.proofs.walks.MetLemmas.{Met, met, met_pointers, tests_say, no_word_ends, fault_ends, limit_ends}
 use Rattle.capnp_wire.proofs.layout.canonical.CanonicalWalk.meet.Given as given
 use Rattle.capnp_wire.proofs.layout.canonical.CanonicalWalk.meet.Goals as goal
 use Rattle.capnp_wire.proofs.layout.canonical.CanonicalWalk.meet.Goals.{In-Some}
 
-met_here : (g : given.Over) (c : In-Some g) → Met (words_of c.args.segment.now) c.args.word c.args.level c.args.self.now.next c.in_ok-pointer.pointer c.args.self.now.walk.left c.in-Some.object
+met_here : (g : given.Over) (c : In-Some g) → Met (words_of c.args.segment.now) c.args.word c.args.nesting c.args.self.now.next c.in_ok-pointer.pointer c.args.self.now.walk.left c.in-Some.object
 met_here g c =
     let found = rw c.in-Some.is at c.in_ok-object.ensures.found in
-    met _ _ c.args.word c.args.level c.args.self.now.next c.in_ok-pointer.pointer c.args.self.now.walk.left c.in-Some.object c.requires.one
+    met _ _ c.args.word c.args.nesting c.args.self.now.next c.in_ok-pointer.pointer c.args.self.now.walk.left c.in-Some.object c.requires.one
     found.0 (length-words_of c.in-Some.object.segment.now) c.in_ok-pointer.ensures c.if-pointer-eq2.false found.1
 
 pub returns-in_err-pointer-clause-refused : goal.returns-in_err-pointer-clause-refused
 returns-in_err-pointer-clause-refused g c =
-    passed_on _ _ c.from_residual.ensures.1 (no_word_ends _ _ c.args.word c.args.level c.args.self.now.next c.args.self.now.walk.left _ c.requires.one c.in_err-pointer.ensures)
+    passed_on _ _ c.from_residual.ensures.1 (no_word_ends _ _ c.args.word c.args.nesting c.args.self.now.next c.args.self.now.walk.left _ c.requires.one c.in_err-pointer.ensures)
 
 pub returns-then-pointer-eq2-clause-found : goal.returns-then-pointer-eq2-clause-found
 returns-then-pointer-eq2-clause-found g c =
@@ -31,7 +31,7 @@ returns-then-pointer-eq2-clause-found g c =
 
 pub returns-in_err-object-clause-refused : goal.returns-in_err-object-clause-refused
 returns-in_err-object-clause-refused g c =
-    passed_on _ _ c.from_residual-in_err-object.ensures.1 (fault_ends _ _ c.args.word c.args.level c.args.self.now.next c.in_ok-pointer.pointer c.args.self.now.walk.left _ c.requires.one
+    passed_on _ _ c.from_residual-in_err-object.ensures.1 (fault_ends _ _ c.args.word c.args.nesting c.args.self.now.next c.in_ok-pointer.pointer c.args.self.now.walk.left _ c.requires.one
     c.in_ok-pointer.ensures c.if-pointer-eq2.false c.in_err-object.ensures.refused)
 
 pub returns-in_default-clause-found : goal.returns-in_default-clause-found

@@ -1,4 +1,4 @@
--- So many pointers, and so many slots.
+-- A given number of pointers, and a given number of slots.
 use Rattle.std.proofs.Common.{◌∙◌, ap, sym, length, arith}
 use Rattle.capnp_wire.proofs.layouts.CopyLemmas.{paired}
 use Rattle.capnp_wire.proofs.objects.FieldLemmas.{length-places}

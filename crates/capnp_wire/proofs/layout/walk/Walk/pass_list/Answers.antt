@@ -1,15 +1,15 @@
--- A list of numbers is charged and counted, and this is all that a walk meets there.
+-- A list of numbers is counted against the traversal limit and counted, and this is all that a walk meets there.
 use Rattle.std.proofs.Common.{◌∙◌}
 use Rattle.capnp_wire.proofs.pointers.NearLemmas.{number_list_walked}
-use Rattle.capnp_wire.proofs.pointers.PadLemmas.{passed_on}
+use Rattle.capnp_wire.proofs.pointers.LandingPadLemmas.{passed_on}
 use Rattle.capnp_wire.proofs.walks.StopLemmas.{exceeds_stops}
 use Rattle.capnp_wire.proofs.layout.walk.Walk.pass_list.Goals as goal
 
 pub returns-in_err-pay-clause-refused : goal.returns-in_err-pay-clause-refused
-returns-in_err-pay-clause-refused c m place level is deep =
-    let refused = rw c.charge.ensures at c.in_err-pay.ensures.refused in
-    passed_on _ _ c.from_residual.ensures.1 (exceeds_stops m place _ level _ _ is.object deep refused.0 refused.1)
+returns-in_err-pay-clause-refused c m place nesting is deep =
+    let refused = rw c.traversed.ensures at c.in_err-pay.ensures.refused in
+    passed_on _ _ c.from_residual.ensures.1 (exceeds_stops m place _ nesting _ _ is.object deep refused.0 refused.1)
 
 pub returns-clause-found : goal.returns-clause-found
-returns-clause-found c m canonical place level is deep =
-    number_list_walked c.args.list.now is deep c.charge.ensures c.words.ensures c.in_ok-pay.ensures.within (c.count.ensures.left ∙ c.in_ok-pay.ensures.left) (rw c.in_ok-pay.ensures.words at c.count.ensures.words)
+returns-clause-found c m canonical place nesting is deep =
+    number_list_walked c.args.list.now is deep c.traversed.ensures c.words.ensures c.in_ok-pay.ensures.within (c.count.ensures.left ∙ c.in_ok-pay.ensures.left) (rw c.in_ok-pay.ensures.words at c.count.ensures.words)

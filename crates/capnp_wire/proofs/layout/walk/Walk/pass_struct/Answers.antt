@@ -1,21 +1,21 @@
--- A struct is charged and counted; where its pointers are null, this is all that a walk meets there.
+-- A struct is counted against the traversal limit and counted; where its pointers are null, this is all that a walk meets there.
 use Rattle.std.proofs.Common.{◌+◌, ◌∙◌, refl, arith}
 use Rattle.capnp_wire.specs.Pointer.{words_of}
 use Rattle.capnp_wire.proofs.words.WordLemmas.{length-words_of}
 use Rattle.capnp_wire.proofs.pointers.NearLemmas.{struct_enters}
 use Rattle.capnp_wire.proofs.pointers.NullRunLemmas.{nulls_walked}
-use Rattle.capnp_wire.proofs.pointers.PadLemmas.{passed_on}
+use Rattle.capnp_wire.proofs.pointers.LandingPadLemmas.{passed_on}
 use Rattle.capnp_wire.proofs.walks.StopLemmas.{exceeds_stops}
 use Rattle.capnp_wire.proofs.walks.ProgressLemmas.{entered, walk_over}
 use Rattle.capnp_wire.proofs.layout.walk.Walk.pass_struct.Goals as goal
 
 pub returns-in_err-pay-clause-refused : goal.returns-in_err-pay-clause-refused
-returns-in_err-pay-clause-refused c m place level is deep =
+returns-in_err-pay-clause-refused c m place nesting is deep =
     let refused = rw c.words.ensures at c.in_err-pay.ensures.refused in
-    passed_on _ _ c.from_residual.ensures.1 (exceeds_stops m place _ level _ _ is.object deep refused.0 refused.1)
+    passed_on _ _ c.from_residual.ensures.1 (exceeds_stops m place _ nesting _ _ is.object deep refused.0 refused.1)
 
 pub returns-clause-found : goal.returns-clause-found
-returns-clause-found c m place level is deep =
+returns-clause-found c m place nesting is deep =
     let found = c.args.found.now in
     let enters = struct_enters is deep c.words.ensures c.words-2.ensures c.formed.ensures.body c.in_ok-pay.ensures.within (c.count.ensures.left ∙ c.in_ok-pay.ensures.left)
     (rw c.in_ok-pay.ensures.words at c.count.ensures.words) in (

@@ -1,0 +1,38 @@
+-- The pointer that is kept shows the root's object.
+use Rattle.std.proofs.Common.{◌≡◌, ℕ, List, Option, Some, subst, sym}
+use Rattle.capnp_build.specs.Bytes.{Space}
+use Rattle.capnp_build.specs.Built.{IsRootKind, message, HasNullRoot, Built, IsBuilt}
+use Rattle.capnp_build.specs.RootKind.{ShowsRoot}
+use Rattle.capnp_wire.specs.Tree.{Form, Trees, count}
+use Rattle.capnp_wire.specs.Reached.{Root}
+use Rattle.capnp_wire.specs.Layout.{pointer, HasRoom}
+use Rattle.capnp_build.specs.declared.root_kind.RootKind.{RootKind}
+use Rattle.capnp_build.specs.declared.arena.location.RootLocation.{RootLocation}
+use Rattle.capnp_build.proofs.LaidLemmas.{laid_as}
+use Rattle.capnp_build.proofs.NullLemmas.{null_only}
+use Rattle.capnp_build.proofs.ReadLemmas.{shown_there}
+use Rattle.capnp_build.proofs.arena.builder_arena.BuilderArena.root_kind.Goals as goal
+
+shown_of : (spaces : List Space) (location : RootLocation) (s : RootKind) → IsBuilt spaces (Some location) → ((form : Form) (n : ℕ) → HasRoom form n → location.tag ≡ pointer form n 0 → ShowsRoot s form)
+    → (form : Form) (held : Trees) (traversed : ℕ) → Root (message spaces) form held traversed → ShowsRoot s form
+shown_of spaces location s p read form held traversed there =
+    let r = laid_as spaces location p.0 form p.1 held traversed p.2 there in read form (count held) r.body_is.rooms.0 r.body_is.tag
+
+pub returns-in-None-clause-form : goal.returns-in-None-clause-form
+returns-in-None-clause-form g c = λ form held traversed there.
+    let spaces : List Space = c.self.inside.segments.spaces in
+    let r : HasNullRoot spaces = subst (λ (o : Option RootLocation). IsBuilt spaces o) c.in-None.is c.self.invariant in
+    null_only spaces form held traversed r (subst (λ (v : Built g.row.A.Denot). Root (message v.spaces) form held traversed) (sym c.self.view_is) there)
+
+pub returns-in-Some-clause-form : goal.returns-in-Some-clause-form
+returns-in-Some-clause-form g c = λ form held traversed there.
+    let spaces : List Space = c.self.inside.segments.spaces in
+    let p : IsBuilt spaces (Some c.in-Some.location) = subst (λ (o : Option RootLocation). IsBuilt spaces o) c.in-Some.is c.self.invariant in
+    shown_of spaces c.in-Some.location c.read_tag.result p c.read_tag.ensures form held traversed (subst (λ (v : Built g.row.A.Denot). Root (message v.spaces) form held traversed) (sym c.self.view_is) there)
+
+pub returns-in-Some-clause-stands : goal.returns-in-Some-clause-stands
+returns-in-Some-clause-stands g c =
+    let spaces : List Space = c.self.inside.segments.spaces in
+    let p : IsBuilt spaces (Some c.in-Some.location) = subst (λ (o : Option RootLocation). IsBuilt spaces o) c.in-Some.is c.self.invariant in
+    subst (λ (v : Built g.row.A.Denot). IsRootKind c.read_tag.result v.spaces) c.self.view_is
+    (shown_there spaces c.in-Some.location c.read_tag.result p.0 p.1 p.2 (c.read_tag.ensures p.0 (count p.1) p.2.body_is.rooms.0 p.2.body_is.tag))

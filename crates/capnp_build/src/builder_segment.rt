@@ -1,0 +1,121 @@
+//! A segment of an arena, of which the first words are used.
+ghost use Rattle.std.specs.Prelude.{◌≡◌, ℕ, ◌+◌, ◌-◌, ◌*◌, ◌/◌, ◌%◌, ◌^◌, ◌<◌, ◌≤◌, Bool, List, [], length, take, drop, replicate, min, max};
+ghost use Rattle.capnp_build.specs.Bytes.{written, ZeroFrom, Space, with_block, with_bytes};
+ghost use Rattle.capnp_build.specs.Filled.{IsAppended};
+ghost use Rattle.capnp_wire.specs.Values.{HasWords};
+ghost use Rattle.capnp_build.specs.Output.{CountsUsedWords};
+
+use crate::segment_space::SegmentSpace;
+use capnp_frame::Word;
+use capnp_wire::traits::SetterInput;
+use std::marker::Model;
+
+/// A segment of which the first words are used; the rest is zero.
+#[derive(Drop)]
+pub struct BuilderSegment<S: SegmentSpace> {
+    segment: S,
+    words: u32,
+}
+
+impl<S: SegmentSpace> Model for BuilderSegment<S> {
+    ghost use Rattle.std.specs.Prelude.{◌*◌, ◌/◌, ◌≤◌, ◌<◌, ◌^◌, length, take};
+    ghost use Rattle.capnp_build.specs.Bytes.{Space, ZeroFrom};
+
+    ghost Value = { Space };
+
+    ghost view = { λ part. record {
+      used = take (8 * part.words) (S.content part.segment);
+      size = length (S.content part.segment);
+      is_provided = S.is_provided part.segment;
+    } };
+
+    ghost invariant = { λ part. (8 * part.words ≤ length (S.content part.segment)) × ZeroFrom (8 * part.words) (S.content part.segment) × (part.words ≤ 2 ^ 29) };
+}
+
+impl<S: SegmentSpace> BuilderSegment<S> {
+    /// A segment of zeros, of which nothing is used.
+    pub fn new(segment: S) -> BuilderSegment<S>
+        requires { ZeroFrom 0 (S.content segment) }
+        ensures used { result.used ≡ [] }
+        ensures size { result.size ≡ length (S.content segment) }
+        ensures provided { result.is_provided ≡ S.is_provided segment }
+    {
+        BuilderSegment { segment, words: 0 }
+    }
+
+    /// The used bytes.
+    pub fn bytes(&self) -> &[u8]
+        ensures { result.now ≡ self.now.used }
+    {
+        &self.segment.bytes()[..8 * self.words as usize]
+    }
+
+    /// The used words.
+    pub fn words(&self) -> u32
+        ensures within { length self.now.used ≤ self.now.size }
+        ensures counts { CountsUsedWords result self.now.used }
+    {
+        self.words
+    }
+
+    /// The words that are free, of the first 2^29 alone.
+    pub fn room(&self) -> u32
+        ensures { result ≡ min (self.now.size / 8) (2 ^ 29) - length self.now.used / 8 }
+    {
+        let size = self.segment.bytes().len() / 8;
+        let most = size.min(1 << 29) as u32;
+        most - self.words
+    }
+
+    /// Uses a given number of words more.
+    pub fn grow(&mut self, words: u32)
+        requires { words ≤ min (self.old.size / 8) (2 ^ 29) - length self.old.used / 8 }
+        ensures { self.new ≡ with_block self.old (8 * words) }
+    {
+        let size = self.segment.bytes().len();
+        self.words = self.words + words;
+    }
+
+    /// A value written after the used words, in a given number of words.
+    pub fn append<T, V: SetterInput<T>>(&mut self, canonical: bool, value: &V, words: u32) -> Word
+        requires room { words ≤ min (self.old.size / 8) (2 ^ 29) - length self.old.used / 8 }
+        requires words { HasWords (V.has_tree value.now) canonical words }
+        ensures { IsAppended (V.has_tree value.now) canonical result words self.old self.new }
+    {
+        let size = self.segment.bytes().len();
+        let from = 8 * self.words as usize;
+        let to = from + 8 * words as usize;
+        let pointer = self.segment.write_value(from, to, canonical, value);
+        self.words = self.words + words;
+        pointer
+    }
+
+    /// Writes bytes into those that are used.
+    pub fn write_at(&mut self, at: usize, bytes: &[u8])
+        requires { at + length bytes.now ≤ length self.old.used }
+        ensures { self.new ≡ with_bytes self.old at bytes.now }
+    {
+        self.segment.write_at(at, bytes);
+    }
+
+    /// Makes some of the used bytes zero.
+    pub fn zero(&mut self, from: usize, to: usize)
+        requires order { from ≤ to }
+        requires within { to ≤ length self.old.used }
+        ensures { self.new ≡ with_bytes self.old from (replicate (to - from) 0) }
+    {
+        self.segment.zero(from, to);
+    }
+
+    /// The segment, and how many words of it are used.
+    pub fn into_segment(self) -> (S, u32)
+        ensures size { length (S.content result.0) ≡ self.size }
+        ensures provided { S.is_provided result.0 ≡ self.is_provided }
+        ensures used { 8 * result.1 ≤ length (S.content result.0) }
+        ensures words { 8 * result.1 ≡ length self.used }
+        ensures zero { ZeroFrom (8 * result.1) (S.content result.0) }
+    {
+        let BuilderSegment { segment, words } = self;
+        (segment, words)
+    }
+}

@@ -1,0 +1,87 @@
+//! New objects, as values that a root is set to.
+ghost use Rattle.std.specs.Prelude.{◌≡◌, ℕ};
+ghost use Rattle.capnp_frame.specs.Words.{bytes_of};
+ghost use Rattle.capnp_wire.specs.Pointer.{number_of};
+ghost use Rattle.capnp_wire.specs.Tree.{none, tree, count};
+ghost use Rattle.capnp_build.specs.Body.{Fits, zero_form, formed_new_object};
+ghost use Rattle.capnp_wire.specs.Values.{HasWords};
+ghost use Rattle.std.specs.Prelude.{false};
+
+use crate::object::Body;
+use capnp_frame::{Result, Word, word};
+use capnp_wire::traits::SetterInput;
+use std::marker::Model;
+
+/// New objects, as a type of a schema.
+pub struct Owned;
+
+/// A new object, all zero.
+#[derive(Drop)]
+pub struct NewObject {
+    body: Body,
+}
+
+impl Model for NewObject {
+    ghost use Rattle.capnp_build.specs.Body.{Fits};
+    ghost use Rattle.capnp_build.specs.declared.object.Body.{Body};
+
+    ghost Value = { Body };
+
+    ghost view = { λ new_object. new_object.body };
+
+    ghost invariant = { λ new_object. Fits new_object.body };
+}
+
+impl NewObject {
+    pub fn new(body: Body) -> NewObject
+        requires { Fits body }
+        ensures { result ≡ body }
+    {
+        NewObject { body }
+    }
+
+    /// Its words as it stands.
+    pub fn words(&self) -> u32
+        ensures { HasWords (λ trees. trees ≡ tree (zero_form self.now) none none) false result }
+    {
+        let body = self.formed(false);
+        body.words()
+    }
+
+    fn formed(&self, canonical: bool) -> Body
+        ensures fits { Fits result }
+        ensures body { result ≡ formed_new_object canonical self.now }
+        ensures whole { Fits self.now }
+    {
+        match self.body {
+            Body::Struct(_) if canonical => Body::Struct(0),
+            body => body,
+        }
+    }
+}
+
+impl SetterInput<Owned> for NewObject {
+    ghost use Rattle.std.proofs.Common.{ap};
+
+    ghost has_tree = { λ new_object trees. trees ≡ tree (zero_form new_object) none none };
+
+    ghost refuses = { λ new_object refusal. ⊥ };
+
+    ghost one = { λ new_object trees is. ap count is };
+
+    fn measure(&self, canonical: bool) -> Result<u32> {
+        Ok(self.formed(canonical).words())
+    }
+
+    fn write(&self, canonical: bool, block: &mut [u8]) -> Word {
+        word_of(self.formed(canonical).tag(0))
+    }
+}
+
+// The word of a number.
+fn word_of(number: u64) -> Word
+    ensures { number_of 256 (bytes_of result) ≡ number }
+{
+    let [b0, b1, b2, b3, b4, b5, b6, b7] = number.to_le_bytes();
+    word(b0, b1, b2, b3, b4, b5, b6, b7)
+}

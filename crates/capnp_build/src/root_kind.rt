@@ -1,0 +1,49 @@
+//! What the object at the root is, by its pointer word.
+ghost use Rattle.std.specs.Prelude.{◌≡◌, ℕ, slice_index_or};
+ghost use Rattle.capnp_wire.specs.Pointer.{words_of};
+ghost use Rattle.capnp_wire.specs.Tree.{Form};
+ghost use Rattle.capnp_wire.specs.Layout.{pointer, HasRoom};
+ghost use Rattle.capnp_build.specs.RootKind.{ShowsRoot};
+
+/// What a pointer leads to, as far as builders have views of it.
+#[derive(Clone, Copy)]
+pub enum RootKind {
+    Null,
+    /// A list of bytes.
+    Bytes(u32),
+    /// A list of words.
+    Words(u32),
+    /// A struct of data words, and of pointers.
+    Struct(u16),
+    Other,
+}
+
+/// What a pointer word says.
+pub fn read_tag(tag: u64) -> RootKind
+    ensures { (form : Form) (n : ℕ) → HasRoom form n → tag ≡ pointer form n 0 → ShowsRoot result form }
+{
+    if tag == 0 {
+        return RootKind::Null;
+    }
+    let fields = tag / (1 << 32);
+    if tag % 4 == 0 {
+        return RootKind::Struct((fields % (1 << 16)) as u16);
+    }
+    let count = fields / 8;
+    match fields % 8 {
+        2 => RootKind::Bytes(count as u32),
+        5 => RootKind::Words(count as u32),
+        _ => RootKind::Other,
+    }
+}
+
+/// A word of some bytes; 0 past the last whole one.
+pub fn word_at(bytes: &[u8], index: u32) -> u64
+    ensures { result ≡ slice_index_or (words_of bytes.now) index 0 }
+{
+    let (words, _) = bytes.as_chunks::<8>();
+    match words.get(index as usize) {
+        Some(word) => u64::from_le_bytes(*word),
+        None => 0,
+    }
+}

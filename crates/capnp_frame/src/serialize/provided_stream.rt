@@ -1,0 +1,184 @@
+//! Reading messages from a source into a caller-provided buffer.
+ghost use Rattle.std.specs.Prelude.{◌≡◌, ◌+◌, ◌*◌, ◌<◌, ◌≤◌, ◌^◌, [], length, take, sum, IfOk, IfErr, OnOk, IfSome, IfNone, Option, Some, None};
+ghost use Rattle.capnp_frame.specs.SegmentTable.{table_size, KeepsPadding};
+ghost use Rattle.capnp_frame.specs.Limits.{KeepsLimit};
+ghost use Rattle.capnp_frame.specs.Front.{told_lengths, told_padding, told_segments, TellsTable, HoldsMessage};
+ghost use Rattle.capnp_frame.specs.Source.{IfKnown};
+ghost use Rattle.capnp_frame.specs.Asking.{Asked, FailsOr};
+ghost use Rattle.capnp_frame.specs.Errors.{FailsWith};
+ghost use Rattle.capnp_frame.specs.Streams.{next_in, framed_rules, ReadsStreamInto};
+ghost use Rattle.capnp_frame.specs.Steps.{FindsTable, FindsMessage, AsksNextInto, StopsAtTable, RefusesComplete};
+ghost use Rattle.capnp_frame.specs.Requests.{RestStands, TableStands, MessageStands};
+ghost use Rattle.capnp_frame.specs.Refusals.{TellsAccepted, RefusesTable, RefusesStream, IsTableKind, IsProvidedReaderKind};
+ghost use Rattle.capnp_frame.specs.declared.error.ErrorKind.{ErrorKind};
+
+use crate::error::{Error, ErrorKind, Result};
+use crate::io::Read;
+use crate::message::ReaderOptions;
+use crate::serialize::no_alloc_buffer_segments::NoAllocBufferSegments;
+use crate::serialize::segment_table::{
+    Padding, accepted_count, keep_limit, keep_padding, lengths_total, table_len,
+};
+use crate::serialize::segment_table_info::NoAllocSegmentTableInfo;
+use crate::serialize::stream::{complete_table, read_chunk, read_first};
+
+/// Reads the next message of a source into a caller-provided buffer, or returns `None` where nothing
+/// is unread.
+///
+/// The message is the same three chunks as to `try_read_segments`, and just these are consumed. The
+/// buffer is tested before each: a buffer of fewer than 8 bytes, one that is shorter than the table,
+/// and one that is shorter than table and segments fails with `BufferNotLargeEnough`. Before the
+/// last test a padding that isn't zero fails with `NonZeroPadding`, with the table consumed. No
+/// memory is taken.
+pub fn try_read_segments_into<'b, R: Read>(
+    source: &mut R,
+    buffer: &'b mut [u8],
+    options: ReaderOptions,
+) -> Result<Option<NoAllocBufferSegments<&'b [u8]>>>
+    ensures { ReadsStreamInto R.Read source.old source.new
+        (framed_rules Padding.Zero R.gives R.refuses) options.traversal_limit_in_words
+        (length buffer.old) (next_in (λ held. held.segments) result) }
+{
+    next_into(
+        source,
+        buffer,
+        options.traversal_limit_in_words,
+        Padding::Zero,
+    )
+}
+
+/// Reads the next message as `try_read_segments_into` does, of any padding.
+pub fn try_read_segments_into_lenient<'b, R: Read>(
+    source: &mut R,
+    buffer: &'b mut [u8],
+    options: ReaderOptions,
+) -> Result<Option<NoAllocBufferSegments<&'b [u8]>>>
+    ensures { ReadsStreamInto R.Read source.old source.new
+        (framed_rules Padding.Any R.gives R.refuses) options.traversal_limit_in_words
+        (length buffer.old) (next_in (λ held. held.segments) result) }
+{
+    next_into(
+        source,
+        buffer,
+        options.traversal_limit_in_words,
+        Padding::Any,
+    )
+}
+
+// The next message of a source in a buffer, or none at the source's end.
+fn next_into<'b, R: Read>(
+    source: &mut R,
+    buffer: &'b mut [u8],
+    limit: Option<usize>,
+    rule: Padding,
+) -> Result<Option<NoAllocBufferSegments<&'b [u8]>>>
+    ensures { ReadsStreamInto R.Read source.old source.new (framed_rules rule R.gives R.refuses)
+        limit (length buffer.old) (next_in (λ held. held.segments) result) }
+{
+    let Some(info) = read_into(source, buffer, limit, rule)? else {
+        return Ok(None);
+    };
+    Ok(Some(NoAllocBufferSegments::of_held(buffer, info.segments_count)))
+}
+
+// Reads the next message of a source into a buffer, or none at the source's end.
+pub(crate) fn read_into<R: Read>(
+    source: &mut R,
+    buffer: &mut [u8],
+    limit: Option<usize>,
+    rule: Padding,
+) -> Result<Option<NoAllocSegmentTableInfo>>
+    ensures message { IfOk result (λ found. IfSome found (λ info. FindsMessage rule R.gives limit
+        buffer.new info.segments_count info.total_segments_length_bytes
+        (R.unread source.old) (R.unread source.new))) }
+    ensures asks { AsksNextInto R.Read source.old source.new rule (length buffer.old)
+        (RefusesStream rule R.gives R.refuses limit (Some (length buffer.old))) result }
+{
+    let Some((segments_count, total)) = read_table_into(source, buffer, limit, rule)? else {
+        return Ok(None);
+    };
+    let start = table_len(segments_count);
+    let end = start + 8 * total;
+    if buffer.len() < end {
+        return Err(Error::from_kind(ErrorKind::BufferNotLargeEnough));
+    }
+    read_chunk(source, &mut buffer[start..end])?;
+    Ok(Some(NoAllocSegmentTableInfo {
+        segments_count,
+        segment_table_length_bytes: start,
+        total_segments_length_bytes: 8 * total,
+    }))
+}
+
+// Reads the next table to the front of a buffer, and returns the number of segments and the sum of
+// their lengths, or none at the source's end.
+fn read_table_into<R: Read>(
+    source: &mut R,
+    buffer: &mut [u8],
+    limit: Option<usize>,
+    rule: Padding,
+) -> Result<Option<(usize, usize)>>
+    ensures table { IfOk result (λ found. IfSome found (λ table. FindsTable rule R.gives limit
+        buffer.new table.0 table.1 (R.unread source.old) (R.unread source.new))) }
+    ensures bound { IfOk result (λ found. IfSome found (λ table. table.1 < 2 ^ 42)) }
+    ensures asks { AsksNextInto R.Read source.old source.new rule (length buffer.old)
+        (RefusesTable rule R.gives R.refuses limit (Some (length buffer.old))) result }
+{
+    if buffer.len() < 8 {
+        return Err(Error::from_kind(ErrorKind::BufferNotLargeEnough));
+    }
+    let Some(first) = read_first(source)? else {
+        return Ok(None);
+    };
+    let count = accepted_count(&first)?;
+    let size = table_len(count);
+    if buffer.len() < size {
+        return Err(Error::from_kind(ErrorKind::BufferNotLargeEnough));
+    }
+    let total = read_total(source, &first, count, &mut buffer[..size], limit, rule)?;
+    Ok(Some((count, total)))
+}
+
+// Completes a table whose first word this is, tests the limit and the padding, and returns the sum of
+// its lengths.
+fn read_total<R: Read>(
+    source: &mut R,
+    first: &[u8; 8],
+    count: usize,
+    table: &mut [u8],
+    limit: Option<usize>,
+    rule: Padding,
+) -> Result<usize>
+    requires accepted { TellsAccepted first.now count }
+    requires size { length table.old ≡ table_size count }
+    ensures found { OnOk result (IfKnown (R.unread source.old) (R.unread source.new)
+        (RestStands rule R.gives first.now (told_lengths count table.new))) }
+    ensures tells { OnOk result (TellsTable table.new count) }
+    ensures total { IfOk result (λ total. total ≡ sum (told_lengths count table.new)) }
+    ensures bound { IfOk result (λ total. total < 2 ^ 42) }
+    ensures within { OnOk result (KeepsLimit (told_lengths count table.new) limit) }
+    ensures refused { FailsOr result (λ kind. IfKnown (R.unread source.old) (R.unread source.new)
+        (StopsAtTable rule R.gives R.refuses limit kind first.now count)) }
+    ensures kinds { IfErr result (λ error. IsTableKind rule R.refuses error.kind) }
+    ensures asked { Asked R.unread R.failures R.same source.old source.new result }
+{
+    complete_table(source, first, table)?;
+    accepted_total(table, count, limit, rule)
+}
+
+// The sum of the lengths in a table that is complete, once the limit and the padding are tested.
+fn accepted_total(table: &[u8], count: usize, limit: Option<usize>, rule: Padding) -> Result<usize>
+    requires accepted { TellsAccepted (take 8 table.now) count }
+    requires size { length table.now ≡ table_size count }
+    ensures tells { TellsTable table.now count }
+    ensures total { IfOk result (λ total. total ≡ sum (told_lengths count table.now)) }
+    ensures bound { IfOk result (λ total. total < 2 ^ 42) }
+    ensures padding { OnOk result (KeepsPadding rule (told_padding count table.now)) }
+    ensures within { OnOk result (KeepsLimit (told_lengths count table.now) limit) }
+    ensures refused { IfErr result (λ error. RefusesComplete rule limit error.kind table.now) }
+{
+    let total = lengths_total(table, count);
+    keep_limit(total, limit)?;
+    keep_padding(table, count, rule)?;
+    Ok(total)
+}

@@ -1,6 +1,0 @@
--- No group's text begins another's.
-use Rattle.capnp_pack.specs.UnpackingLaws.{unpack_once}
-use Rattle.capnp_pack.proofs.laws.packed_request_has_one_answer.Goals as goal
-
-pub returns : goal.returns
-returns c = λ raw bytes rest others left n given also. unpack_once raw n bytes rest others left given also

@@ -1,0 +1,12 @@
+-- The three requests take the three chunks.
+use Rattle.std.proofs.Common.{rules, ◌≡◌, length}
+use Rattle.capnp_frame.specs.declared.serialize.segment_table.Padding.TheVariants.{Any}
+use Rattle.capnp_pack.proofs.PackedStreamLemmas.{packed_reads_into}
+use Rattle.capnp_pack.proofs.stream.provided.try_read_packed_segments_into_lenient.Goals as goal
+
+pub returns : goal.returns
+returns g c =
+    let told = c.try_read_segments_into_lenient.ensures in
+    let following : c.source-1.given.0 ≡ c.try_read_segments_into_lenient.new.source.source.now = search rules in
+    let reads = packed_reads_into Any (λ p. p.source.now) g.R.Read _ _ _ c.args.options.traversal_limit_in_words (length c.args.buffer.now) _ told.advances.same_source.1 told in
+    rw following (rw c.new-packed.ensures.source at reads)

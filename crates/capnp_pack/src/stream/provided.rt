@@ -1,0 +1,44 @@
+//! Packed messages, read into a caller-provided buffer.
+ghost use Rattle.std.specs.Prelude.{length};
+ghost use Rattle.capnp_frame.specs.Streams.{next_in, ReadsStreamInto};
+ghost use Rattle.capnp_pack.specs.PackedStreams.{packed_rules};
+
+use crate::packed_read::PackedRead;
+use capnp_frame::Result;
+use capnp_frame::io::BufRead;
+use capnp_frame::message::ReaderOptions;
+use capnp_frame::serialize::{
+    NoAllocBufferSegments, Padding, try_read_segments_into, try_read_segments_into_lenient,
+};
+
+/// Reads the next packed message of a source into a caller-provided buffer, or returns `None` where
+/// nothing is unread.
+///
+/// The buffer needs room for the table and the segments, and is tested as by
+/// `try_read_segments_into`. No memory is taken.
+pub fn try_read_packed_segments_into<'b, R: BufRead>(
+    source: &mut R,
+    buffer: &'b mut [u8],
+    options: ReaderOptions,
+) -> Result<Option<NoAllocBufferSegments<&'b [u8]>>>
+    ensures { ReadsStreamInto R.Read source.old source.new (packed_rules Padding.Zero)
+        options.traversal_limit_in_words (length buffer.old)
+        (next_in (λ held. held.segments) result) }
+{
+    let mut packed = PackedRead::new(source);
+    try_read_segments_into(&mut packed, buffer, options)
+}
+
+/// As the strict form, of any padding.
+pub fn try_read_packed_segments_into_lenient<'b, R: BufRead>(
+    source: &mut R,
+    buffer: &'b mut [u8],
+    options: ReaderOptions,
+) -> Result<Option<NoAllocBufferSegments<&'b [u8]>>>
+    ensures { ReadsStreamInto R.Read source.old source.new (packed_rules Padding.Any)
+        options.traversal_limit_in_words (length buffer.old)
+        (next_in (λ held. held.segments) result) }
+{
+    let mut packed = PackedRead::new(source);
+    try_read_segments_into_lenient(&mut packed, buffer, options)
+}

@@ -1,0 +1,202 @@
+//! Messages that are read into caller-provided buffers of each length.
+use crate::flat::RULES;
+use crate::framed_rows::CUT;
+use crate::packed_rows::NO_WORDS;
+use crate::streams::{Call, Format, READERS, Reader, Wanted, is_returned};
+use capnp_frame::serialize::Padding;
+use capnp_frame::{ErrorKind, Result};
+use capnp_rows::limits::{DEFAULT_LIMIT, NO_LIMIT};
+use capnp_rows::retried;
+use capnp_rows::sources::Trickle;
+use std::process::Abort;
+
+/// A caller-provided buffer without room.
+pub const TOO_SMALL: Wanted<'static> = Wanted::Refused(ErrorKind::BufferNotLargeEnough);
+
+/// A buffer's length, the bytes that are unread, a limit, the result, and how many bytes stay unread.
+pub type Row = (usize, &'static [u8], Option<usize>, Wanted<'static>, usize);
+
+const TWO_SEGMENTS: &[u8] = &[
+    1, 0, 0, 0, 0, 0, 0, 0, 1, 0, 0, 0, 0, 0, 0, 0, 1, 2, 3, 4, 5, 6, 7, 8,
+];
+
+const TWO: Wanted<'static> = Wanted::Segments(&[&[], &[1, 2, 3, 4, 5, 6, 7, 8]]);
+
+// The order of refusals: a buffer under a word, then the end, a cut word, the count, the table's
+// room, the cut table, the limit, and after a padding, the room of all.
+#[rattlefmt::skip]
+const FRAMED: [Row; 18] = [
+    (0, TWO_SEGMENTS, NO_LIMIT, TOO_SMALL, 24),
+    (7, TWO_SEGMENTS, NO_LIMIT, TOO_SMALL, 24),
+    (8, TWO_SEGMENTS, NO_LIMIT, TOO_SMALL, 16),
+    (15, TWO_SEGMENTS, NO_LIMIT, TOO_SMALL, 16),
+    (16, TWO_SEGMENTS, NO_LIMIT, TOO_SMALL, 8),
+    (23, TWO_SEGMENTS, NO_LIMIT, TOO_SMALL, 8),
+    (24, TWO_SEGMENTS, NO_LIMIT, TWO, 0),
+    (7, &[], NO_LIMIT, TOO_SMALL, 0),
+    (8, &[], NO_LIMIT, Wanted::End, 0),
+    (7, &[0, 0, 0], NO_LIMIT, TOO_SMALL, 3),
+    (8, &[0, 0, 0], NO_LIMIT, CUT, 0),
+    (8, &[255, 1, 0, 0, 0, 0, 0, 0], NO_LIMIT, Wanted::Refused(ErrorKind::InvalidNumberOfSegments(512)), 0),
+    (15, &[1, 0, 0, 0, 9, 0, 0, 0], NO_LIMIT, TOO_SMALL, 0),
+    (16, &[1, 0, 0, 0, 9, 0, 0, 0], NO_LIMIT, CUT, 0),
+    (8, &[0, 0, 0, 0, 3, 0, 0, 0], Some(2), Wanted::Refused(ErrorKind::MessageTooLarge(3)), 0),
+    (31, &[0, 0, 0, 0, 3, 0, 0, 0], Some(3), TOO_SMALL, 0),
+    (8, &[0, 0, 0, 0, 0, 0, 0, 0, 5], Some(0), Wanted::Segments(&[&[]]), 1),
+    (16, &[1, 0, 0, 0, 0, 0, 0, 0, 0, 0, 0, 0, 0, 0, 0, 0], Some(0), Wanted::Segments(&[&[], &[]]), 0),
+];
+
+const FIVE: &[u8] = &[0x11, 4, 1, 0, 1, 0, 0];
+
+#[rattlefmt::skip]
+const PACKED: [Row; 12] = [
+    (32, FIVE, DEFAULT_LIMIT, Wanted::Segments(&[&[0; 8], &[], &[], &[], &[]]), 0),
+    (31, FIVE, DEFAULT_LIMIT, TOO_SMALL, 2),
+    (24, FIVE, DEFAULT_LIMIT, TOO_SMALL, 2),
+    (23, FIVE, DEFAULT_LIMIT, TOO_SMALL, 4),
+    (8, FIVE, DEFAULT_LIMIT, TOO_SMALL, 4),
+    (7, FIVE, DEFAULT_LIMIT, TOO_SMALL, 7),
+    (0, FIVE, DEFAULT_LIMIT, TOO_SMALL, 7),
+    (8, &[0, 0, 0, 0], DEFAULT_LIMIT, Wanted::Segments(&[&[]]), 2),
+    (8, &[], DEFAULT_LIMIT, Wanted::End, 0),
+    (7, &[], DEFAULT_LIMIT, TOO_SMALL, 0),
+    (15, &[0x10, 1, 0, 0, 0xaa], DEFAULT_LIMIT, TOO_SMALL, 3),
+    (16, &[0x10, 1, 0, 0, 0xaa], DEFAULT_LIMIT, Wanted::Segments(&[&[0; 8]]), 1),
+];
+
+#[test]
+fn buffers_of_each_length(rt: HostRuntime) -> Result<()> {
+    for rule in RULES {
+        read_into_each(&rt, (Format::Framed, rule), &FRAMED)?;
+        read_into_each(&rt, (Format::Packed, rule), &PACKED)?;
+    }
+    Ok(())
+}
+
+// The calls that read into a caller-provided buffer.
+fn lending(room: usize) -> [Reader; 3] {
+    [
+        Reader::Lending(room),
+        Reader::ProvidedMessage(room),
+        Reader::ProvidedNeeded(room),
+    ]
+}
+
+/// Reads into a buffer of each row's length.
+pub fn read_into_each(
+    rt: &(impl Abort + AllocGlobal),
+    (format, rule): (Format, Padding),
+    rows: &[Row],
+) -> Result<()> {
+    for most in 1..=24 {
+        for (room, bytes, limit, wanted, unread) in rows {
+            for reader in lending(*room) {
+                let mut source = Trickle::new(*bytes, most);
+                let call = (format, rule, reader);
+                let returned = is_returned(rt.alloc(), call, &mut source, *limit, *wanted)?;
+                assert!(rt; returned, "{bytes:?}, {call:?}, {most} bytes");
+                assert_eq!(rt;
+                    source.bytes.len(),
+                    *unread,
+                    "{bytes:?}, {call:?}, {most} bytes"
+                );
+            }
+        }
+    }
+    Ok(())
+}
+
+// A table of 2,048 bytes: the low byte of its count, each byte of its lengths, and what is returned
+// where 3 bytes stand after it.
+#[derive(Clone, Copy)]
+struct Table {
+    count: u8,
+    lengths: u8,
+    limit: Option<usize>,
+    wanted: Wanted<'static>,
+    unread: usize,
+}
+
+const NONE: Table = Table {
+    count: 254,
+    lengths: 0,
+    limit: DEFAULT_LIMIT,
+    wanted: Wanted::Segments(&NO_WORDS),
+    unread: 3,
+};
+
+// 511 empty segments; one more than a reader accepts; and lengths that come to more than the limit.
+const TABLES: [Table; 3] = [
+    NONE,
+    Table {
+        count: 255,
+        wanted: Wanted::Refused(ErrorKind::InvalidNumberOfSegments(512)),
+        unread: 2043,
+        ..NONE
+    },
+    Table {
+        lengths: 255,
+        wanted: Wanted::Refused(ErrorKind::MessageTooLarge(2194728287745)),
+        ..NONE
+    },
+];
+
+// Caller-provided buffers: of just the table, of a byte less, and one that is shorter than segments
+// of the longest lengths.
+const PROVIDED_TABLES: [(usize, Table); 3] = [
+    (2048, NONE),
+    (
+        2047,
+        Table {
+            wanted: TOO_SMALL,
+            unread: 2043,
+            ..NONE
+        },
+    ),
+    (
+        4096,
+        Table {
+            lengths: 255,
+            limit: NO_LIMIT,
+            wanted: TOO_SMALL,
+            ..NONE
+        },
+    ),
+];
+
+// A source that returns at most a given number of bytes; above 16 all of them.
+#[test]
+fn the_longest_tables(rt: HostRuntime) -> Result<()> {
+    for most in 1..=17 {
+        for table in TABLES {
+            for reader in READERS {
+                let call = (Format::Framed, Padding::Zero, reader);
+                retried!(read_table(&rt, call, &table, most))?;
+            }
+        }
+        for (room, table) in PROVIDED_TABLES {
+            for reader in lending(room) {
+                read_table(&rt, (Format::Framed, Padding::Zero, reader), &table, most)?;
+            }
+        }
+    }
+    Ok(())
+}
+
+fn read_table(
+    rt: &(impl Abort + AllocGlobal),
+    call: Call,
+    table: &Table,
+    most: usize,
+) -> Result<()> {
+    let mut bytes = [table.lengths; 2051];
+    bytes[0] = table.count;
+    bytes[1] = 1;
+    bytes[2] = 0;
+    bytes[3] = 0;
+    let mut source = Trickle::new(&bytes, if most > 16 { 2051 } else { most });
+    let returned = is_returned(rt.alloc(), call, &mut source, table.limit, table.wanted)?;
+    assert!(rt; returned, "{call:?}, {most} bytes");
+    assert_eq!(rt; source.bytes.len(), table.unread, "{call:?}, {most} bytes");
+    Ok(())
+}

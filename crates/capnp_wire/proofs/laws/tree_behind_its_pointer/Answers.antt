@@ -1,6 +1,0 @@
--- The law, as PlacedLemmas proves it.
-use Rattle.capnp_wire.proofs.trees.PlacedLemmas.{near_tree}
-use Rattle.capnp_wire.proofs.laws.tree_behind_its_pointer.Goals as goal
-
-pub returns : goal.returns
-returns c = near_tree

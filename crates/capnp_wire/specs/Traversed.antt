@@ -1,0 +1,86 @@
+-- What a walk over trees may still count against the traversal limit, and the words that it has counted (src/layout/walk.rt).
+use Rattle.std.specs.Prelude.{◌≡◌, Bool, ℕ, ◌+◌, ◌-◌, ◌^◌, ◌<◌, ◌≤◌, List, [], ◌∷◌, ◌++◌, Option, Some, None, IfSome, if◌then◌else◌}
+use Rattle.capnp_wire.specs.Pointer.{words_of}
+use Rattle.capnp_wire.specs.Tree.{Trees, depth, total_words}
+use Rattle.capnp_wire.specs.Landing.{IsObject, words_in}
+use Rattle.capnp_wire.specs.Reached.{At}
+use Rattle.capnp_wire.specs.Layout.{formed, AllHaveRoom}
+use Rattle.capnp_wire.specs.Near.{near_struct_of}
+use Rattle.capnp_wire.specs.Copy.{formed_body}
+use Rattle.capnp_wire.specs.declared.layout.place.Place.{Place}
+use Rattle.capnp_wire.specs.declared.layout.walk.Walk.{Walk}
+use Rattle.capnp_wire.specs.declared.layout.near.NearStruct.{NearStruct}
+use Rattle.capnp_wire.specs.declared.layout.object.Object.{Object}
+
+-- the words counted are within the limit, where there is one
+abbrev pub Within : Option ℕ → ℕ → Type 0
+Within limit traversed = IfSome limit (λ most. traversed ≤ most)
+
+-- what is left of the limit
+abbrev pub less : Option ℕ → ℕ → Option ℕ
+less None traversed = None
+less (Some most) traversed = Some (most - traversed)
+
+-- the words counted are past the limit
+abbrev pub Exceeds : Option ℕ → ℕ → Type 0
+Exceeds limit traversed = (most : ℕ) × (limit ≡ Some most) × (most < traversed)
+
+-- the words that a walk has met, where they fit 64 bits
+abbrev pub counted : Walk → Option ℕ
+counted walk = if walk.overflowed then None else Some walk.words
+
+-- a number of words, which is not kept where it does not fit 64 bits
+abbrev pub Counts : Option ℕ → ℕ → Type 0
+Counts None words = 2 ^ 64 ≤ words
+Counts (Some kept) words = kept ≡ words
+
+-- a given number of words more have been counted
+abbrev pub CountsMore : Option ℕ → Option ℕ → ℕ → Type 0
+CountsMore kept kept_then more = (words : ℕ) → Counts kept words → Counts kept_then (words + more)
+
+-- trees stand at places, no deeper than the nesting depth left, with the words traversed and with a given number of words
+pub record TreesAt (m : List (List ℕ)) (at : List Place) (nesting traversed words : ℕ) : Type 0 where
+  pub trees : Trees
+  pub stand : At m at trees traversed
+  pub shallow : depth trees ≤ nesting
+  pub words_are : total_words trees ≡ words
+
+-- the same, where every field has room, with a given number of words as they stand, or in canonical form
+pub record TreesWithRoom (m : List (List ℕ)) (at : List Place) (nesting traversed : ℕ) (canonical : Bool) (words : ℕ) : Type 0 where
+  pub trees : Trees
+  pub stand : At m at trees traversed
+  pub shallow : depth trees ≤ nesting
+  pub rooms : AllHaveRoom trees
+  pub words_are : total_words (formed canonical trees) ≡ words
+
+-- What a walk over the trees at some places finds: they stand there, within the nesting depth left and the limit.
+pub record WalkedAll (m : List (List ℕ)) (canonical : Bool) (at : List Place) (nesting : ℕ) (limit left words_before words_now : Option ℕ) : Type 0 where
+  pub traversed : ℕ
+  pub words : ℕ
+  pub stand : TreesWithRoom m at nesting traversed canonical words
+  pub within : Within limit traversed
+  pub left_is : left ≡ less limit traversed
+  pub counted : CountsMore words_before words_now words
+
+-- What a walk from one place finds.
+abbrev pub Walked : List (List ℕ) → Bool → Place → ℕ → Option ℕ → Option ℕ → Option ℕ → Option ℕ → Type 0
+Walked m canonical place = WalkedAll m canonical (place ∷ [])
+
+-- A walk has entered the object at a place, and nothing below it.
+pub record EntersObject (m : List (List ℕ)) (canonical : Bool) (place : Place) (object : Object) (nesting : ℕ) (limit left words_before words_now : Option ℕ) : Type 0 where
+  pub there : IsObject m place object
+  pub deep : 0 < nesting
+  pub within : Within limit object.traversed
+  pub left_is : left ≡ less limit object.traversed
+  pub counted : CountsMore words_before words_now (words_in (formed_body canonical (words_of object.segment.now) object.start.word object.body))
+
+-- What a walk over the pointers at some places finds up to a struct that holds others, with `rest` after it: all in
+-- front of it, and then its own words alone.
+pub record WalkedTo (m : List (List ℕ)) (canonical : Bool) (at rest : List Place) (parent : NearStruct) (nesting : ℕ) (limit left words_before words_now : Option ℕ) : Type 0 where
+  pub front : List Place
+  pub place : Place
+  pub at_is : at ≡ front ++ place ∷ rest
+  pub left_there : Option ℕ
+  pub words_there : Option ℕ
+  pub in_front : WalkedAll m canonical front nesting limit left_there words_before words_there
+  pub enters : EntersObject m canonical place (near_struct_of parent) nesting left_there left words_there words_now
