@@ -3,7 +3,7 @@ use Rattle.std.proofs.Common.{◌≡◌, ◌⊎◌, inl, inr, ℕ, ◌<◌, Opti
 use Rattle.capnp_frame.specs.declared.serialize.segment_table.Padding.{Padding}
 use Rattle.capnp_frame.specs.declared.error.ErrorKind.{ErrorKind}
 use Rattle.capnp_frame.specs.Source.{IfKnown}
-use Rattle.capnp_frame.proofs.TextLemmas.{AreTexts-once, AreTexts-most, Ends-once}
+use Rattle.capnp_frame.proofs.TextLemmas.{AreTexts-once, AreTexts-most, EndsTexts-once}
 use Rattle.capnp.specs.declared.streams.Format.{Format}
 use Rattle.capnp.specs.declared.streams.StoppedAt.{StoppedAt}
 use Rattle.capnp.specs.Streams.{RefusesNext, EndsBy, IsStream}
@@ -20,7 +20,7 @@ ran_out_ends rule format limit Writes left before after raw ran messages ending 
     elim (ran.done) [
       | inl none ↦
           let one = AreTexts-once (format_parts rule format limit) None ending written.messages messages raw ran.rest stream.rest written.texts none stream.texts stream.ends in
-          sym (Ends-once rule (format_lawful format) limit None ending stream.rest (sym one.1 ∙ none) stream.ends)
+          sym (EndsTexts-once rule (format_lawful format) limit None ending stream.rest (sym one.1 ∙ none) stream.ends)
       | inr most ↦
           let bound = AreTexts-most (format_parts rule format limit) ending messages written.messages raw stream.rest ran.rest stream.texts stream.ends written.texts in
           absurd (omega (arith, bound, few, most, counted))
@@ -41,7 +41,7 @@ stopped_ends rule format limit Writes count kind left before after raw stopped e
     let written = stopped.written in
     let one = AreTexts-once (format_parts rule format limit) (Some kind) ending written.messages messages raw stopped.rest stream.rest written.texts ends stream.texts stream.ends in
     let moved : EndsBy rule format limit (Some kind) stream.rest = subst (λ l. EndsBy rule format limit (Some kind) l) one.1 ends in
-    (sym (Ends-once rule (format_lawful format) limit (Some kind) ending stream.rest moved stream.ends), sym written.counted ∙ ap length one.0)
+    (sym (EndsTexts-once rule (format_lawful format) limit (Some kind) ending stream.rest moved stream.ends), sym written.counted ∙ ap length one.0)
 
 lacking_faulted : (rule : Padding) (format : Format) (limit : Option ℕ) (Declines : DecliningWriting) (index : ℕ) (kind : ErrorKind)
     (rest : List ℕ) (left : Option (List ℕ)) → IfKnown (Some rest) left (LacksWriting rule format limit Declines index kind)
@@ -85,4 +85,4 @@ pub stream_once : (rule : Padding) (format : Format) (limit : Option ℕ) (messa
     → IsStream rule format limit others other raw → (messages ≡ others) × (ending ≡ other)
 stream_once rule format limit messages others ending other raw stream also =
     let one = AreTexts-once (format_parts rule format limit) ending other messages others raw stream.rest also.rest stream.texts stream.ends also.texts also.ends in
-    (one.0, Ends-once rule (format_lawful format) limit ending other also.rest (subst (λ l. EndsBy rule format limit ending l) one.1 stream.ends) also.ends)
+    (one.0, EndsTexts-once rule (format_lawful format) limit ending other also.rest (subst (λ l. EndsBy rule format limit ending l) one.1 stream.ends) also.ends)

@@ -20,6 +20,15 @@ const FRAME_AND_MORE: [u8; 56] = [
     9, 9, 9, 9, 9, 9, 9, 9, 8, 7, 6, 5, 4, 3, 2, 1,
 ];
 
+// The text of that message as it is written, in a buffer of ones.
+#[rattlefmt::skip]
+const TEXT_AND_ROOM: [u8; 48] = [
+    1, 0, 0, 0, 1, 0, 0, 0, 2, 0, 0, 0, 0, 0, 0, 0,
+    123, 0, 0, 0, 0, 0, 0, 0,
+    4, 0, 0, 0, 0, 0, 0, 0, 5, 0, 0, 0, 0, 0, 0, 0,
+    1, 1, 1, 1, 1, 1, 1, 1,
+];
+
 const SECOND: [u8; 16] = [4, 0, 0, 0, 0, 0, 0, 0, 5, 0, 0, 0, 0, 0, 0, 0];
 
 // Segments [] and SECOND, and a padding that isn't zero.
@@ -84,7 +93,7 @@ fn leaves_the_text_in_a_buffer(rt: HostRuntime) -> Result<(), Fail> {
     let info = read.ok_or("a message")?;
     assert_eq!(rt; info.segment_table_length_bytes, 16);
     assert_eq!(rt; info.total_segments_length_bytes, 24);
-    assert_eq!(rt; &room[..40], &all[..40]);
+    assert_eq!(rt; room, TEXT_AND_ROOM);
     assert_eq!(rt; source.len(), 16);
     Ok(())
 }
