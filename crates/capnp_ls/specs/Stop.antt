@@ -1,6 +1,6 @@
 -- The line that a stop is reported by.
 use Rattle.std.specs.Prelude.{◌≡◌, ℕ, List, [], ◌∷◌, ◌++◌, codes, decimal}
-use Rattle.capnp.specs.Passed.{number_of}
+use Rattle.capnp.specs.Passed.{kind_number}
 use Rattle.capnp.specs.Passed.{ErrorKind}
 use Rattle.capnp.specs.Passed.{Error}
 use Rattle.capnp_ls.specs.declared.stop.Stop.{Stop}
@@ -15,7 +15,7 @@ usage_line = codes "usage: capnp_ls list [--packed] [--lenient] | pack [--lenien
 
 -- how the line of a refusal begins: the message's index and the number of the kind
 abbrev pub refusal_front : ℕ → ErrorKind → List ℕ
-refusal_front message kind = codes "capnp_ls: message " ++ (decimal message ++ (codes ": error " ++ (decimal (number_of kind) ++ codes " ")))
+refusal_front message kind = codes "capnp_ls: message " ++ (decimal message ++ (codes ": error " ++ (decimal (kind_number kind) ++ codes " ")))
 
 -- `line` reports the stop; the text of a refusal's error is free
 abbrev pub IsLineOf : Stop → List ℕ → Type 0
