@@ -108,11 +108,11 @@ fn push_object<S: ReaderSegments>(
         }
     }
     push_place(text, object.start)?;
-    if let Some(landing_landing_pad) = object.landing_landing_pad {
+    if let Some(landing_pad) = object.landing_pad {
         text.push_str(",\"landing_pad\":{\"words\":")?;
-        let words = landing_landing_pad.words;
+        let words = landing_pad.words;
         write!(text, "{words}")?;
-        push_place(text, landing_landing_pad.place)?;
+        push_place(text, landing_pad.place)?;
         text.push('}')?;
     }
     if let Some(shown) = bytes_of(segments, object).and_then(text_in) {

@@ -119,10 +119,10 @@ fn push_object<S: ReaderSegments>(
         }
     }
     push_place(text, object.start)?;
-    if let Some(landing_landing_pad) = object.landing_landing_pad {
-        let segment = landing_landing_pad.place.segment;
-        let word = landing_landing_pad.place.word;
-        let words = landing_landing_pad.words;
+    if let Some(landing_pad) = object.landing_pad {
+        let segment = landing_pad.place.segment;
+        let word = landing_pad.place.word;
+        let words = landing_pad.words;
         write!(text, ", landing pad {segment}:{word}, words {words}")?;
     }
     if let Some(shown) = bytes_of(segments, object).and_then(text_in) {

@@ -64,7 +64,7 @@ fn shows_objects_as_lines(rt: HostRuntime) -> Result<(), Fail> {
     show(rt.alloc(), plain(), Format::Framed, STRUCTS, &mut shown)?;
     let wanted: &[u8] = b"message 0: offset 0, bytes 48, segments 2, words 4
   root: struct, data 0, pointers 1, at 0:1
-    pointer 0: list, element byte, count 3, at 1:1, landing landing_pad 1:0, words 1, text \"hi\"
+    pointer 0: list, element byte, count 3, at 1:1, landing pad 1:0, words 1, text \"hi\"
 message 0: offset 0, bytes 64, segments 1, words 7
   root: list, element struct, count 2, data 1, pointers 1, at 0:1
     element 0: struct, data 1, pointers 1, at 0:2

@@ -47,7 +47,7 @@ pub enum Shape {
 
 /// The words by which a far pointer leads to an object.
 #[derive(Clone, Copy)]
-pub struct LandingLandingPad {
+pub struct LandingPad {
     pub place: Place,
     pub words: u64,
 }
@@ -58,7 +58,7 @@ pub struct Object {
     /// Where it begins; of a list of structs where its tag is.
     pub start: Place,
     pub shape: Shape,
-    pub landing_landing_pad: Option<LandingLandingPad>,
+    pub landing_pad: Option<LandingPad>,
 }
 
 /// The object that the pointer at a place leads to; `None` for null.
@@ -105,7 +105,7 @@ fn near_object<S: ReaderSegments>(
     segments: &S,
     place: Place,
     pointer: u64,
-    landing_landing_pad: Option<LandingLandingPad>,
+    landing_pad: Option<LandingPad>,
 ) -> Result<Object, ErrorKind> {
     let offset = pointer / 4 % (1 << 30);
     let ahead = place.word.saturating_add(1).saturating_add(offset);
@@ -120,7 +120,7 @@ fn near_object<S: ReaderSegments>(
         segment: place.segment,
         word,
     };
-    shaped_object(segments, start, pointer, landing_landing_pad)
+    shaped_object(segments, start, pointer, landing_pad)
 }
 
 // The object of a far pointer.
@@ -129,12 +129,7 @@ fn far_object<S: ReaderSegments>(segments: &S, pointer: u64) -> Result<Object, E
     let first = word_at(segments, place)?;
     if pointer / 4 % 2 == 0 {
         expect_near(first)?;
-        return near_object(
-            segments,
-            place,
-            first,
-            Some(LandingLandingPad { place, words: 1 }),
-        );
+        return near_object(segments, place, first, Some(LandingPad { place, words: 1 }));
     }
     let second = Place {
         segment: place.segment,
@@ -149,12 +144,7 @@ fn far_object<S: ReaderSegments>(segments: &S, pointer: u64) -> Result<Object, E
         return Err(ErrorKind::InvalidSegmentId(start.segment));
     }
     expect_near(tag)?;
-    shaped_object(
-        segments,
-        start,
-        tag,
-        Some(LandingLandingPad { place, words: 2 }),
-    )
+    shaped_object(segments, start, tag, Some(LandingPad { place, words: 2 }))
 }
 
 // Refuses a word of a landing pad that is no struct or list pointer.
@@ -182,7 +172,7 @@ fn shaped_object<S: ReaderSegments>(
     segments: &S,
     start: Place,
     pointer: u64,
-    landing_landing_pad: Option<LandingLandingPad>,
+    landing_pad: Option<LandingPad>,
 ) -> Result<Object, ErrorKind> {
     let shape = shape_of(segments, start, pointer)?;
     let there = words_from(segments, start);
@@ -192,7 +182,7 @@ fn shaped_object<S: ReaderSegments>(
     Ok(Object {
         start,
         shape,
-        landing_landing_pad,
+        landing_pad,
     })
 }
 
@@ -300,10 +290,10 @@ impl Shape {
 impl Object {
     /// The words that count against the limit, with those of the landing pad.
     pub fn traversed(&self) -> u64 {
-        let landing_landing_pad = match self.landing_landing_pad {
-            Some(landing_landing_pad) => landing_landing_pad.words,
+        let landing_pad = match self.landing_pad {
+            Some(landing_pad) => landing_pad.words,
             None => 0,
         };
-        self.shape.traversed().saturating_add(landing_landing_pad)
+        self.shape.traversed().saturating_add(landing_pad)
     }
 }
