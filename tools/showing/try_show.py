@@ -173,6 +173,57 @@ def try_slow_pipe(args, text, out, err):
     expect(f"a slow pipe {args}", result, 0, out, err)
 
 
+def try_growing_log():
+    """`tail -f` of a log that grows: a message's line is there within a second of its bytes."""
+    text, rows = listed([HELLO, FAR], frame)
+    first = len(frame(HELLO))
+    with open("growing", "wb", buffering=0) as log:
+        log.write(text[:first])
+        tail = subprocess.Popen(["tail", "-c", "+1", "-s", "0.1", "-f", "growing"], stdout=subprocess.PIPE)
+        process = subprocess.Popen([PROGRAM], stdin=tail.stdout, stdout=subprocess.PIPE, stderr=subprocess.PIPE)
+        tail.stdout.close()
+        shown = process.stdout.readline()
+        log.write(text[first:])
+        begun = time.monotonic()
+        shown += process.stdout.readline()
+        late = time.monotonic() - begun
+    tail.terminate()
+    tail.wait()
+    shown += process.stdout.read()
+    said = process.stderr.read()
+    said += b"" if late < 1 else f"{late:.1f} s late".encode()
+    result = subprocess.CompletedProcess([], process.wait(), shown, said)
+    expect("a growing log", result, 0, "".join(lines_of(row, []) for row in rows), "")
+
+
+def counted_memory(message, count):
+    """Counts messages of a pipe; the result, and the KiB that the program had at most."""
+    pipes = {"stdin": subprocess.PIPE, "stdout": subprocess.PIPE, "stderr": subprocess.PIPE}
+    process = subprocess.Popen([PROGRAM, "--count"], bufsize=0, **pipes)
+    try:
+        for _ in range(count):
+            rest = memoryview(message)
+            while rest:
+                rest = rest[process.stdin.write(rest):]
+    except BrokenPipeError:
+        pass
+    process.stdin.close()
+    shown, said = process.stdout.read(), process.stderr.read()
+    _, status, usage = os.wait4(process.pid, 0)
+    process.returncode = os.waitstatus_to_exitcode(status)
+    return subprocess.CompletedProcess([], process.returncode, shown, said), usage.ru_maxrss
+
+
+def try_gigabyte():
+    """1 GiB of messages of 1 MiB through a pipe takes the memory that two of them take."""
+    message = frame([bytes(1 << 20)])
+    result, few = counted_memory(message, 2)
+    expect("two large messages", result, 0, "2\n", "")
+    result, many = counted_memory(message, 1024)
+    result.stderr += b"" if many < few + 1024 else f"{few} KiB grew to {many} KiB".encode()
+    expect("a gigabyte", result, 0, "1024\n", "")
+
+
 def try_words():
     for args in (["--bogus"], ["--packed", "--detect"], ["--words", "x"], ["--nesting", "-1"]):
         result = run(args)
@@ -188,6 +239,8 @@ begun = time.monotonic()
 try_forms()
 try_refusals()
 try_devices()
+try_growing_log()
+try_gigabyte()
 try_words()
 print(f"try-show: {tried} runs, {wrong} of them wrong, {time.monotonic() - begun:.1f} s")
 sys.exit(1 if wrong else 0)
