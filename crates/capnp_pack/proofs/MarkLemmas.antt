@@ -35,12 +35,12 @@ table = refl
 pub mark_row_of : (tag : ℕ) (none : List ℕ) → tag < 256 → get_or MARKS tag none ≡ mark_row tag
 mark_row_of tag none low = row_at mark_row MARKS tag none table low
 
-landing_pads_ok : (m : ℕ) → Each1 IsPlace (replicate m 128)
-landing_pads_ok zero = tt
-landing_pads_ok (suc m) = (tt, landing_pads_ok m)
+fillers_ok : (m : ℕ) → Each1 IsPlace (replicate m 128)
+fillers_ok zero = tt
+fillers_ok (suc m) = (tt, fillers_ok m)
 
 marks_ok : (n i tag m : ℕ) → i + n ≤ 16 → Each1 IsPlace (marks n i tag ++ replicate m 128)
-marks_ok zero i tag m low = landing_pads_ok m
+marks_ok zero i tag m low = fillers_ok m
 marks_ok (suc n) i tag m low = by_bit (tag % 2 == 1) (marks_ok n (suc i) (tag / 2) m (omega arith))
   where
     by_bit : (set : Bool) → Each1 IsPlace (marks n (suc i) (tag / 2) ++ replicate m 128) → Each1 IsPlace (((if set then i ∷ [] else []) ++ marks n (suc i) (tag / 2)) ++ replicate m 128)
@@ -62,33 +62,33 @@ mark_row_ok tag =
     (omega (arith, length-append (marks 8 0 tag) (replicate m 128), length-replicate {A = ℕ} m 128, few_marks 8 0 tag)) (marks_ok 8 0 tag m (omega arith))
 
 -- the first lanes are the marked bytes
-gather : (n i tag k : ℕ) (word xs landing_pad : List ℕ) → i + n ≡ 8 → length word ≡ 8 → ((j : ℕ) → j < 8 → get_or xs j 0 ≡ get_or word j 0) → k + n ≤ 16 →
-    tag < 2 ^ n → take (ones tag) (swz_l w8 16 xs k (marks n i tag ++ landing_pad)) ≡ marked tag (drop i word)
-gather zero i tag k word xs landing_pad all is same room low =
+gather : (n i tag k : ℕ) (word xs filler : List ℕ) → i + n ≡ 8 → length word ≡ 8 → ((j : ℕ) → j < 8 → get_or xs j 0 ≡ get_or word j 0) → k + n ≤ 16 →
+    tag < 2 ^ n → take (ones tag) (swz_l w8 16 xs k (marks n i tag ++ filler)) ≡ marked tag (drop i word)
+gather zero i tag k word xs filler all is same room low =
     let none : ones tag ≡ 0 = omega (arith, ones-le 0 tag low) in
     let end : drop i word ≡ [] = nil_from_length (drop i word) (omega (arith, length-drop i word)) in
-    ap (λ c. take c (swz_l w8 16 xs k landing_pad)) none ∙ ap (marked tag) (sym end)
-gather (suc n) i tag k word xs landing_pad all is same room low =
+    ap (λ c. take c (swz_l w8 16 xs k filler)) none ∙ ap (marked tag) (sym end)
+gather (suc n) i tag k word xs filler all is same room low =
     let front : drop i word ≡ get_or word i 0 ∷ drop (suc i) word = drop-cons word i 0 (omega arith) in
-    by_bit (tag % 2) refl (λ j more. gather n (suc i) (tag / 2) j word xs landing_pad (omega arith) is same more (omega (arith, pow-suc 2 n))) ∙ ap (marked tag) (sym front)
+    by_bit (tag % 2) refl (λ j more. gather n (suc i) (tag / 2) j word xs filler (omega arith) is same more (omega (arith, pow-suc 2 n))) ∙ ap (marked tag) (sym front)
   where
     by_bit : (bit : ℕ) → tag % 2 ≡ bit →
-        ((j : ℕ) → j + n ≤ 16 → take (ones (tag / 2)) (swz_l w8 16 xs j (marks n (suc i) (tag / 2) ++ landing_pad)) ≡ marked (tag / 2) (drop (suc i) word)) →
-        take (ones tag) (swz_l w8 16 xs k (((if tag % 2 == 1 then i ∷ [] else []) ++ marks n (suc i) (tag / 2)) ++ landing_pad)) ≡
+        ((j : ℕ) → j + n ≤ 16 → take (ones (tag / 2)) (swz_l w8 16 xs j (marks n (suc i) (tag / 2) ++ filler)) ≡ marked (tag / 2) (drop (suc i) word)) →
+        take (ones tag) (swz_l w8 16 xs k (((if tag % 2 == 1 then i ∷ [] else []) ++ marks n (suc i) (tag / 2)) ++ filler)) ≡
         (if tag % 2 == 1 then get_or word i 0 ∷ [] else []) ++ marked (tag / 2) (drop (suc i) word)
     by_bit zero e others =
         let counted : ones tag ≡ ones (tag / 2) = omega (arith, ones_step tag) in
-        ap (λ b. take (ones tag) (swz_l w8 16 xs k (((if b == 1 then i ∷ [] else []) ++ marks n (suc i) (tag / 2)) ++ landing_pad))) e
-        ∙ ap (λ c. take c (swz_l w8 16 xs k (marks n (suc i) (tag / 2) ++ landing_pad))) counted
+        ap (λ b. take (ones tag) (swz_l w8 16 xs k (((if b == 1 then i ∷ [] else []) ++ marks n (suc i) (tag / 2)) ++ filler))) e
+        ∙ ap (λ c. take c (swz_l w8 16 xs k (marks n (suc i) (tag / 2) ++ filler))) counted
         ∙ others k (omega arith)
         ∙ ap (λ b. (if b == 1 then get_or word i 0 ∷ [] else []) ++ marked (tag / 2) (drop (suc i) word)) (sym e)
     by_bit (suc zero) e others =
         let counted : ones tag ≡ suc (ones (tag / 2)) = omega (arith, ones_step tag) in
         let first : 16 * ((k + 0) / 16) + i ≡ i = omega arith in
         let lane : lane_at xs k i ≡ get_or word i 0 = get_or-swz_l_below w8 16 xs k (i ∷ []) 0 (omega arith) (omega arith) ∙ ap (λ p. get_or xs p 0) first ∙ same i (omega arith) in
-        ap (λ b. take (ones tag) (swz_l w8 16 xs k (((if b == 1 then i ∷ [] else []) ++ marks n (suc i) (tag / 2)) ++ landing_pad))) e
-        ∙ ap (λ c. take c (lane_at xs k i ∷ swz_l w8 16 xs (suc k) (marks n (suc i) (tag / 2) ++ landing_pad))) counted
-        ∙ ap (λ b. b ∷ take (ones (tag / 2)) (swz_l w8 16 xs (suc k) (marks n (suc i) (tag / 2) ++ landing_pad))) lane
+        ap (λ b. take (ones tag) (swz_l w8 16 xs k (((if b == 1 then i ∷ [] else []) ++ marks n (suc i) (tag / 2)) ++ filler))) e
+        ∙ ap (λ c. take c (lane_at xs k i ∷ swz_l w8 16 xs (suc k) (marks n (suc i) (tag / 2) ++ filler))) counted
+        ∙ ap (λ b. b ∷ take (ones (tag / 2)) (swz_l w8 16 xs (suc k) (marks n (suc i) (tag / 2) ++ filler))) lane
         ∙ ap (λ l. get_or word i 0 ∷ l) (others (suc k) (omega arith))
         ∙ ap (λ b. (if b == 1 then get_or word i 0 ∷ [] else []) ++ marked (tag / 2) (drop (suc i) word)) (sym e)
     by_bit (suc (suc bit)) e others = absurd (omega arith)
