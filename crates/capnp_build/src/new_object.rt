@@ -1,14 +1,13 @@
 //! New objects, as values that a root is set to.
-ghost use Rattle.std.specs.Prelude.{◌≡◌, ℕ};
-ghost use Rattle.capnp_frame.specs.Words.{bytes_of};
-ghost use Rattle.capnp_wire.specs.Pointer.{number_of};
+ghost use Rattle.std.specs.Prelude.{◌≡◌};
 ghost use Rattle.capnp_wire.specs.Tree.{none, tree, count};
 ghost use Rattle.capnp_build.specs.Body.{Fits, zero_form, formed_new_object};
 ghost use Rattle.capnp_wire.specs.Values.{HasWords};
 ghost use Rattle.std.specs.Prelude.{false};
 
 use crate::object::Body;
-use capnp_frame::{Result, Word, word};
+use capnp_frame::{Result, Word};
+use capnp_wire::pointer_word::word_of;
 use capnp_wire::traits::SetterInput;
 use std::marker::Model;
 
@@ -76,12 +75,4 @@ impl SetterInput<Owned> for NewObject {
     fn write(&self, canonical: bool, block: &mut [u8]) -> Word {
         word_of(self.formed(canonical).tag(0))
     }
-}
-
-// The word of a number.
-fn word_of(number: u64) -> Word
-    ensures { number_of 256 (bytes_of result) ≡ number }
-{
-    let [b0, b1, b2, b3, b4, b5, b6, b7] = number.to_le_bytes();
-    word(b0, b1, b2, b3, b4, b5, b6, b7)
 }

@@ -2,6 +2,8 @@
 ghost use Rattle.std.specs.Prelude.{◌≡◌, ℕ, ◌+◌, ◌*◌, ◌^◌, ◌<◌, ◌≤◌};
 ghost use Rattle.capnp_build.specs.Body.{words_of_body, Fits, body_tag};
 
+use capnp_wire::pointer_word::{list_word, struct_word};
+
 /// An object without pointers.
 #[derive(Clone, Copy)]
 pub enum Body {
@@ -32,12 +34,11 @@ impl Body {
         requires near { offset < 2 ^ 29 }
         ensures word { result ≡ body_tag offset self }
     {
-        let low = 4 * offset as u64;
         match self {
-            Body::Bytes(n) => 1 + low + 2 * (1 << 32) + n as u64 * (1 << 35),
-            Body::Words(n) => 1 + low + 5 * (1 << 32) + n as u64 * (1 << 35),
-            Body::Struct(d) if d == 0 => 4 * ((1 << 30) - 1),
-            Body::Struct(d) => low + d as u64 * (1 << 32),
+            Body::Bytes(n) => list_word(offset as u64, 2, n as u64),
+            Body::Words(n) => list_word(offset as u64, 5, n as u64),
+            Body::Struct(d) if d == 0 => struct_word((1 << 30) - 1, 0, 0),
+            Body::Struct(d) => struct_word(offset as u64, d as u16, 0),
         }
     }
 }

@@ -7,8 +7,9 @@ ghost use Rattle.capnp_wire.specs.Values.{HasWords};
 ghost use Rattle.capnp_build.specs.Blocks.{PointsRoot, WipesRoot};
 
 use crate::allocator::Allocator;
-use crate::arena::location::{RootLocation, far, moved};
+use crate::arena::location::RootLocation;
 use crate::segments::Segments;
+use capnp_wire::pointer_word::{far_word, moved};
 use capnp_wire::traits::SetterInput;
 
 impl<A: Allocator> Segments<A> {
@@ -79,7 +80,7 @@ impl<A: Allocator> Segments<A> {
             8 * landing_pad as usize,
             &location.tag.to_le_bytes(),
         );
-        let pointer = far(location.segment, landing_pad);
+        let pointer = far_word(location.segment, landing_pad);
         self.write_at(0, 0, &pointer.to_le_bytes());
     }
 }

@@ -11,6 +11,7 @@ mod reader;
 
 use crate::layout::block::BlockItem;
 use crate::layout::value;
+use crate::pointer_word::word_of;
 use crate::read_limiter::limit_in_words;
 use crate::traits::{self, SetterInput};
 use capnp_frame::message::ReaderSegments;
@@ -70,5 +71,5 @@ pub(crate) fn write_into<S: ReaderSegments, T: BlockItem>(
         None => 0,
         Some(place) => value::write(reader.segments, place, reader.nesting, canonical, block),
     };
-    value::word_of(pointer)
+    word_of(pointer)
 }

@@ -2,7 +2,7 @@
 mod reader;
 
 use crate::layout::struct_value;
-use crate::layout::value::word_of;
+use crate::pointer_word::word_of;
 use crate::read_limiter::limit_in_words;
 use crate::traits::{self, SetterInput};
 use capnp_frame::message::ReaderSegments;

@@ -1,6 +1,7 @@
 //! The wire layout: pointer words, the objects that they lead to, and what a walk over these costs.
 pub(crate) mod begun;
 pub(crate) mod block;
+pub(crate) mod body_word;
 pub(crate) mod canonical;
 pub(crate) mod copy;
 pub(crate) mod copy_rows;
@@ -14,7 +15,6 @@ pub(crate) mod own_words;
 pub(crate) mod passing;
 pub(crate) mod place;
 pub(crate) mod pointer;
-pub(crate) mod pointer_word;
 pub(crate) mod row_pair;
 pub(crate) mod rows;
 pub(crate) mod struct_value;

@@ -17,6 +17,7 @@ mod entered;
 pub mod laws;
 mod layout;
 mod message_size;
+pub mod pointer_word;
 pub mod primitive_list;
 mod read_limiter;
 pub mod text;

@@ -18,11 +18,7 @@ use Rattle.capnp_wire.specs.declared.layout.pointer.FarPointer.{FarPointer}
 use Rattle.capnp_wire.specs.declared.layout.pointer.NearPointer.{NearPointer}
 use Rattle.capnp_wire.proofs.words.MessageLemmas.{segment_stands, no_segment_stands, word_stands, no_word_stands}
 
--- what `?` passes on holds of the error that it returns
-pub passed_on : {Y : Type 0} {error : Error} (P : Error → Type 0) (result : Result Y Error) → IsErrAnd result (λ y. y ≡ error) → P error → IfErr result P
-passed_on P (Ok y) is p = tt
-passed_on P (Err e) is p = subst P (sym is) p
-
+-- what `?` passes on is of the same kind as the error that it returns
 pub passed_kind : {Y : Type 0} {error : Error} {kind : ErrorKind} (result : Result Y Error) → IsErrAnd result (λ y. y ≡ error) → error.kind ≡ kind → IsErrAnd result (λ y. y.kind ≡ kind)
 passed_kind (Ok y) is same = absurd is
 passed_kind (Err e) is same = ap (λ (x : Error). x.kind) is ∙ same

@@ -8,6 +8,7 @@ ghost use Rattle.capnp_wire.specs.Copy.{CanCopy, Copies, IsCopyable, BeginsObjec
 ghost use Rattle.capnp_wire.specs.declared.layout.copy.Copied.{Copied};
 
 use crate::layout::block::{BlockItem, put_elements, put_words};
+use crate::layout::body_word::{pointer_word, struct_pointer_word};
 use crate::layout::copy::Copied;
 use crate::layout::formed::formed_as;
 use crate::layout::near::NearStruct;
@@ -15,7 +16,7 @@ use crate::layout::number_list::NumberList;
 use crate::layout::object::{Body, Object, object_there};
 use crate::layout::own_words::put_own_words;
 use crate::layout::place::Place;
-use crate::layout::pointer_word::{list_word, pointer_word, struct_pointer_word};
+use crate::pointer_word::list_word;
 use capnp_frame::message::ReaderSegments;
 
 /// An object whose copy is begun, what it is once it is copied, and the pointer to it.

@@ -10,7 +10,7 @@ use crate::layout::block::{BlockItem, put_elements, put_word, put_words};
 use crate::layout::number_list::NumberList;
 use crate::layout::object::{Body, Object};
 use crate::layout::pointer::Elements;
-use crate::layout::pointer_word::struct_word;
+use crate::pointer_word::struct_word;
 
 /// Puts the words of a copy into a block, but for its pointers.
 #[inline(always)]
@@ -56,7 +56,11 @@ pub(crate) fn put_own_words<T: BlockItem>(
             put_word(
                 block,
                 next,
-                struct_word(elements.count as u64, elements.size),
+                struct_word(
+                    elements.count as u64,
+                    elements.size.data_words,
+                    elements.size.pointers,
+                ),
             );
             if let Body::Structs(from, _) = object.body {
                 put_rows(

@@ -12,7 +12,7 @@ use crate::layout::object::{Body, Object, words_fit};
 use crate::layout::own_words::put_own_words;
 use crate::layout::place::Place;
 use crate::layout::pointer::StructSize;
-use crate::layout::pointer_word::pointer_word;
+use crate::layout::body_word::pointer_word;
 use crate::layout::value::fitting;
 use crate::layout::walk::Walk;
 use capnp_frame::Result;

@@ -1,7 +1,6 @@
 //! Trees of a message as values: measured, and written into a block of their own.
 ghost use Rattle.std.specs.Prelude.{◌≡◌, ◌<◌, ◌≤◌, ◌+◌, ◌-◌, ◌++◌, ◌*◌, ◌^◌, ℕ, All, replicate, [], ◌∷◌, length, min, MatchResult};
-ghost use Rattle.capnp_frame.specs.Words.{bytes_of};
-ghost use Rattle.capnp_wire.specs.Pointer.{words_of, number_of};
+ghost use Rattle.capnp_wire.specs.Pointer.{words_of};
 ghost use Rattle.capnp_wire.specs.Element.{words_for};
 ghost use Rattle.capnp_wire.specs.Tree.{Trees, numbers, none, tree};
 ghost use Rattle.capnp_wire.specs.Object.{message_of};
@@ -13,10 +12,10 @@ ghost use Rattle.capnp_wire.specs.Values.{Measured, UnmeasuredTree, CanWrite, to
 use crate::layout::block::BlockItem;
 use crate::layout::copy::copy;
 use crate::layout::place::Place;
-use crate::layout::pointer_word::list_word;
 use crate::layout::walk::Walk;
+use crate::pointer_word::{list_word, word_of};
 use capnp_frame::message::ReaderSegments;
-use capnp_frame::{Error, ErrorKind, Result, Word, word};
+use capnp_frame::{Error, ErrorKind, Result, Word};
 
 /// The words of the tree at a place, after its pointer, as it stands or in canonical form.
 pub(crate) fn measure<S: ReaderSegments>(
@@ -48,12 +47,19 @@ pub(crate) fn fitting(words: Option<u64>, canonical: bool) -> Result<u32>
     if canonical {
         return Err(Error::from_kind(ErrorKind::CanonicalTooLarge));
     }
+    Err(too_many(words))
+}
+
+// The refusal of a block of too many words, which it tells as far as 32 bits hold them.
+fn too_many(words: u64) -> Error
+    ensures { result.kind ≡ ErrorKind.AllocationTooLarge (min words (2 ^ 32 - 1)) }
+{
     let told = if words < u32::MAX as u64 {
         words as u32
     } else {
         u32::MAX
     };
-    Err(Error::from_kind(ErrorKind::AllocationTooLarge(told)))
+    Error::from_kind(ErrorKind::AllocationTooLarge(told))
 }
 
 /// Writes the body of the tree at a place into a block of just its words, and returns the pointer
@@ -75,16 +81,6 @@ pub(crate) fn write<S: ReaderSegments, T: BlockItem>(
     copy(segments, place, nesting, canonical, block, 0, 0).pointer
 }
 
-/// A number as the word that it is.
-pub(crate) fn word_of(number: u64) -> Word
-    ensures { number_of 256 (bytes_of result) ≡ number }
-{
-    let bytes = number.to_le_bytes();
-    word(
-        bytes[0], bytes[1], bytes[2], bytes[3], bytes[4], bytes[5], bytes[6], bytes[7],
-    )
-}
-
 /// The words of a list of bytes.
 pub(crate) fn measure_bytes(bytes: &[u8]) -> Result<u32>
     ensures words { MatchResult result
@@ -96,12 +92,7 @@ pub(crate) fn measure_bytes(bytes: &[u8]) -> Result<u32>
     if bytes.len() < 1 << 29 {
         return Ok(words as u32);
     }
-    let told = if words < u32::MAX as u64 {
-        words as u32
-    } else {
-        u32::MAX
-    };
-    Err(Error::from_kind(ErrorKind::AllocationTooLarge(told)))
+    Err(too_many(words))
 }
 
 /// Writes a list of bytes into a block of zeros of its words, and returns the pointer to it.
@@ -129,12 +120,7 @@ pub(crate) fn measure_text(bytes: &[u8]) -> Result<u32>
     if bytes.len() < (1 << 29) - 1 {
         return Ok(words as u32);
     }
-    let told = if words < u32::MAX as u64 {
-        words as u32
-    } else {
-        u32::MAX
-    };
-    Err(Error::from_kind(ErrorKind::AllocationTooLarge(told)))
+    Err(too_many(words))
 }
 
 /// Writes a text into a block of zeros of its words, and returns the pointer to it.
@@ -162,12 +148,7 @@ pub(crate) fn measure_words(bytes: &[u8]) -> Result<u32>
     if words < 1 << 29 {
         return Ok(words as u32);
     }
-    let told = if words < u32::MAX as usize {
-        words as u32
-    } else {
-        u32::MAX
-    };
-    Err(Error::from_kind(ErrorKind::AllocationTooLarge(told)))
+    Err(too_many(words as u64))
 }
 
 /// Writes a list of words into a block of just these, and returns the pointer to it.

@@ -5,7 +5,8 @@ use Rattle.capnp_wire.specs.Pointer.{words_of}
 use Rattle.capnp_wire.specs.Reached.{root}
 use Rattle.capnp_wire.proofs.words.WordLemmas.{length-words_of}
 use Rattle.capnp_wire.proofs.objects.ElementLemmas.{all_words_below}
-use Rattle.capnp_wire.proofs.pointers.LandingPadLemmas.{passed_on, passed_kind}
+use Rattle.capnp_frame.proofs.AskLemmas.{passed_on}
+use Rattle.capnp_wire.proofs.pointers.LandingPadLemmas.{passed_kind}
 use Rattle.capnp_wire.proofs.walks.MetLemmas.{no_word_ends}
 use Rattle.capnp_wire.proofs.walks.OneEndLemmas.{refused_passes, one_way_to_end, one_refusal_ends}
 use Rattle.capnp_wire.proofs.forms.CanonicalLemmas.{ended_is_not, whole_or_not, root_some}

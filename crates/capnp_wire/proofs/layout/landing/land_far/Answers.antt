@@ -4,7 +4,8 @@ use Rattle.capnp_wire.specs.PointerWord.{IsFarPointer}
 use Rattle.capnp_wire.specs.Landing.{HasWideLandingPad}
 use Rattle.capnp_wire.specs.Object.{message_of, word_at, landing_pad}
 use Rattle.capnp_wire.specs.Faults.{BadLandingPad, no_tag}
-use Rattle.capnp_wire.proofs.pointers.LandingPadLemmas.{passed_on, not_is_true, not_is_false, narrow_landing, landing_pad_word, no_second_word, no_landing_pad_segment, no_landing_pad_word, narrow_refused, is_narrow}
+use Rattle.capnp_frame.proofs.AskLemmas.{passed_on}
+use Rattle.capnp_wire.proofs.pointers.LandingPadLemmas.{not_is_true, not_is_false, narrow_landing, landing_pad_word, no_second_word, no_landing_pad_segment, no_landing_pad_word, narrow_refused, is_narrow}
 use Rattle.capnp_wire.proofs.pointers.LandingPadLemmas.{is_wide, wide_landing_pad, wide_found, wide_declined}
 use Rattle.capnp_wire.proofs.layout.landing.land_far.Given as given
 use Rattle.capnp_wire.proofs.layout.landing.land_far.Goals as goal

@@ -6,7 +6,8 @@ use Rattle.capnp_wire.specs.Faults.{BadLandingPad, not_far, no_content}
 use Rattle.capnp_wire.specs.declared.layout.place.Place.{Place}
 use Rattle.capnp_frame.specs.declared.error.ErrorKind.TheVariants.{InvalidSegmentId}
 use Rattle.capnp_wire.proofs.words.MessageLemmas.{segment_stands, no_segment_stands}
-use Rattle.capnp_wire.proofs.pointers.LandingPadLemmas.{passed_on, wide_refused, is_far_word, not_far_word, wide_landing, content_place}
+use Rattle.capnp_frame.proofs.AskLemmas.{passed_on}
+use Rattle.capnp_wire.proofs.pointers.LandingPadLemmas.{wide_refused, is_far_word, not_far_word, wide_landing, content_place}
 use Rattle.capnp_wire.proofs.layout.landing.land_wide.Given as given
 use Rattle.capnp_wire.proofs.layout.landing.land_wide.Goals as goal
 use Rattle.capnp_wire.proofs.layout.landing.land_wide.Goals.{In_ok-content}

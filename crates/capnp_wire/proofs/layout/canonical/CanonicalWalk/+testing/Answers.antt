@@ -3,7 +3,7 @@ use Rattle.std.proofs.Common.{◌≤◌, ◌∙◌, length, arith}
 use Rattle.capnp_wire.specs.Pointer.{words_of}
 use Rattle.capnp_wire.proofs.words.WordLemmas.{length-words_of}
 use Rattle.capnp_wire.proofs.objects.ElementLemmas.{all_words_below}
-use Rattle.capnp_wire.proofs.pointers.LandingPadLemmas.{passed_on}
+use Rattle.capnp_frame.proofs.AskLemmas.{passed_on}
 use Rattle.capnp_wire.proofs.walks.GoingLemmas.{null_passes, going_begins, going_next, going_ends, pointers_pass, pointers_end, pointers_refused}
 use Rattle.capnp_wire.proofs.layout.canonical.CanonicalWalk.+testing.Goals as goal
 

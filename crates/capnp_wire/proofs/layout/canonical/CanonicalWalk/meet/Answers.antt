@@ -4,7 +4,7 @@ use Rattle.capnp_wire.specs.Pointer.{words_of}
 use Rattle.capnp_wire.specs.Object.{word_at}
 use Rattle.capnp_wire.specs.Tested.{far, elsewhere}
 use Rattle.capnp_wire.proofs.words.WordLemmas.{length-words_of}
-use Rattle.capnp_wire.proofs.pointers.LandingPadLemmas.{passed_on}
+use Rattle.capnp_frame.proofs.AskLemmas.{passed_on}
 use Rattle.capnp_wire.proofs.walks.MetLemmas.{Met, met, met_pointers, tests_say, no_word_ends, fault_ends, limit_ends}
 use Rattle.capnp_wire.proofs.layout.canonical.CanonicalWalk.meet.Given as given
 use Rattle.capnp_wire.proofs.layout.canonical.CanonicalWalk.meet.Goals as goal

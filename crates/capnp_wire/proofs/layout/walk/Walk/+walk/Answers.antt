@@ -4,7 +4,7 @@ use Rattle.capnp_wire.specs.Object.{is_null as null_there}
 use Rattle.capnp_wire.specs.Rows.{places_in}
 use Rattle.capnp_wire.specs.Traversed.{counted}
 use Rattle.capnp_wire.proofs.pointers.NearLemmas.{word_there}
-use Rattle.capnp_wire.proofs.pointers.LandingPadLemmas.{passed_on}
+use Rattle.capnp_frame.proofs.AskLemmas.{passed_on}
 use Rattle.capnp_wire.proofs.walks.ParentLemmas.{struct_met, struct_stops, held_by, going_below}
 use Rattle.capnp_wire.proofs.walks.ProgressLemmas.{going_begins, going_there, going_on, going_done, progress_done, progress_stops, progress_stopped, walked_null, entered, walk_goes_on, walk_stops}
 use Rattle.capnp_wire.proofs.layout.walk.Walk.+walk.Goals as goal

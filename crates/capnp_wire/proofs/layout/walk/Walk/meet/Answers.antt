@@ -1,7 +1,7 @@
 -- An object is counted against the traversal limit and counted, or the walk stops there.
 use Rattle.capnp_wire.specs.Object.{is_null as null_there}
 use Rattle.capnp_wire.specs.Faults.{at_pointer}
-use Rattle.capnp_wire.proofs.pointers.LandingPadLemmas.{passed_on}
+use Rattle.capnp_frame.proofs.AskLemmas.{passed_on}
 use Rattle.capnp_wire.proofs.walks.StopLemmas.{exceeds_stops}
 use Rattle.capnp_wire.proofs.walks.ProgressLemmas.{walked_null}
 use Rattle.capnp_wire.proofs.layout.walk.Walk.meet.Goals as goal

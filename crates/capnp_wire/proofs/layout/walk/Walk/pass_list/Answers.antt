@@ -1,7 +1,7 @@
 -- A list of numbers is counted against the traversal limit and counted, and this is all that a walk meets there.
 use Rattle.std.proofs.Common.{◌∙◌}
 use Rattle.capnp_wire.proofs.pointers.NearLemmas.{number_list_walked}
-use Rattle.capnp_wire.proofs.pointers.LandingPadLemmas.{passed_on}
+use Rattle.capnp_frame.proofs.AskLemmas.{passed_on}
 use Rattle.capnp_wire.proofs.walks.StopLemmas.{exceeds_stops}
 use Rattle.capnp_wire.proofs.layout.walk.Walk.pass_list.Goals as goal
 

@@ -4,7 +4,7 @@ use Rattle.capnp_wire.specs.Pointer.{words_of}
 use Rattle.capnp_wire.proofs.words.WordLemmas.{length-words_of}
 use Rattle.capnp_wire.proofs.pointers.NearLemmas.{struct_enters}
 use Rattle.capnp_wire.proofs.pointers.NullRunLemmas.{nulls_walked}
-use Rattle.capnp_wire.proofs.pointers.LandingPadLemmas.{passed_on}
+use Rattle.capnp_frame.proofs.AskLemmas.{passed_on}
 use Rattle.capnp_wire.proofs.walks.StopLemmas.{exceeds_stops}
 use Rattle.capnp_wire.proofs.walks.ProgressLemmas.{entered, walk_over}
 use Rattle.capnp_wire.proofs.layout.walk.Walk.pass_struct.Goals as goal

@@ -1,11 +1,11 @@
-//! Pointer words that are made.
+//! Pointer words to the copies of objects.
 ghost use Rattle.std.specs.Prelude.{◌≡◌, ◌^◌, ◌<◌};
-ghost use Rattle.capnp_wire.specs.Layout.{struct_pointer, list_pointer};
 ghost use Rattle.capnp_wire.specs.Copy.{pointer_of_body, list_length};
 ghost use Rattle.capnp_wire.specs.declared.layout.object.Body.{Body};
 
 use crate::layout::object::Body;
 use crate::layout::pointer::StructSize;
+use crate::pointer_word::{list_word, struct_word};
 
 // The pointer word to a copy that begins a given number of words after it.
 #[inline(always)]
@@ -33,25 +33,5 @@ pub(crate) fn struct_pointer_word(size: StructSize, offset: u64) -> u64
     } else {
         offset
     };
-    struct_word(offset, size)
-}
-
-// The word of a struct pointer, or of the tag of a list of structs.
-#[inline(always)]
-pub(crate) fn struct_word(offset: u64, size: StructSize) -> u64
-    requires { offset < 2 ^ 30 }
-    ensures { result ≡ struct_pointer offset size.data_words size.pointers }
-{
-    4 * offset + (1 << 32) * size.data_words as u64 + (1 << 48) * size.pointers as u64
-}
-
-// The word of a list pointer.
-#[inline(always)]
-pub(crate) fn list_word(offset: u64, code: u64, count: u64) -> u64
-    requires offset { offset < 2 ^ 30 }
-    requires code { code < 8 }
-    requires count { count < 2 ^ 29 }
-    ensures { result ≡ list_pointer offset code count }
-{
-    1 + 4 * offset + (1 << 32) * code + (1 << 35) * count
+    struct_word(offset, size.data_words, size.pointers)
 }

@@ -1,0 +1,64 @@
+//! Pointer words, made from what they say, and moved (encoding document, "Structs", "Lists" and
+//! "Inter-Segment Pointers").
+ghost use Rattle.std.specs.Prelude.{◌≡◌, ◌<◌, ◌^◌, ℕ};
+ghost use Rattle.capnp_frame.specs.Words.{bytes_of};
+ghost use Rattle.capnp_wire.specs.Pointer.{number_of};
+ghost use Rattle.capnp_wire.specs.Tree.{Form};
+ghost use Rattle.capnp_wire.specs.Layout.{far_pointer, list_pointer, pointer, struct_pointer, HasRoom};
+
+use capnp_frame::{Word, word};
+
+/// The pointer to a struct that begins a given number of words after it, or the tag of a list of that
+/// many structs. 2^30 - 1 is the offset -1, of a struct of no words.
+#[inline(always)]
+pub fn struct_word(offset: u64, data_words: u16, pointers: u16) -> u64
+    requires { offset < 2 ^ 30 }
+    ensures { result ≡ struct_pointer offset data_words pointers }
+{
+    4 * offset + (1 << 32) * data_words as u64 + (1 << 48) * pointers as u64
+}
+
+/// The pointer to a list that begins a given number of words after it, by the code of its elements;
+/// of a list of structs the count is that of their words.
+#[inline(always)]
+pub fn list_word(offset: u64, code: u64, count: u64) -> u64
+    requires offset { offset < 2 ^ 30 }
+    requires code { code < 8 }
+    requires count { count < 2 ^ 29 }
+    ensures { result ≡ list_pointer offset code count }
+{
+    1 + 4 * offset + (1 << 32) * code + (1 << 35) * count
+}
+
+/// The far pointer to a landing pad of one word, which stands after a given number of words of a
+/// segment.
+pub fn far_word(segment: u32, position: u32) -> u64
+    requires { position < 2 ^ 29 }
+    ensures { result ≡ far_pointer segment position }
+{
+    2 + 8 * position as u64 + segment as u64 * (1 << 32)
+}
+
+/// The pointer that says as a tag does, to what begins a given number of words further. Null and the
+/// pointer to a struct of no words, whose offset is -1, stay as they are.
+pub fn moved(tag: u64, offset: u32) -> u64
+    requires near { offset < 2 ^ 29 }
+    requires pointer { (form : Form) × (n : ℕ) × HasRoom form n × (tag ≡ pointer form n 0) }
+    ensures { (form : Form) (n : ℕ) → HasRoom form n → tag ≡ pointer form n 0 →
+        result ≡ pointer form n offset }
+{
+    if tag == 0 || tag == 4 * ((1 << 30) - 1) {
+        return tag;
+    }
+    tag + 4 * offset as u64
+}
+
+/// A number as the word that it is.
+pub fn word_of(number: u64) -> Word
+    ensures { number_of 256 (bytes_of result) ≡ number }
+{
+    let bytes = number.to_le_bytes();
+    word(
+        bytes[0], bytes[1], bytes[2], bytes[3], bytes[4], bytes[5], bytes[6], bytes[7],
+    )
+}
