@@ -22,9 +22,9 @@ same_at [] i d e within = absurd (omega (arith, within))
 same_at (s ∷ spaces) zero d e within = refl
 same_at (s ∷ spaces) (suc i) d e within = same_at spaces i d e (omega (arith, within))
 
-within_others : (first : Option Space) (others : List Space) (i : ℕ) → i < length (spaces_of first others) → (i ≡ 0 → ⊥) → i - 1 < length others
-within_others None others i within other = absurd (omega (arith, within))
-within_others (Some s) others i within other = omega (arith, within, other)
+within_others : (first : Option Space) (others : List Space) (i k : ℕ) → i < length (spaces_of first others) → i ≡ suc k → k < length others
+within_others None others i k within place = absurd (omega (arith, within))
+within_others (Some s) others i k within place = omega (arith, within, place)
 
 -- another segment after the first, as long as the one in its place
 other_pairs : (first : Option Space) (others : List Space) (k : ℕ) (part new : Space) (rest : List Out) → MatchOption first (others ≡ []) (λ _. ⊤) → k < length others
@@ -37,14 +37,14 @@ alone_set : (first : Option Space) (others : List Space) (k : ℕ) (new : Space)
 alone_set None others k new alone within = let none : k < length {A = Space} [] = rw alone at within in absurd (omega (arith, none))
 alone_set (Some s) others k new alone within = tt
 
-pub other_edit : (Outs : List Out → Type 0) (first : Option Space) (others : List Space) (i : ℕ) (part new : Space)
+pub other_edit : (Outs : List Out → Type 0) (first : Option Space) (others : List Space) (i k : ℕ) (part new : Space)
     → MatchOption first (others ≡ []) (λ _. ⊤) → AreOut Outs (spaces_of first others) → length others + 1 < 2 ^ 32
-    → i < length (spaces_of first others) → (i ≡ 0 → ⊥) → part ≡ slice_index_or others (i - 1) part → pair new ≡ pair part
-    → MatchOption first (slice_set others (i - 1) new ≡ []) (λ _. ⊤) × AreOut Outs (spaces_of first (slice_set others (i - 1) new)) × (length (slice_set others (i - 1) new) + 1 < 2 ^ 32)
-other_edit Outs first others i part new alone out few within other is same =
-    let k = within_others first others i within other in (
-      alone_set first others (i - 1) new alone k,
-      (out.0, subst Outs (sym (other_pairs first others (i - 1) part new out.0 alone k is same)) out.1),
+    → i < length (spaces_of first others) → i ≡ suc k → part ≡ slice_index_or others k part → pair new ≡ pair part
+    → MatchOption first (slice_set others k new ≡ []) (λ _. ⊤) × AreOut Outs (spaces_of first (slice_set others k new)) × (length (slice_set others k new) + 1 < 2 ^ 32)
+other_edit Outs first others i k part new alone out few within place is same =
+    let inside = within_others first others i k within place in (
+      alone_set first others k new alone inside,
+      (out.0, subst Outs (sym (other_pairs first others k part new out.0 alone inside is same)) out.1),
       (rw length-set few),
     )
 

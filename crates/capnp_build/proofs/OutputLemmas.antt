@@ -49,12 +49,11 @@ all_more [] new all uses = (uses, all)
 all_more (s ∷ spaces) new all uses = (all.0, all_more spaces new all.1 uses)
 
 -- of a segment after the first
-part_at : (first : Option Space) (others : List Space) (i : ℕ) (part : Space) → i < length (spaces_of first others) → (i ≡ 0 → ⊥)
-    → part ≡ slice_index_or others (i - 1) part → part ≡ space_at (spaces_of first others) i
-part_at None others i part within other is = absurd (omega (arith, within))
-part_at (Some s) others zero part within other is = absurd (other refl)
-part_at (Some s) others (suc k) part within other is =
-    let before : suc k - 1 ≡ k = omega arith in is ∙ ap (λ (n : ℕ). slice_index_or others n part) before ∙ same_at others k part no_space (omega (arith, within))
+part_at : (first : Option Space) (others : List Space) (i k : ℕ) (part : Space) → i < length (spaces_of first others) → i ≡ suc k
+    → part ≡ slice_index_or others k part → part ≡ space_at (spaces_of first others) i
+part_at None others i k part within place is = absurd (omega (arith, within))
+part_at (Some s) others i k part within place is =
+    is ∙ same_at others k part no_space (omega (arith, within, place)) ∙ ap (space_at (s ∷ others)) (sym place)
 
 others_set : (first : Option Space) (others : List Space) (k : ℕ) (new : Space) → AllByRecursion UsesWords (spaces_of first others) → UsesWords new
     → AllByRecursion UsesWords (spaces_of first (slice_set others k new))
@@ -62,13 +61,13 @@ others_set None others k new all uses = all
 others_set (Some s) others k new all uses = (all.0, all_set others k new all.1 uses)
 
 -- that segment, edited
-pub edited_words : (first : Option Space) (others : List Space) (i : ℕ) (part new : Space) (edit : Space → Space) → AllByRecursion UsesWords (spaces_of first others)
-    → i < length (spaces_of first others) → (i ≡ 0 → ⊥) → part ≡ slice_index_or others (i - 1) part → new ≡ edit part
+pub edited_words : (first : Option Space) (others : List Space) (i k : ℕ) (part new : Space) (edit : Space → Space) → AllByRecursion UsesWords (spaces_of first others)
+    → i < length (spaces_of first others) → i ≡ suc k → part ≡ slice_index_or others k part → new ≡ edit part
     → (UsesWords (space_at (spaces_of first others) i) → UsesWords (edit (space_at (spaces_of first others) i)))
-    → AllByRecursion UsesWords (spaces_of first (slice_set others (i - 1) new))
-edited_words first others i part new edit all within other is e keeps =
-    let here : part ≡ space_at (spaces_of first others) i = part_at first others i part within other is in
-    others_set first others (i - 1) new all (subst UsesWords (sym (e ∙ ap edit here)) (keeps (words_at (spaces_of first others) i within all)))
+    → AllByRecursion UsesWords (spaces_of first (slice_set others k new))
+edited_words first others i k part new edit all within place is e keeps =
+    let here : part ≡ space_at (spaces_of first others) i = part_at first others i k part within place is in
+    others_set first others k new all (subst UsesWords (sym (e ∙ ap edit here)) (keeps (words_at (spaces_of first others) i within all)))
 
 pub added_words : (first : Option Space) (others more : List Space) (new : Space) → AllByRecursion UsesWords (spaces_of first others) → UsesWords new → more ≡ others ++ new ∷ []
     → AllByRecursion UsesWords (spaces_of first more)

@@ -1,6 +1,8 @@
 -- The segments of a message that is built, and the allocator that they come from.
-use Rattle.std.specs.Prelude.{◌≡◌, ℕ, ◌-◌, ◌*◌, ◌/◌, ◌^◌, min, Bool, false, List, [], ◌∷◌, length, Option, Some, None, slice_index_or, slice_set}
+use Rattle.std.specs.Prelude.{◌≡◌, ℕ, suc, ◌-◌, ◌*◌, ◌/◌, ◌^◌, min, Bool, false, List, [], ◌∷◌, length, Option, Some, None, slice_index_or, slice_set}
 use Rattle.capnp_build.specs.Bytes.{Space}
+use Rattle.capnp_build.specs.declared.segments.SegmentPlace.{SegmentPlace}
+use Rattle.capnp_build.specs.declared.segments.SegmentPlace.TheVariants.{First, Further}
 use Rattle.capnp_build.specs.Out.{Out}
 use Rattle.capnp_build.specs.Filled.{IsBlockOf, with_more}
 use Rattle.capnp_frame.specs.declared.words.Word.{Word}
@@ -46,6 +48,11 @@ ReturnsEach {A = A} returns (space ∷ spaces) old new = (between : A) × Return
 
 abbrev pub no_space : Space
 no_space = record { used = []; size = 0; is_provided = false }
+
+-- the number of the segment at a place
+abbrev pub index_of : SegmentPlace → ℕ
+index_of First = 0
+index_of (Further other) = suc other
 
 abbrev pub space_at : List Space → ℕ → Space
 space_at spaces index = slice_index_or spaces index no_space

@@ -6,7 +6,7 @@ ghost use Rattle.capnp_frame.specs.declared.error.ErrorKind.TheVariants.{Segment
 ghost use Rattle.capnp_build.specs.Bytes.{Space, with_block, with_bytes};
 ghost use Rattle.capnp_build.specs.Out.{Out, HasLarge, MayRefuse, IsOut};
 ghost use Rattle.capnp_build.specs.Built.{size_in_words};
-ghost use Rattle.capnp_build.specs.Held.{IsAppendedAt, Held, pair, pairs, spaces_of, used_of, space_at, free_words_of, with_space, KeepsOthers};
+ghost use Rattle.capnp_build.specs.Held.{IsAppendedAt, index_of, Held, pair, pairs, spaces_of, used_of, space_at, free_words_of, with_space, KeepsOthers};
 ghost use Rattle.capnp_build.specs.Output.{CanBeWritten, CountsUsedWords};
 ghost use Rattle.capnp_wire.specs.Values.{HasWords};
 ghost use Rattle.capnp_build.specs.Allocating.{TakesBack};
@@ -18,6 +18,27 @@ use capnp_frame::{Error, ErrorKind, Result, Word, word};
 use capnp_wire::traits::SetterInput;
 use std::alloc::Global;
 use std::marker::Model;
+
+// Where a segment of a message stands.
+#[derive(Clone, Copy)]
+enum SegmentPlace {
+    // In place.
+    First,
+    // In the vector of the others, after this many of them.
+    Further(usize),
+}
+
+impl SegmentPlace {
+    // The place of the segment of a number.
+    fn of(index: u32) -> SegmentPlace
+        ensures { index ≡ index_of result }
+    {
+        if index == 0 {
+            return SegmentPlace::First;
+        }
+        SegmentPlace::Further(index as usize - 1)
+    }
+}
 
 /// The segments of a message: the first one in place, the others in a vector.
 pub struct Segments<A: Allocator> {
@@ -67,16 +88,15 @@ impl<A: Allocator> Segments<A> {
     {
         match &self.first {
             None => None,
-            Some(first) => {
-                if index == 0 {
-                    return Some(first.bytes());
+            Some(first) => match SegmentPlace::of(index) {
+                SegmentPlace::First => Some(first.bytes()),
+                SegmentPlace::Further(other) => {
+                    if other >= self.others.len() {
+                        return None;
+                    }
+                    Some(self.others[other].bytes())
                 }
-                let index = index as usize - 1;
-                if index >= self.others.len() {
-                    return None;
-                }
-                Some(self.others[index].bytes())
-            }
+            },
         }
     }
 
@@ -87,12 +107,10 @@ impl<A: Allocator> Segments<A> {
     {
         match &self.first {
             None => 0,
-            Some(first) => {
-                if index == 0 {
-                    return first.room();
-                }
-                self.others[index as usize - 1].room()
-            }
+            Some(first) => match SegmentPlace::of(index) {
+                SegmentPlace::First => first.room(),
+                SegmentPlace::Further(other) => self.others[other].room(),
+            },
         }
     }
 
@@ -103,12 +121,10 @@ impl<A: Allocator> Segments<A> {
     {
         match &self.first {
             None => 0,
-            Some(first) => {
-                if index == 0 {
-                    return first.words();
-                }
-                self.others[index as usize - 1].words()
-            }
+            Some(first) => match SegmentPlace::of(index) {
+                SegmentPlace::First => first.words(),
+                SegmentPlace::Further(other) => self.others[other].words(),
+            },
         }
     }
 
@@ -136,14 +152,17 @@ impl<A: Allocator> Segments<A> {
         requires room { words ≤ free_words_of (space_at self.old.spaces index) }
         ensures { self.new ≡ with_space self.old index (with_block (space_at self.old.spaces index) (8 * words)) }
     {
-        if index == 0 {
-            if let Some(first) = &mut self.first {
-                first.grow(words);
+        match SegmentPlace::of(index) {
+            SegmentPlace::First => {
+                if let Some(first) = &mut self.first {
+                    first.grow(words);
+                }
             }
-            return;
+            SegmentPlace::Further(other) => {
+                let part = &mut self.others[other];
+                part.grow(words);
+            }
         }
-        let part = &mut self.others[index as usize - 1];
-        part.grow(words);
     }
 
     /// Writes bytes into those of a segment that are used.
@@ -152,14 +171,17 @@ impl<A: Allocator> Segments<A> {
         requires room { at + length bytes.now ≤ length (space_at self.old.spaces index).used }
         ensures { self.new ≡ with_space self.old index (with_bytes (space_at self.old.spaces index) at bytes.now) }
     {
-        if index == 0 {
-            if let Some(first) = &mut self.first {
-                first.write_at(at, bytes);
+        match SegmentPlace::of(index) {
+            SegmentPlace::First => {
+                if let Some(first) = &mut self.first {
+                    first.write_at(at, bytes);
+                }
             }
-            return;
+            SegmentPlace::Further(other) => {
+                let part = &mut self.others[other];
+                part.write_at(at, bytes);
+            }
         }
-        let part = &mut self.others[index as usize - 1];
-        part.write_at(at, bytes);
     }
 
     /// Makes some of the used bytes of a segment zero.
@@ -169,14 +191,17 @@ impl<A: Allocator> Segments<A> {
         requires room { to ≤ length (space_at self.old.spaces index).used }
         ensures { self.new ≡ with_space self.old index (with_bytes (space_at self.old.spaces index) from (replicate (to - from) 0)) }
     {
-        if index == 0 {
-            if let Some(first) = &mut self.first {
-                first.zero(from, to);
+        match SegmentPlace::of(index) {
+            SegmentPlace::First => {
+                if let Some(first) = &mut self.first {
+                    first.zero(from, to);
+                }
             }
-            return;
+            SegmentPlace::Further(other) => {
+                let part = &mut self.others[other];
+                part.zero(from, to);
+            }
         }
-        let part = &mut self.others[index as usize - 1];
-        part.zero(from, to);
     }
 
     /// A value written after the used words of a segment, in a given number of words.
@@ -192,14 +217,18 @@ impl<A: Allocator> Segments<A> {
         requires words { HasWords (V.has_tree value.now) canonical words }
         ensures { IsAppendedAt (V.has_tree value.now) canonical result words index self.old self.new }
     {
-        if index == 0 {
-            if let Some(first) = &mut self.first {
-                return first.append(canonical, value, words);
+        match SegmentPlace::of(index) {
+            SegmentPlace::First => {
+                if let Some(first) = &mut self.first {
+                    return first.append(canonical, value, words);
+                }
+                word(0, 0, 0, 0, 0, 0, 0, 0)
             }
-            return word(0, 0, 0, 0, 0, 0, 0, 0);
+            SegmentPlace::Further(other) => {
+                let part = &mut self.others[other];
+                part.append(canonical, value, words)
+            }
         }
-        let part = &mut self.others[index as usize - 1];
-        part.append(canonical, value, words)
     }
 
     /// A further segment, of at least a given number of words, of which nothing is used.
