@@ -15,8 +15,7 @@ use Rattle.capnp_build.proofs.arena.builder_arena.BuilderArena.write_bytes.Goals
 pub returns-in_default : goal.returns-in_default
 returns-in_default g c =
     let spaces : List Space = c.self.inside.segments.spaces in
-    let n : ℕ = length c.args.bytes.now in
-    let f : HasBytes spaces c.args.index n = subst (λ (v : Built g.row.A.Denot). HasBytes v.spaces c.args.index n) (sym c.self.view_is) c.requires in
+    let f = subst (λ (v : Built g.row.A.Denot). HasBytes v.spaces c.args.index (length c.args.bytes.now)) (sym c.self.view_is) c.requires in
     let r : HasNullRoot spaces = subst (λ (o : Option RootLocation). IsBuilt spaces o) c.in_default.is c.self.invariant in
     absurd (no_bytes f.values (null_only spaces (numbers 2 f.values) none f.traversed r f.stands))
 
@@ -29,10 +28,9 @@ returns-in_default-get g c =
 pub write_at-requires-clause-room : goal.write_at-requires-clause-room
 write_at-requires-clause-room g c =
     let spaces : List Space = c.self.inside.segments.spaces in
-    let n : ℕ = length c.args.bytes.now in
-    let f : HasBytes spaces c.args.index n = subst (λ (v : Built g.row.A.Denot). HasBytes v.spaces c.args.index n) (sym c.self.view_is) c.requires in
+    let f = subst (λ (v : Built g.row.A.Denot). HasBytes v.spaces c.args.index (length c.args.bytes.now)) (sym c.self.view_is) c.requires in
     let p : IsBuilt spaces (Some c.in-Some.location) = subst (λ (o : Option RootLocation). IsBuilt spaces o) c.in-Some.is c.self.invariant in
-    bytes_room spaces c.in-Some.location c.args.index n f p
+    bytes_room spaces c.in-Some.location c.args.index (length c.args.bytes.now) f p
 
 pub invariant_of-self : goal.invariant_of-self
 invariant_of-self g c =
@@ -58,6 +56,5 @@ returns g c =
       set = subst (λ (v : Built g.row.A.Denot). IsBytesSet v.spaces c.write_at.new.self.spaces c.args.index w) c.self.view_is
           (bytes_set spaces c.write_at.new.self.spaces location c.args.index w f p low c.each_is_a_byte-2.ensures (ap (λ (h : Held g.row.A.Denot). h.spaces) c.write_at.ensures));
       written = subst (λ (v : Built g.row.A.Denot). IsWritten v new) c.self.view_is
-          (written_at c.self.inside.segments c.write_at.new.self c.self.inside.location location.segment (8 * location.start + c.args.index) c.args.bytes.now c.write_at.ensures
-          (bytes_room spaces location c.args.index (length w) f p));
+          (written_at c.self.inside.segments c.write_at.new.self c.self.inside.location location.segment (8 * location.start + c.args.index) c.args.bytes.now c.write_at.ensures (bytes_room spaces location c.args.index (length w) f p));
     }
