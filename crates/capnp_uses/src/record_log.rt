@@ -1,13 +1,12 @@
 //! A log of packed records: one is appended, and all are read back.
-ghost use Rattle.std.specs.Prelude.{◌≡◌, ◌≤◌, ◌<◌, ◌++◌, ◌∷◌, [], ◌⊎◌, ℕ, List, Option, None, length, map, OnOk, OnErr, IfOk, IfErr};
+ghost use Rattle.std.specs.Prelude.{◌≡◌, ◌++◌, ◌∷◌, [], ◌⊎◌, ℕ, List, Option, map, OnOk, OnErr, IfOk, IfErr};
 ghost use Rattle.std.specs.List.{AllByRecursion};
 ghost use Rattle.capnp_frame.specs.declared.error.ErrorKind.{ErrorKind};
 ghost use Rattle.capnp_frame.specs.Limits.{KeepsLimit};
 ghost use Rattle.capnp_frame.specs.Message.{lengths};
 ghost use Rattle.capnp_frame.specs.Writers.{KeepsCount};
 ghost use Rattle.capnp_frame.specs.Writing.{IsWritable, RefusesMany};
-ghost use Rattle.capnp.specs.Written.{IsPackedTextOf};
-ghost use Rattle.capnp_uses.specs.Streaming.{IsLog, LacksMemory};
+ghost use Rattle.capnp_uses.specs.Streaming.{IsLog, ReadsBoth, ReadsLog};
 
 use crate::streaming::{StreamRead, every_message};
 use capnp::message::{ReaderOptions, ReaderSegments};
@@ -39,21 +38,8 @@ pub fn append<S: ReaderSegments>(alloc: Global, log: &mut Vec<u8>, message: &S) 
 
 /// Reads all records of a log, and tells where they end.
 pub fn read_log(alloc: Global, log: &[u8], options: ReaderOptions) -> StreamRead
-    // What was appended is read back, in order, memory aside.
-    ensures back { (records : List (List (List ℕ))) →
-        IsLog options.traversal_limit_in_words records log.now →
-        LacksMemory result.refusal
-        ⊎ (map (λ reader. reader.segments) result.messages.items ≡ records)
-        × (result.refusal ≡ None) × (result.end ≡ length log.now) }
-    // Where the log is cut within a record those before it are read, and where they end is told.
-    ensures cut { (records : List (List (List ℕ))) (whole part missing : List ℕ)
-        (next : List (List ℕ)) → IsLog options.traversal_limit_in_words records whole →
-        IsWritable next → IsPackedTextOf next (part ++ missing) → 0 < length missing →
-        log.now ≡ whole ++ part →
-        LacksMemory result.refusal
-        ⊎ (map (λ reader. reader.segments) result.messages.items ≡ records)
-        × (result.end ≡ length whole) }
-    ensures within { result.end ≤ length log.now }
+    ensures read { ReadsLog options.traversal_limit_in_words log.now
+        (map (λ reader. reader.segments) result.messages.items) result.end result.refusal }
     ensures options { AllByRecursion (λ reader. reader.options ≡ options) result.messages.items }
 {
     every_message(alloc, Format::Packed, log, options)
@@ -72,13 +58,9 @@ pub fn two_records_are_read_back<S: ReaderSegments, T: ReaderSegments>(
         options.traversal_limit_in_words }
     requires second_size { KeepsLimit (lengths (T.segments second.now))
         options.traversal_limit_in_words }
-    ensures back { IfOk result (λ read. LacksMemory read.refusal
-        ⊎ (map (λ reader. reader.segments) read.messages.items
-        ≡ S.segments first.now ∷ T.segments second.now ∷ []) × (read.refusal ≡ None)) }
-    // The last one ends where the log does that they were appended to.
-    ensures end { IfOk result (λ read. LacksMemory read.refusal
-        ⊎ (log : List ℕ) × IsLog options.traversal_limit_in_words
-        (S.segments first.now ∷ T.segments second.now ∷ []) log × (read.end ≡ length log)) }
+    ensures read { IfOk result (λ read. ReadsBoth options.traversal_limit_in_words
+        (S.segments first.now) (T.segments second.now)
+        (map (λ reader. reader.segments) read.messages.items) read.end read.refusal) }
     ensures options { IfOk result (λ read.
         AllByRecursion (λ reader. reader.options ≡ options) read.messages.items) }
     ensures refused { IfErr result (λ error. RefusesMany (S.segments first.now) error.kind

@@ -1,13 +1,12 @@
 //! Streams whose messages are all read.
-ghost use Rattle.std.specs.Prelude.{◌≡◌, ◌≤◌, ◌++◌, ◌∷◌, [], ◌⊎◌, ℕ, List, Option, Some, drop, length, map, IsTrue, IsFalse, IfSome, IfOk, IfErr, OnErr};
+ghost use Rattle.std.specs.Prelude.{◌≡◌, ◌++◌, ◌∷◌, [], ◌⊎◌, ℕ, List, Some, map, IsTrue, IsFalse, IfSome, IfOk, IfErr, OnErr};
 ghost use Rattle.std.specs.List.{AllByRecursion};
 ghost use Rattle.capnp_frame.specs.declared.serialize.segment_table.Padding.TheVariants.{Zero};
 ghost use Rattle.capnp_frame.specs.declared.error.ErrorKind.{ErrorKind};
 ghost use Rattle.capnp_frame.specs.Streams.{next_in, ReadsStream};
-ghost use Rattle.capnp_frame.specs.Texts.{AreTexts};
 ghost use Rattle.capnp.specs.Headline.{ReturnsTexts};
-ghost use Rattle.capnp.specs.Streams.{grammar_of, rules_of, StandsNext, EndsBy, IsStream};
-ghost use Rattle.capnp_uses.specs.Streaming.{kind_of, LacksMemory, SkipsMessage};
+ghost use Rattle.capnp.specs.Streams.{grammar_of, rules_of, StandsNext, EndsBy};
+ghost use Rattle.capnp_uses.specs.Streaming.{ReadsEach, SkipsMessage};
 
 use capnp::io::BufRead;
 use capnp::message::{Reader, ReaderOptions};
@@ -72,22 +71,8 @@ pub fn every_message(
     stream: &[u8],
     options: ReaderOptions,
 ) -> StreamRead
-    // The messages are the first `end` bytes.
-    ensures within { result.end ≤ length stream.now }
-    ensures texts { AreTexts (grammar_of Zero format) options.traversal_limit_in_words
-        (map (λ reader. reader.segments) result.messages.items)
-        stream.now (drop result.end stream.now) }
-    // And there the stream ends, or is refused so.
-    ensures ends { LacksMemory result.refusal
-        ⊎ EndsBy Zero format options.traversal_limit_in_words (kind_of result.refusal)
-        (drop result.end stream.now) }
-    // So it is the one list of messages that the stream is, memory aside.
-    ensures exact { (messages : List (List (List ℕ))) (ending : Option ErrorKind) →
-        IsStream Zero format options.traversal_limit_in_words messages ending stream.now →
-        LacksMemory result.refusal
-        ⊎ (map (λ reader. reader.segments) result.messages.items ≡ messages)
-        × (kind_of result.refusal ≡ ending) }
-    // Each is read with these options.
+    ensures read { ReadsEach format options.traversal_limit_in_words stream.now
+        (map (λ reader. reader.segments) result.messages.items) result.end result.refusal }
     ensures options { AllByRecursion (λ reader. reader.options ≡ options) result.messages.items }
 {
     let mut messages = Vec::new(alloc);

@@ -2,10 +2,14 @@
 use Rattle.capnp_uses.proofs.LogLemmas.{log_is_read, cut_is_told}
 use Rattle.capnp_uses.proofs.record_log.read_log.Goals as goal
 
-pub returns-clause-back : goal.returns-clause-back
-returns-clause-back c = log_is_read c.args.options.traversal_limit_in_words _ c.every_message.result.refusal c.args.log.now c.every_message.result.end
-    c.every_message.ensures.within c.every_message.ensures.ends c.every_message.ensures.exact
-
-pub returns-clause-cut : goal.returns-clause-cut
-returns-clause-cut c = cut_is_told c.args.options.traversal_limit_in_words _ c.every_message.result.refusal c.args.log.now c.every_message.result.end
-    c.every_message.ensures.within c.every_message.ensures.texts c.every_message.ensures.ends
+pub returns-clause-read : goal.returns-clause-read
+returns-clause-read c =
+    let limit = c.args.options.traversal_limit_in_words in
+    let refusal = c.every_message.result.refusal in
+    let end = c.every_message.result.end in
+    let read = c.every_message.ensures.read in
+    record {
+      within = read.within;
+      back = log_is_read limit _ refusal c.args.log.now end read.within read.ends read.exact;
+      cut = cut_is_told limit _ refusal c.args.log.now end read.within read.texts read.ends;
+    }

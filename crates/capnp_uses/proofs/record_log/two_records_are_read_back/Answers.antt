@@ -11,10 +11,12 @@ returns g c =
     let one = c.in_ok-append.ensures.appended limit [] (record { writable = tt; few = tt; size = tt; appended = c.new-log.ensures.items }) c.requires.first_size in
     let two = c.in_ok-append-2.ensures.appended limit (first ∷ []) one c.requires.second_size in
     let shown = subst (λ log. IsLog limit (first ∷ second ∷ []) log) (sym c.deref.ensures.value) two in
-    let read = c.read_log.ensures.back (first ∷ second ∷ []) shown in
+    let read = c.read_log.ensures.read.back (first ∷ second ∷ []) shown in
     record {
-      back = elim read [ inl memory ↦ inl memory | inr same ↦ inr (same.0, same.1) ];
-      end = elim read [ inl memory ↦ inl memory | inr same ↦ inr (_, shown, same.2) ];
+      read = record {
+        back = elim read [ inl memory ↦ inl memory | inr same ↦ inr (same.0, same.1) ];
+        end = elim read [ inl memory ↦ inl memory | inr same ↦ inr (_, shown, same.2) ];
+      };
       options = c.read_log.ensures.options;
       refused = tt;
     }

@@ -23,17 +23,17 @@ returns-in-Ok-false c =
     let ended = c.in-Ok-false.ensures.ended c.in-Ok-false.field-0-test in
     let stop = stopped c.args.format c.args.options.traversal_limit_in_words _ _ None c.args.stream.now c.loop-count.rest.now c.loop-count.end
     (ap (map (λ reader. reader.segments)) ended.1) c.loop-count.invariant.texts c.loop-count.invariant.at (inr ended.0) in
-    record { within = stop.0; texts = stop.1; ends = stop.2; exact = stop.3; options = c.add_next.ensures.options c.loop-count.invariant.options }
+    record { read = record { within = stop.0; texts = stop.1; ends = stop.2; exact = stop.3 }; options = c.add_next.ensures.options c.loop-count.invariant.options }
 
 pub returns-in-Err : goal.returns-in-Err
 returns-in-Err c =
     let stop = stopped c.args.format c.args.options.traversal_limit_in_words _ _ (Some c.in-Err.error) c.args.stream.now c.loop-count.rest.now c.loop-count.end
     (ap (map (λ reader. reader.segments)) c.in-Err.ensures.kept) c.loop-count.invariant.texts c.loop-count.invariant.at
     (refused_ends c.in-Err.error _ c.in-Err.ensures.refused) in
-    record { within = stop.0; texts = stop.1; ends = stop.2; exact = stop.3; options = c.add_next.ensures.options c.loop-count.invariant.options }
+    record { read = record { within = stop.0; texts = stop.1; ends = stop.2; exact = stop.3 }; options = c.add_next.ensures.options c.loop-count.invariant.options }
 
 pub returns : goal.returns
 returns c =
     let stop = stopped c.args.format c.args.options.traversal_limit_in_words _ _ (Some c.from_kind.result) c.args.stream.now c.loop-count.rest.now c.loop-count.end
     refl c.loop-count.invariant.texts c.loop-count.invariant.at (inl (ap Some c.from_kind.ensures)) in
-    record { within = stop.0; texts = stop.1; ends = stop.2; exact = stop.3; options = c.loop-count.invariant.options }
+    record { read = record { within = stop.0; texts = stop.1; ends = stop.2; exact = stop.3 }; options = c.loop-count.invariant.options }
