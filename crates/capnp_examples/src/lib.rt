@@ -11,12 +11,16 @@ mod callers;
 #[cfg(test)]
 mod examples;
 #[cfg(test)]
+mod large_limits;
+#[cfg(test)]
+mod large_messages;
+#[cfg(test)]
 mod long_inputs;
 #[cfg(test)]
 mod other_options;
 #[cfg(test)]
-mod refusals;
-#[cfg(test)]
 mod regions;
 #[cfg(test)]
 mod set_roots;
+#[cfg(test)]
+mod walks;

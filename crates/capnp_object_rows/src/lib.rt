@@ -5,6 +5,8 @@
 #[cfg(test)]
 mod builder_memory;
 #[cfg(test)]
+mod calls;
+#[cfg(test)]
 mod hostile;
 #[cfg(test)]
 mod hostile_messages;

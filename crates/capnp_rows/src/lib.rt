@@ -9,6 +9,8 @@
 #![tactic(auto)]
 
 #[cfg(test)]
+mod calls;
+#[cfg(test)]
 mod chunks;
 pub mod growths;
 #[cfg(test)]
@@ -25,6 +27,7 @@ mod no_memory;
 mod packed_calls;
 #[cfg(test)]
 mod parts;
+pub mod refusals;
 #[cfg(test)]
 mod sink_faults;
 pub mod sinks;

@@ -7,6 +7,8 @@ mod appended;
 #[cfg(test)]
 mod built_messages;
 #[cfg(test)]
+mod calls;
+#[cfg(test)]
 mod each_message;
 #[cfg(test)]
 mod faults;
