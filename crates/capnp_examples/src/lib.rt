@@ -1,5 +1,5 @@
-//! The examples that stand at public items, and the callers of `capnp_uses` by worked bytes. It holds
-//! tests alone.
+//! The examples that stand at public items, the callers of `capnp_uses` by worked bytes, and messages
+//! and limits of many words. It holds tests alone.
 #![tactic(auto)]
 
 #[cfg(test)]

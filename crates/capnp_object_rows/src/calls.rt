@@ -1,5 +1,5 @@
 //! The calls of reading views, of builders and of allocators by worked bytes: what no contract says,
-//! above all that they succeed.
+//! above all that they succeed. Where a growth is refused, these tests may fail.
 mod allocators;
 mod arenas;
 mod builders;

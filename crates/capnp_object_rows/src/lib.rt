@@ -1,5 +1,5 @@
-//! Worked rows over objects: hostile pointers, and messages that are built. It holds tests alone, by
-//! the rules of `capnp_rows`.
+//! Worked rows over objects: hostile pointers, and messages that are built; and the calls of views,
+//! builders and allocators. It holds tests alone, by the rules of `capnp_rows`.
 #![tactic(auto)]
 
 #[cfg(test)]

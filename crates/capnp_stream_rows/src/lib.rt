@@ -1,5 +1,5 @@
-//! Worked rows over the readers and writers of both formats. It holds tests alone, by the rules of
-//! `capnp_rows`.
+//! Worked rows over the readers and writers of both formats, and their calls. It holds tests alone, by
+//! the rules of `capnp_rows`.
 #![tactic(auto)]
 
 #[cfg(test)]
