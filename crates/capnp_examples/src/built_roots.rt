@@ -1,6 +1,6 @@
 //! The callers that build a root: what they read back, and the words that stand then.
-use crate::refusals::refusal;
 use capnp::message::{Allocator, Builder, HeapAllocator, ReaderSegments, SingleSegmentAllocator};
+use capnp_rows::refusals::refusal;
 use capnp_uses::building::{
     a_struct_is_read_back, data_is_read_back, null_is_read_back, numbers_are_read_back,
     text_is_read_back, write_data, write_null, write_numbers, write_struct, write_text,

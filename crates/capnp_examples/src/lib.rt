@@ -1,5 +1,5 @@
-//! The examples that stand at public items, and the callers of `capnp_uses` by worked bytes. It holds
-//! tests alone.
+//! The examples that stand at public items, the callers of `capnp_uses` by worked bytes, and messages
+//! and limits of many words. It holds tests alone.
 #![tactic(auto)]
 
 #[cfg(test)]
@@ -11,12 +11,16 @@ mod callers;
 #[cfg(test)]
 mod examples;
 #[cfg(test)]
+mod large_limits;
+#[cfg(test)]
+mod large_messages;
+#[cfg(test)]
 mod long_inputs;
 #[cfg(test)]
 mod other_options;
 #[cfg(test)]
-mod refusals;
-#[cfg(test)]
 mod regions;
 #[cfg(test)]
 mod set_roots;
+#[cfg(test)]
+mod walks;

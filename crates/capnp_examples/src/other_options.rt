@@ -1,8 +1,8 @@
 //! The callers over other limits than the default ones, and over what is refused.
 use crate::examples::{HELLO, PACKED as PACKED_HELLO};
-use crate::refusals::refusal;
 use capnp::message::{DEFAULT_READER_OPTIONS, ReaderOptions, SegmentArray};
 use capnp::streams::Format;
+use capnp_rows::refusals::refusal;
 use capnp_uses::canonical::canonical_words;
 use capnp_uses::packed_struct::read_packed_words;
 use capnp_uses::packing::{pack_words, unpack_words, words_are_unpacked};

@@ -1,20 +1,12 @@
 //! The callers that build over a region, and those that set a root and read it back, by the words that
 //! stand then.
-use crate::refusals::refusal;
-use capnp::message::{
-    Allocator, Builder, HeapAllocator, Reader, ReaderOptions, ReaderSegments, SegmentArray,
-};
+use capnp::message::{Allocator, Builder, HeapAllocator, Reader, ReaderOptions, SegmentArray};
 use capnp::text;
+use capnp_rows::messages::shows;
+use capnp_rows::refusals::refusal;
 use capnp_uses::regions::{region_comes_home, set_in_region};
 use capnp_uses::roots::{copy_root, set_text_is_read_back};
 use std::test::Fail;
-
-// Whether segment `id` is these bytes.
-fn shows<S: ReaderSegments>(segments: &S, id: u32, bytes: &[u8]) -> bool {
-    segments
-        .get_segment(id)
-        .is_some_and(|segment| segment == bytes)
-}
 
 // A text of one word has room after the root in two words, and not in one; either way the region is
 // zero once the message is gone.

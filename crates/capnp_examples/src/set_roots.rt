@@ -1,7 +1,8 @@
 //! The callers that set a root to what another message holds, by the words that stand then.
-use crate::refusals::refusal;
 use capnp::any_pointer;
 use capnp::message::{Builder, HeapAllocator, Reader, ReaderOptions, ReaderSegments, SegmentArray};
+use capnp_rows::messages::shows;
+use capnp_rows::refusals::refusal;
 use capnp_uses::setting::{set_canonical, set_tree, set_tree_and_word};
 use std::alloc::Global;
 use std::test::Fail;
@@ -39,12 +40,6 @@ const FORMS: [(&[&[u8]], [&[u8]; 3]); 3] = [
 
 type Source<'a> = any_pointer::Reader<'a, SegmentArray<'a>>;
 
-fn segment_is(message: &Builder<HeapAllocator>, id: u32, bytes: &[u8]) -> bool {
-    message
-        .get_segment(id)
-        .is_some_and(|segment| segment == bytes)
-}
-
 #[test]
 fn roots_of_other_messages(rt: HostRuntime) -> Result<(), Fail> {
     for (segments, [as_it_stands, with_a_word, canonical]) in FORMS {
@@ -52,15 +47,15 @@ fn roots_of_other_messages(rt: HostRuntime) -> Result<(), Fail> {
         let root: Source<'_> = reader.get_root()?;
         let mut message = Builder::new_default(rt.alloc());
         set_tree(&mut message, root)?;
-        assert!(rt; segment_is(&message, 0, as_it_stands), "{segments:?}");
+        assert!(rt; shows(&message, 0, as_it_stands), "{segments:?}");
         let root: Source<'_> = reader.get_root()?;
         let mut message = Builder::new_default(rt.alloc());
         set_tree_and_word(&mut message, root, 9)?;
-        assert!(rt; segment_is(&message, 0, with_a_word), "{segments:?}");
+        assert!(rt; shows(&message, 0, with_a_word), "{segments:?}");
         let root: Source<'_> = reader.get_root()?;
         let mut message = Builder::new_default(rt.alloc());
         set_canonical(&mut message, root)?;
-        assert!(rt; segment_is(&message, 0, canonical), "{segments:?}");
+        assert!(rt; shows(&message, 0, canonical), "{segments:?}");
         assert!(rt; message.get_segment(1).is_none(), "{segments:?}");
     }
     Ok(())
@@ -74,8 +69,8 @@ fn roots_after_a_landing_pad(rt: HostRuntime) -> Result<(), Fail> {
         let root: Source<'_> = reader.get_root()?;
         let mut message = far_message(rt.alloc());
         set_tree(&mut message, root)?;
-        assert!(rt; segment_is(&message, 0, b"\x02\0\0\0\x01\0\0\0"));
-        assert!(rt; segment_is(&message, 1, as_it_stands));
+        assert!(rt; shows(&message, 0, b"\x02\0\0\0\x01\0\0\0"));
+        assert!(rt; shows(&message, 1, as_it_stands));
     }
     Ok(())
 }

@@ -102,7 +102,8 @@ fn refused_roots(rt: HostRuntime) -> Result<()> {
     Ok(())
 }
 
-fn joined(alloc: Global, words: &[Word]) -> Result<Vec<u8>> {
+/// The bytes of words.
+pub fn joined(alloc: Global, words: &[Word]) -> Result<Vec<u8>> {
     let mut bytes = Vec::new(alloc);
     for word in words {
         bytes.extend_from_slice(word.bytes().as_slice())?;

@@ -1,9 +1,11 @@
-//! Worked rows over objects: hostile pointers, and messages that are built. It holds tests alone, by
-//! the rules of `capnp_rows`.
+//! Worked rows over objects: hostile pointers, and messages that are built; and the calls of views,
+//! builders and allocators. It holds tests alone, by the rules of `capnp_rows`.
 #![tactic(auto)]
 
 #[cfg(test)]
 mod builder_memory;
+#[cfg(test)]
+mod calls;
 #[cfg(test)]
 mod hostile;
 #[cfg(test)]

@@ -1,13 +1,16 @@
-//! Worked rows over the calls of framing and packing, and what all rows share: messages, sources and
-//! sinks, limits, and what a test does where a growth is refused.
+//! Worked rows over framing and packing, their calls, and what all tests share: messages, sources and
+//! sinks, limits, refusals, and what a test does where a growth is refused.
 //!
 //! Expected values come from the [encoding document] and from rows worked by hand, never from what
 //! the calls return. `rt try --test --fail-alloc N` refuses one growth of each test: a body that
-//! returns an error is run once more, and has to succeed then.
+//! returns an error is run once more, and has to succeed then. Only the tests of `calls`, which read
+//! whole results, may fail.
 //!
 //! [encoding document]: https://capnproto.org/encoding.html
 #![tactic(auto)]
 
+#[cfg(test)]
+mod calls;
 #[cfg(test)]
 mod chunks;
 pub mod growths;
@@ -25,6 +28,7 @@ mod no_memory;
 mod packed_calls;
 #[cfg(test)]
 mod parts;
+pub mod refusals;
 #[cfg(test)]
 mod sink_faults;
 pub mod sinks;

@@ -105,6 +105,14 @@ pub fn has_segments<S: ReaderSegments>(found: &S, wanted: &[&[u8]]) -> bool {
     found.is_empty() == wanted.is_empty()
 }
 
+/// Whether segment `id` has these bytes.
+pub fn shows<S: ReaderSegments>(segments: &S, id: u32, bytes: &[u8]) -> bool {
+    match segments.get_segment(id) {
+        Some(segment) => segment == bytes,
+        None => false,
+    }
+}
+
 /// Whether a writer may be given these segments.
 pub fn is_writable<S: ReaderSegments>(segments: &S) -> bool
     ensures { OnTrue result (IsWritable (S.segments segments.now)) }

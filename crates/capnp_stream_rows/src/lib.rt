@@ -1,11 +1,13 @@
-//! Worked rows over the readers and writers of both formats. It holds tests alone, by the rules of
-//! `capnp_rows`.
+//! Worked rows over the readers and writers of both formats, and their calls. It holds tests alone, by
+//! the rules of `capnp_rows`.
 #![tactic(auto)]
 
 #[cfg(test)]
 mod appended;
 #[cfg(test)]
 mod built_messages;
+#[cfg(test)]
+mod calls;
 #[cfg(test)]
 mod each_message;
 #[cfg(test)]

@@ -1,4 +1,5 @@
 //! Each public call once where it succeeds, since every contract lets memory be refused.
+use crate::messages::shows;
 use capnp_frame::io::Write;
 use capnp_frame::message::{ReaderOptions, ReaderSegments, SegmentArray};
 use capnp_frame::serialize::{
@@ -35,14 +36,6 @@ const SECOND: [u8; 16] = [4, 0, 0, 0, 0, 0, 0, 0, 5, 0, 0, 0, 0, 0, 0, 0];
 const PADDED: [u8; 32] = [
     1, 0, 0, 0, 0, 0, 0, 0, 2, 0, 0, 0, 9, 9, 9, 9, 4, 0, 0, 0, 0, 0, 0, 0, 5, 0, 0, 0, 0, 0, 0, 0,
 ];
-
-// Whether segment `id` has these bytes.
-fn shows<S: ReaderSegments>(segments: &S, id: u32, bytes: &[u8]) -> bool {
-    match segments.get_segment(id) {
-        Some(segment) => segment == bytes,
-        None => false,
-    }
-}
 
 #[test]
 fn takes_and_writes(rt: HostRuntime) -> Result<(), Fail> {

@@ -1,7 +1,7 @@
 //! What views count against the traversal limit, and when it is met.
-use crate::objects::{HELLO, root_as_data, root_as_struct, root_as_text, root_as_words};
-use crate::refusals::refusal;
+use crate::calls::objects::{HELLO, root_as_data, root_as_struct, root_as_text, root_as_words};
 use capnp_frame::message::{ReaderOptions, SegmentArray};
+use capnp_rows::refusals::refusal;
 use capnp_wire::arena::ReaderArena;
 use capnp_wire::{any_pointer, text};
 use std::test::Fail;

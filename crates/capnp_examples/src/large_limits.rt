@@ -1,9 +1,9 @@
 //! Traversal limits of many words: what views and sizes count of them.
-use capnp_calls::refusals::{allocation_refusal, refusal};
 use capnp_frame::Result;
 use capnp_frame::message::{DEFAULT_READER_OPTIONS, ReaderOptions, SegmentArray};
 use capnp_message::builder::Builder;
 use capnp_message::reader::Reader;
+use capnp_rows::refusals::{allocation_refusal, refusal};
 use capnp_wire::any_struct::StructReader;
 use capnp_wire::canonical::canonical_size;
 use capnp_wire::{any_pointer, data, text};

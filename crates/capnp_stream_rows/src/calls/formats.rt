@@ -1,8 +1,8 @@
 //! Worked rows through both formats.
-use crate::readers::{self, BOTH, END};
+use crate::calls::readers::{self, BOTH, END};
 use capnp::message::{DEFAULT_READER_OPTIONS, ReaderOptions, ReaderSegments};
 use capnp::{Way, data, serialize, text, transcode, transcode_lenient};
-use capnp_calls::refusals::refusal;
+use capnp_rows::refusals::refusal;
 use std::test::Fail;
 
 // Segments [] and [1, 2, 3, 4, 5, 6, 7, 8], framed, and packed.

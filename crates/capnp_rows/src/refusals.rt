@@ -9,6 +9,14 @@ pub fn refusal<T: Drop>(returned: Result<T>) -> u8 {
     }
 }
 
+/// What is returned, or the number of a refusal.
+pub fn numbered<T>(returned: Result<T>) -> std::result::Result<T, u8> {
+    match returned {
+        Ok(returned) => Ok(returned),
+        Err(error) => Err(error.kind.number()),
+    }
+}
+
 /// The number of a refusal, and the words that come with 15; 0 for what there is not.
 pub fn allocation_refusal<T: Drop>(returned: Result<T>) -> (u8, u32) {
     match returned {

@@ -1,7 +1,6 @@
 //! Messages that are built.
 use capnp_build::allocator::Allocator;
 use capnp_build::{any_struct, data, primitive_list, text};
-use capnp_calls::refusals::allocation_refusal;
 use capnp_frame::message::ReaderSegments;
 use capnp_frame::{Error, ErrorKind, Result};
 use capnp_message::builder::Builder;
@@ -10,15 +9,9 @@ use capnp_message::scratch_space::ScratchSpaceHeapAllocator;
 use capnp_message::single_segment::SingleSegmentAllocator;
 use capnp_message::typed_builder::TypedBuilder;
 use capnp_message::typed_reader::TypedReader;
+use capnp_rows::messages::shows;
+use capnp_rows::refusals::allocation_refusal;
 use std::test::Fail;
-
-// Whether segment `id` is these bytes.
-fn shows<S: ReaderSegments>(segments: &S, id: u32, bytes: &[u8]) -> bool {
-    match segments.get_segment(id) {
-        Some(segment) => segment == bytes,
-        None => false,
-    }
-}
 
 // Whether the root is null, and its word alone is used.
 fn is_null<A: Allocator>(message: &Builder<A>) -> bool {

@@ -2,7 +2,7 @@
 use capnp::message::{Builder, Reader, ReaderOptions, SegmentArray};
 use capnp::serialize::write_canonical_message;
 use capnp::{Result, any_pointer, text};
-use capnp_calls::refusals::refusal;
+use capnp_rows::refusals::refusal;
 use std::alloc::Global;
 use std::test::Fail;
 

@@ -2,9 +2,9 @@
 use capnp_build::allocator::Allocator;
 use capnp_build::arena::builder_arena::BuilderArena;
 use capnp_build::{any_pointer, any_struct, data, primitive_list, text};
-use capnp_calls::refusals::allocation_refusal;
 use capnp_frame::message::{ReaderOptions, ReaderSegments, SegmentArray};
 use capnp_frame::{Error, ErrorKind, Result};
+use capnp_rows::refusals::allocation_refusal;
 use capnp_wire::arena::ReaderArena;
 use std::alloc::Global;
 use std::test::Fail;

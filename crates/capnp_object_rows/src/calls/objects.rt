@@ -1,8 +1,9 @@
 //! Pointers of the encoding document's shapes, whole and broken.
-use crate::refusals::refusal;
 use capnp_frame::Result;
 use capnp_frame::message::{ReaderOptions, ReaderSegments, SegmentArray};
 use capnp_frame::serialize::try_read_segments;
+use capnp_rows::limits::DEFAULT_LIMIT;
+use capnp_rows::refusals::refusal;
 use capnp_wire::any_struct::{self, StructReader};
 use capnp_wire::arena::ReaderArena;
 use capnp_wire::traits::Owned;
@@ -64,9 +65,9 @@ const SIZES: [(&[&[u8]], Option<usize>, std::result::Result<u64, u8>); 9] = [
     // a struct that holds itself
     (&[b"\0\0\0\0\0\0\x01\0\xfc\xff\xff\xff\0\0\x01\0"],        None, Err(19)),
     // lists of no words, of 536870911 nothings and of 16777216 empty structs
-    (&[b"\x01\0\0\0\xf8\xff\xff\xff"],                          Some(8 * 1024 * 1024), Err(20)),
+    (&[b"\x01\0\0\0\xf8\xff\xff\xff"],                          DEFAULT_LIMIT, Err(20)),
     (&[b"\x01\0\0\0\xf8\xff\xff\xff"],                          None, Ok(0)),
-    (&[b"\x01\0\0\0\x07\0\0\0\0\0\0\x04\0\0\0\0"],              Some(8 * 1024 * 1024), Err(20)),
+    (&[b"\x01\0\0\0\x07\0\0\0\0\0\0\x04\0\0\0\0"],              DEFAULT_LIMIT, Err(20)),
 ];
 
 pub fn root_as_text<S: ReaderSegments>(arena: &ReaderArena<S>) -> Result<text::Reader<'_>> {

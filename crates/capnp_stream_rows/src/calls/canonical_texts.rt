@@ -2,7 +2,7 @@
 use capnp::message::{DEFAULT_READER_OPTIONS, Reader, SegmentArray};
 use capnp::serialize::write_canonical_message;
 use capnp::{Result, serialize_packed, text};
-use capnp_calls::refusals::refusal;
+use capnp_rows::refusals::refusal;
 use std::test::Fail;
 
 type Expected = std::result::Result<&'static [u8], u8>;

@@ -1,8 +1,8 @@
 //! What is written through the views of builders, by its bytes.
-use crate::arenas::arena_of;
+use crate::calls::arenas::arena_of;
 use capnp_build::{any_pointer, any_struct, data, primitive_list, text};
-use capnp_calls::refusals::allocation_refusal;
 use capnp_frame::message::ReaderSegments;
+use capnp_rows::refusals::allocation_refusal;
 use std::test::Fail;
 
 #[test]

@@ -1,5 +1,5 @@
 //! Messages that are built, and written in both formats.
-use crate::formats::HELLO;
+use crate::calls::formats::HELLO;
 use capnp::any_struct::{self, StructBuilder, StructReader};
 use capnp::message::{
     AllocationStrategy, Allocator, Builder, DEFAULT_READER_OPTIONS, HeapAllocator, ReaderSegments,

@@ -1,13 +1,12 @@
 //! Messages in canonical form, and others.
+use crate::hostile_messages::joined;
 use capnp_frame::message::{ReaderOptions, SegmentArray};
-use capnp_frame::{Result, Word};
 use capnp_message::laws::canonicalize_twice;
 use capnp_message::reader::Reader;
+use capnp_rows::limits::DEFAULT_LIMIT;
+use capnp_rows::refusals::numbered;
 use capnp_wire::text;
-use std::alloc::Global;
 use std::test::Fail;
-
-const DEFAULT: Option<usize> = Some(8 * 1024 * 1024);
 
 type Is = std::result::Result<bool, u8>;
 
@@ -18,68 +17,52 @@ type Form = std::result::Result<&'static [u8], u8>;
 #[rattlefmt::skip]
 const EXPECTED: [(&[&[u8]], Option<usize>, Is, Form); 22] = [
     // "Hello, World!", within two words and not within one
-    (&[b"\x01\0\0\0\x72\0\0\0Hello, World!\0\0\0"], DEFAULT,
+    (&[b"\x01\0\0\0\x72\0\0\0Hello, World!\0\0\0"], DEFAULT_LIMIT,
         Ok(true), Ok(b"\x01\0\0\0\x72\0\0\0Hello, World!\0\0\0")),
     (&[b"\x01\0\0\0\x72\0\0\0Hello, World!\0\0\0"], Some(2),
         Ok(true), Ok(b"\x01\0\0\0\x72\0\0\0Hello, World!\0\0\0")),
     (&[b"\x01\0\0\0\x72\0\0\0Hello, World!\0\0\0"], Some(1), Err(20), Err(20)),
     // "hello world!" after a far pointer
-    (&[b"\x02\0\0\0\x01\0\0\0", b"\x01\0\0\0\x6a\0\0\0hello world!\0\0\0\0"], DEFAULT,
+    (&[b"\x02\0\0\0\x01\0\0\0", b"\x01\0\0\0\x6a\0\0\0hello world!\0\0\0\0"], DEFAULT_LIMIT,
         Ok(false), Ok(b"\x01\0\0\0\x6a\0\0\0hello world!\0\0\0\0")),
     // a struct of two words and a null pointer
-    (&[b"\0\0\0\0\x02\0\x01\0\x05\0\0\0\0\0\0\0\0\0\0\0\0\0\0\0\0\0\0\0\0\0\0\0"], DEFAULT,
+    (&[b"\0\0\0\0\x02\0\x01\0\x05\0\0\0\0\0\0\0\0\0\0\0\0\0\0\0\0\0\0\0\0\0\0\0"], DEFAULT_LIMIT,
         Ok(false), Ok(b"\0\0\0\0\x01\0\0\0\x05\0\0\0\0\0\0\0")),
     // a list of two structs of two words and a null pointer
     (&[b"\x01\0\0\0\x37\0\0\0\x08\0\0\0\x02\0\x01\0\x07\0\0\0\0\0\0\0\0\0\0\0\0\0\0\0\0\0\0\0\0\0\0\0\0\0\0\0\0\0\0\0\0\0\0\0\0\0\0\0\0\0\0\0\0\0\0\0"],
-        DEFAULT, Ok(false), Ok(b"\x01\0\0\0\x17\0\0\0\x08\0\0\0\x01\0\0\0\x07\0\0\0\0\0\0\0\0\0\0\0\0\0\0\0")),
+        DEFAULT_LIMIT, Ok(false), Ok(b"\x01\0\0\0\x17\0\0\0\x08\0\0\0\x01\0\0\0\x07\0\0\0\0\0\0\0\0\0\0\0\0\0\0\0")),
     // null, an empty struct, one past the end, no word, no segment
-    (&[b"\0\0\0\0\0\0\0\0"], DEFAULT, Ok(true), Ok(b"\0\0\0\0\0\0\0\0")),
-    (&[b"\xfc\xff\xff\xff\0\0\0\0"], DEFAULT, Ok(true), Ok(b"\xfc\xff\xff\xff\0\0\0\0")),
-    (&[b"\x04\0\0\0\0\0\0\0"], DEFAULT, Err(17), Err(17)),
-    (&[b""], DEFAULT, Err(17), Err(17)),
-    (&[], DEFAULT, Err(18), Err(18)),
+    (&[b"\0\0\0\0\0\0\0\0"], DEFAULT_LIMIT, Ok(true), Ok(b"\0\0\0\0\0\0\0\0")),
+    (&[b"\xfc\xff\xff\xff\0\0\0\0"], DEFAULT_LIMIT, Ok(true), Ok(b"\xfc\xff\xff\xff\0\0\0\0")),
+    (&[b"\x04\0\0\0\0\0\0\0"], DEFAULT_LIMIT, Err(17), Err(17)),
+    (&[b""], DEFAULT_LIMIT, Err(17), Err(17)),
+    (&[], DEFAULT_LIMIT, Err(18), Err(18)),
     // a list of no structs, whose tag is the root's word, and a struct that holds itself
-    (&[b"\0\0\0\0\0\0\x01\0\xf9\xff\xff\xff\x0f\0\0\0"], DEFAULT,
+    (&[b"\0\0\0\0\0\0\x01\0\xf9\xff\xff\xff\x0f\0\0\0"], DEFAULT_LIMIT,
         Ok(false), Ok(b"\0\0\0\0\0\0\x01\0\x01\0\0\0\x07\0\0\0\0\0\0\0\0\0\0\0")),
-    (&[b"\0\0\0\0\0\0\x01\0\xfc\xff\xff\xff\0\0\x01\0"], DEFAULT, Ok(false), Err(19)),
+    (&[b"\0\0\0\0\0\0\x01\0\xfc\xff\xff\xff\0\0\x01\0"], DEFAULT_LIMIT, Ok(false), Err(19)),
     // "A" after landing pads of one and of two words
-    (&[b"\x0a\0\0\0\0\0\0\0\x01\0\0\0\x12\0\0\0\x41\0\0\0\0\0\0\0"], DEFAULT,
+    (&[b"\x0a\0\0\0\0\0\0\0\x01\0\0\0\x12\0\0\0\x41\0\0\0\0\0\0\0"], DEFAULT_LIMIT,
         Ok(false), Ok(b"\x01\0\0\0\x12\0\0\0\x41\0\0\0\0\0\0\0")),
     (&[b"\x06\0\0\0\x01\0\0\0", b"\x02\0\0\0\x02\0\0\0\x01\0\0\0\x12\0\0\0", b"\x41\0\0\0\0\0\0\0"],
-        DEFAULT, Ok(false), Ok(b"\x01\0\0\0\x12\0\0\0\x41\0\0\0\0\0\0\0")),
+        DEFAULT_LIMIT, Ok(false), Ok(b"\x01\0\0\0\x12\0\0\0\x41\0\0\0\0\0\0\0")),
     // a byte with another after it, one bit, no elements
-    (&[b"\x01\0\0\0\x0a\0\0\0\x41\0\0\0\0\0\0\x01"], DEFAULT,
+    (&[b"\x01\0\0\0\x0a\0\0\0\x41\0\0\0\0\0\0\x01"], DEFAULT_LIMIT,
         Ok(false), Ok(b"\x01\0\0\0\x0a\0\0\0\x41\0\0\0\0\0\0\0")),
-    (&[b"\x01\0\0\0\x09\0\0\0\x01\0\0\0\0\0\0\0"], DEFAULT,
+    (&[b"\x01\0\0\0\x09\0\0\0\x01\0\0\0\0\0\0\0"], DEFAULT_LIMIT,
         Ok(true), Ok(b"\x01\0\0\0\x09\0\0\0\x01\0\0\0\0\0\0\0")),
-    (&[b"\x01\0\0\0\x07\0\0\0\0\0\0\0\0\0\0\0"], DEFAULT,
+    (&[b"\x01\0\0\0\x07\0\0\0\0\0\0\0\0\0\0\0"], DEFAULT_LIMIT,
         Ok(true), Ok(b"\x01\0\0\0\x07\0\0\0\0\0\0\0\0\0\0\0")),
     // a far pointer to no segment, a capability
-    (&[b"\x02\0\0\0\x07\0\0\0"], DEFAULT, Ok(false), Err(18)),
-    (&[b"\x03\0\0\0\0\0\0\0"], DEFAULT, Err(21), Err(21)),
+    (&[b"\x02\0\0\0\x07\0\0\0"], DEFAULT_LIMIT, Ok(false), Err(18)),
+    (&[b"\x03\0\0\0\0\0\0\0"], DEFAULT_LIMIT, Err(21), Err(21)),
     // two pointers to one word
-    (&[b"\0\0\0\0\0\0\x02\0\x04\0\0\0\x01\0\0\0\0\0\0\0\x01\0\0\0\x09\0\0\0\0\0\0\0"], DEFAULT,
+    (&[b"\0\0\0\0\0\0\x02\0\x04\0\0\0\x01\0\0\0\0\0\0\0\x01\0\0\0\x09\0\0\0\0\0\0\0"], DEFAULT_LIMIT,
         Ok(false),
         Ok(b"\0\0\0\0\0\0\x02\0\x04\0\0\0\x01\0\0\0\x04\0\0\0\x01\0\0\0\x09\0\0\0\0\0\0\0\x09\0\0\0\0\0\0\0")),
     // 536,870,911 nothings
     (&[b"\x01\0\0\0\xf8\xff\xff\xff"], None, Ok(true), Ok(b"\x01\0\0\0\xf8\xff\xff\xff")),
 ];
-
-fn number_of<T>(returned: Result<T>) -> std::result::Result<T, u8> {
-    match returned {
-        Ok(returned) => Ok(returned),
-        Err(error) => Err(error.kind.number()),
-    }
-}
-
-// The bytes of words.
-fn joined(alloc: Global, words: &[Word]) -> std::result::Result<Vec<u8>, Fail> {
-    let mut bytes = Vec::new(alloc);
-    for word in words {
-        bytes.extend_from_slice(word.bytes().as_slice())?;
-    }
-    Ok(bytes)
-}
 
 // Each is asked twice: the walks leave what is read of the message as it was.
 #[test]
@@ -90,11 +73,11 @@ fn canonical_words(rt: HostRuntime) -> std::result::Result<(), Fail> {
         let reader = Reader::new(SegmentArray::new(segments), options);
         for _time in 0..2u32 {
             assert_eq!(rt;
-                number_of(reader.is_canonical()),
+                numbered(reader.is_canonical()),
                 is_canonical,
                 "at {segments:?}"
             );
-            match number_of(reader.canonicalize(rt.alloc())) {
+            match numbered(reader.canonicalize(rt.alloc())) {
                 Ok(words) => {
                     let bytes = joined(rt.alloc(), &words)?;
                     assert_eq!(rt; Ok(bytes.as_slice()), form, "words at {segments:?}");
@@ -149,6 +132,6 @@ fn roots(rt: HostRuntime) -> std::result::Result<(), Fail> {
     options.traversal_limit_in_words(Some(3));
     let typed = Reader::new(SegmentArray::new(&hello), options).into_typed::<text::Owned>();
     assert_eq!(rt; typed.get()?.as_bytes(), b"Hello, World!".as_slice());
-    assert_eq!(rt; number_of(typed.get()).is_err(), true);
+    assert_eq!(rt; numbered(typed.get()).is_err(), true);
     Ok(())
 }

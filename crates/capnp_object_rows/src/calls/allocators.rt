@@ -1,22 +1,15 @@
 //! What allocators hand out, and what comes home.
 use capnp_build::allocator::Allocator;
 use capnp_build::segment_space::SegmentSpace;
-use capnp_frame::Result;
 use capnp_message::heap_allocator::{AllocationStrategy, HeapAllocator};
 use capnp_message::scratch_space::{ScratchSegment, ScratchSpaceHeapAllocator};
 use capnp_message::single_segment::SingleSegmentAllocator;
+use capnp_rows::refusals::refusal;
 use std::test::Fail;
 
 // The words of a segment.
 fn words<S: SegmentSpace>(segment: &S) -> usize {
     segment.bytes().len() / 8
-}
-
-fn number_of<T: Drop>(returned: Result<T>) -> u8 {
-    match returned {
-        Ok(_) => 0,
-        Err(error) => error.kind.number(),
-    }
 }
 
 #[test]
@@ -73,10 +66,10 @@ fn scratch(rt: HostRuntime) -> std::result::Result<(), Fail> {
 fn single(rt: HostRuntime) -> std::result::Result<(), Fail> {
     let mut region = [7; 16];
     let mut single = SingleSegmentAllocator::new(&mut region);
-    assert_eq!(rt; number_of(single.allocate_segment(3)), 15);
+    assert_eq!(rt; refusal(single.allocate_segment(3)), 15);
     let provided = single.allocate_segment(2)?;
     assert_eq!(rt; &provided[..], [0; 16].as_slice());
-    assert_eq!(rt; number_of(single.allocate_segment(1)), 16);
-    assert_eq!(rt; number_of(single.allocate_segment(3)), 15);
+    assert_eq!(rt; refusal(single.allocate_segment(1)), 16);
+    assert_eq!(rt; refusal(single.allocate_segment(3)), 15);
     Ok(())
 }

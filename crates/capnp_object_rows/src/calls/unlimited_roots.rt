@@ -1,6 +1,6 @@
 //! Roots of segments that are read without a traversal limit, at any depth.
-use crate::refusals::refusal;
 use capnp_frame::message::SegmentArray;
+use capnp_rows::refusals::refusal;
 use capnp_wire::{any_pointer, text};
 use std::test::Fail;
 

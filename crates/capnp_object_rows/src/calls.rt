@@ -1,0 +1,14 @@
+//! The calls of reading views, of builders and of allocators by worked bytes: what no contract says,
+//! above all that they succeed. Where a growth is refused, these tests may fail.
+mod allocators;
+mod arenas;
+mod builders;
+mod canonical_messages;
+mod canonical_words;
+mod empty_structs;
+mod given_back;
+mod objects;
+mod traversals;
+mod unlimited_roots;
+mod values;
+mod views;
