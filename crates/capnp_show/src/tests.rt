@@ -2,13 +2,13 @@
 use crate::counted::Counted;
 use crate::detected::{Look, look_at};
 use crate::messages::show_messages;
+use crate::progress::Progress;
 use crate::refusals::{Stop, refused_line};
 use crate::settings::{Form, Reading, Settings};
 use crate::shown::Showing;
 use crate::text::push_quoted;
 use capnp::message::DEFAULT_READER_OPTIONS;
 use capnp::streams::Format;
-use std::alloc::Global;
 use std::test::Fail;
 
 // A text at the root.
@@ -36,12 +36,13 @@ fn plain() -> Settings {
         has_tree: true,
         first: 9,
         limits: DEFAULT_READER_OPTIONS,
+        has_progress: false,
     }
 }
 
 // Shows the messages of these bytes.
 fn show(
-    alloc: Global,
+    rt: HostRuntime,
     settings: Settings,
     format: Format,
     bytes: &[u8],
@@ -50,18 +51,20 @@ fn show(
     let showing = Showing {
         settings,
         format,
+        input: 0,
         name: "log",
         is_named: false,
     };
     let mut source = Counted::new(bytes);
-    show_messages(alloc, showing, &mut source, shown)
+    let mut progress = Progress::new(false, None);
+    show_messages(rt, showing, &mut progress, &mut source, shown)
 }
 
 #[test]
 fn shows_objects_as_lines(rt: HostRuntime) -> Result<(), Fail> {
     let mut shown = Vec::new(rt.alloc());
-    show(rt.alloc(), plain(), Format::Framed, FAR, &mut shown)?;
-    show(rt.alloc(), plain(), Format::Framed, STRUCTS, &mut shown)?;
+    show(rt, plain(), Format::Framed, FAR, &mut shown)?;
+    show(rt, plain(), Format::Framed, STRUCTS, &mut shown)?;
     let wanted: &[u8] = b"message 0: offset 0, bytes 48, segments 2, words 4
   root: struct, data 0, pointers 1, at 0:1
     pointer 0: list, element byte, count 3, at 1:1, landing pad 1:0, words 1, text \"hi\"
@@ -83,7 +86,7 @@ fn shows_a_json_object(rt: HostRuntime) -> Result<(), Fail> {
     settings.has_hash = true;
     let mut shown = Vec::new(rt.alloc());
     show(
-        rt.alloc(),
+        rt,
         settings,
         Format::Packed,
         HELLO_PACKED,
@@ -104,11 +107,11 @@ fn keeps_to_the_limits(rt: HostRuntime) -> Result<(), Fail> {
     settings.has_hash = true;
     settings.limits.nesting_limit = 1;
     let mut shown = Vec::new(rt.alloc());
-    show(rt.alloc(), settings, Format::Framed, CYCLE, &mut shown)?;
+    show(rt, settings, Format::Framed, CYCLE, &mut shown)?;
     settings.has_hash = false;
     settings.limits.nesting_limit = 64;
     settings.limits.traversal_limit_in_words = Some(2);
-    show(rt.alloc(), settings, Format::Framed, CYCLE, &mut shown)?;
+    show(rt, settings, Format::Framed, CYCLE, &mut shown)?;
     let wanted: &[u8] = b"message 0: offset 0, bytes 24, segments 1, words 2, no canonical form: \
 objects are nested deeper than --nesting allows (NestingLimitExceeded)
   root: struct, data 0, pointers 1, at 0:1
@@ -128,21 +131,22 @@ fn counts_messages(rt: HostRuntime) -> Result<(), Fail> {
     let mut settings = plain();
     settings.form = Form::Count;
     let mut shown = Vec::new(alloc);
-    show(alloc, settings, Format::Framed, b"", &mut shown)?;
+    show(rt, settings, Format::Framed, b"", &mut shown)?;
     let mut bytes = Vec::from_slice(alloc, HELLO)?;
     bytes.extend_from_slice(FAR)?;
     let both = bytes.as_slice();
-    show(alloc, settings, Format::Framed, both, &mut shown)?;
+    show(rt, settings, Format::Framed, both, &mut shown)?;
     settings.first = 1;
-    show(alloc, settings, Format::Framed, both, &mut shown)?;
+    show(rt, settings, Format::Framed, both, &mut shown)?;
     assert_eq!(rt; shown.as_slice(), b"0\n2\n1\n".as_slice());
     Ok(())
 }
 
 // The line for the refusal of the first message of these bytes.
-fn refusal(alloc: Global, bytes: &[u8]) -> Result<String, Fail> {
+fn refusal(rt: HostRuntime, bytes: &[u8]) -> Result<String, Fail> {
+    let alloc = rt.alloc();
     let mut shown = Vec::new(alloc);
-    match show(alloc, plain(), Format::Framed, bytes, &mut shown) {
+    match show(rt, plain(), Format::Framed, bytes, &mut shown) {
         Err(
             Stop::Refused {
                 index,
@@ -156,13 +160,13 @@ fn refusal(alloc: Global, bytes: &[u8]) -> Result<String, Fail> {
 
 #[test]
 fn says_why_a_message_is_refused(rt: HostRuntime) -> Result<(), Fail> {
-    let cut = refusal(rt.alloc(), &HELLO[..30])?;
+    let cut = refusal(rt, &HELLO[..30])?;
     assert_eq!(rt;
         cut.as_str(),
         "capnp_show: log: message 0 at byte 0: \
 the input ends within a message (FailedToFillTheWholeBuffer)\n"
     );
-    let packed = refusal(rt.alloc(), HELLO_PACKED)?;
+    let packed = refusal(rt, HELLO_PACKED)?;
     assert_eq!(rt;
         packed.as_str(),
         "capnp_show: log: message 0 at byte 0: \
