@@ -52,8 +52,12 @@ fn formed<'a>(alloc: Global, command: Command<'a>) -> Result<Command<'a>, AllocE
         "Show each message as a JSON object, on a line",
     );
     let count = flag(alloc, "count", "Show the number of messages alone");
-    let html = flag(alloc, "html", "Draw the messages, as a page that stands alone")
-        .conflicts_with_all(&["tree", "json", "count"])?;
+    let html = flag(
+        alloc,
+        "html",
+        "Draw the messages, as a page that stands alone",
+    )
+    .conflicts_with_all(&["tree", "json", "count"])?;
     command
         .arg(hash)?
         .arg(tree)?

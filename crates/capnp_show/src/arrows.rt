@@ -11,10 +11,15 @@ use std::fmt::Write;
 
 // Sizes in pixels.
 const NUMBER_WIDTH: u64 = 44;
+
 const CELL_WIDTH: u64 = 142;
+
 const CELL_HEIGHT: u64 = 26;
+
 const COLUMN_GAP: u64 = 30;
+
 const ROW_GAP: u64 = 14;
+
 const HEADING_HEIGHT: u64 = 34;
 
 // The left of the first cell of a row.

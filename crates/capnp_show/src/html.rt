@@ -3,7 +3,7 @@ use crate::arrows::{part_height, push_sizes};
 use crate::drawn::{Anchor, push_object_classes};
 use crate::markup::push_markup;
 use crate::refusals::push_refusal;
-use crate::style::STYLE;
+use crate::style::{LEGEND, STYLE};
 use capnp::ErrorKind;
 use std::alloc::AllocError;
 use std::fmt::Write;
@@ -16,7 +16,8 @@ pub fn push_page(text: &mut String) -> Result<(), AllocError> {
     )?;
     push_sizes(text)?;
     text.push_str(STYLE)?;
-    text.push_str("</style>\n</head>\n<body>\n")
+    text.push_str("</style>\n</head>\n<body>\n")?;
+    text.push_str(LEGEND)
 }
 
 /// Adds the end of a page.

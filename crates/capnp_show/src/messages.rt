@@ -40,8 +40,9 @@ pub fn show_messages<R: BufRead + Drop, W: Write>(
                 count = index + 1;
                 let bytes = taken.saturating_sub(offset);
                 let listed = listed(index, offset, bytes, message.get_segments());
-                show_message(alloc, showing, &listed, &message, &mut text, sink)
-                    .map_err(Stop::Unwritten)?;
+                show_message(alloc, showing, &listed, &message, &mut text, sink).map_err(
+                    Stop::Unwritten,
+                )?;
                 say_progress(rt, showing.name, progress, taken, count).map_err(Stop::Unwritten)?;
             }
             Err(error) => {

@@ -222,7 +222,10 @@ fn role_of(shape: Shape, index: u64) -> Role {
 // What the word of a list of structs is that stands so many words after its tag.
 fn role_in_element(size: StructSize, count: u64, after_tag: u64) -> Role {
     let words = size.words();
-    if words == 0 || after_tag >= count.saturating_mul(words) || after_tag % words < size.data_words {
+    if words == 0
+        || after_tag >= count.saturating_mul(words)
+        || after_tag % words < size.data_words
+    {
         Role::Data
     } else {
         Role::Pointer

@@ -8,18 +8,28 @@ h2 { margin: 0 0 4px; font-size: 15px; font-weight: 600; overflow-wrap: anywhere
 .message { margin: 0 0 28px; padding: 14px 18px; border: 1px solid #d5d9de; border-radius: 8px;
   width: max-content; min-width: var(--drawing-width); max-width: 96%; overflow-x: auto; }
 .large, .more { color: #666; }
+.legend { margin: 0 0 20px; color: #555; font-size: 13px; }
+.legend span { display: inline-block; margin: 0 6px 0 0; padding: 0 8px; border: 1px solid #1f6fb8; border-radius: 3px;
+  background: #dcebfb; color: #222; line-height: 22px; }
+.legend .key-pointer { color: #1f6fb8; font-weight: 700; }
+.legend .key-root { border: 2px solid #222; background: #fff; font-weight: 700; line-height: 20px; }
+.legend .key-null { border-color: #9dc2e6; background: #edf4fc; color: #79a9d6; }
+.legend .key-data { border-color: transparent; }
+.legend .key-tag { border-style: dashed; font-style: italic; }
+.legend .key-landing { border: 3px double #1f6fb8; line-height: 18px; }
+.legend .key-free { border: 1px dashed #d5d9de; background: #fff; color: #a3a9b0; }
+.legend .key-refused { border-color: #c4001d; background: #ffdcdc; color: #c4001d; font-weight: 700; }
 p.refused { color: #c4001d; font-weight: 600; }
 .drawing { position: relative; width: var(--drawing-width); }
 .arrows { position: absolute; left: 0; top: 0; pointer-events: none; }
 .arrows path { fill: none; stroke: var(--line); stroke-width: 1.6; stroke-linejoin: round; stroke-linecap: round; }
 h3 { box-sizing: border-box; height: var(--heading-height); margin: 0; padding-top: 10px;
   font-size: 13px; line-height: 24px; font-weight: 600; color: #555; }
-.segment { table-layout: fixed; width: var(--drawing-width); border-collapse: separate;
-  border-spacing: var(--column-gap) var(--row-gap); margin: 0; }
+.segment { border-collapse: separate; border-spacing: var(--column-gap) var(--row-gap); margin: 0; }
 .segment th, .segment td { box-sizing: border-box; height: var(--cell-height); padding: 0; white-space: nowrap;
   font: 13px/24px ui-monospace, 'DejaVu Sans Mono', Menlo, Consolas, monospace; }
 .segment th { width: var(--number-width); text-align: right; color: #8a929b; font-weight: 400; }
-.segment td { width: var(--cell-width); text-align: center; border-radius: 3px; background: var(--fill);
+.segment td { width: var(--cell-width); max-width: var(--cell-width); overflow: hidden; text-align: center; border-radius: 3px; background: var(--fill);
   border: 1px solid transparent; }
 .segment td a { color: inherit; text-decoration: none; }
 .segment td a:hover { text-decoration: underline; }
@@ -43,4 +53,13 @@ h3 { box-sizing: border-box; height: var(--heading-height); margin: 0; padding-t
 .c5 { --fill: #fbe0ee; --line: #b93481; }
 .c6 { --fill: #f3efc9; --line: #857400; }
 .c7 { --fill: #e6e1dc; --line: #7a5a40; }
+";
+
+/// What the looks of words mean.
+pub const LEGEND: &str = "\
+<p class=\"legend\"><span class=\"key-root\">root pointer</span><span class=\"key-pointer\">pointer</span>\
+<span class=\"key-null\">null pointer</span><span class=\"key-data\">data</span>\
+<span class=\"key-tag\">tag of a list of structs</span><span class=\"key-landing\">landing pad</span>\
+<span class=\"key-free\">of no object</span><span class=\"key-refused\">refused pointer</span>\
+Each word as its 8 bytes; each object in a colour.</p>
 ";

@@ -18,17 +18,17 @@ const HELLO: &[u8] = b"\0\0\0\0\x03\0\0\0\x01\0\0\0\x72\0\0\0Hello, World!\0\0\0
 const HELLO_PACKED: &[u8] = b"\x10\x03\x11\x01\x72\xffHello, W\0\x1forld!";
 
 // A struct whose pointer is far, of two segments.
-const FAR: &[u8] = b"\x01\0\0\0\x02\0\0\0\x02\0\0\0\0\0\0\0\0\0\0\0\0\0\x01\0\
+pub const FAR: &[u8] = b"\x01\0\0\0\x02\0\0\0\x02\0\0\0\0\0\0\0\0\0\0\0\0\0\x01\0\
 \x02\0\0\0\x01\0\0\0\x01\0\0\0\x1a\0\0\0hi\0\0\0\0\0\0";
 
 // Two structs of a list, each a number and a text.
-const STRUCTS: &[u8] = b"\0\0\0\0\x07\0\0\0\x01\0\0\0\x27\0\0\0\x08\0\0\0\x01\0\x01\0\
+pub const STRUCTS: &[u8] = b"\0\0\0\0\x07\0\0\0\x01\0\0\0\x27\0\0\0\x08\0\0\0\x01\0\x01\0\
 \x07\0\0\0\0\0\0\0\0\0\0\0\0\0\0\0\x08\0\0\0\0\0\0\0\x01\0\0\0\x12\0\0\0a\0\0\0\0\0\0\0";
 
 // A struct whose pointer leads to the struct that it stands in.
-const CYCLE: &[u8] = b"\0\0\0\0\x02\0\0\0\0\0\0\0\0\0\x01\0\xfc\xff\xff\xff\0\0\x01\0";
+pub const CYCLE: &[u8] = b"\0\0\0\0\x02\0\0\0\0\0\0\0\0\0\x01\0\xfc\xff\xff\xff\0\0\x01\0";
 
-fn plain() -> Settings {
+pub fn plain() -> Settings {
     Settings {
         reading: Reading::Framed,
         form: Form::Lines,
@@ -41,7 +41,7 @@ fn plain() -> Settings {
 }
 
 // Shows the messages of these bytes.
-fn show(
+pub fn show(
     rt: HostRuntime,
     settings: Settings,
     format: Format,
@@ -85,13 +85,7 @@ fn shows_a_json_object(rt: HostRuntime) -> Result<(), Fail> {
     settings.form = Form::Json;
     settings.has_hash = true;
     let mut shown = Vec::new(rt.alloc());
-    show(
-        rt,
-        settings,
-        Format::Packed,
-        HELLO_PACKED,
-        &mut shown,
-    )?;
+    show(rt, settings, Format::Packed, HELLO_PACKED, &mut shown)?;
     let wanted: &[u8] =
         b"{\"file\":\"log\",\"index\":0,\"offset\":0,\"bytes\":21,\"segments\":1,\"words\":3,\
 \"sha256\":\"761b8e3a3c1b60eef738be817129f1fee3b1696d5ccd9224c06875442cb8cfd7\",\
