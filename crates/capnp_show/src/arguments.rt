@@ -15,7 +15,7 @@ const EXAMPLES: &str = "Examples:
   capnp_show --packed --tree < log   its objects, of packed messages
   capnp_show --hash a b              the SHA-256 of each canonical form
   capnp_show --json --first 1 log    the first message, as a JSON object
-  capnp_show --html log > page.html  a drawing of each message, for a browser";
+  capnp_show --html log > log.html   a page with a drawing of each message";
 
 /// The program's command.
 pub fn command<'a>(alloc: Global) -> Result<Command<'a>, AllocError> {

@@ -1,5 +1,5 @@
 //! How far the reading of a large input is.
-ghost use Rattle.std.specs.Prelude.{◌≡◌, ◌≤◌, ◌<◌, ◌/◌, ◌↔◌, ◌×◌, IfSome, IsSome, option_map};
+ghost use Rattle.std.specs.Prelude.{◌≡◌, ◌≤◌, ◌<◌, ◌/◌, ◌↔◌, ◌×◌, IfSome, IsSome, IsTrue, None};
 
 use crate::refusals::named_line;
 use std::alloc::{AllocError, Global};
@@ -23,7 +23,10 @@ pub struct Progress {
 impl Progress {
     /// Nothing is read yet of an input of so many bytes, where that is known. No line is due of an input
     /// of at most `STEP_BYTES`, nor where none is wanted.
-    pub fn new(is_wanted: bool, total: Option<u64>) -> Progress {
+    pub fn new(is_wanted: bool, total: Option<u64>) -> Progress
+        ensures small { IfSome total (λ bytes. bytes ≤ STEP_BYTES → result.next ≡ None) }
+        ensures wanted { IfSome result.next (λ next. IsTrue is_wanted × (next ≡ STEP_BYTES)) }
+    {
         let is_small = total.is_some_and(|bytes| bytes <= STEP_BYTES);
         let next = if is_wanted && !is_small {
             Some(STEP_BYTES)

@@ -1,4 +1,6 @@
 //! What is shown of a message, and of an input.
+ghost use Rattle.std.specs.Prelude.{◌<◌, OnOk, length};
+
 use crate::drawing::{MOST_WORDS, show_drawing};
 use crate::drawn::Anchor;
 use crate::hash::hash_of;
@@ -154,7 +156,9 @@ fn show_tree<S: ReaderSegments, W: Write>(
 }
 
 /// Writes a text that has grown to `TEXT_BYTES`, and clears it.
-pub fn write_full<W: Write>(text: &mut String, sink: &mut W) -> Result<()> {
+pub fn write_full<W: Write>(text: &mut String, sink: &mut W) -> Result<()>
+    ensures { OnOk result (length text.new < TEXT_BYTES) }
+{
     if text.len() >= TEXT_BYTES {
         sink.write_all(text.as_bytes())?;
         text.clear();

@@ -4,11 +4,11 @@
 pub const STYLE: &str = "\
 body { margin: 24px 32px 64px; background: #fff; color: #222; font: 15px/1.45 system-ui, sans-serif; }
 h1 { margin: 32px 0 8px; font-size: 22px; overflow-wrap: anywhere; }
-h2 { margin: 0 0 4px; font-size: 15px; font-weight: 600; overflow-wrap: anywhere; }
+h2 { margin: 0 0 4px; font-size: 14px; font-weight: 600; overflow-wrap: anywhere; }
 .message { margin: 0 0 28px; padding: 14px 18px; border: 1px solid #d5d9de; border-radius: 8px;
   width: max-content; min-width: var(--drawing-width); max-width: 96%; overflow-x: auto; }
 .large, .more { color: #666; }
-.legend { margin: 0 0 20px; color: #555; font-size: 13px; }
+.legend { margin: 0 0 20px; color: #555; font-size: 13px; line-height: 28px; }
 .legend span { display: inline-block; margin: 0 6px 0 0; padding: 0 8px; border: 1px solid #1f6fb8; border-radius: 3px;
   background: #dcebfb; color: #222; line-height: 22px; }
 .legend .key-pointer { color: #1f6fb8; font-weight: 700; }
@@ -61,5 +61,6 @@ pub const LEGEND: &str = "\
 <span class=\"key-null\">null pointer</span><span class=\"key-data\">data</span>\
 <span class=\"key-tag\">tag of a list of structs</span><span class=\"key-landing\">landing pad</span>\
 <span class=\"key-free\">of no object</span><span class=\"key-refused\">refused pointer</span>\
-Each word as its 8 bytes; each object in a colour.</p>
+<br>Each word is shown as its 8 bytes, and each object in a colour. A pointer is a link; hold the mouse on a word to \
+read what it is.</p>
 ";
