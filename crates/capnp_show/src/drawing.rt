@@ -1,4 +1,6 @@
 //! The drawings of a page.
+ghost use Rattle.std.specs.Prelude.{◌↔◌, ◌≤◌, IsTrue};
+
 use crate::arrows::Grid;
 use crate::drawn::{Anchor, ROW_WORDS, push_row};
 use crate::html::{push_no_root, push_object, push_part};
@@ -12,8 +14,15 @@ use capnp::io::Write;
 use capnp::message::{ReaderOptions, ReaderSegments};
 use std::alloc::Global;
 
-/// How many words a message has at most that is drawn.
-pub const MOST_WORDS: u64 = 4096;
+// How many words a message has at most that is drawn.
+const MOST_WORDS: u64 = 4096;
+
+/// Whether a message of so many words is drawn.
+pub fn is_drawn(words: u64) -> bool
+    ensures { IsTrue result ↔ (words ≤ MOST_WORDS) }
+{
+    words <= MOST_WORDS
+}
 
 /// Shows the drawing of a message, and the list of its objects.
 pub fn show_drawing<S: ReaderSegments, W: Write>(

@@ -1,4 +1,6 @@
 //! Which object each word of a message belongs to, and where its pointers lead.
+ghost use Rattle.std.specs.Prelude.{◌≡◌};
+
 use crate::tree::{Found, Label, Node, Walk};
 use crate::words::{ElementSize, LandingPad, Object, Place, Shape, StructSize};
 use capnp::ErrorKind;
@@ -27,6 +29,19 @@ pub enum Owner {
     Root,
     /// Of the object of this number, as the walk comes to them, from 0 on.
     Object(u64, Role),
+}
+
+impl Owner {
+    /// Whose a word is once another claims it: the first one keeps it.
+    fn claimed_by(self, claimant: Owner) -> Owner
+        ensures claimed { self ≡ Owner.Free → result ≡ claimant }
+        ensures kept { (self ≡ Owner.Free → ⊥) → result ≡ self }
+    {
+        match self {
+            Owner::Free => claimant,
+            owner => owner,
+        }
+    }
 }
 
 /// Where the pointer at a word leads.
@@ -164,9 +179,7 @@ impl Owners {
         let Some(word) = self.word_mut(place) else {
             return false;
         };
-        if word.owner == Owner::Free {
-            word.owner = owner;
-        }
+        word.owner = word.owner.claimed_by(owner);
         true
     }
 

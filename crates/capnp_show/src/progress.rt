@@ -1,5 +1,5 @@
 //! How far the reading of a large input is.
-ghost use Rattle.std.specs.Prelude.{◌≡◌, ◌≤◌, ◌<◌, ◌/◌, ◌↔◌, ◌×◌, IfSome, IsSome, IsTrue, None};
+ghost use Rattle.std.specs.Prelude.{◌≡◌, ◌≤◌, ◌<◌, ◌/◌, ◌↔◌, IfSome, IsSome, IsTrue, None};
 
 use crate::refusals::named_line;
 use std::alloc::{AllocError, Global};

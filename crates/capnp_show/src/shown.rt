@@ -1,7 +1,7 @@
 //! What is shown of a message, and of an input.
 ghost use Rattle.std.specs.Prelude.{◌<◌, OnOk, length};
 
-use crate::drawing::{MOST_WORDS, show_drawing};
+use crate::drawing::{is_drawn, show_drawing};
 use crate::drawn::Anchor;
 use crate::hash::hash_of;
 use crate::listing::Listed;
@@ -118,11 +118,11 @@ fn show_section<S: ReaderSegments, W: Write>(
         listing::push_hash(text, &hash_of(alloc, message)?)?;
     }
     text.push_str("</h2>\n")?;
-    if listed.words > MOST_WORDS {
-        html::push_large(text)?;
-    } else {
+    if is_drawn(listed.words) {
         let segments = message.get_segments();
         show_drawing(alloc, showing.settings.limits, anchor, segments, text, sink)?;
+    } else {
+        html::push_large(text)?;
     }
     text.push_str("</section>")?;
     Ok(())
