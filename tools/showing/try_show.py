@@ -242,6 +242,7 @@ def try_help():
         "capnp_show --packed --tree < log": ("packed", "".join(map(lines_of, packed_rows, trees))),
         "capnp_show --hash a b": ("canonical", f"a: {hashed}b: {hashed}"),
         "capnp_show --json --first 1 log": ("framed", json.dumps({"file": "log", **rows[0]}, separators=(",", ":")) + "\n"),
+        "capnp_show --html log > log.html": ("framed", ""),
     }
     folder = os.path.dirname(PROGRAM)
     for line in help_text.partition("Examples:\n")[2].splitlines():

@@ -14,7 +14,8 @@ const EXAMPLES: &str = "Examples:
   capnp_show log                     a line for each message of the file log
   capnp_show --packed --tree < log   its objects, of packed messages
   capnp_show --hash a b              the SHA-256 of each canonical form
-  capnp_show --json --first 1 log    the first message, as a JSON object";
+  capnp_show --json --first 1 log    the first message, as a JSON object
+  capnp_show --html log > log.html   a page with a drawing of each message";
 
 /// The program's command.
 pub fn command<'a>(alloc: Global) -> Result<Command<'a>, AllocError> {
@@ -51,7 +52,18 @@ fn formed<'a>(alloc: Global, command: Command<'a>) -> Result<Command<'a>, AllocE
         "Show each message as a JSON object, on a line",
     );
     let count = flag(alloc, "count", "Show the number of messages alone");
-    command.arg(hash)?.arg(tree)?.arg(json)?.arg(count)
+    let html = flag(
+        alloc,
+        "html",
+        "Draw the messages, as a page that stands alone",
+    )
+    .conflicts_with_all(&["tree", "json", "count"])?;
+    command
+        .arg(hash)?
+        .arg(tree)?
+        .arg(json)?
+        .arg(count)?
+        .arg(html)
 }
 
 // How much of it.
@@ -74,7 +86,12 @@ fn limited<'a>(alloc: Global, command: Command<'a>) -> Result<Command<'a>, Alloc
         i32::MAX as u64,
         "Follow pointers so deep [default: 64]",
     );
-    command.arg(first)?.arg(words)?.arg(nesting)
+    let progress = flag(
+        alloc,
+        "progress",
+        "Tell how far the reading is, after each 64 MB",
+    );
+    command.arg(first)?.arg(words)?.arg(nesting)?.arg(progress)
 }
 
 fn flag<'a>(alloc: Global, name: &'a str, help: &'a str) -> Arg<'a> {
@@ -101,6 +118,7 @@ pub fn settings_of(matches: &ArgMatches<'_>) -> Settings {
         has_tree: matches.get_flag("tree"),
         first: matches.get_one::<u64>("first").unwrap_or(u64::MAX),
         limits: limits_of(matches),
+        has_progress: matches.get_flag("progress"),
     }
 }
 
@@ -119,6 +137,8 @@ fn form_of(matches: &ArgMatches<'_>) -> Form {
         Form::Count
     } else if matches.get_flag("json") {
         Form::Json
+    } else if matches.get_flag("html") {
+        Form::Html
     } else {
         Form::Lines
     }

@@ -1,16 +1,19 @@
 //! The files that are shown, one by one.
 use crate::counted::Counted;
 use crate::detected::detect;
+use crate::html::{push_end, push_input, push_page};
 use crate::messages::show_messages;
+use crate::progress::Progress;
 use crate::refusals::{Stop, detected_line, refused_line, unopened_line};
-use crate::settings::{Reading, Settings};
+use crate::settings::{Form, Reading, Settings};
 use crate::shown::Showing;
 use capnp::Result;
 use capnp::devices::Input;
 use capnp::io::{BufRead, Write};
 use capnp::streams::Format;
 use std::fs;
-use std::io::Read;
+use std::fs::File;
+use std::io::{IsTerminal, Read};
 
 /// Shows the messages of the files of these names, or of standard input where none is named.
 ///
@@ -22,32 +25,63 @@ pub fn show_files<W: Write>(
     names: &[&str],
     sink: &mut W,
 ) -> Result<bool> {
-    let mut is_whole = true;
-    if names.is_empty() {
-        return show_file(rt, settings, "-", false, sink);
+    if settings.form != Form::Html {
+        return show_each(rt, settings, names, sink);
     }
-    let is_named = names.len() > 1;
+    let mut text = String::new(rt.alloc());
+    push_page(&mut text)?;
+    sink.write_all(text.as_bytes())?;
+    let is_whole = show_each(rt, settings, names, sink)?;
+    text.clear();
+    push_end(&mut text)?;
+    sink.write_all(text.as_bytes())?;
+    Ok(is_whole)
+}
+
+// Shows the messages of each file.
+fn show_each<W: Write>(
+    rt: HostRuntime,
+    settings: Settings,
+    names: &[&str],
+    sink: &mut W,
+) -> Result<bool> {
+    let mut showing = Showing {
+        settings,
+        format: Format::Framed,
+        input: 0,
+        name: "-",
+        is_named: names.len() > 1,
+    };
+    if names.is_empty() {
+        return show_file(rt, showing, sink);
+    }
+    let mut is_whole = true;
     for name in names {
-        if !show_file(rt, settings, name, is_named, sink)? {
+        showing.name = name;
+        if !show_file(rt, showing, sink)? {
             is_whole = false;
         }
+        showing.input = showing.input.saturating_add(1);
     }
     Ok(is_whole)
 }
 
-// Shows the messages of one file.
-fn show_file<W: Write>(
-    rt: HostRuntime,
-    settings: Settings,
-    name: &str,
-    is_named: bool,
-    sink: &mut W,
-) -> Result<bool> {
+// Shows the messages of one file, or of standard input where its name is `-`.
+fn show_file<W: Write>(rt: HostRuntime, showing: Showing<'_>, sink: &mut W) -> Result<bool> {
+    let mut showing = showing;
+    let name = showing.name;
     if name == "-" {
-        return show_device(rt, settings, "standard input", is_named, rt.stdin(), sink);
+        showing.name = "standard input";
+        show_name(rt, showing, sink)?;
+        let progress = Progress::new(showing.settings.has_progress, None);
+        return show_device(rt, showing, progress, rt.stdin(), sink);
     }
+    show_name(rt, showing, sink)?;
     match fs::open(&rt, name) {
-        Ok(file) => show_device(rt, settings, name, is_named, file, sink),
+        Ok(file) => {
+            let progress = progress_of(rt, showing.settings, &file);
+            show_device(rt, showing, progress, file, sink)
+        }
         Err(error) => {
             let line = unopened_line(rt.alloc(), name, &error)?;
             let _ = eprint!(rt; "{line}");
@@ -56,71 +90,78 @@ fn show_file<W: Write>(
     }
 }
 
+// Shows the name of an input where a page is shown.
+fn show_name<W: Write>(rt: HostRuntime, showing: Showing<'_>, sink: &mut W) -> Result<()> {
+    if showing.settings.form != Form::Html {
+        return Ok(());
+    }
+    let mut text = String::new(rt.alloc());
+    push_input(&mut text, showing.name)?;
+    sink.write_all(text.as_bytes())
+}
+
+// How the reading of a file is told: for regular files also where standard error is a terminal.
+fn progress_of(rt: HostRuntime, settings: Settings, file: &File) -> Progress {
+    let size = match file.metadata() {
+        Ok(metadata) if metadata.is_file() => Some(metadata.len()),
+        _ => None,
+    };
+    let is_wanted = settings.has_progress || (size.is_some() && rt.stderr().is_terminal());
+    Progress::new(is_wanted, size)
+}
+
 // Shows the messages of a device, in the format that was asked for.
 fn show_device<D: Read + Drop, W: Write>(
     rt: HostRuntime,
-    settings: Settings,
-    name: &str,
-    is_named: bool,
+    showing: Showing<'_>,
+    progress: Progress,
     device: D,
     sink: &mut W,
 ) -> Result<bool> {
     let alloc = rt.alloc();
-    let format = match settings.reading {
-        Reading::Framed => Format::Framed,
-        Reading::Packed => Format::Packed,
-        Reading::Detected => {
-            return show_detected(rt, settings, name, is_named, device, sink);
-        }
-    };
-    let showing = Showing {
-        settings,
-        format,
-        name,
-        is_named,
-    };
-    show_source(rt, showing, Input::new(alloc, device)?, sink)
+    let mut showing = showing;
+    match showing.settings.reading {
+        Reading::Framed => {}
+        Reading::Packed => showing.format = Format::Packed,
+        Reading::Detected => return show_detected(rt, showing, progress, device, sink),
+    }
+    show_source(rt, showing, progress, Input::new(alloc, device)?, sink)
 }
 
 // Shows the messages of a device, in the format that its first bytes tell, and says which.
 fn show_detected<D: Read + Drop, W: Write>(
     rt: HostRuntime,
-    settings: Settings,
-    name: &str,
-    is_named: bool,
+    showing: Showing<'_>,
+    progress: Progress,
     device: D,
     sink: &mut W,
 ) -> Result<bool> {
     let alloc = rt.alloc();
+    let mut showing = showing;
     let mut device = device;
     let mut front = Vec::new(alloc);
-    let format = detect(&mut device, &mut front, settings.limits)?;
-    let seen = match format {
+    showing.format = detect(&mut device, &mut front, showing.settings.limits)?;
+    let seen = match showing.format {
         Format::Framed => "framed",
         Format::Packed => "packed",
     };
-    let line = detected_line(alloc, name, seen)?;
+    let line = detected_line(alloc, showing.name, seen)?;
     let _ = eprint!(rt; "{line}");
-    let showing = Showing {
-        settings,
-        format,
-        name,
-        is_named,
-    };
     let whole = front.as_slice().chain(device);
-    show_source(rt, showing, Input::new(alloc, whole)?, sink)
+    show_source(rt, showing, progress, Input::new(alloc, whole)?, sink)
 }
 
 // Shows the messages of a source, and says where it stops.
 fn show_source<R: BufRead + Drop, W: Write>(
     rt: HostRuntime,
     showing: Showing<'_>,
+    progress: Progress,
     source: R,
     sink: &mut W,
 ) -> Result<bool> {
-    let alloc = rt.alloc();
+    let mut progress = progress;
     let mut source = Counted::new(source);
-    match show_messages(alloc, showing, &mut source, sink) {
+    match show_messages(rt, showing, &mut progress, &mut source, sink) {
         Ok(()) => Ok(true),
         Err(
             Stop::Refused {
@@ -129,7 +170,7 @@ fn show_source<R: BufRead + Drop, W: Write>(
                 error,
             },
         ) => {
-            let line = refused_line(alloc, showing.name, index, offset, &error)?;
+            let line = refused_line(rt.alloc(), showing.name, index, offset, &error)?;
             let _ = eprint!(rt; "{line}");
             Ok(false)
         }

@@ -1,6 +1,6 @@
 //! Messages as lines.
 use crate::hash::Hash;
-use crate::refusals::sentence;
+use crate::refusals::{push_refusal, sentence};
 use crate::text::{push_escaped, push_quoted, text_in};
 use crate::tree::{Found, Label, Node};
 use crate::words::{ElementSize, Object, Place, Shape, StructSize, bytes_of};
@@ -69,6 +69,15 @@ pub fn push_node<S: ReaderSegments>(
     for _ in 0..node.depth.saturating_add(1) {
         text.push_str("  ")?;
     }
+    push_node_text(text, segments, node)
+}
+
+/// Adds the line of a node, without the blanks at its front and its end.
+pub fn push_node_text<S: ReaderSegments>(
+    text: &mut String,
+    segments: &S,
+    node: &Node,
+) -> Result<(), AllocError> {
     match node.label {
         Label::Root => text.push_str("root: ")?,
         Label::Pointer(index) => write!(text, "pointer {index}: ")?,
@@ -91,10 +100,7 @@ fn push_found<S: ReaderSegments>(
             push_size(text, size)?;
             push_place(text, place)
         }
-        Found::Refused(kind) => {
-            let said = sentence(kind);
-            write!(text, "refused, since {said} ({kind})")
-        }
+        Found::Refused(kind) => push_refusal(text, kind),
     }
 }
 

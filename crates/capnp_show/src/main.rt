@@ -5,16 +5,26 @@ ghost use Rattle.std.specs.Prelude.{◌≡◌, if◌then◌else◌};
 ghost use Rattle.std.specs.Process.{exit_status};
 
 mod arguments;
+mod arrows;
 mod counted;
 mod detected;
+mod drawing;
+mod drawn;
 mod files;
 mod hash;
+mod html;
 mod json;
 mod listing;
+mod markup;
 mod messages;
+mod owners;
+#[cfg(test)]
+mod page_tests;
+mod progress;
 mod refusals;
 mod settings;
 mod shown;
+mod style;
 #[cfg(test)]
 mod tests;
 mod text;

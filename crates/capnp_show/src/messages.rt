@@ -6,6 +6,7 @@ ghost use Rattle.capnp.specs.Streams.{rules_of};
 
 use crate::counted::Counted;
 use crate::listing::Listed;
+use crate::progress::Progress;
 use crate::refusals::Stop;
 use crate::settings::Form;
 use crate::shown::{Showing, show_count, show_message};
@@ -20,11 +21,13 @@ use std::alloc::Global;
 ///
 /// What is shown of the messages before a refusal stays written.
 pub fn show_messages<R: BufRead + Drop, W: Write>(
-    alloc: Global,
+    rt: HostRuntime,
     showing: Showing<'_>,
+    progress: &mut Progress,
     source: &mut Counted<R>,
     sink: &mut W,
 ) -> std::result::Result<(), Stop> {
+    let alloc = rt.alloc();
     let mut text = String::new(alloc);
     let mut outcome = Ok(());
     let mut count = 0;
@@ -33,14 +36,14 @@ pub fn show_messages<R: BufRead + Drop, W: Write>(
         match next_message(alloc, showing.format, source, showing.settings.limits) {
             Ok(None) => break,
             Ok(Some(message)) => {
-                let bytes = source.taken().saturating_sub(offset);
-                let listed = listed(index, offset, bytes, message.get_segments());
-                if let Err(error) = show_message(
-                    alloc, showing, &listed, &message, &mut text, sink,
-                ) {
-                    return Err(Stop::Unwritten(error));
-                }
+                let taken = source.taken();
                 count = index + 1;
+                let bytes = taken.saturating_sub(offset);
+                let listed = listed(index, offset, bytes, message.get_segments());
+                show_message(alloc, showing, &listed, &message, &mut text, sink).map_err(
+                    Stop::Unwritten,
+                )?;
+                say_progress(rt, showing.name, progress, taken, count).map_err(Stop::Unwritten)?;
             }
             Err(error) => {
                 outcome = Err(Stop::Refused {
@@ -52,12 +55,25 @@ pub fn show_messages<R: BufRead + Drop, W: Write>(
             }
         }
     }
-    if showing.settings.form == Form::Count
-        && let Err(error) = show_count(showing, count, &mut text, sink)
-    {
-        return Err(Stop::Unwritten(error));
+    if showing.settings.form == Form::Count {
+        show_count(showing, count, &mut text, sink).map_err(Stop::Unwritten)?;
     }
     outcome
+}
+
+// Says on standard error how far the reading is, where a line is due.
+fn say_progress(
+    rt: HostRuntime,
+    name: &str,
+    progress: &mut Progress,
+    taken: u64,
+    messages: u64,
+) -> Result<()> {
+    if let Some(megabytes) = progress.after(taken) {
+        let line = progress.line(rt.alloc(), name, megabytes, messages)?;
+        let _ = eprint!(rt; "{line}");
+    }
+    Ok(())
 }
 
 /// Reads the next message of a stream of this format.

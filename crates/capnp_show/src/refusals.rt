@@ -41,6 +41,12 @@ pub fn sentence(kind: ErrorKind) -> &'static str {
     }
 }
 
+/// Adds what is said of a pointer that is refused.
+pub fn push_refusal(text: &mut String, kind: ErrorKind) -> Result<(), AllocError> {
+    let said = sentence(kind);
+    write!(text, "refused, since {said} ({kind})")
+}
+
 /// Why the messages of an input are not shown to its end.
 #[derive(Debug, Drop)]
 pub enum Stop {
@@ -82,8 +88,8 @@ pub fn detected_line(alloc: Global, name: &str, seen: &str) -> Result<String, Al
     Ok(line)
 }
 
-// The front of a line about an input.
-fn named_line(alloc: Global, name: &str) -> Result<String, AllocError> {
+/// The front of a line about an input.
+pub fn named_line(alloc: Global, name: &str) -> Result<String, AllocError> {
     let mut line = String::from_str(alloc, "capnp_show: ")?;
     push_escaped(&mut line, name)?;
     line.push_str(": ")?;

@@ -17,6 +17,8 @@ pub enum Form {
     Lines,
     /// A JSON object for each message.
     Json,
+    /// A page with a drawing of each message.
+    Html,
     /// The number of messages alone.
     Count,
 }
@@ -33,4 +35,6 @@ pub struct Settings {
     /// How many messages of each file are shown at most.
     pub first: u64,
     pub limits: ReaderOptions,
+    /// Whether standard error says how far the reading of each large input is.
+    pub has_progress: bool,
 }

@@ -1,9 +1,13 @@
 //! What is shown of a message, and of an input.
+ghost use Rattle.std.specs.Prelude.{◌<◌, OnOk, length};
+
+use crate::drawing::{is_drawn, show_drawing};
+use crate::drawn::Anchor;
 use crate::hash::hash_of;
 use crate::listing::Listed;
 use crate::settings::{Form, Settings};
 use crate::tree::Walk;
-use crate::{json, listing};
+use crate::{html, json, listing};
 use capnp::Result;
 use capnp::io::Write;
 use capnp::message::{Reader, ReaderSegments};
@@ -18,6 +22,8 @@ const TEXT_BYTES: usize = 32768;
 pub struct Showing<'a> {
     pub settings: Settings,
     pub format: Format,
+    /// The number of the input, from 0 on.
+    pub input: u64,
     pub name: &'a str,
     /// Whether the name stands in front of each line.
     pub is_named: bool,
@@ -44,6 +50,7 @@ pub fn show_message<S: ReaderSegments, W: Write>(
         Form::Count => return Ok(()),
         Form::Lines => show_lines(alloc, showing, listed, message, text, sink)?,
         Form::Json => show_json(alloc, showing, listed, message, text, sink)?,
+        Form::Html => show_section(alloc, showing, listed, message, text, sink)?,
     }
     text.push('\n')?;
     sink.write_all(text.as_bytes())
@@ -92,6 +99,35 @@ fn show_json<S: ReaderSegments, W: Write>(
     Ok(())
 }
 
+// Shows one message as a section of a page, but for the end of its last line.
+fn show_section<S: ReaderSegments, W: Write>(
+    alloc: Global,
+    showing: Showing<'_>,
+    listed: &Listed,
+    message: &Reader<S>,
+    text: &mut String,
+    sink: &mut W,
+) -> Result<()> {
+    let anchor = Anchor {
+        input: showing.input,
+        message: listed.index,
+    };
+    html::push_section(text, anchor)?;
+    listing::push_listed(text, listed)?;
+    if showing.settings.has_hash {
+        listing::push_hash(text, &hash_of(alloc, message)?)?;
+    }
+    text.push_str("</h2>\n")?;
+    if is_drawn(listed.words) {
+        let segments = message.get_segments();
+        show_drawing(alloc, showing.settings.limits, anchor, segments, text, sink)?;
+    } else {
+        html::push_large(text)?;
+    }
+    text.push_str("</section>")?;
+    Ok(())
+}
+
 // Shows the objects of a message, and writes them part by part.
 fn show_tree<S: ReaderSegments, W: Write>(
     alloc: Global,
@@ -114,10 +150,18 @@ fn show_tree<S: ReaderSegments, W: Write>(
             text.push('\n')?;
             listing::push_node(text, segments, &node)?;
         }
-        if text.len() >= TEXT_BYTES {
-            sink.write_all(text.as_bytes())?;
-            text.clear();
-        }
+        write_full(text, sink)?;
+    }
+    Ok(())
+}
+
+/// Writes a text that has grown to `TEXT_BYTES`, and clears it.
+pub fn write_full<W: Write>(text: &mut String, sink: &mut W) -> Result<()>
+    ensures { OnOk result (length text.new < TEXT_BYTES) }
+{
+    if text.len() >= TEXT_BYTES {
+        sink.write_all(text.as_bytes())?;
+        text.clear();
     }
     Ok(())
 }

@@ -37,19 +37,24 @@ pub fn escape_of(character: char) -> Escape
 /// Adds a text, escaped.
 pub fn push_escaped(text: &mut String, shown: &str) -> Result<(), AllocError> {
     for character in shown.chars() {
-        match escape_of(character) {
-            Escape::Plain => text.push(character)?,
-            Escape::Letter(letter) => {
-                text.push('\\')?;
-                text.push(letter)?;
-            }
-            Escape::Number => {
-                let number = character as u32;
-                write!(text, "\\u{number:04x}")?;
-            }
-        }
+        push_escape(text, character, escape_of(character))?;
     }
     Ok(())
+}
+
+/// Adds a character, escaped in a given way.
+pub fn push_escape(text: &mut String, character: char, escape: Escape) -> Result<(), AllocError> {
+    match escape {
+        Escape::Plain => text.push(character),
+        Escape::Letter(letter) => {
+            text.push('\\')?;
+            text.push(letter)
+        }
+        Escape::Number => {
+            let number = character as u32;
+            write!(text, "\\u{number:04x}")
+        }
+    }
 }
 
 /// Adds a text, escaped and within quotation marks: a JSON string.

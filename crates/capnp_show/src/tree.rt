@@ -32,6 +32,8 @@ pub enum Found {
 #[derive(Clone, Copy)]
 pub struct Node {
     pub label: Label,
+    /// Where the pointer is, or the element begins.
+    pub place: Place,
     /// How many nodes lead to it.
     pub depth: u64,
     pub found: Found,
@@ -120,6 +122,7 @@ impl Walk {
         };
         Ok(Node {
             label,
+            place: row.next,
             depth: row.depth,
             found,
         })
@@ -222,8 +225,8 @@ impl Row {
 }
 
 impl Place {
-    // The place a given number of words further.
-    fn moved(self, words: u64) -> Place {
+    /// The place a given number of words further.
+    pub fn moved(self, words: u64) -> Place {
         Place {
             segment: self.segment,
             word: self.word.saturating_add(words),

@@ -8,7 +8,7 @@ use capnp::ErrorKind;
 use capnp::message::ReaderSegments;
 
 /// Where a word of a message stands.
-#[derive(Clone, Copy)]
+#[derive(Clone, Copy, Debug, PartialEq, Eq)]
 pub struct Place {
     /// The number of the segment, from 0 on.
     pub segment: u32,
@@ -266,8 +266,8 @@ impl ElementSize {
 }
 
 impl Shape {
-    // The words from the start of the object on.
-    fn words(self) -> u64 {
+    /// The words from the start of the object on.
+    pub fn words(self) -> u64 {
         match self {
             Shape::Struct(size) => size.words(),
             Shape::List(size, count) => count.saturating_mul(size.bits()).div_ceil(64),

@@ -1,0 +1,133 @@
+//! The arrows of a drawing, from each pointer to the object that it leads to.
+//!
+//! An arrow runs in the gaps between the cells alone: from the right of its pointer in the gap after
+//! that column, then in the gap above the object's row, and to the left of the cell where the object
+//! begins. Cells, gaps and headings have fixed sizes, so its corners are computed.
+use crate::drawn::{ROW_WORDS, colour_of};
+use crate::owners::{Owners, Word};
+use crate::words::Place;
+use std::alloc::{AllocError, Global};
+use std::fmt::Write;
+
+// Sizes in pixels.
+const NUMBER_WIDTH: u64 = 44;
+
+const CELL_WIDTH: u64 = 142;
+
+const CELL_HEIGHT: u64 = 26;
+
+const COLUMN_GAP: u64 = 30;
+
+const ROW_GAP: u64 = 14;
+
+const HEADING_HEIGHT: u64 = 34;
+
+// The left of the first cell of a row.
+const FIRST_LEFT: u64 = 2 * COLUMN_GAP + NUMBER_WIDTH;
+
+// The width of a drawing.
+const WIDTH: u64 = FIRST_LEFT + 4 * (CELL_WIDTH + COLUMN_GAP);
+
+/// Adds the sizes that the style names.
+pub fn push_sizes(text: &mut String) -> Result<(), AllocError> {
+    write!(
+        text,
+        ":root {{ --number-width: {NUMBER_WIDTH}px; --cell-width: {CELL_WIDTH}px; \
+--cell-height: {CELL_HEIGHT}px; --column-gap: {COLUMN_GAP}px; --row-gap: {ROW_GAP}px; \
+--heading-height: {HEADING_HEIGHT}px; --drawing-width: {WIDTH}px; }}\n"
+    )
+}
+
+/// The height of the part of a drawing that a segment of so many words has.
+pub fn part_height(words: usize) -> u64 {
+    let rows = words.div_ceil(ROW_WORDS) as u64;
+    let gaps = HEADING_HEIGHT + ROW_GAP;
+    rows.saturating_mul(CELL_HEIGHT + ROW_GAP)
+        .saturating_add(gaps)
+}
+
+/// The left and the top of a cell.
+#[derive(Clone, Copy)]
+pub struct Corner {
+    pub left: u64,
+    pub top: u64,
+}
+
+/// Where the cells of a message's words are.
+#[derive(Drop)]
+pub struct Grid {
+    // The top of each segment's first row.
+    tops: Vec<u64>,
+    height: u64,
+}
+
+impl Grid {
+    /// Where the cells of these words are.
+    pub fn new(alloc: Global, owners: &Owners) -> Result<Grid, AllocError> {
+        let mut tops = Vec::new(alloc);
+        let mut height: u64 = 0;
+        for words in owners.segments() {
+            tops.push(height.saturating_add(HEADING_HEIGHT + ROW_GAP))?;
+            height = height.saturating_add(part_height(words.len()));
+        }
+        Ok(Grid { tops, height })
+    }
+
+    /// Adds the front of the drawing's arrows.
+    pub fn push_front(&self, text: &mut String) -> Result<(), AllocError> {
+        let height = self.height;
+        write!(
+            text,
+            "<svg class=\"arrows\" width=\"{WIDTH}\" height=\"{height}\" aria-hidden=\"true\">\n"
+        )
+    }
+
+    /// Adds the arrow of a word that stands at a place, where it leads to a word.
+    pub fn push_arrow(
+        &self,
+        text: &mut String,
+        owners: &Owners,
+        place: Place,
+        word: &Word,
+    ) -> Result<(), AllocError> {
+        let Some((number, start)) = word.target() else {
+            return Ok(());
+        };
+        if owners.word(start).is_none() {
+            return Ok(());
+        }
+        match (self.corner(place), self.corner(start)) {
+            (Some(from), Some(to)) => push_path(text, number, from, to),
+            _ => Ok(()),
+        }
+    }
+
+    // Where the cell of a word is.
+    fn corner(&self, place: Place) -> Option<Corner> {
+        let top = *self.tops.get(place.segment as usize)?;
+        let row = place.word / ROW_WORDS as u64;
+        let column = place.word % ROW_WORDS as u64;
+        Some(Corner {
+            left: FIRST_LEFT + column * (CELL_WIDTH + COLUMN_GAP),
+            top: top.saturating_add(row.saturating_mul(CELL_HEIGHT + ROW_GAP)),
+        })
+    }
+}
+
+// Adds the arrow to the object of this number, from one cell to another.
+fn push_path(text: &mut String, number: u64, from: Corner, to: Corner) -> Result<(), AllocError> {
+    let colour = colour_of(number);
+    let right = from.left.saturating_add(CELL_WIDTH);
+    let from_middle = from.top.saturating_add(CELL_HEIGHT / 2);
+    let to_middle = to.top.saturating_add(CELL_HEIGHT / 2);
+    let end = to.left.saturating_sub(2);
+    write!(text, "<path class=\"c{colour}\" d=\"M{right} {from_middle}")?;
+    if from.top != to.top || to.left != right.saturating_add(COLUMN_GAP) {
+        // Arrows side by side in a gap lie a few pixels apart.
+        let channel = right.saturating_add(4 + number % 5 * 3);
+        let lane = to.top.saturating_sub(3 + number % 4 * 3);
+        let entry = to.left.saturating_sub(9);
+        write!(text, "H{channel}V{lane}H{entry}V{to_middle}")?;
+    }
+    write!(text, "H{end}m-5 -3l5 3l-5 3\"/>\n")
+}

@@ -1,0 +1,124 @@
+//! The drawings of a page.
+ghost use Rattle.std.specs.Prelude.{◌↔◌, ◌≤◌, IsTrue};
+
+use crate::arrows::Grid;
+use crate::drawn::{Anchor, ROW_WORDS, push_row};
+use crate::html::{push_no_root, push_object, push_part};
+use crate::listing::push_node_text;
+use crate::owners::{MOST_NODES, Owners, Word};
+use crate::shown::write_full;
+use crate::tree::{Found, Walk};
+use crate::words::Place;
+use capnp::Result;
+use capnp::io::Write;
+use capnp::message::{ReaderOptions, ReaderSegments};
+use std::alloc::Global;
+
+// How many words a message has at most that is drawn.
+const MOST_WORDS: u64 = 4096;
+
+/// Whether a message of so many words is drawn.
+pub fn is_drawn(words: u64) -> bool
+    ensures { IsTrue result ↔ (words ≤ MOST_WORDS) }
+{
+    words <= MOST_WORDS
+}
+
+/// Shows the drawing of a message, and the list of its objects.
+pub fn show_drawing<S: ReaderSegments, W: Write>(
+    alloc: Global,
+    limits: ReaderOptions,
+    anchor: Anchor,
+    segments: &S,
+    text: &mut String,
+    sink: &mut W,
+) -> Result<()> {
+    let owners = Owners::of_message(alloc, limits, segments)?;
+    text.push_str("<div class=\"drawing\">\n")?;
+    let mut segment: u32 = 0;
+    for words in owners.segments() {
+        show_segment(anchor, &owners, segment, words.as_slice(), text, sink)?;
+        segment = segment.saturating_add(1);
+    }
+    show_arrows(alloc, &owners, text, sink)?;
+    text.push_str("</div>\n")?;
+    if let Some(kind) = owners.no_root() {
+        push_no_root(text, kind)?;
+    }
+    show_objects(alloc, limits, segments, text, sink)
+}
+
+// Shows the words of a segment.
+fn show_segment<W: Write>(
+    anchor: Anchor,
+    owners: &Owners,
+    segment: u32,
+    words: &[Word],
+    text: &mut String,
+    sink: &mut W,
+) -> Result<()> {
+    push_part(text, segment, words.len())?;
+    let mut first = Place { segment, word: 0 };
+    for row in words.chunks(ROW_WORDS) {
+        push_row(text, anchor, owners, first, row)?;
+        first = first.moved(ROW_WORDS as u64);
+        write_full(text, sink)?;
+    }
+    text.push_str("</table>\n</div>\n")?;
+    Ok(())
+}
+
+// Shows the arrows of a drawing.
+fn show_arrows<W: Write>(
+    alloc: Global,
+    owners: &Owners,
+    text: &mut String,
+    sink: &mut W,
+) -> Result<()> {
+    let grid = Grid::new(alloc, owners)?;
+    grid.push_front(text)?;
+    let mut segment: u32 = 0;
+    for words in owners.segments() {
+        let mut place = Place { segment, word: 0 };
+        for word in words {
+            grid.push_arrow(text, owners, place, word)?;
+            place = place.moved(1);
+            write_full(text, sink)?;
+        }
+        segment = segment.saturating_add(1);
+    }
+    text.push_str("</svg>\n")?;
+    Ok(())
+}
+
+// Shows the objects of a message, one by one.
+fn show_objects<S: ReaderSegments, W: Write>(
+    alloc: Global,
+    limits: ReaderOptions,
+    segments: &S,
+    text: &mut String,
+    sink: &mut W,
+) -> Result<()> {
+    let mut walk = Walk::new(alloc, limits)?;
+    let mut line = String::new(alloc);
+    let mut objects: u64 = 0;
+    text.push_str("<ol class=\"objects\" start=\"0\">\n")?;
+    for _ in 0..MOST_NODES {
+        let Some(node) = walk.next(segments)? else {
+            text.push_str("</ol>\n")?;
+            return Ok(());
+        };
+        if let Found::Object(_) = node.found {
+            line.clear();
+            push_node_text(&mut line, segments, &node)?;
+            push_object(text, objects, line.as_str())?;
+            objects = objects.saturating_add(1);
+            write_full(text, sink)?;
+        }
+    }
+    text.push_str("</ol>\n")?;
+    if walk.next(segments)?.is_some() {
+        text.push_str("<p class=\"more\">Only the first 65536 nodes are drawn.</p>\n")?;
+    }
+    Ok(())
+}

@@ -1,0 +1,148 @@
+//! The words of a segment, as rows of a table.
+use crate::owners::{Lead, Owner, Owners, Role, Word};
+use crate::refusals::push_refusal;
+use crate::words::Place;
+use std::alloc::AllocError;
+use std::fmt::Write;
+
+/// How many words stand in a row.
+pub const ROW_WORDS: usize = 4;
+
+// How many colours objects have, one after the other.
+const COLOURS: u64 = 8;
+
+/// The name of a message in a page: its input's number and its own.
+#[derive(Clone, Copy)]
+pub struct Anchor {
+    pub input: u64,
+    pub message: u64,
+}
+
+impl Anchor {
+    /// Adds the name of the message.
+    pub fn push(self, text: &mut String) -> Result<(), AllocError> {
+        let input = self.input;
+        let message = self.message;
+        write!(text, "m{input}-{message}")
+    }
+
+    // Adds the name of a word.
+    fn push_word(self, text: &mut String, place: Place) -> Result<(), AllocError> {
+        let segment = place.segment;
+        let word = place.word;
+        self.push(text)?;
+        write!(text, "-{segment}-{word}")
+    }
+}
+
+/// Adds the classes of an object.
+pub fn push_object_classes(text: &mut String, number: u64) -> Result<(), AllocError> {
+    let colour = colour_of(number);
+    write!(text, "o{number} c{colour}")
+}
+
+/// The colour of an object.
+pub fn colour_of(number: u64) -> u64
+    ensures { result < COLOURS }
+{
+    number % COLOURS
+}
+
+/// Adds a row of words, of which the first stands at a place.
+pub fn push_row(
+    text: &mut String,
+    anchor: Anchor,
+    owners: &Owners,
+    first: Place,
+    words: &[Word],
+) -> Result<(), AllocError> {
+    let number = first.word;
+    write!(text, "<tr><th>{number}</th>")?;
+    let mut place = first;
+    for word in words {
+        push_cell(text, anchor, owners, place, word)?;
+        place = place.moved(1);
+    }
+    text.push_str("</tr>\n")
+}
+
+// Adds the cell of a word.
+fn push_cell(
+    text: &mut String,
+    anchor: Anchor,
+    owners: &Owners,
+    place: Place,
+    word: &Word,
+) -> Result<(), AllocError> {
+    text.push_str("<td id=\"")?;
+    anchor.push_word(text, place)?;
+    text.push_str("\" class=\"")?;
+    push_classes(text, word)?;
+    text.push_str("\" title=\"")?;
+    push_title(text, place, word)?;
+    text.push_str("\">")?;
+    let digits = u64::from_be_bytes(word.bytes);
+    match word.target() {
+        Some((_, start)) if owners.word(start).is_some() => {
+            text.push_str("<a href=\"#")?;
+            anchor.push_word(text, start)?;
+            write!(text, "\">{digits:016x}</a>")?;
+        }
+        _ => write!(text, "{digits:016x}")?,
+    }
+    text.push_str("</td>")
+}
+
+// Adds what a word is to whom it belongs.
+fn push_classes(text: &mut String, word: &Word) -> Result<(), AllocError> {
+    match word.owner {
+        Owner::Free => text.push_str("free")?,
+        Owner::Root => text.push_str("pointer root")?,
+        Owner::Object(number, role) => {
+            let class = match role {
+                Role::Data => "data",
+                Role::Pointer => "pointer",
+                Role::Tag => "tag",
+                Role::Landing => "landing",
+            };
+            write!(text, "{class} ")?;
+            push_object_classes(text, number)?;
+        }
+    }
+    if word.is_pointer() && word.lead == Lead::Null {
+        text.push_str(" null")?;
+    }
+    if word.refusal.is_some() {
+        text.push_str(" refused")?;
+    }
+    Ok(())
+}
+
+// Adds what is said of a word: why it is refused, or where it is, and what it is to whom.
+fn push_title(text: &mut String, place: Place, word: &Word) -> Result<(), AllocError> {
+    if let Some(kind) = word.refusal {
+        return push_refusal(text, kind);
+    }
+    let segment = place.segment;
+    let number = place.word;
+    write!(text, "word {segment}:{number}, ")?;
+    match word.owner {
+        Owner::Free => text.push_str("of no object that is reached")?,
+        Owner::Root => text.push_str("the root pointer")?,
+        Owner::Object(object, role) => {
+            let said = match role {
+                Role::Data => "data",
+                Role::Pointer => "pointer",
+                Role::Tag => "tag",
+                Role::Landing => "landing pad",
+            };
+            write!(text, "{said} of object {object}")?;
+        }
+    }
+    if let Some((object, _)) = word.target() {
+        write!(text, ", to object {object}")?;
+    } else if word.is_pointer() && word.lead == Lead::Null {
+        text.push_str(", null")?;
+    }
+    Ok(())
+}

@@ -1,0 +1,71 @@
+//! The parts of a page that stands alone, but for the drawings.
+use crate::arrows::{part_height, push_sizes};
+use crate::drawn::{Anchor, push_object_classes};
+use crate::markup::push_markup;
+use crate::refusals::push_refusal;
+use crate::style::{LEGEND, STYLE};
+use capnp::ErrorKind;
+use std::alloc::AllocError;
+use std::fmt::Write;
+
+/// Adds the front of a page.
+pub fn push_page(text: &mut String) -> Result<(), AllocError> {
+    text.push_str(
+        "<!DOCTYPE html>\n<html lang=\"en\">\n<head>\n<meta charset=\"utf-8\">\n\
+<title>capnp_show</title>\n<style>\n",
+    )?;
+    push_sizes(text)?;
+    text.push_str(STYLE)?;
+    text.push_str("</style>\n</head>\n<body>\n")?;
+    text.push_str(LEGEND)
+}
+
+/// Adds the end of a page.
+pub fn push_end(text: &mut String) -> Result<(), AllocError> {
+    text.push_str("</body>\n</html>\n")
+}
+
+/// Adds the heading of an input.
+pub fn push_input(text: &mut String, name: &str) -> Result<(), AllocError> {
+    text.push_str("<h1>")?;
+    push_markup(text, name)?;
+    text.push_str("</h1>\n")
+}
+
+/// Adds the front of a message's section, up to the text of its heading.
+pub fn push_section(text: &mut String, anchor: Anchor) -> Result<(), AllocError> {
+    text.push_str("<section class=\"message\" id=\"")?;
+    anchor.push(text)?;
+    text.push_str("\">\n<h2>")
+}
+
+/// Adds that a message is too large to be drawn.
+pub fn push_large(text: &mut String) -> Result<(), AllocError> {
+    text.push_str("<p class=\"large\">A message of more than 4096 words is not drawn.</p>\n")
+}
+
+/// Adds why a root pointer is refused for which there is no word.
+pub fn push_no_root(text: &mut String, kind: ErrorKind) -> Result<(), AllocError> {
+    text.push_str("<p class=\"refused\">root: ")?;
+    push_refusal(text, kind)?;
+    text.push_str("</p>\n")
+}
+
+/// Adds the line of an object to the list of objects.
+pub fn push_object(text: &mut String, number: u64, line: &str) -> Result<(), AllocError> {
+    text.push_str("<li class=\"")?;
+    push_object_classes(text, number)?;
+    text.push_str("\">")?;
+    push_markup(text, line)?;
+    text.push_str("</li>\n")
+}
+
+/// Adds the front of a segment of so many words.
+pub fn push_part(text: &mut String, segment: u32, words: usize) -> Result<(), AllocError> {
+    let height = part_height(words);
+    write!(
+        text,
+        "<div style=\"height: {height}px\">\n<h3>segment {segment}, words {words}</h3>\n\
+<table class=\"segment\">\n"
+    )
+}

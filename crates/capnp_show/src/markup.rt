@@ -1,0 +1,44 @@
+//! Texts, as they stand in a page.
+ghost use Rattle.std.specs.Prelude.{◌≡◌, ◌≤◌};
+
+use crate::text::{escape_of, push_escape};
+use std::alloc::AllocError;
+
+/// How a character stands in a page.
+#[derive(Clone, Copy)]
+pub enum Mark {
+    /// As it is.
+    Plain,
+    /// By this name.
+    Named(&'static str),
+    /// As a control character is shown elsewhere.
+    Control,
+}
+
+/// How a character stands in a page, within an attribute too.
+pub fn mark_of(character: char) -> Mark
+    ensures markup { result ≡ Mark.Plain → (character ≡ 38 → ⊥) × (character ≡ 60 → ⊥)
+        × (character ≡ 62 → ⊥) × (character ≡ 34 → ⊥) }
+    ensures control { result ≡ Mark.Plain → (character ≤ 31 → ⊥) × (127 ≤ character → character ≤ 159 → ⊥) }
+{
+    match character {
+        '&' => Mark::Named("&amp;"),
+        '<' => Mark::Named("&lt;"),
+        '>' => Mark::Named("&gt;"),
+        '"' => Mark::Named("&quot;"),
+        character if character.is_control() => Mark::Control,
+        _ => Mark::Plain,
+    }
+}
+
+/// Adds a text to a page.
+pub fn push_markup(text: &mut String, shown: &str) -> Result<(), AllocError> {
+    for character in shown.chars() {
+        match mark_of(character) {
+            Mark::Plain => text.push(character)?,
+            Mark::Named(name) => text.push_str(name)?,
+            Mark::Control => push_escape(text, character, escape_of(character))?,
+        }
+    }
+    Ok(())
+}

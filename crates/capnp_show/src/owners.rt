@@ -1,0 +1,246 @@
+//! Which object each word of a message belongs to, and where its pointers lead.
+ghost use Rattle.std.specs.Prelude.{◌≡◌};
+
+use crate::tree::{Found, Label, Node, Walk};
+use crate::words::{ElementSize, LandingPad, Object, Place, Shape, StructSize};
+use capnp::ErrorKind;
+use capnp::message::{ReaderOptions, ReaderSegments};
+use std::alloc::{AllocError, Global};
+
+/// How many nodes of a message are followed at most.
+pub const MOST_NODES: u64 = 65536;
+
+/// What a word is to its object.
+#[derive(Clone, Copy, Debug, PartialEq, Eq)]
+pub enum Role {
+    Data,
+    Pointer,
+    Tag,
+    /// A word of the landing pad that leads to the object.
+    Landing,
+}
+
+/// Whose a word is.
+#[derive(Clone, Copy, Debug, PartialEq, Eq)]
+pub enum Owner {
+    /// No object's that the walk reaches.
+    Free,
+    /// The root pointer.
+    Root,
+    /// Of the object of this number, as the walk comes to them, from 0 on.
+    Object(u64, Role),
+}
+
+impl Owner {
+    /// Whose a word is once another claims it: the first one keeps it.
+    fn claimed_by(self, claimant: Owner) -> Owner
+        ensures claimed { self ≡ Owner.Free → result ≡ claimant }
+        ensures kept { (self ≡ Owner.Free → ⊥) → result ≡ self }
+    {
+        match self {
+            Owner::Free => claimant,
+            owner => owner,
+        }
+    }
+}
+
+/// Where the pointer at a word leads.
+#[derive(Clone, Copy, Debug, PartialEq, Eq)]
+pub enum Lead {
+    /// The walk follows no pointer there, or what it leads to is refused.
+    Nowhere,
+    Null,
+    /// To the object of this number, which begins at this place.
+    Object(u64, Place),
+}
+
+/// A word of a message.
+#[derive(Clone, Copy)]
+pub struct Word {
+    /// Its bytes, in the order in which they stand.
+    pub bytes: [u8; 8],
+    pub owner: Owner,
+    pub lead: Lead,
+    /// Why the pointer there is not followed, where it is not.
+    pub refusal: Option<ErrorKind>,
+}
+
+impl Word {
+    /// Whether the word is drawn as a pointer.
+    pub fn is_pointer(&self) -> bool {
+        matches!(self.owner, Owner::Root | Owner::Object(_, Role::Pointer))
+    }
+
+    /// The object that the word leads to, by its number, and where it begins.
+    pub fn target(&self) -> Option<(u64, Place)> {
+        match self.lead {
+            Lead::Object(number, start) if self.is_pointer() => Some((number, start)),
+            _ => None,
+        }
+    }
+}
+
+/// The words of a message, each with the object that it belongs to: the first one that the walk
+/// reaches it by.
+#[derive(Drop)]
+pub struct Owners {
+    segments: Vec<Vec<Word>>,
+    // How many objects the walk has come to.
+    objects: u64,
+    // Why the root pointer is not followed, where no word is there for it.
+    no_root: Option<ErrorKind>,
+}
+
+impl Owners {
+    /// The words of a message, after a walk over its first `MOST_NODES` nodes.
+    pub fn of_message<S: ReaderSegments>(
+        alloc: Global,
+        limits: ReaderOptions,
+        segments: &S,
+    ) -> Result<Owners, AllocError> {
+        let mut owners = Owners::free(alloc, segments)?;
+        let mut walk = Walk::new(alloc, limits)?;
+        for _ in 0..MOST_NODES {
+            let Some(node) = walk.next(segments)? else {
+                break;
+            };
+            owners.add(&node);
+        }
+        Ok(owners)
+    }
+
+    /// The words of each segment.
+    pub fn segments(&self) -> &[Vec<Word>] {
+        self.segments.as_slice()
+    }
+
+    /// Why the root pointer is not followed, where no word is there for it.
+    pub fn no_root(&self) -> Option<ErrorKind> {
+        self.no_root
+    }
+
+    /// The word at a place.
+    pub fn word(&self, place: Place) -> Option<&Word> {
+        let words = self.segments.get(place.segment as usize)?;
+        words.get(usize::try_from(place.word).ok()?)
+    }
+
+    // The words of a message before the walk.
+    fn free<S: ReaderSegments>(alloc: Global, segments: &S) -> Result<Owners, AllocError> {
+        let mut words = Vec::new(alloc);
+        for id in 0..512 {
+            let Some(segment) = segments.get_segment(id) else {
+                break;
+            };
+            words.push(free_words(alloc, segment)?)?;
+        }
+        Ok(Owners {
+            segments: words,
+            objects: 0,
+            no_root: None,
+        })
+    }
+
+    // Adds what a node says of the words.
+    fn add(&mut self, node: &Node) {
+        if let Label::Root = node.label {
+            self.claim(node.place, Owner::Root);
+        }
+        match node.found {
+            Found::Null => self.lead(node.place, Lead::Null),
+            Found::Object(object) => {
+                self.lead(node.place, Lead::Object(self.objects, object.start));
+                self.claim_object(&object);
+                self.objects = self.objects.saturating_add(1);
+            }
+            Found::Element(_, _) => {}
+            Found::Refused(kind) => self.refuse(node.place, kind),
+        }
+    }
+
+    // Claims the words of an object and of its landing pad.
+    fn claim_object(&mut self, object: &Object) {
+        let number = self.objects;
+        if let Some(LandingPad { place, words }) = object.landing_pad {
+            for index in 0..words {
+                self.claim(place.moved(index), Owner::Object(number, Role::Landing));
+            }
+        }
+        for index in 0..object.shape.words() {
+            let role = role_of(object.shape, index);
+            if !self.claim(object.start.moved(index), Owner::Object(number, role)) {
+                break;
+            }
+        }
+    }
+
+    // Claims a word where no other object has; false where there is none.
+    fn claim(&mut self, place: Place, owner: Owner) -> bool {
+        let Some(word) = self.word_mut(place) else {
+            return false;
+        };
+        word.owner = word.owner.claimed_by(owner);
+        true
+    }
+
+    // Says where the pointer at a word leads, where it was not said yet.
+    fn lead(&mut self, place: Place, lead: Lead) {
+        if let Some(word) = self.word_mut(place)
+            && word.lead == Lead::Nowhere
+        {
+            word.lead = lead;
+        }
+    }
+
+    // Says why the pointer at a word is not followed; the first reason is kept.
+    fn refuse(&mut self, place: Place, kind: ErrorKind) {
+        match self.word_mut(place) {
+            Some(word) => word.refusal = word.refusal.or(Some(kind)),
+            None => self.no_root = Some(kind),
+        }
+    }
+
+    fn word_mut(&mut self, place: Place) -> Option<&mut Word> {
+        let words = self.segments.get_mut(place.segment as usize)?;
+        words.get_mut(usize::try_from(place.word).ok()?)
+    }
+}
+
+// The words of a segment before the walk.
+fn free_words(alloc: Global, segment: &[u8]) -> Result<Vec<Word>, AllocError> {
+    let (words, _) = segment.as_chunks::<8>();
+    let mut free = Vec::new(alloc);
+    for word in words {
+        free.push(Word {
+            bytes: *word,
+            owner: Owner::Free,
+            lead: Lead::Nowhere,
+            refusal: None,
+        })?;
+    }
+    Ok(free)
+}
+
+// What the word of an object is that stands so many words after its start.
+fn role_of(shape: Shape, index: u64) -> Role {
+    match shape {
+        Shape::Struct(size) if index >= size.data_words => Role::Pointer,
+        Shape::List(ElementSize::Pointer, _) => Role::Pointer,
+        Shape::Structs(_, _, _) if index == 0 => Role::Tag,
+        Shape::Structs(size, count, _) => role_in_element(size, count, index.saturating_sub(1)),
+        _ => Role::Data,
+    }
+}
+
+// What the word of a list of structs is that stands so many words after its tag.
+fn role_in_element(size: StructSize, count: u64, after_tag: u64) -> Role {
+    let words = size.words();
+    if words == 0
+        || after_tag >= count.saturating_mul(words)
+        || after_tag % words < size.data_words
+    {
+        Role::Data
+    } else {
+        Role::Pointer
+    }
+}

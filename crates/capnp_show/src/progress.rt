@@ -1,0 +1,72 @@
+//! How far the reading of a large input is.
+ghost use Rattle.std.specs.Prelude.{◌≡◌, ◌≤◌, ◌<◌, ◌/◌, ◌↔◌, IfSome, IsSome, IsTrue, None};
+
+use crate::refusals::named_line;
+use std::alloc::{AllocError, Global};
+use std::fmt::Write;
+
+/// After how many bytes each line is due.
+pub const STEP_BYTES: u64 = 64_000_000;
+
+// The bytes of a MB.
+const MEGABYTE: u64 = 1_000_000;
+
+/// How far the reading of an input is.
+#[derive(Clone, Copy)]
+pub struct Progress {
+    // The size of the input in bytes, where it is known.
+    total: Option<u64>,
+    // After how many bytes the next line is due; `None` where none is.
+    next: Option<u64>,
+}
+
+impl Progress {
+    /// Nothing is read yet of an input of so many bytes, where that is known. No line is due of an input
+    /// of at most `STEP_BYTES`, nor where none is wanted.
+    pub fn new(is_wanted: bool, total: Option<u64>) -> Progress
+        ensures small { IfSome total (λ bytes. bytes ≤ STEP_BYTES → result.next ≡ None) }
+        ensures wanted { IfSome result.next (λ next. IsTrue is_wanted × (next ≡ STEP_BYTES)) }
+    {
+        let is_small = total.is_some_and(|bytes| bytes <= STEP_BYTES);
+        let next = if is_wanted && !is_small {
+            Some(STEP_BYTES)
+        } else {
+            None
+        };
+        Progress { total, next }
+    }
+
+    /// How many MB are read where a line is due after so many bytes.
+    pub fn after(&mut self, taken: u64) -> Option<u64>
+        ensures due { IfSome self.old.next (λ next. IsSome result ↔ (next ≤ taken)) }
+        ensures megabytes { IfSome result (λ megabytes. megabytes ≡ taken / MEGABYTE) }
+        ensures later { IfSome self.new.next (λ next. taken < next) }
+    {
+        let next = self.next?;
+        if taken < next {
+            return None;
+        }
+        self.next = (taken / STEP_BYTES)
+            .saturating_add(1)
+            .checked_mul(STEP_BYTES);
+        Some(taken / MEGABYTE)
+    }
+
+    /// The line for so many MB and messages that are read.
+    pub fn line(
+        &self,
+        alloc: Global,
+        name: &str,
+        megabytes: u64,
+        messages: u64,
+    ) -> Result<String, AllocError> {
+        let mut line = named_line(alloc, name)?;
+        write!(line, "{megabytes} MB")?;
+        if let Some(total) = self.total {
+            let all = total / MEGABYTE;
+            write!(line, " of {all} MB")?;
+        }
+        write!(line, ", {messages} messages\n")?;
+        Ok(line)
+    }
+}
