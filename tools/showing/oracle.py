@@ -159,10 +159,13 @@ def text_in(segments, found):
 
 
 class Tree:
-    """The nodes of a message, as dictionaries in the order of the JSON."""
+    """The nodes of a message, as dictionaries in the order of the JSON, and the pointers that were followed.
+
+    Of a pointer `followed` has its place, its node and the object that it leads to, None without one."""
 
     def __init__(self, segments, words=8388608, nesting=64):
         self.segments, self.left, self.nodes, self.over = segments, words, [], False
+        self.followed = []
         self.pointer((0, 0), {"label": "root"}, 0, nesting)
 
     def pointer(self, place, label, depth, level):
@@ -174,6 +177,7 @@ class Tree:
             found = object_at(self.segments, place)
             if found is None:
                 node["kind"] = "null"
+                self.followed.append((place, node, None))
                 return
             if level == 0:
                 raise Refused("NestingLimitExceeded")
@@ -182,8 +186,10 @@ class Tree:
                 raise Refused("ReadLimitExceeded")
         except Refused as refused:
             node.update(kind="refused", why=sentence(refused.args[0]))
+            self.followed.append((place, node, None))
             return
         self.left -= found["traversed"]
+        self.followed.append((place, node, found))
         node.update({key: found[key] for key in ("kind", "element", "count", "data", "pointers") if key in found})
         node.update(segment=found["start"][0], word=found["start"][1])
         if found["pad"]:
