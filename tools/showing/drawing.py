@@ -1,52 +1,55 @@
 """The page that capnp_show is to write of messages, drawn from the oracle's walk of the same bytes."""
+import re
+
 from oracle import Tree, line_of, lines_of
 from page import Element
 
 MOST_WORDS = 4096
+MOST_NODES = 65536
 WORDS_IN_A_ROW = 4
 COLOURS = 8
 TOO_LARGE = "A message of more than 4096 words is not drawn."
+TOO_MANY = "Only the first 65536 nodes are drawn."
 
 
 class Word:
-    """How a word is drawn: its classes, the place that it links to, and why its pointer is refused."""
+    """How a word is drawn: its classes, and what the pointer there leads to: None, or "null", or the number of
+    an object and its place; and why it is refused, where a walk comes to it deeper than it may, say."""
 
-    def __init__(self, *classes):
-        self.classes, self.link, self.why, self.is_followed = list(classes), None, None, False
+    def __init__(self):
+        self.classes, self.lead, self.why = ["free"], None, None
+
+    def is_pointer(self):
+        return self.classes[0] == "pointer"
 
 
 class Drawing:
-    """The words of a message as a walk claims them, each by what reaches it first."""
+    """The words of a message: each belongs to what the walk reaches it by first."""
 
-    def __init__(self, segments, **limits):
-        self.segments, self.claimed = segments, {}
-        self.tree = Tree(segments, **limits)
+    def __init__(self, name, segments, **limits):
+        self.name, self.segments = name, segments
+        self.words = {(segment, word): Word() for segment, held in enumerate(segments) for word in range(len(held) // 8)}
+        self.tree = Tree(segments, most=MOST_NODES, **limits)
         self.claim((0, 0), "pointer", "root")
         number = 0
         for place, node, found in self.tree.followed:
-            self.follow(place, node, found)
+            self.follow(place, node, found, number)
             if found:
                 self.claim_object(found, f"o{number}", f"c{number % COLOURS}")
                 number += 1
 
     def claim(self, place, *classes):
-        if self.is_there(place):
-            self.claimed.setdefault(place, Word(*classes))
+        word = self.words.get(place)
+        if word and word.classes == ["free"]:
+            word.classes = list(classes)
 
-    def is_there(self, place):
-        return place[0] < len(self.segments) and 0 <= place[1] < len(self.segments[place[0]]) // 8
-
-    def follow(self, place, node, found):
-        """Draws what the pointer at a place leads to, unless it was followed before."""
-        word = self.claimed.get(place)
-        if word is None or word.is_followed or "pointer" not in word.classes:
-            return
-        word.is_followed = True
-        if found:
-            word.link = found["start"]
+    def follow(self, place, node, found, number):
+        """Notes where the pointer at a place leads, and why it is refused, each for the first time."""
+        word = self.words.get(place) or Word()
+        if node["kind"] == "refused":
+            word.why = word.why or node["why"]
         else:
-            word.classes.append(node["kind"])
-            word.why = node.get("why")
+            word.lead = word.lead or ((number, found["start"]) if found else "null")
 
     def claim_object(self, found, *of):
         if found["pad"]:
@@ -57,18 +60,25 @@ class Drawing:
         for index, kind in enumerate(kinds_of(found)):
             self.claim((segment, word + index), kind, *of)
 
-    def cell(self, name, place):
+    def target(self, word):
+        """The object that a word links to, and the place; None where there is no word at that place."""
+        is_there = word.is_pointer() and isinstance(word.lead, tuple) and word.lead[1] in self.words
+        return word.lead if is_there else None
+
+    def anchor(self, place):
+        return f"{self.name}-{place[0]}-{place[1]}"
+
+    def cell(self, place):
         """The cell of a word."""
-        word = self.claimed.get(place) or Word("free")
+        word = self.words[place]
         at = place[1] * 8
         shown = self.segments[place[0]][at : at + 8].hex()
-        if word.link and self.is_there(word.link):
-            to = f"#{name}-{word.link[0]}-{word.link[1]}"
-            shown = Element("a", {"href": to}, [shown])
-        attributes = {"id": f"{name}-{place[0]}-{place[1]}", "class": classes(word.classes), "title": title(word)}
-        return Element("td", attributes, [shown])
+        if to := self.target(word):
+            shown = Element("a", {"href": "#" + self.anchor(to[1])}, [shown])
+        drawn = word.classes + ["null"] * (word.is_pointer() and word.lead == "null") + ["refused"] * bool(word.why)
+        return Element("td", {"id": self.anchor(place), "class": classes(drawn), "title": title(word, place)}, [shown])
 
-    def tables(self, name):
+    def tables(self):
         """The heading and the table of each segment."""
         for segment, held in enumerate(self.segments):
             count = len(held) // 8
@@ -76,13 +86,25 @@ class Drawing:
             rows = []
             for first in range(0, count, WORDS_IN_A_ROW):
                 places = [(segment, word) for word in range(first, min(first + WORDS_IN_A_ROW, count))]
-                heading = Element("th", {}, [str(first)])
-                rows.append(Element("tr", {}, [heading] + [self.cell(name, place) for place in places]))
+                rows.append(Element("tr", {}, [Element("th", {}, [str(first)]), *map(self.cell, places)]))
             yield Element("table", {"class": "segment"}, rows)
 
-    def objects(self):
+    def arrows(self):
+        """An arrow for each link, in the colour of what it leads to; where it runs is not compared."""
+        targets = [to for to in map(self.target, self.words.values()) if to]
+        paths = [Element("path", {"class": f"c{number % COLOURS}", "d": is_path}) for number, _ in targets]
+        return Element("svg", {"class": "arrows", "width": is_number, "height": is_number, "aria-hidden": "true"}, paths)
+
+    def lists(self):
+        """The list of the objects, and what is said of a walk that doesn't come to all."""
+        place, node, _ = self.tree.followed[0]
+        if node["kind"] == "refused" and place not in self.words:
+            yield Element("p", {"class": "refused"}, [line_of(node).strip()])
         nodes = [node for _, node, found in self.tree.followed if found]
-        return Element("ol", {"class": "objects", "start": "0"}, [Element("li", {}, [line_of(node).strip()]) for node in nodes])
+        lines = [Element("li", {"class": f"o{k} c{k % COLOURS}"}, [line_of(node).strip()]) for k, node in enumerate(nodes)]
+        yield Element("ol", {"class": "objects", "start": "0"}, lines)
+        if self.tree.is_cut:
+            yield Element("p", {"class": "more"}, [TOO_MANY])
 
 
 def kinds_of(found):
@@ -98,16 +120,26 @@ def kinds_of(found):
     return kinds + (found["words"] - len(kinds)) * ["data"]
 
 
+def is_number(said):
+    return bool(said) and said.isdigit()
+
+
+def is_path(said):
+    return bool(said) and re.fullmatch(r"M[0-9]+ [0-9]+[HVLml0-9 .-]*", said) is not None
+
+
 def classes(wanted):
     """Whether the classes of a cell are these, the first one first."""
     return lambda said: said is not None and said.split()[0] == wanted[0] and sorted(said.split()) == sorted(wanted)
 
 
-def title(word):
-    """Whether a cell says why its pointer is refused, and does so nowhere else."""
+def title(word, place):
+    """Whether a cell says where it is and to which object it belongs, or why its pointer is refused."""
     if word.why:
-        return lambda said: said is not None and f"refused, since {word.why}" in said
-    return lambda said: bool(said) and "refused" not in said
+        return lambda said: said == f"refused, since {word.why}"
+    owned = [f"object {name[1:]}" for name in word.classes if re.fullmatch("o[0-9]+", name)]
+    parts = [f"{place[0]}:{place[1]}", *owned]
+    return lambda said: bool(said) and "refused" not in said and all(re.search(rf"\b{part}\b", said) for part in parts)
 
 
 def message_of_page(name, row, segments, sha256, limits):
@@ -116,8 +148,8 @@ def message_of_page(name, row, segments, sha256, limits):
     if row["words"] > MOST_WORDS:
         inside.append(Element("p", {"class": "large"}, [TOO_LARGE]))
     else:
-        drawing = Drawing(segments, **limits)
-        inside += [*drawing.tables(name), drawing.objects()]
+        drawing = Drawing(name, segments, **limits)
+        inside += [*drawing.tables(), drawing.arrows(), *drawing.lists()]
     return Element("section", {"class": "message", "id": name}, inside)
 
 

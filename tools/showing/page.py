@@ -2,14 +2,14 @@
 import re
 from html.parser import HTMLParser
 
-# what a parser adds between an element and its rows, or leaves out
-BETWEEN = {"head", "body", "tbody"}
+# what only stands between an element and those that are compared: a parser may add it
+BETWEEN = {"head", "body", "tbody", "div"}
 # what holds elements alone, so that blanks in it mean nothing
-HOLDERS = {"page", "html", "section", "table", "tr", "ol"}
+HOLDERS = {"page", "html", "section", "table", "tr", "ol", "svg"}
 EMPTY = {"meta"}
 # what a page that stands alone may not have
-FETCHING = {"src", "srcset", "data", "action", "background", "poster", "http-equiv", "style"}
-ELEMENTS = "html head meta title style body h1 h2 h3 section p table tbody tr th td a ol li".split()
+FETCHING = {"src", "srcset", "data", "action", "background", "poster", "http-equiv"}
+ELEMENTS = "html head meta title style body h1 h2 h3 section div p table tbody tr th td a svg path ol li".split()
 # a start tag whose values stand in quotation marks and are escaped
 TAG = re.compile(r'<[a-z][a-z0-9]*(\s+[a-z-]+="([^"<&]|&(amp|lt|gt|quot|#39|#[0-9]+);)*")*\s*/?>')
 # what no page may have anywhere
@@ -66,7 +66,9 @@ class Page(HTMLParser):
             self.open.append(element)
 
     def look_at_attribute(self, name, value):
-        if name in FETCHING or name.startswith("on") or (name == "href" and not value.startswith("#")):
+        is_elsewhere = name == "href" and not value.startswith("#")
+        is_styled = name == "style" and not re.fullmatch(r"height: [0-9]+px;?", value)
+        if name in FETCHING or name.startswith("on") or is_elsewhere or is_styled:
             self.wrongs.append(f'a page that stands alone has no {name}="{value}"')
         if name == "href":
             self.links.append(value[1:])

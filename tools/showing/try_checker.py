@@ -21,22 +21,34 @@ NULLS = [words(3 << 48, 0, 7, 0x12_00000001) + b"a\0\0\0\0\0\0\0"]
 STRUCTS = [words(0x17_00000001, 0x1_0001_00000004, 7, 3)]
 
 
-def cell(place, classes, shown, link=None, title="a word"):
+def cell(place, classes, shown, link=None, title=None):
     shown = f'<a href="#{link}">{shown}</a>' if link else shown
+    _, _, segment, word = place.split("-")
+    of = classes.split()[1] if " o" in classes else ""
+    title = title or f"word {segment}:{word}" + of.replace("o", ", of object ")
     return f'<td id="{place}" class="{classes}" title="{title}">{shown}</td>'
 
 
 def table(segment, count, *rows):
     """The table of a segment; each row is the number of its first word and its cells."""
     written = "".join(f"<tr><th>{first}</th>{''.join(cells)}</tr>\n" for first, *cells in rows)
-    return f'<h3>segment {segment}, words {count}</h3>\n<table class="segment">\n{written}</table>\n'
+    heading = f"<h3>segment {segment}, words {count}</h3>"
+    return f'<div style="height: 88px">\n{heading}\n<table class="segment">\n{written}</table>\n</div>\n'
 
 
 def section(name, line, tables, objects):
-    listed_objects = "".join(f"<li>{escape(line, quote=False)}</li>\n" for line in objects)
+    """A section; `objects` are the lines of its objects, each of which one pointer leads to."""
+    listed_objects = "".join(
+        f'<li class="o{number} c{number}">{escape(line, quote=False)}</li>\n' for number, line in enumerate(objects)
+    )
+    arrows = "".join(f'<path class="c{number}" d="M246 61H276m-5 -3l5 3l-5 3"/>\n' for number in range(len(objects)))
     return f"""<section class="message" id="{name}">
 <h2>{line}</h2>
-{tables}<ol class="objects" start="0">
+<div class="drawing">
+{tables}<svg class="arrows" width="792" height="88" aria-hidden="true">
+{arrows}</svg>
+</div>
+<ol class="objects" start="0">
 {listed_objects}</ol>
 </section>
 """
@@ -62,7 +74,7 @@ PAGES = {
         'pointer 0: list, element byte, count 3, at 1:1, landing pad 2:0, words 2, text "hi"'])),
     "nulls": (NULLS, section("m0-0", "message 0: offset 0, bytes 48, segments 1, words 5", table(
         0, 5, (0, cell("m0-0-0-0", "pointer root", "0000000000000300", "m0-0-0-1"), cell("m0-0-0-1", "pointer o0 c0 null", "0000000000000000"),
-               cell("m0-0-0-2", "pointer o0 c0 refused", "0700000000000000", title=f"word 2, {REFUSED}"),
+               cell("m0-0-0-2", "pointer o0 c0 refused", "0700000000000000", title=REFUSED),
                cell("m0-0-0-3", "pointer o0 c0", "0100000012000000", "m0-0-0-4")),
         (4, cell("m0-0-0-4", "data o1 c1", "6100000000000000")),
     ), ["root: struct, data 0, pointers 3, at 0:1", 'pointer 2: list, element byte, count 2, at 0:4, text "a"'])),
@@ -77,6 +89,7 @@ PAGES = {
     ), ['root: list, element byte, count 11, at 0:1, text "a\\"\\\\\\n\\u001b\\u007f\\u0085\u00e9"'])),
 }
 
+WORD = 'title="word 0:4, of object 1"'
 # faults of the page of nulls: what stands there, and what is written for it
 FAULTS = [
     ("<!DOCTYPE html>", ""),
@@ -110,12 +123,15 @@ FAULTS = [
     ('href="#m0-0-0-4"', 'href="#m0-0-0-3"'),
     ('href="#m0-0-0-4"', 'href="#m0-0-0-9"'),
     ('href="#m0-0-0-4"', 'href="page.html#m0-0-0-4"'),
-    ('title="a word"', ""),
-    ('title="a word"', 'title="a word" onclick="x"'),
-    ('title="a word"', "title='a word'"),
-    ('title="a word"', 'title="a "word"'),
-    ('title="a word"', 'title="a word" title="a word"'),
-    ('title="a word"', 'title="a word, refused"'),
+    (WORD, ""),
+    (WORD, WORD + ' onclick="x"'),
+    (WORD, "title='word 0:4, of object 1'"),
+    (WORD, 'title="word 0:4, of "object 1"'),
+    (WORD, f"{WORD} {WORD}"),
+    (WORD, 'title="word 0:4, of object 1, refused"'),
+    (WORD, 'title="word 0:3, of object 1"'),
+    (WORD, 'title="word 0:4, of object 0"'),
+    (WORD, 'title="word 0:4, of object 11"'),
     ('id="m0-0-0-4"', 'id="m0-0-0-3"'),
     ("</table>", ""),
     ("</td></tr>", "</tr></td>"),
@@ -123,8 +139,16 @@ FAULTS = [
     ("<h3>", "a word<h3>"),
     ("<h3>", "<!-- a word --><h3>"),
     ('start="0"', 'start="1"'),
-    ("<li>root", "<li>  root"),
-    ("<li>root", "<li>pointer 0: null</li>\n<li>root"),
+    (">root:", ">  root:"),
+    ('<li class="o0', '<li class="o0 c0">pointer 0: null</li>\n<li class="o0'),
+    ('<li class="o0 c0"', "<li"),
+    ('<path class="c1"', '<path class="c0"'),
+    ('<path class="c1"', '<path class="c1" fill="red"'),
+    ('d="M246 61', 'd="'),
+    ('d="M246 61', 'd="url(x)'),
+    ("</svg>", '<path class="c1" d="M0 0"/></svg>'),
+    ("height: 88px", "background: red"),
+    ("</div>\n<ol", "<ol"),
     ("text \"a\"", "text \"b\""),
     ("text \"a\"", "text \"a\x07\""),
     ("</section>\n", ""),

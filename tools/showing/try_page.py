@@ -6,7 +6,7 @@ import subprocess
 from drawing import page_of
 from oracle import frame, pack, sentence, sha256_of
 from page import wrongs_of
-from runs import count, leave_out, refused, run
+from runs import PROGRAM, count, leave_out, refused, run
 from samples import ASTRAY, CANONICAL, CYCLE, DOUBLINGS, ESCAPES, FAR, HELLO, MESSAGES, STRUCTS, WIDE, listed, random_messages, words
 
 MARKS = [words(0x7A_00000001) + "<b a=\"'\">&amp;\0".encode().ljust(16, b"\0")]
@@ -60,6 +60,7 @@ def try_drawings():
         ("nesting", [CYCLE, STRUCTS, ASTRAY], ["--nesting", "1"], {"nesting": 1}),
         ("words", [CYCLE, FAR], ["--words", "9"], {"words": 9}),
         ("doublings", [DOUBLINGS], ["--words", "99"], {"words": 99}),
+        ("more nodes than are drawn", [DOUBLINGS, HELLO], [], {}),
     ):
         text, inside = drawn(messages)
         expect_page(what, run(["--html", *args], text), [("standard input", inside)], limits)
@@ -75,7 +76,7 @@ def try_drawings():
 def try_inputs():
     """Pages of several inputs, some of which can't be read to their ends."""
     both, inside = drawn([HELLO, FAR])
-    name = "<i>&amp;\"'.bin"
+    name, shown_name = "<i>&amp;\"'\1.bin", "<i>&amp;\"'\\u0001.bin"
     cut = refused("cut.bin", 2, len(both), "FailedToFillTheWholeBuffer")
     texts = {"both.bin": both, "none.bin": b"", "cut.bin": both + frame(HELLO)[:9], name: both}
     for file_name, text in texts.items():
@@ -85,9 +86,13 @@ def try_inputs():
     expect_page("an empty file", run(["--html", "none.bin"]), [("none.bin", [])])
     expect_page("a cut file", run(["--html", "cut.bin"]), [("cut.bin", inside)], {}, 1, cut)
     several = ["both.bin", "cut.bin", "none.bin", name]
-    pages = [(file_name, [] if file_name == "none.bin" else inside) for file_name in several]
+    pages = [("both.bin", inside), ("cut.bin", inside), ("none.bin", []), (shown_name, inside)]
     expect_page("several files", run(["--html", *several]), pages, {}, 1, cut)
-    expect_page("a name with marks", run(["--html", name]), [(name, inside)])
+    expect_page("a name with marks", run(["--html", name]), [(shown_name, inside)])
+    missing = run(["--html", "missing.bin", "both.bin"])
+    begins = missing.stderr.startswith(b"capnp_show: missing.bin: the file can't be opened: ")
+    missing.stderr = b"" if begins and missing.stderr.count(b"\n") == 1 else missing.stderr
+    expect_page("a missing file", missing, [("missing.bin", []), ("both.bin", inside)], {}, 1, "")
     seen = "capnp_show: both.bin: framed\n"
     expect_page("detected", run(["--html", "--detect", "both.bin"]), [("both.bin", inside)], {}, 0, seen)
     with open("/dev/full", "wb") as full:
@@ -98,7 +103,6 @@ def try_inputs():
 
 def run_into(args, output):
     """The status of a run whose output goes to a file, and its diagnostics."""
-    from runs import PROGRAM
     result = subprocess.run([PROGRAM, *args], stdout=output, stderr=subprocess.PIPE, timeout=60)
     return result.returncode, result.stderr.decode()
 
