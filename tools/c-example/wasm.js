@@ -4,7 +4,7 @@
 //
 // It reads the message from the file FRAMED, writes the packed text to the file PACKED where one is
 // named, and prints one line. The status is 1 where what is unpacked differs, else the number of the
-// refusal, 0 without one. A node that has memories of 64 bits without the flag doesn't know it.
+// refusal, 0 without one. The flag lets node 20 have a memory of 64 bits.
 "use strict";
 const fs = require("fs");
 
@@ -22,7 +22,7 @@ function newBlock(bytes) {
   try {
     before = library.memory.grow(pages);
   } catch (error) {
-    // Newer engines count the pages of such a memory by integers of 64 bits.
+    // An engine may count the pages of such a memory by integers of 64 bits.
     before = library.memory.grow(BigInt(pages));
   }
   return BigInt(before) * BigInt(PAGE_BYTES);
