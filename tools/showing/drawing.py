@@ -156,6 +156,7 @@ def message_of_page(name, row, segments, sha256, limits):
 def page_of(inputs, limits):
     """The page of inputs, each a name and its messages: what is listed of one, its segments and its hash."""
     inside = [Element("meta", {"charset": "utf-8"}), Element("title", {}, ["capnp_show"]), Element("style", {}, [any])]
+    inside.append(Element("p", {"class": "legend"}, [any]))
     for number, (name, messages) in enumerate(inputs):
         inside.append(Element("h1", {}, [name]))
         for row, segments, sha256 in messages:

@@ -6,10 +6,10 @@ from html.parser import HTMLParser
 BETWEEN = {"head", "body", "tbody", "div"}
 # what holds elements alone, so that blanks in it mean nothing
 HOLDERS = {"page", "html", "section", "table", "tr", "ol", "svg"}
-EMPTY = {"meta"}
+EMPTY = {"meta", "br"}
 # what a page that stands alone may not have
 FETCHING = {"src", "srcset", "data", "action", "background", "poster", "http-equiv"}
-ELEMENTS = "html head meta title style body h1 h2 h3 section div p table tbody tr th td a svg path ol li".split()
+ELEMENTS = "html head meta title style body h1 h2 h3 section div p br span table tbody tr th td a svg path ol li".split()
 # a start tag whose values stand in quotation marks and are escaped
 TAG = re.compile(r'<[a-z][a-z0-9]*(\s+[a-z-]+="([^"<&]|&(amp|lt|gt|quot|#39|#[0-9]+);)*")*\s*/?>')
 # what no page may have anywhere

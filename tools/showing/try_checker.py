@@ -15,6 +15,7 @@ FRONT = """<!DOCTYPE html>
 <style>td { font-family: monospace } .c0 { background: #fff }</style>
 </head>
 <body>
+<p class="legend"><span class="key-data">data</span><br>Each word is shown.</p>
 """
 END = "</body>\n</html>\n"
 NULLS = [words(3 << 48, 0, 7, 0x12_00000001) + b"a\0\0\0\0\0\0\0"]
@@ -96,6 +97,9 @@ FAULTS = [
     ('lang="en"', 'lang="de"'),
     ('<meta charset="utf-8">', ""),
     ("<title>capnp_show</title>", "<title>show</title>"),
+    ('<p class="legend">', '<p>'),
+    ("Each word is shown.</p>", "Each word is shown.</p><p></p>"),
+    ("<br>", '<img src="a.png">'),
     ("</style>", '</style><script>alert("a")</script>'),
     ("td {", "@import url(a.css); td {"),
     ("<h1>a&lt;b</h1>", "<h1>a<b</h1>"),

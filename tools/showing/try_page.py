@@ -1,13 +1,12 @@
 """Runs of capnp_show --html, each page compared with the one that drawing.py draws, and one opened in a browser."""
-import os
-import shutil
 import subprocess
 
 from drawing import page_of
 from oracle import frame, pack, sentence, sha256_of
 from page import wrongs_of
-from runs import PROGRAM, count, leave_out, refused, run
+from runs import PROGRAM, count, refused, run
 from samples import ASTRAY, CANONICAL, CYCLE, DOUBLINGS, ESCAPES, FAR, HELLO, MESSAGES, STRUCTS, WIDE, listed, random_messages, words
+from try_browser import try_browser
 
 MARKS = [words(0x7A_00000001) + "<b a=\"'\">&amp;\0".encode().ljust(16, b"\0")]
 # a root whose two pointers lead to one object, and to a part of it
@@ -107,28 +106,8 @@ def run_into(args, output):
     return result.returncode, result.stderr.decode()
 
 
-def try_browser():
-    """A browser without a window reads the page as this script does, and draws it."""
-    browser = shutil.which("chromium") or shutil.which("chromium-browser")
-    if browser is None:
-        leave_out("the page in a browser", "chromium is not installed")
-        return
-    text, inside = drawn(MESSAGES + [MARKS, LISTS])
-    with open("page.html", "wb") as file:
-        file.write(run(["--html"], text).stdout)
-    address = "file://" + os.path.abspath("page.html")
-    words_of = [browser, "--headless", "--no-sandbox", "--disable-gpu", f"--user-data-dir={os.path.abspath('browser')}"]
-    result = subprocess.run([*words_of, "--dump-dom", address], capture_output=True, timeout=120)
-    wrongs = wrongs_of(result.stdout.decode(), page_of([("standard input", inside)], {}))
-    picture = os.path.abspath("page.png")
-    subprocess.run([*words_of, f"--screenshot={picture}", "--window-size=1200,900", address], capture_output=True, timeout=120)
-    size = os.path.getsize(picture) if os.path.exists(picture) else 0
-    if size <= 5000:
-        wrongs.append(f"its picture has {size} bytes")
-    count("page: in a browser", wrongs)
-
-
 def try_pages():
     try_drawings()
     try_inputs()
-    try_browser()
+    text, inside = drawn(MESSAGES + [MARKS, LISTS, KINDS, PADS])
+    try_browser(run(["--html"], text).stdout.decode(), [("standard input", inside)])

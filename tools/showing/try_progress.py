@@ -5,24 +5,30 @@ import subprocess
 
 from runs import PROGRAM, count
 
-# a message of 1,000,000 bytes, the rest of them zeros
-MESSAGE_BYTES = 1_000_000
-FRONT = (0).to_bytes(4, "little") + (MESSAGE_BYTES // 8 - 1).to_bytes(4, "little")
+STEP_BYTES = 64_000_000
+# how many messages a file has, and of how many bytes each
+LOGS = {"large": (200, 1_000_000), "least": (65, 1_000_000), "small": (64, 1_000_000), "uneven": (5, 50_000_000)}
 
 
-def write_log(name, messages):
-    """Writes a file of so many messages, which takes little room on the disk."""
+def write_log(name):
+    """Writes a file of messages of zeros, which takes little room on the disk."""
+    messages, size = LOGS[name]
     with open(name, "wb") as file:
         for index in range(messages):
-            file.seek(index * MESSAGE_BYTES)
-            file.write(FRONT)
-        file.truncate(messages * MESSAGE_BYTES)
+            file.seek(index * size)
+            file.write((0).to_bytes(4, "little") + (size // 8 - 1).to_bytes(4, "little"))
+        file.truncate(messages * size)
 
 
-def progress(name, messages, total=None):
-    """The lines of an input of so many messages."""
-    of = f" of {total} MB" if total else ""
-    return "".join(f"capnp_show: {name}: {done} MB{of}, {done} messages\n" for done in range(64, messages + 1, 64))
+def progress(log, name, total=""):
+    """The lines of an input: after each message by which as many bytes are read as the next line is due after."""
+    messages, size = LOGS[log]
+    lines, due = "", STEP_BYTES
+    for number in range(1, messages + 1):
+        if number * size >= due:
+            lines += f"capnp_show: {name}: {number * size // 1_000_000} MB{total}, {number} messages\n"
+            due = (number * size // STEP_BYTES + 1) * STEP_BYTES
+    return lines
 
 
 def read_terminal(terminal):
@@ -58,15 +64,16 @@ def run_counting(args, piped, on_terminal):
 
 
 def try_progress():
-    for name, messages in (("large", 200), ("least", 65), ("small", 64)):
-        write_log(name, messages)
-    large, least = progress("large", 200, 200), progress("least", 65, 65)
-    piped = progress("standard input", 200)
+    for name in LOGS:
+        write_log(name)
+    large, least, uneven = (progress(name, name, f" of {total} MB") for name, total in (("large", 200), ("least", 65), ("uneven", 250)))
+    piped = progress("large", "standard input")
     # whether the diagnostics go to a terminal, the words, the file that is piped, and the lines of progress
     for on_terminal, args, pipe, lines in (
         (False, ["--progress", "large"], None, large),
         (False, ["--progress", "least"], None, least),
         (False, ["--progress", "small"], None, ""),
+        (False, ["--progress", "uneven"], None, uneven),
         (False, ["large"], None, ""),
         (False, ["--progress"], "large", piped),
         (False, [], "large", ""),
@@ -76,9 +83,7 @@ def try_progress():
         (True, [], "large", ""),
         (True, ["--progress"], "large", piped),
     ):
-        file_name = pipe or args[-1]
-        counted = {"large": 200, "least": 65, "small": 64}[file_name]
         result = run_counting(args, pipe, on_terminal)
-        wanted = (0, f"{counted}\n", lines)
-        what = f"progress {args} {'piped ' if pipe else ''}{'on a terminal' if on_terminal else ''}"
+        wanted = (0, f"{LOGS[pipe or args[-1]][0]}\n", lines)
+        what = f"progress {args}{', piped' if pipe else ''}{', on a terminal' if on_terminal else ''}"
         count(what, [] if result == wanted else [f"{result}\nwanted:\n{wanted}"])

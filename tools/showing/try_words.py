@@ -26,7 +26,7 @@ def try_help():
         "capnp_show --packed --tree < log": ("packed", "".join(map(lines_of, packed_rows, trees))),
         "capnp_show --hash a b": ("canonical", f"a: {hashed}b: {hashed}"),
         "capnp_show --json --first 1 log": ("framed", json.dumps({"file": "log", **rows[0]}, separators=(",", ":")) + "\n"),
-        "capnp_show --html log > page.html": ("framed", ""),
+        "capnp_show --html log > log.html": ("framed", ""),
     }
     folder = os.path.dirname(PROGRAM)
     for line in help_text.partition("Examples:\n")[2].splitlines():
@@ -37,8 +37,8 @@ def try_help():
         environment = {"PATH": f"{folder}:{os.environ['PATH']}"}
         result = subprocess.run(["sh", "-c", example], capture_output=True, timeout=60, env=environment)
         expect(example, result, 0, out, "")
-        if example.endswith("> page.html"):
-            with open("page.html") as page:
+        if example.endswith("> log.html"):
+            with open("log.html") as page:
                 expect(f"{example}, its page", run(["--html", "log"]), 0, page.read(), "")
     for example in wanted:
         expect(f"the help has no {example}", run(["--help"]), 0, "", "")
