@@ -159,14 +159,18 @@ def text_in(segments, found):
 
 
 class Tree:
-    """The nodes of a message, as dictionaries in the order of the JSON."""
+    """The nodes of a message, as dictionaries in the order of the JSON, and the pointers that were followed.
 
-    def __init__(self, segments, words=8388608, nesting=64):
+    Of a pointer `followed` has its place, its node and the object that it leads to, None without one. Where
+    there are more nodes than `most`, these are left out, and it is cut."""
+
+    def __init__(self, segments, words=8388608, nesting=64, most=None):
         self.segments, self.left, self.nodes, self.over = segments, words, [], False
+        self.followed, self.most, self.is_cut = [], most, False
         self.pointer((0, 0), {"label": "root"}, 0, nesting)
 
     def pointer(self, place, label, depth, level):
-        if self.over:
+        if self.is_full():
             return
         node = {"depth": depth, **label}
         self.nodes.append(node)
@@ -174,6 +178,7 @@ class Tree:
             found = object_at(self.segments, place)
             if found is None:
                 node["kind"] = "null"
+                self.followed.append((place, node, None))
                 return
             if level == 0:
                 raise Refused("NestingLimitExceeded")
@@ -182,8 +187,10 @@ class Tree:
                 raise Refused("ReadLimitExceeded")
         except Refused as refused:
             node.update(kind="refused", why=sentence(refused.args[0]))
+            self.followed.append((place, node, None))
             return
         self.left -= found["traversed"]
+        self.followed.append((place, node, found))
         node.update({key: found[key] for key in ("kind", "element", "count", "data", "pointers") if key in found})
         node.update(segment=found["start"][0], word=found["start"][1])
         if found["pad"]:
@@ -193,6 +200,12 @@ class Tree:
             node["text"] = text
         self.below(found, depth + 1, level - 1)
 
+    def is_full(self):
+        """Whether no node is added any more."""
+        if not self.over and len(self.nodes) == self.most:
+            self.over = self.is_cut = True
+        return self.over
+
     def below(self, found, depth, level):
         segment, word = found["start"]
         if found["kind"] == "struct":
@@ -201,7 +214,7 @@ class Tree:
             self.row(segment, word, found["count"], depth, level)
         elif found["element"] == "struct" and found["pointers"]:
             for index in range(found["count"]):
-                if self.over:
+                if self.is_full():
                     return
                 at = word + 1 + index * (found["data"] + found["pointers"])
                 size = {"data": found["data"], "pointers": found["pointers"]}

@@ -1,0 +1,71 @@
+"""The page of capnp_show in a browser without a window: what it reads, what it draws, and where the arrows lie."""
+import os
+import shutil
+import subprocess
+
+from drawing import page_of
+from page import wrongs_of
+from runs import count, leave_out
+
+# tells of each link whether its arrow runs from the right of its cell to the left of the cell that it leads to
+LOOK = """<script>
+let arrows = 0, astray = 0;
+const is_near = (one, other) => Math.abs(one - other) <= 3;
+for (const section of document.querySelectorAll("section")) {
+  const paths = [...section.querySelectorAll(".arrows path")];
+  const links = [...section.querySelectorAll("td a")];
+  astray += Math.abs(paths.length - links.length);
+  links.forEach((link, index) => {
+    const drawing = section.querySelector(".arrows").getBoundingClientRect();
+    const from = link.parentElement.getBoundingClientRect();
+    const to = document.getElementById(link.hash.slice(1)).getBoundingClientRect();
+    const path = paths[index].getAttribute("d");
+    const [, left, top] = path.match(/^M([0-9]+) ([0-9]+)/).map(Number);
+    const end = Number(path.match(/H([0-9]+)m/)[1]);
+    const bottom = Number([...path.matchAll(/V([0-9]+)/g)].pop()?.[1] ?? top);
+    arrows += 1;
+    if (!is_near(from.right - drawing.left, left) || !is_near((from.top + from.bottom) / 2 - drawing.top, top)
+        || !is_near(to.left - drawing.left, end) || !is_near((to.top + to.bottom) / 2 - drawing.top, bottom)) {
+      astray += 1;
+    }
+  });
+}
+document.body.innerHTML = `${arrows} arrows, ${astray} of them astray`;
+</script>
+"""
+
+
+class Browser:
+    """A browser, with a folder of its own."""
+
+    def __init__(self, program):
+        profile = os.path.abspath("browser")
+        self.words = [program, "--headless", "--no-sandbox", "--disable-gpu", f"--user-data-dir={profile}", "--window-size=1200,900"]
+
+    def open(self, name, text, *args):
+        """Opens a page, and returns what the browser writes."""
+        with open(name, "w", encoding="utf-8") as file:
+            file.write(text)
+        address = "file://" + os.path.abspath(name)
+        result = subprocess.run([*self.words, *args, address], capture_output=True, timeout=120)
+        return result.stdout.decode()
+
+
+def try_browser(text, inputs):
+    """Opens a page of inputs."""
+    program = shutil.which("chromium") or shutil.which("chromium-browser")
+    if program is None:
+        leave_out("the page in a browser", "chromium is not installed")
+        return
+    browser = Browser(program)
+    wrongs = wrongs_of(browser.open("page.html", text, "--dump-dom"), page_of(inputs, {}))
+    looked = browser.open("looked.html", text.replace("</body>", f"{LOOK}</body>"), "--dump-dom")
+    arrows = f"{text.count('<a href=')} arrows, 0 of them astray"
+    if arrows not in looked:
+        wrongs.append(f"its arrows: {looked[-300:]}\nwanted:\n{arrows}")
+    picture = os.path.abspath("page.png")
+    browser.open("page.html", text, f"--screenshot={picture}")
+    size = os.path.getsize(picture) if os.path.exists(picture) else 0
+    if size <= 5000:
+        wrongs.append(f"its picture has {size} bytes")
+    count("page: in a browser", wrongs)
