@@ -9,6 +9,7 @@
 #![tactic(auto)]
 
 pub mod any_pointer;
+pub mod any_pointer_list;
 pub mod any_struct;
 pub mod arena;
 pub mod canonical;
@@ -20,6 +21,7 @@ mod message_size;
 pub mod pointer_word;
 pub mod primitive_list;
 mod read_limiter;
+pub mod struct_list;
 pub mod text;
 pub mod traits;
 
