@@ -3,6 +3,7 @@ pub mod ObjectLemmas
 pub mod CycleLemmas
 pub mod ElementLemmas
 pub mod FieldLemmas
+pub mod RowLemmas
 pub mod OwnLemmas
 pub mod PaddingLemmas
 pub mod OwnWordLemmas

@@ -1,6 +1,7 @@
 -- What views show, and values that are set.
 pub mod ViewLemmas
 pub mod FormLemmas
+pub mod ListViewLemmas
 pub mod ValueLemmas
 pub mod SetterLemmas
 pub mod OneValueLemmas

@@ -11,6 +11,7 @@ pub mod Traversed
 pub mod Faults
 pub mod Views
 pub mod Readers
+pub mod ListViews
 pub mod Layout
 pub mod Block
 pub mod Rows

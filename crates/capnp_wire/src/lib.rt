@@ -9,18 +9,23 @@
 #![tactic(auto)]
 
 pub mod any_pointer;
+pub mod any_pointer_list;
 pub mod any_struct;
 pub mod arena;
 pub mod canonical;
 pub mod data;
+pub mod data_list;
 mod entered;
 pub mod laws;
 mod layout;
+pub mod list_list;
 mod message_size;
 pub mod pointer_word;
 pub mod primitive_list;
 mod read_limiter;
+pub mod struct_list;
 pub mod text;
+pub mod text_list;
 pub mod traits;
 
 pub use message_size::MessageSize;

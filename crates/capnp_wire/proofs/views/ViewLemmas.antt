@@ -138,10 +138,10 @@ module _ {V : Type 0} (p : Pointer) (takes : Form → Type 0) (declines : Form �
     declined = declined_is_err r returned;
   }
 
-wrong_kind_unlimited : (kind : ErrorKind) → kind ≡ WrongPointerKind → kind ≢ ReadLimitExceeded
+pub wrong_kind_unlimited : (kind : ErrorKind) → kind ≡ WrongPointerKind → kind ≢ ReadLimitExceeded
 wrong_kind_unlimited kind is = λ limit. cc
 
-wrong_kind_once : (kind other : ErrorKind) → kind ≡ WrongPointerKind → other ≡ WrongPointerKind → kind ≡ other
+pub wrong_kind_once : (kind other : ErrorKind) → kind ≡ WrongPointerKind → other ≡ WrongPointerKind → kind ≡ other
 wrong_kind_once kind other is other_is = is ∙ sym other_is
 
 pub numbers_decide : (code : ℕ) → Decides (TakesNumbers code) (DeclinesNumbers code)

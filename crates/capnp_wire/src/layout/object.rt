@@ -11,6 +11,7 @@ ghost use Rattle.capnp_wire.specs.Landing.{IsObject, shape_of, room_of, words_in
 ghost use Rattle.capnp_wire.specs.Faults.{Misfits, Fault};
 ghost use Rattle.capnp_wire.specs.Rows.{places_in, end_of};
 ghost use Rattle.capnp_wire.specs.declared.layout.place.Place.{Place};
+ghost use Rattle.capnp_wire.specs.declared.layout.pointer.Elements.{Elements};
 ghost use Rattle.capnp_wire.specs.declared.layout.pointer.StructSize.{StructSize};
 
 use crate::layout::element::ElementSize;
@@ -236,6 +237,29 @@ impl Body {
     {
         match self {
             Body::Numbers(elements, count) if elements == wanted => Some(count),
+            _ => None,
+        }
+    }
+
+    /// The elements of a list of structs.
+    pub(crate) fn as_structs(self) -> Option<Elements>
+        ensures { MatchOption result
+            ((elements : Elements) (following : ℕ) → self ≡ Body.Structs elements following → ⊥)
+            (λ elements. (following : ℕ) × (self ≡ Body.Structs elements following)) }
+    {
+        match self {
+            Body::Structs(elements, _) => Some(elements),
+            _ => None,
+        }
+    }
+
+    /// How many pointers a list of pointers has.
+    pub(crate) fn as_pointers(self) -> Option<u32>
+        ensures { MatchOption result ((count : ℕ) → self ≡ Body.Pointers count → ⊥)
+            (λ count. self ≡ Body.Pointers count) }
+    {
+        match self {
+            Body::Pointers(count) => Some(count),
             _ => None,
         }
     }

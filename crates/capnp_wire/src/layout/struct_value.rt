@@ -6,13 +6,13 @@ ghost use Rattle.capnp_wire.specs.Object.{message_of};
 ghost use Rattle.capnp_wire.specs.Layout.{layout, formed};
 ghost use Rattle.capnp_wire.specs.Values.{HasWords, LacksWords, IsTreeOf, StopsInside, HoldsPointers, fields_at};
 
+use crate::layout::body_word::pointer_word;
 use crate::layout::copy_rows::copy_pointers;
 use crate::layout::formed::formed_as;
 use crate::layout::object::{Body, Object, words_fit};
 use crate::layout::own_words::put_own_words;
 use crate::layout::place::Place;
 use crate::layout::pointer::StructSize;
-use crate::layout::body_word::pointer_word;
 use crate::layout::value::fitting;
 use crate::layout::walk::Walk;
 use capnp_frame::Result;

@@ -1,0 +1,27 @@
+-- The elements of a list are those of the object that the pointer leads to, with one less of nesting depth left.
+use Rattle.std.proofs.Common.{inr, refl}
+use Rattle.capnp_wire.specs.Readers.{pointer_of, IsEntered}
+use Rattle.capnp_wire.specs.ListViews.{DeclinesStructs}
+use Rattle.capnp_wire.proofs.views.FormLemmas.{entered_shows}
+use Rattle.capnp_wire.proofs.views.ListViewLemmas.{other_than_structs, structs_show}
+use Rattle.capnp_wire.proofs.struct_list.reader.Reader.read.Goals as goal
+
+pub returns-in_default-as_structs : goal.returns-in_default-as_structs
+returns-in_default-as_structs g c =
+    let p = pointer_of g.S.ReaderSegments.segments c.args.reader.now in
+    let entered : IsEntered p c.in-Some.object = rw c.in-Some.is at c.in_ok-object.ensures.found in
+    inr (entered_shows p c.in-Some.object (λ form. DeclinesStructs form c.wrong_kind.result.kind) entered
+    (other_than_structs c.in-Some.object c.wrong_kind.result.kind c.in_default-as_structs.ensures c.wrong_kind.ensures))
+
+pub returns : goal.returns
+returns g c =
+    let p = pointer_of g.S.ReaderSegments.segments c.args.reader.now in
+    let entered : IsEntered p c.in-Some.object = rw c.in-Some.is at c.in_ok-object.ensures.found in
+    let elements = c.in-Some-as_structs.elements in
+    let there = c.in-Some-as_structs.ensures in
+    record {
+      same_message = refl;
+      shown = structs_show p c.in-Some.object elements there.0 entered there.1;
+      nesting_below = c.saturating_sub-nesting.ensures;
+      same_limit = refl;
+    }

@@ -1,0 +1,104 @@
+-- What views show of lists of structs and of pointers, and when they are refused.
+use Rattle.std.proofs.Common.{◌≡◌, ℕ, ◌+◌, ◌*◌, ◌/◌, ◌≤◌, List, length, refl, sym, ap, subst, arith}
+use Rattle.capnp_frame.specs.declared.error.ErrorKind.{ErrorKind}
+use Rattle.capnp_frame.specs.declared.error.ErrorKind.TheVariants.{WrongPointerKind}
+use Rattle.capnp_wire.specs.Pointer.{words_of}
+use Rattle.capnp_wire.specs.Tree.{Form, null, struct, numbers, pointers, structs}
+use Rattle.capnp_wire.specs.Object.{places, row_places, rows_from}
+use Rattle.capnp_wire.specs.Traversed.{Within}
+use Rattle.capnp_wire.specs.Landing.{shape_of, words_in}
+use Rattle.capnp_wire.specs.Views.{Pointer, at_place, Shows, Accepts}
+use Rattle.capnp_wire.specs.Readers.{IsEntered, form_of}
+use Rattle.capnp_wire.specs.ListViews.{StructList, PointerList, HasRows, IsStructList, IsPointerList, TakesStructs, TakesPointers, DeclinesStructs, DeclinesPointers}
+use Rattle.capnp_wire.specs.declared.layout.place.Place.{Place}
+use Rattle.capnp_wire.specs.declared.layout.object.Body.{Body}
+use Rattle.capnp_wire.specs.declared.layout.object.Body.TheVariants.{Struct, Numbers, Pointers, Structs}
+use Rattle.capnp_wire.specs.declared.layout.pointer.Elements.{Elements}
+use Rattle.capnp_wire.specs.declared.layout.object.Object.{Object as ReadObject}
+use Rattle.capnp_wire.proofs.views.ViewLemmas.{Decides, wrong_kind_once, wrong_kind_unlimited}
+
+pub structs_decide : Decides TakesStructs DeclinesStructs
+structs_decide = record {
+  apart = λ form kind declined. declined.0;
+  once = λ form kind other p q. wrong_kind_once kind other p.1 q.1;
+  unlimited = λ form kind declined. wrong_kind_unlimited kind declined.1;
+}
+
+pub pointers_decide : Decides TakesPointers DeclinesPointers
+pointers_decide = record {
+  apart = λ form kind declined. declined.0;
+  once = λ form kind other p q. wrong_kind_once kind other p.1 q.1;
+  unlimited = λ form kind declined. wrong_kind_unlimited kind declined.1;
+}
+
+-- what a list of structs shows is of a form that it takes
+rows_taken : (form : Form) (p : ℕ) (rows : List (List ℕ)) → HasRows form p rows → TakesStructs form
+rows_taken null p rows t = tt
+rows_taken (struct words) p rows t = t
+rows_taken (numbers code values) p rows t = t
+rows_taken pointers p rows t = t
+rows_taken (structs d q there) p rows t = tt
+
+pub structs_accepted : (p : Pointer) (list : StructList) → IsStructList p list → Accepts p TakesStructs
+structs_accepted p list read = (read.shown.0, read.shown.1, rows_taken read.shown.0.form list.pointer_words list.rows read.shown.2.0)
+
+pub pointers_accepted : (p : Pointer) (list : PointerList) → IsPointerList p list → Accepts p TakesPointers
+pointers_accepted p list read = (read.shown.0, read.shown.1, read.shown.2.0)
+
+-- an object of another kind is declined
+other_structs : (words : List ℕ) (start : Place) (body : Body) → ((elements : Elements) (following : ℕ) → body ≡ Structs elements following → ⊥) → TakesStructs (shape_of words start body).form → ⊥
+other_structs words start (Struct size) none t = t
+other_structs words start (Numbers size n) none t = t
+other_structs words start (Pointers n) none t = t
+other_structs words start (Structs elements following) none t = none elements following refl
+
+pub other_than_structs : (object : ReadObject) (kind : ErrorKind) → ((elements : Elements) (following : ℕ) → object.body ≡ Structs elements following → ⊥)
+    → kind ≡ WrongPointerKind → DeclinesStructs (form_of object) kind
+other_than_structs object kind none is = (other_structs (words_of object.segment.now) object.start object.body none, is)
+
+other_pointers : (words : List ℕ) (start : Place) (body : Body) → ((n : ℕ) → body ≡ Pointers n → ⊥) → TakesPointers (shape_of words start body).form → ⊥
+other_pointers words start (Struct size) none t = t
+other_pointers words start (Numbers size n) none t = t
+other_pointers words start (Pointers n) none t = none n refl
+other_pointers words start (Structs elements following) none t = t
+
+pub other_than_pointers : (object : ReadObject) (kind : ErrorKind) → ((n : ℕ) → object.body ≡ Pointers n → ⊥) → kind ≡ WrongPointerKind → DeclinesPointers (form_of object) kind
+other_than_pointers object kind none is = (other_pointers (words_of object.segment.now) object.start object.body none, is)
+
+-- the elements of a list of structs that was entered
+pub structs_show : (p : Pointer) (object : ReadObject) (elements : Elements) (following : ℕ) → IsEntered p object → object.body ≡ Structs elements following
+    → Shows p (λ shape. HasRows shape.form elements.size.pointers
+    (rows_from (words_of object.segment.now) (object.start.word + 1) elements.size.data_words elements.size.pointers elements.count)
+    × (row_places object.start.segment (object.start.word + 1) elements.size.data_words elements.size.pointers elements.count ≡ shape.held)
+    × Within p.limit shape.traversed)
+structs_show p object elements following entered body =
+    let words = words_of object.segment.now in
+    let size = elements.size in
+    let fact : Body → Type 0 = λ b. HasRows (shape_of words object.start b).form size.pointers (rows_from words (object.start.word + 1) size.data_words size.pointers elements.count)
+    × (row_places object.start.segment (object.start.word + 1) size.data_words size.pointers elements.count ≡ (shape_of words object.start b).held) in
+    let holds : fact object.body = subst fact (sym body) ((refl, refl), refl) in (
+      record (shape_of words object.start object.body) { traversed = object.traversed },
+      at_place entered.stands entered.object_is.object (λ not. entered.nesting),
+      (holds.0, holds.1, entered.within),
+    )
+
+-- and lie within its segment
+pub structs_within : (p : Pointer) (object : ReadObject) (elements : Elements) (following : ℕ) → IsEntered p object → object.body ≡ Structs elements following
+    → object.start.word + 1 + elements.count * (elements.size.data_words + elements.size.pointers) ≤ length object.segment.now / 8
+structs_within p object elements following entered body =
+    let room = entered.object_is.room in
+    let inside = entered.object_is.elements in
+    let all : words_in object.body ≡ 1 + elements.count * (elements.size.data_words + elements.size.pointers) = ap words_in body in
+    omega (arith, room, inside, all)
+
+-- the pointers of a list that was entered
+pub pointers_show : (p : Pointer) (object : ReadObject) (n : ℕ) → IsEntered p object → object.body ≡ Pointers n
+    → Shows p (λ shape. TakesPointers shape.form × (places object.start.segment object.start.word n ≡ shape.held) × Within p.limit shape.traversed)
+pointers_show p object n entered body =
+    let words = words_of object.segment.now in
+    let fact : Body → Type 0 = λ b. TakesPointers (shape_of words object.start b).form × (places object.start.segment object.start.word n ≡ (shape_of words object.start b).held) in
+    let holds : fact object.body = subst fact (sym body) (tt, refl) in (
+      record (shape_of words object.start object.body) { traversed = object.traversed },
+      at_place entered.stands entered.object_is.object (λ not. entered.nesting),
+      (holds.0, holds.1, entered.within),
+    )

@@ -1,0 +1,106 @@
+-- What the views of lists of structs and of lists of pointers show (src/struct_list, any_pointer_list).
+use Rattle.std.specs.Prelude.{◌≡◌, ℕ, ◌-◌, ◌*◌, ⊤, List, [], Option, take, drop, slice_get, slice_index_or}
+use Rattle.capnp_frame.specs.declared.error.ErrorKind.{ErrorKind}
+use Rattle.capnp_frame.specs.declared.error.ErrorKind.TheVariants.{WrongPointerKind}
+use Rattle.capnp_frame.specs.declared.message.segments.ReaderSegments.{Ghosts}
+use Rattle.capnp_wire.specs.Pointer.{words_of}
+use Rattle.capnp_wire.specs.Tree.{Form, null, pointers, structs}
+use Rattle.capnp_wire.specs.Object.{message_of, places, row_places, rows_from}
+use Rattle.capnp_wire.specs.Traversed.{Within}
+use Rattle.capnp_wire.specs.Readers.{limit_of}
+use Rattle.capnp_wire.specs.Views.{Pointer, Struct, Shows}
+use Rattle.capnp_wire.specs.declared.layout.place.Place.{Place}
+use Rattle.capnp_wire.specs.declared.struct_list.reader.Reader.{Reader as StructListReader}
+use Rattle.capnp_wire.specs.declared.any_pointer_list.reader.Reader.{Reader as PointerListReader}
+
+-- A list of structs that is read: the message, the data words of each element, how many pointers each has, the places of
+-- the pointers of all in the order of the elements, how many objects may follow one another from these on, and the limit of
+-- words that are read.
+pub record StructList : Type 0 where
+  pub message : List (List ℕ)
+  pub rows : List (List ℕ)
+  pub pointer_words : ℕ
+  pub held : List Place
+  pub nesting : ℕ
+  pub limit : Option ℕ
+
+-- no elements from null, those of a list of structs
+abbrev pub HasRows : Form → ℕ → List (List ℕ) → Type 0
+HasRows null p rows = rows ≡ []
+HasRows (structs d q there) p rows = (p ≡ q) × (rows ≡ there)
+HasRows _ p rows = ⊥
+
+-- a list of structs: the elements that stand there, with one less of nesting depth left
+pub record IsStructList (pointer : Pointer) (list : StructList) : Type 0 where
+  pub same_message : list.message ≡ pointer.message
+  pub shown : Shows pointer (λ shape. HasRows shape.form list.pointer_words list.rows × (list.held ≡ shape.held)
+      × Within pointer.limit shape.traversed)
+  pub nesting_below : list.nesting ≡ pointer.nesting - 1
+  pub same_limit : list.limit ≡ pointer.limit
+
+-- an element: its data words, and its pointers, which follow those of the elements before it
+abbrev pub element_of : StructList → ℕ → Struct
+element_of list index = record {
+  message = list.message;
+  words = slice_index_or list.rows index [];
+  held = take list.pointer_words (drop (index * list.pointer_words) list.held);
+  nesting = list.nesting;
+  limit = list.limit;
+}
+
+-- a list of pointers that is read: the message, where they stand, how many objects may follow one another from these on, and
+-- the limit of words that are read
+pub record PointerList : Type 0 where
+  pub message : List (List ℕ)
+  pub held : List Place
+  pub nesting : ℕ
+  pub limit : Option ℕ
+
+-- forms that views of lists of structs and of pointers take
+abbrev pub TakesStructs : Form → Type 0
+TakesStructs null = ⊤
+TakesStructs (structs d p rows) = ⊤
+TakesStructs _ = ⊥
+
+abbrev pub TakesPointers : Form → Type 0
+TakesPointers null = ⊤
+TakesPointers pointers = ⊤
+TakesPointers _ = ⊥
+
+-- a list of pointers: none from null, those that stand there, with one less of nesting depth left
+pub record IsPointerList (pointer : Pointer) (list : PointerList) : Type 0 where
+  pub same_message : list.message ≡ pointer.message
+  pub shown : Shows pointer (λ shape. TakesPointers shape.form × (list.held ≡ shape.held) × Within pointer.limit shape.traversed)
+  pub nesting_below : list.nesting ≡ pointer.nesting - 1
+  pub same_limit : list.limit ≡ pointer.limit
+
+-- one of its pointers
+abbrev pub pointer_at : PointerList → ℕ → Pointer
+pointer_at list index = record { message = list.message; place = slice_get list.held index; nesting = list.nesting; limit = list.limit }
+
+-- and how other forms are refused
+abbrev pub DeclinesStructs : Form → ErrorKind → Type 0
+DeclinesStructs form kind = (TakesStructs form → ⊥) × (kind ≡ WrongPointerKind)
+
+abbrev pub DeclinesPointers : Form → ErrorKind → Type 0
+DeclinesPointers form kind = (TakesPointers form → ⊥) × (kind ≡ WrongPointerKind)
+
+-- what contracts see of the readers
+abbrev pub struct_list_of : {S : Type 0} {ghosts : Ghosts S} → (S → List (List ℕ)) → StructListReader S ghosts → StructList
+struct_list_of segments reader =
+    let size = reader.elements.size in record {
+      message = message_of (segments reader.segments.now);
+      rows = rows_from (words_of reader.segment.now) reader.first.word size.data_words size.pointers reader.elements.count;
+      pointer_words = size.pointers;
+      held = row_places reader.first.segment reader.first.word size.data_words size.pointers reader.elements.count;
+      nesting = reader.nesting;
+      limit = limit_of reader.limiter;
+    }
+
+abbrev pub pointer_list_of : {S : Type 0} → (S → List (List ℕ)) → PointerListReader S → PointerList
+pointer_list_of segments reader = record {
+  message = message_of (segments reader.segments.now);
+  held = places reader.first.segment reader.first.word reader.count;
+  nesting = reader.nesting;
+  limit = limit_of reader.limiter;
+}

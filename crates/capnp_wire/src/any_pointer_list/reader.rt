@@ -1,0 +1,110 @@
+//! Lists of pointers that are read.
+ghost use Rattle.std.specs.Prelude.{◌≡◌, ◌+◌, ◌^◌, ◌<◌, length, MatchResult};
+
+use crate::any_pointer;
+use crate::entered::wrong_kind;
+use crate::layout::place::Place;
+use crate::read_limiter::ReadLimiter;
+use crate::traits::FromPointerReader;
+use capnp_frame::Result;
+use capnp_frame::message::ReaderSegments;
+
+/// A list of pointers in a message.
+#[derive(Drop)]
+pub struct Reader<'a, S> {
+    pub(crate) segments: &'a S,
+    pub(crate) limiter: Option<&'a ReadLimiter>,
+    /// Where the first pointer stands.
+    pub(crate) first: Place,
+    pub(crate) count: u32,
+    pub(crate) nesting: u32,
+    ghost bound: { first.word + count < 2 ^ 64 },
+}
+
+impl<'a, S: ReaderSegments> Reader<'a, S> {
+    ghost use Rattle.capnp_wire.specs.Readers.{pointer_of};
+    ghost use Rattle.capnp_wire.specs.Views.{Refuses};
+    ghost use Rattle.capnp_wire.specs.ListViews.{pointer_list_of, pointer_at, IsPointerList, DeclinesPointers};
+
+    /// The number of elements.
+    pub fn len(&self) -> u32
+        ensures { result ≡ length (pointer_list_of S.segments self.now).held }
+    {
+        self.count
+    }
+
+    /// The pointer of this index. What it leads to is counted against the traversal limit when it is
+    /// followed.
+    pub fn get(&self, index: u32) -> any_pointer::Reader<'a, S>
+        requires { index < length (pointer_list_of S.segments self.now).held }
+        ensures { pointer_of S.segments result
+            ≡ pointer_at (pointer_list_of S.segments self.now) index }
+    {
+        any_pointer::Reader {
+            segments: self.segments,
+            limiter: self.limiter,
+            place: Some(Place {
+                segment: self.first.segment,
+                word: self.first.word + index as usize,
+            }),
+            nesting: self.nesting,
+        }
+    }
+
+    // The list of pointers that a pointer leads to.
+    fn read(reader: &any_pointer::Reader<'a, S>) -> Result<Reader<'a, S>>
+        ensures { let pointer = pointer_of S.segments reader.now in MatchResult result
+            (λ view. IsPointerList pointer (pointer_list_of S.segments view))
+            (λ error. Refuses pointer DeclinesPointers error.kind) }
+    {
+        let segments = reader.segments;
+        let limiter = reader.limiter;
+        let nesting = reader.nesting.saturating_sub(1);
+        let Some(object) = reader.enter()? else {
+            return Ok(Reader {
+                segments,
+                limiter,
+                first: Place {
+                    segment: 0,
+                    word: 0,
+                },
+                count: 0,
+                nesting,
+            });
+        };
+        let Some(count) = object.body.as_pointers() else {
+            return Err(wrong_kind());
+        };
+        Ok(Reader {
+            segments,
+            limiter,
+            first: object.start,
+            count,
+            nesting,
+        })
+    }
+}
+
+// No elements from null; any object but a list of pointers fails with `WrongPointerKind`.
+impl<'a, S: ReaderSegments> FromPointerReader<'a, S> for Reader<'a, S> {
+    ghost use Rattle.capnp_wire.specs.Readers.{pointer_of};
+    ghost use Rattle.capnp_wire.specs.Views.{IsViewOf, Accepts, Refuses, Declines};
+    ghost use Rattle.capnp_wire.specs.ListViews.{pointer_list_of, IsPointerList, TakesPointers, DeclinesPointers};
+
+    ghost shows = { λ pointer view. IsPointerList pointer (pointer_list_of S.segments view) };
+
+    ghost accepts = { λ pointer. Accepts pointer TakesPointers };
+
+    ghost refuses = { λ pointer kind. Refuses pointer DeclinesPointers kind };
+
+    ghost declines = { λ pointer kind. Declines pointer DeclinesPointers kind };
+
+    fn get_from_pointer(reader: any_pointer::Reader<'a, S>) -> Result<Self>
+        ensures { let pointer = pointer_of S.segments reader.entry in IsViewOf pointer
+            (λ view. IsPointerList pointer (pointer_list_of S.segments view))
+            (Accepts pointer TakesPointers) (Refuses pointer DeclinesPointers)
+            (Declines pointer DeclinesPointers) result }
+    {
+        Reader::read(&reader)
+    }
+}

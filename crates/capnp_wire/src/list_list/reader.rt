@@ -1,0 +1,69 @@
+//! Lists of pointers to views of one type, which are read.
+ghost use Rattle.std.specs.Prelude.{◌≡◌, ◌<◌, length};
+
+use crate::any_pointer;
+use crate::any_pointer_list;
+use crate::traits::FromPointerReader;
+use capnp_frame::Result;
+use capnp_frame::message::ReaderSegments;
+use std::marker::PhantomData;
+
+/// A list of pointers in a message, each of which is read as a view of one type.
+#[derive(Drop)]
+pub struct Reader<'a, S, T> {
+    pub(crate) pointers: any_pointer_list::Reader<'a, S>,
+    element: PhantomData<T>,
+}
+
+impl<'a, S: ReaderSegments, T: FromPointerReader<'a, S>> Reader<'a, S, T> {
+    ghost use Rattle.capnp_wire.specs.Views.{IsViewOf};
+    ghost use Rattle.capnp_wire.specs.ListViews.{pointer_list_of, pointer_at};
+
+    /// The number of elements.
+    pub fn len(&self) -> u32
+        ensures { result ≡ length (pointer_list_of S.segments self.now.pointers).held }
+    {
+        self.pointers.len()
+    }
+
+    /// The element of this index, or why it is none. It is counted against the traversal limit each
+    /// time.
+    pub fn get(&self, index: u32) -> Result<T>
+        requires { index < length (pointer_list_of S.segments self.now.pointers).held }
+        ensures { let pointer = pointer_at (pointer_list_of S.segments self.now.pointers) index in
+            IsViewOf pointer (T.shows pointer) (T.accepts pointer) (T.refuses pointer)
+            (T.declines pointer) result }
+    {
+        T::get_from_pointer(self.pointers.get(index))
+    }
+}
+
+// No elements from null; any object but a list of pointers fails with `WrongPointerKind`.
+impl<'a, S: ReaderSegments, T> FromPointerReader<'a, S> for Reader<'a, S, T> {
+    ghost use Rattle.capnp_wire.specs.Readers.{pointer_of};
+    ghost use Rattle.capnp_wire.specs.Views.{IsViewOf, Accepts, Refuses, Declines};
+    ghost use Rattle.capnp_wire.specs.ListViews.{pointer_list_of, IsPointerList, TakesPointers, DeclinesPointers};
+
+    ghost shows = { λ pointer view. IsPointerList pointer (pointer_list_of S.segments view.pointers) };
+
+    ghost accepts = { λ pointer. Accepts pointer TakesPointers };
+
+    ghost refuses = { λ pointer kind. Refuses pointer DeclinesPointers kind };
+
+    ghost declines = { λ pointer kind. Declines pointer DeclinesPointers kind };
+
+    fn get_from_pointer(reader: any_pointer::Reader<'a, S>) -> Result<Self>
+        ensures { let pointer = pointer_of S.segments reader.entry in IsViewOf pointer
+            (λ view. IsPointerList pointer (pointer_list_of S.segments view.pointers))
+            (Accepts pointer TakesPointers) (Refuses pointer DeclinesPointers)
+            (Declines pointer DeclinesPointers) result }
+    {
+        match any_pointer_list::Reader::get_from_pointer(reader) {
+            Ok(pointers) => Ok(Reader {
+                pointers,
+                element: PhantomData,
+            }),
+            Err(error) => Err(error),
+        }
+    }
+}

@@ -1,0 +1,133 @@
+//! Lists of structs that are read.
+ghost use Rattle.std.specs.Prelude.{◌≡◌, ◌+◌, ◌*◌, ◌/◌, ◌<◌, ◌≤◌, length, MatchResult};
+ghost use Rattle.capnp_wire.specs.Pointer.{words_of};
+ghost use Rattle.capnp_wire.specs.Object.{message_of};
+ghost use Rattle.capnp_wire.specs.Values.{HoldsPointers};
+
+use crate::any_pointer;
+use crate::any_struct::StructReader;
+use crate::entered::wrong_kind;
+use crate::layout::place::Place;
+use crate::layout::pointer::{Elements, StructSize};
+use crate::read_limiter::ReadLimiter;
+use crate::traits::FromPointerReader;
+use capnp_frame::Result;
+use capnp_frame::message::ReaderSegments;
+
+/// A list of structs in a message, all of one size.
+#[derive(Drop)]
+pub struct Reader<'a, S: ReaderSegments> {
+    pub(crate) segments: &'a S,
+    pub(crate) limiter: Option<&'a ReadLimiter>,
+    pub(crate) segment: &'a [u8],
+    /// Where the first element begins, after the tag.
+    pub(crate) first: Place,
+    pub(crate) elements: Elements,
+    pub(crate) nesting: u32,
+    ghost room: { first.word + elements.count * (elements.size.data_words + elements.size.pointers)
+        ≤ length segment.now / 8 },
+    ghost content: { HoldsPointers (message_of (S.segments segments.now)) (words_of segment.now)
+        first elements.size },
+}
+
+impl<'a, S: ReaderSegments> Reader<'a, S> {
+    ghost use Rattle.capnp_wire.specs.Readers.{struct_of, pointer_of};
+    ghost use Rattle.capnp_wire.specs.Views.{Refuses};
+    ghost use Rattle.capnp_wire.specs.ListViews.{struct_list_of, element_of, IsStructList, DeclinesStructs};
+
+    /// The number of elements.
+    pub fn len(&self) -> u32
+        ensures { result ≡ length (struct_list_of S.segments self.now).rows }
+    {
+        self.elements.count
+    }
+
+    /// The element of this index, whose pointers have as much nesting depth left as those of the list.
+    /// Its words were counted against the traversal limit with the list's.
+    pub fn get(&self, index: u32) -> StructReader<'a, S>
+        requires { index < length (struct_list_of S.segments self.now).rows }
+        ensures { struct_of S.segments result
+            ≡ element_of (struct_list_of S.segments self.now) index }
+    {
+        let words_before = index as usize * self.elements.size.words() as usize;
+        StructReader {
+            segments: self.segments,
+            limiter: self.limiter,
+            segment: self.segment,
+            start: Place {
+                segment: self.first.segment,
+                word: self.first.word + words_before,
+            },
+            size: self.elements.size,
+            nesting: self.nesting,
+        }
+    }
+
+    // The list of structs that a pointer leads to.
+    fn read(reader: &any_pointer::Reader<'a, S>) -> Result<Reader<'a, S>>
+        ensures { let pointer = pointer_of S.segments reader.now in MatchResult result
+            (λ view. IsStructList pointer (struct_list_of S.segments view))
+            (λ error. Refuses pointer DeclinesStructs error.kind) }
+    {
+        let segments = reader.segments;
+        let limiter = reader.limiter;
+        let nesting = reader.nesting.saturating_sub(1);
+        let Some(object) = reader.enter()? else {
+            return Ok(Reader {
+                segments,
+                limiter,
+                segment: &[],
+                first: Place {
+                    segment: 0,
+                    word: 0,
+                },
+                elements: Elements {
+                    size: StructSize {
+                        data_words: 0,
+                        pointers: 0,
+                    },
+                    count: 0,
+                },
+                nesting,
+            });
+        };
+        let Some(elements) = object.body.as_structs() else {
+            return Err(wrong_kind());
+        };
+        Ok(Reader {
+            segments,
+            limiter,
+            segment: object.segment,
+            first: Place {
+                segment: object.start.segment,
+                word: object.start.word + 1,
+            },
+            elements,
+            nesting,
+        })
+    }
+}
+
+// No elements from null; any object but a list of structs fails with `WrongPointerKind`.
+impl<'a, S: ReaderSegments> FromPointerReader<'a, S> for Reader<'a, S> {
+    ghost use Rattle.capnp_wire.specs.Readers.{pointer_of};
+    ghost use Rattle.capnp_wire.specs.Views.{IsViewOf, Accepts, Refuses, Declines};
+    ghost use Rattle.capnp_wire.specs.ListViews.{struct_list_of, IsStructList, TakesStructs, DeclinesStructs};
+
+    ghost shows = { λ pointer view. IsStructList pointer (struct_list_of S.segments view) };
+
+    ghost accepts = { λ pointer. Accepts pointer TakesStructs };
+
+    ghost refuses = { λ pointer kind. Refuses pointer DeclinesStructs kind };
+
+    ghost declines = { λ pointer kind. Declines pointer DeclinesStructs kind };
+
+    fn get_from_pointer(reader: any_pointer::Reader<'a, S>) -> Result<Self>
+        ensures { let pointer = pointer_of S.segments reader.entry in IsViewOf pointer
+            (λ view. IsStructList pointer (struct_list_of S.segments view))
+            (Accepts pointer TakesStructs) (Refuses pointer DeclinesStructs)
+            (Declines pointer DeclinesStructs) result }
+    {
+        Reader::read(&reader)
+    }
+}
