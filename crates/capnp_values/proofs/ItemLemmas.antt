@@ -28,7 +28,7 @@ items_settled h (v ∷ vs) t is =
     let next : length vs + 1 ≡ suc (length vs) = omega arith in
     subst (λ (n : ℕ). IsSettled n t) next (settled_more (length vs) t (h v) (λ x. AreItems h vs x) is (items_settled h vs is.rest is.others))
 
-formed_small : (c : Bool) (size : ℕ) (t : Trees) → IsSettled size t → total_words (formed c t) ≤ size * 2 ^ 29
+pub formed_small : (c : Bool) (size : ℕ) (t : Trees) → IsSettled size t → total_words (formed c t) ≤ size * 2 ^ 29
 formed_small true size t s = omega (arith, total-trim t s.rooms, s.few)
 formed_small false size t s = s.few
 

@@ -4,6 +4,9 @@ pub mod ReachLemmas
 pub mod ResultLemmas
 pub mod RowLemmas
 pub mod StructLemmas
+pub mod StructListLemmas
+pub mod StructRowLemmas
+pub mod StructListValueLemmas
 pub mod SectionLemmas
 pub mod NullLemmas
 pub mod ItemLemmas

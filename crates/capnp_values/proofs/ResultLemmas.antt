@@ -16,8 +16,8 @@ err_kind {X = X} r error kind is e = subst (λ (a : Result X Error). IsErrAnd a 
 pub same_ok : (r : Result ℕ Error) (x y : ℕ) → r ≡ Ok x → r ≡ Ok y → x ≡ y
 same_ok r x y a b = cc
 
-pub unwrapped : (r : Result ℕ Error) (x y : ℕ) → r ≡ Ok x → y ≡ result_unwrap_or r 0 → y ≡ x
-unwrapped r x y a b = b ∙ ap (λ (a : Result ℕ Error). result_unwrap_or a 0) a
+pub unwrapped : {X : Type 0} (r : Result X Error) (other x y : X) → r ≡ Ok x → y ≡ result_unwrap_or r other → y ≡ x
+unwrapped {X = X} r other x y a b = b ∙ ap (λ (a : Result X Error). result_unwrap_or a other) a
 
 pub refused_first : (h : Trees → Type 0) (r rr : ErrorKind → Type 0) (returned : Result ℕ Error) (error : Error) (kind : ErrorKind) → returned ≡ Err error
     → ((words : ℕ) → HasWords h false words → returned ≡ Ok words) → ((k : ErrorKind) → LacksWords h r false k → IsErrAnd returned (λ e. e.kind ≡ k)) → RefusesRow h r rr kind

@@ -3,3 +3,4 @@ pub mod Fields
 pub mod FieldLaws
 pub mod Structs
 pub mod Lists
+pub mod StructLists

@@ -9,17 +9,21 @@
 #![tactic(auto)]
 
 pub mod borrowed;
+pub mod element;
 pub mod fields;
 mod items;
 pub mod null;
 mod part;
 pub mod pointer_list;
-mod pointer_word;
+mod rows;
 mod sections;
+pub mod struct_list;
 pub mod struct_value;
 
 pub use borrowed::Borrowed;
+pub use element::Element;
 pub use fields::{Field, Fields, NoFields};
 pub use null::Null;
 pub use pointer_list::PointerList;
+pub use struct_list::StructList;
 pub use struct_value::StructValue;

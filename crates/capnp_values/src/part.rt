@@ -1,12 +1,14 @@
 //! Values as parts of others: the words that each takes, and what is written of it.
+ghost use Rattle.capnp_frame.specs.Words.{bytes_of};
 ghost use Rattle.std.specs.Prelude.{◌≡◌, ◌*◌, ◌<◌, ◌^◌, ◌∷◌, [], false, length, replicate};
-ghost use Rattle.capnp_wire.specs.Pointer.{words_of};
+ghost use Rattle.capnp_wire.specs.Pointer.{number_of, words_of};
 ghost use Rattle.capnp_wire.specs.Tree.{Form, Trees, none, tree, total_words, is_null as null_form};
 ghost use Rattle.capnp_wire.specs.Layout.{pointer_to, body, formed};
 ghost use Rattle.capnp_wire.specs.Values.{HasWords};
 ghost use Rattle.capnp_values.specs.Fields.{IsPart, CanWritePart};
 
-use crate::pointer_word::{moved, number};
+use capnp_frame::Word;
+use capnp_wire::pointer_word::moved;
 use capnp_wire::traits::SetterInput;
 
 /// The words of a value, as it stands or in canonical form.
@@ -53,4 +55,11 @@ pub(crate) fn put_part<T, V: SetterInput<T>>(
     let word = value.write(canonical, block);
     let link = moved(number(word), offset);
     slot.copy_from_slice(&link.to_le_bytes());
+}
+
+// A word as the number that it is.
+fn number(word: Word) -> u64
+    ensures { result ≡ number_of 256 (bytes_of word) }
+{
+    u64::from_le_bytes(word.bytes())
 }

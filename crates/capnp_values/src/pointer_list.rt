@@ -1,12 +1,10 @@
 //! Lists of pointers as values.
-ghost use Rattle.std.specs.Prelude.{◌≡◌, ◌^◌, ◌-◌, ◌<◌, min};
-ghost use Rattle.capnp_frame.specs.declared.error.ErrorKind.TheVariants.{AllocationTooLarge};
-ghost use Rattle.capnp_wire.specs.Layout.{list_pointer};
+ghost use Rattle.std.specs.Prelude.{◌≡◌};
 
 use crate::items::{measure_items, write_items};
-use crate::pointer_word::word_of;
-use crate::sections::fitting;
-use capnp_frame::{Error, ErrorKind, Result, Word};
+use crate::sections::{fitting, too_many};
+use capnp_frame::{Result, Word};
+use capnp_wire::pointer_word::{list_word, word_of};
 use capnp_wire::traits::SetterInput;
 use std::marker::PhantomData;
 
@@ -54,7 +52,7 @@ impl<'a, T, V: SetterInput<T>> SetterInput<Owned<T>> for PointerList<'a, T, V> {
     fn measure(&self, canonical: bool) -> Result<u32> {
         let count = self.items.len();
         if count >= 1 << 29 {
-            return Err(too_many(count));
+            return Err(too_many(count as u64));
         }
         let words = measure_items::<T, V>(self.items, canonical)?;
         fitting(count as u64 + words, canonical)
@@ -64,26 +62,6 @@ impl<'a, T, V: SetterInput<T>> SetterInput<Owned<T>> for PointerList<'a, T, V> {
         let count = self.items.len();
         let (slots, held) = block.split_at_mut(8 * count);
         write_items::<T, V>(self.items, canonical, slots, held);
-        word_of(list_word(count))
+        word_of(list_word(0, 6, count as u64))
     }
-}
-
-// A given number of elements are too many for a pointer.
-fn too_many(count: usize) -> Error
-    ensures { result.kind ≡ AllocationTooLarge (min count (2 ^ 32 - 1)) }
-{
-    let told = if count < u32::MAX as usize {
-        count as u32
-    } else {
-        u32::MAX
-    };
-    Error::from_kind(ErrorKind::AllocationTooLarge(told))
-}
-
-// The word of the pointer to a list of pointers that follows it at once.
-fn list_word(count: usize) -> u64
-    requires { count < 2 ^ 29 }
-    ensures { result ≡ list_pointer 0 6 count }
-{
-    1 + (1 << 32) * 6 + (1 << 35) * count as u64
 }

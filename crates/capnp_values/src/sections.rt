@@ -1,5 +1,6 @@
 //! The sections of structs: their data words, and their pointers.
-ghost use Rattle.std.specs.Prelude.{◌≡◌, ◌↔◌, ◌+◌, ◌-◌, ◌*◌, ◌/◌, ◌%◌, ◌<◌, ◌≤◌, ◌^◌, ◌++◌, ◌==◌, if◌then◌else◌, ℕ, All, IsTrue, length, replicate, MatchResult};
+ghost use Rattle.std.specs.Prelude.{◌≡◌, ◌↔◌, ◌+◌, ◌-◌, ◌*◌, ◌/◌, ◌%◌, ◌<◌, ◌≤◌, ◌^◌, ◌++◌, ◌==◌, if◌then◌else◌, ℕ, min, All, IsTrue, length, replicate, MatchResult};
+ghost use Rattle.capnp_frame.specs.declared.error.ErrorKind.TheVariants.{AllocationTooLarge};
 ghost use Rattle.capnp_wire.specs.Pointer.{words_of};
 ghost use Rattle.capnp_wire.specs.Tree.{Trees, count};
 ghost use Rattle.capnp_wire.specs.Trim.{cut_zeros, first};
@@ -10,6 +11,7 @@ ghost use Rattle.capnp_values.specs.Structs.{kept_words};
 
 use crate::fields::Fields;
 use capnp_frame::{Error, ErrorKind, Result};
+use capnp_wire::pointer_word;
 
 /// A pointer can tell a given number of data words, and a given number of pointers.
 pub(crate) fn fits(words: &[u64], fields: u32) -> bool
@@ -29,12 +31,19 @@ pub(crate) fn fitting(words: u64, canonical: bool) -> Result<u32>
     if canonical {
         return Err(Error::from_kind(ErrorKind::CanonicalTooLarge));
     }
-    let told = if words < u32::MAX as u64 {
-        words as u32
+    Err(too_many(words))
+}
+
+/// A given number of words or of elements are too many for a pointer.
+pub(crate) fn too_many(number: u64) -> Error
+    ensures { result.kind ≡ AllocationTooLarge (min number (2 ^ 32 - 1)) }
+{
+    let told = if number < u32::MAX as u64 {
+        number as u32
     } else {
         u32::MAX
     };
-    Err(Error::from_kind(ErrorKind::AllocationTooLarge(told)))
+    Error::from_kind(ErrorKind::AllocationTooLarge(told))
 }
 
 /// A number of eight bytes is below 2^64.
@@ -101,7 +110,7 @@ pub(crate) fn struct_word(words: usize, pointers: u32) -> u64
     } else {
         0
     };
-    4 * offset + (1 << 32) * words as u64 + (1 << 48) * pointers as u64
+    pointer_word::struct_word(offset, words as u16, pointers as u16)
 }
 
 /// Writes data words and after them the first pointers of a row, and what these lead to into a block

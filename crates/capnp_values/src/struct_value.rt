@@ -1,13 +1,14 @@
 //! Structs as values.
 ghost use Rattle.std.specs.Prelude.{◌≡◌};
 
-use crate::fields::Fields;
-use crate::pointer_word::word_of;
+use crate::element::Element;
+use crate::fields::{Extent, Fields};
 use crate::sections::{
     fits, fitting, kept_data, kept_pointers, struct_word, words_fit, write_sections,
 };
 use capnp_frame::{Error, ErrorKind, Result, Word};
 use capnp_wire::any_struct::Owned;
+use capnp_wire::pointer_word::word_of;
 use capnp_wire::traits::SetterInput;
 
 /// A struct of data words and of pointer fields (encoding document, "Structs").
@@ -66,5 +67,43 @@ impl<const D: usize, F: Fields> SetterInput<Owned> for StructValue<D, F> {
         let (own, held) = block.split_at_mut(8 * (data + pointers as usize));
         write_sections(&words[..data], &self.fields, canonical, 0, own, held);
         word_of(struct_word(data, pointers))
+    }
+}
+
+// The fields alone.
+impl<const D: usize, F: Fields> Fields for StructValue<D, F> {
+    ghost size = { F.size };
+
+    ghost has_trees = { λ value trees. F.has_trees value.fields trees };
+
+    ghost refuses = { λ value kind. F.refuses value.fields kind };
+
+    ghost settled = { λ value trees is. F.settled value.fields trees is };
+
+    fn count() -> u32 {
+        F::count()
+    }
+
+    fn measure(&self, canonical: bool) -> Result<Extent> {
+        self.fields.measure(canonical)
+    }
+
+    fn write(&self, canonical: bool, gap: u32, pointers: &mut [u8], block: &mut [u8]) {
+        self.fields.write(canonical, gap, pointers, block)
+    }
+}
+
+impl<const D: usize, F: Fields> Element for StructValue<D, F> {
+    ghost data_words = { D };
+
+    ghost words = { λ value. value.words };
+
+    fn data_words() -> usize {
+        D
+    }
+
+    fn words(&self) -> &[u64] {
+        words_fit(&self.words);
+        &self.words
     }
 }

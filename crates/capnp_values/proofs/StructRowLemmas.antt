@@ -1,0 +1,283 @@
+-- Lists of structs: what is written of their elements, from the last one on.
+use Rattle.std.proofs.Common.{◌≡◌, ℕ, zero, suc, ◌+◌, ◌-◌, ◌*◌, ◌/◌, ◌<◌, ◌≤◌, Bool, true, false, List, [], ◌∷◌, ◌++◌, length, map, take, drop, refl, sym, ◌∙◌, ap, subst, arith, get_or, length-take, length-drop, take-take, append_assoc}
+use Rattle.std.specs.Prelude.{replicate}
+use Rattle.std.proofs.lemmas.List.{take_all, take-replicate, length-append}
+use Rattle.std.proofs.Math.Seq.{take-append_seam, drop-append_seam}
+use Rattle.capnp_wire.specs.Pointer.{words_of}
+use Rattle.capnp_wire.specs.Tree.{Form, Trees, none, tree, count, own_words, total_words}
+use Rattle.capnp_wire.specs.Trim.{first, before, trim}
+use Rattle.capnp_wire.specs.Layout.{pointer, run, row_run, pointers_to, woven, own, body, formed}
+use Rattle.capnp_wire.proofs.words.PutLemmas.{words_split}
+use Rattle.capnp_wire.proofs.layouts.SizeLemmas.{links_of, length-run, length-pointers_to}
+use Rattle.capnp_wire.proofs.trees.ChunkLemmas.{count-first, total-before, least_pointers_within}
+use Rattle.capnp_values.specs.Fields.{IsSettled, kept_row, extent_of, CanWriteRow}
+use Rattle.capnp_values.specs.declared.fields.Extent.{Extent}
+use Rattle.capnp_values.specs.StructLists.{AreRows, kept_pointers, shown, FillsRows, RowsWritten}
+use Rattle.capnp_values.proofs.PointerListLemmas.{count_formed}
+use Rattle.capnp_values.proofs.ItemLemmas.{from_here}
+use Rattle.capnp_values.proofs.ItemRowLemmas.{with_part, with_part_rest, front_there}
+use Rattle.capnp_values.proofs.StructListLemmas.{shown_front, pointers_front, row_first}
+
+-- trees before others: their pointers, and what these lead to
+pointers_both : (s t : List ℕ) (next : ℕ) (a b : Trees) → length s ≡ count a → pointers_to (s ++ t) next (before a b) ≡ pointers_to s next a ++ pointers_to t (next + total_words a) b
+pointers_both [] t next none b long = ap (λ (n : ℕ). pointers_to t n b) (omega arith)
+pointers_both (x ∷ s) t next none b long = absurd (omega (arith, long))
+pointers_both [] t next (tree f h r) b long = absurd (omega (arith, long))
+pointers_both (x ∷ s) t next (tree f h r) b long =
+    let onward : next + own_words f (count h) + total_words h + total_words r ≡ next + (own_words f (count h) + total_words h + total_words r) = omega arith in
+    ap (λ (l : List ℕ). pointer f (count h) (next - (x + 1)) ∷ l)
+    (pointers_both s t (next + own_words f (count h) + total_words h) r b (omega (arith, long))
+    ∙ ap (λ (n : ℕ). pointers_to s (next + own_words f (count h) + total_words h) r ++ pointers_to t n b) onward)
+
+abbrev own_layout : Form → Trees → List ℕ
+own_layout form held = own form (links_of form held) ++ body held
+
+body_both : (a b : Trees) → body (before a b) ≡ body a ++ body b
+body_both none b = refl
+body_both (tree f h r) b = ap (λ (l : List ℕ). own_layout f h ++ l) (body_both r b) ∙ sym (append_assoc (own_layout f h) (body r) (body b))
+
+-- an element in front of others
+weave_front : (m : ℕ) (row : List ℕ) (rows : List (List ℕ)) (a b : List ℕ) → length a ≡ m → woven m (row ∷ rows) (a ++ b) ≡ (row ++ a) ++ woven m rows b
+weave_front m row rows a b long =
+    let front : take m (a ++ b) ≡ a = ap (λ (n : ℕ). take n (a ++ b)) (sym long) ∙ take-append_seam a b in
+    let back : drop m (a ++ b) ≡ b = ap (λ (n : ℕ). drop n (a ++ b)) (sym long) ∙ drop-append_seam a b in
+    ap (λ (l : List ℕ). row ++ l ++ woven m rows (drop m (a ++ b))) front ∙ ap (λ (l : List ℕ). row ++ a ++ woven m rows l) back
+
+pub element_in_front : (c : Bool) (d m p at next further end gap : ℕ) (words : List ℕ) (rows : List (List ℕ)) (row rest held : Trees) (slot others : List ℕ) → held ≡ before row rest → count row ≡ p → m ≤ p
+    → length slot ≡ 8 * (d + m) → 1 + at + d + m + gap ≡ next → further ≡ next + total_words (first m (formed c row)) → end ≡ at + (d + m)
+    → words_of slot ≡ take d words ++ pointers_to (run (1 + at + d) m) (1 + at + d + m + gap) (first m (formed c row))
+    → words_of others ≡ woven m (map (take d) rows) (pointers_to (row_run (1 + end) d m (map (take d) rows)) further (shown c m p rows rest))
+    → words_of (slot ++ others) ≡ woven m (map (take d) (words ∷ rows)) (pointers_to (row_run (1 + at) d m (map (take d) (words ∷ rows))) next (shown c m p (words ∷ rows) held))
+element_in_front c d m p at next further end gap words rows row rest held slot others whole many le long next_is further_is end_is slot_is others_are =
+    let x : Trees = first m (formed c row) in
+    let y : Trees = shown c m p rows rest in
+    let s : List ℕ = run (1 + at + d) m in
+    let t : List ℕ = row_run (1 + at + d + m) d m (map (take d) rows) in
+    let some : count x ≡ m = count-first m (formed c row) (omega (arith, count_formed c row)) in
+    let same : length s ≡ count x = length-run (1 + at + d) m ∙ sym some in
+    let links_long : length (pointers_to s next x) ≡ m = length-pointers_to s next x same ∙ some in
+    let begins : 1 + end ≡ 1 + at + d + m = omega (arith, end_is) in
+    let slot_there : words_of slot ≡ take d words ++ pointers_to s next x = slot_is ∙ ap (λ (n : ℕ). take d words ++ pointers_to s n x) next_is in
+    let others_there : words_of others ≡ woven m (map (take d) rows) (pointers_to t (next + total_words x) y) =
+    others_are ∙ ap (λ (n : ℕ). woven m (map (take d) rows) (pointers_to (row_run n d m (map (take d) rows)) further y)) begins
+    ∙ ap (λ (n : ℕ). woven m (map (take d) rows) (pointers_to t n y)) further_is in
+    words_split (d + m) slot others long
+    ∙ ap (λ (l : List ℕ). l ++ words_of others) slot_there
+    ∙ ap (λ (l : List ℕ). (take d words ++ pointers_to s next x) ++ l) others_there
+    ∙ sym (weave_front m (take d words) (map (take d) rows) (pointers_to s next x) (pointers_to t (next + total_words x) y) links_long)
+    ∙ ap (λ (l : List ℕ). woven m (map (take d) (words ∷ rows)) l) (sym (pointers_both s t next x y same))
+    ∙ ap (λ (a : Trees). woven m (map (take d) (words ∷ rows)) (pointers_to (s ++ t) next a)) (sym (shown_front c m p words rows row rest held whole many))
+
+-- and what it leads to
+pub body_in_front : (c : Bool) (m p n : ℕ) (words : List ℕ) (rows : List (List ℕ)) (row rest held : Trees) (part others : List ℕ) → held ≡ before row rest → count row ≡ p → length part ≡ 8 * n
+    → words_of part ≡ body (first m (formed c row)) → words_of others ≡ body (shown c m p rows rest) → words_of (part ++ others) ≡ body (shown c m p (words ∷ rows) held)
+body_in_front c m p n words rows row rest held part others whole many long part_is others_are =
+    words_split n part others long
+    ∙ ap (λ (l : List ℕ). l ++ words_of others) part_is
+    ∙ ap (λ (l : List ℕ). body (first m (formed c row)) ++ l) others_are
+    ∙ sym (body_both (first m (formed c row)) (shown c m p rows rest))
+    ∙ ap body (sym (shown_front c m p words rows row rest held whole many))
+
+shown_total : (c : Bool) (m p : ℕ) (words : List ℕ) (rows : List (List ℕ)) (row rest held : Trees) → held ≡ before row rest → count row ≡ p
+    → total_words (shown c m p (words ∷ rows) held) ≡ total_words (first m (formed c row)) + total_words (shown c m p rows rest)
+shown_total c m p words rows row rest held whole many =
+    ap total_words (shown_front c m p words rows row rest held whole many) ∙ total-before (first m (formed c row)) (shown c m p rows rest)
+
+-- the structs from one on: no more words, and no more pointers of each
+pub record RowsFrom {V : Type 0} (w : V → List ℕ) (h : V → Trees → Type 0) (c : Bool) (m p : ℕ) (vs : List V) (all least : ℕ) : Type 0 where
+  pub held : Trees
+  pub held_is : AreRows h vs held
+  pub fewer : total_words (shown c m p (map w vs) held) ≤ all
+  pub narrow : kept_pointers c p (map w vs) held ≤ least
+
+pub rows_from : {V : Type 0} (w : V → List ℕ) (h : V → Trees → Type 0) (c : Bool) (m p : ℕ) → ((v : V) (t : Trees) → h v t → IsSettled p t) → (vs : List V) (i : ℕ) (t : Trees) → AreRows h vs t
+    → i ≤ length vs → RowsFrom w h c m p (drop i vs) (total_words (shown c m p (map w vs) t)) (kept_pointers c p (map w vs) t)
+rows_from w h c m p s [] zero t is within = record { held = t; held_is = is; fewer = omega arith; narrow = omega arith }
+rows_from w h c m p s [] (suc i) t is within = absurd (omega (arith, within))
+rows_from w h c m p s (v ∷ vs) zero t is within = record { held = t; held_is = is; fewer = omega arith; narrow = omega arith }
+rows_from w h c m p s (v ∷ vs) (suc i) t is within =
+    let r = rows_from w h c m p s vs i is.rest is.others (omega (arith, within)) in
+    let many = (s v is.row is.row_is).many in
+    record {
+      held = r.held;
+      held_is = r.held_is;
+      fewer = omega (arith, r.fewer, shown_total c m p (w v) (map w vs) is.row is.rest t is.whole many);
+      narrow = omega (arith, r.narrow, pointers_front c p (w v) (map w vs) is.row is.rest t is.whole many);
+    }
+
+-- the struct in front of those that are written has room in the block
+pub record HasRowPlace (h : Trees → Type 0) (c : Bool) (m p end : ℕ) : Type 0 where
+  pub row : Trees
+  pub row_is : h row
+  pub settled : IsSettled p row
+  pub some : count (kept_row c row) ≤ m
+  pub fits : total_words (first m (formed c row)) ≤ end
+
+pub has_row_place : {V : Type 0} (w : V → List ℕ) (h : V → Trees → Type 0) (c : Bool) (d m e p : ℕ) → ((v : V) (t : Trees) → h v t → IsSettled p t) → (vs : List V) (i n end room : ℕ) (v : V)
+    (elements block : List ℕ) → i < length vs → v ≡ get_or vs i v → FillsRows w h c d m e p vs (length block) → RowsWritten w h c d m p (drop (i + 1) vs) n (i + 1) end elements block
+    → HasRowPlace (h v) c m p end
+has_row_place {V = V} w h c d m e p s vs i n end room v elements block within is fills written =
+    let r = subst (λ (l : List V). RowsFrom w h c m p l (total_words (shown c m p (map w vs) fills.held)) (kept_pointers c p (map w vs) fills.held)) (from_here vs i v within is)
+    (rows_from w h c m p s vs i fills.held fills.held_is (omega (arith, within))) in
+    let f = r.held_is in
+    let settled = s v f.row f.row_is in
+    record {
+      row = f.row;
+      row_is = f.row_is;
+      settled = settled;
+      some = omega (arith, r.narrow, fills.pointers_are, pointers_front c p (w v) (map w (drop (i + 1) vs)) f.row f.rest r.held f.whole settled.many);
+      fits = omega (arith, fills.room_is, r.fewer, shown_total c m p (w v) (map w (drop (i + 1) vs)) f.row f.rest r.held f.whole settled.many, written.room f.rest f.others);
+    }
+
+-- where an element stands
+pub spread : (n i w : ℕ) → i < n → n * w ≡ i * w + w + (n - i - 1) * w
+spread n i w within =
+    let all : n ≡ i + 1 + (n - i - 1) = omega (arith, within) in
+    ap (λ (k : ℕ). k * w) all ∙ omega arith
+
+pub next_place : (i w : ℕ) → (i + 1) * w ≡ i * w + w
+next_place i w = omega arith
+
+-- one more is written
+pub row_written : {V : Type 0} (w : V → List ℕ) (h : V → Trees → Type 0) (c : Bool) (d m p : ℕ) → ((v : V) (t : Trees) → h v t → IsSettled p t) → (vs : List V) (v : V) (n i end own : ℕ)
+    (elements block slot part : List ℕ) → i < n → m ≤ p → length elements ≡ 8 * (n * (d + m)) → length slot ≡ 8 * (d + m) → own ≤ end → length part ≡ 8 * own
+    → RowsWritten w h c d m p vs n (i + 1) end elements block
+    → ((row : Trees) → h v row → own ≡ total_words (first m (formed c row)))
+    → ((row : Trees) → h v row → words_of slot
+    ≡ take d (w v) ++ pointers_to (run (1 + i * (d + m) + d) m) (1 + i * (d + m) + d + m + ((n - i - 1) * (d + m) + (end - own))) (first m (formed c row)))
+    → ((row : Trees) → h v row → words_of part ≡ body (first m (formed c row)))
+    → RowsWritten w h c d m p (v ∷ vs) n i (end - own) (with_part (8 * (i * (d + m))) (8 * (d + m)) elements slot) (with_part (8 * (end - own)) (8 * end - 8 * (end - own)) block part)
+row_written w h c d m p s vs v n i end own elements block slot part within le elements_long slot_long fits long r own_is slot_is part_is =
+    let start : ℕ = end - own in
+    let at : ℕ = i * (d + m) in
+    let here = spread n i (d + m) within in
+    let next = next_place i (d + m) in
+    let block_rest : drop (8 * start) (with_part (8 * start) (8 * end - 8 * start) block part) ≡ part ++ drop (8 * end) block =
+    with_part_rest (8 * start) (8 * end - 8 * start) (8 * end) block part (omega (arith, r.within)) (omega arith) in
+    let elements_rest : drop (8 * at) (with_part (8 * at) (8 * (d + m)) elements slot) ≡ slot ++ drop (8 * ((i + 1) * (d + m))) elements =
+    with_part_rest (8 * at) (8 * (d + m)) (8 * ((i + 1) * (d + m))) elements slot (omega (arith, elements_long, here)) (omega (arith, next)) in
+    let block_long : length (with_part (8 * start) (8 * end - 8 * start) block part) ≡ length block =
+    omega (
+      arith,
+      r.within,
+      length-append (take (8 * start) block) (part ++ drop (8 * end - 8 * start) (drop (8 * start) block)),
+      length-append part (drop (8 * end - 8 * start) (drop (8 * start) block)),
+      length-take (8 * start) block,
+      length-drop (8 * end - 8 * start) (drop (8 * start) block),
+      length-drop (8 * start) block,
+    ) in
+    record {
+      within = omega (arith, block_long, r.within);
+      zero =
+          front_there block (part ++ drop (8 * end - 8 * start) (drop (8 * start) block)) (8 * start) (omega (arith, r.within))
+          ∙ sym (take-take (8 * start) (8 * end) block (omega arith)) ∙ ap (λ (l : List ℕ). take (8 * start) l) r.zero ∙ take-replicate (8 * start) (8 * end) 0 (omega arith);
+      room = λ t is.
+          let many = (s v is.row is.row_is).many in
+          omega (arith, block_long, r.room is.rest is.others, shown_total c m p (w v) (map w vs) is.row is.rest t is.whole many, own_is is.row is.row_is);
+      rows = λ t is.
+          let many = (s v is.row is.row_is).many in
+          ap words_of elements_rest
+          ∙ element_in_front c d m p at (1 + n * (d + m) + start) (1 + n * (d + m) + end) ((i + 1) * (d + m)) ((n - i - 1) * (d + m) + start) (w v) (map w vs) is.row is.rest t slot
+          (drop (8 * ((i + 1) * (d + m))) elements) is.whole many le slot_long (omega (arith, here)) (omega (arith, own_is is.row is.row_is, fits)) next (slot_is is.row is.row_is) (r.rows is.rest is.others);
+      body = λ t is.
+          let many = (s v is.row is.row_is).many in
+          ap words_of block_rest
+          ∙ body_in_front c m p own (w v) (map w vs) is.row is.rest t part (drop (8 * end) block) is.whole many long (part_is is.row is.row_is) (r.body is.rest is.others);
+    }
+
+-- no more pointers are kept than there are
+pub pointers_within : (c : Bool) (p : ℕ) (rows : List (List ℕ)) (held : Trees) → kept_pointers c p rows held ≤ p
+pointers_within true p rows held = least_pointers_within p rows (trim held)
+pointers_within false p rows held = omega arith
+
+pub pointers_most : {V : Type 0} {w : V → List ℕ} {h : V → Trees → Type 0} {c : Bool} {d m e p : ℕ} {vs : List V} {room : ℕ} → FillsRows w h c d m e p vs room → m ≤ p
+pointers_most {w = w} {c = c} {p = p} {vs = vs} f = omega (arith, f.pointers_are, pointers_within c p (map w vs) f.held)
+
+-- what is written of one struct
+pub own_total : (c : Bool) (m p : ℕ) (row : Trees) (extent : Extent) → IsSettled p row → count (kept_row c row) ≤ m → m ≤ p → extent ≡ extent_of c row → extent.words ≡ total_words (first m (formed c row))
+own_total c m p row extent s some most is =
+    let b : extent.words ≡ total_words (kept_row c row) = ap (λ (x : Extent). x.words) is in
+    b ∙ sym (row_first c m row s.rooms some (omega (arith, s.many, most)))
+
+pub can_write_row : (h : Trees → Type 0) (c : Bool) (m n p room : ℕ) (row : Trees) (extent : Extent) → h row → IsSettled p row → count (kept_row c row) ≤ m → m ≤ p → extent ≡ extent_of c row → n ≡ m
+    → room ≡ 8 * extent.words → CanWriteRow h c n room
+can_write_row h c m n p room row extent is s some most extent_is same room_is =
+    let total : total_words (first n (formed c row)) ≡ total_words (first m (formed c row)) = ap (λ (k : ℕ). total_words (first k (formed c row))) same in
+    record {
+      trees = row;
+      trees_are = is;
+      some = omega (arith, same, most, s.many);
+      room_is = omega (arith, room_is, total, own_total c m p row extent s some most extent_is);
+    }
+
+-- any row of a struct has as many pointers that are kept
+pub others_some : (c : Bool) (m : ℕ) (row other : Trees) (extent : Extent) → count (kept_row c row) ≤ m → extent ≡ extent_of c row → extent ≡ extent_of c other → count (kept_row c other) ≤ m
+others_some c m row other extent some is there =
+    let a : extent.pointers ≡ count (kept_row c row) = ap (λ (x : Extent). x.pointers) is in
+    let b : extent.pointers ≡ count (kept_row c other) = ap (λ (x : Extent). x.pointers) there in
+    omega (arith, a, b, some)
+
+pub slot_moved : (c : Bool) (d : ℕ) (there words : List ℕ) (row : Trees) (slot : List ℕ) (k n m gap more : ℕ) → there ≡ words → n ≡ m → gap ≡ more
+    → words_of slot ≡ take d there ++ pointers_to (run k n) (k + n + gap) (first n (formed c row)) → words_of slot ≡ take d words ++ pointers_to (run k m) (k + m + more) (first m (formed c row))
+slot_moved c d there words row slot k n m gap more words_are same gaps is =
+    is ∙ ap (λ (l : List ℕ). take d l ++ pointers_to (run k n) (k + n + gap) (first n (formed c row))) words_are
+    ∙ ap (λ (x : ℕ). take d words ++ pointers_to (run k x) (k + x + gap) (first x (formed c row))) same ∙ ap (λ (x : ℕ). take d words ++ pointers_to (run k m) (k + m + x) (first m (formed c row))) gaps
+
+pub part_moved : (c : Bool) (row : Trees) (part : List ℕ) (n m : ℕ) → n ≡ m → words_of part ≡ body (first n (formed c row)) → words_of part ≡ body (first m (formed c row))
+part_moved c row part n m same is = is ∙ ap (λ (x : ℕ). body (first x (formed c row))) same
+
+-- none is written yet
+past_end : {A : Type 0} (xs : List A) (n : ℕ) → length xs ≤ n → drop n xs ≡ []
+past_end [] zero past = refl
+past_end [] (suc n) past = refl
+past_end (x ∷ xs) zero past = absurd (omega (arith, past))
+past_end (x ∷ xs) (suc n) past = past_end xs n (omega (arith, past))
+
+formed_none : (c : Bool) → formed c none ≡ none
+formed_none true = refl
+formed_none false = refl
+
+no_rows : {V : Type 0} (h : V → Trees → Type 0) (items : List V) (n : ℕ) (t : Trees) → length items ≤ n → AreRows h (drop n items) t → t ≡ none
+no_rows h [] zero t past is = is
+no_rows h [] (suc n) t past is = is
+no_rows h (x ∷ xs) zero t past is = absurd (omega (arith, past))
+no_rows h (x ∷ xs) (suc n) t past is = no_rows h xs n t (omega (arith, past)) is
+
+no_items : {V : Type 0} (w : V → List ℕ) (items : List V) (n : ℕ) → length items ≤ n → map w (drop n items) ≡ []
+no_items w items n past = ap (map w) (past_end items n past)
+
+pub none_written : {V : Type 0} (w : V → List ℕ) (h : V → Trees → Type 0) (c : Bool) (d m p : ℕ) (items : List V) (n room : ℕ) (elements block : List ℕ) → n ≡ length items
+    → length elements ≡ 8 * (n * (d + m)) → length block ≡ 8 * room → block ≡ replicate (length block) 0
+    → RowsWritten w h c d m p (drop n items) n n (length block / 8) elements block
+none_written w h c d m p items n room elements block n_is elements_long long zeros =
+    let all : 8 * (length block / 8) ≡ length block = omega (arith, long) in
+    let rows : map w (drop n items) ≡ [] = no_items w items n (omega (arith, n_is)) in
+    let empty : (t : Trees) → shown c m p (map w (drop n items)) t ≡ none = λ t. ap (λ (l : List (List ℕ)). shown c m p l t) rows in
+    record {
+      within = omega (arith, all);
+      zero = take_all (8 * (length block / 8)) block (omega (arith, all)) ∙ zeros ∙ ap (λ (k : ℕ). replicate k 0) (sym all);
+      room = λ t is. let no : total_words (shown c m p (map w (drop n items)) t) ≡ 0 = ap total_words (empty t) in omega (arith, all, no);
+      rows = λ t is.
+          ap words_of (past_end elements (8 * (n * (d + m))) (omega (arith, elements_long)))
+          ∙ ap (λ (l : List (List ℕ)). woven m (map (take d) l) (pointers_to (row_run (1 + n * (d + m)) d m (map (take d) l)) (1 + n * (d + m) + length block / 8) (shown c m p l t))) (sym rows);
+      body = λ t is. ap words_of (past_end block (8 * (length block / 8)) (omega (arith, all))) ∙ ap body (sym (empty t));
+    }
+
+-- all are written
+pub all_written : {V : Type 0} (w : V → List ℕ) (h : V → Trees → Type 0) (c : Bool) (d m e p : ℕ) (items : List V) (left start n : ℕ) (elements block : List ℕ) → left ≡ 0
+    → FillsRows w h c d m e p items (length block) → RowsWritten w h c d m p (drop left items) n left start elements block → RowsWritten w h c d m p items n 0 0 elements block
+all_written w h c d m e p items left start n elements block left_is fills r =
+    let here : RowsWritten w h c d m p items n 0 start elements block = subst (λ (k : ℕ). RowsWritten w h c d m p (drop k items) n k start elements block) left_is r in
+    let start_is : start ≡ 0 = omega (arith, here.room fills.held fills.held_is, fills.room_is) in
+    subst (λ (k : ℕ). RowsWritten w h c d m p items n 0 k elements block) start_is here
+
+pub whole_rows : (n d m : ℕ) (elements : List ℕ) (rows : List (List ℕ)) (t : Trees)
+    → words_of (drop (8 * (0 * (d + m))) elements) ≡ woven m rows (pointers_to (row_run (1 + 0 * (d + m)) d m rows) (1 + n * (d + m) + 0) t)
+    → words_of elements ≡ woven m rows (pointers_to (row_run 1 d m rows) (1 + n * (d + m)) t)
+whole_rows n d m elements rows t e =
+    let first : 8 * (0 * (d + m)) ≡ 0 = omega arith in
+    let begins : 1 + 0 * (d + m) ≡ 1 = omega arith in
+    let next : 1 + n * (d + m) + 0 ≡ 1 + n * (d + m) = omega arith in
+    sym (ap (λ (k : ℕ). words_of (drop k elements)) first) ∙ e
+    ∙ ap (λ (k : ℕ). woven m rows (pointers_to (row_run k d m rows) (1 + n * (d + m) + 0) t)) begins
+    ∙ ap (λ (k : ℕ). woven m rows (pointers_to (row_run 1 d m rows) k t)) next

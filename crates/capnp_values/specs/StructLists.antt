@@ -1,0 +1,107 @@
+-- Lists of structs (src/struct_list.rt), and the elements that stand in them (src/rows.rt).
+-- Encoding document, "Lists", the elements of code 7.
+use Rattle.std.specs.Prelude.{◌≡◌, ◌⊎◌, ℕ, ◌+◌, ◌-◌, ◌*◌, ◌^◌, ◌<◌, ◌≤◌, min, Bool, true, false, List, [], ◌∷◌, length, map, take, drop, replicate, All, Result, Ok, MatchResult}
+use Rattle.std.specs.Result.{IsErrAnd}
+use Rattle.capnp_frame.specs.declared.error.Error.{Error}
+use Rattle.capnp_frame.specs.declared.error.ErrorKind.{ErrorKind}
+use Rattle.capnp_frame.specs.declared.error.ErrorKind.TheVariants.{AllocationTooLarge}
+use Rattle.capnp_wire.specs.Pointer.{words_of}
+use Rattle.capnp_wire.specs.Tree.{structs, Trees, none, tree, total_words}
+use Rattle.capnp_wire.specs.Trim.{before, least_data, least_pointers, narrowed, trim}
+use Rattle.capnp_wire.specs.Layout.{row_run, pointers_to, woven, body, formed}
+use Rattle.capnp_values.specs.declared.rows.Reach.{Reach}
+
+-- the row of trees of one struct, in front of those of others
+pub record IsRowInFront (has_row has_rows : Trees → Type 0) (trees : Trees) : Type 0 where
+  pub row : Trees
+  pub rest : Trees
+  pub whole : trees ≡ before row rest
+  pub row_is : has_row row
+  pub others : has_rows rest
+
+-- the rows of some structs, one after the other, are these trees
+abbrev pub AreRows : {V : Type 0} → (V → Trees → Type 0) → List V → Trees → Type 0
+AreRows has_trees [] trees = trees ≡ none
+AreRows has_trees (value ∷ values) trees = IsRowInFront (has_trees value) (λ t. AreRows has_trees values t) trees
+
+-- the first of the rows that is refused, is for this reason
+abbrev pub RefusesRows : {V : Type 0} → (V → Trees → Type 0) → (V → ErrorKind → Type 0) → List V → ErrorKind → Type 0
+RefusesRows has_trees refuses [] kind = ⊥
+RefusesRows has_trees refuses (value ∷ values) kind =
+    refuses value kind ⊎ ((row : Trees) × has_trees value row × RefusesRows has_trees refuses values kind)
+
+-- the list of some structs, each of d data words and p pointers
+pub record IsStructList {V : Type 0} (words : V → List ℕ) (has_trees : V → Trees → Type 0) (d p : ℕ) (values : List V) (trees : Trees) : Type 0 where
+  pub held : Trees
+  pub held_is : AreRows has_trees values held
+  pub few_words : d < 2 ^ 16
+  pub few_pointers : p < 2 ^ 16
+  pub few : length values < 2 ^ 29
+  pub small : length values * (d + p) < 2 ^ 29
+  pub whole : trees ≡ tree (structs d p (map words values)) held none
+
+-- a pointer and a tag can't tell so many structs of d data words and p pointers
+abbrev pub TooManyStructs : ℕ → ℕ → ℕ → ErrorKind → Type 0
+TooManyStructs n d p kind =
+    ((2 ^ 16 ≤ d ⊎ 2 ^ 16 ≤ p) × (kind ≡ AllocationTooLarge (2 ^ 16)))
+    ⊎ ((d < 2 ^ 16) × (p < 2 ^ 16) × (2 ^ 29 ≤ n) × (kind ≡ AllocationTooLarge (min n (2 ^ 32 - 1))))
+    ⊎ ((d < 2 ^ 16) × (p < 2 ^ 16) × (n < 2 ^ 29) × (2 ^ 29 ≤ n * (d + p)) × (kind ≡ AllocationTooLarge (min (n * (d + p)) (2 ^ 32 - 1))))
+
+-- these are too many, or one of their rows is refused
+abbrev pub RefusesStructList : {V : Type 0} → (V → Trees → Type 0) → (V → ErrorKind → Type 0) → ℕ → ℕ → List V → ErrorKind → Type 0
+RefusesStructList has_trees refuses d p values kind =
+    TooManyStructs (length values) d p kind
+    ⊎ ((d < 2 ^ 16) × (p < 2 ^ 16) × (length values < 2 ^ 29) × (length values * (d + p) < 2 ^ 29) × RefusesRows has_trees refuses values kind)
+
+-- The data words and the pointers that each element keeps: in canonical form what the largest of them needs. And the trees that
+-- the first m of each p pointers lead to.
+abbrev pub kept_data : Bool → ℕ → List (List ℕ) → ℕ
+kept_data true d rows = least_data rows
+kept_data false d rows = d
+
+abbrev pub kept_pointers : Bool → ℕ → List (List ℕ) → Trees → ℕ
+kept_pointers true p rows held = least_pointers p rows (trim held)
+kept_pointers false p rows held = p
+
+abbrev pub shown : Bool → ℕ → ℕ → List (List ℕ) → Trees → Trees
+shown canonical m p rows held = narrowed m p rows (formed canonical held)
+
+abbrev pub reach_of : Bool → ℕ → ℕ → List (List ℕ) → Trees → Reach
+reach_of canonical d p rows held = record {
+  data_words = kept_data canonical d rows;
+  pointers = kept_pointers canonical p rows held;
+  words = total_words (formed canonical held);
+}
+
+-- each row has d words
+abbrev pub AreEven : ℕ → List (List ℕ) → Type 0
+AreEven d rows = All (λ row. (length row ≡ d) × All (λ w. w < 2 ^ 64) row) rows
+
+-- what is measured of some structs: how far they reach, or why one of them is refused
+pub record ReachesRows {V : Type 0} (words : V → List ℕ) (has_trees : V → Trees → Type 0) (refuses : V → ErrorKind → Type 0) (canonical : Bool) (d p : ℕ) (values : List V) (result : Result Reach Error) : Type 0 where
+  pub returned : MatchResult result
+      (λ reach. AreEven d (map words values) × ((held : Trees) × AreRows has_trees values held × (reach ≡ reach_of canonical d p (map words values) held)))
+      (λ error. RefusesRows has_trees refuses values error.kind)
+  pub found : (held : Trees) → AreRows has_trees values held → result ≡ Ok (reach_of canonical d p (map words values) held)
+  pub exact : (kind : ErrorKind) → RefusesRows has_trees refuses values kind → IsErrAnd result (λ error. error.kind ≡ kind)
+
+-- of each of some structs d words and m pointers are kept, and what all lead to takes just a block
+pub record FillsRows {V : Type 0} (words : V → List ℕ) (has_trees : V → Trees → Type 0) (canonical : Bool) (d m most p : ℕ) (values : List V) (room : ℕ) : Type 0 where
+  pub held : Trees
+  pub held_is : AreRows has_trees values held
+  pub few_pointers : p < 2 ^ 16
+  pub data_fits : d ≤ most
+  pub pointers_are : m ≡ kept_pointers canonical p (map words values) held
+  pub room_is : room ≡ 8 * total_words (shown canonical m p (map words values) held)
+
+-- Of n structs those from one on are written, with what they lead to, which is all of a block from a word on; before that it is
+-- zero.
+pub record RowsWritten {V : Type 0} (words : V → List ℕ) (has_trees : V → Trees → Type 0) (canonical : Bool) (d m p : ℕ) (values : List V) (n from start : ℕ) (elements block : List ℕ) : Type 0 where
+  pub within : 8 * start ≤ length block
+  pub zero : take (8 * start) block ≡ replicate (8 * start) 0
+  pub room : (held : Trees) → AreRows has_trees values held → 8 * (start + total_words (shown canonical m p (map words values) held)) ≡ length block
+  pub rows : (held : Trees) → AreRows has_trees values held
+      → words_of (drop (8 * (from * (d + m))) elements)
+      ≡ woven m (map (take d) (map words values))
+      (pointers_to (row_run (1 + from * (d + m)) d m (map (take d) (map words values))) (1 + n * (d + m) + start) (shown canonical m p (map words values) held))
+  pub body : (held : Trees) → AreRows has_trees values held → words_of (drop (8 * start) block) ≡ body (shown canonical m p (map words values) held)

@@ -1,0 +1,21 @@
+//! Structs as elements of lists.
+ghost use Rattle.std.specs.Prelude.{◌≡◌, ℕ, ◌^◌, ◌<◌, List, All, length};
+
+/// A struct that can be an element of a list: its data words, beside its row of [`Fields`](crate::fields::Fields).
+pub trait Element {
+    /// How many data words it has.
+    ghost data_words: { ℕ };
+
+    /// The words of its data section.
+    ghost words: { Self → List ℕ };
+
+    /// How many data words each has.
+    fn data_words() -> usize
+        ensures { result ≡ data_words };
+
+    /// The words of its data section.
+    fn words(&self) -> &[u64]
+        ensures value { result.now ≡ words self.now }
+        ensures long { length (words self.now) ≡ data_words }
+        ensures fit { All (λ word. word < 2 ^ 64) (words self.now) };
+}
