@@ -7,20 +7,20 @@ use Rattle.capnp_build.proofs.HeldLemmas.{other_edit}
 use Rattle.capnp_build.proofs.OutputLemmas.{edited_words, more_words}
 use Rattle.capnp_build.proofs.segments.Segments.append.Goals as goal
 
-pub invariant_of-self-2 : goal.invariant_of-self-2
-invariant_of-self-2 g c =
+pub invariant_of-self-in-Further : goal.invariant_of-self-in-Further
+invariant_of-self-in-Further g c =
     let first = c.self.inside.first in
     let others : List Space = c.self.inside.others.items in
     let within : c.args.index < length (spaces_of first others) = subst (λ (l : List Space). c.args.index < length l) (ap (λ (h : Held g.row.A.Denot). h.spaces)
     (sym c.self.view_is)) c.requires.within in
     let place : c.args.index ≡ suc c.in-Further.other = c.of.ensures ∙ ap index_of c.in-Further.is in
     let kept =
-    other_edit (g.A.Allocator.out c.self.inside.allocator) first others c.args.index c.in-Further.other c.index_mut-part.result.now c.append-2.new.self
-    c.self.invariant.0 c.self.invariant.1 c.self.invariant.2 within place c.index_mut-part.ensures.value (ap pair c.append-2.ensures.space) in
+    other_edit (g.A.Allocator.out c.self.inside.allocator) first others c.args.index c.in-Further.other c.index_mut-part.result.now c.append-in-Further.new.self
+    c.self.invariant.0 c.self.invariant.1 c.self.invariant.2 within place c.index_mut-part.ensures.value (ap pair c.append-in-Further.ensures.space) in
     let room : c.args.words ≤ free_words_of (space_at (spaces_of first others) c.args.index) = subst (λ (h : Held g.row.A.Denot). c.args.words ≤ free_words_of (space_at h.spaces c.args.index)) (sym c.self.view_is) c.requires.room in (
       kept.0,
       kept.1,
       kept.2,
-      edited_words first others c.args.index c.in-Further.other c.index_mut-part.result.now c.append-2.new.self (λ s. with_more s c.append-2.ensures.block)
-          c.self.invariant.3 within place c.index_mut-part.ensures.value c.append-2.ensures.space (λ uses. more_words (space_at (spaces_of first others) c.args.index) c.append-2.ensures.block c.args.words uses c.append-2.ensures.len room),
+      edited_words first others c.args.index c.in-Further.other c.index_mut-part.result.now c.append-in-Further.new.self (λ s. with_more s c.append-in-Further.ensures.block)
+          c.self.invariant.3 within place c.index_mut-part.ensures.value c.append-in-Further.ensures.space (λ uses. more_words (space_at (spaces_of first others) c.args.index) c.append-in-Further.ensures.block c.args.words uses c.append-in-Further.ensures.len room),
     )

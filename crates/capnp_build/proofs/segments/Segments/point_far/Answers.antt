@@ -14,9 +14,9 @@ returns g c =
     (omega (arith, c.requires.first, landing_pad.used 0, ap length c.to_le_bytes-2.ensures)) c.write_at-2.ensures in
     record {
       stands = λ form held body.
-          far_points c.args.self.now.spaces c.write_at.new.self.spaces c.write_at-2.new.self.spaces c.args.location form held c.far_word.result c.to_le_bytes.result c.to_le_bytes-2.result
+          far_points c.args.self.now.spaces c.write_at.new.self.spaces c.write_at-2.new.self.spaces c.args.location form held c.far_word-pointer.result c.to_le_bytes.result c.to_le_bytes-2.result
           c.requires.other c.requires.some (omega arith) body c.requires.first c.to_le_bytes.ensures (ap length c.to_le_bytes.ensures)
-          (ap (λ (h : Held g.row.A.Denot). h.spaces) c.write_at.ensures) c.far_word.ensures c.to_le_bytes-2.ensures (ap length c.to_le_bytes-2.ensures)
+          (ap (λ (h : Held g.row.A.Denot). h.spaces) c.write_at.ensures) c.far_word-pointer.ensures c.to_le_bytes-2.ensures (ap length c.to_le_bytes-2.ensures)
           (ap (λ (h : Held g.row.A.Denot). h.spaces) c.write_at-2.ensures);
       rewritten = rewritten_twice c.args.self.now c.write_at.new.self c.write_at-2.new.self landing_pad root;
       bytes = λ i from n first before fits. let same = landing_pad.used i in
