@@ -1,5 +1,6 @@
 //! What is shown of a message, and of an input.
-ghost use Rattle.std.specs.Prelude.{◌<◌, OnOk, string_len};
+ghost use Rattle.std.specs.Prelude.{◌<◌, OnOk};
+ghost use Rattle.std.specs.String.{string_len};
 
 use crate::drawing::{is_drawn, show_drawing};
 use crate::drawn::Anchor;
