@@ -1,4 +1,6 @@
 //! The words of a segment, as rows of a table.
+ghost use Rattle.std.specs.Prelude.{◌<◌};
+
 use crate::owners::{Lead, Owner, Owners, Role, Word};
 use crate::refusals::push_refusal;
 use crate::words::Place;

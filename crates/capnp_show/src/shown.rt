@@ -1,5 +1,6 @@
 //! What is shown of a message, and of an input.
-ghost use Rattle.std.specs.Prelude.{◌<◌, OnOk, length};
+ghost use Rattle.std.specs.Prelude.{◌<◌, OnOk};
+ghost use Rattle.std.specs.String.{string_len};
 
 use crate::drawing::{is_drawn, show_drawing};
 use crate::drawn::Anchor;
@@ -157,7 +158,7 @@ fn show_tree<S: ReaderSegments, W: Write>(
 
 /// Writes a text that has grown to `TEXT_BYTES`, and clears it.
 pub fn write_full<W: Write>(text: &mut String, sink: &mut W) -> Result<()>
-    ensures { OnOk result (length text.new < TEXT_BYTES) }
+    ensures { OnOk result (string_len text.new < TEXT_BYTES) }
 {
     if text.len() >= TEXT_BYTES {
         sink.write_all(text.as_bytes())?;
