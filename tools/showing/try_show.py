@@ -75,15 +75,20 @@ def try_refusals():
     expect("several files", several, 1, 2 * f"cut: {line}", why + (missing[1] if opened else "no line") + why)
 
 
-begun = time.monotonic()
-try_forms()
-try_refusals()
-try_devices()
-try_growing_log()
-try_gigabyte()
-try_words()
-try_pages()
-try_progress()
-left_out = f", {Counts.left_out} left out" if Counts.left_out else ""
-print(f"try-show: {Counts.tried} runs, {Counts.wrong} of them wrong{left_out}, {time.monotonic() - begun:.1f} s")
-sys.exit(1 if Counts.wrong else 0)
+def main():
+    begun = time.monotonic()
+    try_forms()
+    try_refusals()
+    try_devices()
+    try_growing_log()
+    try_gigabyte()
+    try_words()
+    try_pages()
+    try_progress()
+    left_out = f", {Counts.left_out} left out" if Counts.left_out else ""
+    print(f"try-show: {Counts.tried} runs, {Counts.wrong} of them wrong{left_out}, {time.monotonic() - begun:.1f} s")
+    return 1 if Counts.wrong else 0
+
+
+if __name__ == "__main__":
+    sys.exit(main())
