@@ -23,7 +23,7 @@ use Rattle.capnp_values.proofs.StructLemmas.{Fitted, fitted_found, fitted_lacks}
 use Rattle.capnp_values.proofs.StructListLemmas.{rows_settled, structs_formed, structs_total, total_shown}
 use Rattle.capnp_values.proofs.StructRowLemmas.{pointers_within}
 
--- so many structs of d data words and p pointers can be told
+-- how many structs of d data words and p pointers can be told
 pub record AreTold (n d p : ℕ) : Type 0 where
   pub few_words : d < 2 ^ 16
   pub few_pointers : p < 2 ^ 16

@@ -40,7 +40,7 @@ pub record IsStructList {V : Type 0} (words : V → List ℕ) (has_trees : V →
   pub small : length values * (d + p) < 2 ^ 29
   pub whole : trees ≡ tree (structs d p (map words values)) held none
 
--- a pointer and a tag can't tell so many structs of d data words and p pointers
+-- a pointer and a tag can't tell this many structs of d data words and p pointers
 abbrev pub TooManyStructs : ℕ → ℕ → ℕ → ErrorKind → Type 0
 TooManyStructs n d p kind =
     ((2 ^ 16 ≤ d ⊎ 2 ^ 16 ≤ p) × (kind ≡ AllocationTooLarge (2 ^ 16)))
