@@ -11,12 +11,12 @@ from try_browser import try_browser
 MARKS = [words(0x7A_00000001) + "<b a=\"'\">&amp;\0".encode().ljust(16, b"\0")]
 # a root whose two pointers lead to one object, and to a part of it
 OVERLAPS = [words(2 << 48, 1 << 32 | 2 << 48 | 4, 1 << 32 | 4, 5, 0, 0)]
-# a landing pad within the object that it leads to, and one that two pointers share
+# a landing pad that two pointers share, within the object that it leads to
 PADS = [words(2 << 48, 0x1_00000002, 0x1_00000002), words(3 << 32 | 0xFFFFFFFC, 7, 8)]
 # lists of structs of no words, with words after the last element, and whose elements have no pointers
 LISTS = [words(3 << 48, 0x07_00000009, 0x1F_00000009, 0x17_00000015, 5 << 2, 1 << 2 | 1 << 32, 1, 2, 3, 2 << 2 | 1 << 32, 4, 5)]
 # every kind of list, from a struct with eight pointers
-KINDS = [words(8 << 48, *((3 << 35 | code << 32 | (7 - code + 3 * code) << 2 | 1) for code in range(7)), 0, *range(24))]
+KINDS = [words(8 << 48, *((3 << 35 | code << 32 | (7 + 2 * code) << 2 | 1) for code in range(7)), 0, *range(24))]
 DRAWN = {
     "a small message": [HELLO],
     "far pointers": [FAR, WIDE, PADS],
