@@ -7,6 +7,7 @@ mod canonical_messages;
 mod canonical_words;
 mod empty_structs;
 mod given_back;
+mod lists;
 mod objects;
 mod traversals;
 mod unlimited_roots;
