@@ -1,7 +1,5 @@
 //! Lists of data.
-use crate::data;
-use crate::list_list;
-use crate::traits;
+use crate::{data, list_list, traits};
 use capnp_frame::message::ReaderSegments;
 
 /// A list of data in a message.

@@ -1,7 +1,5 @@
 //! Lists of text.
-use crate::list_list;
-use crate::text;
-use crate::traits;
+use crate::{list_list, text, traits};
 use capnp_frame::message::ReaderSegments;
 
 /// A list of text in a message.

@@ -1,9 +1,8 @@
 //! Lists of pointers to views of one type, which are read.
 ghost use Rattle.std.specs.Prelude.{◌≡◌, ◌<◌, length};
 
-use crate::any_pointer;
-use crate::any_pointer_list;
 use crate::traits::FromPointerReader;
+use crate::{any_pointer, any_pointer_list};
 use capnp_frame::Result;
 use capnp_frame::message::ReaderSegments;
 use std::marker::PhantomData;
