@@ -4,6 +4,7 @@ pub mod CycleLemmas
 pub mod ElementLemmas
 pub mod FieldLemmas
 pub mod RowLemmas
+pub mod NumberLemmas
 pub mod OwnLemmas
 pub mod PaddingLemmas
 pub mod OwnWordLemmas

@@ -2,6 +2,7 @@
 pub mod WordLemmas
 pub mod MessageLemmas
 pub mod DigitLemmas
+pub mod BitLemmas
 pub mod StretchLemmas
 pub mod CutLemmas
 pub mod PutLemmas

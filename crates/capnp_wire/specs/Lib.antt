@@ -12,6 +12,7 @@ pub mod Faults
 pub mod Views
 pub mod Readers
 pub mod ListViews
+pub mod Fields
 pub mod Layout
 pub mod Block
 pub mod Rows

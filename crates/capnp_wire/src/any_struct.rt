@@ -1,4 +1,5 @@
 //! Structs.
+mod fields;
 mod reader;
 
 use crate::layout::struct_value;

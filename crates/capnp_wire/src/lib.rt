@@ -21,6 +21,7 @@ mod layout;
 pub mod list_list;
 mod message_size;
 pub mod pointer_word;
+pub mod primitive_element;
 pub mod primitive_list;
 mod read_limiter;
 pub mod struct_list;

@@ -1,10 +1,10 @@
 //! The elements of lists of numbers.
-ghost use Rattle.std.specs.Prelude.{◌≡◌, ◌*◌, ◌^◌, ◌<◌};
+ghost use Rattle.std.specs.Prelude.{◌≡◌, ◌*◌, ◌/◌, ◌%◌, ◌^◌, ◌<◌};
 ghost use Rattle.capnp_wire.specs.Element.{code_of, width, words_for};
 
 /// How many bits an element of a list of numbers has.
 #[derive(Clone, Copy, Debug, PartialEq, Eq)]
-pub(crate) enum ElementSize {
+pub enum ElementSize {
     Void,
     Bit,
     Byte,
@@ -56,5 +56,24 @@ impl ElementSize {
         ensures { result ≡ words_for count (width (code_of self)) }
     {
         self.bits_of_list(count).div_ceil(64)
+    }
+
+    /// The word in which an element of a list stands, counted from the first one.
+    pub(crate) fn word_of(self, index: u32) -> u64
+        ensures { result ≡ width (code_of self) * index / 64 }
+    {
+        self.bits() * index as u64 / 64
+    }
+
+    /// The bits of an element of a list, from the word in which it stands.
+    pub(crate) fn in_word(self, word: u64, index: u32) -> u64
+        ensures { result ≡ word / 2 ^ (width (code_of self) * index % 64) % 2 ^ width (code_of self) }
+    {
+        let bits = self.bits();
+        let low = word >> (bits * index as u64 % 64);
+        if bits == 64 {
+            return low;
+        }
+        low % (1 << bits)
     }
 }

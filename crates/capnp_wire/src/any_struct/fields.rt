@@ -1,0 +1,64 @@
+//! Fields of structs by their width (encoding document, "Structs").
+ghost use Rattle.std.specs.Prelude.{◌≡◌, ◌↔◌, ◌^◌, ◌<◌, length, slice_index, bit_xor, IsTrue};
+ghost use Rattle.capnp_wire.specs.Element.{code_of, width};
+ghost use Rattle.capnp_wire.specs.Fields.{field};
+ghost use Rattle.capnp_wire.specs.Object.{nothing};
+ghost use Rattle.capnp_wire.specs.Readers.{struct_of};
+ghost use Rattle.capnp_wire.specs.Views.{Denotes, pointer_in};
+
+use crate::any_struct::StructReader;
+use crate::layout::element::ElementSize;
+use crate::layout::object::words_fit;
+use crate::primitive_element::PrimitiveElement;
+use capnp_frame::message::ReaderSegments;
+
+impl<'a, S: ReaderSegments> StructReader<'a, S> {
+    /// The field of the data section that begins after so many of its own width; the value of no bits
+    /// set where the section ends before it.
+    pub fn get_data_field<T: PrimitiveElement>(&self, offset: u32) -> T
+        ensures { result ≡ T.value_of
+            (field (struct_of S.segments self.now).words (width T.code) offset) }
+    {
+        T::from_bits(self.field_bits(T::size(), offset))
+    }
+
+    /// The same of a field that has a default: its bits are those of the value in which it differs from
+    /// the default's, so where the section ends before it the default is returned.
+    pub fn get_data_field_mask<T: PrimitiveElement>(&self, offset: u32, default: T) -> T
+        ensures { result ≡ T.value_of (bit_xor
+            (field (struct_of S.segments self.now).words (width T.code) offset)
+            (T.bits_of default)) }
+    {
+        let default_bits = default.to_bits();
+        T::from_bits(self.field_bits(T::size(), offset) ^ default_bits)
+    }
+
+    /// Whether a pointer is there that is not null.
+    pub fn has_pointer(&self, index: u16) -> bool
+        ensures { IsTrue result
+            ↔ (Denotes (pointer_in (struct_of S.segments self.now) index) nothing → ⊥) }
+    {
+        !self.get_pointer(index).is_null()
+    }
+
+    // The bits of a field of a size.
+    fn field_bits(&self, size: ElementSize, offset: u32) -> u64
+        ensures bits { result
+            ≡ field (struct_of S.segments self.now).words (width (code_of size)) offset }
+        ensures few { result < 2 ^ width (code_of size) }
+    {
+        words_fit(self.segment);
+        size.in_word(self.data_word(size.word_of(offset)), offset)
+    }
+
+    // A data word; 0 past the last one.
+    fn data_word(&self, index: u64) -> u64
+        ensures { result ≡ slice_index (struct_of S.segments self.now).words index }
+    {
+        if index < self.data_words() as u64 {
+            self.get_word(index as u16)
+        } else {
+            0
+        }
+    }
+}
