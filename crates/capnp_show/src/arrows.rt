@@ -38,7 +38,7 @@ pub fn push_sizes(text: &mut String) -> Result<(), AllocError> {
     )
 }
 
-/// The height of the part of a drawing that a segment of so many words has.
+/// The height of the part of a drawing that a segment of a given number of words has.
 pub fn part_height(words: usize) -> u64 {
     let rows = words.div_ceil(ROW_WORDS) as u64;
     let gaps = HEADING_HEIGHT + ROW_GAP;

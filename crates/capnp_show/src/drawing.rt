@@ -17,7 +17,7 @@ use std::alloc::Global;
 // How many words a message has at most that is drawn.
 const MOST_WORDS: u64 = 4096;
 
-/// Whether a message of so many words is drawn.
+/// Whether a message of a given number of words is drawn.
 pub fn is_drawn(words: u64) -> bool
     ensures { IsTrue result ↔ (words ≤ MOST_WORDS) }
 {

@@ -60,7 +60,7 @@ pub fn push_object(text: &mut String, number: u64, line: &str) -> Result<(), All
     text.push_str("</li>\n")
 }
 
-/// Adds the front of a segment of so many words.
+/// Adds the front of a segment of a given number of words.
 pub fn push_part(text: &mut String, segment: u32, words: usize) -> Result<(), AllocError> {
     let height = part_height(words);
     write!(

@@ -221,7 +221,7 @@ fn free_words(alloc: Global, segment: &[u8]) -> Result<Vec<Word>, AllocError> {
     Ok(free)
 }
 
-// What the word of an object is that stands so many words after its start.
+// What the word of an object is that stands a given number of words after its start.
 fn role_of(shape: Shape, index: u64) -> Role {
     match shape {
         Shape::Struct(size) if index >= size.data_words => Role::Pointer,
@@ -232,7 +232,7 @@ fn role_of(shape: Shape, index: u64) -> Role {
     }
 }
 
-// What the word of a list of structs is that stands so many words after its tag.
+// What the word of a list of structs is that stands a given number of words after its tag.
 fn role_in_element(size: StructSize, count: u64, after_tag: u64) -> Role {
     let words = size.words();
     if words == 0
