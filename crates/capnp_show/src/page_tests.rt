@@ -55,7 +55,7 @@ fn page() -> Settings {
     settings
 }
 
-// A framed message of a segment of zero words, as many as are asked for.
+// A framed message of one segment, of a given number of words that are zero.
 fn zeros(alloc: Global, words: u32) -> Result<Vec<u8>, AllocError> {
     let mut bytes = Vec::from_slice(alloc, &[0; 4])?;
     bytes.extend_from_slice(&words.to_le_bytes())?;

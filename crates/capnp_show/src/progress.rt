@@ -21,7 +21,7 @@ pub struct Progress {
 }
 
 impl Progress {
-    /// Nothing is read yet of an input, whose bytes are given where they are known. No line is due
+    /// Nothing is read yet of an input, of a given number of bytes where that is known. No line is due
     /// of an input of at most `STEP_BYTES`, nor where none is wanted.
     pub fn new(is_wanted: bool, total: Option<u64>) -> Progress
         ensures small { IfSome total (λ bytes. bytes ≤ STEP_BYTES → result.next ≡ None) }
@@ -36,7 +36,7 @@ impl Progress {
         Progress { total, next }
     }
 
-    /// How many MB are read where a line is due after a given number of bytes.
+    /// How many MB are read, where a line is due once this number of bytes is taken.
     pub fn after(&mut self, taken: u64) -> Option<u64>
         ensures due { IfSome self.old.next (λ next. IsSome result ↔ (next ≤ taken)) }
         ensures megabytes { IfSome result (λ megabytes. megabytes ≡ taken / MEGABYTE) }
@@ -52,7 +52,7 @@ impl Progress {
         Some(taken / MEGABYTE)
     }
 
-    /// The line for the MB and the messages that are read.
+    /// The line for these numbers of MB and of messages that are read.
     pub fn line(
         &self,
         alloc: Global,
