@@ -13,8 +13,8 @@ use crate::primitive_element::PrimitiveElement;
 use capnp_frame::message::ReaderSegments;
 
 impl<'a, S: ReaderSegments> StructReader<'a, S> {
-    /// The field of the data section that begins after so many of its own width; the value of no bits
-    /// set where the section ends before it.
+    /// The field of the data section that begins after a given number of its own width; the value of
+    /// no bits set where the section ends before it.
     pub fn get_data_field<T: PrimitiveElement>(&self, offset: u32) -> T
         ensures { result ≡ T.value_of
             (field (struct_of S.segments self.now).words (width T.code) offset) }
@@ -22,8 +22,9 @@ impl<'a, S: ReaderSegments> StructReader<'a, S> {
         T::from_bits(self.field_bits(T::size(), offset))
     }
 
-    /// The same of a field that has a default: its bits are those of the value in which it differs from
-    /// the default's, so where the section ends before it the default is returned.
+    /// The field of the data section that begins after a given number of its own width, and has a
+    /// default: its bits are those of the value in which it differs from the default's, so where the
+    /// section ends before it the default is returned.
     pub fn get_data_field_mask<T: PrimitiveElement>(&self, offset: u32, default: T) -> T
         ensures { result ≡ T.value_of (bit_xor
             (field (struct_of S.segments self.now).words (width T.code) offset)
