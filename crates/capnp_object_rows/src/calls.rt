@@ -6,6 +6,7 @@ mod builders;
 mod canonical_messages;
 mod canonical_words;
 mod empty_structs;
+mod fields;
 mod given_back;
 mod lists;
 mod objects;
