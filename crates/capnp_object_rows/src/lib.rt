@@ -15,4 +15,6 @@ mod regions;
 #[cfg(test)]
 mod roots;
 #[cfg(test)]
+mod value_lists;
+#[cfg(test)]
 mod values;

@@ -102,7 +102,7 @@ fn compare<T, V: SetterInput<T>, A: Allocator>(
 
 // The same by each allocator. A heap whose first segment has the root alone has the value in the next
 // one, after a landing pad that is as the root's pointer would be.
-fn compare_by_each<T, V: SetterInput<T>>(
+pub(crate) fn compare_by_each<T, V: SetterInput<T>>(
     rt: &(impl Abort + AllocGlobal),
     value: &V,
     expected: &[u8],
@@ -114,7 +114,7 @@ fn compare_by_each<T, V: SetterInput<T>>(
     let near = expected.len() == 8;
     let segment = if near { 0 } else { 1 };
     compare::<T, V, HeapAllocator>(rt, &mut message, value, segment, expected)?;
-    let mut region = [7; 80];
+    let mut region = [7; 96];
     let mut single = SingleSegmentAllocator::new(&mut region);
     let mut message = Builder::new(rt.alloc(), &mut single);
     compare::<T, V, _>(rt, &mut message, value, 0, expected)?;
@@ -158,7 +158,7 @@ fn lists_of_pointers_stand_at_the_root(rt: HostRuntime) -> Result<()> {
 }
 
 // Makes a value the root in canonical form, and compares the one segment.
-fn compare_canonical<T, V: SetterInput<T>>(
+pub(crate) fn compare_canonical<T, V: SetterInput<T>>(
     rt: &(impl Abort + AllocGlobal),
     value: &V,
     expected: &[u8],

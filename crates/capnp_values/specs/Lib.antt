@@ -4,3 +4,4 @@ pub mod FieldLaws
 pub mod Structs
 pub mod Lists
 pub mod StructLists
+pub mod NumberLists

@@ -1,0 +1,14 @@
+-- The bits of the numbers from here on.
+use Rattle.std.proofs.Common.{◌≡◌, ◌≤◌, ◌<◌, ◌^◌, length, drop, map}
+use Rattle.std.specs.Prelude.{All}
+use Rattle.capnp_wire.specs.Pointer.{number_of}
+use Rattle.capnp_wire.specs.Element.{width}
+use Rattle.capnp_values.proofs.number_list.word_of_numbers.Given as goal
+
+abbrev pub invariant-items : goal.invariant-items
+invariant-items g l =
+    (l.left ≤ length l.items) × All (λ v. v < 2 ^ width g.N.Number.code) (map g.N.Number.bits (drop l.left l.items))
+    × (l.word ≡ number_of (2 ^ width g.N.Number.code) (map g.N.Number.bits (drop l.left l.items)))
+
+abbrev pub decreases-items : goal.decreases-items
+decreases-items g l = l.left

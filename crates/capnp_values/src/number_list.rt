@@ -1,0 +1,142 @@
+//! Lists of numbers as values.
+ghost use Rattle.std.specs.Prelude.{◌≡◌, ◌+◌, ◌*◌, ◌^◌, ◌<◌, ◌≤◌, All, map, length};
+ghost use Rattle.capnp_wire.specs.Pointer.{digits, number_of, words_of};
+ghost use Rattle.capnp_wire.specs.Element.{width, words_for};
+
+use crate::number::Number;
+use crate::sections::too_many;
+use capnp_frame::{Result, Word};
+use capnp_wire::pointer_word::{list_word, word_of};
+use capnp_wire::primitive_list::Owned;
+use capnp_wire::traits::SetterInput;
+
+/// A list of numbers (encoding document, "Lists").
+#[derive(Drop)]
+pub struct NumberList<'a, N> {
+    /// The numbers.
+    pub items: &'a [N],
+}
+
+impl<'a, N> NumberList<'a, N> {
+    /// A list of these numbers.
+    pub fn new(items: &'a [N]) -> NumberList<'a, N>
+        ensures { result.items.now ≡ items.now }
+    {
+        NumberList { items }
+    }
+}
+
+// The bits of each number, in order. 2^29 numbers and more fail with `AllocationTooLarge`.
+impl<'a, N: Number> SetterInput<Owned<N>> for NumberList<'a, N> {
+    ghost use Rattle.capnp_wire.specs.Tree.{count};
+    ghost use Rattle.capnp_values.specs.NumberLists.{IsNumberList, ManyNumbers};
+    ghost use Rattle.std.proofs.Common.{ap};
+
+    ghost has_tree = { λ value trees. IsNumberList N.code (map N.bits value.items.now) trees };
+
+    ghost refuses = { λ value kind. ManyNumbers (length value.items.now) kind };
+
+    ghost one = { λ value trees is. ap count is.1 };
+
+    fn measure(&self, _canonical: bool) -> Result<u32> {
+        let count = self.items.len();
+        if count >= 1 << 29 {
+            return Err(too_many(count as u64));
+        }
+        numbers_fit(self.items);
+        Ok(words_of_list(count as u32, N::code()))
+    }
+
+    fn write(&self, _canonical: bool, block: &mut [u8]) -> Word {
+        put_numbers(self.items, block);
+        word_of(list_word(0, N::code(), self.items.len() as u64))
+    }
+}
+
+// The words of so many elements.
+fn words_of_list(count: u32, code: u64) -> u32
+    requires code { code < 6 }
+    requires few { count < 2 ^ 29 }
+    ensures { result ≡ words_for count (width code) }
+{
+    (count as u64 * bits_of_each(code)).div_ceil(64) as u32
+}
+
+// The bits of each element.
+fn bits_of_each(code: u64) -> u64
+    requires { code < 6 }
+    ensures value { result ≡ width code }
+    ensures most { result ≤ 64 }
+{
+    match code {
+        0 => 0,
+        1 => 1,
+        2 => 8,
+        3 => 16,
+        4 => 32,
+        _ => 64,
+    }
+}
+
+// Each number has no more bits than its type tells.
+fn numbers_fit<N: Number>(items: &[N])
+    ensures { All (λ bits. bits < 2 ^ width N.code) (map N.bits items.now) }
+{
+    let mut left = items.len();
+    'items: while left > 0 {
+        left -= 1;
+        let _bits = items[left].bits();
+    }
+}
+
+// Puts numbers into a block of just their words.
+fn put_numbers<N: Number>(items: &[N], block: &mut [u8])
+    requires few { length items.now < 2 ^ 29 }
+    requires fit { All (λ bits. bits < 2 ^ width N.code) (map N.bits items.now) }
+    requires room { length block.old ≡ 8 * words_for (length items.now) (width N.code) }
+    ensures { words_of block.new ≡ digits (2 ^ 64) (words_for (length items.now) (width N.code))
+        (number_of (2 ^ width N.code) (map N.bits items.now)) }
+{
+    if N::code() == 0 {
+        return;
+    }
+    let each = 64 / bits_of_each(N::code()) as usize;
+    for index in 0..block.len() / 8 {
+        let first = index * each;
+        let last = (first + each).min(items.len());
+        let word = word_of_numbers(&items[first..last]);
+        let at = 8 * index;
+        block[at..at + 8].copy_from_slice(&word.to_le_bytes());
+    }
+}
+
+// The word of some numbers, the first in its lowest bits.
+fn word_of_numbers<N: Number>(items: &[N]) -> u64
+    requires { length items.now * width N.code ≤ 64 }
+    ensures { result ≡ number_of (2 ^ width N.code) (map N.bits items.now) }
+{
+    let mut word = 0;
+    let mut left = items.len();
+    'items: while left > 0 {
+        left -= 1;
+        word = in_front(items[left].bits(), word, N::code());
+    }
+    word
+}
+
+// The bits of one number, and above them those of the others.
+fn in_front(bits: u64, others: u64, code: u64) -> u64
+    requires code { code < 6 }
+    requires room { bits + 2 ^ width code * others < 2 ^ 64 }
+    ensures { result ≡ bits + 2 ^ width code * others }
+{
+    let base: u128 = match code {
+        0 => 1,
+        1 => 1 << 1,
+        2 => 1 << 8,
+        3 => 1 << 16,
+        4 => 1 << 32,
+        _ => 1 << 64,
+    };
+    (bits as u128 + base * others as u128) as u64
+}
