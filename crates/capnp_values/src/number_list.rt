@@ -53,7 +53,7 @@ impl<'a, N: Number> SetterInput<Owned<N>> for NumberList<'a, N> {
     }
 }
 
-// The words of so many elements.
+// The words of a given number of elements.
 fn words_of_list(count: u32, code: u64) -> u32
     requires code { code < 6 }
     requires few { count < 2 ^ 29 }
