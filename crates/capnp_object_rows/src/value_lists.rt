@@ -142,7 +142,11 @@ fn lists_of_numbers_stand_at_the_root(rt: HostRuntime) -> Result<()> {
 
 #[test]
 fn lists_of_signed_numbers_stand_at_the_root(rt: HostRuntime) -> Result<()> {
-    compare_numbers::<i8>(&rt, &[-1, 2, -128], b"\x01\0\0\0\x1a\0\0\0\xff\x02\x80\0\0\0\0\0")?;
+    compare_numbers::<i8>(
+        &rt,
+        &[-1, 2, -128],
+        b"\x01\0\0\0\x1a\0\0\0\xff\x02\x80\0\0\0\0\0",
+    )?;
     compare_numbers::<i16>(&rt, &[-1, 1], b"\x01\0\0\0\x13\0\0\0\xff\xff\x01\0\0\0\0\0")?;
     compare_numbers::<i32>(&rt, &[-2], b"\x01\0\0\0\x0c\0\0\0\xfe\xff\xff\xff\0\0\0\0")?;
     compare_numbers::<i64>(
