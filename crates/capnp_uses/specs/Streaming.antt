@@ -89,4 +89,4 @@ pub record ReadsLog (limit : Option ℕ) (log : List ℕ) (messages : List (List
 pub record ReadsBoth (limit : Option ℕ) (first second : List (List ℕ)) (messages : List (List (List ℕ))) (end : ℕ) (refusal : Option Error)
     : Type 0 where
   pub back : LacksMemory refusal ⊎ (messages ≡ first ∷ second ∷ []) × (refusal ≡ None)
-  pub end : LacksMemory refusal ⊎ (log : List ℕ) × IsLog limit (first ∷ second ∷ []) log × (end ≡ length log)
+  pub ends : LacksMemory refusal ⊎ (log : List ℕ) × IsLog limit (first ∷ second ∷ []) log × (end ≡ length log)

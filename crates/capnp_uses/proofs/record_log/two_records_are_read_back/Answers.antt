@@ -15,7 +15,7 @@ returns g c =
     record {
       read = record {
         back = elim read [ inl memory ↦ inl memory | inr same ↦ inr (same.0, same.1) ];
-        end = elim read [ inl memory ↦ inl memory | inr same ↦ inr (_, shown, same.2) ];
+        ends = elim read [ inl memory ↦ inl memory | inr same ↦ inr (_, shown, same.2) ];
       };
       options = c.read_log.ensures.options;
       refused = tt;
