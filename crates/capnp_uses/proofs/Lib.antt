@@ -1,5 +1,6 @@
 -- The lemmas.
 pub mod BackLemmas
+pub mod ContactLemmas
 pub mod LogLemmas
 pub mod PackedStructLemmas
 pub mod PackingLemmas

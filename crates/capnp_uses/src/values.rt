@@ -1,9 +1,9 @@
 //! Values that are composed: a person is set as the root of a message, written and read back.
-ghost use Rattle.std.specs.Prelude.{◌≡◌, ◌∷◌, [], IfOk, OnOk};
+ghost use Rattle.std.specs.Prelude.{◌≡◌, ◌∷◌, [], map, IfOk, OnOk};
 ghost use Rattle.capnp_wire.specs.Layout.{canon};
 ghost use Rattle.capnp_build.specs.Built.{message};
 ghost use Rattle.capnp.specs.Roots.{HasRootTree};
-ghost use Rattle.capnp_uses.specs.People.{person_tree};
+ghost use Rattle.capnp_uses.specs.People.{contact_tree, person_tree};
 
 use capnp::roots::set_and_read_back;
 use capnp::streams::Format;
@@ -12,7 +12,7 @@ use capnp_frame::Result;
 use capnp_frame::message::ReaderOptions;
 use capnp_frame::serialize::OwnedSegments;
 use capnp_message::{Builder, Reader};
-use capnp_values::{Field, NoFields, StructValue};
+use capnp_values::{Field, NoFields, StructList, StructValue, struct_list};
 use capnp_wire::{any_struct, text};
 use std::alloc::Global;
 
@@ -67,4 +67,45 @@ pub fn person_is_canonical<A: Allocator>(
 {
     let value = person(id, name, city);
     built.set_root_canonical::<any_struct::Owned, Person<'_>>(value)
+}
+
+/// A phone: a struct of a data word, in which its type stands, and of its number, a text.
+pub type Phone<'a> = StructValue<1, Field<text::Owned, &'a str, NoFields>>;
+
+/// What a contact has after the address.
+pub type AfterMail<'a> = Field<struct_list::Owned, StructList<'a, Phone<'a>>, NoFields>;
+
+/// What a contact has after the name.
+pub type AfterContactName<'a> = Field<text::Owned, &'a str, AfterMail<'a>>;
+
+/// A struct of a number, two texts and a list of phones.
+pub type Contact<'a> = StructValue<1, Field<text::Owned, &'a str, AfterContactName<'a>>>;
+
+/// A phone as a value.
+pub fn phone<'a>(number: &'a str, kind: u16) -> Phone<'a>
+    ensures kind { result.words ≡ kind ∷ [] }
+    ensures number { result.fields.value.now ≡ number.now }
+{
+    StructValue::new([kind as u64], Field::new(number, NoFields))
+}
+
+/// Sets the root of a message to a contact, writes the message framed or packed and reads it back: its
+/// root is that contact, with these phones in order.
+pub fn contact_is_read_back<A: Allocator>(
+    alloc: Global,
+    format: Format,
+    message: &mut Builder<A>,
+    id: u64,
+    name: &str,
+    mail: &str,
+    phones: &[Phone<'_>],
+    options: ReaderOptions,
+) -> Result<Reader<OwnedSegments>>
+    ensures back { IfOk result (λ reader. HasRootTree reader.segments
+        (contact_tree id name.now mail.now (map (λ phone. phone.words) phones.now)
+        (map (λ phone. phone.fields.value.now) phones.now))) }
+{
+    let after = Field::new(mail, Field::new(StructList::new(phones), NoFields));
+    let value = StructValue::new([id], Field::new(name, after));
+    set_and_read_back::<any_struct::Owned, Contact<'_>, A>(alloc, format, message, value, options)
 }
