@@ -6,18 +6,23 @@
 #![tactic(auto)]
 
 pub mod any_pointer;
+pub mod any_pointer_list;
 pub mod any_struct;
 pub mod appended;
 pub mod data;
+pub mod data_list;
 pub mod devices;
 pub mod laws;
+pub mod list_list;
 pub mod message;
 pub mod primitive_list;
 pub mod roots;
 pub mod serialize;
 pub mod serialize_packed;
 pub mod streams;
+pub mod struct_list;
 pub mod text;
+pub mod text_list;
 pub mod traits;
 mod transcoding;
 

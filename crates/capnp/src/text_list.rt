@@ -1,0 +1,2 @@
+//! A list of text: its type, and its view.
+pub use capnp_wire::text_list::{Owned, Reader};
