@@ -1,11 +1,13 @@
 -- A contact as a value is one tree.
-use Rattle.std.proofs.Common.{◌≡◌, ℕ, List, [], ◌∷◌, ◌++◌, map, refl, sym, ◌∙◌, ap}
+use Rattle.std.proofs.Common.{◌≡◌, ℕ, List, [], ◌∷◌, ◌++◌, map, Result, Ok, Err, IfOk, ◌∙◌, ap, subst}
+use Rattle.capnp_frame.specs.declared.error.Error.{Error}
 use Rattle.capnp_wire.specs.Tree.{Form, struct, structs, numbers, Trees, none, tree}
 use Rattle.capnp_wire.specs.Trim.{before}
 use Rattle.capnp_wire.specs.Values.{IsTextTree}
 use Rattle.capnp_values.specs.Fields.{IsRow}
 use Rattle.capnp_values.specs.Structs.{IsStruct}
 use Rattle.capnp_values.specs.StructLists.{AreRows, IsStructList}
+use Rattle.capnp.specs.Roots.{HasRootTree, HasRootOf}
 use Rattle.capnp_uses.specs.People.{text_tree, texts, phones_tree, contact_tree}
 
 -- a tree in front of others
@@ -22,11 +24,11 @@ texts_are f (v ∷ vs) held is =
     let row : is.row ≡ text_tree (f v) none = text_front (f v) (λ x. x ≡ none) is.row is.row_is ∙ ap (λ (t : Trees). text_tree (f v) t) is.row_is.others in
     is.whole ∙ ap (λ (t : Trees). before t is.rest) row ∙ ap (λ (t : Trees). text_tree (f v) t) (texts_are f vs is.rest is.others)
 
-pub contact_is : {V : Type 0} (w f : V → List ℕ) (vs : List V) (id : ℕ) (name mail : List ℕ) (trees : Trees)
-    → IsStruct (id ∷ []) 3 (λ t. IsRow (λ x. IsTextTree name x) (λ a. IsRow (λ x. IsTextTree mail x)
+whole_contact : {V : Type 0} (w f : V → List ℕ) (vs : List V) (words name mail : List ℕ) (trees : Trees)
+    → IsStruct words 3 (λ t. IsRow (λ x. IsTextTree name x) (λ a. IsRow (λ x. IsTextTree mail x)
     (λ b. IsRow (λ x. IsStructList w (λ v c. IsRow (λ y. IsTextTree (f v) y) (λ y. y ≡ none) c) 1 1 vs x) (λ x. x ≡ none) b) a) t) trees
-    → trees ≡ contact_tree id name mail (map w vs) (map f vs)
-contact_is w f vs id name mail trees is =
+    → trees ≡ tree (struct words) (text_tree name (text_tree mail (phones_tree (map w vs) (map f vs)))) none
+whole_contact w f vs words name mail trees is =
     let first = is.held_is in
     let second = first.others in
     let third = second.others in
@@ -40,5 +42,22 @@ contact_is w f vs id name mail trees is =
     text_front mail (λ b. IsRow (λ x. IsStructList w (λ v c. IsRow (λ y. IsTextTree (f v) y) (λ y. y ≡ none) c) 1 1 vs x) (λ x. x ≡ none) b) first.rest second
     ∙ ap (λ (t : Trees). text_tree mail t) last in
     is.whole
-    ∙ ap (λ (t : Trees). tree (struct (id ∷ [])) t none)
+    ∙ ap (λ (t : Trees). tree (struct words) t none)
     (first.whole ∙ with_rest first.form (numbers 2 (name ++ 0 ∷ [])) first.held none first.rest first.part.tree_is.1 ∙ ap (λ (t : Trees). text_tree name t) after)
+
+pub contact_is : {V : Type 0} (w f : V → List ℕ) (vs phones : List V) (words : List ℕ) (id : ℕ) (n m name mail : List ℕ) (trees : Trees) → words ≡ id ∷ [] → n ≡ name → m ≡ mail → vs ≡ phones
+    → IsStruct words 3 (λ t. IsRow (λ x. IsTextTree n x) (λ a. IsRow (λ x. IsTextTree m x)
+    (λ b. IsRow (λ x. IsStructList w (λ v c. IsRow (λ y. IsTextTree (f v) y) (λ y. y ≡ none) c) 1 1 vs x) (λ x. x ≡ none) b) a) t) trees
+    → trees ≡ contact_tree id name mail (map w phones) (map f phones)
+contact_is {V = V} w f vs phones words id n m name mail trees words_are n_is m_is vs_are is =
+    whole_contact w f vs words n m trees is
+    ∙ ap (λ (l : List ℕ). tree (struct l) (text_tree n (text_tree m (phones_tree (map w vs) (map f vs)))) none) words_are
+    ∙ ap (λ (l : List ℕ). contact_tree id l m (map w vs) (map f vs)) n_is
+    ∙ ap (λ (l : List ℕ). contact_tree id name l (map w vs) (map f vs)) m_is
+    ∙ ap (λ (l : List V). contact_tree id name mail (map w l) (map f l)) vs_are
+
+-- the root that is read is the one tree of a value
+pub one_root : {X : Type 0} (result : Result X Error) (segments : X → List (List ℕ)) (h : Trees → Type 0) (tree_there : Trees) → ((trees : Trees) → h trees → trees ≡ tree_there)
+    → IfOk result (λ x. HasRootOf h (segments x)) → IfOk result (λ x. HasRootTree (segments x) tree_there)
+one_root (Ok x) segments h tree_there same found = subst (λ (t : Trees). HasRootTree (segments x) t) (same found.0 found.1) found.2
+one_root (Err error) segments h tree_there same found = tt

@@ -89,23 +89,33 @@ pub fn phone<'a>(number: &'a str, kind: u16) -> Phone<'a>
     StructValue::new([kind as u64], Field::new(number, NoFields))
 }
 
+/// A contact as a value.
+pub fn contact<'a>(id: u64, name: &'a str, mail: &'a str, phones: &'a [Phone<'a>]) -> Contact<'a>
+    ensures id { result.words ≡ id ∷ [] }
+    ensures name { result.fields.value.now ≡ name.now }
+    ensures mail { result.fields.rest.value.now ≡ mail.now }
+    ensures phones { result.fields.rest.rest.value.items.now ≡ phones.now }
+{
+    let after = Field::new(mail, Field::new(StructList::new(phones), NoFields));
+    StructValue::new([id], Field::new(name, after))
+}
+
 /// Sets the root of a message to a contact, writes the message framed or packed and reads it back: its
 /// root is that contact, with these phones in order.
-pub fn contact_is_read_back<A: Allocator>(
+pub fn contact_is_read_back<'a, A: Allocator>(
     alloc: Global,
     format: Format,
     message: &mut Builder<A>,
     id: u64,
-    name: &str,
-    mail: &str,
-    phones: &[Phone<'_>],
+    name: &'a str,
+    mail: &'a str,
+    phones: &'a [Phone<'a>],
     options: ReaderOptions,
 ) -> Result<Reader<OwnedSegments>>
     ensures back { IfOk result (λ reader. HasRootTree reader.segments
         (contact_tree id name.now mail.now (map (λ phone. phone.words) phones.now)
         (map (λ phone. phone.fields.value.now) phones.now))) }
 {
-    let after = Field::new(mail, Field::new(StructList::new(phones), NoFields));
-    let value = StructValue::new([id], Field::new(name, after));
-    set_and_read_back::<any_struct::Owned, Contact<'_>, A>(alloc, format, message, value, options)
+    let value = contact(id, name, mail, phones);
+    set_and_read_back::<any_struct::Owned, Contact<'a>, A>(alloc, format, message, value, options)
 }
