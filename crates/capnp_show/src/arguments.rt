@@ -57,7 +57,9 @@ fn formed<'a>(alloc: Global, command: Command<'a>) -> Result<Command<'a>, AllocE
         "html",
         "Draw the messages, as a page that stands alone",
     )
-    .conflicts_with_all(&["tree", "json", "count"])?;
+    .conflicts_with("tree")?
+    .conflicts_with("json")?
+    .conflicts_with("count")?;
     command
         .arg(hash)?
         .arg(tree)?
