@@ -9,6 +9,8 @@ mod built_roots;
 #[cfg(test)]
 mod callers;
 #[cfg(test)]
+mod composed;
+#[cfg(test)]
 mod examples;
 #[cfg(test)]
 mod large_limits;

@@ -1,0 +1,64 @@
+//! The callers that read back values that are composed, by worked bytes (encoding document, "Lists").
+use capnp::any_struct::StructReader;
+use capnp::message::{Builder, OwnedSegments, ReaderOptions};
+use capnp::streams::Format;
+use capnp_uses::values::{contact_is_read_back, person_is_read_back, phone};
+use std::test::Fail;
+
+// A number, pointers to a text and to a struct of no data words, and what these lead to.
+#[rattlefmt::skip]
+const PERSON: &[u8] = b"\0\0\0\0\x01\0\x02\0\x09\0\0\0\0\0\0\0\
+    \x05\0\0\0\x22\0\0\0\x04\0\0\0\0\0\x01\0Ann\0\0\0\0\0\x01\0\0\0\x2a\0\0\0Bonn\0\0\0\0";
+
+// A number, pointers to two texts and to a list, and what these lead to: the list's tag, two structs of
+// a word and a pointer each, and their texts.
+#[rattlefmt::skip]
+const CONTACT: &[u8] = b"\0\0\0\0\x01\0\x03\0\x09\0\0\0\0\0\0\0\
+    \x09\0\0\0\x22\0\0\0\x09\0\0\0\x22\0\0\0\x09\0\0\0\x27\0\0\0\
+    Ann\0\0\0\0\0a@b\0\0\0\0\0\x08\0\0\0\x01\0\x01\0\
+    \x01\0\0\0\0\0\0\0\x09\0\0\0\x22\0\0\0\x02\0\0\0\0\0\0\0\x05\0\0\0\x42\0\0\0\
+    123\0\0\0\0\04567890\0";
+
+#[test]
+fn people_are_read_back(rt: HostRuntime) -> Result<(), Fail> {
+    let options = ReaderOptions::new();
+    for format in [Format::Framed, Format::Packed] {
+        let mut message = Builder::new_default(rt.alloc());
+        let reader = person_is_read_back(
+            rt.alloc(),
+            format,
+            &mut message,
+            9,
+            "Ann",
+            "Bonn",
+            options,
+        )?;
+        let person: StructReader<'_, OwnedSegments> = reader.get_root()?;
+        assert_eq!(rt; person.get_word(0), 9);
+        assert!(rt; message.get_segment(0).is_some_and(|bytes| bytes == PERSON));
+    }
+    Ok(())
+}
+
+#[test]
+fn contacts_are_read_back(rt: HostRuntime) -> Result<(), Fail> {
+    let options = ReaderOptions::new();
+    let phones = [phone("123", 1), phone("4567890", 2)];
+    for format in [Format::Framed, Format::Packed] {
+        let mut message = Builder::new_default(rt.alloc());
+        let reader = contact_is_read_back(
+            rt.alloc(),
+            format,
+            &mut message,
+            9,
+            "Ann",
+            "a@b",
+            &phones,
+            options,
+        )?;
+        let contact: StructReader<'_, OwnedSegments> = reader.get_root()?;
+        assert_eq!(rt; contact.get_word(0), 9);
+        assert!(rt; message.get_segment(0).is_some_and(|bytes| bytes == CONTACT));
+    }
+    Ok(())
+}
