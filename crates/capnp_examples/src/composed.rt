@@ -1,6 +1,6 @@
 //! The callers that read back values that are composed, by worked bytes (encoding document, "Lists").
 use capnp::any_struct::StructReader;
-use capnp::message::{Builder, ReaderOptions};
+use capnp::message::{Builder, ReaderOptions, ReaderSegments};
 use capnp::serialize::OwnedSegments;
 use capnp::streams::Format;
 use capnp_uses::values::{contact_is_read_back, person_is_read_back, phone};
