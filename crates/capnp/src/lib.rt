@@ -15,6 +15,7 @@ pub mod devices;
 pub mod laws;
 pub mod list_list;
 pub mod message;
+pub mod primitive_element;
 pub mod primitive_list;
 pub mod roots;
 pub mod serialize;

@@ -42,3 +42,23 @@ fn a_list_is_no_account(rt: HostRuntime) {
     let read = message.get_root::<account::Reader<'_, SegmentArray<'_>>>();
     assert!(rt; read.is_err_and(|error| error.kind == ErrorKind::WrongPointerKind));
 }
+
+// Two accounts after the tag of their list: 7 and "A", and 8 without a name.
+const ACCOUNTS: &[u8] = b"\x01\0\0\0\x27\0\0\0\
+    \x08\0\0\0\x01\0\x01\0\
+    \x07\0\0\0\0\0\0\0\x09\0\0\0\x12\0\0\0\
+    \x08\0\0\0\0\0\0\0\0\0\0\0\0\0\0\0\
+    A\0\0\0\0\0\0\0";
+
+#[test]
+fn accounts_are_read(rt: HostRuntime) -> Result<(), Fail> {
+    let segments = [ACCOUNTS];
+    let message = Reader::new(SegmentArray::new(&segments), DEFAULT_READER_OPTIONS);
+    let accounts: account::ListReader<'_, SegmentArray<'_>> = message.get_root()?;
+    assert_eq!(rt; accounts.len(), 2);
+    let (first, second) = (accounts.get(0), accounts.get(1));
+    assert_eq!(rt; (first.id(), second.id()), (7, 8));
+    assert_eq!(rt; first.name()?.as_bytes(), b"A".as_slice());
+    assert!(rt; second.name()?.as_bytes().is_empty());
+    Ok(())
+}

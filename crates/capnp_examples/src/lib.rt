@@ -11,6 +11,8 @@ mod callers;
 #[cfg(test)]
 mod composed;
 #[cfg(test)]
+mod entries;
+#[cfg(test)]
 mod examples;
 #[cfg(test)]
 mod large_limits;

@@ -9,6 +9,7 @@ mod empty_structs;
 mod fields;
 mod given_back;
 mod lists;
+mod numbers;
 mod objects;
 mod traversals;
 mod unlimited_roots;

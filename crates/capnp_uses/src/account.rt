@@ -2,13 +2,14 @@
 //!
 //! `struct Account { id @0 :UInt64; name @1 :Text; }` has one data word and one pointer (Cap'n Proto's
 //! encoding, "Structs").
-ghost use Rattle.std.specs.Prelude.{◌≡◌, slice_index, MatchResult};
+ghost use Rattle.std.specs.Prelude.{◌≡◌, ◌<◌, length, slice_index, MatchResult};
 ghost use Rattle.capnp_wire.specs.Readers.{struct_of, pointer_of};
+ghost use Rattle.capnp_wire.specs.ListViews.{struct_list_of, element_of, IsStructList, TakesStructs, DeclinesStructs};
 ghost use Rattle.capnp_wire.specs.Views.{IsViewOf, IsText, IsStruct, Accepts, Refuses, Declines, Reads, TakesStruct, DeclinesStruct, DeclinesText, pointer_in};
 
 use capnp::any_struct::StructReader;
 use capnp::traits::{self, FromPointerReader};
-use capnp::{Result, any_pointer, text};
+use capnp::{Result, any_pointer, struct_list, text};
 use capnp_frame::message::ReaderSegments;
 
 /// Accounts, as a type of a schema.
@@ -65,6 +66,55 @@ impl<'a, S: ReaderSegments> FromPointerReader<'a, S> for Reader<'a, S> {
     {
         match StructReader::get_from_pointer(reader) {
             Ok(fields) => Ok(Reader { fields }),
+            Err(error) => Err(error),
+        }
+    }
+}
+
+/// A list of accounts in a message; none from null.
+#[derive(Drop)]
+pub struct ListReader<'a, S: ReaderSegments> {
+    accounts: struct_list::Reader<'a, S>,
+}
+
+impl<'a, S: ReaderSegments> ListReader<'a, S> {
+    /// The number of accounts.
+    pub fn len(&self) -> u32
+        ensures { result ≡ length (struct_list_of S.segments self.now.accounts).rows }
+    {
+        self.accounts.len()
+    }
+
+    /// The account of this index.
+    pub fn get(&self, index: u32) -> Reader<'a, S>
+        requires { index < length (struct_list_of S.segments self.now.accounts).rows }
+        ensures { struct_of S.segments result.fields
+            ≡ element_of (struct_list_of S.segments self.now.accounts) index }
+    {
+        Reader {
+            fields: self.accounts.get(index),
+        }
+    }
+}
+
+impl<'a, S: ReaderSegments> FromPointerReader<'a, S> for ListReader<'a, S> {
+    ghost shows = { λ pointer view.
+        IsStructList pointer (struct_list_of S.segments view.accounts) };
+
+    ghost accepts = { λ pointer. Accepts pointer TakesStructs };
+
+    ghost refuses = { λ pointer kind. Refuses pointer DeclinesStructs kind };
+
+    ghost declines = { λ pointer kind. Declines pointer DeclinesStructs kind };
+
+    fn get_from_pointer(reader: any_pointer::Reader<'a, S>) -> Result<Self>
+        ensures { let pointer = pointer_of S.segments reader.entry in IsViewOf pointer
+            (λ view. IsStructList pointer (struct_list_of S.segments view.accounts))
+            (Accepts pointer TakesStructs) (Refuses pointer DeclinesStructs)
+            (Declines pointer DeclinesStructs) result }
+    {
+        match struct_list::Reader::get_from_pointer(reader) {
+            Ok(accounts) => Ok(ListReader { accounts }),
             Err(error) => Err(error),
         }
     }

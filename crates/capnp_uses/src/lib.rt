@@ -7,6 +7,7 @@
 pub mod account;
 pub mod building;
 pub mod canonical;
+pub mod entries;
 pub mod packed_struct;
 pub mod packing;
 pub mod reading;

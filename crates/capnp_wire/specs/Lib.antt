@@ -13,6 +13,7 @@ pub mod Views
 pub mod Readers
 pub mod ListViews
 pub mod Fields
+pub mod NumberViews
 pub mod Layout
 pub mod Block
 pub mod Rows

@@ -1,9 +1,9 @@
 //! What views take from the objects that they enter.
-ghost use Rattle.std.specs.Prelude.{◌≡◌, ◌+◌, ◌*◌, ◌/◌, ◌^◌, ◌<◌, ◌≤◌, length, MatchResult};
+ghost use Rattle.std.specs.Prelude.{◌≡◌, ◌+◌, ◌*◌, ◌/◌, ◌≤◌, length, MatchResult};
 ghost use Rattle.capnp_frame.specs.declared.error.ErrorKind.{ErrorKind};
 ghost use Rattle.capnp_wire.specs.Pointer.{words_of};
 ghost use Rattle.capnp_wire.specs.Object.{elements};
-ghost use Rattle.capnp_wire.specs.Element.{words_for};
+ghost use Rattle.capnp_wire.specs.Element.{code_of, width, words_for};
 ghost use Rattle.capnp_wire.specs.Tree.{numbers};
 ghost use Rattle.capnp_wire.specs.Landing.{room_of};
 ghost use Rattle.capnp_wire.specs.Readers.{form_of};
@@ -33,18 +33,30 @@ impl<'a> Object<'a> {
         }
     }
 
-    /// The bytes of a list of words.
-    pub(crate) fn words(&self) -> Result<&'a [u8]>
+    /// The elements of a list of numbers of a size, by its words.
+    pub(crate) fn numbers(&self, size: ElementSize) -> Result<EnteredNumbers<'a>>
         requires { self.now.start.word + room_of self.now.body ≤ length self.now.segment.now / 8 }
-        ensures { MatchResult result (λ bytes. (form_of self.now ≡ numbers 5 (words_of bytes.now))
-            × (length bytes.now / 8 < 2 ^ 32))
-            (λ error. DeclinesNumbers 5 (form_of self.now) error.kind) }
+        ensures { let code = code_of size in MatchResult result
+            (λ list. (form_of self.now
+            ≡ numbers code (elements (words_of list.bytes.now) 0 code list.count))
+            × (length list.bytes.now ≡ 8 * words_for list.count (width code)))
+            (λ error. DeclinesNumbers code (form_of self.now) error.kind) }
     {
-        match self.body.count_of(ElementSize::EightBytes) {
-            Some(count) => Ok(words_at(self.segment, self.start.word, count)),
+        match self.body.count_of(size) {
+            Some(count) => Ok(EnteredNumbers {
+                bytes: words_at(self.segment, self.start.word, size, count),
+                count,
+            }),
             None => Err(wrong_kind()),
         }
     }
+}
+
+/// The words of a list of numbers that was entered, and how many numbers they are.
+#[derive(Drop)]
+pub(crate) struct EnteredNumbers<'a> {
+    pub bytes: &'a [u8],
+    pub count: u32,
 }
 
 // A given number of bytes from a word of a segment on.
@@ -56,12 +68,13 @@ fn bytes_at(segment: &[u8], start: usize, count: u32) -> &[u8]
     &segment[begin..begin + count as usize]
 }
 
-// The bytes of a given number of words from a word of a segment on.
-fn words_at(segment: &[u8], start: usize, count: u32) -> &[u8]
-    requires { start + words_for count 64 ≤ length segment.now / 8 }
-    ensures words { words_of result.now ≡ elements (words_of segment.now) start 5 count }
-    ensures bound { length result.now / 8 < 2 ^ 32 }
+// The bytes of the words of a list of numbers, which begins at a word of a segment.
+fn words_at(segment: &[u8], start: usize, size: ElementSize, count: u32) -> &[u8]
+    requires { start + words_for count (width (code_of size)) ≤ length segment.now / 8 }
+    ensures elements { elements (words_of result.now) 0 (code_of size) count
+        ≡ elements (words_of segment.now) start (code_of size) count }
+    ensures len { length result.now ≡ 8 * words_for count (width (code_of size)) }
 {
     let begin = 8 * start;
-    &segment[begin..begin + 8 * count as usize]
+    &segment[begin..begin + 8 * size.words_of_list(count) as usize]
 }

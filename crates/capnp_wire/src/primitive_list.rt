@@ -4,6 +4,7 @@ ghost use Rattle.capnp_wire.specs.Pointer.{words_of};
 mod reader;
 
 use crate::layout::value;
+use crate::primitive_element::PrimitiveElement;
 use crate::traits::{self, SetterInput};
 use capnp_frame::message::ReaderSegments;
 use capnp_frame::{Result, Word};
@@ -15,8 +16,8 @@ pub struct Owned<T> {
     element: PhantomData<T>,
 }
 
-impl<'a, S: ReaderSegments> traits::Owned<'a, S> for Owned<u64> {
-    type Reader = Reader<'a, u64>;
+impl<'a, S: ReaderSegments, T: PrimitiveElement + 'a> traits::Owned<'a, S> for Owned<T> {
+    type Reader = Reader<'a, T>;
 }
 
 // A list of elements of 8 bytes.

@@ -1,6 +1,7 @@
 //! Fields of structs by their width, with defaults (encoding document, "Structs").
 use crate::calls::objects::root_as_struct;
 use capnp_frame::message::{ReaderOptions, SegmentArray};
+use capnp_rows::refusals::refusal;
 use capnp_wire::arena::ReaderArena;
 use std::test::Fail;
 
@@ -142,5 +143,18 @@ fn pointers_that_are_set(rt: HostRuntime) -> std::result::Result<(), Fail> {
     assert!(rt; fields.has_pointer(0));
     assert!(rt; !fields.has_pointer(1));
     assert!(rt; !fields.has_pointer(2));
+    Ok(())
+}
+
+#[test]
+fn pointers_with_defaults(rt: HostRuntime) -> std::result::Result<(), Fail> {
+    let segments = [FIELDS];
+    let arena = arena_of(&segments);
+    let fields = root_as_struct(&arena)?;
+    let default: &[u8] = b"none";
+    assert_eq!(rt; fields.get_pointer_or(1, default)?, b"none".as_slice());
+    assert_eq!(rt; fields.get_pointer_or(2, default)?, b"none".as_slice());
+    // a struct is no data, whatever the default
+    assert_eq!(rt; refusal(fields.get_pointer_or(0, default)), 22);
     Ok(())
 }

@@ -1,5 +1,5 @@
 -- The bytes and words of lists, as they stand in a segment.
-use Rattle.std.proofs.lemmas.List.{take_all, take-take, get_or-take, get_or-drop, get_or_past}
+use Rattle.std.proofs.lemmas.List.{take-take, get_or-take, get_or-drop, get_or_past}
 use Rattle.std.proofs.lemmas.Option.{slice_get_cases}
 use native.Mathlib.Nat.{pow-suc, add-mul-div_left}
 use Rattle.std.proofs.Math.Nat.{add-mul-mod_self_left, div-eq_of_lt, mod-eq_of_lt}
@@ -10,7 +10,7 @@ use Rattle.std.specs.Simd.{first_chunks}
 use Rattle.capnp_wire.specs.Pointer.{digits, number_of, words_of, words_from}
 use Rattle.capnp_wire.specs.Element.{words_for}
 use Rattle.capnp_wire.specs.Object.{elements}
-use Rattle.capnp_wire.proofs.words.WordLemmas.{numbers_from, bytes_back, length-words_of}
+use Rattle.capnp_wire.proofs.words.WordLemmas.{numbers_from, bytes_back}
 
 part_fits : (bytes : List ℕ) (start k : ℕ) → ((i : ℕ) → slice_index_or bytes i 0 < 256) → (i : ℕ) → slice_index_or (take (8 * k) (drop (8 * start) bytes)) i 0 < 256
 part_fits bytes start k fits i =
@@ -64,26 +64,6 @@ chunk_below (suc k) bytes fits (suc i) = chunk_below k (drop 8 bytes) (λ j. rw 
 
 pub words_below : (bytes : List ℕ) → ((i : ℕ) → slice_index_or bytes i 0 < 256) → (i : ℕ) → slice_index_or (words_of bytes) i 0 < 2 ^ 64
 words_below bytes fits i = chunk_below (length bytes / 8) bytes fits i
-
--- the elements of a list of words are its words
-pub elements_are_words : (bytes : List ℕ) (start n : ℕ) → ((i : ℕ) → slice_index_or bytes i 0 < 256) → start + words_for n 64 ≤ length bytes / 8
-    → words_of (take (8 * n) (drop (8 * start) bytes)) ≡ elements (words_of bytes) start 5 n
-elements_are_words bytes start n fits room =
-    let part = take (8 * n) (drop (8 * start) bytes) in
-    let size : words_for n 64 ≡ n = omega arith in
-    let part_len : length part ≡ 8 * n = omega (arith, length-take (8 * n) (drop (8 * start) bytes), length-drop (8 * start) bytes) in
-    let count : length (words_of part) ≡ n = omega (arith, length-words_of part) in
-    let whole : number_of (2 ^ 64) (words_from (words_of bytes) start n) ≡ number_of 256 part = numbers_from start n (length bytes / 8) bytes (omega arith) (omega arith) in
-    let own : number_of (2 ^ 64) (words_from (words_of part) 0 n) ≡ number_of 256 (take (8 * n) (drop (8 * 0) part)) = numbers_from 0 n (length part / 8) part (omega arith) (omega arith) in
-    let all_words : take n (words_of part) ≡ words_of part = take_all n (words_of part) (omega arith) in
-    let all_bytes : take (8 * n) part ≡ part = take_all (8 * n) part (omega arith) in
-    let same : number_of (2 ^ 64) (words_of part) ≡ number_of (2 ^ 64) (words_from (words_of bytes) start n) =
-    ap (number_of (2 ^ 64)) (sym all_words) ∙ own ∙ ap (number_of 256) all_bytes ∙ sym whole in
-    let back : digits (2 ^ 64) (length (words_of part)) (number_of (2 ^ 64) (words_of part)) ≡ words_of part =
-    digits_back (2 ^ 64) (words_of part) (words_below part (part_fits bytes start n fits)) in
-    let sized : digits (2 ^ 64) n (number_of (2 ^ 64) (words_from (words_of bytes) start n)) ≡ elements (words_of bytes) start 5 n =
-    ap (λ (k : ℕ). digits (2 ^ 64) n (number_of (2 ^ 64) (words_from (words_of bytes) start k))) (sym size) in
-    sym back ∙ ap (λ (k : ℕ). digits (2 ^ 64) k (number_of (2 ^ 64) (words_of part))) count ∙ ap (digits (2 ^ 64) n) same ∙ sized
 
 -- every word of some bytes is one
 default_same : (xs : List ℕ) (k e : ℕ) → k < length xs → slice_index_or xs k e ≡ slice_index_or xs k 0

@@ -7,7 +7,8 @@ use Rattle.capnp_wire.specs.Tree.{Form, null, struct, numbers, pointers, structs
 use Rattle.capnp_wire.specs.Object.{places, row_places, rows_from}
 use Rattle.capnp_wire.specs.Traversed.{Within}
 use Rattle.capnp_wire.specs.Landing.{shape_of, words_in}
-use Rattle.capnp_wire.specs.Views.{Pointer, at_place, Shows, Accepts}
+use Rattle.capnp_wire.specs.Views.{Pointer, at_place, Shows, Accepts, Reads, TakesNumbers}
+use Rattle.capnp_wire.specs.NumberViews.{IsNumbers}
 use Rattle.capnp_wire.specs.Readers.{IsEntered, form_of}
 use Rattle.capnp_wire.specs.ListViews.{StructList, PointerList, HasRows, IsStructList, IsPointerList, TakesStructs, TakesPointers, DeclinesStructs, DeclinesPointers}
 use Rattle.capnp_wire.specs.declared.layout.place.Place.{Place}
@@ -102,3 +103,14 @@ pointers_show p object n entered body =
       at_place entered.stands entered.object_is.object (λ not. entered.nesting),
       (holds.0, holds.1, entered.within),
     )
+
+-- what a list of numbers shows is of a form that it takes
+numbers_taken : (form : Form) (code : ℕ) (values : List ℕ) → IsNumbers code form values → TakesNumbers code form
+numbers_taken null code values t = tt
+numbers_taken (struct words) code values t = t
+numbers_taken (numbers there are) code values t = t.0
+numbers_taken pointers code values t = t
+numbers_taken (structs d p rows) code values t = t
+
+pub numbers_accepted : (p : Pointer) (code : ℕ) (values : List ℕ) → Reads p (λ form. IsNumbers code form values) → Accepts p (TakesNumbers code)
+numbers_accepted p code values read = (read.0, read.1, numbers_taken read.0.form code values read.2.0)

@@ -9,7 +9,7 @@ use Rattle.capnp_wire.specs.Object.{Shape, PointsTo}
 use Rattle.capnp_wire.specs.Faults.{NoWord, no_segment, past_segment, BadLandingPad, no_landing_pad, far_again, landing_pad_capability, no_tag, not_far, no_content, far_tag, capability_tag, Misfits}
 use Rattle.capnp_wire.specs.Faults.{struct_outside, list_outside, structs_outside, odd_tag, many_elements, Fault, no_word, capability, bad_landing_pad, too_deep, no_start, misfits}
 use Rattle.capnp_wire.specs.Views.{Pointer, Struct, IsViewOf, Denotes, nowhere, at_place, Unreadable, IsInvalidPointer, MeetsLimit, Reads, Accepts, Declines, Refuses, IsData}
-use Rattle.capnp_wire.specs.Views.{IsText, IsWords, HasData, IsStruct, TakesNumbers, TakesText, TakesStruct, DeclinesNumbers, DeclinesText, DeclinesStruct}
+use Rattle.capnp_wire.specs.Views.{IsText, HasData, IsStruct, TakesNumbers, TakesText, TakesStruct, DeclinesNumbers, DeclinesText, DeclinesStruct}
 use Rattle.capnp_wire.specs.declared.layout.place.Place.{Place}
 use Rattle.capnp_wire.proofs.objects.ObjectLemmas.{one_object}
 use Rattle.capnp_wire.proofs.pointers.FaultLemmas.{refused_has_no_object}
@@ -190,13 +190,6 @@ data_taken (numbers code values) bytes t = t.0
 data_taken pointers bytes t = t
 data_taken (structs d p rows) bytes t = t
 
-words_taken : (form : Form) (words : List ℕ) → IsWords form words → TakesNumbers 5 form
-words_taken null words t = tt
-words_taken (struct there) words t = t
-words_taken (numbers code values) words t = t.0
-words_taken pointers words t = t
-words_taken (structs d p rows) words t = t
-
 text_taken : (form : Form) (bytes : List ℕ) → IsText form bytes → TakesText form
 text_taken null bytes t = tt
 text_taken (struct words) bytes t = t
@@ -213,9 +206,6 @@ struct_taken (structs d p rows) words t = t
 
 pub data_accepted : (p : Pointer) (bytes : List ℕ) → Reads p (λ form. IsData form bytes) → Accepts p (TakesNumbers 2)
 data_accepted p bytes read = (read.0, read.1, data_taken read.0.form bytes read.2.0)
-
-pub words_accepted : (p : Pointer) (words : List ℕ) → Reads p (λ form. IsWords form words) → Accepts p (TakesNumbers 5)
-words_accepted p words read = (read.0, read.1, words_taken read.0.form words read.2.0)
 
 pub text_accepted : (p : Pointer) (bytes : List ℕ) → Reads p (λ form. IsText form bytes) → Accepts p TakesText
 text_accepted p bytes read = (read.0, read.1, text_taken read.0.form bytes read.2.0)

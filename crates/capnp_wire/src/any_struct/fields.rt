@@ -1,20 +1,22 @@
 //! Fields of structs by their width (encoding document, "Structs").
-ghost use Rattle.std.specs.Prelude.{◌≡◌, ◌↔◌, ◌^◌, ◌<◌, length, slice_index, bit_xor, IsTrue};
+ghost use Rattle.std.specs.Prelude.{◌≡◌, ◌↔◌, ◌^◌, ◌<◌, length, slice_index, bit_xor, IsTrue, Ok};
 ghost use Rattle.capnp_wire.specs.Element.{code_of, width};
 ghost use Rattle.capnp_wire.specs.Fields.{field};
 ghost use Rattle.capnp_wire.specs.Object.{nothing};
 ghost use Rattle.capnp_wire.specs.Readers.{struct_of};
-ghost use Rattle.capnp_wire.specs.Views.{Denotes, pointer_in};
+ghost use Rattle.capnp_wire.specs.Views.{Denotes, IsViewOf, pointer_in};
 
 use crate::any_struct::StructReader;
 use crate::layout::element::ElementSize;
 use crate::layout::object::words_fit;
 use crate::primitive_element::PrimitiveElement;
+use crate::traits::FromPointerReader;
+use capnp_frame::Result;
 use capnp_frame::message::ReaderSegments;
 
 impl<'a, S: ReaderSegments> StructReader<'a, S> {
-    /// The field of the data section that begins after a given number of its own width; the value of
-    /// no bits set where the section ends before it.
+    /// A field of the data section, at an offset in units of its own width. Its bits are zero where the
+    /// section ends before it.
     pub fn get_data_field<T: PrimitiveElement>(&self, offset: u32) -> T
         ensures { result ≡ T.value_of
             (field (struct_of S.segments self.now).words (width T.code) offset) }
@@ -22,9 +24,9 @@ impl<'a, S: ReaderSegments> StructReader<'a, S> {
         T::from_bits(self.field_bits(T::size(), offset))
     }
 
-    /// The field of the data section that begins after a given number of its own width, and has a
-    /// default: its bits are those of the value in which it differs from the default's, so where the
-    /// section ends before it the default is returned.
+    /// A field that has a default, at an offset in units of its own width. In the data section stand the
+    /// bits in which the value differs from the default, which is returned where the section ends before
+    /// the field.
     pub fn get_data_field_mask<T: PrimitiveElement>(&self, offset: u32, default: T) -> T
         ensures { result ≡ T.value_of (bit_xor
             (field (struct_of S.segments self.now).words (width T.code) offset)
@@ -40,6 +42,24 @@ impl<'a, S: ReaderSegments> StructReader<'a, S> {
             ↔ (Denotes (pointer_in (struct_of S.segments self.now) index) nothing → ⊥) }
     {
         !self.get_pointer(index).is_null()
+    }
+
+    /// The view of what a pointer leads to, or the default where the pointer is null.
+    pub fn get_pointer_or<T: FromPointerReader<'a, S> + Drop>(
+        &self,
+        index: u16,
+        default: T,
+    ) -> Result<T>
+        ensures null { Denotes (pointer_in (struct_of S.segments self.now) index) nothing →
+            result ≡ Ok default }
+        ensures view { let pointer = pointer_in (struct_of S.segments self.now) index in
+            (Denotes pointer nothing → ⊥) → IsViewOf pointer (T.shows pointer)
+            (T.accepts pointer) (T.refuses pointer) (T.declines pointer) result }
+    {
+        if !self.has_pointer(index) {
+            return Ok(default);
+        }
+        T::get_from_pointer(self.get_pointer(index))
     }
 
     // The bits of a field of a size.

@@ -1,78 +1,93 @@
 //! Lists of numbers that are read.
-ghost use Rattle.std.specs.Prelude.{◌≡◌, ◌/◌, ◌^◌, ◌<◌, length, slice_index, MatchResult};
-ghost use Rattle.capnp_wire.specs.Pointer.{words_of};
-ghost use Rattle.capnp_wire.specs.Views.{IsViewOf, Accepts, Reads, Refuses, Declines, IsWords, TakesNumbers, DeclinesNumbers};
-ghost use Rattle.capnp_wire.specs.Readers.{pointer_of};
+ghost use Rattle.std.specs.Prelude.{◌≡◌, ◌*◌, ◌<◌, length, slice_index, MatchResult};
+ghost use Rattle.capnp_wire.specs.Element.{width, words_for};
 
 use crate::any_pointer;
+use crate::layout::object::words_fit;
 use crate::layout::place::word;
+use crate::primitive_element::PrimitiveElement;
 use crate::traits::FromPointerReader;
 use capnp_frame::Result;
 use capnp_frame::message::ReaderSegments;
 use std::marker::PhantomData;
 
-/// A list of numbers in a message.
+/// A list of numbers, of bools or of nothing in a message.
 #[derive(Drop)]
-pub struct Reader<'a, T> {
+pub struct Reader<'a, T: PrimitiveElement> {
+    /// The words of the list.
     pub(crate) bytes: &'a [u8],
+    pub(crate) count: u32,
     element: PhantomData<T>,
-    ghost few: { length bytes.now / 8 < 2 ^ 32 },
+    ghost whole: { length bytes.now ≡ 8 * words_for count (width T.code) },
 }
 
-impl<'a> Reader<'a, u64> {
+impl<'a, T: PrimitiveElement> Reader<'a, T> {
+    ghost use Rattle.capnp_wire.specs.NumberViews.{numbers_of, IsNumbers};
+    ghost use Rattle.capnp_wire.specs.Views.{Reads, Refuses, DeclinesNumbers};
+    ghost use Rattle.capnp_wire.specs.Readers.{pointer_of};
+
     /// The number of elements.
     pub fn len(&self) -> u32
-        ensures { result ≡ length (words_of self.now.bytes.now) }
+        ensures { result ≡ length (numbers_of T.code self.now) }
     {
-        (self.bytes.len() / 8) as u32
+        self.count
     }
 
     /// The element of this index.
-    pub fn get(&self, index: u32) -> u64
-        requires { index < length (words_of self.now.bytes.now) }
-        ensures { result ≡ slice_index (words_of self.now.bytes.now) index }
+    pub fn get(&self, index: u32) -> T
+        requires { index < length (numbers_of T.code self.now) }
+        ensures { result ≡ T.value_of (slice_index (numbers_of T.code self.now) index) }
     {
-        word(self.bytes, index as usize).unwrap_or(0)
+        words_fit(self.bytes);
+        let size = T::size();
+        let word = word(self.bytes, size.word_of(index) as usize).unwrap_or(0);
+        T::from_bits(size.in_word(word, index))
+    }
+
+    // The list that a pointer leads to.
+    fn read<S: ReaderSegments>(reader: &any_pointer::Reader<'a, S>) -> Result<Reader<'a, T>>
+        ensures { let pointer = pointer_of S.segments reader.now in MatchResult result
+            (λ view. Reads pointer (λ form. IsNumbers T.code form (numbers_of T.code view)))
+            (λ error. Refuses pointer (DeclinesNumbers T.code) error.kind) }
+    {
+        let Some(object) = reader.enter()? else {
+            return Ok(Reader {
+                bytes: &[],
+                count: 0,
+                element: PhantomData,
+            });
+        };
+        let list = object.numbers(T::size())?;
+        Ok(Reader {
+            bytes: list.bytes,
+            count: list.count,
+            element: PhantomData,
+        })
     }
 }
 
-// Empty from null, else the words of a list of 8 bytes each; any other object fails with
+// Empty from null, else the numbers of a list of this size; any other object fails with
 // `WrongPointerKind`.
-impl<'a, S: ReaderSegments> FromPointerReader<'a, S> for Reader<'a, u64> {
+impl<'a, S: ReaderSegments, T: PrimitiveElement> FromPointerReader<'a, S> for Reader<'a, T> {
+    ghost use Rattle.capnp_wire.specs.NumberViews.{numbers_of, IsNumbers};
+    ghost use Rattle.capnp_wire.specs.Views.{IsViewOf, Accepts, Reads, Refuses, Declines, TakesNumbers, DeclinesNumbers};
+    ghost use Rattle.capnp_wire.specs.Readers.{pointer_of};
+
     ghost shows = { λ pointer view.
-        Reads pointer (λ form. IsWords form (words_of view.bytes.now)) };
+        Reads pointer (λ form. IsNumbers T.code form (numbers_of T.code view)) };
 
-    ghost accepts = { λ pointer. Accepts pointer (TakesNumbers 5) };
+    ghost accepts = { λ pointer. Accepts pointer (TakesNumbers T.code) };
 
-    ghost refuses = { λ pointer kind. Refuses pointer (DeclinesNumbers 5) kind };
+    ghost refuses = { λ pointer kind. Refuses pointer (DeclinesNumbers T.code) kind };
 
-    ghost declines = { λ pointer kind. Declines pointer (DeclinesNumbers 5) kind };
+    ghost declines = { λ pointer kind. Declines pointer (DeclinesNumbers T.code) kind };
 
     fn get_from_pointer(reader: any_pointer::Reader<'a, S>) -> Result<Self>
         ensures { let pointer = pointer_of S.segments reader.entry in IsViewOf pointer
-            (λ view. Reads pointer (λ form. IsWords form (words_of view.bytes.now)))
-            (Accepts pointer (TakesNumbers 5)) (Refuses pointer (DeclinesNumbers 5))
-            (Declines pointer (DeclinesNumbers 5)) result }
+            (λ view. Reads pointer (λ form. IsNumbers T.code form (numbers_of T.code view)))
+            (Accepts pointer (TakesNumbers T.code)) (Refuses pointer (DeclinesNumbers T.code))
+            (Declines pointer (DeclinesNumbers T.code)) result }
     {
-        read_words(&reader)
+        Reader::read(&reader)
     }
-}
-
-// The words of a list of 8 bytes each.
-fn read_words<'a, S: ReaderSegments>(reader: &any_pointer::Reader<'a, S>) -> Result<Reader<'a, u64>>
-    ensures { let pointer = pointer_of S.segments reader.now in MatchResult result
-        (λ view. Reads pointer (λ form. IsWords form (words_of view.bytes.now)))
-        (λ error. Refuses pointer (DeclinesNumbers 5) error.kind) }
-{
-    let Some(object) = reader.enter()? else {
-        return Ok(Reader {
-            bytes: &[],
-            element: PhantomData,
-        });
-    };
-    let bytes = object.words()?;
-    Ok(Reader {
-        bytes,
-        element: PhantomData,
-    })
 }

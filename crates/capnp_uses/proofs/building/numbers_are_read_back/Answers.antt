@@ -2,15 +2,14 @@
 use Rattle.std.proofs.Common.{◌≡◌, ◌∙◌, ◌∷◌, [], take, arith}
 use Rattle.std.proofs.lemmas.List.{take_all}
 use Rattle.capnp_wire.specs.Tree.{numbers}
-use Rattle.capnp_wire.specs.Pointer.{words_of}
-use Rattle.capnp_wire.specs.Views.{IsWords}
+use Rattle.capnp_wire.specs.NumberViews.{IsNumbers, numbers_of}
 use Rattle.capnp_uses.proofs.RootLemmas.{root_is_read}
 use Rattle.capnp_uses.proofs.building.numbers_are_read_back.Goals as goal
 
 pub returns : goal.returns
 returns g c =
-    let words = words_of c.in_ok-list.list.bytes.now in
-    let there = root_is_read _ (numbers 5 (c.args.first ∷ c.args.second ∷ [])) (λ form. IsWords form words)
+    let words = numbers_of 5 c.in_ok-list.list in
+    let there = root_is_read _ (numbers 5 (c.args.first ∷ c.args.second ∷ [])) (λ form. IsNumbers 5 form words)
     c.in_ok-write_numbers.ensures.stands c.in_ok-list.ensures.returned in
     let all : take c.loop-index.index words ≡ words = take_all c.loop-index.index words (omega arith) in
     record { stands = c.in_ok-write_numbers.ensures.stands; back = c.loop-index.invariant ∙ all ∙ there.1 }

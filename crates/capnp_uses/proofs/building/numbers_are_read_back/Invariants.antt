@@ -1,7 +1,7 @@
 -- The numbers so far are those of the list so far.
 use Rattle.std.proofs.Common.{◌≡◌, take}
-use Rattle.capnp_wire.specs.Pointer.{words_of}
+use Rattle.capnp_wire.specs.NumberViews.{numbers_of}
 use Rattle.capnp_uses.proofs.building.numbers_are_read_back.Given as goal
 
 abbrev pub invariant-loop-index : goal.invariant-loop-index
-invariant-loop-index g l = l.numbers.items ≡ take l.index (words_of l.list.bytes.now)
+invariant-loop-index g l = l.numbers.items ≡ take l.index (numbers_of 5 l.list)

@@ -1,0 +1,2 @@
+//! Numbers and bools, as fields and elements are.
+pub use capnp_wire::primitive_element::PrimitiveElement;

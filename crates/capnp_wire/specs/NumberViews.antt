@@ -1,0 +1,17 @@
+-- What the views of lists of numbers show (src/primitive_list).
+use Rattle.std.specs.Prelude.{◌≡◌, ℕ, List, []}
+use Rattle.capnp_wire.specs.Pointer.{words_of}
+use Rattle.capnp_wire.specs.Tree.{Form, null, numbers}
+use Rattle.capnp_wire.specs.Object.{elements}
+use Rattle.capnp_wire.specs.declared.primitive_element.PrimitiveElement.{Ghosts}
+use Rattle.capnp_wire.specs.declared.primitive_list.reader.Reader.{Reader}
+
+-- a list of numbers: empty from null, the bits of each element of a list of this code
+abbrev pub IsNumbers : ℕ → Form → List ℕ → Type 0
+IsNumbers wanted null values = values ≡ []
+IsNumbers wanted (numbers code there) values = (code ≡ wanted) × (values ≡ there)
+IsNumbers wanted _ values = ⊥
+
+-- what contracts see of a reader, whose elements have this code
+abbrev pub numbers_of : {T : Type 0} {ghosts : Ghosts T} → ℕ → Reader T ghosts → List ℕ
+numbers_of code list = elements (words_of list.bytes.now) 0 code list.count
