@@ -49,6 +49,7 @@ pub fn person_is_read_back<A: Allocator>(
 ) -> Result<Reader<OwnedSegments>>
     ensures back { IfOk result (λ reader. HasRootTree reader.segments
         (person_tree id name.now city.now)) }
+    ensures options { IfOk result (λ reader. reader.options ≡ options) }
 {
     let value = person(id, name, city);
     set_and_read_back::<any_struct::Owned, Person<'_>, A>(alloc, format, message, value, options)
@@ -115,6 +116,7 @@ pub fn contact_is_read_back<'a, A: Allocator>(
     ensures back { IfOk result (λ reader. HasRootTree reader.segments
         (contact_tree id name.now mail.now (map (λ phone. phone.words) phones.now)
         (map (λ phone. phone.fields.value.now) phones.now))) }
+    ensures options { IfOk result (λ reader. reader.options ≡ options) }
 {
     let value = contact(id, name, mail, phones);
     set_and_read_back::<any_struct::Owned, Contact<'a>, A>(alloc, format, message, value, options)
