@@ -11,4 +11,5 @@ returns g c =
           (λ trees is. contact_is (λ p. p.words) (λ p. p.fields.value.now) v.fields.rest.rest.value.items.now c.args.phones.now v.words c.args.id v.fields.value.now v.fields.rest.value.now
           c.args.name.now c.args.mail.now trees e.id e.name e.mail e.phones is)
           c.set_and_read_back.ensures.tree;
+      options = c.set_and_read_back.ensures.options;
     }
