@@ -14,6 +14,7 @@ use Rattle.capnp_wire.proofs.trees.FrontLemmas.{trim_before}
 use Rattle.capnp_wire.proofs.trees.NarrowLemmas.{first-before, following-before, first_all}
 use Rattle.capnp_wire.proofs.trees.ChunkLemmas.{cut-first, count-first, count-before, count-following, total-before, total-chunks, before_chunks}
 use Rattle.capnp_wire.proofs.trees.KeptLemmas.{rooms_first, rooms_after}
+use Rattle.capnp_wire.proofs.trees.StoodLemmas.{total_cut, total_first, total_narrowed}
 use Rattle.capnp_wire.proofs.trees.TrimLemmas.{room_trim}
 use Rattle.capnp_values.specs.Fields.{IsSettled, kept_row, extent_of, HasExtent}
 use Rattle.capnp_values.specs.declared.fields.Extent.{Extent}
@@ -82,33 +83,6 @@ pointers_front false p ws rows row rest held whole many = omega (arith, many)
 pub data_front : (c : Bool) (d : ℕ) (ws : List ℕ) (rows : List (List ℕ)) → length ws ≡ d → kept_data c d (ws ∷ rows) ≡ max (length (kept_words c ws)) (kept_data c d rows)
 data_front true d ws rows long = refl
 data_front false d ws rows long = omega (arith, long)
-
--- what is cut of a row has no words
-keep_total : (rest : Trees) (form : Form) (held : Trees) → HasRoom form (count held) → total_words (keep_tree rest form held) ≡ own_words form (count held) + total_words held + total_words rest
-keep_total (tree f h r) form held room = refl
-keep_total none null none room = refl
-keep_total none null (tree f h r) room = absurd (omega (arith, room))
-keep_total none (struct words) held room = refl
-keep_total none (numbers c values) held room = refl
-keep_total none pointers held room = refl
-keep_total none (structs d p rows) held room = refl
-
-total_cut : (t : Trees) → AllHaveRoom t → total_words (cut_nulls t) ≡ total_words t
-total_cut none rooms = refl
-total_cut (tree form held rest) rooms = keep_total (cut_nulls rest) form held rooms.0 ∙ omega (arith, total_cut rest rooms.2)
-
-total_first : (q : ℕ) (t : Trees) → AllHaveRoom t → count (cut_nulls t) ≤ q → total_words (first q t) ≡ total_words t
-total_first q t rooms le =
-    sym (total_cut (first q t) (rooms_first q t rooms)) ∙ ap total_words (cut-first q t le) ∙ total_cut t rooms
-
-total_narrowed : (q p : ℕ) (rows : List (List ℕ)) (t : Trees) → AllHaveRoom t → count t ≡ length rows * p → least_pointers p rows t ≤ q → total_words (narrowed q p rows t) ≡ total_words t
-total_narrowed q p [] none rooms long le = refl
-total_narrowed q p [] (tree form held rest) rooms long le = absurd (omega arith)
-total_narrowed q p (row ∷ rows) t rooms long le =
-    let split : suc (length rows) * p ≡ p + length rows * p = omega arith in
-    let own = total_first q (first p t) (rooms_first p t rooms) (omega arith) in
-    let rest = total_narrowed q p rows (following p t) (rooms_after p t rooms) (omega (arith, count-following p t (omega arith))) (omega arith) in
-    omega (arith, total-before (first q (first p t)) (narrowed q p rows (following p t)), total-chunks p t, own, rest)
 
 -- a row has the words of the pointers that are kept of it, and of more of them
 pub row_total : (c : Bool) (row : Trees) → AllHaveRoom row → total_words (kept_row c row) ≡ total_words (formed c row)

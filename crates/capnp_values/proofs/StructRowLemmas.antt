@@ -14,7 +14,7 @@ use Rattle.capnp_values.specs.declared.fields.Extent.{Extent}
 use Rattle.capnp_values.specs.StructLists.{AreRows, kept_pointers, shown, FillsRows, RowsWritten}
 use Rattle.capnp_values.proofs.PointerListLemmas.{count_formed}
 use Rattle.capnp_values.proofs.ItemLemmas.{from_here}
-use Rattle.capnp_values.proofs.ItemRowLemmas.{with_part, with_part_rest, front_there}
+use Rattle.capnp_values.proofs.ItemRowLemmas.{with_part, with_part_rest, put_before}
 use Rattle.capnp_values.proofs.StructListLemmas.{shown_front, pointers_front, row_first}
 
 -- trees before others: their pointers, and what these lead to
@@ -151,28 +151,15 @@ row_written w h c d m p s vs v n i end own elements block slot part within le el
     let at : ℕ = i * (d + m) in
     let here = spread n i (d + m) within in
     let next = next_place i (d + m) in
-    let block_rest : drop (8 * start) (with_part (8 * start) (8 * end - 8 * start) block part) ≡ part ++ drop (8 * end) block =
-    with_part_rest (8 * start) (8 * end - 8 * start) (8 * end) block part (omega (arith, r.within)) (omega arith) in
+    let put = put_before end own block part fits long r.within r.zero in
     let elements_rest : drop (8 * at) (with_part (8 * at) (8 * (d + m)) elements slot) ≡ slot ++ drop (8 * ((i + 1) * (d + m))) elements =
     with_part_rest (8 * at) (8 * (d + m)) (8 * ((i + 1) * (d + m))) elements slot (omega (arith, elements_long, here)) (omega (arith, next)) in
-    let block_long : length (with_part (8 * start) (8 * end - 8 * start) block part) ≡ length block =
-    omega (
-      arith,
-      r.within,
-      length-append (take (8 * start) block) (part ++ drop (8 * end - 8 * start) (drop (8 * start) block)),
-      length-append part (drop (8 * end - 8 * start) (drop (8 * start) block)),
-      length-take (8 * start) block,
-      length-drop (8 * end - 8 * start) (drop (8 * start) block),
-      length-drop (8 * start) block,
-    ) in
     record {
-      within = omega (arith, block_long, r.within);
-      zero =
-          front_there block (part ++ drop (8 * end - 8 * start) (drop (8 * start) block)) (8 * start) (omega (arith, r.within))
-          ∙ sym (take-take (8 * start) (8 * end) block (omega arith)) ∙ ap (λ (l : List ℕ). take (8 * start) l) r.zero ∙ take-replicate (8 * start) (8 * end) 0 (omega arith);
+      within = omega (arith, put.long, r.within);
+      zero = put.zero;
       room = λ t is.
           let many = (s v is.row is.row_is).many in
-          omega (arith, block_long, r.room is.rest is.others, shown_total c m p (w v) (map w vs) is.row is.rest t is.whole many, own_is is.row is.row_is);
+          omega (arith, put.long, r.room is.rest is.others, shown_total c m p (w v) (map w vs) is.row is.rest t is.whole many, own_is is.row is.row_is);
       rows = λ t is.
           let many = (s v is.row is.row_is).many in
           ap words_of elements_rest
@@ -180,7 +167,7 @@ row_written w h c d m p s vs v n i end own elements block slot part within le el
           (drop (8 * ((i + 1) * (d + m))) elements) is.whole many le slot_long (omega (arith, here)) (omega (arith, own_is is.row is.row_is, fits)) next (slot_is is.row is.row_is) (r.rows is.rest is.others);
       body = λ t is.
           let many = (s v is.row is.row_is).many in
-          ap words_of block_rest
+          ap words_of put.rest
           ∙ body_in_front c m p own (w v) (map w vs) is.row is.rest t part (drop (8 * end) block) is.whole many long (part_is is.row is.row_is) (r.body is.rest is.others);
     }
 

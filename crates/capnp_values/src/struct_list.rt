@@ -8,10 +8,8 @@ use crate::rows::{measure_rows, reach_of_rows, write_rows};
 use crate::sections::{fitting, too_many};
 use capnp_frame::{Error, ErrorKind, Result, Word};
 use capnp_wire::pointer_word::{list_word, struct_word, word_of};
+use capnp_wire::struct_list::Owned;
 use capnp_wire::traits::SetterInput;
-
-/// A list of structs, as a type of a schema.
-pub struct Owned;
 
 /// A list whose elements are structs of one size, which stand in it one after the other (encoding
 /// document, "Lists").
