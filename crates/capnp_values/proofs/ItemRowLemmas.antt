@@ -74,30 +74,28 @@ pub with_part_rest : (at n e : ℕ) (xs part : List ℕ) → at ≤ length xs �
 with_part_rest at n e xs part within sum =
     rest_there xs (part ++ drop n (drop at xs)) at within ∙ ap (λ (l : List ℕ). part ++ l) (drop-drop n at xs ∙ ap (λ (k : ℕ). drop k xs) sum)
 
--- a part is put before those that are written of a block
-pub record PutBefore (end own : ℕ) (block part : List ℕ) : Type 0 where
-  pub rest : drop (8 * (end - own)) (with_part (8 * (end - own)) (8 * end - 8 * (end - own)) block part) ≡ part ++ drop (8 * end) block
-  pub long : length (with_part (8 * (end - own)) (8 * end - 8 * (end - own)) block part) ≡ length block
-  pub zero : take (8 * (end - own)) (with_part (8 * (end - own)) (8 * end - 8 * (end - own)) block part) ≡ replicate (8 * (end - own)) 0
+-- a part is put in front of those that are written in a block
+pub record PutBefore (start end : ℕ) (block part : List ℕ) : Type 0 where
+  pub rest : drop (8 * start) (with_part (8 * start) (8 * end - 8 * start) block part) ≡ part ++ drop (8 * end) block
+  pub long : length (with_part (8 * start) (8 * end - 8 * start) block part) ≡ length block
+  pub zero : take (8 * start) (with_part (8 * start) (8 * end - 8 * start) block part) ≡ replicate (8 * start) 0
 
-pub put_before : (end own : ℕ) (block part : List ℕ) → own ≤ end → length part ≡ 8 * own → 8 * end ≤ length block → take (8 * end) block ≡ replicate (8 * end) 0 → PutBefore end own block part
-put_before end own block part fits long within zeros =
-    let start : ℕ = end - own in
-    record {
-      rest = with_part_rest (8 * start) (8 * end - 8 * start) (8 * end) block part (omega (arith, within)) (omega arith);
-      long =
-          omega (
-            arith,
-            length-append (take (8 * start) block) (part ++ drop (8 * end - 8 * start) (drop (8 * start) block)),
-            length-append part (drop (8 * end - 8 * start) (drop (8 * start) block)),
-            length-take (8 * start) block,
-            length-drop (8 * end - 8 * start) (drop (8 * start) block),
-            length-drop (8 * start) block,
-          );
-      zero =
-          front_there block (part ++ drop (8 * end - 8 * start) (drop (8 * start) block)) (8 * start) (omega (arith, within))
-          ∙ sym (take-take (8 * start) (8 * end) block (omega arith)) ∙ ap (λ (l : List ℕ). take (8 * start) l) zeros ∙ take-replicate (8 * start) (8 * end) 0 (omega arith);
-    }
+pub put_before : (start own end : ℕ) (block part : List ℕ) → start + own ≡ end → length part ≡ 8 * own → 8 * end ≤ length block → take (8 * end) block ≡ replicate (8 * end) 0 → PutBefore start end block part
+put_before start own end block part fits long within zeros = record {
+  rest = with_part_rest (8 * start) (8 * end - 8 * start) (8 * end) block part (omega (arith, within)) (omega arith);
+  long =
+      omega (
+        arith,
+        length-append (take (8 * start) block) (part ++ drop (8 * end - 8 * start) (drop (8 * start) block)),
+        length-append part (drop (8 * end - 8 * start) (drop (8 * start) block)),
+        length-take (8 * start) block,
+        length-drop (8 * end - 8 * start) (drop (8 * start) block),
+        length-drop (8 * start) block,
+      );
+  zero =
+      front_there block (part ++ drop (8 * end - 8 * start) (drop (8 * start) block)) (8 * start) (omega (arith, within))
+      ∙ sym (take-take (8 * start) (8 * end) block (omega arith)) ∙ ap (λ (l : List ℕ). take (8 * start) l) zeros ∙ take-replicate (8 * start) (8 * end) 0 (omega arith);
+}
 
 -- a pointer in front of others, and what it leads to in front of what they lead to
 link_in_front : (c : Bool) (form : Form) (held rest t : Trees) (i k m next further off : ℕ) (slot others : List ℕ) → t ≡ tree form held rest → k ≡ suc m → length slot ≡ 8 → next - (i + 1) ≡ off
@@ -137,7 +135,7 @@ pub written_before : {V : Type 0} (h : V → Trees → Type 0) (c : Bool) (items
     → ((trees : Trees) → h v trees → words_of part ≡ body (formed c trees))
     → IsWrittenFrom (λ t. AreItems h (v ∷ drop (i + 1) items) t) c n i (end - own) (with_part (8 * i) 8 slots slot) (with_part (8 * (end - own)) (8 * end - 8 * (end - own)) block part)
 written_before h c items i n end own v slots block slot part within n_is v_is slots_long eight fits long w own_is slot_is part_is =
-    let put = put_before end own block part fits long w.within w.zero in
+    let put = put_before (end - own) own end block part (omega arith) long w.within w.zero in
     let slots_rest : drop (8 * i) (with_part (8 * i) 8 slots slot) ≡ slot ++ drop (8 * (i + 1)) slots =
     with_part_rest (8 * i) 8 (8 * (i + 1)) slots slot (omega arith) (omega arith) in
     record {
