@@ -146,15 +146,9 @@ fn lists_of_pointers_stand_at_the_root(rt: HostRuntime) -> Result<()> {
     compare_canonical::<any_struct::Owned, Group<'_>>(&rt, &group, GROUP)?;
     let nulls = [Null, Null];
     let list = PointerList::new(&nulls);
-    compare_canonical::<text_list::Owned, PointerList<'_, text::Owned, Null>>(
-        &rt, &list, NULLS,
-    )?;
+    compare_canonical::<text_list::Owned, PointerList<'_, text::Owned, Null>>(&rt, &list, NULLS)?;
     let none = PointerList::new(&nulls[..0]);
-    compare_by_each::<text_list::Owned, PointerList<'_, text::Owned, Null>>(
-        &rt,
-        &none,
-        NO_POINTERS,
-    )
+    compare_by_each::<text_list::Owned, PointerList<'_, text::Owned, Null>>(&rt, &none, NO_POINTERS)
 }
 
 // Makes a value the root in canonical form, and compares the one segment.

@@ -60,7 +60,7 @@ fn words_of_list<N: PrimitiveElement>(count: u32) -> u32
     ensures known { N.code < 6 }
 {
     let size = N::size();
-    (count as u64 * size.bits()).div_ceil(64) as u32
+    size.words_of_list(count) as u32
 }
 
 // Each number has no more bits than its type tells.

@@ -53,7 +53,7 @@ impl ElementSize {
     }
 
     /// The words of a list of a given number of elements.
-    pub(crate) fn words_of_list(self, count: u32) -> u64
+    pub fn words_of_list(self, count: u32) -> u64
         ensures { result ≡ words_for count (width (code_of self)) }
     {
         self.bits_of_list(count).div_ceil(64)
