@@ -5,6 +5,8 @@ ghost use Rattle.capnp_wire.specs.Tree.{Form};
 ghost use Rattle.capnp_wire.specs.Layout.{pointer, HasRoom};
 ghost use Rattle.capnp_build.specs.RootKind.{ShowsRoot};
 
+use capnp_wire::pointer_word::{NearShape, near_shape};
+
 /// What a pointer leads to, as far as builders have views of it.
 #[derive(Clone, Copy)]
 pub enum RootKind {
@@ -25,14 +27,13 @@ pub fn read_tag(tag: u64) -> RootKind
     if tag == 0 {
         return RootKind::Null;
     }
-    let fields = tag / (1 << 32);
-    if tag % 4 == 0 {
-        return RootKind::Struct((fields % (1 << 16)) as u16);
-    }
-    let count = fields / 8;
-    match fields % 8 {
-        2 => RootKind::Bytes(count as u32),
-        5 => RootKind::Words(count as u32),
+    match near_shape(tag) {
+        Some(NearShape::Struct(size)) => RootKind::Struct(size.data_words),
+        Some(NearShape::Numbers(size, count)) => match size.code() {
+            2 => RootKind::Bytes(count),
+            5 => RootKind::Words(count),
+            _ => RootKind::Other,
+        },
         _ => RootKind::Other,
     }
 }

@@ -11,6 +11,7 @@ mod given_back;
 mod lists;
 mod numbers;
 mod objects;
+mod pointer_words;
 mod traversals;
 mod unlimited_roots;
 mod values;

@@ -2,12 +2,10 @@
 //! the encoding document, "Lists" and "Canonicalization".
 use crate::values::{compare_by_each, compare_canonical};
 use capnp_frame::{ErrorKind, Result};
-use capnp_values::{
-    Field, NoFields, Null, Number, NumberList, PointerList, StructList, StructValue, pointer_list,
-    struct_list,
-};
+use capnp_values::{Field, NoFields, Null, NumberList, PointerList, StructList, StructValue};
+use capnp_wire::primitive_element::PrimitiveElement;
 use capnp_wire::traits::SetterInput;
-use capnp_wire::{any_struct, primitive_list, text};
+use capnp_wire::{any_struct, list_list, primitive_list, struct_list, text};
 use std::process::Abort;
 
 // A tag for two structs of a data word and a pointer, the two, and their texts: the first pointer leads
@@ -106,7 +104,7 @@ fn lists_of_structs_are_narrowed(rt: HostRuntime) -> Result<()> {
 }
 
 // A list of numbers, by its bytes.
-fn compare_numbers<N: Number>(
+fn compare_numbers<N: PrimitiveElement + Copy>(
     rt: &(impl Abort + AllocGlobal),
     numbers: &[N],
     expected: &[u8],
@@ -167,7 +165,7 @@ fn lists_of_lists_stand_at_the_root(rt: HostRuntime) -> Result<()> {
     let lists = [NumberList::new(&[1, 2]), NumberList::new(&[3])];
     let list = PointerList::new(&lists);
     compare_by_each::<
-        pointer_list::Owned<primitive_list::Owned<u16>>,
+        list_list::Owned<primitive_list::Owned<u16>>,
         PointerList<'_, primitive_list::Owned<u16>, Numbers<'_>>,
     >(&rt, &list, LISTS)
 }

@@ -5,9 +5,9 @@ use capnp_frame::message::ReaderSegments;
 use capnp_frame::{ErrorKind, Result};
 use capnp_message::{Builder, HeapAllocator, ScratchSpaceHeapAllocator, SingleSegmentAllocator};
 use capnp_rows::retried;
-use capnp_values::{Borrowed, Field, NoFields, Null, PointerList, StructValue, pointer_list};
+use capnp_values::{Borrowed, Field, NoFields, Null, PointerList, StructValue};
 use capnp_wire::traits::SetterInput;
-use capnp_wire::{any_struct, data, text};
+use capnp_wire::{any_struct, data, text, text_list};
 use std::process::Abort;
 
 // A number and a name: the root's pointer, the number, the pointer to four bytes, and these.
@@ -66,7 +66,7 @@ type Loose<'a> = StructValue<2, Field<any_struct::Owned, Hollow, AfterHollow<'a>
 
 type Texts<'a> = PointerList<'a, text::Owned, &'a str>;
 
-type Group<'a> = StructValue<1, Field<pointer_list::Owned<text::Owned>, Texts<'a>, NoFields>>;
+type Group<'a> = StructValue<1, Field<text_list::Owned, Texts<'a>, NoFields>>;
 
 fn named<'a>(number: u64, name: &'a str) -> Named<'a> {
     StructValue::new([number], Field::new(name, NoFields))
@@ -139,22 +139,16 @@ fn values_stand_at_the_root(rt: HostRuntime) -> Result<()> {
 fn lists_of_pointers_stand_at_the_root(rt: HostRuntime) -> Result<()> {
     let names = ["Ann", "", "Bo"];
     let list = PointerList::new(&names);
-    compare_by_each::<pointer_list::Owned<text::Owned>, Texts<'_>>(&rt, &list, NAMES)?;
+    compare_by_each::<text_list::Owned, Texts<'_>>(&rt, &list, NAMES)?;
     let two = ["Ann", "Bo"];
     let group = StructValue::new([7], Field::new(PointerList::new(&two), NoFields));
     compare_by_each::<any_struct::Owned, Group<'_>>(&rt, &group, GROUP)?;
     compare_canonical::<any_struct::Owned, Group<'_>>(&rt, &group, GROUP)?;
     let nulls = [Null, Null];
     let list = PointerList::new(&nulls);
-    compare_canonical::<pointer_list::Owned<text::Owned>, PointerList<'_, text::Owned, Null>>(
-        &rt, &list, NULLS,
-    )?;
+    compare_canonical::<text_list::Owned, PointerList<'_, text::Owned, Null>>(&rt, &list, NULLS)?;
     let none = PointerList::new(&nulls[..0]);
-    compare_by_each::<pointer_list::Owned<text::Owned>, PointerList<'_, text::Owned, Null>>(
-        &rt,
-        &none,
-        NO_POINTERS,
-    )
+    compare_by_each::<text_list::Owned, PointerList<'_, text::Owned, Null>>(&rt, &none, NO_POINTERS)
 }
 
 // Makes a value the root in canonical form, and compares the one segment.

@@ -12,8 +12,8 @@ use capnp_frame::Result;
 use capnp_frame::message::ReaderOptions;
 use capnp_frame::serialize::OwnedSegments;
 use capnp_message::{Builder, Reader};
-use capnp_values::{Field, NoFields, StructList, StructValue, struct_list};
-use capnp_wire::{any_struct, text};
+use capnp_values::{Field, NoFields, StructList, StructValue};
+use capnp_wire::{any_struct, struct_list, text};
 use std::alloc::Global;
 
 /// A struct of no data words and a text.

@@ -74,6 +74,29 @@ pub with_part_rest : (at n e : ℕ) (xs part : List ℕ) → at ≤ length xs �
 with_part_rest at n e xs part within sum =
     rest_there xs (part ++ drop n (drop at xs)) at within ∙ ap (λ (l : List ℕ). part ++ l) (drop-drop n at xs ∙ ap (λ (k : ℕ). drop k xs) sum)
 
+-- a part is put in front of those that are written in a block
+pub record PutBefore (start end : ℕ) (block part : List ℕ) : Type 0 where
+  pub rest : drop (8 * start) (with_part (8 * start) (8 * end - 8 * start) block part) ≡ part ++ drop (8 * end) block
+  pub long : length (with_part (8 * start) (8 * end - 8 * start) block part) ≡ length block
+  pub zero : take (8 * start) (with_part (8 * start) (8 * end - 8 * start) block part) ≡ replicate (8 * start) 0
+
+pub put_before : (start own end : ℕ) (block part : List ℕ) → start + own ≡ end → length part ≡ 8 * own → 8 * end ≤ length block → take (8 * end) block ≡ replicate (8 * end) 0 → PutBefore start end block part
+put_before start own end block part fits long within zeros = record {
+  rest = with_part_rest (8 * start) (8 * end - 8 * start) (8 * end) block part (omega (arith, within)) (omega arith);
+  long =
+      omega (
+        arith,
+        length-append (take (8 * start) block) (part ++ drop (8 * end - 8 * start) (drop (8 * start) block)),
+        length-append part (drop (8 * end - 8 * start) (drop (8 * start) block)),
+        length-take (8 * start) block,
+        length-drop (8 * end - 8 * start) (drop (8 * start) block),
+        length-drop (8 * start) block,
+      );
+  zero =
+      front_there block (part ++ drop (8 * end - 8 * start) (drop (8 * start) block)) (8 * start) (omega (arith, within))
+      ∙ sym (take-take (8 * start) (8 * end) block (omega arith)) ∙ ap (λ (l : List ℕ). take (8 * start) l) zeros ∙ take-replicate (8 * start) (8 * end) 0 (omega arith);
+}
+
 -- a pointer in front of others, and what it leads to in front of what they lead to
 link_in_front : (c : Bool) (form : Form) (held rest t : Trees) (i k m next further off : ℕ) (slot others : List ℕ) → t ≡ tree form held rest → k ≡ suc m → length slot ≡ 8 → next - (i + 1) ≡ off
     → further ≡ next + part_total c form held → words_of slot ≡ pointer_to (formed c (tree form held none)) off ∷ [] → words_of others ≡ pointers_to (run (i + 1) m) further (formed c rest)
@@ -112,35 +135,21 @@ pub written_before : {V : Type 0} (h : V → Trees → Type 0) (c : Bool) (items
     → ((trees : Trees) → h v trees → words_of part ≡ body (formed c trees))
     → IsWrittenFrom (λ t. AreItems h (v ∷ drop (i + 1) items) t) c n i (end - own) (with_part (8 * i) 8 slots slot) (with_part (8 * (end - own)) (8 * end - 8 * (end - own)) block part)
 written_before h c items i n end own v slots block slot part within n_is v_is slots_long eight fits long w own_is slot_is part_is =
-    let start : ℕ = end - own in
-    let block_rest : drop (8 * start) (with_part (8 * start) (8 * end - 8 * start) block part) ≡ part ++ drop (8 * end) block =
-    with_part_rest (8 * start) (8 * end - 8 * start) (8 * end) block part (omega (arith, w.within)) (omega arith) in
+    let put = put_before (end - own) own end block part (omega arith) long w.within w.zero in
     let slots_rest : drop (8 * i) (with_part (8 * i) 8 slots slot) ≡ slot ++ drop (8 * (i + 1)) slots =
     with_part_rest (8 * i) 8 (8 * (i + 1)) slots slot (omega arith) (omega arith) in
-    let block_long : length (with_part (8 * start) (8 * end - 8 * start) block part) ≡ length block =
-    omega (
-      arith,
-      w.within,
-      length-append (take (8 * start) block) (part ++ drop (8 * end - 8 * start) (drop (8 * start) block)),
-      length-append part (drop (8 * end - 8 * start) (drop (8 * start) block)),
-      length-take (8 * start) block,
-      length-drop (8 * end - 8 * start) (drop (8 * start) block),
-      length-drop (8 * start) block,
-    ) in
     record {
-      within = omega (arith, block_long, w.within);
-      zero =
-          front_there block (part ++ drop (8 * end - 8 * start) (drop (8 * start) block)) (8 * start) (omega (arith, w.within))
-          ∙ sym (take-take (8 * start) (8 * end) block (omega arith)) ∙ ap (λ (l : List ℕ). take (8 * start) l) w.zero ∙ take-replicate (8 * start) (8 * end) 0 (omega arith);
+      within = omega (arith, put.long, w.within);
+      zero = put.zero;
       words = λ t is.
           let whole : total_words (formed c t) ≡ total_words (formed c (tree is.form is.held is.rest)) = ap (λ (a : Trees). total_words (formed c a)) is.whole in
-          omega (arith, block_long, w.words is.rest is.others, whole, more_total c is.form is.held is.rest, own_is is.form is.held is.part);
+          omega (arith, put.long, w.words is.rest is.others, whole, more_total c is.form is.held is.rest, own_is is.form is.held is.part);
       pointers = λ t is.
           ap words_of slots_rest
           ∙ link_in_front c is.form is.held is.rest t i (n - i) (n - (i + 1)) (n + (end - own)) (n + end) (n - i - 1 + (end - own)) slot (drop (8 * (i + 1)) slots) is.whole (omega arith) eight (omega arith)
           (omega (arith, own_is is.form is.held is.part, fits)) (slot_is is.form is.held is.part) (w.pointers is.rest is.others);
       body = λ t is.
-          ap words_of block_rest
+          ap words_of put.rest
           ∙ body_in_front c is.form is.held is.rest t own part (drop (8 * end) block) is.whole long (part_is (tree is.form is.held none) is.part.tree_is) (w.body is.rest is.others);
     }
 

@@ -14,12 +14,13 @@ use Rattle.capnp_wire.proofs.trees.FrontLemmas.{trim_before}
 use Rattle.capnp_wire.proofs.trees.NarrowLemmas.{first-before, following-before, first_all}
 use Rattle.capnp_wire.proofs.trees.ChunkLemmas.{cut-first, count-first, count-before, count-following, total-before, total-chunks, before_chunks}
 use Rattle.capnp_wire.proofs.trees.KeptLemmas.{rooms_first, rooms_after}
+use Rattle.capnp_wire.proofs.trees.StoodLemmas.{total_cut, total_first, total_narrowed}
 use Rattle.capnp_wire.proofs.trees.TrimLemmas.{room_trim}
 use Rattle.capnp_values.specs.Fields.{IsSettled, kept_row, extent_of, HasExtent}
 use Rattle.capnp_values.specs.declared.fields.Extent.{Extent}
 use Rattle.capnp_values.specs.declared.rows.Reach.{Reach}
 use Rattle.capnp_values.specs.Structs.{kept_words}
-use Rattle.capnp_values.specs.StructLists.{AreRows, kept_data, kept_pointers, shown, reach_of, AreEven, ReachesRows}
+use Rattle.capnp_values.specs.StructLists.{AreRows, element_data, element_pointers, shown, reach_of, AreEven, ReachesRows}
 use Rattle.capnp_values.proofs.PointerListLemmas.{count_formed}
 use Rattle.capnp_values.proofs.ItemLemmas.{formed_small}
 use Rattle.capnp_values.proofs.ResultLemmas.{ok_not_err}
@@ -72,43 +73,16 @@ shown_front c m p ws rows row rest held whole many =
     ∙ ap (λ (t : Trees). before (first m (formed c row)) (narrowed m p rows t)) f.others
 
 pub pointers_front : (c : Bool) (p : ℕ) (ws : List ℕ) (rows : List (List ℕ)) (row rest held : Trees) → held ≡ before row rest → count row ≡ p
-    → kept_pointers c p (ws ∷ rows) held ≡ max (count (kept_row c row)) (kept_pointers c p rows rest)
+    → element_pointers c p (ws ∷ rows) held ≡ max (count (kept_row c row)) (element_pointers c p rows rest)
 pointers_front true p ws rows row rest held whole many =
     let f = in_front true p row rest held whole many in
     ap (λ (t : Trees). max (count (cut_nulls t)) (least_pointers p rows (following p (trim held)))) f.own
     ∙ ap (λ (t : Trees). max (count (cut_nulls (trim row))) (least_pointers p rows t)) f.others
 pointers_front false p ws rows row rest held whole many = omega (arith, many)
 
-pub data_front : (c : Bool) (d : ℕ) (ws : List ℕ) (rows : List (List ℕ)) → length ws ≡ d → kept_data c d (ws ∷ rows) ≡ max (length (kept_words c ws)) (kept_data c d rows)
+pub data_front : (c : Bool) (d : ℕ) (ws : List ℕ) (rows : List (List ℕ)) → length ws ≡ d → element_data c d (ws ∷ rows) ≡ max (length (kept_words c ws)) (element_data c d rows)
 data_front true d ws rows long = refl
 data_front false d ws rows long = omega (arith, long)
-
--- what is cut of a row has no words
-keep_total : (rest : Trees) (form : Form) (held : Trees) → HasRoom form (count held) → total_words (keep_tree rest form held) ≡ own_words form (count held) + total_words held + total_words rest
-keep_total (tree f h r) form held room = refl
-keep_total none null none room = refl
-keep_total none null (tree f h r) room = absurd (omega (arith, room))
-keep_total none (struct words) held room = refl
-keep_total none (numbers c values) held room = refl
-keep_total none pointers held room = refl
-keep_total none (structs d p rows) held room = refl
-
-total_cut : (t : Trees) → AllHaveRoom t → total_words (cut_nulls t) ≡ total_words t
-total_cut none rooms = refl
-total_cut (tree form held rest) rooms = keep_total (cut_nulls rest) form held rooms.0 ∙ omega (arith, total_cut rest rooms.2)
-
-total_first : (q : ℕ) (t : Trees) → AllHaveRoom t → count (cut_nulls t) ≤ q → total_words (first q t) ≡ total_words t
-total_first q t rooms le =
-    sym (total_cut (first q t) (rooms_first q t rooms)) ∙ ap total_words (cut-first q t le) ∙ total_cut t rooms
-
-total_narrowed : (q p : ℕ) (rows : List (List ℕ)) (t : Trees) → AllHaveRoom t → count t ≡ length rows * p → least_pointers p rows t ≤ q → total_words (narrowed q p rows t) ≡ total_words t
-total_narrowed q p [] none rooms long le = refl
-total_narrowed q p [] (tree form held rest) rooms long le = absurd (omega arith)
-total_narrowed q p (row ∷ rows) t rooms long le =
-    let split : suc (length rows) * p ≡ p + length rows * p = omega arith in
-    let own = total_first q (first p t) (rooms_first p t rooms) (omega arith) in
-    let rest = total_narrowed q p rows (following p t) (rooms_after p t rooms) (omega (arith, count-following p t (omega arith))) (omega arith) in
-    omega (arith, total-before (first q (first p t)) (narrowed q p rows (following p t)), total-chunks p t, own, rest)
 
 -- a row has the words of the pointers that are kept of it, and of more of them
 pub row_total : (c : Bool) (row : Trees) → AllHaveRoom row → total_words (kept_row c row) ≡ total_words (formed c row)
@@ -136,8 +110,8 @@ pub reach_front : (c : Bool) (d p kept : ℕ) (ws : List ℕ) (rows : List (List
 reach_front c d p kept ws rows row rest held extent reach whole s long kept_is extent_is reach_is =
     let a : extent.pointers ≡ count (kept_row c row) = ap (λ (x : Extent). x.pointers) extent_is in
     let b : extent.words ≡ total_words (kept_row c row) = ap (λ (x : Extent). x.words) extent_is in
-    let i : reach.data_words ≡ kept_data c d rows = ap (λ (x : Reach). x.data_words) reach_is in
-    let j : reach.pointers ≡ kept_pointers c p rows rest = ap (λ (x : Reach). x.pointers) reach_is in
+    let i : reach.data_words ≡ element_data c d rows = ap (λ (x : Reach). x.data_words) reach_is in
+    let j : reach.pointers ≡ element_pointers c p rows rest = ap (λ (x : Reach). x.pointers) reach_is in
     let k : reach.words ≡ total_words (formed c rest) = ap (λ (x : Reach). x.words) reach_is in
     same_reach (record { data_words = max kept reach.data_words; pointers = max extent.pointers reach.pointers; words = extent.words + reach.words }) (reach_of c d p (ws ∷ rows) held)
     (omega (arith, kept_is, i, data_front c d ws rows long))
@@ -220,23 +194,23 @@ narrowed_all p (row ∷ rows) held long =
 
 pub structs_formed : (c : Bool) (d p : ℕ) (rows : List (List ℕ)) (held : Trees) → AreEven d rows → count held ≡ length rows * p
     → formed c (tree (structs d p rows) held none)
-    ≡ tree (structs (kept_data c d rows) (kept_pointers c p rows held) (map (take (kept_data c d rows)) rows)) (shown c (kept_pointers c p rows held) p rows held) none
+    ≡ tree (structs (element_data c d rows) (element_pointers c p rows held) (map (take (element_data c d rows)) rows)) (shown c (element_pointers c p rows held) p rows held) none
 structs_formed true d p rows held even long = refl
 structs_formed false d p rows held even long =
     ap (λ (l : List (List ℕ)). tree (structs d p l) held none) (sym (take_even d rows even))
     ∙ ap (λ (t : Trees). tree (structs d p (map (take d) rows)) t none) (sym (narrowed_all p rows held long))
 
 pub total_shown : (c : Bool) (p : ℕ) (rows : List (List ℕ)) (held : Trees) → AllHaveRoom held → count held ≡ length rows * p
-    → total_words (shown c (kept_pointers c p rows held) p rows held) ≡ total_words (formed c held)
+    → total_words (shown c (element_pointers c p rows held) p rows held) ≡ total_words (formed c held)
 total_shown true p rows held rooms long =
     total_narrowed (least_pointers p rows (trim held)) p rows (trim held) (room_trim held rooms) (omega (arith, count_formed true held, long)) (omega arith)
 total_shown false p rows held rooms long = ap total_words (narrowed_all p rows held long)
 
 pub structs_total : (c : Bool) (d p : ℕ) (rows : List (List ℕ)) (held : Trees) → AllHaveRoom held → count held ≡ length rows * p
-    → total_words (formed c (tree (structs d p rows) held none)) ≡ 1 + length rows * (kept_data c d rows + kept_pointers c p rows held) + total_words (formed c held)
+    → total_words (formed c (tree (structs d p rows) held none)) ≡ 1 + length rows * (element_data c d rows + element_pointers c p rows held) + total_words (formed c held)
 structs_total true d p rows held rooms long =
-    let same : length (map (take (kept_data true d rows)) rows) ≡ length rows = length-map rows (take (kept_data true d rows)) in
-    let size : length (map (take (kept_data true d rows)) rows) * (kept_data true d rows + kept_pointers true p rows held) ≡ length rows * (kept_data true d rows + kept_pointers true p rows held) =
-    ap (λ (n : ℕ). n * (kept_data true d rows + kept_pointers true p rows held)) same in
+    let same : length (map (take (element_data true d rows)) rows) ≡ length rows = length-map rows (take (element_data true d rows)) in
+    let size : length (map (take (element_data true d rows)) rows) * (element_data true d rows + element_pointers true p rows held) ≡ length rows * (element_data true d rows + element_pointers true p rows held) =
+    ap (λ (n : ℕ). n * (element_data true d rows + element_pointers true p rows held)) same in
     omega (arith, size, total_shown true p rows held rooms long)
 structs_total false d p rows held rooms long = omega arith

@@ -1,5 +1,5 @@
 -- Lists of structs as values: what is measured of them, and what is written.
-use Rattle.std.proofs.Common.{◌≡◌, ℕ, ◌+◌, ◌*◌, ◌<◌, ◌≤◌, ◌^◌, Bool, true, false, List, [], ◌∷◌, ◌++◌, length, map, take, Result, Ok, Err, MatchResult, inl, inr, refl, sym, ◌∙◌, ap, subst, arith}
+use Rattle.std.proofs.Common.{◌≡◌, ℕ, ◌+◌, ◌-◌, ◌*◌, ◌/◌, ◌%◌, ◌<◌, ◌≤◌, ◌^◌, Bool, true, false, List, [], ◌∷◌, ◌++◌, length, map, take, Result, Ok, Err, MatchResult, inl, inr, refl, sym, ◌∙◌, ap, subst, arith}
 use Rattle.std.specs.Prelude.{min}
 use Rattle.std.specs.Result.{IsErrAnd}
 use Rattle.std.proofs.Math.Nat.{mul-le-mul_left}
@@ -17,7 +17,7 @@ use Rattle.capnp_wire.proofs.words.PutLemmas.{words_split}
 use Rattle.capnp_wire.proofs.layouts.SizeLemmas.{rows_even}
 use Rattle.capnp_values.specs.Fields.{IsSettled}
 use Rattle.capnp_values.specs.declared.rows.Reach.{Reach}
-use Rattle.capnp_values.specs.StructLists.{AreRows, IsStructList, TooManyStructs, RefusesStructList, kept_data, kept_pointers, shown, reach_of, AreEven, ReachesRows, FillsRows}
+use Rattle.capnp_values.specs.StructLists.{AreRows, IsStructList, TooManyStructs, RefusesStructList, element_data, element_pointers, shown, list_words, reach_of, AreEven, ReachesRows, FillsRows}
 use Rattle.capnp_values.proofs.ResultLemmas.{ok_not_err}
 use Rattle.capnp_values.proofs.StructLemmas.{Fitted, fitted_found, fitted_lacks}
 use Rattle.capnp_values.proofs.StructListLemmas.{rows_settled, structs_formed, structs_total, total_shown}
@@ -43,34 +43,43 @@ not_too_many n d p kind t (inr (inl many)) = absurd (omega (arith, many.2, t.few
 not_too_many n d p kind t (inr (inr many)) = absurd (omega (arith, many.3, t.small))
 
 -- what each keeps of them
-pub record IsTold (n d p : ℕ) (reach : Reach) : Type 0 where
-  pub words_within : reach.data_words ≤ d
-  pub pointers_within : reach.pointers ≤ p
-  pub elements : n * (reach.data_words + reach.pointers) < 2 ^ 29
+pub record IsTold (n d p e m : ℕ) : Type 0 where
+  pub words_within : e ≤ d
+  pub pointers_within : m ≤ p
+  pub elements : n * (e + m) < 2 ^ 29
 
-data_within : (c : Bool) (d : ℕ) (rows : List (List ℕ)) → AreEven d rows → kept_data c d rows ≤ d
+data_within : (c : Bool) (d : ℕ) (rows : List (List ℕ)) → AreEven d rows → element_data c d rows ≤ d
 data_within true d rows even = least_data_within d rows (rows_even d rows even)
 data_within false d rows even = omega arith
 
-pub reach_told : (c : Bool) (n d p : ℕ) (rows : List (List ℕ)) (held : Trees) (reach : Reach) → AreTold n d p → AreEven d rows → reach ≡ reach_of c d p rows held → IsTold n d p reach
-reach_told c n d p rows held reach t even is =
-    let i : reach.data_words ≡ kept_data c d rows = ap (λ (x : Reach). x.data_words) is in
-    let j : reach.pointers ≡ kept_pointers c p rows held = ap (λ (x : Reach). x.pointers) is in
-    let a : reach.data_words ≤ d = omega (arith, i, data_within c d rows even) in
-    let b : reach.pointers ≤ p = omega (arith, j, pointers_within c p rows held) in
-    let area : n * (reach.data_words + reach.pointers) ≤ n * (d + p) = mul-le-mul_left n (omega (arith, a, b)) in
+pub size_told : (c : Bool) (n d p e m : ℕ) (rows : List (List ℕ)) (held : Trees) → AreTold n d p → AreEven d rows → e ≡ element_data c d rows → m ≡ element_pointers c p rows held → IsTold n d p e m
+size_told c n d p e m rows held t even e_is m_is =
+    let a : e ≤ d = omega (arith, e_is, data_within c d rows even) in
+    let b : m ≤ p = omega (arith, m_is, pointers_within c p rows held) in
+    let area : n * (e + m) ≤ n * (d + p) = mul-le-mul_left n (omega (arith, a, b)) in
     record { words_within = a; pointers_within = b; elements = omega (arith, area, t.small) }
 
+pub reach_told : (c : Bool) (n d p : ℕ) (rows : List (List ℕ)) (held : Trees) (reach : Reach) → AreTold n d p → AreEven d rows → reach ≡ reach_of c d p rows held → IsTold n d p reach.data_words reach.pointers
+reach_told c n d p rows held reach t even is =
+    size_told c n d p reach.data_words reach.pointers rows held t even (ap (λ (x : Reach). x.data_words) is) (ap (λ (x : Reach). x.pointers) is)
+
 -- its words
-pub list_total : {V : Type 0} (w : V → List ℕ) (h : V → Trees → Type 0) (c : Bool) (d p : ℕ) → ((v : V) (t : Trees) → h v t → IsSettled p t) → (vs : List V) (held : Trees) (reach : Reach) → AreRows h vs held
-    → reach ≡ reach_of c d p (map w vs) held → total_words (formed c (tree (structs d p (map w vs)) held none)) ≡ 1 + length vs * (reach.data_words + reach.pointers) + reach.words
-list_total w h c d p s vs held reach is reach_is =
+pub list_total : {V : Type 0} (w : V → List ℕ) (h : V → Trees → Type 0) (c : Bool) (d p e m : ℕ) → ((v : V) (t : Trees) → h v t → IsSettled p t) → (vs : List V) (held : Trees) → AreRows h vs held
+    → e ≡ element_data c d (map w vs) → m ≡ element_pointers c p (map w vs) held → total_words (formed c (tree (structs d p (map w vs)) held none)) ≡ 1 + length vs * (e + m) + total_words (formed c held)
+list_total w h c d p e m s vs held is e_is m_is =
     let settled = rows_settled h p s vs held is in
     let same : length (map w vs) ≡ length vs = length-map vs w in
     let many : count held ≡ length (map w vs) * p = settled.many ∙ ap (λ (n : ℕ). n * p) (sym same) in
     structs_total c d p (map w vs) held settled.rooms many
-    ∙ ap (λ (n : ℕ). 1 + n * (kept_data c d (map w vs) + kept_pointers c p (map w vs) held) + total_words (formed c held)) same
-    ∙ sym (ap (λ (x : Reach). 1 + length vs * (x.data_words + x.pointers) + x.words) reach_is)
+    ∙ ap (λ (n : ℕ). 1 + n * (element_data c d (map w vs) + element_pointers c p (map w vs) held) + total_words (formed c held)) same
+    ∙ ap (λ (k : ℕ). 1 + length vs * (k + element_pointers c p (map w vs) held) + total_words (formed c held)) (sym e_is)
+    ∙ ap (λ (k : ℕ). 1 + length vs * (e + k) + total_words (formed c held)) (sym m_is)
+
+reach_total : {V : Type 0} (w : V → List ℕ) (h : V → Trees → Type 0) (c : Bool) (d p : ℕ) → ((v : V) (t : Trees) → h v t → IsSettled p t) → (vs : List V) (held : Trees) (reach : Reach) → AreRows h vs held
+    → reach ≡ reach_of c d p (map w vs) held → total_words (formed c (tree (structs d p (map w vs)) held none)) ≡ 1 + length vs * (reach.data_words + reach.pointers) + reach.words
+reach_total w h c d p s vs held reach is reach_is =
+    list_total w h c d p reach.data_words reach.pointers s vs held is (ap (λ (x : Reach). x.data_words) reach_is) (ap (λ (x : Reach). x.pointers) reach_is)
+    ∙ ap (λ (k : ℕ). 1 + length vs * (reach.data_words + reach.pointers) + k) (sym (ap (λ (x : Reach). x.words) reach_is))
 
 pub list_rooms : {V : Type 0} (w : V → List ℕ) (h : V → Trees → Type 0) (d p : ℕ) → ((v : V) (t : Trees) → h v t → IsSettled p t) → (vs : List V) (held : Trees) → AreRows h vs held → AreTold (length vs) d p
     → AreEven d (map w vs) → AllHaveRoom (tree (structs d p (map w vs)) held none)
@@ -89,11 +98,11 @@ list_result w h r c d p s vs held reach (Ok n) t even is reach_is f = record {
   trees = tree (structs d p (map w vs)) held none;
   tree_is = record { held = held; held_is = is; few_words = t.few_words; few_pointers = t.few_pointers; few = t.few; small = t.small; whole = refl };
   rooms = list_rooms w h d p s vs held is t even;
-  words_are = f.0 ∙ sym (list_total w h c d p s vs held reach is reach_is);
+  words_are = f.0 ∙ sym (reach_total w h c d p s vs held reach is reach_is);
   few = f.1;
 }
 list_result w h r c d p s vs held reach (Err error) t even is reach_is f =
-    let total = list_total w h c d p s vs held reach is reach_is in
+    let total = reach_total w h c d p s vs held reach is reach_is in
     inr (
       tree (structs d p (map w vs)) held none,
       record { held = held; held_is = is; few_words = t.few_words; few_pointers = t.few_pointers; few = t.few; small = t.small; whole = refl },
@@ -110,7 +119,7 @@ one_total : {V : Type 0} (w : V → List ℕ) (h : V → Trees → Type 0) (r : 
     → total_words (formed c trees) ≡ 1 + length vs * (reach.data_words + reach.pointers) + reach.words
 one_total w h r c d p s vs trees reach returned was m is =
     ap (λ (t : Trees). total_words (formed c t)) is.whole
-    ∙ list_total w h c d p s vs is.held reach is.held_is (same_reaches returned reach (reach_of c d p (map w vs) is.held) was (m.found is.held is.held_is))
+    ∙ reach_total w h c d p s vs is.held reach is.held_is (same_reaches returned reach (reach_of c d p (map w vs) is.held) was (m.found is.held is.held_is))
 
 pub list_found : {V : Type 0} (w : V → List ℕ) (h : V → Trees → Type 0) (r : V → ErrorKind → Type 0) (c : Bool) (d p : ℕ) → ((v : V) (t : Trees) → h v t → IsSettled p t) → (vs : List V) (reach : Reach)
     (returned : Result Reach Error) (res : Result ℕ Error) → returned ≡ Ok reach → ReachesRows w h r c d p vs returned → Fitted c (1 + length vs * (reach.data_words + reach.pointers) + reach.words) res
@@ -135,51 +144,65 @@ list_even w h d p vs trees is rooms = (subst AllHaveRoom is.whole rooms).0.5
 pub list_told : {V : Type 0} (w : V → List ℕ) (h : V → Trees → Type 0) (d p : ℕ) (vs : List V) (trees : Trees) → IsStructList w h d p vs trees → AreTold (length vs) d p
 list_told w h d p vs trees is = record { few_words = is.few_words; few_pointers = is.few_pointers; few = is.few; small = is.small }
 
-pub fills : {V : Type 0} (w : V → List ℕ) (h : V → Trees → Type 0) (c : Bool) (d p : ℕ) → ((v : V) (t : Trees) → h v t → IsSettled p t) → (vs : List V) (held : Trees) (reach : Reach) (room : ℕ)
-    → AreRows h vs held → AreTold (length vs) d p → AreEven d (map w vs) → reach ≡ reach_of c d p (map w vs) held → room ≡ 8 * reach.words
-    → FillsRows w h c reach.data_words reach.pointers d p vs room
-fills w h c d p s vs held reach room is t even reach_is room_is =
+pub fills : {V : Type 0} (w : V → List ℕ) (h : V → Trees → Type 0) (c : Bool) (d p e m : ℕ) → ((v : V) (t : Trees) → h v t → IsSettled p t) → (vs : List V) (held : Trees) (room : ℕ)
+    → AreRows h vs held → AreTold (length vs) d p → AreEven d (map w vs) → e ≡ element_data c d (map w vs) → m ≡ element_pointers c p (map w vs) held → room ≡ 8 * total_words (formed c held)
+    → FillsRows w h c e m d p vs room
+fills w h c d p e m s vs held room is t even e_is m_is room_is =
     let settled = rows_settled h p s vs held is in
     let same : length (map w vs) ≡ length vs = length-map vs w in
     let many : count held ≡ length (map w vs) * p = settled.many ∙ ap (λ (n : ℕ). n * p) (sym same) in
-    let j : reach.pointers ≡ kept_pointers c p (map w vs) held = ap (λ (x : Reach). x.pointers) reach_is in
-    let k : reach.words ≡ total_words (formed c held) = ap (λ (x : Reach). x.words) reach_is in
-    let total : total_words (shown c reach.pointers p (map w vs) held) ≡ total_words (formed c held) =
-    ap (λ (m : ℕ). total_words (shown c m p (map w vs) held)) j ∙ total_shown c p (map w vs) held settled.rooms many in
+    let total : total_words (shown c m p (map w vs) held) ≡ total_words (formed c held) =
+    ap (λ (k : ℕ). total_words (shown c k p (map w vs) held)) m_is ∙ total_shown c p (map w vs) held settled.rooms many in
     record {
       held = held;
       held_is = is;
       few_pointers = t.few_pointers;
-      data_fits = (reach_told c (length vs) d p (map w vs) held reach t even reach_is).words_within;
-      pointers_are = j;
-      room_is = omega (arith, room_is, k, total);
+      data_fits = (size_told c (length vs) d p e m (map w vs) held t even e_is m_is).words_within;
+      pointers_are = m_is;
+      room_is = omega (arith, room_is, total);
+    }
+
+-- a list in just its words
+pub record ListPlace {V : Type 0} (w : V → List ℕ) (h : V → Trees → Type 0) (c : Bool) (d p e m : ℕ) (vs : List V) (long : ℕ) : Type 0 where
+  pub told_is : AreTold (length vs) d p
+  pub size : IsTold (length vs) d p e m
+  pub even : AreEven d (map w vs)
+  pub room : 8 * (1 + length vs * (e + m)) ≤ long
+  pub fills_rest : FillsRows w h c e m d p vs (long - 8 * (1 + length vs * (e + m)))
+
+pub list_place : {V : Type 0} (w : V → List ℕ) (h : V → Trees → Type 0) (c : Bool) (d p e m : ℕ) → ((v : V) (t : Trees) → h v t → IsSettled p t) → (vs : List V) (long : ℕ)
+    → HasWords (λ t. IsStructList w h d p vs t) c (long / 8) → long % 8 ≡ 0 → ((held : Trees) → AreRows h vs held → e ≡ element_data c d (map w vs))
+    → ((held : Trees) → AreRows h vs held → m ≡ element_pointers c p (map w vs) held) → ListPlace w h c d p e m vs long
+list_place w h c d p e m s vs long has whole data_is pointers_are =
+    let is = has.tree_is in
+    let even = list_even w h d p vs has.trees is has.rooms in
+    let t = list_told w h d p vs has.trees is in
+    let e_is = data_is is.held is.held_is in
+    let m_is = pointers_are is.held is.held_is in
+    let total : total_words (formed c has.trees) ≡ 1 + length vs * (e + m) + total_words (formed c is.held) =
+    ap (λ (x : Trees). total_words (formed c x)) is.whole ∙ list_total w h c d p e m s vs is.held is.held_is e_is m_is in
+    record {
+      told_is = t;
+      size = size_told c (length vs) d p e m (map w vs) is.held t even e_is m_is;
+      even = even;
+      room = omega (arith, has.words_are, total, whole);
+      fills_rest = fills w h c d p e m s vs is.held (long - 8 * (1 + length vs * (e + m))) is.held_is t even e_is m_is (omega (arith, has.words_are, total, whole));
     }
 
 -- what is written of it
 abbrev list_layout : Bool → ℕ → List (List ℕ) → Trees → ℕ → ℕ → ℕ → List ℕ
-list_layout c p rows held n d m =
-    list_pointer 0 7 (n * (d + m))
-    ∷ (struct_pointer n d m ∷ woven m (map (take d) rows) (pointers_to (row_run 1 d m (map (take d) rows)) (1 + n * (d + m)) (shown c m p rows held))) ++ body (shown c m p rows held) ++ []
+list_layout c p rows held n d m = list_pointer 0 7 (n * (d + m)) ∷ (list_words c n d m p rows held ++ [])
 
-pub list_written : (c : Bool) (d p : ℕ) (rows : List (List ℕ)) (held trees : Trees) (n e m : ℕ) (word : Word) (tag elements block : List ℕ) → trees ≡ tree (structs d p rows) held none → AreEven d rows
-    → count held ≡ length rows * p → n ≡ length rows → e ≡ kept_data c d rows → m ≡ kept_pointers c p rows held → number_of 256 (bytes_of word) ≡ list_pointer 0 7 (n * (e + m)) → length tag ≡ 8
-    → words_of tag ≡ struct_pointer n e m ∷ [] → length elements ≡ 8 * (n * (e + m))
-    → words_of elements ≡ woven m (map (take e) rows) (pointers_to (row_run 1 e m (map (take e) rows)) (1 + n * (e + m)) (shown c m p rows held))
-    → words_of block ≡ body (shown c m p rows held) → pointed word (tag ++ (elements ++ block)) ≡ layout (formed c trees)
-list_written c d p rows held trees n e m word tag elements block whole even many n_is e_is m_is word_is eight tag_is long elements_are block_is =
-    let x : Trees = shown c m p rows held in
-    let links : List ℕ = woven m (map (take e) rows) (pointers_to (row_run 1 e m (map (take e) rows)) (1 + n * (e + m)) x) in
-    let kept : ℕ = kept_data c d rows in
-    let most : ℕ = kept_pointers c p rows held in
+pub list_written : (c : Bool) (d p : ℕ) (rows : List (List ℕ)) (held trees : Trees) (n e m : ℕ) (word : Word) (block : List ℕ) → trees ≡ tree (structs d p rows) held none → AreEven d rows
+    → count held ≡ length rows * p → n ≡ length rows → e ≡ element_data c d rows → m ≡ element_pointers c p rows held → number_of 256 (bytes_of word) ≡ list_pointer 0 7 (n * (e + m))
+    → words_of block ≡ list_words c n e m p rows held → pointed word block ≡ layout (formed c trees)
+list_written c d p rows held trees n e m word block whole even many n_is e_is m_is word_is there =
+    let kept : ℕ = element_data c d rows in
+    let most : ℕ = element_pointers c p rows held in
     let same : length (map (take kept) rows) ≡ length rows = length-map rows (take kept) in
-    let there : words_of (tag ++ (elements ++ block)) ≡ struct_pointer n e m ∷ (links ++ body x) =
-    words_split 1 tag (elements ++ block) eight
-    ∙ ap (λ (l : List ℕ). l ++ words_of (elements ++ block)) tag_is
-    ∙ ap (λ (l : List ℕ). struct_pointer n e m ∷ l)
-    (words_split (n * (e + m)) elements block long ∙ ap (λ (l : List ℕ). l ++ words_of block) elements_are ∙ ap (λ (l : List ℕ). links ++ l) block_is) in
     ap (λ (l : List ℕ). number_of 256 (bytes_of word) ∷ l) there
-    ∙ ap (λ (k : ℕ). k ∷ struct_pointer n e m ∷ (links ++ body x)) word_is
-    ∙ ap (λ (l : List ℕ). list_pointer 0 7 (n * (e + m)) ∷ l) (sym (append-nil (struct_pointer n e m ∷ (links ++ body x))))
+    ∙ ap (λ (k : ℕ). k ∷ list_words c n e m p rows held) word_is
+    ∙ ap (λ (l : List ℕ). list_pointer 0 7 (n * (e + m)) ∷ l) (sym (append-nil (list_words c n e m p rows held)))
     ∙ ap (λ (k : ℕ). list_layout c p rows held k e m) (n_is ∙ sym same)
     ∙ ap (λ (k : ℕ). list_layout c p rows held (length (map (take kept) rows)) k m) e_is
     ∙ ap (λ (k : ℕ). list_layout c p rows held (length (map (take kept) rows)) kept k) m_is

@@ -11,10 +11,10 @@ use Rattle.capnp_wire.proofs.layouts.SizeLemmas.{links_of, length-run, length-po
 use Rattle.capnp_wire.proofs.trees.ChunkLemmas.{count-first, total-before, least_pointers_within}
 use Rattle.capnp_values.specs.Fields.{IsSettled, kept_row, extent_of, CanWriteRow}
 use Rattle.capnp_values.specs.declared.fields.Extent.{Extent}
-use Rattle.capnp_values.specs.StructLists.{AreRows, kept_pointers, shown, FillsRows, RowsWritten}
+use Rattle.capnp_values.specs.StructLists.{AreRows, element_pointers, shown, FillsRows, HasRowPlace, RowsWritten}
 use Rattle.capnp_values.proofs.PointerListLemmas.{count_formed}
 use Rattle.capnp_values.proofs.ItemLemmas.{from_here}
-use Rattle.capnp_values.proofs.ItemRowLemmas.{with_part, with_part_rest, front_there}
+use Rattle.capnp_values.proofs.ItemRowLemmas.{with_part, with_part_rest, put_before}
 use Rattle.capnp_values.proofs.StructListLemmas.{shown_front, pointers_front, row_first}
 
 -- trees before others: their pointers, and what these lead to
@@ -87,10 +87,10 @@ pub record RowsFrom {V : Type 0} (w : V → List ℕ) (h : V → Trees → Type 
   pub held : Trees
   pub held_is : AreRows h vs held
   pub fewer : total_words (shown c m p (map w vs) held) ≤ all
-  pub narrow : kept_pointers c p (map w vs) held ≤ least
+  pub narrow : element_pointers c p (map w vs) held ≤ least
 
 pub rows_from : {V : Type 0} (w : V → List ℕ) (h : V → Trees → Type 0) (c : Bool) (m p : ℕ) → ((v : V) (t : Trees) → h v t → IsSettled p t) → (vs : List V) (i : ℕ) (t : Trees) → AreRows h vs t
-    → i ≤ length vs → RowsFrom w h c m p (drop i vs) (total_words (shown c m p (map w vs) t)) (kept_pointers c p (map w vs) t)
+    → i ≤ length vs → RowsFrom w h c m p (drop i vs) (total_words (shown c m p (map w vs) t)) (element_pointers c p (map w vs) t)
 rows_from w h c m p s [] zero t is within = record { held = t; held_is = is; fewer = omega arith; narrow = omega arith }
 rows_from w h c m p s [] (suc i) t is within = absurd (omega (arith, within))
 rows_from w h c m p s (v ∷ vs) zero t is within = record { held = t; held_is = is; fewer = omega arith; narrow = omega arith }
@@ -105,18 +105,11 @@ rows_from w h c m p s (v ∷ vs) (suc i) t is within =
     }
 
 -- the struct in front of those that are written has room in the block
-pub record HasRowPlace (h : Trees → Type 0) (c : Bool) (m p end : ℕ) : Type 0 where
-  pub row : Trees
-  pub row_is : h row
-  pub settled : IsSettled p row
-  pub some : count (kept_row c row) ≤ m
-  pub fits : total_words (first m (formed c row)) ≤ end
-
 pub has_row_place : {V : Type 0} (w : V → List ℕ) (h : V → Trees → Type 0) (c : Bool) (d m e p : ℕ) → ((v : V) (t : Trees) → h v t → IsSettled p t) → (vs : List V) (i n end room : ℕ) (v : V)
     (elements block : List ℕ) → i < length vs → v ≡ get_or vs i v → FillsRows w h c d m e p vs (length block) → RowsWritten w h c d m p (drop (i + 1) vs) n (i + 1) end elements block
     → HasRowPlace (h v) c m p end
 has_row_place {V = V} w h c d m e p s vs i n end room v elements block within is fills written =
-    let r = subst (λ (l : List V). RowsFrom w h c m p l (total_words (shown c m p (map w vs) fills.held)) (kept_pointers c p (map w vs) fills.held)) (from_here vs i v within is)
+    let r = subst (λ (l : List V). RowsFrom w h c m p l (total_words (shown c m p (map w vs) fills.held)) (element_pointers c p (map w vs) fills.held)) (from_here vs i v within is)
     (rows_from w h c m p s vs i fills.held fills.held_is (omega (arith, within))) in
     let f = r.held_is in
     let settled = s v f.row f.row_is in
@@ -138,54 +131,43 @@ pub next_place : (i w : ℕ) → (i + 1) * w ≡ i * w + w
 next_place i w = omega arith
 
 -- one more is written
-pub row_written : {V : Type 0} (w : V → List ℕ) (h : V → Trees → Type 0) (c : Bool) (d m p : ℕ) → ((v : V) (t : Trees) → h v t → IsSettled p t) → (vs : List V) (v : V) (n i end own : ℕ)
-    (elements block slot part : List ℕ) → i < n → m ≤ p → length elements ≡ 8 * (n * (d + m)) → length slot ≡ 8 * (d + m) → own ≤ end → length part ≡ 8 * own
-    → RowsWritten w h c d m p vs n (i + 1) end elements block
+pub row_written : {V : Type 0} (w : V → List ℕ) (h : V → Trees → Type 0) (c : Bool) (d m p : ℕ) → ((v : V) (t : Trees) → h v t → IsSettled p t) → (vs all : List V) (v : V)
+    (n i at wide start own end : ℕ) (elements block slot part : List ℕ) → all ≡ v ∷ vs → i < n → m ≤ p → at ≡ i * (d + m) → wide ≡ 8 * (d + m) → length elements ≡ 8 * (n * (d + m))
+    → length slot ≡ 8 * (d + m) → start + own ≡ end → length part ≡ 8 * own → RowsWritten w h c d m p vs n (i + 1) end elements block
     → ((row : Trees) → h v row → own ≡ total_words (first m (formed c row)))
     → ((row : Trees) → h v row → words_of slot
-    ≡ take d (w v) ++ pointers_to (run (1 + i * (d + m) + d) m) (1 + i * (d + m) + d + m + ((n - i - 1) * (d + m) + (end - own))) (first m (formed c row)))
+    ≡ take d (w v) ++ pointers_to (run (1 + i * (d + m) + d) m) (1 + i * (d + m) + d + m + ((n - i - 1) * (d + m) + start)) (first m (formed c row)))
     → ((row : Trees) → h v row → words_of part ≡ body (first m (formed c row)))
-    → RowsWritten w h c d m p (v ∷ vs) n i (end - own) (with_part (8 * (i * (d + m))) (8 * (d + m)) elements slot) (with_part (8 * (end - own)) (8 * end - 8 * (end - own)) block part)
-row_written w h c d m p s vs v n i end own elements block slot part within le elements_long slot_long fits long r own_is slot_is part_is =
-    let start : ℕ = end - own in
-    let at : ℕ = i * (d + m) in
+    → RowsWritten w h c d m p all n i start (with_part (8 * at) wide elements slot) (with_part (8 * start) (8 * end - 8 * start) block part)
+row_written {V = V} w h c d m p s vs all v n i at wide start own end elements block slot part all_is within le at_is wide_is elements_long slot_long fits long r own_is slot_is part_is =
+    let there : ℕ = i * (d + m) in
     let here = spread n i (d + m) within in
     let next = next_place i (d + m) in
-    let block_rest : drop (8 * start) (with_part (8 * start) (8 * end - 8 * start) block part) ≡ part ++ drop (8 * end) block =
-    with_part_rest (8 * start) (8 * end - 8 * start) (8 * end) block part (omega (arith, r.within)) (omega arith) in
-    let elements_rest : drop (8 * at) (with_part (8 * at) (8 * (d + m)) elements slot) ≡ slot ++ drop (8 * ((i + 1) * (d + m))) elements =
-    with_part_rest (8 * at) (8 * (d + m)) (8 * ((i + 1) * (d + m))) elements slot (omega (arith, elements_long, here)) (omega (arith, next)) in
-    let block_long : length (with_part (8 * start) (8 * end - 8 * start) block part) ≡ length block =
-    omega (
-      arith,
-      r.within,
-      length-append (take (8 * start) block) (part ++ drop (8 * end - 8 * start) (drop (8 * start) block)),
-      length-append part (drop (8 * end - 8 * start) (drop (8 * start) block)),
-      length-take (8 * start) block,
-      length-drop (8 * end - 8 * start) (drop (8 * start) block),
-      length-drop (8 * start) block,
-    ) in
+    let put = put_before start own end block part fits long r.within r.zero in
+    let elements_rest : drop (8 * there) (with_part (8 * there) (8 * (d + m)) elements slot) ≡ slot ++ drop (8 * ((i + 1) * (d + m))) elements =
+    with_part_rest (8 * there) (8 * (d + m)) (8 * ((i + 1) * (d + m))) elements slot (omega (arith, elements_long, here)) (omega (arith, next)) in
+    let written : RowsWritten w h c d m p (v ∷ vs) n i start (with_part (8 * there) (8 * (d + m)) elements slot) (with_part (8 * start) (8 * end - 8 * start) block part) =
     record {
-      within = omega (arith, block_long, r.within);
-      zero =
-          front_there block (part ++ drop (8 * end - 8 * start) (drop (8 * start) block)) (8 * start) (omega (arith, r.within))
-          ∙ sym (take-take (8 * start) (8 * end) block (omega arith)) ∙ ap (λ (l : List ℕ). take (8 * start) l) r.zero ∙ take-replicate (8 * start) (8 * end) 0 (omega arith);
+      within = omega (arith, put.long, r.within);
+      zero = put.zero;
       room = λ t is.
           let many = (s v is.row is.row_is).many in
-          omega (arith, block_long, r.room is.rest is.others, shown_total c m p (w v) (map w vs) is.row is.rest t is.whole many, own_is is.row is.row_is);
+          omega (arith, put.long, r.room is.rest is.others, shown_total c m p (w v) (map w vs) is.row is.rest t is.whole many, own_is is.row is.row_is);
       rows = λ t is.
           let many = (s v is.row is.row_is).many in
           ap words_of elements_rest
-          ∙ element_in_front c d m p at (1 + n * (d + m) + start) (1 + n * (d + m) + end) ((i + 1) * (d + m)) ((n - i - 1) * (d + m) + start) (w v) (map w vs) is.row is.rest t slot
+          ∙ element_in_front c d m p there (1 + n * (d + m) + start) (1 + n * (d + m) + end) ((i + 1) * (d + m)) ((n - i - 1) * (d + m) + start) (w v) (map w vs) is.row is.rest t slot
           (drop (8 * ((i + 1) * (d + m))) elements) is.whole many le slot_long (omega (arith, here)) (omega (arith, own_is is.row is.row_is, fits)) next (slot_is is.row is.row_is) (r.rows is.rest is.others);
       body = λ t is.
           let many = (s v is.row is.row_is).many in
-          ap words_of block_rest
+          ap words_of put.rest
           ∙ body_in_front c m p own (w v) (map w vs) is.row is.rest t part (drop (8 * end) block) is.whole many long (part_is is.row is.row_is) (r.body is.rest is.others);
-    }
+    } in
+    let f : List V → ℕ → ℕ → Type 0 = λ l a b. RowsWritten w h c d m p l n i start (with_part (8 * a) b elements slot) (with_part (8 * start) (8 * end - 8 * start) block part) in
+    subst (λ (l : List V). f l at wide) (sym all_is) (subst (λ (a : ℕ). f (v ∷ vs) a wide) (sym at_is) (subst (λ (b : ℕ). f (v ∷ vs) there b) (sym wide_is) written))
 
 -- no more pointers are kept than there are
-pub pointers_within : (c : Bool) (p : ℕ) (rows : List (List ℕ)) (held : Trees) → kept_pointers c p rows held ≤ p
+pub pointers_within : (c : Bool) (p : ℕ) (rows : List (List ℕ)) (held : Trees) → element_pointers c p rows held ≤ p
 pointers_within true p rows held = least_pointers_within p rows (trim held)
 pointers_within false p rows held = omega arith
 

@@ -1,14 +1,15 @@
 -- Lists of structs (src/struct_list.rt), and the elements that stand in them (src/rows.rt).
 -- Encoding document, "Lists", the elements of code 7.
-use Rattle.std.specs.Prelude.{◌≡◌, ◌⊎◌, ℕ, ◌+◌, ◌-◌, ◌*◌, ◌^◌, ◌<◌, ◌≤◌, min, Bool, true, false, List, [], ◌∷◌, length, map, take, drop, replicate, All, Result, Ok, MatchResult}
+use Rattle.std.specs.Prelude.{◌≡◌, ◌⊎◌, ℕ, ◌+◌, ◌-◌, ◌*◌, ◌^◌, ◌<◌, ◌≤◌, min, Bool, true, false, List, [], ◌∷◌, ◌++◌, length, map, take, drop, replicate, All, Result, Ok, MatchResult}
 use Rattle.std.specs.Result.{IsErrAnd}
 use Rattle.capnp_frame.specs.declared.error.Error.{Error}
 use Rattle.capnp_frame.specs.declared.error.ErrorKind.{ErrorKind}
 use Rattle.capnp_frame.specs.declared.error.ErrorKind.TheVariants.{AllocationTooLarge}
 use Rattle.capnp_wire.specs.Pointer.{words_of}
-use Rattle.capnp_wire.specs.Tree.{structs, Trees, none, tree, total_words}
-use Rattle.capnp_wire.specs.Trim.{before, least_data, least_pointers, narrowed, trim}
-use Rattle.capnp_wire.specs.Layout.{row_run, pointers_to, woven, body, formed}
+use Rattle.capnp_wire.specs.Tree.{structs, Trees, none, tree, count, total_words}
+use Rattle.capnp_wire.specs.Trim.{before, first, least_data, least_pointers, narrowed, trim}
+use Rattle.capnp_wire.specs.Layout.{struct_pointer, row_run, pointers_to, woven, body, formed}
+use Rattle.capnp_values.specs.Fields.{IsSettled, kept_row}
 use Rattle.capnp_values.specs.declared.rows.Reach.{Reach}
 
 -- the row of trees of one struct, in front of those of others
@@ -55,21 +56,21 @@ RefusesStructList has_trees refuses d p values kind =
 
 -- The data words and the pointers that each element keeps: in canonical form what the largest of them needs. And the trees that
 -- the first m of each p pointers lead to.
-abbrev pub kept_data : Bool → ℕ → List (List ℕ) → ℕ
-kept_data true d rows = least_data rows
-kept_data false d rows = d
+abbrev pub element_data : Bool → ℕ → List (List ℕ) → ℕ
+element_data true d rows = least_data rows
+element_data false d rows = d
 
-abbrev pub kept_pointers : Bool → ℕ → List (List ℕ) → Trees → ℕ
-kept_pointers true p rows held = least_pointers p rows (trim held)
-kept_pointers false p rows held = p
+abbrev pub element_pointers : Bool → ℕ → List (List ℕ) → Trees → ℕ
+element_pointers true p rows held = least_pointers p rows (trim held)
+element_pointers false p rows held = p
 
 abbrev pub shown : Bool → ℕ → ℕ → List (List ℕ) → Trees → Trees
 shown canonical m p rows held = narrowed m p rows (formed canonical held)
 
 abbrev pub reach_of : Bool → ℕ → ℕ → List (List ℕ) → Trees → Reach
 reach_of canonical d p rows held = record {
-  data_words = kept_data canonical d rows;
-  pointers = kept_pointers canonical p rows held;
+  data_words = element_data canonical d rows;
+  pointers = element_pointers canonical p rows held;
   words = total_words (formed canonical held);
 }
 
@@ -91,8 +92,22 @@ pub record FillsRows {V : Type 0} (words : V → List ℕ) (has_trees : V → Tr
   pub held_is : AreRows has_trees values held
   pub few_pointers : p < 2 ^ 16
   pub data_fits : d ≤ most
-  pub pointers_are : m ≡ kept_pointers canonical p (map words values) held
+  pub pointers_are : m ≡ element_pointers canonical p (map words values) held
   pub room_is : room ≡ 8 * total_words (shown canonical m p (map words values) held)
+
+-- the row of a struct has room for its first m pointers, and for what these lead to, in front of a word
+pub record HasRowPlace (has_trees : Trees → Type 0) (canonical : Bool) (m p end : ℕ) : Type 0 where
+  pub row : Trees
+  pub row_is : has_trees row
+  pub settled : IsSettled p row
+  pub some : count (kept_row canonical row) ≤ m
+  pub fits : total_words (first m (formed canonical row)) ≤ end
+
+-- the words of a list of n structs: its tag, its elements of d words and m pointers, and what these lead to
+abbrev pub list_words : Bool → ℕ → ℕ → ℕ → ℕ → List (List ℕ) → Trees → List ℕ
+list_words canonical n d m p rows held =
+    struct_pointer n d m
+    ∷ (woven m (map (take d) rows) (pointers_to (row_run 1 d m (map (take d) rows)) (1 + n * (d + m)) (shown canonical m p rows held)) ++ body (shown canonical m p rows held))
 
 -- Of n structs those from one on are written, with what they lead to, which is all of a block from a word on; before that it is
 -- zero.

@@ -3,10 +3,10 @@ ghost use Rattle.std.specs.Prelude.{◌≡◌, ◌+◌, ◌*◌, ◌^◌, ◌<�
 ghost use Rattle.capnp_wire.specs.Pointer.{digits, number_of, words_of};
 ghost use Rattle.capnp_wire.specs.Element.{width, words_for};
 
-use crate::number::Number;
 use crate::sections::too_many;
 use capnp_frame::{Result, Word};
 use capnp_wire::pointer_word::{list_word, word_of};
+use capnp_wire::primitive_element::PrimitiveElement;
 use capnp_wire::primitive_list::Owned;
 use capnp_wire::traits::SetterInput;
 
@@ -27,12 +27,12 @@ impl<'a, N> NumberList<'a, N> {
 }
 
 // The bits of each number, in order. 2^29 numbers and more fail with `AllocationTooLarge`.
-impl<'a, N: Number> SetterInput<Owned<N>> for NumberList<'a, N> {
+impl<'a, N: PrimitiveElement + Copy> SetterInput<Owned<N>> for NumberList<'a, N> {
     ghost use Rattle.capnp_wire.specs.Tree.{count};
     ghost use Rattle.capnp_values.specs.NumberLists.{IsNumberList, ManyNumbers};
     ghost use Rattle.std.proofs.Common.{ap};
 
-    ghost has_tree = { λ value trees. IsNumberList N.code (map N.bits value.items.now) trees };
+    ghost has_tree = { λ value trees. IsNumberList N.code (map N.bits_of value.items.now) trees };
 
     ghost refuses = { λ value kind. ManyNumbers (length value.items.now) kind };
 
@@ -44,63 +44,49 @@ impl<'a, N: Number> SetterInput<Owned<N>> for NumberList<'a, N> {
             return Err(too_many(count as u64));
         }
         numbers_fit(self.items);
-        Ok(words_of_list(count as u32, N::code()))
+        Ok(words_of_list::<N>(count as u32))
     }
 
     fn write(&self, _canonical: bool, block: &mut [u8]) -> Word {
         put_numbers(self.items, block);
-        word_of(list_word(0, N::code(), self.items.len() as u64))
+        word_of(list_word(0, N::size().code(), self.items.len() as u64))
     }
 }
 
 // The words of a given number of elements.
-fn words_of_list(count: u32, code: u64) -> u32
-    requires code { code < 6 }
+fn words_of_list<N: PrimitiveElement>(count: u32) -> u32
     requires few { count < 2 ^ 29 }
-    ensures { result ≡ words_for count (width code) }
+    ensures words { result ≡ words_for count (width N.code) }
+    ensures known { N.code < 6 }
 {
-    (count as u64 * bits_of_each(code)).div_ceil(64) as u32
-}
-
-// The bits of each element.
-fn bits_of_each(code: u64) -> u64
-    requires { code < 6 }
-    ensures value { result ≡ width code }
-    ensures most { result ≤ 64 }
-{
-    match code {
-        0 => 0,
-        1 => 1,
-        2 => 8,
-        3 => 16,
-        4 => 32,
-        _ => 64,
-    }
+    let size = N::size();
+    size.words_of_list(count) as u32
 }
 
 // Each number has no more bits than its type tells.
-fn numbers_fit<N: Number>(items: &[N])
-    ensures { All (λ bits. bits < 2 ^ width N.code) (map N.bits items.now) }
+fn numbers_fit<N: PrimitiveElement + Copy>(items: &[N])
+    ensures { All (λ bits. bits < 2 ^ width N.code) (map N.bits_of items.now) }
 {
     let mut left = items.len();
     'items: while left > 0 {
         left -= 1;
-        let _bits = items[left].bits();
+        let _bits = items[left].to_bits();
     }
 }
 
 // Puts numbers into a block of just their words.
-fn put_numbers<N: Number>(items: &[N], block: &mut [u8])
+fn put_numbers<N: PrimitiveElement + Copy>(items: &[N], block: &mut [u8])
     requires few { length items.now < 2 ^ 29 }
-    requires fit { All (λ bits. bits < 2 ^ width N.code) (map N.bits items.now) }
+    requires fit { All (λ bits. bits < 2 ^ width N.code) (map N.bits_of items.now) }
     requires room { length block.old ≡ 8 * words_for (length items.now) (width N.code) }
     ensures { words_of block.new ≡ digits (2 ^ 64) (words_for (length items.now) (width N.code))
-        (number_of (2 ^ width N.code) (map N.bits items.now)) }
+        (number_of (2 ^ width N.code) (map N.bits_of items.now)) }
 {
-    if N::code() == 0 {
+    let size = N::size();
+    if size.code() == 0 {
         return;
     }
-    let each = 64 / bits_of_each(N::code()) as usize;
+    let each = 64 / size.bits() as usize;
     for index in 0..block.len() / 8 {
         let first = index * each;
         let last = (first + each).min(items.len());
@@ -111,32 +97,25 @@ fn put_numbers<N: Number>(items: &[N], block: &mut [u8])
 }
 
 // The word of some numbers, the first in its lowest bits.
-fn word_of_numbers<N: Number>(items: &[N]) -> u64
+fn word_of_numbers<N: PrimitiveElement + Copy>(items: &[N]) -> u64
     requires { length items.now * width N.code ≤ 64 }
-    ensures { result ≡ number_of (2 ^ width N.code) (map N.bits items.now) }
+    ensures { result ≡ number_of (2 ^ width N.code) (map N.bits_of items.now) }
 {
     let mut word = 0;
     let mut left = items.len();
     'items: while left > 0 {
         left -= 1;
-        word = in_front(items[left].bits(), word, N::code());
+        word = in_front(items[left].to_bits(), word, N::size().bits());
     }
     word
 }
 
 // The bits of one number, and above them those of the others.
-fn in_front(bits: u64, others: u64, code: u64) -> u64
-    requires code { code < 6 }
-    requires room { bits + 2 ^ width code * others < 2 ^ 64 }
-    ensures { result ≡ bits + 2 ^ width code * others }
+fn in_front(bits: u64, others: u64, each: u64) -> u64
+    requires each { each < 65 }
+    requires room { bits + 2 ^ each * others < 2 ^ 64 }
+    ensures { result ≡ bits + 2 ^ each * others }
 {
-    let base: u128 = match code {
-        0 => 1,
-        1 => 1 << 1,
-        2 => 1 << 8,
-        3 => 1 << 16,
-        4 => 1 << 32,
-        _ => 1 << 64,
-    };
+    let base = 1u128 << each;
     (bits as u128 + base * others as u128) as u64
 }

@@ -4,14 +4,10 @@ ghost use Rattle.std.specs.Prelude.{◌≡◌};
 use crate::items::{measure_items, write_items};
 use crate::sections::{fitting, too_many};
 use capnp_frame::{Result, Word};
+use capnp_wire::list_list::Owned;
 use capnp_wire::pointer_word::{list_word, word_of};
 use capnp_wire::traits::SetterInput;
 use std::marker::PhantomData;
-
-/// A list of pointers to values of a type of a schema, as a type of a schema.
-pub struct Owned<T> {
-    element: PhantomData<T>,
-}
 
 /// A list whose elements are pointers, each set to a value (encoding document, "Lists"): of texts, say.
 #[derive(Drop)]

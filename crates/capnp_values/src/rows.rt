@@ -1,10 +1,11 @@
 //! The elements of lists of structs: how far they reach, and what is written of them.
-ghost use Rattle.std.specs.Prelude.{◌≡◌, ℕ, ◌+◌, ◌-◌, ◌*◌, ◌/◌, ◌<◌, ◌≤◌, ◌^◌, [], map, length, drop, take, replicate};
+ghost use Rattle.std.specs.Prelude.{◌≡◌, ℕ, ◌+◌, ◌-◌, ◌*◌, ◌/◌, ◌<◌, ◌≤◌, ◌^◌, ◌++◌, [], map, length, drop, take, replicate};
 ghost use Rattle.capnp_wire.specs.Pointer.{words_of};
-ghost use Rattle.capnp_wire.specs.Tree.{Trees, none};
-ghost use Rattle.capnp_wire.specs.Layout.{row_run, pointers_to, woven, body};
-ghost use Rattle.capnp_values.specs.Fields.{extent_of};
-ghost use Rattle.capnp_values.specs.StructLists.{AreRows, ReachesRows, FillsRows, RowsWritten, reach_of, shown};
+ghost use Rattle.capnp_wire.specs.Tree.{Trees, none, total_words};
+ghost use Rattle.capnp_wire.specs.Trim.{first};
+ghost use Rattle.capnp_wire.specs.Layout.{run, row_run, pointers_to, woven, body, formed};
+ghost use Rattle.capnp_values.specs.Fields.{extent_of, CanWriteRow};
+ghost use Rattle.capnp_values.specs.StructLists.{AreRows, ReachesRows, FillsRows, HasRowPlace, RowsWritten, element_data, element_pointers, reach_of, shown};
 
 use crate::element::Element;
 use crate::fields::{Extent, Fields};
@@ -23,6 +24,17 @@ pub struct Reach {
 
     /// The words of all that the pointers lead to.
     pub words: u64,
+}
+
+/// What each element of a list keeps: as they stand all, and in canonical form what the largest of
+/// them needs.
+#[derive(Clone, Copy)]
+pub struct KeptWords {
+    /// Its data words.
+    pub data_words: usize,
+
+    /// Its pointers.
+    pub pointers: u32,
 }
 
 /// How far some structs reach, as they stand or in canonical form.
@@ -88,20 +100,28 @@ fn measure_from<E: Fields + Element>(
     })
 }
 
-/// How far some structs reach, none of which is refused.
-pub(crate) fn reach_of_rows<E: Fields + Element>(items: &[E], canonical: bool) -> Reach
+/// What each of some structs keeps, none of which is refused.
+pub(crate) fn kept_by_each<E: Fields + Element>(items: &[E], canonical: bool) -> KeptWords
     requires words { E.data_words < 2 ^ 16 }
     requires pointers { E.size < 2 ^ 16 }
     requires few { length items.now * (E.data_words + E.size) < 2 ^ 29 }
-    ensures { (held : Trees) → AreRows E.has_trees items.now held →
-        result ≡ reach_of canonical E.data_words E.size (map E.words items.now) held }
+    ensures words { (held : Trees) → AreRows E.has_trees items.now held →
+        result.data_words ≡ element_data canonical E.data_words (map E.words items.now) }
+    ensures pointers { (held : Trees) → AreRows E.has_trees items.now held →
+        result.pointers ≡ element_pointers canonical E.size (map E.words items.now) held }
 {
-    let none = Reach {
-        data_words: 0,
-        pointers: 0,
-        words: 0,
-    };
-    measure_rows(items, canonical).unwrap_or(none)
+    if !canonical {
+        return KeptWords {
+            data_words: E::data_words(),
+            pointers: E::count(),
+        };
+    }
+    let least = least_reach(E::data_words(), E::count(), true);
+    let reach = measure_rows(items, true).unwrap_or(least);
+    KeptWords {
+        data_words: reach.data_words,
+        pointers: reach.pointers,
+    }
 }
 
 // How far a row of fields reaches that is not refused.
@@ -122,31 +142,31 @@ fn kept_extent<F: Fields>(fields: &F, canonical: bool) -> Extent
 pub(crate) fn write_rows<E: Fields + Element>(
     items: &[E],
     canonical: bool,
-    reach: Reach,
+    kept: KeptWords,
     elements: &mut [u8],
     block: &mut [u8],
 )
     requires fills { FillsRows E.words E.has_trees canonical
-        reach.data_words reach.pointers E.data_words E.size items.now (length block.old) }
+        kept.data_words kept.pointers E.data_words E.size items.now (length block.old) }
     requires zero { block.old ≡ replicate (length block.old) 0 }
     requires elements { length elements.old
-        ≡ 8 * (length items.now * (reach.data_words + reach.pointers)) }
+        ≡ 8 * (length items.now * (kept.data_words + kept.pointers)) }
     requires near { length elements.old / 8 + length block.old / 8 < 2 ^ 29 }
     ensures elements { (held : Trees) → AreRows E.has_trees items.now held →
-        let rows = map (take reach.data_words) (map E.words items.now) in
-        words_of elements.new ≡ woven reach.pointers rows
-        (pointers_to (row_run 1 reach.data_words reach.pointers rows)
-        (1 + length items.now * (reach.data_words + reach.pointers))
-        (shown canonical reach.pointers E.size (map E.words items.now) held)) }
+        let rows = map (take kept.data_words) (map E.words items.now) in
+        words_of elements.new ≡ woven kept.pointers rows
+        (pointers_to (row_run 1 kept.data_words kept.pointers rows)
+        (1 + length items.now * (kept.data_words + kept.pointers))
+        (shown canonical kept.pointers E.size (map E.words items.now) held)) }
     ensures body { (held : Trees) → AreRows E.has_trees items.now held →
         words_of block.new
-        ≡ body (shown canonical reach.pointers E.size (map E.words items.now) held) }
+        ≡ body (shown canonical kept.pointers E.size (map E.words items.now) held) }
 {
     let mut start = block.len() / 8;
     let mut left = items.len();
     'items: while left > 0 {
         left -= 1;
-        start = write_before(items, left, canonical, reach, start, elements, block);
+        start = write_before(items, left, canonical, kept, start, elements, block);
     }
 }
 
@@ -156,35 +176,34 @@ fn write_before<E: Fields + Element>(
     items: &[E],
     from: usize,
     canonical: bool,
-    reach: Reach,
+    kept: KeptWords,
     end: usize,
     elements: &mut [u8],
     block: &mut [u8],
 ) -> usize
     requires within { from < length items.now }
     requires fills { FillsRows E.words E.has_trees canonical
-        reach.data_words reach.pointers E.data_words E.size items.now (length block.old) }
+        kept.data_words kept.pointers E.data_words E.size items.now (length block.old) }
     requires elements { length elements.old
-        ≡ 8 * (length items.now * (reach.data_words + reach.pointers)) }
+        ≡ 8 * (length items.now * (kept.data_words + kept.pointers)) }
     requires near { length elements.old / 8 + length block.old / 8 < 2 ^ 29 }
     requires written { RowsWritten E.words E.has_trees canonical
-        reach.data_words reach.pointers E.size (drop (from + 1) items.now)
+        kept.data_words kept.pointers E.size (drop (from + 1) items.now)
         (length items.now) (from + 1) end elements.old block.old }
     ensures { RowsWritten E.words E.has_trees canonical
-        reach.data_words reach.pointers E.size (drop from items.now)
+        kept.data_words kept.pointers E.size (drop from items.now)
         (length items.now) from result elements.new block.new }
 {
     let item = &items[from];
-    let words = item.words();
-    let width = reach.data_words + reach.pointers as usize;
+    let width = kept.data_words + kept.pointers as usize;
     let at = element_place(items.len(), from, width);
-    let start = end - kept_extent(item, canonical).words as usize;
+    let start = row_start(item, canonical, kept.pointers, end);
     let gap = elements.len() / 8 - (at + width) + start;
     let own = &mut elements[8 * at..8 * at + 8 * width];
-    write_sections(
-        &words[..reach.data_words],
+    write_element(
         item,
         canonical,
+        kept,
         gap as u32,
         own,
         &mut block[8 * start..8 * end],
@@ -200,4 +219,44 @@ fn element_place(count: usize, from: usize, width: usize) -> usize
     ensures room { result + width ≤ count * width }
 {
     from * width
+}
+
+// The word where what a struct leads to begins, which ends at a given word.
+fn row_start<F: Fields>(item: &F, canonical: bool, pointers: u32, end: usize) -> usize
+    requires few { F.size < 2 ^ 16 }
+    requires most { pointers ≤ F.size }
+    requires place { HasRowPlace (F.has_trees item.now) canonical pointers F.size end }
+    ensures within { result ≤ end }
+    ensures row { CanWriteRow (F.has_trees item.now) canonical pointers (8 * (end - result)) }
+    ensures words { (row : Trees) → F.has_trees item.now row →
+        result + total_words (first pointers (formed canonical row)) ≡ end }
+{
+    let words = kept_extent(item, canonical).words;
+    end - words as usize
+}
+
+// Writes what a struct keeps, and what its pointers lead to into a block of zeros of just its words,
+// which begins a given number of words after the last of them.
+fn write_element<E: Fields + Element>(
+    item: &E,
+    canonical: bool,
+    kept: KeptWords,
+    gap: u32,
+    own: &mut [u8],
+    held: &mut [u8],
+)
+    requires data { kept.data_words ≤ E.data_words }
+    requires own { length own.old ≡ 8 * (kept.data_words + kept.pointers) }
+    requires row { CanWriteRow (E.has_trees item.now) canonical kept.pointers (length held.old) }
+    requires zero { held.old ≡ replicate (length held.old) 0 }
+    requires near { gap + length own.old / 8 + length held.old / 8 < 2 ^ 29 }
+    ensures own { (row : Trees) (start : ℕ) → E.has_trees item.now row →
+        words_of own.new ≡ take kept.data_words (E.words item.now)
+        ++ pointers_to (run start kept.pointers) (start + kept.pointers + gap)
+        (first kept.pointers (formed canonical row)) }
+    ensures held { (row : Trees) → E.has_trees item.now row →
+        words_of held.new ≡ body (first kept.pointers (formed canonical row)) }
+{
+    let words = item.words();
+    write_sections(&words[..kept.data_words], item, canonical, gap, own, held);
 }

@@ -1,17 +1,17 @@
 //! Lists of structs as values.
-ghost use Rattle.std.specs.Prelude.{◌≡◌, ℕ, ◌+◌, ◌*◌, ◌^◌, ◌<◌, MatchResult};
-ghost use Rattle.capnp_values.specs.StructLists.{TooManyStructs};
+ghost use Rattle.std.specs.Prelude.{◌≡◌, ℕ, ◌+◌, ◌-◌, ◌*◌, ◌/◌, ◌^◌, ◌<◌, ◌≤◌, length, map, replicate, MatchResult};
+ghost use Rattle.capnp_wire.specs.Pointer.{words_of};
+ghost use Rattle.capnp_wire.specs.Tree.{Trees};
+ghost use Rattle.capnp_values.specs.StructLists.{AreRows, FillsRows, TooManyStructs, list_words};
 
 use crate::element::Element;
 use crate::fields::Fields;
-use crate::rows::{measure_rows, reach_of_rows, write_rows};
+use crate::rows::{KeptWords, kept_by_each, measure_rows, write_rows};
 use crate::sections::{fitting, too_many};
 use capnp_frame::{Error, ErrorKind, Result, Word};
 use capnp_wire::pointer_word::{list_word, struct_word, word_of};
+use capnp_wire::struct_list::Owned;
 use capnp_wire::traits::SetterInput;
-
-/// A list of structs, as a type of a schema.
-pub struct Owned;
 
 /// A list whose elements are structs of one size, which stand in it one after the other (encoding
 /// document, "Lists").
@@ -55,16 +55,41 @@ impl<'a, E: Fields + Element> SetterInput<Owned> for StructList<'a, E> {
     }
 
     fn write(&self, canonical: bool, block: &mut [u8]) -> Word {
-        let count = self.items.len();
-        let reach = reach_of_rows(self.items, canonical);
-        let words = count * (reach.data_words + reach.pointers as usize);
-        let (tag, rest) = block.split_at_mut(8);
-        let (elements, held) = rest.split_at_mut(8 * words);
-        let size = struct_word(count as u64, reach.data_words as u16, reach.pointers as u16);
-        tag.copy_from_slice(&size.to_le_bytes());
-        write_rows(self.items, canonical, reach, elements, held);
+        let kept = kept_by_each(self.items, canonical);
+        let words = self.items.len() * (kept.data_words + kept.pointers as usize);
+        write_tagged(self.items, canonical, kept, block);
         word_of(list_word(0, 7, words as u64))
     }
+}
+
+// Writes the tag of a list, its elements and what these lead to into a block of zeros of just these.
+fn write_tagged<E: Fields + Element>(
+    items: &[E],
+    canonical: bool,
+    kept: KeptWords,
+    block: &mut [u8],
+)
+    requires few { length items.now < 2 ^ 29 }
+    requires words { kept.data_words < 2 ^ 16 }
+    requires pointers { kept.pointers < 2 ^ 16 }
+    requires room { 8 * (1 + length items.now * (kept.data_words + kept.pointers))
+        ≤ length block.old }
+    requires fills { FillsRows E.words E.has_trees canonical
+        kept.data_words kept.pointers E.data_words E.size items.now
+        (length block.old - 8 * (1 + length items.now * (kept.data_words + kept.pointers))) }
+    requires zero { block.old ≡ replicate (length block.old) 0 }
+    requires near { length block.old / 8 < 2 ^ 29 }
+    ensures { (held : Trees) → AreRows E.has_trees items.now held →
+        words_of block.new ≡ list_words canonical (length items.now)
+        kept.data_words kept.pointers E.size (map E.words items.now) held }
+{
+    let count = items.len();
+    let words = count * (kept.data_words + kept.pointers as usize);
+    let (tag, rest) = block.split_at_mut(8);
+    let (elements, held) = rest.split_at_mut(8 * words);
+    let size = struct_word(count as u64, kept.data_words as u16, kept.pointers as u16);
+    tag.copy_from_slice(&size.to_le_bytes());
+    write_rows(items, canonical, kept, elements, held);
 }
 
 // A pointer and a tag can tell as many structs of this size.

@@ -1,11 +1,14 @@
-//! Pointer words, made from what they say, and moved (encoding document, "Structs", "Lists" and
+//! Pointer words, made from what they say, read and moved (encoding document, "Structs", "Lists" and
 //! "Inter-Segment Pointers").
-ghost use Rattle.std.specs.Prelude.{◌≡◌, ◌<◌, ◌^◌, ℕ};
+ghost use Rattle.std.specs.Prelude.{◌≡◌, ◌<◌, ◌^◌, ℕ, MatchOption};
 ghost use Rattle.capnp_frame.specs.Words.{bytes_of};
-ghost use Rattle.capnp_wire.specs.Pointer.{number_of};
+ghost use Rattle.capnp_wire.specs.Pointer.{number_of, pointer_kind};
+ghost use Rattle.capnp_wire.specs.PointerWord.{IsNearShape};
 ghost use Rattle.capnp_wire.specs.Tree.{Form};
 ghost use Rattle.capnp_wire.specs.Layout.{far_pointer, list_pointer, pointer, struct_pointer, HasRoom};
 
+use crate::layout::pointer::PointerWord;
+pub use crate::layout::pointer::{NearShape, StructSize};
 use capnp_frame::{Word, word};
 
 /// The pointer to a struct that begins a given number of words after it, or the tag of a list of that
@@ -37,6 +40,17 @@ pub fn far_word(segment: u32, position: u32) -> u64
     ensures { result ≡ far_pointer segment position }
 {
     2 + 8 * position as u64 + segment as u64 * (1 << 32)
+}
+
+/// What a struct or list pointer leads to; `None` for a far pointer and a capability. Null reads as a
+/// struct of no words.
+pub fn near_shape(word: u64) -> Option<NearShape>
+    ensures { MatchOption result (1 < pointer_kind word) (λ shape. IsNearShape word shape) }
+{
+    match PointerWord::read(word) {
+        PointerWord::Near(near) => Some(near.shape),
+        _ => None,
+    }
 }
 
 /// The pointer that says as a tag does, to what begins a given number of words further. Null and the

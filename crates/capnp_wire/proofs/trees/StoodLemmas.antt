@@ -75,7 +75,7 @@ pub stood_null : (m : List (List ℕ)) (c : Bool) (place : Place) (nesting : ℕ
 stood_null m c place nesting object = record { trees = tree nothing.form none none; stand = at object nowhere nowhere; shallow = omega arith; rooms = (refl, tt, tt); words_are = null_total c }
 
 -- what is cut has no words
-keep_total : (rest : Trees) (form : Form) (held : Trees) → HasRoom form (count held) → total_words (keep_tree rest form held) ≡ own_words form (count held) + total_words held + total_words rest
+pub keep_total : (rest : Trees) (form : Form) (held : Trees) → HasRoom form (count held) → total_words (keep_tree rest form held) ≡ own_words form (count held) + total_words held + total_words rest
 keep_total (tree f h r) form held room = refl
 keep_total none null none room = refl
 keep_total none null (tree f h r) room = absurd (omega (arith, room))
@@ -84,20 +84,20 @@ keep_total none (numbers c values) held room = refl
 keep_total none pointers held room = refl
 keep_total none (structs d p rows) held room = refl
 
-total_cut : (t : Trees) → AllHaveRoom t → total_words (cut_nulls t) ≡ total_words t
+pub total_cut : (t : Trees) → AllHaveRoom t → total_words (cut_nulls t) ≡ total_words t
 total_cut none rooms = refl
 total_cut (tree form held rest) rooms = keep_total (cut_nulls rest) form held rooms.0 ∙ omega (arith, total_cut rest rooms.2)
 
-total_first : (q : ℕ) (t : Trees) → AllHaveRoom t → AllHaveRoom (first q t) → count (cut_nulls t) ≤ q → total_words (first q t) ≡ total_words t
-total_first q t rooms some le =
-    sym (total_cut (first q t) some) ∙ ap total_words (cut-first q t le) ∙ total_cut t rooms
+pub total_first : (q : ℕ) (t : Trees) → AllHaveRoom t → count (cut_nulls t) ≤ q → total_words (first q t) ≡ total_words t
+total_first q t rooms le =
+    sym (total_cut (first q t) (rooms_first q t rooms)) ∙ ap total_words (cut-first q t le) ∙ total_cut t rooms
 
-total_narrowed : (q p : ℕ) (rows : List (List ℕ)) (t : Trees) → AllHaveRoom t → count t ≡ length rows * p → least_pointers p rows t ≤ q → total_words (narrowed q p rows t) ≡ total_words t
+pub total_narrowed : (q p : ℕ) (rows : List (List ℕ)) (t : Trees) → AllHaveRoom t → count t ≡ length rows * p → least_pointers p rows t ≤ q → total_words (narrowed q p rows t) ≡ total_words t
 total_narrowed q p [] none rooms long le = refl
 total_narrowed q p [] (tree form held rest) rooms long le = absurd (omega arith)
 total_narrowed q p (row ∷ rows) t rooms long le =
     let split : suc (length rows) * p ≡ p + length rows * p = omega arith in
-    let own = total_first q (first p t) (rooms_first p t rooms) (rooms_first q (first p t) (rooms_first p t rooms)) (omega arith) in
+    let own = total_first q (first p t) (rooms_first p t rooms) (omega arith) in
     let rest = total_narrowed q p rows (following p t) (rooms_after p t rooms) (omega (arith, count-following p t (omega arith))) (omega arith) in
     omega (arith, total-before (first q (first p t)) (narrowed q p rows (following p t)), total-chunks p t, own, rest)
 

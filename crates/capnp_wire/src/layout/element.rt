@@ -14,7 +14,8 @@ pub enum ElementSize {
 }
 
 impl ElementSize {
-    pub(crate) fn bits(self) -> u64
+    /// How many bits each element has.
+    pub fn bits(self) -> u64
         ensures bits { result ≡ width (code_of self) }
         ensures few { result < 65 }
     {
@@ -29,7 +30,7 @@ impl ElementSize {
     }
 
     /// The code of such elements in list pointers.
-    pub(crate) fn code(self) -> u64
+    pub fn code(self) -> u64
         ensures code { result ≡ code_of self }
         ensures few { result < 6 }
     {
@@ -52,7 +53,7 @@ impl ElementSize {
     }
 
     /// The words of a list of a given number of elements.
-    pub(crate) fn words_of_list(self, count: u32) -> u64
+    pub fn words_of_list(self, count: u32) -> u64
         ensures { result ≡ words_for count (width (code_of self)) }
     {
         self.bits_of_list(count).div_ceil(64)

@@ -28,9 +28,11 @@ pub(crate) struct Offset(pub u32);
 
 /// What a struct or list pointer leads to.
 #[derive(Clone, Copy)]
-pub(crate) enum NearShape {
+pub enum NearShape {
     Struct(StructSize),
+    /// A list of numbers, by their size and how many they are.
     Numbers(ElementSize, u32),
+    /// A list of pointers, by how many they are.
     Pointers(u32),
     /// A list of structs, by the words of its elements.
     Structs(u32),
@@ -38,8 +40,11 @@ pub(crate) enum NearShape {
 
 /// The words of a struct.
 #[derive(Clone, Copy)]
-pub(crate) struct StructSize {
+pub struct StructSize {
+    /// Those of its data section.
     pub data_words: u16,
+
+    /// Those of its pointer section.
     pub pointers: u16,
 }
 

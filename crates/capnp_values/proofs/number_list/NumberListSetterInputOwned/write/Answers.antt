@@ -6,4 +6,4 @@ use Rattle.capnp_values.proofs.number_list.NumberListSetterInputOwned.write.Goal
 pub put_numbers-requires-clause-fit : goal.put_numbers-requires-clause-fit
 put_numbers-requires-clause-fit g c =
     let w = c.requires.words in
-    list_fits g.N.Number.code (map g.N.Number.bits c.args.self.now.items.now) w.trees w.tree_is w.rooms
+    list_fits g.N.PrimitiveElement.code (map g.N.PrimitiveElement.bits_of c.args.self.now.items.now) w.trees w.tree_is w.rooms
