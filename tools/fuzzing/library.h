@@ -28,8 +28,8 @@ inline uint64_t one_nan(uint64_t bits, unsigned width, bool is_float) {
 
 // Which fields of a width are looked at: the first ones, and those about the section's end.
 inline std::vector<uint64_t> field_offsets(uint64_t whole) {
-    std::vector<uint64_t> offsets{0, 1, 2, 3, 4, 5, 6, 7};
-    for (uint64_t i = whole < 2 ? 0 : whole - 2; i < whole + 2; i++) offsets.push_back(i);
+    std::vector<uint64_t> offsets{0, 1, 2, 3};
+    for (uint64_t i = whole < 1 ? 0 : whole - 1; i < whole + 1; i++) offsets.push_back(i);
     return offsets;
 }
 
@@ -123,7 +123,7 @@ class Library {
         add_field<uint8_t>(sum, fields, data * 8, 8, false), add_field<uint16_t>(sum, fields, data * 4, 16, false);
         add_field<uint32_t>(sum, fields, data * 2, 32, false), add_field<uint64_t>(sum, fields, data, 64, false);
         add_field<float>(sum, fields, data * 2, 32, true), add_field<double>(sum, fields, data, 64, true);
-        for (unsigned i = 0; i < std::min(pointers, 8u) + 1; i++)
+        for (unsigned i = 0; i < std::min(pointers, 4u) + 1; i++)
             sum.add(!is_null(fields.getPointerField(i * capnp::POINTERS)));
     }
 
@@ -202,7 +202,7 @@ public:
             auto list = pointer.getList(capnp::ElementSize::INLINE_COMPOSITE, nullptr);
             unsigned count = list.size() / capnp::ELEMENTS;
             sum.add(count);
-            for (unsigned i = 0; i < std::min(count, 5u); i++) add_struct(sum, list.getStructElement(i * capnp::ELEMENTS));
+            for (unsigned i = 0; i < std::min(count, 2u); i++) add_struct(sum, list.getStructElement(i * capnp::ELEMENTS));
             if (count) add_struct(sum, list.getStructElement((count - 1) * capnp::ELEMENTS));
         });
     }

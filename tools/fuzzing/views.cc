@@ -27,7 +27,7 @@ Bytes hex(const Bytes &bytes) {
     static const char digits[] = "0123456789abcdef";
     Bytes text;
     for (uint8_t byte : bytes) text += digits[byte >> 4], text += digits[byte & 15];
-    return text.size() > 4000 ? text.substr(0, 4000) + ".." : text;
+    return text.size() > 1200 ? text.substr(0, 1200) + ".." : text;
 }
 
 int make(uint64_t seed, uint64_t count) {
@@ -44,7 +44,7 @@ int make(uint64_t seed, uint64_t count) {
 
 int compare(uint64_t seed, uint64_t count, const char *sums) {
     Random random{seed};
-    uint64_t visited = 0, views = 0, same = 0, both_fail = 0, limited = 0, differences = 0;
+    uint64_t visited = 0, views = 0, same = 0, both_fail = 0, limited = 0, differences = 0, shown = 0;
     std::map<Bytes, uint64_t> allowed;
     for (uint64_t i = 0; i < count; i++) {
         Input input = some_input(random);
@@ -60,7 +60,7 @@ int compare(uint64_t seed, uint64_t count, const char *sums) {
         for (auto &[why, times] : library.allowed) allowed[why] += times;
         bool differs = answer != plan.answers;
         differences += differs + library.differences;
-        if (differs || library.differences)
+        if ((differs || library.differences) && ++shown <= 5)
             printf("difference: seed %lu input %lu, limit %lu\ntext %s\nC++ %s\nwanted %s\nfound  %s\n", seed, i, input.limit,
                 hex(framed(input.message)).c_str(), library.said.c_str(), hex(plan.answers).c_str(), hex(answer).c_str());
     }
@@ -68,7 +68,7 @@ int compare(uint64_t seed, uint64_t count, const char *sums) {
         "%lu differences", seed, count, limited, visited, views, same, both_fail, differences);
     for (auto &[why, times] : allowed) printf("; allowed: %s %lu", why.c_str(), times);
     printf("\n");
-    if (sums) std::ofstream(sums, std::ios::app) << count << ' ' << visited << ' ' << views << ' ' << same << ' ' << differences << '\n';
+    if (sums) std::ofstream(sums, std::ios::app) << count << ' ' << visited << ' ' << views << ' ' << same << ' ' << both_fail << ' ' << differences << '\n';
     return differences > 0;
 }
 

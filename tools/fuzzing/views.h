@@ -54,13 +54,13 @@ private:
                 sum.add(one_nan(found, type.bits, type.is_float)), sum.add(one_nan(found ^ bits, type.bits, type.is_float));
             }
         }
-        for (unsigned i = 0; i < std::min(row.pointers, 8u) + 1; i++)
+        for (unsigned i = 0; i < std::min(row.pointers, 4u) + 1; i++)
             sum.add(i < row.pointers && message[row.segment][row.start + row.data + i] != 0);
     }
 
     void add_structs(Sum &sum, const Object &list) const {
         sum.add(list.count);
-        for (uint64_t i = 0; i < std::min<uint64_t>(list.count, 5); i++) add_struct(sum, row_of(list, i));
+        for (uint64_t i = 0; i < std::min<uint64_t>(list.count, 2); i++) add_struct(sum, row_of(list, i));
         if (list.count) add_struct(sum, row_of(list, list.count - 1));
     }
 
@@ -141,6 +141,8 @@ private:
         library.compared++;
         if (!status && theirs.found && theirs.sum.state == sum.state) return void(library.same++);
         if (status && !theirs.found) return void(library.both_fail++);
+        if (!status && theirs.found && kind == STRUCTS && object.count >> 29)
+            return library.allow("C++ reads 29 bits of the number of elements in a tag");
         Object elsewhere;
         Walk loose{message, true};
         loose.limit = UINT64_MAX / 16;
@@ -160,7 +162,7 @@ private:
             int status = enter(spot, level, object);
             if (!status && !is_of(object, POINTERS, 6)) status = 22;
             if (!status) sum.add(object.count);
-            for (uint64_t i = 0; !status && i < std::min<uint64_t>(object.count, 6); i++) {
+            for (uint64_t i = 0; !status && i < std::min<uint64_t>(object.count, 4); i++) {
                 Sum inner = sum;
                 Object element;
                 inner.add(0);
