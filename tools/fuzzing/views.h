@@ -179,7 +179,9 @@ private:
         if (depth == 0 || left == 0) return;
         left--;
         library.pointers_visited++;
-        answers.push_back(!spot.there || message[spot.segment][spot.at] == 0);
+        bool null = !spot.there || message[spot.segment][spot.at] == 0;
+        answers.push_back(null);
+        if (null && left % 4 != 0) return;
         view(spot, level, peer, STRUCT);
         view(spot, level, peer, TEXT);
         view(spot, level, peer, DATA);
