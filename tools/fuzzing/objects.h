@@ -21,6 +21,7 @@ struct Walk {
     // elements in a tag just 29 bits count. Its limit is larger.
     bool loose = false;
     uint64_t charged = 0;
+    uint64_t limit = WORD_LIMIT;
 
     // What the pointer at a place leads to, or a refusal's text.
     std::optional<Refusal> follow(size_t segment, size_t at, int level, Object &object) {
@@ -42,7 +43,7 @@ struct Walk {
         uint64_t charge = 0;
         if (auto no = measure(shape, start, object, charge)) return no;
         charge += pads;
-        if (charged + charge > (loose ? 8 * WORD_LIMIT : WORD_LIMIT)) return refusal(20);
+        if (charged + charge > (loose ? 8 * limit : limit)) return refusal(20);
         charged += charge;
         return {};
     }
