@@ -1,5 +1,5 @@
 //! The words of a segment, as rows of a table.
-ghost use Rattle.std.specs.Prelude.{◌<◌};
+ghost use Rattle.std.specs.Prelude.{◌≡◌, ◌%◌};
 
 use crate::owners::{Lead, Owner, Owners, Role, Word};
 use crate::refusals::push_refusal;
@@ -43,9 +43,9 @@ pub fn push_object_classes(text: &mut String, number: u64) -> Result<(), AllocEr
     write!(text, "o{number} c{colour}")
 }
 
-/// The colour of an object.
+/// The colour of an object: the colours come one after the other, and then again from the first.
 pub fn colour_of(number: u64) -> u64
-    ensures { result < COLOURS }
+    ensures { result ≡ number % COLOURS }
 {
     number % COLOURS
 }
