@@ -3,4 +3,6 @@ pub mod Texts
 pub mod Hashes
 pub mod Fronts
 pub mod Objects
+pub mod Rows
+pub mod Words
 pub mod Arguments

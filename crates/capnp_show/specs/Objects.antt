@@ -1,10 +1,10 @@
 -- What the program finds at pointers (src/words.rt), in the terms of the crate that reads objects.
-use Rattle.std.specs.Prelude.{◌≡◌, ℕ, ◌+◌, ◌*◌, ◌/◌, ◌^◌, ◌<◌, ◌≤◌, ◌==◌, if◌then◌else◌, List, length, Option, Some, None, slice_get}
+use Rattle.std.specs.Prelude.{◌≡◌, ℕ, ◌+◌, ◌*◌, ◌/◌, ◌^◌, ◌<◌, ◌≤◌, ◌==◌, if◌then◌else◌, List, length, Option, Some, None, slice_get, IfSome}
 use Rattle.capnp.specs.Passed.{ErrorKind}
 use Rattle.capnp_frame.specs.declared.error.ErrorKind.TheVariants.{PointerOutOfBounds}
 use Rattle.capnp_wire.specs.Pointer.{words_of, pointer_kind, offset, data_words, pointer_words, code, list_count}
 use Rattle.capnp_wire.specs.Element.{width, words_for}
-use Rattle.capnp_wire.specs.Object.{message_of, Lands, Target, Origin, IsStart, ShapeStands, Shape as Stood, struct_shape, numbers_shape, pointers_shape, structs_shape}
+use Rattle.capnp_wire.specs.Object.{message_of, word_at, landing_pad, Lands, Target, Origin, IsStart, ShapeStands, Shape as Stood, struct_shape, numbers_shape, pointers_shape, structs_shape}
 use Rattle.capnp_wire.specs.Faults.{Misfits, Fault}
 use Rattle.capnp_wire.specs.declared.layout.place.Place.{Place as ReadPlace}
 use Rattle.capnp_show.specs.declared.words.Place.{Place}
@@ -81,6 +81,11 @@ Says words start pointer (Listed size count) =
 Says words start pointer (Structs size count following) =
     (0 < pointer_kind pointer) × (code pointer ≡ 7) × (following ≡ list_count pointer) × IsTag words start size count following
 
+-- a segment has a given number of words from a place on
+abbrev pub HasRoom : List (List ℕ) → Place → ℕ → Type 0
+HasRoom segments start words =
+    (bytes : List ℕ) × (slice_get segments start.segment ≡ Some bytes) × (start.word + words ≤ length bytes / 8)
+
 -- an object of this shape stands at a place, as its pointer says
 pub record StandsAt (segments : List (List ℕ)) (start : Place) (pointer : ℕ) (shape : Shape) : Type 0 where
   pub bytes : List ℕ
@@ -100,7 +105,10 @@ pub record IsObject (segments : List (List ℕ)) (place : Place) (object : Objec
   pub segment : landing.segment ≡ object.start.segment
   pub begins : IsStart landing.origin landing.tag object.start.word
   pub stands : StandsAt segments object.start landing.tag object.shape
-  pub landing_pad : landing_words object.landing_pad ≡ landing.landing_pads
+  pub landing_pads : landing_words object.landing_pad ≡ landing.landing_pads
+  -- which stands where the pointer says
+  pub pad_place : IfSome object.landing_pad (λ pad. (word : ℕ) × (word_at (message_of segments) (read_place place) ≡ Some word)
+      × (pointer_kind word ≡ 2) × (read_place pad.place ≡ landing_pad word))
 
 -- the pointer at a place leads to no object, for this reason, at whatever nesting depth left
 abbrev pub IsRefused : List (List ℕ) → Place → ErrorKind → Type 0

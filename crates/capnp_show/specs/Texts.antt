@@ -1,6 +1,10 @@
 -- Characters and texts, as they are shown (src/text.rt, src/markup.rt, src/listing.rt).
-use Rattle.std.specs.Prelude.{◌≡◌, ◌≢◌, ◌⊎◌, ℕ, ◌≤◌, List, [], ◌∷◌, ◌++◌, codes, decimal}
+use Rattle.std.specs.Prelude.{◌≡◌, ◌≢◌, ◌⊎◌, ℕ, ◌-◌, ◌^◌, ◌≤◌, false, List, [], ◌∷◌, ◌++◌, codes, decimal}
 use Rattle.std.specs.Char.{encode_utf8}
+use Rattle.std.specs.Fmt.{digits, padded_integral, format_spec}
+use Rattle.capnp_show.specs.declared.drawn.Anchor.{Anchor}
+use Rattle.capnp_show.specs.declared.listing.Listed.{Listed}
+use Rattle.capnp_show.specs.declared.words.Place.{Place}
 use Rattle.capnp_show.specs.declared.text.Escape.{Escape}
 use Rattle.capnp_show.specs.declared.text.Escape.TheVariants.{Plain, Letter, Number}
 use Rattle.capnp_show.specs.declared.markup.Mark.{Mark}
@@ -49,6 +53,33 @@ element_name FourBytes = codes "4 bytes"
 element_name EightBytes = codes "8 bytes"
 element_name Pointer = codes "pointer"
 
--- a number of the name of a JSON object's member, after the members before it
+-- a character that is shown in this way: its number in four hexadecimal digits
+abbrev pub escaped : ℕ → Escape → List ℕ
+escaped character Plain = encode_utf8 character
+escaped character (Letter letter) = 92 ∷ encode_utf8 letter
+escaped character Number = codes "\\u" ++ padded_integral (format_spec 32 0 4 4 (2 ^ 64 - 1)) false [] (digits 16 false character)
+
+-- a number after some words
+abbrev pub counted : List ℕ → ℕ → List ℕ
+counted words number = words ++ decimal number
+
+-- what is listed of a message
+abbrev pub listed_line : Listed → List ℕ
+listed_line listed = counted (codes "message ") listed.index ++ (counted (codes ": offset ") listed.offset
+    ++ (counted (codes ", bytes ") listed.bytes ++ (counted (codes ", segments ") listed.segments ++ counted (codes ", words ") listed.words)))
+
+-- a member of a JSON object that is a number, after the members before it
 abbrev pub member : List ℕ → ℕ → List ℕ
-member name number = codes ",\"" ++ name ++ codes "\":" ++ decimal number
+member name number = codes ",\"" ++ (name ++ counted (codes "\":") number)
+
+-- the members of what is listed of a message
+abbrev pub listed_members : Listed → List ℕ
+listed_members listed = member (codes "index") listed.index ++ (member (codes "offset") listed.offset
+    ++ (member (codes "bytes") listed.bytes ++ (member (codes "segments") listed.segments ++ member (codes "words") listed.words)))
+
+-- the name of a message in a page, and that of one of its words
+abbrev pub message_name : Anchor → List ℕ
+message_name anchor = counted (codes "m") anchor.input ++ counted (codes "-") anchor.message
+
+abbrev pub word_name : Anchor → Place → List ℕ
+word_name anchor place = message_name anchor ++ (counted (codes "-") place.segment ++ counted (codes "-") place.word)

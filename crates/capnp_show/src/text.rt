@@ -1,6 +1,6 @@
 //! Texts, as they are shown.
-ghost use Rattle.std.specs.Prelude.{◌≡◌, ◌++◌, ◌∷◌, ℕ, List, [], MatchOption, IsUtf8};
-ghost use Rattle.capnp_show.specs.Texts.{IsEscapeOf};
+ghost use Rattle.std.specs.Prelude.{◌≡◌, ◌++◌, ◌∷◌, ℕ, List, [], MatchOption, IsUtf8, OnOk, string_bytes};
+ghost use Rattle.capnp_show.specs.Texts.{IsEscapeOf, escaped};
 
 use std::alloc::AllocError;
 use std::fmt::Write;
@@ -42,7 +42,9 @@ pub fn push_escaped(text: &mut String, shown: &str) -> Result<(), AllocError> {
 }
 
 /// Adds a character, escaped in a given way.
-pub fn push_escape(text: &mut String, character: char, escape: Escape) -> Result<(), AllocError> {
+pub fn push_escape(text: &mut String, character: char, escape: Escape) -> Result<(), AllocError>
+    ensures { OnOk result (string_bytes text.new ≡ string_bytes text.old ++ escaped character escape) }
+{
     match escape {
         Escape::Plain => text.push(character),
         Escape::Letter(letter) => {

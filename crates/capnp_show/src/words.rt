@@ -2,13 +2,13 @@
 //!
 //! Nothing is followed here but the landing pads of far pointers, so each result takes a few steps,
 //! whatever the words are.
-ghost use Rattle.std.specs.Prelude.{◌≡◌, ◌<◌, ◌^◌, ◌+◌, ◌*◌, ◌/◌, ℕ, List, Some, min, length, slice_get, slice_range, IfOk, IfErr, MatchOption, MatchResult};
+ghost use Rattle.std.specs.Prelude.{◌≡◌, ◌<◌, ◌^◌, ◌+◌, ◌*◌, ◌/◌, ℕ, List, Some, min, length, slice_get, slice_range, IfOk, IfErr, MatchOption, MatchResult, IsTrue, IsFalse};
 ghost use Rattle.capnp_wire.specs.Pointer.{words_of, pointer_kind, code, list_count, landing_pad_segment, landing_pad_position, data_words, pointer_words};
 ghost use Rattle.capnp_wire.specs.Element.{width};
 ghost use Rattle.capnp_wire.specs.Object.{message_of, word_at as stands_at, following, IsStart};
 ghost use Rattle.capnp_wire.specs.Faults.{NoWord, Misfits};
 ghost use Rattle.capnp_wire.specs.Landing.{NotNear};
-ghost use Rattle.capnp_show.specs.Objects.{read_place, code_of, words_in, traversed_of, landing_words, Says, IsTag, IsSize, StandsAt, Misses, IsObject, IsRefused, size_of};
+ghost use Rattle.capnp_show.specs.Objects.{HasRoom, read_place, code_of, words_in, traversed_of, landing_words, Says, IsTag, IsSize, StandsAt, Misses, IsObject, IsRefused, size_of};
 
 use capnp::ErrorKind;
 use capnp::message::ReaderSegments;
@@ -135,20 +135,29 @@ fn near_object<S: ReaderSegments>(
         → slice_get (S.segments segments.now) place.segment ≡ Some bytes
         → Misses (words_of bytes) (following place.word) pointer kind) }
 {
-    let offset = pointer / 4 % (1 << 30);
-    let ahead = place.word.saturating_add(1).saturating_add(offset);
-    let word = if offset < 1 << 29 {
-        ahead
-    } else {
-        ahead
-            .checked_sub(1 << 30)
-            .ok_or(ErrorKind::PointerOutOfBounds)?
+    let Some(word) = start_after(place.word, pointer) else {
+        return Err(ErrorKind::PointerOutOfBounds);
     };
     let start = Place {
         segment: place.segment,
         word,
     };
     shaped_object(segments, start, pointer, landing_pad)
+}
+
+// Where the object begins of a struct or list pointer that stands at a word of its segment: an
+// offset from 2^29 on is negative.
+fn start_after(word: u64, pointer: u64) -> Option<u64>
+    ensures { let begins = λ (start : ℕ). IsStart (following word) pointer start in
+        word < 2 ^ 61 → MatchOption result ((start : ℕ) → begins start → ⊥) begins }
+{
+    let offset = pointer / 4 % (1 << 30);
+    let ahead = word.saturating_add(1).saturating_add(offset);
+    if offset < 1 << 29 {
+        Some(ahead)
+    } else {
+        ahead.checked_sub(1 << 30)
+    }
 }
 
 // The object of a far pointer.
@@ -220,25 +229,31 @@ fn shaped_object<S: ReaderSegments>(
         → Misfits (words_of bytes) start.word pointer kind) }
 {
     let shape = shape_of(segments, start, pointer)?;
-    let there = words_from(segments, start);
-    if there.is_none_or(|left| left < shape.words()) {
-        return Err(ErrorKind::PointerOutOfBounds);
+    if has_room(segments, start, shape.words()) {
+        Ok(Object {
+            start,
+            shape,
+            landing_pad,
+        })
+    } else {
+        Err(ErrorKind::PointerOutOfBounds)
     }
-    Ok(Object {
-        start,
-        shape,
-        landing_pad,
-    })
 }
 
-// How many words a segment has from a place on; `None` where the place is past its end.
-fn words_from<S: ReaderSegments>(segments: &S, place: Place) -> Option<u64>
-    ensures { let found = slice_get (S.segments segments.now) place.segment in MatchOption result
-        ((bytes : List ℕ) → found ≡ Some bytes → length bytes / 8 < place.word)
-        (λ left. (bytes : List ℕ) × (found ≡ Some bytes) × (place.word + left ≡ length bytes / 8)) }
+// Whether a segment has a given number of words from a place on.
+fn has_room<S: ReaderSegments>(segments: &S, start: Place, words: u64) -> bool
+    ensures room { IsTrue result → HasRoom (S.segments segments.now) start words }
+    ensures none { IsFalse result → (bytes : List ℕ)
+        → slice_get (S.segments segments.now) start.segment ≡ Some bytes
+        → length bytes / 8 < start.word + words }
 {
-    let segment = segments.get_segment(place.segment)?;
-    ((segment.len() / 8) as u64).checked_sub(place.word)
+    match segments.get_segment(start.segment) {
+        Some(segment) => {
+            let there = (segment.len() / 8) as u64;
+            start.word <= there && words <= there - start.word
+        }
+        None => false,
+    }
 }
 
 // What a struct or list pointer says of the object that begins at a place.
@@ -278,7 +293,7 @@ fn structs_at<S: ReaderSegments>(segments: &S, start: Place, words: u64) -> Resu
         → slice_get (S.segments segments.now) start.segment ≡ Some bytes
         → Misfits (words_of bytes) start.word pointer kind) }
 {
-    if words_from(segments, start).is_none_or(|left| left <= words) {
+    if !has_room(segments, start, words.saturating_add(1)) {
         return Err(ErrorKind::PointerOutOfBounds);
     }
     let tag = word_at(segments, start)?;
