@@ -1,4 +1,8 @@
 //! The words that the program takes.
+ghost use Rattle.std.specs.Prelude.{◌≡◌, Some, None, codes};
+ghost use Rattle.clap.specs.Words.{found_of, one_text};
+ghost use Rattle.capnp_show.specs.Arguments.{IsGiven, IsAbsent, AsksReading, AsksForm};
+
 use crate::settings::{Form, Reading, Settings};
 use capnp::message::{DEFAULT_READER_OPTIONS, ReaderOptions};
 use clap::builder::ValueParser;
@@ -96,14 +100,19 @@ fn limited<'a>(alloc: Global, command: Command<'a>) -> Result<Command<'a>, Alloc
     command.arg(first)?.arg(words)?.arg(nesting)?.arg(progress)
 }
 
-fn flag<'a>(alloc: Global, name: &'a str, help: &'a str) -> Arg<'a> {
+fn flag<'a>(alloc: Global, name: &'a str, help: &'a str) -> Arg<'a>
+    ensures names { (result.id ≡ name.entry) × (result.long ≡ Some name.entry) }
+    ensures action { result.action ≡ Some ArgAction.SetTrue }
+{
     Arg::new(alloc, name)
         .long(name)
         .action(ArgAction::SetTrue)
         .help(help)
 }
 
-fn number<'a>(alloc: Global, name: &'a str, most: u64, help: &'a str) -> Arg<'a> {
+fn number<'a>(alloc: Global, name: &'a str, most: u64, help: &'a str) -> Arg<'a>
+    ensures { (result.id ≡ name.entry) × (result.long ≡ Some name.entry) }
+{
     Arg::new(alloc, name)
         .long(name)
         .value_name("N")
@@ -112,7 +121,11 @@ fn number<'a>(alloc: Global, name: &'a str, most: u64, help: &'a str) -> Arg<'a>
 }
 
 /// What the words ask for.
-pub fn settings_of(matches: &ArgMatches<'_>) -> Settings {
+pub fn settings_of(matches: &ArgMatches<'_>) -> Settings
+    ensures reading { AsksReading (found_of matches.now) result.reading }
+    ensures form { AsksForm (found_of matches.now) result.form }
+    ensures all { one_text (found_of matches.now) (codes "first") ≡ None → result.first ≡ u64.MAX }
+{
     Settings {
         reading: reading_of(matches),
         form: form_of(matches),
@@ -124,7 +137,9 @@ pub fn settings_of(matches: &ArgMatches<'_>) -> Settings {
     }
 }
 
-fn reading_of(matches: &ArgMatches<'_>) -> Reading {
+fn reading_of(matches: &ArgMatches<'_>) -> Reading
+    ensures { AsksReading (found_of matches.now) result }
+{
     if matches.get_flag("packed") {
         Reading::Packed
     } else if matches.get_flag("detect") {
@@ -134,7 +149,9 @@ fn reading_of(matches: &ArgMatches<'_>) -> Reading {
     }
 }
 
-fn form_of(matches: &ArgMatches<'_>) -> Form {
+fn form_of(matches: &ArgMatches<'_>) -> Form
+    ensures { AsksForm (found_of matches.now) result }
+{
     if matches.get_flag("count") {
         Form::Count
     } else if matches.get_flag("json") {
@@ -146,7 +163,12 @@ fn form_of(matches: &ArgMatches<'_>) -> Form {
     }
 }
 
-fn limits_of(matches: &ArgMatches<'_>) -> ReaderOptions {
+fn limits_of(matches: &ArgMatches<'_>) -> ReaderOptions
+    ensures words { one_text (found_of matches.now) (codes "words") ≡ None
+        → result.traversal_limit_in_words ≡ DEFAULT_READER_OPTIONS.traversal_limit_in_words }
+    ensures nesting { one_text (found_of matches.now) (codes "nesting") ≡ None
+        → result.nesting_limit ≡ DEFAULT_READER_OPTIONS.nesting_limit }
+{
     let mut limits = DEFAULT_READER_OPTIONS;
     if let Some(words) = matches.get_one::<usize>("words") {
         limits.traversal_limit_in_words = Some(words);

@@ -3,6 +3,8 @@
 //! An arrow runs in the gaps between the cells alone: from the right of its pointer in the gap after
 //! that column, then in the gap above the object's row, and to the left of the cell where the object
 //! begins. Cells, gaps and headings have fixed sizes, so its corners are computed.
+ghost use Rattle.std.specs.Prelude.{◌≡◌, ℕ, ◌+◌, ◌*◌, ◌/◌, ◌%◌, ◌^◌, ◌<◌, min, Some, None, slice_get, MatchOption};
+
 use crate::drawn::{ROW_WORDS, colour_of};
 use crate::owners::{Owners, Word};
 use crate::words::Place;
@@ -39,7 +41,10 @@ pub fn push_sizes(text: &mut String) -> Result<(), AllocError> {
 }
 
 /// The height of the part of a drawing that a segment of a given number of words has.
-pub fn part_height(words: usize) -> u64 {
+pub fn part_height(words: usize) -> u64
+    ensures { let rows = (words + 3) / 4 in rows < 2 ^ 58
+        → result ≡ HEADING_HEIGHT + ROW_GAP + rows * (CELL_HEIGHT + ROW_GAP) }
+{
     let rows = words.div_ceil(ROW_WORDS) as u64;
     let gaps = HEADING_HEIGHT + ROW_GAP;
     rows.saturating_mul(CELL_HEIGHT + ROW_GAP)
@@ -102,8 +107,13 @@ impl Grid {
         }
     }
 
-    // Where the cell of a word is.
-    fn corner(&self, place: Place) -> Option<Corner> {
+    // Where the cell of a word is: four in a row, and the rows of a segment below its top.
+    fn corner(&self, place: Place) -> Option<Corner>
+        ensures { let top = slice_get self.now.tops.items place.segment in
+            MatchOption result (top ≡ None) (λ corner. (first : ℕ) × (top ≡ Some first)
+            × (corner.left ≡ FIRST_LEFT + place.word % 4 * (CELL_WIDTH + COLUMN_GAP))
+            × (corner.top ≡ min (first + min (place.word / 4 * (CELL_HEIGHT + ROW_GAP)) u64.MAX) u64.MAX)) }
+    {
         let top = *self.tops.get(place.segment as usize)?;
         let row = place.word / ROW_WORDS as u64;
         let column = place.word % ROW_WORDS as u64;

@@ -1,5 +1,6 @@
 //! Whether the messages of an input are packed, by the bytes at its front.
-ghost use Rattle.std.specs.Prelude.{◌≡◌, ◌<◌, length};
+ghost use Rattle.std.specs.Prelude.{◌≡◌, ◌⊎◌, IfOk};
+ghost use Rattle.capnp_show.specs.Fronts.{Says};
 
 use capnp::ErrorKind;
 use capnp::message::ReaderOptions;
@@ -23,7 +24,7 @@ pub enum Look {
 /// What the bytes at the front of an input say: that it is framed where they are a segment table
 /// whose segments are within the limit of words, and stand there or may follow.
 pub fn look_at(front: &[u8], limits: ReaderOptions) -> Look
-    ensures { result ≡ Look.More → length front.now < FRONT_BYTES }
+    ensures { Says FRONT_BYTES limits.traversal_limit_in_words front.now result }
 {
     match NoAllocBufferSegments::from_buffer(front, limits) {
         Ok(_) => Look::Is(Format::Framed),
@@ -40,16 +41,20 @@ pub fn look_at(front: &[u8], limits: ReaderOptions) -> Look
     }
 }
 
-/// Reads bytes of a device into `front` until they say how its messages stand, or it ends.
+/// Reads bytes of a device into `front` until they say how its messages stand, or it ends. Packed
+/// is what they say then, and what an input is that ends before it says anything.
 pub fn detect<D: Read>(
     device: &mut D,
     front: &mut Vec<u8>,
     limits: ReaderOptions,
-) -> Result<Format, AllocError> {
+) -> Result<Format, AllocError>
+    ensures { let says = Says FRONT_BYTES limits.traversal_limit_in_words front.new.items in
+        IfOk result (λ format. says (Look.Is format) ⊎ (says Look.More × (format ≡ Format.Packed))) }
+{
     let mut part = [0; FRONT_BYTES];
     for _ in 0..u64::MAX {
-        if let Look::Is(format) = look_at(front.as_slice(), limits) {
-            return Ok(format);
+        if let Look::Is(_) = look_at(front.as_slice(), limits) {
+            break;
         }
         match device.read(&mut part) {
             Ok(0) => break,
@@ -61,5 +66,8 @@ pub fn detect<D: Read>(
             }
         }
     }
-    Ok(Format::Packed)
+    match look_at(front.as_slice(), limits) {
+        Look::Is(format) => Ok(format),
+        Look::More => Ok(Format::Packed),
+    }
 }

@@ -1,5 +1,6 @@
 //! The words of a segment, as rows of a table.
-ghost use Rattle.std.specs.Prelude.{◌<◌};
+ghost use Rattle.std.specs.Prelude.{◌≡◌, ◌%◌, ◌++◌, OnOk, codes, string_bytes};
+ghost use Rattle.capnp_show.specs.Texts.{counted, message_name, word_name};
 
 use crate::owners::{Lead, Owner, Owners, Role, Word};
 use crate::refusals::push_refusal;
@@ -22,14 +23,18 @@ pub struct Anchor {
 
 impl Anchor {
     /// Adds the name of the message.
-    pub fn push(self, text: &mut String) -> Result<(), AllocError> {
+    pub fn push(self, text: &mut String) -> Result<(), AllocError>
+        ensures { OnOk result (string_bytes text.new ≡ string_bytes text.old ++ message_name self) }
+    {
         let input = self.input;
         let message = self.message;
         write!(text, "m{input}-{message}")
     }
 
     // Adds the name of a word.
-    fn push_word(self, text: &mut String, place: Place) -> Result<(), AllocError> {
+    fn push_word(self, text: &mut String, place: Place) -> Result<(), AllocError>
+        ensures { OnOk result (string_bytes text.new ≡ string_bytes text.old ++ word_name self place) }
+    {
         let segment = place.segment;
         let word = place.word;
         self.push(text)?;
@@ -38,14 +43,17 @@ impl Anchor {
 }
 
 /// Adds the classes of an object.
-pub fn push_object_classes(text: &mut String, number: u64) -> Result<(), AllocError> {
+pub fn push_object_classes(text: &mut String, number: u64) -> Result<(), AllocError>
+    ensures { OnOk result (string_bytes text.new ≡ string_bytes text.old
+        ++ (counted (codes "o") number ++ counted (codes " c") (number % COLOURS))) }
+{
     let colour = colour_of(number);
     write!(text, "o{number} c{colour}")
 }
 
-/// The colour of an object.
+/// The colour of an object: the colours come one after the other, and then again from the first.
 pub fn colour_of(number: u64) -> u64
-    ensures { result < COLOURS }
+    ensures { result ≡ number % COLOURS }
 {
     number % COLOURS
 }

@@ -1,10 +1,8 @@
 //! The hash of a message's canonical form.
-ghost use Rattle.std.specs.Prelude.{◌≡◌, ◌⊎◌, ℕ, List, MatchResult, IfErr};
-ghost use Rattle.sha2.specs.Sha256.{sha256};
+ghost use Rattle.std.specs.Prelude.{◌≡◌, ◌⊎◌, MatchResult};
 ghost use Rattle.capnp.specs.Passed.{ErrorKind, LacksForm};
-ghost use Rattle.capnp_wire.specs.Pointer.{words_of};
-ghost use Rattle.capnp_wire.specs.Values.{IsCanonicalForm};
 ghost use Rattle.capnp_message.specs.Seen.{root_of};
+ghost use Rattle.capnp_show.specs.Hashes.{IsHashOf, ShowsHash};
 
 use capnp::message::{Reader, ReaderSegments};
 use capnp::{ErrorKind, Result};
@@ -14,7 +12,7 @@ use std::alloc::Global;
 /// The SHA-256 of the words of a message's canonical form, without a frame.
 pub fn canonical_hash<S: ReaderSegments>(alloc: Global, message: &Reader<S>) -> Result<[u8; 32]>
     ensures { let pointer = root_of S.segments message.now in MatchResult result
-        (λ hash. (bytes : List ℕ) × IsCanonicalForm pointer (words_of bytes) × (hash ≡ sha256 bytes))
+        (λ hash. IsHashOf pointer hash)
         (λ error. LacksForm pointer error.kind ⊎ (error.kind ≡ ErrorKind.OutOfMemory)) }
 {
     let bytes = message.canonical_segment(alloc)?;
@@ -30,9 +28,11 @@ pub enum Hash {
     Lacking(ErrorKind),
 }
 
-/// What is shown of a message's canonical form. The only refusal is `OutOfMemory`.
+/// What is shown of a message's canonical form: its hash, or why the message has none. It fails
+/// with `OutOfMemory` alone.
 pub fn hash_of<S: ReaderSegments>(alloc: Global, message: &Reader<S>) -> Result<Hash>
-    ensures { IfErr result (λ error. error.kind ≡ ErrorKind.OutOfMemory) }
+    ensures { MatchResult result (λ hash. ShowsHash (root_of S.segments message.now) hash)
+        (λ error. error.kind ≡ ErrorKind.OutOfMemory) }
 {
     match canonical_hash(alloc, message) {
         Ok(hash) => Ok(Hash::Of(hex::encode(alloc, hash.as_slice())?)),

@@ -1,4 +1,7 @@
 //! Messages as JSON.
+ghost use Rattle.std.specs.Prelude.{◌≡◌, ◌++◌, OnOk, codes, string_bytes};
+ghost use Rattle.capnp_show.specs.Texts.{member, listed_members};
+
 use crate::hash::Hash;
 use crate::listing::{Listed, name_of};
 use crate::refusals::sentence;
@@ -16,7 +19,9 @@ pub fn push_file(text: &mut String, name: &str) -> Result<(), AllocError> {
 }
 
 /// Adds what is listed of a message.
-pub fn push_listed(text: &mut String, listed: &Listed) -> Result<(), AllocError> {
+pub fn push_listed(text: &mut String, listed: &Listed) -> Result<(), AllocError>
+    ensures { OnOk result (string_bytes text.new ≡ string_bytes text.old ++ listed_members listed.now) }
+{
     push_number(text, "index", listed.index)?;
     push_number(text, "offset", listed.offset)?;
     push_number(text, "bytes", listed.bytes)?;
@@ -39,7 +44,9 @@ pub fn push_hash(text: &mut String, hash: &Hash) -> Result<(), AllocError> {
 }
 
 /// Adds a number after what the object has already.
-pub fn push_number(text: &mut String, name: &str, number: u64) -> Result<(), AllocError> {
+pub fn push_number(text: &mut String, name: &str, number: u64) -> Result<(), AllocError>
+    ensures { OnOk result (string_bytes text.new ≡ string_bytes text.old ++ member name.now number) }
+{
     write!(text, ",\"{name}\":{number}")
 }
 
@@ -123,13 +130,19 @@ fn push_object<S: ReaderSegments>(
 }
 
 // Adds the words of a struct.
-fn push_size(text: &mut String, size: StructSize) -> Result<(), AllocError> {
+fn push_size(text: &mut String, size: StructSize) -> Result<(), AllocError>
+    ensures { OnOk result (string_bytes text.new ≡ string_bytes text.old
+        ++ (member (codes "data") size.data_words ++ member (codes "pointers") size.pointers)) }
+{
     push_number(text, "data", size.data_words)?;
     push_number(text, "pointers", size.pointers)
 }
 
 // Adds a place, by its segment and its word.
-fn push_place(text: &mut String, place: Place) -> Result<(), AllocError> {
+fn push_place(text: &mut String, place: Place) -> Result<(), AllocError>
+    ensures { OnOk result (string_bytes text.new ≡ string_bytes text.old
+        ++ (member (codes "segment") place.segment ++ member (codes "word") place.word)) }
+{
     push_number(text, "segment", u64::from(place.segment))?;
     push_number(text, "word", place.word)
 }

@@ -1,4 +1,7 @@
 //! Messages as lines.
+ghost use Rattle.std.specs.Prelude.{◌≡◌, ◌++◌, OnOk, codes, decimal, string_bytes};
+ghost use Rattle.capnp_show.specs.Texts.{element_name, counted, listed_line};
+
 use crate::hash::Hash;
 use crate::refusals::{push_refusal, sentence};
 use crate::text::{push_escaped, push_quoted, text_in};
@@ -32,7 +35,9 @@ pub fn push_name(text: &mut String, name: Option<&str>) -> Result<(), AllocError
 }
 
 /// Adds what is listed of a message, without the end of the line.
-pub fn push_listed(text: &mut String, listed: &Listed) -> Result<(), AllocError> {
+pub fn push_listed(text: &mut String, listed: &Listed) -> Result<(), AllocError>
+    ensures { OnOk result (string_bytes text.new ≡ string_bytes text.old ++ listed_line listed.now) }
+{
     let index = listed.index;
     let offset = listed.offset;
     let bytes = listed.bytes;
@@ -56,7 +61,9 @@ pub fn push_hash(text: &mut String, hash: &Hash) -> Result<(), AllocError> {
 }
 
 /// Adds a number of messages.
-pub fn push_count(text: &mut String, count: u64) -> Result<(), AllocError> {
+pub fn push_count(text: &mut String, count: u64) -> Result<(), AllocError>
+    ensures { OnOk result (string_bytes text.new ≡ string_bytes text.old ++ decimal count) }
+{
     write!(text, "{count}")
 }
 
@@ -139,7 +146,9 @@ fn push_object<S: ReaderSegments>(
 }
 
 /// The name of a list's elements.
-pub fn name_of(size: ElementSize) -> &'static str {
+pub fn name_of(size: ElementSize) -> &'static str
+    ensures { result.now ≡ element_name size }
+{
     match size {
         ElementSize::Void => "void",
         ElementSize::Bit => "bit",
@@ -152,14 +161,20 @@ pub fn name_of(size: ElementSize) -> &'static str {
 }
 
 // Adds the words of a struct.
-fn push_size(text: &mut String, size: StructSize) -> Result<(), AllocError> {
+fn push_size(text: &mut String, size: StructSize) -> Result<(), AllocError>
+    ensures { OnOk result (string_bytes text.new ≡ string_bytes text.old
+        ++ (counted (codes ", data ") size.data_words ++ counted (codes ", pointers ") size.pointers)) }
+{
     let data_words = size.data_words;
     let pointers = size.pointers;
     write!(text, ", data {data_words}, pointers {pointers}")
 }
 
 // Adds a place, by its segment and its word.
-fn push_place(text: &mut String, place: Place) -> Result<(), AllocError> {
+fn push_place(text: &mut String, place: Place) -> Result<(), AllocError>
+    ensures { OnOk result (string_bytes text.new ≡ string_bytes text.old
+        ++ (counted (codes ", at ") place.segment ++ counted (codes ":") place.word)) }
+{
     let segment = place.segment;
     let word = place.word;
     write!(text, ", at {segment}:{word}")

@@ -1,5 +1,5 @@
 //! Texts, as they stand in a page.
-ghost use Rattle.std.specs.Prelude.{◌≡◌, ◌≤◌};
+ghost use Rattle.capnp_show.specs.Texts.{IsMarkOf};
 
 use crate::text::{escape_of, push_escape};
 use std::alloc::AllocError;
@@ -17,9 +17,7 @@ pub enum Mark {
 
 /// How a character stands in a page, within an attribute too.
 pub fn mark_of(character: char) -> Mark
-    ensures markup { result ≡ Mark.Plain → (character ≡ 38 → ⊥) × (character ≡ 60 → ⊥)
-        × (character ≡ 62 → ⊥) × (character ≡ 34 → ⊥) }
-    ensures control { result ≡ Mark.Plain → (character ≤ 31 → ⊥) × (127 ≤ character → character ≤ 159 → ⊥) }
+    ensures { IsMarkOf character result }
 {
     match character {
         '&' => Mark::Named("&amp;"),

@@ -1,5 +1,8 @@
 //! Which object each word of a message belongs to, and where its pointers lead.
-ghost use Rattle.std.specs.Prelude.{◌≡◌};
+ghost use Rattle.std.specs.Prelude.{◌≡◌, ◌↔◌, ◌/◌, ◌^◌, ◌<◌, ℕ, length, map, IfOk, IsTrue, Some, MatchOption, option_copied};
+ghost use Rattle.std.specs.Simd.{first_chunks};
+ghost use Rattle.capnp_show.specs.Objects.{size_of};
+ghost use Rattle.capnp_show.specs.Words.{IsDrawnAsPointer, IsRole, IsRoleInElement, word_in, free_word};
 
 use crate::tree::{Found, Label, Node, Walk};
 use crate::words::{ElementSize, LandingPad, Object, Place, Shape, StructSize};
@@ -67,12 +70,19 @@ pub struct Word {
 
 impl Word {
     /// Whether the word is drawn as a pointer.
-    pub fn is_pointer(&self) -> bool {
+    pub fn is_pointer(&self) -> bool
+        ensures { IsTrue result ↔ IsDrawnAsPointer self.now.owner }
+    {
         matches!(self.owner, Owner::Root | Owner::Object(_, Role::Pointer))
     }
 
     /// The object that the word leads to, by its number, and where it begins.
-    pub fn target(&self) -> Option<(u64, Place)> {
+    pub fn target(&self) -> Option<(u64, Place)>
+        ensures { let leads = λ (number : ℕ) (start : Place). IsDrawnAsPointer self.now.owner
+            × (self.now.lead ≡ Lead.Object number start) in
+            MatchOption result ((number : ℕ) (start : Place) → leads number start → ⊥)
+            (λ target. leads target.0 target.1) }
+    {
         match self.lead {
             Lead::Object(number, start) if self.is_pointer() => Some((number, start)),
             _ => None,
@@ -110,17 +120,23 @@ impl Owners {
     }
 
     /// The words of each segment.
-    pub fn segments(&self) -> &[Vec<Word>] {
+    pub fn segments(&self) -> &[Vec<Word>]
+        ensures { result.now ≡ self.now.segments.items }
+    {
         self.segments.as_slice()
     }
 
     /// Why the root pointer is not followed, where no word is there for it.
-    pub fn no_root(&self) -> Option<ErrorKind> {
+    pub fn no_root(&self) -> Option<ErrorKind>
+        ensures { result ≡ self.now.no_root }
+    {
         self.no_root
     }
 
-    /// The word at a place.
-    pub fn word(&self, place: Place) -> Option<&Word> {
+    /// The word at a place; `None` where the message has none there.
+    pub fn word(&self, place: Place) -> Option<&Word>
+        ensures { option_copied result ≡ word_in self.now place }
+    {
         let words = self.segments.get(place.segment as usize)?;
         words.get(usize::try_from(place.word).ok()?)
     }
@@ -207,7 +223,10 @@ impl Owners {
 }
 
 // The words of a segment before the walk.
-fn free_words(alloc: Global, segment: &[u8]) -> Result<Vec<Word>, AllocError> {
+fn free_words(alloc: Global, segment: &[u8]) -> Result<Vec<Word>, AllocError>
+    ensures { IfOk result (λ words. words.items
+        ≡ map free_word (first_chunks 8 (length segment.now / 8) segment.now)) }
+{
     let (words, _) = segment.as_chunks::<8>();
     let mut free = Vec::new(alloc);
     for word in words {
@@ -222,7 +241,10 @@ fn free_words(alloc: Global, segment: &[u8]) -> Result<Vec<Word>, AllocError> {
 }
 
 // What the word of an object is that stands a given number of words after its start.
-fn role_of(shape: Shape, index: u64) -> Role {
+fn role_of(shape: Shape, index: u64) -> Role
+    ensures { ((size : StructSize) (count words : ℕ) → shape ≡ Shape.Structs size count words → size_of size < 2 ^ 64)
+        → IsRole shape index result }
+{
     match shape {
         Shape::Struct(size) if index >= size.data_words => Role::Pointer,
         Shape::List(ElementSize::Pointer, _) => Role::Pointer,
@@ -233,14 +255,13 @@ fn role_of(shape: Shape, index: u64) -> Role {
 }
 
 // What the word of a list of structs is that stands a given number of words after its tag.
-fn role_in_element(size: StructSize, count: u64, after_tag: u64) -> Role {
+fn role_in_element(size: StructSize, count: u64, after_tag: u64) -> Role
+    ensures { size_of size < 2 ^ 64 → IsRoleInElement size count after_tag result }
+{
     let words = size.words();
-    if words == 0
-        || after_tag >= count.saturating_mul(words)
-        || after_tag % words < size.data_words
-    {
-        Role::Data
-    } else {
+    if words != 0 && after_tag / words < count && after_tag % words >= size.data_words {
         Role::Pointer
+    } else {
+        Role::Data
     }
 }

@@ -1,5 +1,5 @@
 //! How far the reading of a large input is.
-ghost use Rattle.std.specs.Prelude.{◌≡◌, ◌≤◌, ◌<◌, ◌/◌, ◌↔◌, IfSome, IsSome, IsTrue, None};
+ghost use Rattle.std.specs.Prelude.{◌≡◌, ◌≤◌, ◌<◌, ◌+◌, ◌*◌, ◌/◌, ◌↔◌, ℕ, IfSome, IsSome, IsSomeAnd, IsTrue, None};
 
 use crate::refusals::named_line;
 use std::alloc::{AllocError, Global};
@@ -24,8 +24,10 @@ impl Progress {
     /// Nothing is read yet of an input, of a given number of bytes where that is known. No line is due
     /// of an input of at most `STEP_BYTES`, nor where none is wanted.
     pub fn new(is_wanted: bool, total: Option<u64>) -> Progress
-        ensures small { IfSome total (λ bytes. bytes ≤ STEP_BYTES → result.next ≡ None) }
-        ensures wanted { IfSome result.next (λ next. IsTrue is_wanted × (next ≡ STEP_BYTES)) }
+        ensures due { IsSome result.next
+            ↔ (IsTrue is_wanted × IfSome total (λ bytes. STEP_BYTES < bytes)) }
+        ensures first { IfSome result.next (λ next. next ≡ STEP_BYTES) }
+        ensures total { result.total ≡ total }
     {
         let is_small = total.is_some_and(|bytes| bytes <= STEP_BYTES);
         let next = if is_wanted && !is_small {
@@ -38,9 +40,12 @@ impl Progress {
 
     /// How many MB are read, where a line is due once this number of bytes is taken.
     pub fn after(&mut self, taken: u64) -> Option<u64>
-        ensures due { IfSome self.old.next (λ next. IsSome result ↔ (next ≤ taken)) }
+        ensures due { IsSome result ↔ IsSomeAnd self.old.next (λ next. next ≤ taken) }
         ensures megabytes { IfSome result (λ megabytes. megabytes ≡ taken / MEGABYTE) }
-        ensures later { IfSome self.new.next (λ next. taken < next) }
+        ensures later { IsSome result → IfSome self.new.next (λ next. (taken < next)
+            × (next ≤ taken + STEP_BYTES) × ((steps : ℕ) × (next ≡ steps * STEP_BYTES))) }
+        ensures waits { result ≡ None → self.new ≡ self.old }
+        ensures total { self.new.total ≡ self.old.total }
     {
         let next = self.next?;
         if taken < next {

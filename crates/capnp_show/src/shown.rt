@@ -1,5 +1,5 @@
 //! What is shown of a message, and of an input.
-ghost use Rattle.std.specs.Prelude.{◌<◌, OnOk};
+ghost use Rattle.std.specs.Prelude.{◌≡◌, ◌<◌, OnOk, Some, None, if◌then◌else◌};
 ghost use Rattle.std.specs.String.{string_len};
 
 use crate::drawing::{is_drawn, show_drawing};
@@ -32,7 +32,9 @@ pub struct Showing<'a> {
 
 impl<'a> Showing<'a> {
     // What stands in front of each line.
-    fn front(self) -> Option<&'a str> {
+    fn front(self) -> Option<&'a str>
+        ensures { result ≡ (if self.entry.is_named then Some self.entry.name else None) }
+    {
         if self.is_named { Some(self.name) } else { None }
     }
 }

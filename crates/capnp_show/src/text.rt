@@ -1,6 +1,6 @@
 //! Texts, as they are shown.
-ghost use Rattle.std.specs.Prelude.{◌≡◌, ◌≤◌, ◌++◌, ◌∷◌, [], IfSome};
-ghost use Rattle.capnp_show.specs.declared.text.Escape.TheVariants.{Plain};
+ghost use Rattle.std.specs.Prelude.{◌≡◌, ◌++◌, ◌∷◌, ℕ, List, [], MatchOption, IsUtf8, OnOk, string_bytes};
+ghost use Rattle.capnp_show.specs.Texts.{IsEscapeOf, escaped};
 
 use std::alloc::AllocError;
 use std::fmt::Write;
@@ -20,8 +20,7 @@ pub enum Escape {
 /// How a character is shown, as in JSON. Beyond that the control characters from U+007F to U+009F are
 /// shown by their numbers, since terminals may act on them.
 pub fn escape_of(character: char) -> Escape
-    ensures control { result ≡ Plain → (character ≤ 31 → ⊥) × (127 ≤ character → character ≤ 159 → ⊥) }
-    ensures quoted { result ≡ Plain → (character ≡ 34 → ⊥) × (character ≡ 92 → ⊥) }
+    ensures { IsEscapeOf character result }
 {
     match character {
         '"' => Escape::Letter('"'),
@@ -43,7 +42,9 @@ pub fn push_escaped(text: &mut String, shown: &str) -> Result<(), AllocError> {
 }
 
 /// Adds a character, escaped in a given way.
-pub fn push_escape(text: &mut String, character: char, escape: Escape) -> Result<(), AllocError> {
+pub fn push_escape(text: &mut String, character: char, escape: Escape) -> Result<(), AllocError>
+    ensures { OnOk result (string_bytes text.new ≡ string_bytes text.old ++ escaped character escape) }
+{
     match escape {
         Escape::Plain => text.push(character),
         Escape::Letter(letter) => {
@@ -64,9 +65,11 @@ pub fn push_quoted(text: &mut String, shown: &str) -> Result<(), AllocError> {
     text.push('"')
 }
 
-/// The text that a list of bytes is: UTF-8, and a last zero byte, which doesn't belong to it.
+/// The text that a list of bytes is: UTF-8, and a last zero byte, which doesn't belong to it;
+/// `None` where it is no text.
 pub fn text_in(bytes: &[u8]) -> Option<&str>
-    ensures { IfSome result (λ text. bytes.now ≡ text.now ++ 0 ∷ []) }
+    ensures { MatchOption result ((text : List ℕ) → bytes.now ≡ text ++ 0 ∷ [] → IsUtf8 text → ⊥)
+        (λ text. bytes.now ≡ text.now ++ 0 ∷ []) }
 {
     let (last, front) = bytes.split_last()?;
     if *last != 0 {

@@ -2,7 +2,9 @@
 //!
 //! A walk ends whatever the pointers say: it goes no deeper than the nesting limit, and stops where
 //! the objects come to more words than the limit of words.
-ghost use Rattle.std.specs.Prelude.{◌≡◌, ◌↔◌, ◌≤◌, ◌-◌, IfSome, IsTrue, None, option_map};
+ghost use Rattle.std.specs.Prelude.{◌≡◌, ◌↔◌, ◌≤◌, ◌+◌, ◌-◌, [], ◌∷◌, min, IfOk, IfSome, IsTrue, None, option_map};
+ghost use Rattle.capnp_wire.specs.Readers.{nesting_of};
+ghost use Rattle.capnp_show.specs.Rows.{further, step_of, label_of, Finds, IsBelow};
 
 use crate::words::{ElementSize, Object, Place, Shape, StructSize, object_at};
 use capnp::ErrorKind;
@@ -70,8 +72,18 @@ pub struct Walk {
 }
 
 impl Walk {
-    /// A walk from the root pointer on.
-    pub fn new(alloc: Global, limits: ReaderOptions) -> Result<Walk, AllocError> {
+    /// A walk from the root pointer on, which is the first word of the first segment.
+    pub fn new(alloc: Global, limits: ReaderOptions) -> Result<Walk, AllocError>
+        ensures left { IfOk result (λ walk. walk.left ≡ limits.traversal_limit_in_words) }
+        ensures rows { IfOk result (λ walk. walk.rows.items ≡ record {
+          index = 0;
+          count = 1;
+          next = record { segment = 0; word = 0 };
+          kind = RowKind.Root;
+          depth = 0;
+          nesting = nesting_of limits.nesting_limit;
+        } ∷ []) }
+    {
         let mut rows = Vec::new(alloc);
         rows.push(Row {
             index: 0,
@@ -106,7 +118,14 @@ impl Walk {
     }
 
     // The next node of a row.
-    fn node<S: ReaderSegments>(&mut self, segments: &S, row: Row) -> Result<Node, AllocError> {
+    fn node<S: ReaderSegments>(&mut self, segments: &S, row: Row) -> Result<Node, AllocError>
+        ensures place { IfOk result (λ node. (node.place ≡ row.next) × (node.depth ≡ row.depth)
+            × (node.label ≡ label_of row.kind row.index)) }
+        ensures element { IfOk result (λ node. (size : StructSize) → row.kind ≡ RowKind.Elements size
+            → node.found ≡ Found.Element row.next size) }
+        ensures found { IfOk result (λ node. ((size : StructSize) → row.kind ≡ RowKind.Elements size → ⊥)
+            → Finds (S.segments segments.now) row.next row.nesting self.old.left node.found) }
+    {
         let label = match row.kind {
             RowKind::Root => Label::Root,
             RowKind::Pointers => Label::Pointer(row.index),
@@ -129,7 +148,10 @@ impl Walk {
     }
 
     // What the next pointer of a row leads to.
-    fn follow<S: ReaderSegments>(&mut self, segments: &S, row: Row) -> Result<Found, AllocError> {
+    fn follow<S: ReaderSegments>(&mut self, segments: &S, row: Row) -> Result<Found, AllocError>
+        ensures { IfOk result (λ found.
+            Finds (S.segments segments.now) row.next row.nesting self.old.left found) }
+    {
         let object = match object_at(segments, row.next) {
             Ok(Some(object)) => object,
             Ok(None) => return Ok(Found::Null),
@@ -169,7 +191,12 @@ impl Walk {
 
 impl Row {
     // The row once its next node has come.
-    fn after(self) -> Row {
+    fn after(self) -> Row
+        ensures { result ≡ record self {
+          index = min (self.index + 1) u64.MAX;
+          next = further self.next (step_of self.kind);
+        } }
+    {
         let words = match self.kind {
             RowKind::Elements(size) => size.words(),
             _ => 1,
@@ -184,8 +211,11 @@ impl Row {
         }
     }
 
-    // The nodes below an object that this row leads to.
-    fn below(self, object: &Object) -> Option<Row> {
+    // The nodes below an object that this row leads to: its pointers, or its elements where they
+    // have pointers.
+    fn below(self, object: &Object) -> Option<Row>
+        ensures { IsBelow self object.now result }
+    {
         let nesting = self.nesting.saturating_sub(1);
         match object.shape {
             Shape::Struct(size) => Some(self.pointers_of(object.start, size, nesting)),
@@ -206,13 +236,31 @@ impl Row {
     }
 
     // The pointers of a struct at a place.
-    fn pointers_of(self, start: Place, size: StructSize, nesting: u64) -> Row {
+    fn pointers_of(self, start: Place, size: StructSize, nesting: u64) -> Row
+        ensures { result ≡ record {
+          index = 0;
+          count = size.pointers;
+          next = further start size.data_words;
+          kind = RowKind.Pointers;
+          depth = min (self.depth + 1) u64.MAX;
+          nesting = nesting;
+        } }
+    {
         let first = start.moved(size.data_words);
         self.row(RowKind::Pointers, first, size.pointers, nesting)
     }
 
     // Nodes one deeper than those of this row.
-    fn row(self, kind: RowKind, next: Place, count: u64, nesting: u64) -> Row {
+    fn row(self, kind: RowKind, next: Place, count: u64, nesting: u64) -> Row
+        ensures { result ≡ record {
+          index = 0;
+          count = count;
+          next = next;
+          kind = kind;
+          depth = min (self.depth + 1) u64.MAX;
+          nesting = nesting;
+        } }
+    {
         Row {
             index: 0,
             count,
@@ -225,8 +273,10 @@ impl Row {
 }
 
 impl Place {
-    /// The place a given number of words further.
-    pub fn moved(self, words: u64) -> Place {
+    /// The place a given number of words further; the last one where there is none.
+    pub fn moved(self, words: u64) -> Place
+        ensures { result ≡ further self words }
+    {
         Place {
             segment: self.segment,
             word: self.word.saturating_add(words),

@@ -2,7 +2,13 @@
 //!
 //! Nothing is followed here but the landing pads of far pointers, so each result takes a few steps,
 //! whatever the words are.
-ghost use Rattle.std.specs.Prelude.{◌<◌, ◌^◌};
+ghost use Rattle.std.specs.Prelude.{◌≡◌, ◌<◌, ◌^◌, ◌+◌, ◌*◌, ◌/◌, ℕ, List, Some, min, length, slice_get, slice_range, IfOk, IfErr, MatchOption, MatchResult, IsTrue, IsFalse};
+ghost use Rattle.capnp_wire.specs.Pointer.{words_of, pointer_kind, code, list_count, landing_pad_segment, landing_pad_position, data_words, pointer_words};
+ghost use Rattle.capnp_wire.specs.Element.{width};
+ghost use Rattle.capnp_wire.specs.Object.{message_of, word_at as stands_at, following, IsStart};
+ghost use Rattle.capnp_wire.specs.Faults.{NoWord, Misfits};
+ghost use Rattle.capnp_wire.specs.Landing.{NotNear};
+ghost use Rattle.capnp_show.specs.Objects.{HasRoom, read_place, code_of, words_in, traversed_of, landing_words, Says, IsTag, IsSize, StandsAt, Misses, IsObject, IsRefused, size_of};
 
 use capnp::ErrorKind;
 use capnp::message::ReaderSegments;
@@ -61,11 +67,14 @@ pub struct Object {
     pub landing_pad: Option<LandingPad>,
 }
 
-/// The object that the pointer at a place leads to; `None` for null.
-pub fn object_at<S: ReaderSegments>(
-    segments: &S,
-    place: Place,
-) -> Result<Option<Object>, ErrorKind> {
+/// The object that the pointer at a place leads to, as readers find it; `None` for null. It fails as
+/// they do at a nesting depth left that is not 0.
+pub fn object_at<S: ReaderSegments>(segments: &S, place: Place) -> Result<Option<Object>, ErrorKind>
+    ensures found { let there = S.segments segments.now in IfOk result (λ found.
+        MatchOption found (stands_at (message_of there) (read_place place) ≡ Some 0)
+        (λ object. IsObject there place object)) }
+    ensures refused { IfErr result (λ kind. IsRefused (S.segments segments.now) place kind) }
+{
     let word = word_at(segments, place)?;
     if word == 0 {
         return Ok(None);
@@ -77,8 +86,15 @@ pub fn object_at<S: ReaderSegments>(
     }
 }
 
-/// The bytes of a list of bytes.
-pub fn bytes_of<'a, S: ReaderSegments>(segments: &'a S, object: &Object) -> Option<&'a [u8]> {
+/// The bytes of a list of bytes; `None` of any other object.
+pub fn bytes_of<'a, S: ReaderSegments>(segments: &'a S, object: &Object) -> Option<&'a [u8]>
+    ensures { let start = 8 * object.now.start.word in
+        let is_list = λ (segment : List ℕ) (count : ℕ). (object.now.shape ≡ Shape.List ElementSize.Byte count)
+        × (slice_get (S.segments segments.now) object.now.start.segment ≡ Some segment) in
+        MatchOption result ((segment : List ℕ) (count : ℕ) → is_list segment count → length segment < start + count)
+        (λ bytes. (segment : List ℕ) × (count : ℕ) × is_list segment count
+        × (bytes.now ≡ slice_range segment start (start + count))) }
+{
     let Shape::List(ElementSize::Byte, count) = object.shape else {
         return None;
     };
@@ -88,8 +104,12 @@ pub fn bytes_of<'a, S: ReaderSegments>(segments: &'a S, object: &Object) -> Opti
     segment.get(start..end)
 }
 
-// The word at a place.
-fn word_at<S: ReaderSegments>(segments: &S, place: Place) -> Result<u64, ErrorKind> {
+// The word at a place, or which of segment and word is missing.
+fn word_at<S: ReaderSegments>(segments: &S, place: Place) -> Result<u64, ErrorKind>
+    ensures { let m = message_of (S.segments segments.now) in MatchResult result
+        (λ word. (stands_at m (read_place place) ≡ Some word) × (place.word < 2 ^ 61))
+        (λ kind. NoWord m (read_place place) kind) }
+{
     let Some(segment) = segments.get_segment(place.segment) else {
         return Err(ErrorKind::InvalidSegmentId(place.segment));
     };
@@ -106,15 +126,17 @@ fn near_object<S: ReaderSegments>(
     place: Place,
     pointer: u64,
     landing_pad: Option<LandingPad>,
-) -> Result<Object, ErrorKind> {
-    let offset = pointer / 4 % (1 << 30);
-    let ahead = place.word.saturating_add(1).saturating_add(offset);
-    let word = if offset < 1 << 29 {
-        ahead
-    } else {
-        ahead
-            .checked_sub(1 << 30)
-            .ok_or(ErrorKind::PointerOutOfBounds)?
+) -> Result<Object, ErrorKind>
+    ensures found { IfOk result (λ object. (place.word < 2 ^ 61 → pointer_kind pointer < 2 →
+        IsStart (following place.word) pointer object.start.word
+        × StandsAt (S.segments segments.now) object.start pointer object.shape)
+        × (object.start.segment ≡ place.segment) × (object.landing_pad ≡ landing_pad)) }
+    ensures refused { IfErr result (λ kind. place.word < 2 ^ 61 → pointer_kind pointer < 2 → (bytes : List ℕ)
+        → slice_get (S.segments segments.now) place.segment ≡ Some bytes
+        → Misses (words_of bytes) (following place.word) pointer kind) }
+{
+    let Some(word) = start_after(place.word, pointer) else {
+        return Err(ErrorKind::PointerOutOfBounds);
     };
     let start = Place {
         segment: place.segment,
@@ -123,8 +145,30 @@ fn near_object<S: ReaderSegments>(
     shaped_object(segments, start, pointer, landing_pad)
 }
 
+// Where the object begins of a struct or list pointer that stands at a word of its segment: an
+// offset from 2^29 on is negative.
+fn start_after(word: u64, pointer: u64) -> Option<u64>
+    ensures { let begins = λ (start : ℕ). IsStart (following word) pointer start in
+        word < 2 ^ 61 → MatchOption result ((start : ℕ) → begins start → ⊥) begins }
+{
+    let offset = pointer / 4 % (1 << 30);
+    let ahead = word.saturating_add(1).saturating_add(offset);
+    if offset < 1 << 29 {
+        Some(ahead)
+    } else {
+        ahead.checked_sub(1 << 30)
+    }
+}
+
 // The object of a far pointer.
-fn far_object<S: ReaderSegments>(segments: &S, pointer: u64) -> Result<Object, ErrorKind> {
+fn far_object<S: ReaderSegments>(segments: &S, pointer: u64) -> Result<Object, ErrorKind>
+    ensures found { let there = S.segments segments.now in IfOk result (λ object. (place : Place)
+        → stands_at (message_of there) (read_place place) ≡ Some pointer → pointer_kind pointer ≡ 2
+        → IsObject there place object) }
+    ensures refused { let there = S.segments segments.now in IfErr result (λ kind. (place : Place)
+        → stands_at (message_of there) (read_place place) ≡ Some pointer → pointer_kind pointer ≡ 2
+        → IsRefused there place kind) }
+{
     let place = far_place(pointer);
     let first = word_at(segments, place)?;
     if pointer / 4 % 2 == 0 {
@@ -148,7 +192,9 @@ fn far_object<S: ReaderSegments>(segments: &S, pointer: u64) -> Result<Object, E
 }
 
 // Refuses a word of a landing pad that is no struct or list pointer.
-fn expect_near(word: u64) -> Result<(), ErrorKind> {
+fn expect_near(word: u64) -> Result<(), ErrorKind>
+    ensures { MatchResult result (λ _. pointer_kind word < 2) (λ kind. NotNear word kind) }
+{
     match word % 4 {
         0 | 1 => Ok(()),
         2 => Err(ErrorKind::PointerOutOfBounds),
@@ -158,7 +204,8 @@ fn expect_near(word: u64) -> Result<(), ErrorKind> {
 
 // Where the landing pad of a far pointer is.
 fn far_place(pointer: u64) -> Place
-    ensures { result.word < 2 ^ 29 }
+    ensures segment { result.segment ≡ landing_pad_segment pointer }
+    ensures word { result.word ≡ landing_pad_position pointer }
 {
     Place {
         segment: (pointer / (1 << 32)) as u32,
@@ -173,31 +220,51 @@ fn shaped_object<S: ReaderSegments>(
     start: Place,
     pointer: u64,
     landing_pad: Option<LandingPad>,
-) -> Result<Object, ErrorKind> {
+) -> Result<Object, ErrorKind>
+    ensures found { IfOk result (λ object. (pointer_kind pointer < 2
+        → StandsAt (S.segments segments.now) start pointer object.shape)
+        × (object.start ≡ start) × (object.landing_pad ≡ landing_pad)) }
+    ensures refused { IfErr result (λ kind. pointer_kind pointer < 2 → (bytes : List ℕ)
+        → slice_get (S.segments segments.now) start.segment ≡ Some bytes
+        → Misfits (words_of bytes) start.word pointer kind) }
+{
     let shape = shape_of(segments, start, pointer)?;
-    let there = words_from(segments, start);
-    if there.is_none_or(|left| left < shape.words()) {
-        return Err(ErrorKind::PointerOutOfBounds);
+    if has_room(segments, start, shape.words()) {
+        Ok(Object {
+            start,
+            shape,
+            landing_pad,
+        })
+    } else {
+        Err(ErrorKind::PointerOutOfBounds)
     }
-    Ok(Object {
-        start,
-        shape,
-        landing_pad,
-    })
 }
 
-// How many words a segment has from a place on.
-fn words_from<S: ReaderSegments>(segments: &S, place: Place) -> Option<u64> {
-    let segment = segments.get_segment(place.segment)?;
-    ((segment.len() / 8) as u64).checked_sub(place.word)
+// Whether a segment has a given number of words from a place on.
+fn has_room<S: ReaderSegments>(segments: &S, start: Place, words: u64) -> bool
+    ensures room { IsTrue result → HasRoom (S.segments segments.now) start words }
+    ensures none { IsFalse result → (bytes : List ℕ)
+        → slice_get (S.segments segments.now) start.segment ≡ Some bytes
+        → length bytes / 8 < start.word + words }
+{
+    match segments.get_segment(start.segment) {
+        Some(segment) => {
+            let there = (segment.len() / 8) as u64;
+            start.word <= there && words <= there - start.word
+        }
+        None => false,
+    }
 }
 
 // What a struct or list pointer says of the object that begins at a place.
-fn shape_of<S: ReaderSegments>(
-    segments: &S,
-    start: Place,
-    pointer: u64,
-) -> Result<Shape, ErrorKind> {
+fn shape_of<S: ReaderSegments>(segments: &S, start: Place, pointer: u64) -> Result<Shape, ErrorKind>
+    ensures found { IfOk result (λ shape. (bytes : List ℕ)
+        → slice_get (S.segments segments.now) start.segment ≡ Some bytes
+        → Says (words_of bytes) start.word pointer shape) }
+    ensures refused { IfErr result (λ kind. pointer_kind pointer < 2 → (bytes : List ℕ)
+        → slice_get (S.segments segments.now) start.segment ≡ Some bytes
+        → Misfits (words_of bytes) start.word pointer kind) }
+{
     if pointer % 4 == 0 {
         return Ok(Shape::Struct(StructSize::read(pointer)));
     }
@@ -216,12 +283,17 @@ fn shape_of<S: ReaderSegments>(
 }
 
 // The list of structs with its tag at a place, and a given number of words after it.
-fn structs_at<S: ReaderSegments>(
-    segments: &S,
-    start: Place,
-    words: u64,
-) -> Result<Shape, ErrorKind> {
-    if words_from(segments, start).is_none_or(|left| left <= words) {
+fn structs_at<S: ReaderSegments>(segments: &S, start: Place, words: u64) -> Result<Shape, ErrorKind>
+    ensures found { IfOk result (λ shape. (bytes : List ℕ)
+        → slice_get (S.segments segments.now) start.segment ≡ Some bytes
+        → (size : StructSize) × (count : ℕ) × (shape ≡ Shape.Structs size count words)
+        × IsTag (words_of bytes) start.word size count words) }
+    ensures refused { IfErr result (λ kind. (pointer : ℕ) → pointer_kind pointer ≡ 1 → code pointer ≡ 7
+        → words ≡ list_count pointer → (bytes : List ℕ)
+        → slice_get (S.segments segments.now) start.segment ≡ Some bytes
+        → Misfits (words_of bytes) start.word pointer kind) }
+{
+    if !has_room(segments, start, words.saturating_add(1)) {
         return Err(ErrorKind::PointerOutOfBounds);
     }
     let tag = word_at(segments, start)?;
@@ -238,7 +310,9 @@ fn structs_at<S: ReaderSegments>(
 
 impl StructSize {
     // What a struct pointer says, or a tag.
-    fn read(word: u64) -> StructSize {
+    fn read(word: u64) -> StructSize
+        ensures { IsSize word result }
+    {
         StructSize {
             data_words: word / (1 << 32) % (1 << 16),
             pointers: word / (1 << 48),
@@ -246,14 +320,18 @@ impl StructSize {
     }
 
     /// The words of the struct.
-    pub fn words(self) -> u64 {
+    pub fn words(self) -> u64
+        ensures { result ≡ min (size_of self) u64.MAX }
+    {
         self.data_words.saturating_add(self.pointers)
     }
 }
 
 impl ElementSize {
     // The bits of an element.
-    fn bits(self) -> u64 {
+    fn bits(self) -> u64
+        ensures { result ≡ width (code_of self) }
+    {
         match self {
             ElementSize::Void => 0,
             ElementSize::Bit => 1,
@@ -266,8 +344,10 @@ impl ElementSize {
 }
 
 impl Shape {
-    /// The words from the start of the object on.
-    pub fn words(self) -> u64 {
+    /// The words from the start of the object on, where they are fewer than 2^58.
+    pub fn words(self) -> u64
+        ensures { words_in self < 2 ^ 58 → result ≡ words_in self }
+    {
         match self {
             Shape::Struct(size) => size.words(),
             Shape::List(size, count) => count.saturating_mul(size.bits()).div_ceil(64),
@@ -275,8 +355,11 @@ impl Shape {
         }
     }
 
-    // The words that count against the limit: elements of no words count one each.
-    fn traversed(self) -> u64 {
+    // The words that count against the limit, where they are fewer than 2^58: elements of no words
+    // count one each.
+    fn traversed(self) -> u64
+        ensures { traversed_of self < 2 ^ 58 → result ≡ traversed_of self }
+    {
         match self {
             Shape::List(ElementSize::Void, count) => count,
             Shape::Structs(size, count, words) if size.words() == 0 => {
@@ -288,8 +371,12 @@ impl Shape {
 }
 
 impl Object {
-    /// The words that count against the limit, with those of the landing pad.
-    pub fn traversed(&self) -> u64 {
+    /// The words that count against the limit, with those of the landing pad, where they are fewer
+    /// than 2^58.
+    pub fn traversed(&self) -> u64
+        ensures { let words = landing_words self.now.landing_pad + traversed_of self.now.shape in
+            words < 2 ^ 58 → result ≡ words }
+    {
         let landing_pad = match self.landing_pad {
             Some(landing_pad) => landing_pad.words,
             None => 0,

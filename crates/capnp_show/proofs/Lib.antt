@@ -1,0 +1,4 @@
+-- The lemmas.
+pub mod ElementLemmas
+pub mod FarLemmas
+pub mod ObjectLemmas

@@ -1,0 +1,41 @@
+-- What the bytes at the front of an input say of its format (src/detected.rt).
+use Rattle.std.specs.Prelude.{◌≡◌, ◌⊎◌, ℕ, ◌<◌, ◌≤◌, List, length, Option}
+use Rattle.capnp.specs.Passed.{ErrorKind, Zero}
+use Rattle.capnp.specs.declared.streams.Format.TheVariants.{Framed, Packed}
+use Rattle.capnp_frame.specs.declared.error.ErrorKind.TheVariants.{EmptyBuffer, MessageEndsPrematurely}
+use Rattle.capnp_frame.specs.FlatReaders.{FlatRules, no_alloc_rules, StandsBy, RefusesBy}
+use Rattle.capnp_show.specs.declared.detected.Look.{Look}
+use Rattle.capnp_show.specs.declared.detected.Look.TheVariants.{Is, More}
+
+-- the kinds by which the bytes of a framed message are refused that end too early
+abbrev pub IsCut : ErrorKind → Type 0
+IsCut kind = (kind ≡ EmptyBuffer) ⊎ ((wanted : ℕ) × (there : ℕ) × (kind ≡ MessageEndsPrematurely wanted there))
+
+-- how the messages are read that are looked for: framed, within the limit of words
+abbrev pub framed_within : Option ℕ → FlatRules
+framed_within limit = no_alloc_rules Zero limit
+
+-- a framed message stands at the front
+pub record Stands (limit : Option ℕ) (front : List ℕ) : Type 0 where
+  pub message : List (List ℕ)
+  pub rest : List ℕ
+  pub stands : StandsBy (framed_within limit) message front rest
+
+-- the bytes end within what may be a framed message
+pub record Ends (limit : Option ℕ) (front : List ℕ) : Type 0 where
+  pub kind : ErrorKind
+  pub refused : RefusesBy (framed_within limit) kind front
+  pub cut : IsCut kind
+
+-- no framed message begins so
+pub record Differs (limit : Option ℕ) (front : List ℕ) : Type 0 where
+  pub kind : ErrorKind
+  pub refused : RefusesBy (framed_within limit) kind front
+  pub whole : IsCut kind → ⊥
+
+-- What some bytes say, of which `enough` are enough to tell: they are framed where a message stands there or may follow, packed where
+-- none begins so, and they say nothing yet where they are few and end within what may be one.
+abbrev pub Says : ℕ → Option ℕ → List ℕ → Look → Type 0
+Says enough limit front (Is Framed) = Stands limit front ⊎ (Ends limit front × (enough ≤ length front))
+Says enough limit front (Is Packed) = Differs limit front
+Says enough limit front More = Ends limit front × (length front < enough)

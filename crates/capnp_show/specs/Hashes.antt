@@ -1,0 +1,20 @@
+-- What is shown of a message's canonical form (src/hash.rt).
+use Rattle.std.specs.Prelude.{◌≡◌, ℕ, List, string_bytes}
+use Rattle.sha2.specs.Sha256.{sha256}
+use Rattle.hex.specs.Hex.{encode_lower}
+use Rattle.capnp.specs.Passed.{Pointer, LacksForm}
+use Rattle.capnp_wire.specs.Pointer.{words_of}
+use Rattle.capnp_wire.specs.Values.{IsCanonicalForm}
+use Rattle.capnp_show.specs.declared.hash.Hash.{Hash}
+use Rattle.capnp_show.specs.declared.hash.Hash.TheVariants.{Of, Lacking}
+
+-- some bytes hash to this, and are the words of the canonical form
+pub record IsHashOf (pointer : Pointer) (hash : List ℕ) : Type 0 where
+  pub bytes : List ℕ
+  pub form : IsCanonicalForm pointer (words_of bytes)
+  pub hash_is : hash ≡ sha256 bytes
+
+-- the hash in hexadecimal digits, or the reason why there is no canonical form
+abbrev pub ShowsHash : Pointer → Hash → Type 0
+ShowsHash pointer (Of text) = (hash : List ℕ) × IsHashOf pointer hash × (string_bytes text ≡ encode_lower hash)
+ShowsHash pointer (Lacking kind) = LacksForm pointer kind

@@ -1,0 +1,8 @@
+-- The definitions that contracts cite, by subject.
+pub mod Texts
+pub mod Hashes
+pub mod Fronts
+pub mod Objects
+pub mod Rows
+pub mod Words
+pub mod Arguments

@@ -1,0 +1,85 @@
+-- Characters and texts, as they are shown (src/text.rt, src/markup.rt, src/listing.rt).
+use Rattle.std.specs.Prelude.{◌≡◌, ◌≢◌, ◌⊎◌, ℕ, ◌-◌, ◌^◌, ◌≤◌, false, List, [], ◌∷◌, ◌++◌, codes, decimal}
+use Rattle.std.specs.Char.{encode_utf8}
+use Rattle.std.specs.Fmt.{digits, padded_integral, format_spec}
+use Rattle.capnp_show.specs.declared.drawn.Anchor.{Anchor}
+use Rattle.capnp_show.specs.declared.listing.Listed.{Listed}
+use Rattle.capnp_show.specs.declared.words.Place.{Place}
+use Rattle.capnp_show.specs.declared.text.Escape.{Escape}
+use Rattle.capnp_show.specs.declared.text.Escape.TheVariants.{Plain, Letter, Number}
+use Rattle.capnp_show.specs.declared.markup.Mark.{Mark}
+use Rattle.capnp_show.specs.declared.markup.Mark.TheVariants.{Plain as PlainMark, Named, Control}
+use Rattle.capnp_show.specs.declared.words.ElementSize.{ElementSize}
+use Rattle.capnp_show.specs.declared.words.ElementSize.TheVariants.{Void, Bit, Byte, TwoBytes, FourBytes, EightBytes, Pointer}
+
+-- the control characters: U+0000 to U+001F, U+007F, and U+0080 to U+009F
+abbrev pub IsControl : ℕ → Type 0
+IsControl character = (character ≤ 31) ⊎ ((127 ≤ character) × (character ≤ 159))
+
+-- The characters that JSON has a letter for (RFC 8259, section 7), and that letter: the quotation mark and the backslash stand
+-- for themselves, a line feed is n, a carriage return r, a tab t.
+abbrev pub HasLetter : ℕ → ℕ → Type 0
+HasLetter character letter =
+    ((character ≡ 34) × (letter ≡ 34)) ⊎ ((character ≡ 92) × (letter ≡ 92)) ⊎ ((character ≡ 10) × (letter ≡ 110))
+    ⊎ ((character ≡ 13) × (letter ≡ 114)) ⊎ ((character ≡ 9) × (letter ≡ 116))
+
+-- How a character is shown within quotation marks: one way for each. A control character that has no letter is shown by its
+-- number, and what is neither is shown as it is.
+abbrev pub IsEscapeOf : ℕ → Escape → Type 0
+IsEscapeOf character Plain = (IsControl character → ⊥) × (character ≢ 34) × (character ≢ 92)
+IsEscapeOf character (Letter letter) = HasLetter character letter
+IsEscapeOf character Number = IsControl character × (character ≢ 10) × (character ≢ 13) × (character ≢ 9)
+
+-- the characters that begin or end markup, within an attribute too, and the names that stand for them
+abbrev pub HasName : ℕ → List ℕ → Type 0
+HasName character name =
+    ((character ≡ 38) × (name ≡ codes "&amp;")) ⊎ ((character ≡ 60) × (name ≡ codes "&lt;"))
+    ⊎ ((character ≡ 62) × (name ≡ codes "&gt;")) ⊎ ((character ≡ 34) × (name ≡ codes "&quot;"))
+
+-- how a character stands in a page
+abbrev pub IsMarkOf : ℕ → Mark → Type 0
+IsMarkOf character PlainMark =
+    (IsControl character → ⊥) × (character ≢ 38) × (character ≢ 60) × (character ≢ 62) × (character ≢ 34)
+IsMarkOf character (Named name) = HasName character name.now
+IsMarkOf character Control = IsControl character
+
+-- the name of a list's elements
+abbrev pub element_name : ElementSize → List ℕ
+element_name Void = codes "void"
+element_name Bit = codes "bit"
+element_name Byte = codes "byte"
+element_name TwoBytes = codes "2 bytes"
+element_name FourBytes = codes "4 bytes"
+element_name EightBytes = codes "8 bytes"
+element_name Pointer = codes "pointer"
+
+-- a character that is shown in this way: its number in four hexadecimal digits
+abbrev pub escaped : ℕ → Escape → List ℕ
+escaped character Plain = encode_utf8 character
+escaped character (Letter letter) = 92 ∷ encode_utf8 letter
+escaped character Number = codes "\\u" ++ padded_integral (format_spec 32 0 4 4 (2 ^ 64 - 1)) false [] (digits 16 false character)
+
+-- a number after some words
+abbrev pub counted : List ℕ → ℕ → List ℕ
+counted words number = words ++ decimal number
+
+-- what is listed of a message
+abbrev pub listed_line : Listed → List ℕ
+listed_line listed = counted (codes "message ") listed.index ++ (counted (codes ": offset ") listed.offset
+    ++ (counted (codes ", bytes ") listed.bytes ++ (counted (codes ", segments ") listed.segments ++ counted (codes ", words ") listed.words)))
+
+-- a member of a JSON object that is a number, after the members before it
+abbrev pub member : List ℕ → ℕ → List ℕ
+member name number = codes ",\"" ++ (name ++ counted (codes "\":") number)
+
+-- the members of what is listed of a message
+abbrev pub listed_members : Listed → List ℕ
+listed_members listed = member (codes "index") listed.index ++ (member (codes "offset") listed.offset
+    ++ (member (codes "bytes") listed.bytes ++ (member (codes "segments") listed.segments ++ member (codes "words") listed.words)))
+
+-- the name of a message in a page, and that of one of its words
+abbrev pub message_name : Anchor → List ℕ
+message_name anchor = counted (codes "m") anchor.input ++ counted (codes "-") anchor.message
+
+abbrev pub word_name : Anchor → Place → List ℕ
+word_name anchor place = message_name anchor ++ (counted (codes "-") place.segment ++ counted (codes "-") place.word)

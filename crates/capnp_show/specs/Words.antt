@@ -1,0 +1,62 @@
+-- What each word of a message is to its object (src/owners.rt).
+use Rattle.std.specs.Prelude.{◌≡◌, ℕ, ◌+◌, ◌*◌, ◌<◌, ◌≤◌, ⊤, List, Option, None, slice_get, option_and_then}
+use Rattle.capnp_show.specs.declared.words.Place.{Place}
+use Rattle.capnp_show.specs.declared.words.StructSize.{StructSize}
+use Rattle.capnp_show.specs.declared.words.ElementSize.TheVariants.{Pointer as PointerSize}
+use Rattle.capnp_show.specs.declared.words.Shape.{Shape}
+use Rattle.capnp_show.specs.declared.words.Shape.TheVariants.{Struct, List as Listed, Structs}
+use Rattle.capnp_show.specs.declared.owners.Role.{Role}
+use Rattle.capnp_show.specs.declared.owners.Role.TheVariants.{Data, Pointer, Tag, Landing}
+use Rattle.capnp_show.specs.declared.owners.Owner.{Owner}
+use Rattle.capnp_show.specs.declared.owners.Owner.TheVariants.{Free, Root, Object}
+use Rattle.capnp_show.specs.declared.owners.Lead.TheVariants.{Nowhere}
+use Rattle.capnp_show.specs.declared.owners.Word.{Word}
+use Rattle.capnp_show.specs.declared.owners.Owners.{Owners}
+use Rattle.capnp_show.specs.Objects.{size_of}
+
+-- the word stands among the pointers of one of some structs, by how many words it stands after the first one's start
+pub record IsPointerOfElement (size : StructSize) (count index : ℕ) : Type 0 where
+  pub element : ℕ
+  pub among : element < count
+  pub after_data : element * size_of size + size.data_words ≤ index
+  pub within : index < element * size_of size + size_of size
+
+-- what it is to the element
+abbrev pub IsRoleInElement : StructSize → ℕ → ℕ → Role → Type 0
+IsRoleInElement size count index Data = IsPointerOfElement size count index → ⊥
+IsRoleInElement size count index Pointer = IsPointerOfElement size count index
+IsRoleInElement size count index Tag = ⊥
+IsRoleInElement size count index Landing = ⊥
+
+-- the word of an object is one of its pointers, by how many words it stands after the object's start
+abbrev pub IsPointerIn : Shape → ℕ → Type 0
+IsPointerIn (Struct size) index = size.data_words ≤ index
+IsPointerIn (Listed size count) index = size ≡ PointerSize
+IsPointerIn (Structs size count following) index = (after_tag : ℕ) × (index ≡ 1 + after_tag) × IsPointerOfElement size count after_tag
+
+-- or the tag of a list of structs
+abbrev pub IsTagIn : Shape → ℕ → Type 0
+IsTagIn (Struct size) index = ⊥
+IsTagIn (Listed size count) index = ⊥
+IsTagIn (Structs size count following) index = index ≡ 0
+
+-- what a word is to its object: one thing alone, and data where it is nothing else
+abbrev pub IsRole : Shape → ℕ → Role → Type 0
+IsRole shape index Data = (IsPointerIn shape index → ⊥) × (IsTagIn shape index → ⊥)
+IsRole shape index Pointer = IsPointerIn shape index
+IsRole shape index Tag = IsTagIn shape index
+IsRole shape index Landing = ⊥
+
+-- a word of this owner is drawn as a pointer
+abbrev pub IsDrawnAsPointer : Owner → Type 0
+IsDrawnAsPointer Free = ⊥
+IsDrawnAsPointer Root = ⊤
+IsDrawnAsPointer (Object number role) = role ≡ Pointer
+
+-- a word of some bytes before a walk
+abbrev pub free_word : List ℕ → Word
+free_word bytes = record { bytes = bytes; owner = Free; lead = Nowhere; refusal = None }
+
+-- the word at a place
+abbrev pub word_in : Owners → Place → Option Word
+word_in owners place = option_and_then (λ words. slice_get words.items place.word) (slice_get owners.segments.items place.segment)
