@@ -75,12 +75,13 @@ with_part_rest at n e xs part within sum =
     rest_there xs (part ++ drop n (drop at xs)) at within ∙ ap (λ (l : List ℕ). part ++ l) (drop-drop n at xs ∙ ap (λ (k : ℕ). drop k xs) sum)
 
 -- a part is put in front of those that are written in a block
-pub record PutBefore (start end : ℕ) (block part : List ℕ) : Type 0 where
-  pub rest : drop (8 * start) (with_part (8 * start) (8 * end - 8 * start) block part) ≡ part ++ drop (8 * end) block
-  pub long : length (with_part (8 * start) (8 * end - 8 * start) block part) ≡ length block
-  pub zero : take (8 * start) (with_part (8 * start) (8 * end - 8 * start) block part) ≡ replicate (8 * start) 0
+pub record PutBefore (start end : ℕ) (block new part : List ℕ) : Type 0 where
+  pub rest : drop (8 * start) new ≡ part ++ drop (8 * end) block
+  pub long : length new ≡ length block
+  pub zero : take (8 * start) new ≡ replicate (8 * start) 0
 
-pub put_before : (start own end : ℕ) (block part : List ℕ) → start + own ≡ end → length part ≡ 8 * own → 8 * end ≤ length block → take (8 * end) block ≡ replicate (8 * end) 0 → PutBefore start end block part
+pub put_before : (start own end : ℕ) (block part : List ℕ) → start + own ≡ end → length part ≡ 8 * own → 8 * end ≤ length block → take (8 * end) block ≡ replicate (8 * end) 0
+    → PutBefore start end block (with_part (8 * start) (8 * end - 8 * start) block part) part
 put_before start own end block part fits long within zeros = record {
   rest = with_part_rest (8 * start) (8 * end - 8 * start) (8 * end) block part (omega (arith, within)) (omega arith);
   long =
@@ -154,7 +155,7 @@ written_before h c items i n end own v slots block slot part within n_is v_is sl
     }
 
 -- none is written yet
-past_end : (xs : List ℕ) (n : ℕ) → length xs ≤ n → drop n xs ≡ []
+pub past_end : (xs : List ℕ) (n : ℕ) → length xs ≤ n → drop n xs ≡ []
 past_end [] zero past = refl
 past_end [] (suc n) past = refl
 past_end (x ∷ xs) zero past = absurd (omega (arith, past))

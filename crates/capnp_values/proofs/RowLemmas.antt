@@ -1,13 +1,15 @@
 -- Rows that are written: the first value, and those after it.
-use Rattle.std.proofs.Common.{◌≡◌, ℕ, suc, ◌+◌, ◌-◌, ◌*◌, ◌≤◌, Bool, true, false, List, [], ◌∷◌, ◌++◌, length, sym, ◌∙◌, ap, arith}
-use Rattle.std.proofs.lemmas.List.{append-nil}
+use Rattle.std.proofs.Common.{◌≡◌, ℕ, suc, ◌+◌, ◌-◌, ◌*◌, ◌≤◌, Bool, true, false, List, [], ◌∷◌, ◌++◌, length, drop, sym, ◌∙◌, ap, arith}
+use Rattle.std.specs.Prelude.{replicate}
+use Rattle.std.proofs.lemmas.List.{append-nil, take_all}
+use Rattle.capnp_values.proofs.ItemRowLemmas.{past_end, PutBefore}
 use Rattle.capnp_wire.proofs.layouts.SizeLemmas.{links_of}
 use Rattle.capnp_wire.specs.Pointer.{words_of}
 use Rattle.capnp_wire.specs.Tree.{Form, Trees, none, tree, count, own_words, total_words}
 use Rattle.capnp_wire.specs.Trim.{first}
 use Rattle.capnp_wire.specs.Layout.{pointer, pointer_to, run, pointers_to, own, body, formed}
 use Rattle.capnp_wire.proofs.words.PutLemmas.{words_split}
-use Rattle.capnp_values.specs.Fields.{IsPart, IsRow, CanWriteRow}
+use Rattle.capnp_values.specs.Fields.{IsPart, IsRow, CanWriteRow, IsRowWritten}
 use Rattle.capnp_values.proofs.PartLemmas.{own_form, own_held, formed_tree, part_total, part_total_is, part_layout}
 
 -- a row that is written: its first value, and those after it
@@ -18,13 +20,13 @@ pub record RowSplit (h hs : Trees → Type 0) (c : Bool) (n room : ℕ) : Type 0
   pub part : IsPart h form held
   pub others : hs rest
   pub some : n ≤ count rest
-  pub room_is : room ≡ 8 * (part_total c form held + total_words (first n (formed c rest)))
+  pub fits : 8 * (part_total c form held + total_words (first n (formed c rest))) ≤ room
 
 first_total : (c : Bool) (form : Form) (held rest : Trees) (n : ℕ) → total_words (first (suc n) (formed c (tree form held rest))) ≡ part_total c form held + total_words (first n (formed c rest))
 first_total true form held rest n = omega arith
 first_total false form held rest n = omega arith
 
-split_at : (h hs : Trees → Type 0) (c : Bool) (n room : ℕ) (trees : Trees) (is : IsRow h hs trees) → suc n ≤ count trees → room ≡ 8 * total_words (first (suc n) (formed c trees)) → RowSplit h hs c n room
+split_at : (h hs : Trees → Type 0) (c : Bool) (n room : ℕ) (trees : Trees) (is : IsRow h hs trees) → suc n ≤ count trees → 8 * total_words (first (suc n) (formed c trees)) ≤ room → RowSplit h hs c n room
 split_at h hs c n room trees is some e =
     let many : count trees ≡ count is.rest + 1 = ap count is.whole in
     let total : total_words (first (suc n) (formed c trees)) ≡ total_words (first (suc n) (formed c (tree is.form is.held is.rest))) = ap (λ (t : Trees). total_words (first (suc n) (formed c t))) is.whole in
@@ -35,12 +37,29 @@ split_at h hs c n room trees is some e =
       part = is.part;
       others = is.others;
       some = omega (arith, many);
-      room_is = omega (arith, e, total, first_total c is.form is.held is.rest n);
+      fits = omega (arith, e, total, first_total c is.form is.held is.rest n);
     }
 
 pub row_split : (h hs : Trees → Type 0) (c : Bool) (n m room : ℕ) → n ≡ suc m → CanWriteRow (λ t. IsRow h hs t) c n room → RowSplit h hs c m room
 row_split h hs c n m room is r =
-    split_at h hs c m room r.trees r.trees_are (omega (arith, r.some)) (r.room_is ∙ ap (λ (k : ℕ). 8 * total_words (first k (formed c r.trees))) is)
+    let same : total_words (first n (formed c r.trees)) ≡ total_words (first (suc m) (formed c r.trees)) = ap (λ (k : ℕ). total_words (first k (formed c r.trees))) is in
+    split_at h hs c m room r.trees r.trees_are (omega (arith, r.some)) (omega (arith, r.fits, same))
+
+pub row_total : (c : Bool) (form : Form) (held rest trees : Trees) (n m : ℕ) → trees ≡ tree form held rest → n ≡ suc m
+    → total_words (first n (formed c trees)) ≡ part_total c form held + total_words (first m (formed c rest))
+row_total c form held rest trees n m whole is =
+    ap (λ (k : ℕ). total_words (first k (formed c trees))) is ∙ ap (λ (t : Trees). total_words (first (suc m) (formed c t))) whole ∙ first_total c form held rest m
+
+-- no pointers lead to nothing
+pub none_row_written : (h : Trees → Type 0) (c : Bool) (n end : ℕ) (block : List ℕ) → n ≡ 0 → 8 * end ≡ length block → block ≡ replicate (length block) 0 → IsRowWritten h c n end block
+none_row_written h c n end block n_is whole zeros =
+    let none_there : (t : Trees) → first n (formed c t) ≡ none = λ t. ap (λ (k : ℕ). first k (formed c t)) n_is in
+    record {
+      within = omega (arith, whole);
+      zero = take_all (8 * end) block (omega (arith, whole)) ∙ zeros ∙ ap (λ (k : ℕ). replicate k 0) (sym whole);
+      room = λ t is. let no : total_words (first n (formed c t)) ≡ 0 = ap total_words (none_there t) in omega (arith, whole, no);
+      body = λ t is. ap words_of (past_end block (8 * end) (omega (arith, whole))) ∙ ap body (sym (none_there t));
+    }
 
 abbrev own_layout : Form → Trees → List ℕ
 own_layout form held = own form (links_of form held) ++ body held
@@ -76,3 +95,24 @@ row_body c form held rest trees n m own held_block whole n_is long own_is held_i
     ∙ ap (λ (l : List ℕ). l ++ body (first m (formed c rest))) (append-nil (own_layout f h))
     ∙ ap (λ (t : Trees). body (first (suc m) t)) (sym (ap (formed c) whole ∙ formed_tree c form held rest))
     ∙ ap (λ (k : ℕ). body (first k (formed c trees))) (sym n_is)
+
+-- the first value has room in front of those that are written
+pub own_within : (h hs : Trees → Type 0) (c : Bool) (n m room own end : ℕ) → n ≡ suc m → CanWriteRow (λ t. IsRow h hs t) c n room
+    → ((form : Form) (held : Trees) → IsPart h form held → own ≡ part_total c form held) → ((t : Trees) → hs t → 8 * (end + total_words (first m (formed c t))) ≡ room) → own ≤ end
+own_within h hs c n m room own end n_is r own_is rest_is =
+    let s = row_split h hs c n m room n_is r in
+    omega (arith, own_is s.form s.held s.part, s.fits, rest_is s.rest s.others)
+
+-- and is written there
+pub row_front : (h hs : Trees → Type 0) (c : Bool) (n m start own end : ℕ) (block new part : List ℕ) → n ≡ suc m → start + own ≡ end → length part ≡ 8 * own → PutBefore start end block new part
+    → IsRowWritten hs c m end block → ((form : Form) (held : Trees) → IsPart h form held → own ≡ part_total c form held) → ((t : Trees) → h t → words_of part ≡ body (formed c t))
+    → IsRowWritten (λ t. IsRow h hs t) c n start new
+row_front h hs c n m start own end block new part n_is fits long put w own_is part_is = record {
+  within = omega (arith, put.long, w.within);
+  zero = put.zero;
+  room = λ t is. omega (arith, put.long, w.room is.rest is.others, row_total c is.form is.held is.rest t n m is.whole n_is, own_is is.form is.held is.part);
+  body = λ t is.
+      ap words_of put.rest
+      ∙ row_body c is.form is.held is.rest t n m part (drop (8 * end) block) is.whole n_is (omega (arith, long, own_is is.form is.held is.part)) (part_is (tree is.form is.held none) is.part.tree_is)
+      (w.body is.rest is.others);
+}

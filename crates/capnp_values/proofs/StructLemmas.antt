@@ -129,19 +129,17 @@ struct_exact c words size hs rs total r kind few_words few_pointers totals not f
 -- where its row is written
 pub struct_row : (c : Bool) (words : List ℕ) (size : ℕ) (hs : Trees → Type 0) (whole own_long held_long d n : ℕ) → (w : HasWords (λ t. IsStruct words size hs t) c (whole / 8)) → whole % 8 ≡ 0
     → own_long ≡ 8 * (d + n) → held_long + own_long ≡ whole → d ≡ length (kept_words c words) → n ≡ count (kept_row c w.tree_is.held)
-    → CanWriteRow hs c (own_long / 8 - length (take d words)) held_long
+    → CanWriteRow hs c (own_long / 8 - length (take d words)) held_long × (held_long ≡ 8 * total_words (first (own_long / 8 - length (take d words)) (formed c w.tree_is.held)))
 struct_row c words size hs whole own_long held_long d n w even own_is sum d_is n_is =
     let total : total_words (formed c w.trees) ≡ length (kept_words c words) + count (kept_row c w.tree_is.held) + total_words (kept_row c w.tree_is.held) =
     ap (λ (t : Trees). total_words (formed c t)) w.tree_is.whole ∙ struct_total c words w.tree_is.held in
     let some : own_long / 8 - length (take d words) ≡ count (kept_row c w.tree_is.held) = omega (arith, length-take d words, kept_fewer c words) in
     let first_is : total_words (first (own_long / 8 - length (take d words)) (formed c w.tree_is.held)) ≡ total_words (kept_row c w.tree_is.held) =
     ap (λ (k : ℕ). total_words (first k (formed c w.tree_is.held))) some ∙ ap total_words (kept_first c w.tree_is.held) in
-    record {
-      trees = w.tree_is.held;
-      trees_are = w.tree_is.held_is;
-      some = omega (arith, some, kept_within c w.tree_is.held);
-      room_is = omega (arith, first_is, total, w.words_are);
-    }
+    let long : held_long ≡ 8 * total_words (first (own_long / 8 - length (take d words)) (formed c w.tree_is.held)) = omega (arith, first_is, total, w.words_are) in (
+      record { trees = w.tree_is.held; trees_are = w.tree_is.held_is; some = omega (arith, some, kept_within c w.tree_is.held); fits = omega (arith, long) },
+      long,
+    )
 
 pub struct_written_at : (c : Bool) (words : List ℕ) (held trees : Trees) (word : Word) (d n m : ℕ) (own_block held_block : List ℕ) → trees ≡ tree (struct words) held none
     → d ≡ length (kept_words c words) → n ≡ count (kept_row c held) → m ≡ n

@@ -1,6 +1,7 @@
 -- Lists of structs: what is written of their elements, from the last one on.
-use Rattle.std.proofs.Common.{◌≡◌, ℕ, zero, suc, ◌+◌, ◌-◌, ◌*◌, ◌<◌, ◌≤◌, Bool, true, false, List, [], ◌∷◌, ◌++◌, length, map, take, drop, refl, sym, ◌∙◌, ap, subst, arith, get_or, length-take, length-drop, take-take, append_assoc}
-use Rattle.std.proofs.lemmas.List.{take-replicate, length-append}
+use Rattle.std.proofs.Common.{◌≡◌, ℕ, zero, suc, ◌+◌, ◌-◌, ◌*◌, ◌<◌, ◌≤◌, Bool, true, false, List, [], ◌∷◌, ◌++◌, length, map, take, drop, refl, sym, ◌∙◌, ap, subst, arith, get_or, length-drop, append_assoc}
+use Rattle.std.specs.Prelude.{replicate}
+use Rattle.std.proofs.lemmas.List.{length-append, take-append-le, drop-append-le}
 use Rattle.std.proofs.Math.Seq.{take-append_seam, drop-append_seam}
 use Rattle.capnp_wire.specs.Pointer.{words_of}
 use Rattle.capnp_wire.specs.Tree.{Form, Trees, none, tree, count, own_words, total_words}
@@ -9,13 +10,12 @@ use Rattle.capnp_wire.specs.Layout.{pointer, run, row_run, pointers_to, woven, o
 use Rattle.capnp_wire.proofs.words.PutLemmas.{words_split}
 use Rattle.capnp_wire.proofs.layouts.SizeLemmas.{links_of, length-run, length-pointers_to}
 use Rattle.capnp_wire.proofs.trees.ChunkLemmas.{count-first, total-before, least_pointers_within}
-use Rattle.capnp_values.specs.Fields.{IsSettled, kept_row, extent_of, CanWriteRow}
-use Rattle.capnp_values.specs.declared.fields.Extent.{Extent}
-use Rattle.capnp_values.specs.StructLists.{AreRows, element_pointers, shown, FillsRows, HasRowPlace, RowsWritten}
+use Rattle.capnp_values.specs.Fields.{IsSettled, CanWriteRow}
+use Rattle.capnp_values.specs.StructLists.{AreRows, element_pointers, shown, FillsRows, RowsWritten}
 use Rattle.capnp_values.proofs.PointerListLemmas.{count_formed}
 use Rattle.capnp_values.proofs.ItemLemmas.{from_here}
-use Rattle.capnp_values.proofs.ItemRowLemmas.{with_part, with_part_rest, put_before}
-use Rattle.capnp_values.proofs.StructListLemmas.{shown_front, pointers_front, row_first}
+use Rattle.capnp_values.proofs.ItemRowLemmas.{with_part, with_part_rest, PutBefore}
+use Rattle.capnp_values.proofs.StructListLemmas.{shown_front}
 
 -- trees before others: their pointers, and what these lead to
 pointers_both : (s t : List ℕ) (next : ℕ) (a b : Trees) → length s ≡ count a → pointers_to (s ++ t) next (before a b) ≡ pointers_to s next a ++ pointers_to t (next + total_words a) b
@@ -83,17 +83,16 @@ shown_total c m p words rows row rest held whole many =
     ap total_words (shown_front c m p words rows row rest held whole many) ∙ total-before (first m (formed c row)) (shown c m p rows rest)
 
 -- the structs from one on: no more words, and no more pointers of each
-pub record RowsFrom {V : Type 0} (w : V → List ℕ) (h : V → Trees → Type 0) (c : Bool) (m p : ℕ) (vs : List V) (all least : ℕ) : Type 0 where
+pub record RowsFrom {V : Type 0} (w : V → List ℕ) (h : V → Trees → Type 0) (c : Bool) (m p : ℕ) (vs : List V) (all : ℕ) : Type 0 where
   pub held : Trees
   pub held_is : AreRows h vs held
   pub fewer : total_words (shown c m p (map w vs) held) ≤ all
-  pub narrow : element_pointers c p (map w vs) held ≤ least
 
 pub rows_from : {V : Type 0} (w : V → List ℕ) (h : V → Trees → Type 0) (c : Bool) (m p : ℕ) → ((v : V) (t : Trees) → h v t → IsSettled p t) → (vs : List V) (i : ℕ) (t : Trees) → AreRows h vs t
-    → i ≤ length vs → RowsFrom w h c m p (drop i vs) (total_words (shown c m p (map w vs) t)) (element_pointers c p (map w vs) t)
-rows_from w h c m p s [] zero t is within = record { held = t; held_is = is; fewer = omega arith; narrow = omega arith }
+    → i ≤ length vs → RowsFrom w h c m p (drop i vs) (total_words (shown c m p (map w vs) t))
+rows_from w h c m p s [] zero t is within = record { held = t; held_is = is; fewer = omega arith }
 rows_from w h c m p s [] (suc i) t is within = absurd (omega (arith, within))
-rows_from w h c m p s (v ∷ vs) zero t is within = record { held = t; held_is = is; fewer = omega arith; narrow = omega arith }
+rows_from w h c m p s (v ∷ vs) zero t is within = record { held = t; held_is = is; fewer = omega arith }
 rows_from w h c m p s (v ∷ vs) (suc i) t is within =
     let r = rows_from w h c m p s vs i is.rest is.others (omega (arith, within)) in
     let many = (s v is.row is.row_is).many in
@@ -101,23 +100,29 @@ rows_from w h c m p s (v ∷ vs) (suc i) t is within =
       held = r.held;
       held_is = r.held_is;
       fewer = omega (arith, r.fewer, shown_total c m p (w v) (map w vs) is.row is.rest t is.whole many);
-      narrow = omega (arith, r.narrow, pointers_front c p (w v) (map w vs) is.row is.rest t is.whole many);
     }
 
+-- no more pointers are kept than there are
+pub pointers_within : (c : Bool) (p : ℕ) (rows : List (List ℕ)) (held : Trees) → element_pointers c p rows held ≤ p
+pointers_within true p rows held = least_pointers_within p rows (trim held)
+pointers_within false p rows held = omega arith
+
+pub pointers_most : {V : Type 0} {w : V → List ℕ} {h : V → Trees → Type 0} {c : Bool} {d m e p : ℕ} {vs : List V} {room : ℕ} → FillsRows w h c d m e p vs room → m ≤ p
+pointers_most {w = w} {c = c} {p = p} {vs = vs} f = omega (arith, f.pointers_are, pointers_within c p (map w vs) f.held)
+
 -- the struct in front of those that are written has room in the block
-pub has_row_place : {V : Type 0} (w : V → List ℕ) (h : V → Trees → Type 0) (c : Bool) (d m e p : ℕ) → ((v : V) (t : Trees) → h v t → IsSettled p t) → (vs : List V) (i n end room : ℕ) (v : V)
+pub has_row_place : {V : Type 0} (w : V → List ℕ) (h : V → Trees → Type 0) (c : Bool) (d m e p : ℕ) → ((v : V) (t : Trees) → h v t → IsSettled p t) → (vs : List V) (i n end : ℕ) (v : V)
     (elements block : List ℕ) → i < length vs → v ≡ get_or vs i v → FillsRows w h c d m e p vs (length block) → RowsWritten w h c d m p (drop (i + 1) vs) n (i + 1) end elements block
-    → HasRowPlace (h v) c m p end
-has_row_place {V = V} w h c d m e p s vs i n end room v elements block within is fills written =
-    let r = subst (λ (l : List V). RowsFrom w h c m p l (total_words (shown c m p (map w vs) fills.held)) (element_pointers c p (map w vs) fills.held)) (from_here vs i v within is)
+    → CanWriteRow (h v) c m (8 * end)
+has_row_place {V = V} w h c d m e p s vs i n end v elements block within is fills written =
+    let r = subst (λ (l : List V). RowsFrom w h c m p l (total_words (shown c m p (map w vs) fills.held))) (from_here vs i v within is)
     (rows_from w h c m p s vs i fills.held fills.held_is (omega (arith, within))) in
     let f = r.held_is in
     let settled = s v f.row f.row_is in
     record {
-      row = f.row;
-      row_is = f.row_is;
-      settled = settled;
-      some = omega (arith, r.narrow, fills.pointers_are, pointers_front c p (w v) (map w (drop (i + 1) vs)) f.row f.rest r.held f.whole settled.many);
+      trees = f.row;
+      trees_are = f.row_is;
+      some = omega (arith, pointers_most fills, settled.many);
       fits = omega (arith, fills.room_is, r.fewer, shown_total c m p (w v) (map w (drop (i + 1) vs)) f.row f.rest r.held f.whole settled.many, written.room f.rest f.others);
     }
 
@@ -132,21 +137,20 @@ next_place i w = omega arith
 
 -- one more is written
 pub row_written : {V : Type 0} (w : V → List ℕ) (h : V → Trees → Type 0) (c : Bool) (d m p : ℕ) → ((v : V) (t : Trees) → h v t → IsSettled p t) → (vs all : List V) (v : V)
-    (n i at wide start own end : ℕ) (elements block slot part : List ℕ) → all ≡ v ∷ vs → i < n → m ≤ p → at ≡ i * (d + m) → wide ≡ 8 * (d + m) → length elements ≡ 8 * (n * (d + m))
-    → length slot ≡ 8 * (d + m) → start + own ≡ end → length part ≡ 8 * own → RowsWritten w h c d m p vs n (i + 1) end elements block
+    (n i at wide start own end : ℕ) (elements block new slot part : List ℕ) → all ≡ v ∷ vs → i < n → m ≤ p → at ≡ i * (d + m) → wide ≡ 8 * (d + m) → length elements ≡ 8 * (n * (d + m))
+    → length slot ≡ 8 * (d + m) → start + own ≡ end → length part ≡ 8 * own → PutBefore start end block new part → RowsWritten w h c d m p vs n (i + 1) end elements block
     → ((row : Trees) → h v row → own ≡ total_words (first m (formed c row)))
     → ((row : Trees) → h v row → words_of slot
     ≡ take d (w v) ++ pointers_to (run (1 + i * (d + m) + d) m) (1 + i * (d + m) + d + m + ((n - i - 1) * (d + m) + start)) (first m (formed c row)))
     → ((row : Trees) → h v row → words_of part ≡ body (first m (formed c row)))
-    → RowsWritten w h c d m p all n i start (with_part (8 * at) wide elements slot) (with_part (8 * start) (8 * end - 8 * start) block part)
-row_written {V = V} w h c d m p s vs all v n i at wide start own end elements block slot part all_is within le at_is wide_is elements_long slot_long fits long r own_is slot_is part_is =
+    → RowsWritten w h c d m p all n i start (with_part (8 * at) wide elements slot) new
+row_written {V = V} w h c d m p s vs all v n i at wide start own end elements block new slot part all_is within le at_is wide_is elements_long slot_long fits long put r own_is slot_is part_is =
     let there : ℕ = i * (d + m) in
     let here = spread n i (d + m) within in
     let next = next_place i (d + m) in
-    let put = put_before start own end block part fits long r.within r.zero in
     let elements_rest : drop (8 * there) (with_part (8 * there) (8 * (d + m)) elements slot) ≡ slot ++ drop (8 * ((i + 1) * (d + m))) elements =
     with_part_rest (8 * there) (8 * (d + m)) (8 * ((i + 1) * (d + m))) elements slot (omega (arith, elements_long, here)) (omega (arith, next)) in
-    let written : RowsWritten w h c d m p (v ∷ vs) n i start (with_part (8 * there) (8 * (d + m)) elements slot) (with_part (8 * start) (8 * end - 8 * start) block part) =
+    let written : RowsWritten w h c d m p (v ∷ vs) n i start (with_part (8 * there) (8 * (d + m)) elements slot) new =
     record {
       within = omega (arith, put.long, r.within);
       zero = put.zero;
@@ -163,46 +167,21 @@ row_written {V = V} w h c d m p s vs all v n i at wide start own end elements bl
           ap words_of put.rest
           ∙ body_in_front c m p own (w v) (map w vs) is.row is.rest t part (drop (8 * end) block) is.whole many long (part_is is.row is.row_is) (r.body is.rest is.others);
     } in
-    let f : List V → ℕ → ℕ → Type 0 = λ l a b. RowsWritten w h c d m p l n i start (with_part (8 * a) b elements slot) (with_part (8 * start) (8 * end - 8 * start) block part) in
+    let f : List V → ℕ → ℕ → Type 0 = λ l a b. RowsWritten w h c d m p l n i start (with_part (8 * a) b elements slot) new in
     subst (λ (l : List V). f l at wide) (sym all_is) (subst (λ (a : ℕ). f (v ∷ vs) a wide) (sym at_is) (subst (λ (b : ℕ). f (v ∷ vs) there b) (sym wide_is) written))
 
--- no more pointers are kept than there are
-pub pointers_within : (c : Bool) (p : ℕ) (rows : List (List ℕ)) (held : Trees) → element_pointers c p rows held ≤ p
-pointers_within true p rows held = least_pointers_within p rows (trim held)
-pointers_within false p rows held = omega arith
-
-pub pointers_most : {V : Type 0} {w : V → List ℕ} {h : V → Trees → Type 0} {c : Bool} {d m e p : ℕ} {vs : List V} {room : ℕ} → FillsRows w h c d m e p vs room → m ≤ p
-pointers_most {w = w} {c = c} {p = p} {vs = vs} f = omega (arith, f.pointers_are, pointers_within c p (map w vs) f.held)
+-- what is put in front, in a block whose rest follows
+pub put_front : (start end : ℕ) (block held : List ℕ) → 8 * end ≤ length block → length held ≡ 8 * end → 8 * start ≤ length held → take (8 * start) held ≡ replicate (8 * start) 0
+    → PutBefore start end block (held ++ drop (8 * end) block) (drop (8 * start) held)
+put_front start end block held within long some zeros = record {
+  rest = drop-append-le (8 * start) held (drop (8 * end) block) some;
+  long = omega (arith, length-append held (drop (8 * end) block), length-drop (8 * end) block);
+  zero = take-append-le (8 * start) held (drop (8 * end) block) some ∙ zeros;
+}
 
 -- what is written of one struct
-pub own_total : (c : Bool) (m p : ℕ) (row : Trees) (extent : Extent) → IsSettled p row → count (kept_row c row) ≤ m → m ≤ p → extent ≡ extent_of c row → extent.words ≡ total_words (first m (formed c row))
-own_total c m p row extent s some most is =
-    let b : extent.words ≡ total_words (kept_row c row) = ap (λ (x : Extent). x.words) is in
-    b ∙ sym (row_first c m row s.rooms some (omega (arith, s.many, most)))
-
-pub can_write_row : (h : Trees → Type 0) (c : Bool) (m n p room : ℕ) (row : Trees) (extent : Extent) → h row → IsSettled p row → count (kept_row c row) ≤ m → m ≤ p → extent ≡ extent_of c row → n ≡ m
-    → room ≡ 8 * extent.words → CanWriteRow h c n room
-can_write_row h c m n p room row extent is s some most extent_is same room_is =
-    let total : total_words (first n (formed c row)) ≡ total_words (first m (formed c row)) = ap (λ (k : ℕ). total_words (first k (formed c row))) same in
-    record {
-      trees = row;
-      trees_are = is;
-      some = omega (arith, same, most, s.many);
-      room_is = omega (arith, room_is, total, own_total c m p row extent s some most extent_is);
-    }
-
--- any row of a struct has as many pointers that are kept
-pub others_some : (c : Bool) (m : ℕ) (row other : Trees) (extent : Extent) → count (kept_row c row) ≤ m → extent ≡ extent_of c row → extent ≡ extent_of c other → count (kept_row c other) ≤ m
-others_some c m row other extent some is there =
-    let a : extent.pointers ≡ count (kept_row c row) = ap (λ (x : Extent). x.pointers) is in
-    let b : extent.pointers ≡ count (kept_row c other) = ap (λ (x : Extent). x.pointers) there in
-    omega (arith, a, b, some)
-
 pub slot_moved : (c : Bool) (d : ℕ) (there words : List ℕ) (row : Trees) (slot : List ℕ) (k n m gap more : ℕ) → there ≡ words → n ≡ m → gap ≡ more
     → words_of slot ≡ take d there ++ pointers_to (run k n) (k + n + gap) (first n (formed c row)) → words_of slot ≡ take d words ++ pointers_to (run k m) (k + m + more) (first m (formed c row))
 slot_moved c d there words row slot k n m gap more words_are same gaps is =
     is ∙ ap (λ (l : List ℕ). take d l ++ pointers_to (run k n) (k + n + gap) (first n (formed c row))) words_are
     ∙ ap (λ (x : ℕ). take d words ++ pointers_to (run k x) (k + x + gap) (first x (formed c row))) same ∙ ap (λ (x : ℕ). take d words ++ pointers_to (run k m) (k + m + x) (first m (formed c row))) gaps
-
-pub part_moved : (c : Bool) (row : Trees) (part : List ℕ) (n m : ℕ) → n ≡ m → words_of part ≡ body (first n (formed c row)) → words_of part ≡ body (first m (formed c row))
-part_moved c row part n m same is = is ∙ ap (λ (x : ℕ). body (first x (formed c row))) same

@@ -1,9 +1,10 @@
 -- Rows of pointer fields (src/fields.rt).
-use Rattle.std.specs.Prelude.{◌≡◌, ◌⊎◌, ℕ, ◌*◌, ◌^◌, ◌<◌, ◌≤◌, Bool, true, false}
+use Rattle.std.specs.Prelude.{◌≡◌, ◌⊎◌, ℕ, ◌+◌, ◌*◌, ◌^◌, ◌<◌, ◌≤◌, Bool, true, false, List, length, take, drop, replicate}
 use Rattle.capnp_frame.specs.declared.error.ErrorKind.{ErrorKind}
 use Rattle.capnp_wire.specs.Tree.{Form, Trees, none, tree, count, total_words}
 use Rattle.capnp_wire.specs.Trim.{cut_nulls, first, trim}
-use Rattle.capnp_wire.specs.Layout.{formed, AllHaveRoom}
+use Rattle.capnp_wire.specs.Pointer.{words_of}
+use Rattle.capnp_wire.specs.Layout.{body, formed, AllHaveRoom}
 use Rattle.capnp_wire.specs.Values.{HasWords, LacksWords}
 use Rattle.capnp_values.specs.declared.fields.Extent.{Extent}
 
@@ -56,9 +57,16 @@ extent_of canonical trees = record {
 abbrev pub HasExtent : (Trees → Type 0) → Bool → Extent → Type 0
 HasExtent has_trees canonical extent = (trees : Trees) × has_trees trees × (extent ≡ extent_of canonical trees)
 
--- the first n pointers of a row can be written into a block of just the words that they lead to
+-- the first n pointers of a row can be written, with what they lead to at the end of a block
 pub record CanWriteRow (has_trees : Trees → Type 0) (canonical : Bool) (n room : ℕ) : Type 0 where
   pub trees : Trees
   pub trees_are : has_trees trees
   pub some : n ≤ count trees
-  pub room_is : room ≡ 8 * total_words (first n (formed canonical trees))
+  pub fits : 8 * total_words (first n (formed canonical trees)) ≤ room
+
+-- what the first n pointers of a row lead to is all of a block from a word on; before that it is zero
+pub record IsRowWritten (has_trees : Trees → Type 0) (canonical : Bool) (n start : ℕ) (block : List ℕ) : Type 0 where
+  pub within : 8 * start ≤ length block
+  pub zero : take (8 * start) block ≡ replicate (8 * start) 0
+  pub room : (trees : Trees) → has_trees trees → 8 * (start + total_words (first n (formed canonical trees))) ≡ length block
+  pub body : (trees : Trees) → has_trees trees → words_of (drop (8 * start) block) ≡ body (first n (formed canonical trees))

@@ -6,10 +6,9 @@ use Rattle.capnp_frame.specs.declared.error.Error.{Error}
 use Rattle.capnp_frame.specs.declared.error.ErrorKind.{ErrorKind}
 use Rattle.capnp_frame.specs.declared.error.ErrorKind.TheVariants.{AllocationTooLarge}
 use Rattle.capnp_wire.specs.Pointer.{words_of}
-use Rattle.capnp_wire.specs.Tree.{structs, Trees, none, tree, count, total_words}
-use Rattle.capnp_wire.specs.Trim.{before, first, least_data, least_pointers, narrowed, trim}
+use Rattle.capnp_wire.specs.Tree.{structs, Trees, none, tree, total_words}
+use Rattle.capnp_wire.specs.Trim.{before, least_data, least_pointers, narrowed, trim}
 use Rattle.capnp_wire.specs.Layout.{struct_pointer, row_run, pointers_to, woven, body, formed}
-use Rattle.capnp_values.specs.Fields.{IsSettled, kept_row}
 use Rattle.capnp_values.specs.declared.rows.Reach.{Reach}
 
 -- the row of trees of one struct, in front of those of others
@@ -94,14 +93,6 @@ pub record FillsRows {V : Type 0} (words : V → List ℕ) (has_trees : V → Tr
   pub data_fits : d ≤ most
   pub pointers_are : m ≡ element_pointers canonical p (map words values) held
   pub room_is : room ≡ 8 * total_words (shown canonical m p (map words values) held)
-
--- the row of a struct has room for its first m pointers, and for what these lead to, in front of a word
-pub record HasRowPlace (has_trees : Trees → Type 0) (canonical : Bool) (m p end : ℕ) : Type 0 where
-  pub row : Trees
-  pub row_is : has_trees row
-  pub settled : IsSettled p row
-  pub some : count (kept_row canonical row) ≤ m
-  pub fits : total_words (first m (formed canonical row)) ≤ end
 
 -- the words of a list of n structs: its tag, its elements of d words and m pointers, and what these lead to
 abbrev pub list_words : Bool → ℕ → ℕ → ℕ → ℕ → List (List ℕ) → Trees → List ℕ

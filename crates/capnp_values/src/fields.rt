@@ -5,8 +5,8 @@ ghost use Rattle.capnp_frame.specs.declared.error.ErrorKind.{ErrorKind};
 ghost use Rattle.capnp_wire.specs.Pointer.{words_of};
 ghost use Rattle.capnp_wire.specs.Tree.{Trees};
 ghost use Rattle.capnp_wire.specs.Trim.{first};
-ghost use Rattle.capnp_wire.specs.Layout.{run, pointers_to, body, formed};
-ghost use Rattle.capnp_values.specs.Fields.{IsSettled, HasExtent, extent_of, CanWriteRow};
+ghost use Rattle.capnp_wire.specs.Layout.{run, pointers_to, formed};
+ghost use Rattle.capnp_values.specs.Fields.{IsSettled, HasExtent, extent_of, CanWriteRow, IsRowWritten};
 
 mod field;
 mod no_fields;
@@ -51,21 +51,21 @@ pub trait Fields {
         ensures exact { (kind : ErrorKind) → refuses self.now kind →
             IsErrAnd result (λ error. error.kind ≡ kind) };
 
-    /// Writes the first pointers of the row, and what they lead to into a block of zeros of just its
-    /// words, which begins a given number of words after the last of the pointers.
-    fn write(&self, canonical: bool, gap: u32, pointers: &mut [u8], block: &mut [u8])
+    /// Writes the first pointers of the row, and what they lead to at the end of a block of zeros, which
+    /// begins a given number of words after the last of the pointers. Returns the word of the block at
+    /// which that begins.
+    fn write(&self, canonical: bool, gap: u32, pointers: &mut [u8], block: &mut [u8]) -> usize
         requires row { CanWriteRow (has_trees self.now) canonical (length pointers.old / 8)
             (length block.old) }
         requires whole { length pointers.old % 8 ≡ 0 }
+        requires words { length block.old % 8 ≡ 0 }
         requires zero { block.old ≡ replicate (length block.old) 0 }
         requires near { gap + length pointers.old / 8 + length block.old / 8 < 2 ^ 29 }
+        ensures written { IsRowWritten (has_trees self.now) canonical (length pointers.old / 8)
+            result block.new }
         ensures pointers { (trees : Trees) (start : ℕ) → has_trees self.now trees →
-            let n = length pointers.old / 8 in
-            words_of pointers.new
-            ≡ pointers_to (run start n) (start + n + gap) (first n (formed canonical trees)) }
-        ensures body { (trees : Trees) → has_trees self.now trees →
-            words_of block.new
-            ≡ body (first (length pointers.old / 8) (formed canonical trees)) };
+            let n = length pointers.old / 8 in words_of pointers.new
+            ≡ pointers_to (run start n) (start + n + (gap + result)) (first n (formed canonical trees)) };
 
     /// The trees have room, and each has fewer than 2^29 words.
     ghost settled: { (row : Self) (trees : Trees) → has_trees row trees → IsSettled size trees };

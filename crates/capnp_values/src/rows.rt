@@ -1,14 +1,14 @@
 //! The elements of lists of structs: how far they reach, and what is written of them.
-ghost use Rattle.std.specs.Prelude.{◌≡◌, ℕ, ◌+◌, ◌-◌, ◌*◌, ◌/◌, ◌<◌, ◌≤◌, ◌^◌, ◌++◌, [], map, length, drop, take, replicate};
+ghost use Rattle.std.specs.Prelude.{◌≡◌, ℕ, ◌+◌, ◌-◌, ◌*◌, ◌/◌, ◌%◌, ◌<◌, ◌≤◌, ◌^◌, ◌++◌, [], map, length, drop, take, replicate};
 ghost use Rattle.capnp_wire.specs.Pointer.{words_of};
-ghost use Rattle.capnp_wire.specs.Tree.{Trees, none, total_words};
+ghost use Rattle.capnp_wire.specs.Tree.{Trees, none};
 ghost use Rattle.capnp_wire.specs.Trim.{first};
 ghost use Rattle.capnp_wire.specs.Layout.{run, row_run, pointers_to, woven, body, formed};
-ghost use Rattle.capnp_values.specs.Fields.{extent_of, CanWriteRow};
-ghost use Rattle.capnp_values.specs.StructLists.{AreRows, ReachesRows, FillsRows, HasRowPlace, RowsWritten, element_data, element_pointers, reach_of, shown};
+ghost use Rattle.capnp_values.specs.Fields.{CanWriteRow, IsRowWritten};
+ghost use Rattle.capnp_values.specs.StructLists.{AreRows, ReachesRows, FillsRows, RowsWritten, element_data, element_pointers, reach_of, shown};
 
 use crate::element::Element;
-use crate::fields::{Extent, Fields};
+use crate::fields::Fields;
 use crate::sections::{kept_data, write_sections};
 use capnp_frame::Result;
 
@@ -124,19 +124,6 @@ pub(crate) fn kept_by_each<E: Fields + Element>(items: &[E], canonical: bool) ->
     }
 }
 
-// How far a row of fields reaches that is not refused.
-fn kept_extent<F: Fields>(fields: &F, canonical: bool) -> Extent
-    requires { F.size < 2 ^ 16 }
-    ensures { (trees : Trees) → F.has_trees fields.now trees →
-        result ≡ extent_of canonical trees }
-{
-    let none = Extent {
-        pointers: 0,
-        words: 0,
-    };
-    fields.measure(canonical).unwrap_or(none)
-}
-
 /// Writes the data words and the pointers that each of some structs keeps, one struct after the
 /// other, and what they lead to into a block of zeros of just its words, which follows.
 pub(crate) fn write_rows<E: Fields + Element>(
@@ -197,8 +184,7 @@ fn write_before<E: Fields + Element>(
     let item = &items[from];
     let width = kept.data_words + kept.pointers as usize;
     let at = element_place(items.len(), from, width);
-    let start = row_start(item, canonical, kept.pointers, end);
-    let gap = elements.len() / 8 - (at + width) + start;
+    let gap = elements.len() / 8 - (at + width);
     let own = &mut elements[8 * at..8 * at + 8 * width];
     write_element(
         item,
@@ -206,9 +192,8 @@ fn write_before<E: Fields + Element>(
         kept,
         gap as u32,
         own,
-        &mut block[8 * start..8 * end],
-    );
-    start
+        &mut block[..8 * end],
+    )
 }
 
 // The word where one of some elements of a given width begins.
@@ -221,22 +206,8 @@ fn element_place(count: usize, from: usize, width: usize) -> usize
     from * width
 }
 
-// The word where what a struct leads to begins, which ends at a given word.
-fn row_start<F: Fields>(item: &F, canonical: bool, pointers: u32, end: usize) -> usize
-    requires few { F.size < 2 ^ 16 }
-    requires most { pointers ≤ F.size }
-    requires place { HasRowPlace (F.has_trees item.now) canonical pointers F.size end }
-    ensures within { result ≤ end }
-    ensures row { CanWriteRow (F.has_trees item.now) canonical pointers (8 * (end - result)) }
-    ensures words { (row : Trees) → F.has_trees item.now row →
-        result + total_words (first pointers (formed canonical row)) ≡ end }
-{
-    let words = kept_extent(item, canonical).words;
-    end - words as usize
-}
-
-// Writes what a struct keeps, and what its pointers lead to into a block of zeros of just its words,
-// which begins a given number of words after the last of them.
+// Writes what a struct keeps, and what its pointers lead to at the end of a block of zeros, which begins
+// a given number of words after the last of them. Returns the word of the block at which that begins.
 fn write_element<E: Fields + Element>(
     item: &E,
     canonical: bool,
@@ -244,19 +215,19 @@ fn write_element<E: Fields + Element>(
     gap: u32,
     own: &mut [u8],
     held: &mut [u8],
-)
+) -> usize
     requires data { kept.data_words ≤ E.data_words }
     requires own { length own.old ≡ 8 * (kept.data_words + kept.pointers) }
     requires row { CanWriteRow (E.has_trees item.now) canonical kept.pointers (length held.old) }
+    requires words { length held.old % 8 ≡ 0 }
     requires zero { held.old ≡ replicate (length held.old) 0 }
     requires near { gap + length own.old / 8 + length held.old / 8 < 2 ^ 29 }
+    ensures written { IsRowWritten (E.has_trees item.now) canonical kept.pointers result held.new }
     ensures own { (row : Trees) (start : ℕ) → E.has_trees item.now row →
         words_of own.new ≡ take kept.data_words (E.words item.now)
-        ++ pointers_to (run start kept.pointers) (start + kept.pointers + gap)
+        ++ pointers_to (run start kept.pointers) (start + kept.pointers + (gap + result))
         (first kept.pointers (formed canonical row)) }
-    ensures held { (row : Trees) → E.has_trees item.now row →
-        words_of held.new ≡ body (first kept.pointers (formed canonical row)) }
 {
     let words = item.words();
-    write_sections(&words[..kept.data_words], item, canonical, gap, own, held);
+    write_sections(&words[..kept.data_words], item, canonical, gap, own, held)
 }

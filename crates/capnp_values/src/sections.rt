@@ -4,9 +4,9 @@ ghost use Rattle.capnp_frame.specs.declared.error.ErrorKind.TheVariants.{Allocat
 ghost use Rattle.capnp_wire.specs.Pointer.{words_of};
 ghost use Rattle.capnp_wire.specs.Tree.{Trees, count};
 ghost use Rattle.capnp_wire.specs.Trim.{cut_zeros, first};
-ghost use Rattle.capnp_wire.specs.Layout.{struct_pointer, minus_one, run, pointers_to, body, formed};
+ghost use Rattle.capnp_wire.specs.Layout.{struct_pointer, minus_one, run, pointers_to, formed};
 ghost use Rattle.capnp_wire.specs.Values.{too_large};
-ghost use Rattle.capnp_values.specs.Fields.{CanWriteRow, kept_row};
+ghost use Rattle.capnp_values.specs.Fields.{CanWriteRow, IsRowWritten, kept_row};
 ghost use Rattle.capnp_values.specs.Structs.{kept_words};
 
 use crate::fields::Fields;
@@ -113,8 +113,9 @@ pub(crate) fn struct_word(words: usize, pointers: u32) -> u64
     pointer_word::struct_word(offset, words as u16, pointers as u16)
 }
 
-/// Writes data words and after them the first pointers of a row, and what these lead to into a block
-/// of zeros, which begins a given number of words after the last of the pointers.
+/// Writes data words and after them the first pointers of a row, and what these lead to at the end of a
+/// block of zeros, which begins a given number of words after the last of the pointers. Returns the
+/// word of the block at which that begins.
 pub(crate) fn write_sections<F: Fields>(
     words: &[u64],
     fields: &F,
@@ -122,22 +123,22 @@ pub(crate) fn write_sections<F: Fields>(
     gap: u32,
     own: &mut [u8],
     held: &mut [u8],
-)
+) -> usize
     requires row { CanWriteRow (F.has_trees fields.now) canonical
         (length own.old / 8 - length words.now) (length held.old) }
     requires room { 8 * length words.now ≤ length own.old }
     requires whole { length own.old % 8 ≡ 0 }
+    requires words { length held.old % 8 ≡ 0 }
     requires zero { held.old ≡ replicate (length held.old) 0 }
     requires near { gap + length own.old / 8 + length held.old / 8 < 2 ^ 29 }
+    ensures written { IsRowWritten (F.has_trees fields.now) canonical
+        (length own.old / 8 - length words.now) result held.new }
     ensures own { (trees : Trees) (start : ℕ) → F.has_trees fields.now trees →
         let n = length own.old / 8 - length words.now in
         words_of own.new ≡ words.now
-        ++ pointers_to (run start n) (start + n + gap) (first n (formed canonical trees)) }
-    ensures held { (trees : Trees) → F.has_trees fields.now trees →
-        let n = length own.old / 8 - length words.now in
-        words_of held.new ≡ body (first n (formed canonical trees)) }
+        ++ pointers_to (run start n) (start + n + (gap + result)) (first n (formed canonical trees)) }
 {
     let (data, pointers) = own.split_at_mut(8 * words.len());
     put_words(words, data);
-    fields.write(canonical, gap, pointers, held);
+    fields.write(canonical, gap, pointers, held)
 }

@@ -88,7 +88,7 @@ impl<const D: usize, F: Fields> Fields for StructValue<D, F> {
         self.fields.measure(canonical)
     }
 
-    fn write(&self, canonical: bool, gap: u32, pointers: &mut [u8], block: &mut [u8]) {
+    fn write(&self, canonical: bool, gap: u32, pointers: &mut [u8], block: &mut [u8]) -> usize {
         self.fields.write(canonical, gap, pointers, block)
     }
 }

@@ -64,16 +64,23 @@ impl<T, V: SetterInput<T>, F: Fields> Fields for Field<T, V, F> {
         Ok(front(&self.value, canonical, plain, rest))
     }
 
-    fn write(&self, canonical: bool, gap: u32, pointers: &mut [u8], block: &mut [u8]) {
+    fn write(&self, canonical: bool, gap: u32, pointers: &mut [u8], block: &mut [u8]) -> usize {
         if pointers.is_empty() {
-            return;
+            return block.len() / 8;
         }
-        let words = part_words(&self.value, canonical);
         let (slot, others) = pointers.split_at_mut(8);
-        let (own, held) = block.split_at_mut(8 * words as usize);
-        let offset = gap + (others.len() / 8) as u32;
-        put_part(&self.value, canonical, offset, slot, own);
-        self.rest.write(canonical, gap + words, others, held);
+        let after = others.len() / 8;
+        let end = self.rest.write(canonical, gap, others, block);
+        let start = end - part_words(&self.value, canonical) as usize;
+        let offset = gap as usize + start + after;
+        put_part(
+            &self.value,
+            canonical,
+            offset as u32,
+            slot,
+            &mut block[8 * start..8 * end],
+        );
+        start
     }
 }
 

@@ -31,5 +31,7 @@ impl Fields for NoFields {
         })
     }
 
-    fn write(&self, _canonical: bool, _gap: u32, _pointers: &mut [u8], _block: &mut [u8]) {}
+    fn write(&self, _canonical: bool, _gap: u32, _pointers: &mut [u8], block: &mut [u8]) -> usize {
+        block.len() / 8
+    }
 }
