@@ -14,5 +14,6 @@ mod objects;
 mod pointer_words;
 mod traversals;
 mod unlimited_roots;
+mod upgrades;
 mod values;
 mod views;
