@@ -78,7 +78,7 @@ says_stands (Structs size count following) bytes start pointer near says room =
     let k : pointer_kind pointer ≡ 1 = omega (arith, says.0) in
     let tag = says.3 in
     structs_stand bytes (read_place start) pointer tag.tag size.data_words size.pointers count following k says.1 says.2 tag.there tag.kind tag.count_is
-        tag.size_is.«data» tag.size_is.pointers room tag.few
+    tag.size_is.«data» tag.size_is.pointers room tag.few
 
 listed_misfits : (size : ElementSize) (bytes : List ℕ) (start pointer count : ℕ) → pointer_kind pointer ≡ 1 → code_of size ≡ code pointer → count ≡ list_count pointer
     → code_of size < 7 → length bytes / 8 < start + words_for count (width (code_of size)) → Misfits (words_of bytes) start pointer PointerOutOfBounds

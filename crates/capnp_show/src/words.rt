@@ -3,12 +3,12 @@
 //! Nothing is followed here but the landing pads of far pointers, so each result takes a few steps,
 //! whatever the words are.
 ghost use Rattle.std.specs.Prelude.{◌≡◌, ◌<◌, ◌^◌, ◌+◌, ◌*◌, ◌/◌, ℕ, List, Some, min, length, slice_get, slice_range, IfOk, IfErr, MatchOption, MatchResult, IsTrue, IsFalse};
-ghost use Rattle.capnp_wire.specs.Pointer.{words_of, pointer_kind, code, list_count, landing_pad_segment, landing_pad_position, data_words, pointer_words};
+ghost use Rattle.capnp_wire.specs.Pointer.{words_of, pointer_kind, code, list_count};
 ghost use Rattle.capnp_wire.specs.Element.{width};
-ghost use Rattle.capnp_wire.specs.Object.{message_of, word_at as stands_at, following, IsStart};
+ghost use Rattle.capnp_wire.specs.Object.{message_of, word_at as stands_at, following, landing_pad, IsStart};
 ghost use Rattle.capnp_wire.specs.Faults.{NoWord, Misfits};
 ghost use Rattle.capnp_wire.specs.Landing.{NotNear};
-ghost use Rattle.capnp_show.specs.Objects.{HasRoom, read_place, code_of, words_in, traversed_of, landing_words, Says, IsTag, IsSize, StandsAt, Misses, IsObject, IsRefused, size_of};
+ghost use Rattle.capnp_show.specs.Objects.{HasRoom, read_place, code_of, words_in, traversed_of, landing_words, Says, IsTag, IsSize, StandsAt, Misses, IsFarTo, IsObject, IsRefused, size_of};
 
 use capnp::ErrorKind;
 use capnp::message::ReaderSegments;
@@ -175,6 +175,20 @@ fn far_object<S: ReaderSegments>(segments: &S, pointer: u64) -> Result<Object, E
         expect_near(first)?;
         return near_object(segments, place, first, Some(LandingPad { place, words: 1 }));
     }
+    wide_object(segments, place, first)
+}
+
+// The object of a far pointer with a landing pad of two words, of which the first stands at a place.
+fn wide_object<S: ReaderSegments>(
+    segments: &S,
+    place: Place,
+    first: u64,
+) -> Result<Object, ErrorKind>
+    ensures found { let there = S.segments segments.now in IfOk result (λ object. (of : Place) (pointer : ℕ)
+        → IsFarTo there of pointer 1 place first → IsObject there of object) }
+    ensures refused { let there = S.segments segments.now in IfErr result (λ kind. (of : Place) (pointer : ℕ)
+        → IsFarTo there of pointer 1 place first → IsRefused there of kind) }
+{
     let second = Place {
         segment: place.segment,
         word: place.word.saturating_add(1),
@@ -184,9 +198,9 @@ fn far_object<S: ReaderSegments>(segments: &S, pointer: u64) -> Result<Object, E
         return Err(ErrorKind::PointerOutOfBounds);
     }
     let start = far_place(first);
-    if segments.get_segment(start.segment).is_none() {
+    let Some(_) = segments.get_segment(start.segment) else {
         return Err(ErrorKind::InvalidSegmentId(start.segment));
-    }
+    };
     expect_near(tag)?;
     shaped_object(segments, start, tag, Some(LandingPad { place, words: 2 }))
 }
@@ -204,8 +218,7 @@ fn expect_near(word: u64) -> Result<(), ErrorKind>
 
 // Where the landing pad of a far pointer is.
 fn far_place(pointer: u64) -> Place
-    ensures segment { result.segment ≡ landing_pad_segment pointer }
-    ensures word { result.word ≡ landing_pad_position pointer }
+    ensures { read_place result ≡ landing_pad pointer }
 {
     Place {
         segment: (pointer / (1 << 32)) as u32,
@@ -243,6 +256,7 @@ fn shaped_object<S: ReaderSegments>(
 // Whether a segment has a given number of words from a place on.
 fn has_room<S: ReaderSegments>(segments: &S, start: Place, words: u64) -> bool
     ensures room { IsTrue result → HasRoom (S.segments segments.now) start words }
+    ensures few { IsTrue result → words < 2 ^ 61 }
     ensures none { IsFalse result → (bytes : List ℕ)
         → slice_get (S.segments segments.now) start.segment ≡ Some bytes
         → length bytes / 8 < start.word + words }

@@ -15,11 +15,13 @@ returns-then-not-has_room-clause-refused g c = λ pointer list seven size bytes 
 pub returns-in_err-tag-clause-refused : goal.returns-in_err-tag-clause-refused
 returns-in_err-tag-clause-refused g c = passed_on _ _ c.from_residual.ensures.1 (λ pointer list seven size bytes there.
     let room = room_in _ c.args.start _ bytes there (c.has_room.ensures.room c.if-not-has_room.false) in
+    let fits = c.has_room.ensures.few c.if-not-has_room.false in
     absurd (not_missing _ c.args.start bytes c.args.words _ there (omega (arith, room)) c.in_err-tag.ensures))
 
 pub returns-then-tag-ne0-clause-refused : goal.returns-then-tag-ne0-clause-refused
 returns-then-tag-ne0-clause-refused g c = λ pointer list seven size bytes there.
     let room = room_in _ c.args.start _ bytes there (c.has_room.ensures.room c.if-not-has_room.false) in
+    let fits = c.has_room.ensures.few c.if-not-has_room.false in
     let odd : 0 < pointer_kind c.in_ok-tag.tag = omega arith in
     odd_tag_misfits bytes c.args.start.word pointer c.in_ok-tag.tag c.args.words _ list seven size (omega (arith, room))
     (word_here _ c.args.start bytes _ there c.in_ok-tag.ensures.0) odd refl
@@ -27,6 +29,7 @@ returns-then-tag-ne0-clause-refused g c = λ pointer list seven size bytes there
 pub returns-then-saturating_mul-words-clause-refused : goal.returns-then-saturating_mul-words-clause-refused
 returns-then-saturating_mul-words-clause-refused g c = λ pointer list seven size bytes there.
     let room = room_in _ c.args.start _ bytes there (c.has_room.ensures.room c.if-not-has_room.false) in
+    let fits = c.has_room.ensures.few c.if-not-has_room.false in
     let tag = c.in_ok-tag.tag in
     let of = c.read-size.result in
     let even : pointer_kind tag ≡ 0 = omega arith in
@@ -40,6 +43,7 @@ returns-then-saturating_mul-words-clause-refused g c = λ pointer list seven siz
 pub returns-clause-found : goal.returns-clause-found
 returns-clause-found g c = λ bytes there.
     let room = room_in _ c.args.start _ bytes there (c.has_room.ensures.room c.if-not-has_room.false) in
+    let fits = c.has_room.ensures.few c.if-not-has_room.false in
     let tag = c.in_ok-tag.tag in
     let of = c.read-size.result in
     let even : pointer_kind tag ≡ 0 = omega arith in
