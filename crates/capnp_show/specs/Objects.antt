@@ -99,11 +99,11 @@ pub data Misses (words : List ℕ) (origin : Origin) (pointer : ℕ) : ErrorKind
       → Misses words origin pointer kind
 
 -- a far pointer stands at a place, 0 with a landing pad of one word, 1 with one of two, of which the first stands at a place, too
-pub record IsFarTo (segments : List (List ℕ)) (place : Place) (pointer width : ℕ) (pad : Place) (first : ℕ) : Type 0 where
+pub record IsFarTo (segments : List (List ℕ)) (place : Place) (pointer width : ℕ) (landing_place : Place) (first : ℕ) : Type 0 where
   pub there : word_at (message_of segments) (read_place place) ≡ Some pointer
   pub is_far : IsFar pointer width
-  pub pad_is : read_place pad ≡ landing_pad pointer
-  pub first_there : word_at (message_of segments) (read_place pad) ≡ Some first
+  pub landing_place_is : read_place landing_place ≡ landing_pad pointer
+  pub first_there : word_at (message_of segments) (read_place landing_place) ≡ Some first
 
 -- The object to which the pointer at a place leads: as a reader finds it.
 pub record IsObject (segments : List (List ℕ)) (place : Place) (object : Object) : Type 0 where
@@ -114,8 +114,8 @@ pub record IsObject (segments : List (List ℕ)) (place : Place) (object : Objec
   pub stands : StandsAt segments object.start landing.tag object.shape
   pub landing_pads : landing_words object.landing_pad ≡ landing.landing_pads
   -- which stands where the pointer says
-  pub pad_place : IfSome object.landing_pad (λ pad. (word : ℕ) × (word_at (message_of segments) (read_place place) ≡ Some word)
-      × (pointer_kind word ≡ 2) × (read_place pad.place ≡ landing_pad word))
+  pub landing_pad_place : IfSome object.landing_pad (λ found. (word : ℕ) × (word_at (message_of segments) (read_place place) ≡ Some word)
+      × (pointer_kind word ≡ 2) × (read_place found.place ≡ landing_pad word))
 
 -- the pointer at a place leads to no object, for this reason, at whatever nesting depth left
 abbrev pub IsRefused : List (List ℕ) → Place → ErrorKind → Type 0

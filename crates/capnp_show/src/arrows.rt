@@ -3,7 +3,8 @@
 //! An arrow runs in the gaps between the cells alone: from the right of its pointer in the gap after
 //! that column, then in the gap above the object's row, and to the left of the cell where the object
 //! begins. Cells, gaps and headings have fixed sizes, so its corners are computed.
-ghost use Rattle.std.specs.Prelude.{◌≡◌, ℕ, ◌+◌, ◌*◌, ◌/◌, ◌%◌, ◌^◌, ◌<◌, min, Some, None, slice_get, MatchOption};
+ghost use Rattle.std.specs.Prelude.{◌≡◌, ℕ, ◌+◌, ◌*◌, ◌/◌, ◌%◌, ◌^◌, ◌<◌, min, Some, None, slice_get, MatchOption, ◌++◌, OnOk, codes, string_bytes};
+ghost use Rattle.capnp_show.specs.Texts.{counted};
 
 use crate::drawn::{ROW_WORDS, colour_of};
 use crate::owners::{Owners, Word};
@@ -79,7 +80,11 @@ impl Grid {
     }
 
     /// Adds the front of the drawing's arrows.
-    pub fn push_front(&self, text: &mut String) -> Result<(), AllocError> {
+    pub fn push_front(&self, text: &mut String) -> Result<(), AllocError>
+        ensures { OnOk result (string_bytes text.new ≡ string_bytes text.old
+            ++ (counted (codes "<svg class=\"arrows\" width=\"") WIDTH
+            ++ (counted (codes "\" height=\"") self.now.height ++ codes "\" aria-hidden=\"true\">\n"))) }
+    {
         let height = self.height;
         write!(
             text,

@@ -1,15 +1,14 @@
 //! What the pointer words of a message say, as in the encoding document, "Pointers".
 //!
-//! Nothing is followed here but the landing pads of far pointers, so each result takes a few steps,
+//! Nothing is followed but the landing pads of far pointers, so each result takes a few steps,
 //! whatever the words are.
-ghost use Rattle.std.specs.Prelude.{◌≡◌, ◌<◌, ◌^◌, ◌+◌, ◌*◌, ◌/◌, ℕ, List, Some, min, length, slice_get, slice_range, IfOk, IfErr, MatchOption, MatchResult, IsTrue, IsFalse};
+ghost use Rattle.std.specs.Prelude.{◌≡◌, ◌<◌, ◌^◌, ◌+◌, ◌*◌, ◌/◌, ℕ, List, Some, length, slice_get, slice_range, IfOk, IfErr, MatchOption, MatchResult, IsTrue, IsFalse};
 ghost use Rattle.capnp_wire.specs.Pointer.{words_of, pointer_kind, code, list_count};
-ghost use Rattle.capnp_wire.specs.Element.{width};
-ghost use Rattle.capnp_wire.specs.Object.{message_of, word_at as stands_at, following, landing_pad, IsStart};
+ghost use Rattle.capnp_wire.specs.Object.{message_of, word_at as stands_at, following, IsStart};
 ghost use Rattle.capnp_wire.specs.Faults.{NoWord, Misfits};
-ghost use Rattle.capnp_wire.specs.Landing.{NotNear};
-ghost use Rattle.capnp_show.specs.Objects.{HasRoom, read_place, code_of, words_in, traversed_of, landing_words, Says, IsTag, IsSize, StandsAt, Misses, IsFarTo, IsObject, IsRefused, size_of};
+ghost use Rattle.capnp_show.specs.Objects.{HasRoom, read_place, Says, IsTag, StandsAt, Misses, IsObject, IsRefused};
 
+use crate::landing::far_object;
 use capnp::ErrorKind;
 use capnp::message::ReaderSegments;
 
@@ -105,7 +104,7 @@ pub fn bytes_of<'a, S: ReaderSegments>(segments: &'a S, object: &Object) -> Opti
 }
 
 // The word at a place, or which of segment and word is missing.
-fn word_at<S: ReaderSegments>(segments: &S, place: Place) -> Result<u64, ErrorKind>
+pub(crate) fn word_at<S: ReaderSegments>(segments: &S, place: Place) -> Result<u64, ErrorKind>
     ensures { let m = message_of (S.segments segments.now) in MatchResult result
         (λ word. (stands_at m (read_place place) ≡ Some word) × (place.word < 2 ^ 61))
         (λ kind. NoWord m (read_place place) kind) }
@@ -121,7 +120,7 @@ fn word_at<S: ReaderSegments>(segments: &S, place: Place) -> Result<u64, ErrorKi
 }
 
 // The object of a struct or list pointer that stands at a place.
-fn near_object<S: ReaderSegments>(
+pub(crate) fn near_object<S: ReaderSegments>(
     segments: &S,
     place: Place,
     pointer: u64,
@@ -160,75 +159,9 @@ fn start_after(word: u64, pointer: u64) -> Option<u64>
     }
 }
 
-// The object of a far pointer.
-fn far_object<S: ReaderSegments>(segments: &S, pointer: u64) -> Result<Object, ErrorKind>
-    ensures found { let there = S.segments segments.now in IfOk result (λ object. (place : Place)
-        → stands_at (message_of there) (read_place place) ≡ Some pointer → pointer_kind pointer ≡ 2
-        → IsObject there place object) }
-    ensures refused { let there = S.segments segments.now in IfErr result (λ kind. (place : Place)
-        → stands_at (message_of there) (read_place place) ≡ Some pointer → pointer_kind pointer ≡ 2
-        → IsRefused there place kind) }
-{
-    let place = far_place(pointer);
-    let first = word_at(segments, place)?;
-    if pointer / 4 % 2 == 0 {
-        expect_near(first)?;
-        return near_object(segments, place, first, Some(LandingPad { place, words: 1 }));
-    }
-    wide_object(segments, place, first)
-}
-
-// The object of a far pointer with a landing pad of two words, of which the first stands at a place.
-fn wide_object<S: ReaderSegments>(
-    segments: &S,
-    place: Place,
-    first: u64,
-) -> Result<Object, ErrorKind>
-    ensures found { let there = S.segments segments.now in IfOk result (λ object. (of : Place) (pointer : ℕ)
-        → IsFarTo there of pointer 1 place first → IsObject there of object) }
-    ensures refused { let there = S.segments segments.now in IfErr result (λ kind. (of : Place) (pointer : ℕ)
-        → IsFarTo there of pointer 1 place first → IsRefused there of kind) }
-{
-    let second = Place {
-        segment: place.segment,
-        word: place.word.saturating_add(1),
-    };
-    let tag = word_at(segments, second)?;
-    if first % 8 != 2 {
-        return Err(ErrorKind::PointerOutOfBounds);
-    }
-    let start = far_place(first);
-    let Some(_) = segments.get_segment(start.segment) else {
-        return Err(ErrorKind::InvalidSegmentId(start.segment));
-    };
-    expect_near(tag)?;
-    shaped_object(segments, start, tag, Some(LandingPad { place, words: 2 }))
-}
-
-// Refuses a word of a landing pad that is no struct or list pointer.
-fn expect_near(word: u64) -> Result<(), ErrorKind>
-    ensures { MatchResult result (λ _. pointer_kind word < 2) (λ kind. NotNear word kind) }
-{
-    match word % 4 {
-        0 | 1 => Ok(()),
-        2 => Err(ErrorKind::PointerOutOfBounds),
-        _ => Err(ErrorKind::CapabilityRefused),
-    }
-}
-
-// Where the landing pad of a far pointer is.
-fn far_place(pointer: u64) -> Place
-    ensures { read_place result ≡ landing_pad pointer }
-{
-    Place {
-        segment: (pointer / (1 << 32)) as u32,
-        word: pointer / 8 % (1 << 29),
-    }
-}
-
 // The object that begins at a place and is shaped as its pointer says, where it lies within its
 // segment.
-fn shaped_object<S: ReaderSegments>(
+pub(crate) fn shaped_object<S: ReaderSegments>(
     segments: &S,
     start: Place,
     pointer: u64,
@@ -320,81 +253,4 @@ fn structs_at<S: ReaderSegments>(segments: &S, start: Place, words: u64) -> Resu
         return Err(ErrorKind::PointerOutOfBounds);
     }
     Ok(Shape::Structs(size, count, words))
-}
-
-impl StructSize {
-    // What a struct pointer says, or a tag.
-    fn read(word: u64) -> StructSize
-        ensures { IsSize word result }
-    {
-        StructSize {
-            data_words: word / (1 << 32) % (1 << 16),
-            pointers: word / (1 << 48),
-        }
-    }
-
-    /// The words of the struct.
-    pub fn words(self) -> u64
-        ensures { result ≡ min (size_of self) u64.MAX }
-    {
-        self.data_words.saturating_add(self.pointers)
-    }
-}
-
-impl ElementSize {
-    // The bits of an element.
-    fn bits(self) -> u64
-        ensures { result ≡ width (code_of self) }
-    {
-        match self {
-            ElementSize::Void => 0,
-            ElementSize::Bit => 1,
-            ElementSize::Byte => 8,
-            ElementSize::TwoBytes => 16,
-            ElementSize::FourBytes => 32,
-            ElementSize::EightBytes | ElementSize::Pointer => 64,
-        }
-    }
-}
-
-impl Shape {
-    /// The words from the start of the object on, where they are fewer than 2^58.
-    pub fn words(self) -> u64
-        ensures { words_in self < 2 ^ 58 → result ≡ words_in self }
-    {
-        match self {
-            Shape::Struct(size) => size.words(),
-            Shape::List(size, count) => count.saturating_mul(size.bits()).div_ceil(64),
-            Shape::Structs(_, _, words) => words.saturating_add(1),
-        }
-    }
-
-    // The words that count against the limit, where they are fewer than 2^58: elements of no words
-    // count one each.
-    fn traversed(self) -> u64
-        ensures { traversed_of self < 2 ^ 58 → result ≡ traversed_of self }
-    {
-        match self {
-            Shape::List(ElementSize::Void, count) => count,
-            Shape::Structs(size, count, words) if size.words() == 0 => {
-                words.saturating_add(1).saturating_add(count)
-            }
-            shape => shape.words(),
-        }
-    }
-}
-
-impl Object {
-    /// The words that count against the limit, with those of the landing pad, where they are fewer
-    /// than 2^58.
-    pub fn traversed(&self) -> u64
-        ensures { let words = landing_words self.now.landing_pad + traversed_of self.now.shape in
-            words < 2 ^ 58 → result ≡ words }
-    {
-        let landing_pad = match self.landing_pad {
-            Some(landing_pad) => landing_pad.words,
-            None => 0,
-        };
-        self.shape.traversed().saturating_add(landing_pad)
-    }
 }

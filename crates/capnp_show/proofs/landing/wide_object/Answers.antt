@@ -8,19 +8,19 @@ use Rattle.capnp_wire.specs.declared.layout.place.Place.{Place as ReadPlace}
 use Rattle.capnp_wire.proofs.words.MessageLemmas.{no_segment_stands}
 use Rattle.capnp_show.proofs.ObjectLemmas.{passed_on, then_refused, then_found}
 use Rattle.capnp_show.proofs.FarLemmas.{second_is, second_missing, first_of, tag_at, wide_is, wide_declined, wide_found, wide_fault}
-use Rattle.capnp_show.proofs.words.wide_object.Goals as goal
+use Rattle.capnp_show.proofs.landing.wide_object.Goals as goal
 
 pub returns-in_err-tag-clause-refused : goal.returns-in_err-tag-clause-refused
 returns-in_err-tag-clause-refused g c = passed_on _ _ c.from_residual.ensures.1 (λ of pointer far nesting some.
     let m = message_of (g.S.ReaderSegments.segments c.args.segments.now) in
-    let second = second_is c.args.place pointer c.saturating_add.result far.pad_is c.saturating_add.ensures in
+    let second = second_is c.args.place pointer c.saturating_add.result far.landing_place_is c.saturating_add.ensures in
     bad_landing_pad far.there far.is_far.far (second_missing m pointer c.args.first c.in_err-tag.field-0.0 far.is_far.wide (first_of far)
     (subst (λ (x : ReadPlace). NoWord m x c.in_err-tag.field-0.0) second c.in_err-tag.ensures)))
 
 pub returns-then-first-ne2-clause-refused : goal.returns-then-first-ne2-clause-refused
 returns-then-first-ne2-clause-refused g c = λ of pointer far nesting some.
     bad_landing_pad far.there far.is_far.far (not_far far.is_far.wide (first_of far)
-    (tag_at _ c.args.place pointer c.saturating_add.result _ far.pad_is c.saturating_add.ensures c.in_ok-tag.ensures.0)
+    (tag_at _ c.args.place pointer c.saturating_add.result _ far.landing_place_is c.saturating_add.ensures c.in_ok-tag.ensures.0)
     (λ is. let kind = is.far in let narrow = is.wide in omega arith))
 
 pub returns-in_default-clause-refused : goal.returns-in_default-clause-refused
@@ -29,7 +29,7 @@ returns-in_default-clause-refused g c = λ of pointer far nesting some.
     let number : c.far_place-start.result.segment ≡ landing_pad_segment c.args.first = ap (λ (x : ReadPlace). x.segment) c.far_place-start.ensures in
     let none = subst (λ (n : ℕ). slice_get m n ≡ None) number (no_segment_stands _ c.far_place-start.result.segment (sym c.in_default.ensures)) in
     bad_landing_pad far.there far.is_far.far (subst (BadLandingPad m pointer) (sym (ap InvalidSegmentId number))
-    (no_content far.is_far.wide (first_of far) (tag_at _ c.args.place pointer c.saturating_add.result _ far.pad_is c.saturating_add.ensures c.in_ok-tag.ensures.0)
+    (no_content far.is_far.wide (first_of far) (tag_at _ c.args.place pointer c.saturating_add.result _ far.landing_place_is c.saturating_add.ensures c.in_ok-tag.ensures.0)
     (record { far = omega arith; wide = omega arith }) none))
 
 pub returns-in_err-expect_near-clause-refused : goal.returns-in_err-expect_near-clause-refused
