@@ -83,7 +83,8 @@ impl Grid {
     pub fn push_front(&self, text: &mut String) -> Result<(), AllocError>
         ensures { OnOk result (string_bytes text.new ≡ string_bytes text.old
             ++ (counted (codes "<svg class=\"arrows\" width=\"") WIDTH
-            ++ (counted (codes "\" height=\"") self.now.height ++ codes "\" aria-hidden=\"true\">\n"))) }
+            ++ (counted (codes "\" height=\"") self.now.height
+            ++ codes "\" aria-hidden=\"true\">\n"))) }
     {
         let height = self.height;
         write!(
@@ -117,7 +118,8 @@ impl Grid {
         ensures { let top = slice_get self.now.tops.items place.segment in
             MatchOption result (top ≡ None) (λ corner. (first : ℕ) × (top ≡ Some first)
             × (corner.left ≡ FIRST_LEFT + place.word % 4 * (CELL_WIDTH + COLUMN_GAP))
-            × (corner.top ≡ min (first + min (place.word / 4 * (CELL_HEIGHT + ROW_GAP)) u64.MAX) u64.MAX)) }
+            × (corner.top ≡ min (first
+            + min (place.word / 4 * (CELL_HEIGHT + ROW_GAP)) u64.MAX) u64.MAX)) }
     {
         let top = *self.tops.get(place.segment as usize)?;
         let row = place.word / ROW_WORDS as u64;

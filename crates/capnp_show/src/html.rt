@@ -25,7 +25,8 @@ pub fn push_page(text: &mut String) -> Result<(), AllocError> {
 
 /// Adds the end of a page.
 pub fn push_end(text: &mut String) -> Result<(), AllocError>
-    ensures { OnOk result (string_bytes text.new ≡ string_bytes text.old ++ codes "</body>\n</html>\n") }
+    ensures { OnOk result (string_bytes text.new
+        ≡ string_bytes text.old ++ codes "</body>\n</html>\n") }
 {
     text.push_str("</body>\n</html>\n")
 }
@@ -40,7 +41,8 @@ pub fn push_input(text: &mut String, name: &str) -> Result<(), AllocError> {
 /// Adds the front of a message's section, up to the text of its heading.
 pub fn push_section(text: &mut String, anchor: Anchor) -> Result<(), AllocError>
     ensures { OnOk result (string_bytes text.new ≡ string_bytes text.old
-        ++ (codes "<section class=\"message\" id=\"" ++ (message_name anchor ++ codes "\">\n<h2>"))) }
+        ++ (codes "<section class=\"message\" id=\""
+        ++ (message_name anchor ++ codes "\">\n<h2>"))) }
 {
     text.push_str("<section class=\"message\" id=\"")?;
     anchor.push(text)?;

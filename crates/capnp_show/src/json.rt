@@ -20,7 +20,8 @@ pub fn push_file(text: &mut String, name: &str) -> Result<(), AllocError> {
 
 /// Adds what is listed of a message.
 pub fn push_listed(text: &mut String, listed: &Listed) -> Result<(), AllocError>
-    ensures { OnOk result (string_bytes text.new ≡ string_bytes text.old ++ listed_members listed.now) }
+    ensures { OnOk result (string_bytes text.new
+        ≡ string_bytes text.old ++ listed_members listed.now) }
 {
     push_number(text, "index", listed.index)?;
     push_number(text, "offset", listed.offset)?;

@@ -27,15 +27,18 @@ pub(crate) fn far_object<S: ReaderSegments>(segments: &S, pointer: u64) -> Resul
     wide_object(segments, place, first)
 }
 
-// The object of a far pointer with a landing pad of two words, of which the first stands at a place.
+// The object of a far pointer whose landing pad has two words, of which the first stands at a
+// place.
 fn wide_object<S: ReaderSegments>(
     segments: &S,
     place: Place,
     first: u64,
 ) -> Result<Object, ErrorKind>
-    ensures found { let there = S.segments segments.now in IfOk result (λ object. (of : Place) (pointer : ℕ)
+    ensures found { let there = S.segments segments.now in
+        IfOk result (λ object. (of : Place) (pointer : ℕ)
         → IsFarTo there of pointer 1 place first → IsObject there of object) }
-    ensures refused { let there = S.segments segments.now in IfErr result (λ kind. (of : Place) (pointer : ℕ)
+    ensures refused { let there = S.segments segments.now in
+        IfErr result (λ kind. (of : Place) (pointer : ℕ)
         → IsFarTo there of pointer 1 place first → IsRefused there of kind) }
 {
     let second = Place {

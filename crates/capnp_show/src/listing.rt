@@ -166,7 +166,8 @@ pub fn name_of(size: ElementSize) -> &'static str
 // Adds the words of a struct.
 fn push_size(text: &mut String, size: StructSize) -> Result<(), AllocError>
     ensures { OnOk result (string_bytes text.new ≡ string_bytes text.old
-        ++ (counted (codes ", data ") size.data_words ++ counted (codes ", pointers ") size.pointers)) }
+        ++ (counted (codes ", data ") size.data_words
+        ++ counted (codes ", pointers ") size.pointers)) }
 {
     let data_words = size.data_words;
     let pointers = size.pointers;

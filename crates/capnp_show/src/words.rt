@@ -88,9 +88,11 @@ pub fn object_at<S: ReaderSegments>(segments: &S, place: Place) -> Result<Option
 /// The bytes of a list of bytes; `None` of any other object.
 pub fn bytes_of<'a, S: ReaderSegments>(segments: &'a S, object: &Object) -> Option<&'a [u8]>
     ensures { let start = 8 * object.now.start.word in
-        let is_list = λ (segment : List ℕ) (count : ℕ). (object.now.shape ≡ Shape.List ElementSize.Byte count)
+        let is_list = λ (segment : List ℕ) (count : ℕ).
+        (object.now.shape ≡ Shape.List ElementSize.Byte count)
         × (slice_get (S.segments segments.now) object.now.start.segment ≡ Some segment) in
-        MatchOption result ((segment : List ℕ) (count : ℕ) → is_list segment count → length segment < start + count)
+        MatchOption result ((segment : List ℕ) (count : ℕ) → is_list segment count
+        → length segment < start + count)
         (λ bytes. (segment : List ℕ) × (count : ℕ) × is_list segment count
         × (bytes.now ≡ slice_range segment start (start + count))) }
 {
@@ -130,8 +132,8 @@ pub(crate) fn near_object<S: ReaderSegments>(
         IsStart (following place.word) pointer object.start.word
         × StandsAt (S.segments segments.now) object.start pointer object.shape)
         × (object.start.segment ≡ place.segment) × (object.landing_pad ≡ landing_pad)) }
-    ensures refused { IfErr result (λ kind. place.word < 2 ^ 61 → pointer_kind pointer < 2 → (bytes : List ℕ)
-        → slice_get (S.segments segments.now) place.segment ≡ Some bytes
+    ensures refused { IfErr result (λ kind. place.word < 2 ^ 61 → pointer_kind pointer < 2
+        → (bytes : List ℕ) → slice_get (S.segments segments.now) place.segment ≡ Some bytes
         → Misses (words_of bytes) (following place.word) pointer kind) }
 {
     let Some(word) = start_after(place.word, pointer) else {
@@ -235,8 +237,8 @@ fn structs_at<S: ReaderSegments>(segments: &S, start: Place, words: u64) -> Resu
         → slice_get (S.segments segments.now) start.segment ≡ Some bytes
         → (size : StructSize) × (count : ℕ) × (shape ≡ Shape.Structs size count words)
         × IsTag (words_of bytes) start.word size count words) }
-    ensures refused { IfErr result (λ kind. (pointer : ℕ) → pointer_kind pointer ≡ 1 → code pointer ≡ 7
-        → words ≡ list_count pointer → (bytes : List ℕ)
+    ensures refused { IfErr result (λ kind. (pointer : ℕ) → pointer_kind pointer ≡ 1
+        → code pointer ≡ 7 → words ≡ list_count pointer → (bytes : List ℕ)
         → slice_get (S.segments segments.now) start.segment ≡ Some bytes
         → Misfits (words_of bytes) start.word pointer kind) }
 {
