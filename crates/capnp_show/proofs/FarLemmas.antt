@@ -1,16 +1,19 @@
--- Objects that far pointers lead to, and their landing pads.
-use Rattle.std.proofs.Common.{◌≡◌, ◌⊎◌, inl, inr, ℕ, ◌+◌, ◌*◌, ◌/◌, ◌^◌, ◌<◌, ◌≤◌, List, Some, None, Option, slice_get, IfSome, refl, sym, ◌∙◌, ap, subst, arith}
+-- Objects that far pointers lead to, and their landing words_are.
+use Rattle.std.proofs.Common.{◌≡◌, ◌⊎◌, inl, inr, ℕ, ◌+◌, ◌-◌, ◌*◌, ◌/◌, ◌%◌, ◌^◌, ◌<◌, ◌≤◌, min, List, Some, None, Option, slice_get, IfSome, refl, sym, ◌∙◌, ap, subst, arith}
 use Rattle.std.proofs.lemmas.Option.{none-some, slice_get_cases}
 use Rattle.capnp_frame.specs.declared.error.ErrorKind.{ErrorKind}
 use Rattle.capnp_wire.specs.Pointer.{words_of, pointer_kind, has_wide_landing_pad, landing_pad_segment, landing_pad_position}
 use Rattle.capnp_wire.specs.Object.{message_of, word_at, landing_pad, landing_pad_tag, IsFar, following, exactly, IsStart, Lands, Target, near, far as by_landing_pad, double_far}
-use Rattle.capnp_wire.specs.Faults.{NoWord, no_segment, past_segment, BadLandingPad, no_landing_pad, no_tag, Fault, no_start as no_start_fault, misfits as misfits_fault}
+use Rattle.capnp_wire.specs.Faults.{NoWord, no_segment, past_segment, BadLandingPad, no_landing_pad, no_tag, bad_landing_pad, Fault, Misfits, no_start as no_start_fault, misfits as misfits_fault}
+use Rattle.capnp_wire.specs.Landing.{NotNear}
+use Rattle.capnp_wire.proofs.pointers.LandingPadLemmas.{wide_refused}
 use Rattle.capnp_wire.specs.declared.layout.place.Place.{Place as ReadPlace}
 use Rattle.capnp_wire.proofs.words.MessageLemmas.{segment_stands, no_segment_stands}
 use Rattle.capnp_show.specs.declared.words.Place.{Place}
 use Rattle.capnp_show.specs.declared.words.LandingPad.{LandingPad}
 use Rattle.capnp_show.specs.declared.words.Object.{Object}
-use Rattle.capnp_show.specs.Objects.{read_place, landing_words, StandsAt, Misses, no_start, misfits, IsObject, IsRefused}
+use Rattle.capnp_show.specs.Objects.{read_place, landing_words, StandsAt, Misses, no_start, misfits, IsFarTo, IsObject, IsRefused}
+use Rattle.capnp_show.proofs.ObjectLemmas.{place_is}
 
 -- where a word stands, there is its segment
 pub segment_of : (segments : List (List ℕ)) (place : ReadPlace) (word : ℕ) → word_at (message_of segments) place ≡ Some word
@@ -40,22 +43,22 @@ abbrev pub wide_target : ℕ → ℕ → Target
 wide_target inner tag = record { segment = landing_pad_segment inner; origin = exactly (landing_pad_position inner); tag = tag; landing_pads = 2 }
 
 -- an object by way of a landing pad
-pub object_by_pad : (segments : List (List ℕ)) (place : Place) (pointer words : ℕ) (pad : Place) (object : Object) (landing : Target)
-    → word_at (message_of segments) (read_place place) ≡ Some pointer → pointer_kind pointer ≡ 2 → read_place pad ≡ landing_pad pointer
+pub object_by_landing_pad : (segments : List (List ℕ)) (place : Place) (pointer words : ℕ) (landing_place : Place) (object : Object) (landing : Target)
+    → word_at (message_of segments) (read_place place) ≡ Some pointer → pointer_kind pointer ≡ 2 → read_place landing_place ≡ landing_pad pointer
     → Lands (message_of segments) (read_place place) landing → landing.landing_pads ≡ words → landing.segment ≡ object.start.segment
     → IsStart landing.origin landing.tag object.start.word → StandsAt segments object.start landing.tag object.shape
-    → object.landing_pad ≡ Some (record { place = pad; words = words }) → IsObject segments place object
-object_by_pad segments place pointer words pad object landing there far pad_is lands pads segment begins stands by = record {
+    → object.landing_pad ≡ Some (record { place = landing_place; words = words }) → IsObject segments place object
+object_by_landing_pad segments place pointer words landing_place object landing there far landing_place_is lands words_are segment begins stands by = record {
   landing = landing;
   lands = lands;
   segment = segment;
   begins = begins;
   stands = stands;
-  landing_pads = ap landing_words by ∙ sym pads;
-  pad_place =
-      let P : Option LandingPad → Type 0 = λ (found : Option LandingPad). IfSome found (λ pad. (word : ℕ) × (word_at (message_of segments) (read_place place) ≡ Some word)
-          × (pointer_kind word ≡ 2) × (read_place pad.place ≡ landing_pad word)) in
-      subst P (sym by) (pointer, there, far, pad_is);
+  landing_pads = ap landing_words by ∙ sym words_are;
+  landing_pad_place =
+      let P : Option LandingPad → Type 0 = λ (found : Option LandingPad). IfSome found (λ found. (word : ℕ) × (word_at (message_of segments) (read_place place) ≡ Some word)
+      × (pointer_kind word ≡ 2) × (read_place found.place ≡ landing_pad word)) in
+      subst P (sym by) (pointer, there, far, landing_place_is);
 }
 
 -- an object that a struct or list pointer leads to
@@ -69,17 +72,101 @@ object_near segments place pointer object there some is_near begins stands segme
   begins = begins;
   stands = stands;
   landing_pads = ap landing_words by;
-  pad_place = rw by tt;
+  landing_pad_place = rw by tt;
 }
 
--- the landing pad of one word, and where it leads
-pub lands_narrow : (m : List (List ℕ)) (place : ReadPlace) (pointer tag : ℕ) → word_at m place ≡ Some pointer → pointer_kind pointer ≡ 2
-    → has_wide_landing_pad pointer ≡ 0 → word_at m (landing_pad pointer) ≡ Some tag → pointer_kind tag < 2 → Lands m place (narrow_target pointer tag)
-lands_narrow m place pointer tag there is_far narrow first is_near = by_landing_pad there (record { far = is_far; wide = narrow }) first is_near
+-- the first word of a landing pad, and the place of the second
+pub first_word : (m : List (List ℕ)) (landing_place : Place) (pointer word : ℕ) → read_place landing_place ≡ landing_pad pointer → word_at m (read_place landing_place) ≡ Some word
+    → word_at m (landing_pad pointer) ≡ Some word
+first_word m landing_place pointer word landing_place_is there = subst (λ (x : ReadPlace). word_at m x ≡ Some word) landing_place_is there
 
--- and of two
-pub lands_wide : (m : List (List ℕ)) (place : ReadPlace) (pointer inner tag : ℕ) (words : List ℕ) → word_at m place ≡ Some pointer → pointer_kind pointer ≡ 2
-    → has_wide_landing_pad pointer ≡ 1 → word_at m (landing_pad pointer) ≡ Some inner → IsFar inner 0 → word_at m (landing_pad_tag pointer) ≡ Some tag
-    → slice_get m (landing_pad_segment inner) ≡ Some words → pointer_kind tag < 2 → Lands m place (wide_target inner tag)
-lands_wide m place pointer inner tag words there is_far wide first inner_far second content is_near =
-    double_far there (record { far = is_far; wide = wide }) first inner_far second content is_near
+pub second_is : (landing_place : Place) (pointer word : ℕ) → read_place landing_place ≡ landing_pad pointer → word ≡ min (landing_place.word + 1) (2 ^ 64 - 1)
+    → read_place (record { segment = landing_place.segment; word = word }) ≡ landing_pad_tag pointer
+second_is landing_place pointer word landing_place_is word_is =
+    let at : landing_place.word ≡ landing_pad_position pointer = ap (λ (x : ReadPlace). x.word) landing_place_is in
+    place_is (record { segment = landing_place.segment; word = word }) (landing_pad_tag pointer) (ap (λ (x : ReadPlace). x.segment) landing_place_is) (omega arith)
+
+-- a far pointer whose landing pad has one word leads on from there
+pub narrow_lands : (segments : List (List ℕ)) (place : Place) (pointer : ℕ) (landing_place : Place) (first : ℕ) → IsFarTo segments place pointer 0 landing_place first → pointer_kind first < 2
+    → Lands (message_of segments) (read_place place) (narrow_target pointer first)
+narrow_lands segments place pointer landing_place first far is_near = by_landing_pad far.there far.is_far (first_word (message_of segments) landing_place pointer first far.landing_place_is far.first_there) is_near
+
+pub narrow_object : (segments : List (List ℕ)) (place : Place) (pointer : ℕ) (landing_place : Place) (first : ℕ) (object : Object) → IsFarTo segments place pointer 0 landing_place first
+    → pointer_kind first < 2 → IsStart (following landing_place.word) first object.start.word → StandsAt segments object.start first object.shape
+    → object.start.segment ≡ landing_place.segment → object.landing_pad ≡ Some (record { place = landing_place; words = 1 }) → IsObject segments place object
+narrow_object segments place pointer landing_place first object far is_near begins stands segment by =
+    let at : landing_place.word ≡ landing_pad_position pointer = ap (λ (x : ReadPlace). x.word) far.landing_place_is in
+    object_by_landing_pad segments place pointer 1 landing_place object (narrow_target pointer first) far.there far.is_far.far far.landing_place_is (narrow_lands segments place pointer landing_place first far is_near)
+    refl (sym (segment ∙ ap (λ (x : ReadPlace). x.segment) far.landing_place_is)) (subst (λ (x : ℕ). IsStart (following x) first object.start.word) at begins) stands by
+
+pub narrow_fault : (segments : List (List ℕ)) (place : Place) (pointer : ℕ) (landing_place : Place) (first : ℕ) (kind : ErrorKind) → IsFarTo segments place pointer 0 landing_place first
+    → pointer_kind first < 2
+    → ((bytes : List ℕ) → slice_get segments landing_place.segment ≡ Some bytes → Misses (words_of bytes) (following landing_place.word) first kind) → IsRefused segments place kind
+narrow_fault segments place pointer landing_place first kind far is_near misses = λ nesting some.
+    let found = segment_of segments (read_place landing_place) first far.first_there in
+    let at : landing_place.word ≡ landing_pad_position pointer = ap (λ (x : ReadPlace). x.word) far.landing_place_is in
+    let content = subst (λ (x : ℕ). slice_get (message_of segments) x ≡ Some (words_of found.0)) (ap (λ (x : ReadPlace). x.segment) far.landing_place_is)
+    (segment_stands segments landing_place.segment found.0 found.1) in
+    misses_fault (message_of segments) (read_place place) (narrow_target pointer first) (words_of found.0) nesting kind
+    (narrow_lands segments place pointer landing_place first far is_near) content some (subst (λ (x : ℕ). Misses (words_of found.0) (following x) first kind) at (misses found.0 found.1))
+
+-- the first word of a landing pad of two
+pub first_of : {segments : List (List ℕ)} {place : Place} {pointer : ℕ} {landing_place : Place} {first : ℕ} → IsFarTo segments place pointer 1 landing_place first
+    → word_at (message_of segments) (landing_pad pointer) ≡ Some first
+first_of {segments} {place} {pointer} {landing_place} {first} far = first_word (message_of segments) landing_place pointer first far.landing_place_is far.first_there
+
+-- A landing pad has two words, and the content that its first word leads to is there, in a segment of some bytes.
+pub record IsWide (segments : List (List ℕ)) (place : Place) (pointer : ℕ) (landing_place : Place) (first tag : ℕ) (start : Place) (bytes : List ℕ) : Type 0 where
+  pub far : IsFarTo segments place pointer 1 landing_place first
+  pub tag_there : word_at (message_of segments) (landing_pad_tag pointer) ≡ Some tag
+  pub inner : IsFar first 0
+  pub start_is : read_place start ≡ landing_pad first
+  pub content : slice_get segments start.segment ≡ Some bytes
+
+-- its segment, as the message shows it
+content_there : (segments : List (List ℕ)) (place : Place) (pointer : ℕ) (landing_place : Place) (first tag : ℕ) (start : Place) (bytes : List ℕ)
+    → IsWide segments place pointer landing_place first tag start bytes → slice_get (message_of segments) (landing_pad_segment first) ≡ Some (words_of bytes)
+content_there segments place pointer landing_place first tag start bytes w =
+    subst (λ (x : ℕ). slice_get (message_of segments) x ≡ Some (words_of bytes)) (ap (λ (x : ReadPlace). x.segment) w.start_is) (segment_stands segments start.segment bytes w.content)
+
+wide_lands : (segments : List (List ℕ)) (place : Place) (pointer : ℕ) (landing_place : Place) (first tag : ℕ) (start : Place) (bytes : List ℕ)
+    → IsWide segments place pointer landing_place first tag start bytes → pointer_kind tag < 2 → Lands (message_of segments) (read_place place) (wide_target first tag)
+wide_lands segments place pointer landing_place first tag start bytes w is_near =
+    double_far w.far.there w.far.is_far (first_of w.far) w.inner w.tag_there (content_there segments place pointer landing_place first tag start bytes w) is_near
+
+pub wide_declined : (segments : List (List ℕ)) (place : Place) (pointer : ℕ) (landing_place : Place) (first tag : ℕ) (start : Place) (bytes : List ℕ) (kind : ErrorKind)
+    → IsWide segments place pointer landing_place first tag start bytes → NotNear tag kind → IsRefused segments place kind
+wide_declined segments place pointer landing_place first tag start bytes kind w other = λ nesting some.
+    bad_landing_pad w.far.there w.far.is_far.far (wide_refused (message_of segments) pointer first tag (words_of bytes) kind w.far.is_far.wide (first_of w.far) w.tag_there w.inner
+    (content_there segments place pointer landing_place first tag start bytes w) other)
+
+pub wide_found : (segments : List (List ℕ)) (place : Place) (pointer : ℕ) (landing_place : Place) (first tag : ℕ) (start : Place) (bytes : List ℕ) (object : Object)
+    → IsWide segments place pointer landing_place first tag start bytes → pointer_kind tag < 2 → StandsAt segments start tag object.shape → object.start ≡ start
+    → object.landing_pad ≡ Some (record { place = landing_place; words = 2 }) → IsObject segments place object
+wide_found segments place pointer landing_place first tag start bytes object w is_near stands at by =
+    object_by_landing_pad segments place pointer 2 landing_place object (wide_target first tag) w.far.there w.far.is_far.far w.far.landing_place_is (wide_lands segments place pointer landing_place first tag start bytes w is_near) refl
+    (sym (ap (λ (p : Place). p.segment) at ∙ ap (λ (x : ReadPlace). x.segment) w.start_is))
+    (ap (λ (p : Place). p.word) at ∙ ap (λ (x : ReadPlace). x.word) w.start_is)
+    (subst (λ (p : Place). StandsAt segments p tag object.shape) (sym at) stands) by
+
+pub wide_fault : (segments : List (List ℕ)) (place : Place) (pointer : ℕ) (landing_place : Place) (first tag : ℕ) (start : Place) (bytes : List ℕ) (kind : ErrorKind)
+    → IsWide segments place pointer landing_place first tag start bytes → pointer_kind tag < 2 → Misfits (words_of bytes) start.word tag kind → IsRefused segments place kind
+wide_fault segments place pointer landing_place first tag start bytes kind w is_near unfit = λ nesting some.
+    misses_fault (message_of segments) (read_place place) (wide_target first tag) (words_of bytes) nesting kind (wide_lands segments place pointer landing_place first tag start bytes w is_near)
+    (content_there segments place pointer landing_place first tag start bytes w) some (misfits (ap (λ (x : ReadPlace). x.word) w.start_is) unfit)
+
+pub tag_at : (m : List (List ℕ)) (landing_place : Place) (pointer second tag : ℕ) → read_place landing_place ≡ landing_pad pointer → second ≡ min (landing_place.word + 1) (2 ^ 64 - 1)
+    → word_at m (read_place (record { segment = landing_place.segment; word = second })) ≡ Some tag → word_at m (landing_pad_tag pointer) ≡ Some tag
+tag_at m landing_place pointer second tag landing_place_is second_word there = subst (λ (x : ReadPlace). word_at m x ≡ Some tag) (second_is landing_place pointer second landing_place_is second_word) there
+
+pub wide_is : (segments : List (List ℕ)) (place : Place) (pointer : ℕ) (landing_place : Place) (first second tag : ℕ) (start : Place) (bytes : List ℕ)
+    → IsFarTo segments place pointer 1 landing_place first → second ≡ min (landing_place.word + 1) (2 ^ 64 - 1)
+    → word_at (message_of segments) (read_place (record { segment = landing_place.segment; word = second })) ≡ Some tag → first % 8 ≡ 2
+    → read_place start ≡ landing_pad first → Some bytes ≡ slice_get segments start.segment → IsWide segments place pointer landing_place first tag start bytes
+wide_is segments place pointer landing_place first second tag start bytes far second_word there eight start_is content = record {
+  far = far;
+  tag_there = tag_at (message_of segments) landing_place pointer second tag far.landing_place_is second_word there;
+  inner = record { far = omega arith; wide = omega arith };
+  start_is = start_is;
+  content = sym content;
+}

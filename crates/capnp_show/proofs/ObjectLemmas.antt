@@ -1,5 +1,5 @@
 -- Objects that stand where pointers lead, or not.
-use Rattle.std.proofs.Common.{◌≡◌, ℕ, ◌+◌, ◌*◌, ◌/◌, ◌^◌, ◌<◌, ◌≤◌, List, length, Some, None, Result, Ok, Err, slice_get, IfOk, IfErr, IsErrAnd, refl, sym, ◌∙◌, ap, subst, arith}
+use Rattle.std.proofs.Common.{◌≡◌, ℕ, ◌+◌, ◌-◌, ◌*◌, ◌/◌, ◌^◌, ◌<◌, ◌≤◌, min, List, length, Some, None, Result, Ok, Err, slice_get, IfOk, IfErr, IsErrAnd, refl, sym, ◌∙◌, ap, subst, arith}
 use Rattle.std.proofs.lemmas.Option.{none-some, same_Some}
 use Rattle.std.proofs.lemmas.Nat.{mul-lt}
 use Rattle.capnp_frame.specs.declared.error.ErrorKind.{ErrorKind}
@@ -78,7 +78,7 @@ says_stands (Structs size count following) bytes start pointer near says room =
     let k : pointer_kind pointer ≡ 1 = omega (arith, says.0) in
     let tag = says.3 in
     structs_stand bytes (read_place start) pointer tag.tag size.data_words size.pointers count following k says.1 says.2 tag.there tag.kind tag.count_is
-        tag.size_is.«data» tag.size_is.pointers room tag.few
+    tag.size_is.«data» tag.size_is.pointers room tag.few
 
 listed_misfits : (size : ElementSize) (bytes : List ℕ) (start pointer count : ℕ) → pointer_kind pointer ≡ 1 → code_of size ≡ code pointer → count ≡ list_count pointer
     → code_of size < 7 → length bytes / 8 < start + words_for count (width (code_of size)) → Misfits (words_of bytes) start pointer PointerOutOfBounds
@@ -127,7 +127,7 @@ says_small (Listed size count) words start pointer small says =
 says_small (Structs size count following) words start pointer small says = omega (arith, says.2)
 
 -- the elements of a list of structs, as their tag says, are few
-pub elements_few : (tag : ℕ) (size : StructSize) → tag < 2 ^ 64 → IsSize tag size
+elements_few : (tag : ℕ) (size : StructSize) → tag < 2 ^ 64 → IsSize tag size
     → (size_of size < 2 ^ 17) × (offset tag * size_of size < 2 ^ 30 * 2 ^ 17)
 elements_few tag size small is =
     let d = is.«data» in
@@ -143,3 +143,14 @@ then_refused (Err e) is more = more e is
 pub then_found : {Y E : Type 0} {P Q : Y → Type 0} (result : Result Y E) → IfOk result P → ((value : Y) → P value → Q value) → IfOk result Q
 then_found (Ok y) is more = more y is
 then_found (Err e) is more = tt
+
+-- the words of all of them, as they are multiplied
+pub elements_words : (tag : ℕ) (size : StructSize) (words product : ℕ) → tag < 2 ^ 64 → IsSize tag size → words ≡ min (size_of size) (2 ^ 64 - 1)
+    → product ≡ min (offset tag * words) (2 ^ 64 - 1) → product ≡ offset tag * size_of size
+elements_words tag size words product small is words_are product_is =
+    let bounds = elements_few tag size small is in
+    let few = bounds.0 in
+    let limit = bounds.1 in
+    let whole : words ≡ size_of size = omega arith in
+    let same : offset tag * words ≡ offset tag * size_of size = ap (λ (x : ℕ). offset tag * x) whole in
+    omega arith

@@ -4,7 +4,7 @@ use Rattle.capnp.specs.Passed.{ErrorKind}
 use Rattle.capnp_frame.specs.declared.error.ErrorKind.TheVariants.{PointerOutOfBounds}
 use Rattle.capnp_wire.specs.Pointer.{words_of, pointer_kind, offset, data_words, pointer_words, code, list_count}
 use Rattle.capnp_wire.specs.Element.{width, words_for}
-use Rattle.capnp_wire.specs.Object.{message_of, word_at, landing_pad, Lands, Target, Origin, IsStart, ShapeStands, Shape as Stood, struct_shape, numbers_shape, pointers_shape, structs_shape}
+use Rattle.capnp_wire.specs.Object.{message_of, word_at, landing_pad, IsFar, Lands, Target, Origin, IsStart, ShapeStands, Shape as Stood, struct_shape, numbers_shape, pointers_shape, structs_shape}
 use Rattle.capnp_wire.specs.Faults.{Misfits, Fault}
 use Rattle.capnp_wire.specs.declared.layout.place.Place.{Place as ReadPlace}
 use Rattle.capnp_show.specs.declared.words.Place.{Place}
@@ -98,6 +98,13 @@ pub data Misses (words : List ℕ) (origin : Origin) (pointer : ℕ) : ErrorKind
   misfits : {start : ℕ} {kind : ErrorKind} → IsStart origin pointer start → Misfits words start pointer kind
       → Misses words origin pointer kind
 
+-- a far pointer stands at a place, 0 with a landing pad of one word, 1 with one of two, of which the first stands at a place, too
+pub record IsFarTo (segments : List (List ℕ)) (place : Place) (pointer width : ℕ) (landing_place : Place) (first : ℕ) : Type 0 where
+  pub there : word_at (message_of segments) (read_place place) ≡ Some pointer
+  pub is_far : IsFar pointer width
+  pub landing_place_is : read_place landing_place ≡ landing_pad pointer
+  pub first_there : word_at (message_of segments) (read_place landing_place) ≡ Some first
+
 -- The object to which the pointer at a place leads: as a reader finds it.
 pub record IsObject (segments : List (List ℕ)) (place : Place) (object : Object) : Type 0 where
   pub landing : Target
@@ -107,8 +114,8 @@ pub record IsObject (segments : List (List ℕ)) (place : Place) (object : Objec
   pub stands : StandsAt segments object.start landing.tag object.shape
   pub landing_pads : landing_words object.landing_pad ≡ landing.landing_pads
   -- which stands where the pointer says
-  pub pad_place : IfSome object.landing_pad (λ pad. (word : ℕ) × (word_at (message_of segments) (read_place place) ≡ Some word)
-      × (pointer_kind word ≡ 2) × (read_place pad.place ≡ landing_pad word))
+  pub landing_pad_place : IfSome object.landing_pad (λ found. (word : ℕ) × (word_at (message_of segments) (read_place place) ≡ Some word)
+      × (pointer_kind word ≡ 2) × (read_place found.place ≡ landing_pad word))
 
 -- the pointer at a place leads to no object, for this reason, at whatever nesting depth left
 abbrev pub IsRefused : List (List ℕ) → Place → ErrorKind → Type 0

@@ -1,8 +1,16 @@
 -- Characters and texts, as they are shown (src/text.rt, src/markup.rt, src/listing.rt).
-use Rattle.std.specs.Prelude.{◌≡◌, ◌≢◌, ◌⊎◌, ℕ, ◌-◌, ◌^◌, ◌≤◌, false, List, [], ◌∷◌, ◌++◌, codes, decimal}
+use Rattle.std.specs.Prelude.{◌≡◌, ◌≢◌, ◌⊎◌, ℕ, ◌-◌, ◌%◌, ◌^◌, ◌≤◌, false, List, [], ◌∷◌, ◌++◌, Option, Some, None, codes, decimal}
 use Rattle.std.specs.Char.{encode_utf8}
 use Rattle.std.specs.Fmt.{digits, padded_integral, format_spec}
+use Rattle.capnp.specs.Passed.{ErrorKind}
 use Rattle.capnp_show.specs.declared.drawn.Anchor.{Anchor}
+use Rattle.capnp_show.specs.declared.owners.Role.{Role}
+use Rattle.capnp_show.specs.declared.owners.Role.TheVariants.{Data, Pointer as PointerRole, Tag, Landing}
+use Rattle.capnp_show.specs.declared.owners.Owner.{Owner}
+use Rattle.capnp_show.specs.declared.owners.Owner.TheVariants.{Free, Root, Object}
+use Rattle.capnp_show.specs.declared.owners.Lead.{Lead}
+use Rattle.capnp_show.specs.declared.owners.Lead.TheVariants.{Null}
+use Rattle.capnp_show.specs.declared.owners.Word.{Word}
 use Rattle.capnp_show.specs.declared.listing.Listed.{Listed}
 use Rattle.capnp_show.specs.declared.words.Place.{Place}
 use Rattle.capnp_show.specs.declared.text.Escape.{Escape}
@@ -83,3 +91,28 @@ message_name anchor = counted (codes "m") anchor.input ++ counted (codes "-") an
 
 abbrev pub word_name : Anchor → Place → List ℕ
 word_name anchor place = message_name anchor ++ (counted (codes "-") place.segment ++ counted (codes "-") place.word)
+
+-- the classes of a word in a page, by whose it is
+abbrev pub role_class : Role → List ℕ
+role_class Data = codes "data"
+role_class PointerRole = codes "pointer"
+role_class Tag = codes "tag"
+role_class Landing = codes "landing"
+
+abbrev pub owner_classes : Owner → List ℕ
+owner_classes Free = codes "free"
+owner_classes Root = codes "pointer root"
+owner_classes (Object number role) = role_class role ++ (counted (codes " o") number ++ counted (codes " c") (number % 8))
+
+-- and that of a null pointer, and of a pointer that is not followed
+abbrev pub null_class : Owner → Lead → List ℕ
+null_class Root Null = codes " null"
+null_class (Object number PointerRole) Null = codes " null"
+null_class owner lead = []
+
+abbrev pub refused_class : Option ErrorKind → List ℕ
+refused_class None = []
+refused_class (Some kind) = codes " refused"
+
+abbrev pub word_classes : Word → List ℕ
+word_classes word = owner_classes word.owner ++ (null_class word.owner word.lead ++ refused_class word.refusal)

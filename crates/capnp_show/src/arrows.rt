@@ -3,7 +3,8 @@
 //! An arrow runs in the gaps between the cells alone: from the right of its pointer in the gap after
 //! that column, then in the gap above the object's row, and to the left of the cell where the object
 //! begins. Cells, gaps and headings have fixed sizes, so its corners are computed.
-ghost use Rattle.std.specs.Prelude.{◌≡◌, ℕ, ◌+◌, ◌*◌, ◌/◌, ◌%◌, ◌^◌, ◌<◌, min, Some, None, slice_get, MatchOption};
+ghost use Rattle.std.specs.Prelude.{◌≡◌, ℕ, ◌+◌, ◌*◌, ◌/◌, ◌%◌, ◌^◌, ◌<◌, min, Some, None, slice_get, MatchOption, ◌++◌, OnOk, codes, string_bytes};
+ghost use Rattle.capnp_show.specs.Texts.{counted};
 
 use crate::drawn::{ROW_WORDS, colour_of};
 use crate::owners::{Owners, Word};
@@ -79,7 +80,12 @@ impl Grid {
     }
 
     /// Adds the front of the drawing's arrows.
-    pub fn push_front(&self, text: &mut String) -> Result<(), AllocError> {
+    pub fn push_front(&self, text: &mut String) -> Result<(), AllocError>
+        ensures { OnOk result (string_bytes text.new ≡ string_bytes text.old
+            ++ (counted (codes "<svg class=\"arrows\" width=\"") WIDTH
+            ++ (counted (codes "\" height=\"") self.now.height
+            ++ codes "\" aria-hidden=\"true\">\n"))) }
+    {
         let height = self.height;
         write!(
             text,
@@ -112,7 +118,8 @@ impl Grid {
         ensures { let top = slice_get self.now.tops.items place.segment in
             MatchOption result (top ≡ None) (λ corner. (first : ℕ) × (top ≡ Some first)
             × (corner.left ≡ FIRST_LEFT + place.word % 4 * (CELL_WIDTH + COLUMN_GAP))
-            × (corner.top ≡ min (first + min (place.word / 4 * (CELL_HEIGHT + ROW_GAP)) u64.MAX) u64.MAX)) }
+            × (corner.top ≡ min (first
+            + min (place.word / 4 * (CELL_HEIGHT + ROW_GAP)) u64.MAX) u64.MAX)) }
     {
         let top = *self.tops.get(place.segment as usize)?;
         let row = place.word / ROW_WORDS as u64;

@@ -1,6 +1,6 @@
 //! The words of a segment, as rows of a table.
 ghost use Rattle.std.specs.Prelude.{◌≡◌, ◌%◌, ◌++◌, OnOk, codes, string_bytes};
-ghost use Rattle.capnp_show.specs.Texts.{counted, message_name, word_name};
+ghost use Rattle.capnp_show.specs.Texts.{counted, message_name, word_name, word_classes};
 
 use crate::owners::{Lead, Owner, Owners, Role, Word};
 use crate::refusals::push_refusal;
@@ -104,7 +104,9 @@ fn push_cell(
 }
 
 // Adds what a word is to whom it belongs.
-fn push_classes(text: &mut String, word: &Word) -> Result<(), AllocError> {
+fn push_classes(text: &mut String, word: &Word) -> Result<(), AllocError>
+    ensures { OnOk result (string_bytes text.new ≡ string_bytes text.old ++ word_classes word.now) }
+{
     match word.owner {
         Owner::Free => text.push_str("free")?,
         Owner::Root => text.push_str("pointer root")?,

@@ -1,4 +1,7 @@
 //! The parts of a page that stands alone, but for the drawings.
+ghost use Rattle.std.specs.Prelude.{◌≡◌, ◌++◌, OnOk, codes, string_bytes};
+ghost use Rattle.capnp_show.specs.Texts.{message_name};
+
 use crate::arrows::{part_height, push_sizes};
 use crate::drawn::{Anchor, push_object_classes};
 use crate::markup::push_markup;
@@ -21,7 +24,10 @@ pub fn push_page(text: &mut String) -> Result<(), AllocError> {
 }
 
 /// Adds the end of a page.
-pub fn push_end(text: &mut String) -> Result<(), AllocError> {
+pub fn push_end(text: &mut String) -> Result<(), AllocError>
+    ensures { OnOk result (string_bytes text.new
+        ≡ string_bytes text.old ++ codes "</body>\n</html>\n") }
+{
     text.push_str("</body>\n</html>\n")
 }
 
@@ -33,14 +39,21 @@ pub fn push_input(text: &mut String, name: &str) -> Result<(), AllocError> {
 }
 
 /// Adds the front of a message's section, up to the text of its heading.
-pub fn push_section(text: &mut String, anchor: Anchor) -> Result<(), AllocError> {
+pub fn push_section(text: &mut String, anchor: Anchor) -> Result<(), AllocError>
+    ensures { OnOk result (string_bytes text.new ≡ string_bytes text.old
+        ++ (codes "<section class=\"message\" id=\""
+        ++ (message_name anchor ++ codes "\">\n<h2>"))) }
+{
     text.push_str("<section class=\"message\" id=\"")?;
     anchor.push(text)?;
     text.push_str("\">\n<h2>")
 }
 
 /// Adds that a message is too large to be drawn.
-pub fn push_large(text: &mut String) -> Result<(), AllocError> {
+pub fn push_large(text: &mut String) -> Result<(), AllocError>
+    ensures { OnOk result (string_bytes text.new ≡ string_bytes text.old
+        ++ codes "<p class=\"large\">A message of more than 4096 words is not drawn.</p>\n") }
+{
     text.push_str("<p class=\"large\">A message of more than 4096 words is not drawn.</p>\n")
 }
 

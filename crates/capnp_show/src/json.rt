@@ -1,5 +1,5 @@
 //! Messages as JSON.
-ghost use Rattle.std.specs.Prelude.{◌≡◌, ◌++◌, OnOk, codes, string_bytes};
+ghost use Rattle.std.specs.Prelude.{◌≡◌, ◌++◌, OnOk, codes, string_bytes, String};
 ghost use Rattle.capnp_show.specs.Texts.{member, listed_members};
 
 use crate::hash::Hash;
@@ -20,7 +20,8 @@ pub fn push_file(text: &mut String, name: &str) -> Result<(), AllocError> {
 
 /// Adds what is listed of a message.
 pub fn push_listed(text: &mut String, listed: &Listed) -> Result<(), AllocError>
-    ensures { OnOk result (string_bytes text.new ≡ string_bytes text.old ++ listed_members listed.now) }
+    ensures { OnOk result (string_bytes text.new
+        ≡ string_bytes text.old ++ listed_members listed.now) }
 {
     push_number(text, "index", listed.index)?;
     push_number(text, "offset", listed.offset)?;
@@ -30,7 +31,10 @@ pub fn push_listed(text: &mut String, listed: &Listed) -> Result<(), AllocError>
 }
 
 /// Adds the hash of a canonical form, or why there is none.
-pub fn push_hash(text: &mut String, hash: &Hash) -> Result<(), AllocError> {
+pub fn push_hash(text: &mut String, hash: &Hash) -> Result<(), AllocError>
+    ensures { (shown : String) → hash.now ≡ Hash.Of shown → OnOk result (string_bytes text.new
+        ≡ string_bytes text.old ++ (codes ",\"sha256\":\"" ++ (string_bytes shown ++ codes "\""))) }
+{
     match hash {
         Hash::Of(hash) => write!(text, ",\"sha256\":\"{hash}\""),
         Hash::Lacking(kind) => {

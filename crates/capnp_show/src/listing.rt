@@ -1,5 +1,5 @@
 //! Messages as lines.
-ghost use Rattle.std.specs.Prelude.{◌≡◌, ◌++◌, OnOk, codes, decimal, string_bytes};
+ghost use Rattle.std.specs.Prelude.{◌≡◌, ◌++◌, OnOk, codes, decimal, string_bytes, String};
 ghost use Rattle.capnp_show.specs.Texts.{element_name, counted, listed_line};
 
 use crate::hash::Hash;
@@ -50,7 +50,10 @@ pub fn push_listed(text: &mut String, listed: &Listed) -> Result<(), AllocError>
 }
 
 /// Adds the hash of a canonical form, or why there is none.
-pub fn push_hash(text: &mut String, hash: &Hash) -> Result<(), AllocError> {
+pub fn push_hash(text: &mut String, hash: &Hash) -> Result<(), AllocError>
+    ensures { (shown : String) → hash.now ≡ Hash.Of shown → OnOk result (string_bytes text.new
+        ≡ string_bytes text.old ++ (codes ", sha256 " ++ string_bytes shown)) }
+{
     match hash {
         Hash::Of(hash) => write!(text, ", sha256 {hash}"),
         Hash::Lacking(kind) => {
@@ -163,7 +166,8 @@ pub fn name_of(size: ElementSize) -> &'static str
 // Adds the words of a struct.
 fn push_size(text: &mut String, size: StructSize) -> Result<(), AllocError>
     ensures { OnOk result (string_bytes text.new ≡ string_bytes text.old
-        ++ (counted (codes ", data ") size.data_words ++ counted (codes ", pointers ") size.pointers)) }
+        ++ (counted (codes ", data ") size.data_words
+        ++ counted (codes ", pointers ") size.pointers)) }
 {
     let data_words = size.data_words;
     let pointers = size.pointers;

@@ -14,6 +14,7 @@ mod files;
 mod hash;
 mod html;
 mod json;
+mod landing;
 mod listing;
 mod markup;
 mod messages;
@@ -24,6 +25,7 @@ mod progress;
 mod refusals;
 mod settings;
 mod shown;
+mod sizes;
 mod style;
 #[cfg(test)]
 mod tests;

@@ -242,7 +242,8 @@ fn free_words(alloc: Global, segment: &[u8]) -> Result<Vec<Word>, AllocError>
 
 // What the word of an object is that stands a given number of words after its start.
 fn role_of(shape: Shape, index: u64) -> Role
-    ensures { ((size : StructSize) (count words : ℕ) → shape ≡ Shape.Structs size count words → size_of size < 2 ^ 64)
+    ensures { ((size : StructSize) (count words : ℕ) → shape ≡ Shape.Structs size count words
+        → size_of size < 2 ^ 64)
         → IsRole shape index result }
 {
     match shape {

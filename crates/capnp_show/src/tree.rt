@@ -123,7 +123,8 @@ impl Walk {
             × (node.label ≡ label_of row.kind row.index)) }
         ensures element { IfOk result (λ node. (size : StructSize) → row.kind ≡ RowKind.Elements size
             → node.found ≡ Found.Element row.next size) }
-        ensures found { IfOk result (λ node. ((size : StructSize) → row.kind ≡ RowKind.Elements size → ⊥)
+        ensures found { IfOk result (λ node.
+            ((size : StructSize) → row.kind ≡ RowKind.Elements size → ⊥)
             → Finds (S.segments segments.now) row.next row.nesting self.old.left node.found) }
     {
         let label = match row.kind {

@@ -1,15 +1,14 @@
 //! What the pointer words of a message say, as in the encoding document, "Pointers".
 //!
-//! Nothing is followed here but the landing pads of far pointers, so each result takes a few steps,
+//! Nothing is followed but the landing pads of far pointers, so each result takes a few steps,
 //! whatever the words are.
-ghost use Rattle.std.specs.Prelude.{◌≡◌, ◌<◌, ◌^◌, ◌+◌, ◌*◌, ◌/◌, ℕ, List, Some, min, length, slice_get, slice_range, IfOk, IfErr, MatchOption, MatchResult, IsTrue, IsFalse};
-ghost use Rattle.capnp_wire.specs.Pointer.{words_of, pointer_kind, code, list_count, landing_pad_segment, landing_pad_position, data_words, pointer_words};
-ghost use Rattle.capnp_wire.specs.Element.{width};
+ghost use Rattle.std.specs.Prelude.{◌≡◌, ◌<◌, ◌^◌, ◌+◌, ◌*◌, ◌/◌, ℕ, List, Some, length, slice_get, slice_range, IfOk, IfErr, MatchOption, MatchResult, IsTrue, IsFalse};
+ghost use Rattle.capnp_wire.specs.Pointer.{words_of, pointer_kind, code, list_count};
 ghost use Rattle.capnp_wire.specs.Object.{message_of, word_at as stands_at, following, IsStart};
 ghost use Rattle.capnp_wire.specs.Faults.{NoWord, Misfits};
-ghost use Rattle.capnp_wire.specs.Landing.{NotNear};
-ghost use Rattle.capnp_show.specs.Objects.{HasRoom, read_place, code_of, words_in, traversed_of, landing_words, Says, IsTag, IsSize, StandsAt, Misses, IsObject, IsRefused, size_of};
+ghost use Rattle.capnp_show.specs.Objects.{HasRoom, read_place, Says, IsTag, StandsAt, Misses, IsObject, IsRefused};
 
+use crate::landing::far_object;
 use capnp::ErrorKind;
 use capnp::message::ReaderSegments;
 
@@ -89,9 +88,11 @@ pub fn object_at<S: ReaderSegments>(segments: &S, place: Place) -> Result<Option
 /// The bytes of a list of bytes; `None` of any other object.
 pub fn bytes_of<'a, S: ReaderSegments>(segments: &'a S, object: &Object) -> Option<&'a [u8]>
     ensures { let start = 8 * object.now.start.word in
-        let is_list = λ (segment : List ℕ) (count : ℕ). (object.now.shape ≡ Shape.List ElementSize.Byte count)
+        let is_list = λ (segment : List ℕ) (count : ℕ).
+        (object.now.shape ≡ Shape.List ElementSize.Byte count)
         × (slice_get (S.segments segments.now) object.now.start.segment ≡ Some segment) in
-        MatchOption result ((segment : List ℕ) (count : ℕ) → is_list segment count → length segment < start + count)
+        MatchOption result ((segment : List ℕ) (count : ℕ) → is_list segment count
+        → length segment < start + count)
         (λ bytes. (segment : List ℕ) × (count : ℕ) × is_list segment count
         × (bytes.now ≡ slice_range segment start (start + count))) }
 {
@@ -105,7 +106,7 @@ pub fn bytes_of<'a, S: ReaderSegments>(segments: &'a S, object: &Object) -> Opti
 }
 
 // The word at a place, or which of segment and word is missing.
-fn word_at<S: ReaderSegments>(segments: &S, place: Place) -> Result<u64, ErrorKind>
+pub(crate) fn word_at<S: ReaderSegments>(segments: &S, place: Place) -> Result<u64, ErrorKind>
     ensures { let m = message_of (S.segments segments.now) in MatchResult result
         (λ word. (stands_at m (read_place place) ≡ Some word) × (place.word < 2 ^ 61))
         (λ kind. NoWord m (read_place place) kind) }
@@ -121,7 +122,7 @@ fn word_at<S: ReaderSegments>(segments: &S, place: Place) -> Result<u64, ErrorKi
 }
 
 // The object of a struct or list pointer that stands at a place.
-fn near_object<S: ReaderSegments>(
+pub(crate) fn near_object<S: ReaderSegments>(
     segments: &S,
     place: Place,
     pointer: u64,
@@ -131,8 +132,8 @@ fn near_object<S: ReaderSegments>(
         IsStart (following place.word) pointer object.start.word
         × StandsAt (S.segments segments.now) object.start pointer object.shape)
         × (object.start.segment ≡ place.segment) × (object.landing_pad ≡ landing_pad)) }
-    ensures refused { IfErr result (λ kind. place.word < 2 ^ 61 → pointer_kind pointer < 2 → (bytes : List ℕ)
-        → slice_get (S.segments segments.now) place.segment ≡ Some bytes
+    ensures refused { IfErr result (λ kind. place.word < 2 ^ 61 → pointer_kind pointer < 2
+        → (bytes : List ℕ) → slice_get (S.segments segments.now) place.segment ≡ Some bytes
         → Misses (words_of bytes) (following place.word) pointer kind) }
 {
     let Some(word) = start_after(place.word, pointer) else {
@@ -160,62 +161,9 @@ fn start_after(word: u64, pointer: u64) -> Option<u64>
     }
 }
 
-// The object of a far pointer.
-fn far_object<S: ReaderSegments>(segments: &S, pointer: u64) -> Result<Object, ErrorKind>
-    ensures found { let there = S.segments segments.now in IfOk result (λ object. (place : Place)
-        → stands_at (message_of there) (read_place place) ≡ Some pointer → pointer_kind pointer ≡ 2
-        → IsObject there place object) }
-    ensures refused { let there = S.segments segments.now in IfErr result (λ kind. (place : Place)
-        → stands_at (message_of there) (read_place place) ≡ Some pointer → pointer_kind pointer ≡ 2
-        → IsRefused there place kind) }
-{
-    let place = far_place(pointer);
-    let first = word_at(segments, place)?;
-    if pointer / 4 % 2 == 0 {
-        expect_near(first)?;
-        return near_object(segments, place, first, Some(LandingPad { place, words: 1 }));
-    }
-    let second = Place {
-        segment: place.segment,
-        word: place.word.saturating_add(1),
-    };
-    let tag = word_at(segments, second)?;
-    if first % 8 != 2 {
-        return Err(ErrorKind::PointerOutOfBounds);
-    }
-    let start = far_place(first);
-    if segments.get_segment(start.segment).is_none() {
-        return Err(ErrorKind::InvalidSegmentId(start.segment));
-    }
-    expect_near(tag)?;
-    shaped_object(segments, start, tag, Some(LandingPad { place, words: 2 }))
-}
-
-// Refuses a word of a landing pad that is no struct or list pointer.
-fn expect_near(word: u64) -> Result<(), ErrorKind>
-    ensures { MatchResult result (λ _. pointer_kind word < 2) (λ kind. NotNear word kind) }
-{
-    match word % 4 {
-        0 | 1 => Ok(()),
-        2 => Err(ErrorKind::PointerOutOfBounds),
-        _ => Err(ErrorKind::CapabilityRefused),
-    }
-}
-
-// Where the landing pad of a far pointer is.
-fn far_place(pointer: u64) -> Place
-    ensures segment { result.segment ≡ landing_pad_segment pointer }
-    ensures word { result.word ≡ landing_pad_position pointer }
-{
-    Place {
-        segment: (pointer / (1 << 32)) as u32,
-        word: pointer / 8 % (1 << 29),
-    }
-}
-
 // The object that begins at a place and is shaped as its pointer says, where it lies within its
 // segment.
-fn shaped_object<S: ReaderSegments>(
+pub(crate) fn shaped_object<S: ReaderSegments>(
     segments: &S,
     start: Place,
     pointer: u64,
@@ -243,6 +191,7 @@ fn shaped_object<S: ReaderSegments>(
 // Whether a segment has a given number of words from a place on.
 fn has_room<S: ReaderSegments>(segments: &S, start: Place, words: u64) -> bool
     ensures room { IsTrue result → HasRoom (S.segments segments.now) start words }
+    ensures few { IsTrue result → words < 2 ^ 61 }
     ensures none { IsFalse result → (bytes : List ℕ)
         → slice_get (S.segments segments.now) start.segment ≡ Some bytes
         → length bytes / 8 < start.word + words }
@@ -288,8 +237,8 @@ fn structs_at<S: ReaderSegments>(segments: &S, start: Place, words: u64) -> Resu
         → slice_get (S.segments segments.now) start.segment ≡ Some bytes
         → (size : StructSize) × (count : ℕ) × (shape ≡ Shape.Structs size count words)
         × IsTag (words_of bytes) start.word size count words) }
-    ensures refused { IfErr result (λ kind. (pointer : ℕ) → pointer_kind pointer ≡ 1 → code pointer ≡ 7
-        → words ≡ list_count pointer → (bytes : List ℕ)
+    ensures refused { IfErr result (λ kind. (pointer : ℕ) → pointer_kind pointer ≡ 1
+        → code pointer ≡ 7 → words ≡ list_count pointer → (bytes : List ℕ)
         → slice_get (S.segments segments.now) start.segment ≡ Some bytes
         → Misfits (words_of bytes) start.word pointer kind) }
 {
@@ -306,81 +255,4 @@ fn structs_at<S: ReaderSegments>(segments: &S, start: Place, words: u64) -> Resu
         return Err(ErrorKind::PointerOutOfBounds);
     }
     Ok(Shape::Structs(size, count, words))
-}
-
-impl StructSize {
-    // What a struct pointer says, or a tag.
-    fn read(word: u64) -> StructSize
-        ensures { IsSize word result }
-    {
-        StructSize {
-            data_words: word / (1 << 32) % (1 << 16),
-            pointers: word / (1 << 48),
-        }
-    }
-
-    /// The words of the struct.
-    pub fn words(self) -> u64
-        ensures { result ≡ min (size_of self) u64.MAX }
-    {
-        self.data_words.saturating_add(self.pointers)
-    }
-}
-
-impl ElementSize {
-    // The bits of an element.
-    fn bits(self) -> u64
-        ensures { result ≡ width (code_of self) }
-    {
-        match self {
-            ElementSize::Void => 0,
-            ElementSize::Bit => 1,
-            ElementSize::Byte => 8,
-            ElementSize::TwoBytes => 16,
-            ElementSize::FourBytes => 32,
-            ElementSize::EightBytes | ElementSize::Pointer => 64,
-        }
-    }
-}
-
-impl Shape {
-    /// The words from the start of the object on, where they are fewer than 2^58.
-    pub fn words(self) -> u64
-        ensures { words_in self < 2 ^ 58 → result ≡ words_in self }
-    {
-        match self {
-            Shape::Struct(size) => size.words(),
-            Shape::List(size, count) => count.saturating_mul(size.bits()).div_ceil(64),
-            Shape::Structs(_, _, words) => words.saturating_add(1),
-        }
-    }
-
-    // The words that count against the limit, where they are fewer than 2^58: elements of no words
-    // count one each.
-    fn traversed(self) -> u64
-        ensures { traversed_of self < 2 ^ 58 → result ≡ traversed_of self }
-    {
-        match self {
-            Shape::List(ElementSize::Void, count) => count,
-            Shape::Structs(size, count, words) if size.words() == 0 => {
-                words.saturating_add(1).saturating_add(count)
-            }
-            shape => shape.words(),
-        }
-    }
-}
-
-impl Object {
-    /// The words that count against the limit, with those of the landing pad, where they are fewer
-    /// than 2^58.
-    pub fn traversed(&self) -> u64
-        ensures { let words = landing_words self.now.landing_pad + traversed_of self.now.shape in
-            words < 2 ^ 58 → result ≡ words }
-    {
-        let landing_pad = match self.landing_pad {
-            Some(landing_pad) => landing_pad.words,
-            None => 0,
-        };
-        self.shape.traversed().saturating_add(landing_pad)
-    }
 }
