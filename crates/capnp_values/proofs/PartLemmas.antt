@@ -1,10 +1,10 @@
 -- Values as parts of rows: their trees as they stand or in canonical form, and their words.
 use Rattle.std.proofs.Common.{◌≡◌, ℕ, ◌+◌, ◌-◌, ◌/◌, ◌<◌, ◌≤◌, ◌^◌, Bool, true, false, List, [], ◌∷◌, length, refl, sym, ◌∙◌, ap, subst, arith}
-use Rattle.std.proofs.Common.{map, take, drop, length-take, length-drop, w64}
+use Rattle.std.proofs.Common.{map, take, drop, length-drop, w64}
 use Rattle.std.specs.Prelude.{replicate}
 use Rattle.std.specs.Int.{from_le_bytes, to_le_bytes}
 use Rattle.std.specs.Simd.{first_chunks}
-use Rattle.std.proofs.lemmas.List.{take_all, take-replicate, drop-replicate}
+use Rattle.std.proofs.lemmas.List.{take_all, drop-replicate}
 use Rattle.std.proofs.lemmas.Nat.{from_le_bytes-to_le_bytes_8}
 use Rattle.capnp_wire.proofs.words.WordLemmas.{number_of_eight}
 use Rattle.capnp_frame.specs.Words.{bytes_of}
@@ -12,7 +12,7 @@ use Rattle.capnp_frame.specs.declared.words.Word.{Word}
 use Rattle.capnp_wire.specs.Pointer.{number_of, words_of}
 use Rattle.capnp_wire.specs.Tree.{Form, null, struct, numbers, pointers, structs, Trees, none, tree, count, is_null, own_words, total_words}
 use Rattle.capnp_wire.specs.Trim.{trim, trim_form, trim_held}
-use Rattle.capnp_wire.specs.Layout.{pointer, pointer_to, own, body, layout, formed, HasRoom, AllHaveRoom}
+use Rattle.capnp_wire.specs.Layout.{pointer, pointer_to, body, layout, formed, HasRoom, AllHaveRoom}
 use Rattle.capnp_wire.specs.Values.{HasWords, pointed}
 use Rattle.capnp_wire.proofs.trees.TrimLemmas.{total-trim}
 use Rattle.capnp_wire.proofs.layouts.OpenLemmas.{room_formed}
@@ -89,11 +89,6 @@ heads a b xs ys e = cc
 
 pub tails : (a b : ℕ) (xs ys : List ℕ) → a ∷ xs ≡ b ∷ ys → xs ≡ ys
 tails a b xs ys e = cc
-
-pub front_zero : (block own : List ℕ) (k : ℕ) → block ≡ replicate (length block) 0 → k ≤ length block → own ≡ take k block → own ≡ replicate (length own) 0
-front_zero block own k zero_is le is =
-    let long : length own ≡ k = omega (arith, ap length is, length-take k block) in
-    is ∙ ap (λ (l : List ℕ). take k l) zero_is ∙ take-replicate k (length block) 0 le ∙ ap (λ (n : ℕ). replicate n 0) (sym long)
 
 pub rest_zero : (block rest : List ℕ) (k : ℕ) → block ≡ replicate (length block) 0 → rest ≡ drop k block → rest ≡ replicate (length rest) 0
 rest_zero block rest k zero_is is =

@@ -9,7 +9,7 @@ use Rattle.capnp_wire.specs.Tree.{Form, Trees, none, tree, count, own_words, tot
 use Rattle.capnp_wire.specs.Trim.{first}
 use Rattle.capnp_wire.specs.Layout.{pointer, pointer_to, run, pointers_to, own, body, formed}
 use Rattle.capnp_wire.proofs.words.PutLemmas.{words_split}
-use Rattle.capnp_values.specs.Fields.{IsPart, IsRow, CanWriteRow, IsRowWritten}
+use Rattle.capnp_values.specs.Fields.{IsPart, CanWritePart, IsRow, CanWriteRow, IsRowWritten}
 use Rattle.capnp_values.proofs.PartLemmas.{own_form, own_held, formed_tree, part_total, part_total_is, part_layout}
 
 -- a row that is written: its first value, and those after it
@@ -96,12 +96,21 @@ row_body c form held rest trees n m own held_block whole n_is long own_is held_i
     ∙ ap (λ (t : Trees). body (first (suc m) t)) (sym (ap (formed c) whole ∙ formed_tree c form held rest))
     ∙ ap (λ (k : ℕ). body (first k (formed c trees))) (sym n_is)
 
+-- the values after the first one, and that one
+pub rest_row : (h hs : Trees → Type 0) (c : Bool) (n m room : ℕ) → n ≡ suc m → CanWriteRow (λ t. IsRow h hs t) c n room → CanWriteRow hs c m room
+rest_row h hs c n m room n_is r = let s = row_split h hs c n m room n_is r in record { trees = s.rest; trees_are = s.others; some = s.some; fits = omega (arith, s.fits) }
+
+pub first_part : (h hs : Trees → Type 0) (c : Bool) (n m room own long : ℕ) → n ≡ suc m → CanWriteRow (λ t. IsRow h hs t) c n room
+    → ((form : Form) (held : Trees) → IsPart h form held → own ≡ part_total c form held) → long ≡ 8 * own → CanWritePart h c long
+first_part h hs c n m room own long n_is r own_is long_is =
+    let s = row_split h hs c n m room n_is r in record { form = s.form; held = s.held; part = s.part; room_is = omega (arith, own_is s.form s.held s.part, long_is) }
+
 -- the first value has room in front of those that are written
-pub own_within : (h hs : Trees → Type 0) (c : Bool) (n m room own end : ℕ) → n ≡ suc m → CanWriteRow (λ t. IsRow h hs t) c n room
-    → ((form : Form) (held : Trees) → IsPart h form held → own ≡ part_total c form held) → ((t : Trees) → hs t → 8 * (end + total_words (first m (formed c t))) ≡ room) → own ≤ end
-own_within h hs c n m room own end n_is r own_is rest_is =
+pub own_within : (h hs : Trees → Type 0) (c : Bool) (n m room own end : ℕ) (block : List ℕ) → n ≡ suc m → CanWriteRow (λ t. IsRow h hs t) c n room
+    → ((form : Form) (held : Trees) → IsPart h form held → own ≡ part_total c form held) → IsRowWritten hs c m end block → length block ≡ room → own ≤ end
+own_within h hs c n m room own end block n_is r own_is w long =
     let s = row_split h hs c n m room n_is r in
-    omega (arith, own_is s.form s.held s.part, s.fits, rest_is s.rest s.others)
+    omega (arith, own_is s.form s.held s.part, s.fits, w.room s.rest s.others, long)
 
 -- and is written there
 pub row_front : (h hs : Trees → Type 0) (c : Bool) (n m start own end : ℕ) (block new part : List ℕ) → n ≡ suc m → start + own ≡ end → length part ≡ 8 * own → PutBefore start end block new part

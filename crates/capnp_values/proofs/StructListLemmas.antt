@@ -7,14 +7,13 @@ use Rattle.capnp_frame.specs.declared.error.Error.{Error}
 use Rattle.capnp_frame.specs.declared.error.ErrorKind.{ErrorKind}
 use Rattle.std.proofs.lemmas.List.{take_all, length-map}
 use Rattle.std.proofs.lemmas.List.Elements.{All-nil, All-cons, All-head, All-tail}
-use Rattle.capnp_wire.specs.Tree.{Form, null, struct, numbers, pointers, structs, Trees, none, tree, count, own_words, total_words}
-use Rattle.capnp_wire.specs.Trim.{first, following, before, keep_tree, cut_nulls, least_pointers, narrowed, trim}
-use Rattle.capnp_wire.specs.Layout.{formed, HasRoom, AllHaveRoom}
+use Rattle.capnp_wire.specs.Tree.{structs, Trees, none, tree, count, total_words}
+use Rattle.capnp_wire.specs.Trim.{first, following, before, cut_nulls, least_pointers, narrowed, trim}
+use Rattle.capnp_wire.specs.Layout.{formed, AllHaveRoom}
 use Rattle.capnp_wire.proofs.trees.FrontLemmas.{trim_before}
 use Rattle.capnp_wire.proofs.trees.NarrowLemmas.{first-before, following-before, first_all}
-use Rattle.capnp_wire.proofs.trees.ChunkLemmas.{cut-first, count-first, count-before, count-following, total-before, total-chunks, before_chunks}
-use Rattle.capnp_wire.proofs.trees.KeptLemmas.{rooms_first, rooms_after}
-use Rattle.capnp_wire.proofs.trees.StoodLemmas.{total_cut, total_first, total_narrowed}
+use Rattle.capnp_wire.proofs.trees.ChunkLemmas.{count-first, count-before, count-following, total-before, before_chunks}
+use Rattle.capnp_wire.proofs.trees.StoodLemmas.{total_cut, total_narrowed}
 use Rattle.capnp_wire.proofs.trees.TrimLemmas.{room_trim}
 use Rattle.capnp_values.specs.Fields.{IsSettled, kept_row, extent_of, HasExtent}
 use Rattle.capnp_values.specs.declared.fields.Extent.{Extent}
@@ -84,14 +83,10 @@ pub data_front : (c : Bool) (d : ℕ) (ws : List ℕ) (rows : List (List ℕ)) �
 data_front true d ws rows long = refl
 data_front false d ws rows long = omega (arith, long)
 
--- a row has the words of the pointers that are kept of it, and of more of them
+-- a row has the words of the pointers that are kept of it
 pub row_total : (c : Bool) (row : Trees) → AllHaveRoom row → total_words (kept_row c row) ≡ total_words (formed c row)
 row_total true row rooms = total_cut (trim row) (room_trim row rooms)
 row_total false row rooms = refl
-
-pub row_first : (c : Bool) (m : ℕ) (row : Trees) → AllHaveRoom row → count (kept_row c row) ≤ m → m ≤ count row → total_words (first m (formed c row)) ≡ total_words (kept_row c row)
-row_first true m row rooms some most = total_first m (trim row) (room_trim row rooms) some ∙ sym (row_total true row rooms)
-row_first false m row rooms some most = ap total_words (first_all m row (omega arith))
 
 pub total_front : (c : Bool) (row rest held : Trees) → held ≡ before row rest → AllHaveRoom row → total_words (formed c held) ≡ total_words (kept_row c row) + total_words (formed c rest)
 total_front c row rest held whole rooms =

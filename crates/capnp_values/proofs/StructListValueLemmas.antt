@@ -10,10 +10,9 @@ use Rattle.capnp_frame.specs.declared.error.Error.{Error}
 use Rattle.capnp_frame.specs.declared.error.ErrorKind.{ErrorKind}
 use Rattle.capnp_wire.specs.Pointer.{number_of, words_of}
 use Rattle.capnp_wire.specs.Tree.{structs, Trees, none, tree, count, total_words}
-use Rattle.capnp_wire.specs.Layout.{struct_pointer, list_pointer, row_run, pointers_to, woven, body, layout, formed, AllHaveRoom}
+use Rattle.capnp_wire.specs.Layout.{list_pointer, layout, formed, AllHaveRoom}
 use Rattle.capnp_wire.specs.Values.{HasWords, LacksWords, pointed, too_large}
 use Rattle.capnp_wire.proofs.words.CutLemmas.{least_data_within}
-use Rattle.capnp_wire.proofs.words.PutLemmas.{words_split}
 use Rattle.capnp_wire.proofs.layouts.SizeLemmas.{rows_even}
 use Rattle.capnp_values.specs.Fields.{IsSettled}
 use Rattle.capnp_values.specs.declared.rows.Reach.{Reach}

@@ -1,5 +1,5 @@
 -- One more struct is written, in front of those after it.
-use Rattle.std.proofs.Common.{◌≡◌, ◌+◌, ◌-◌, ◌*◌, ◌/◌, ◌++◌, length, length-take, length-drop, ℕ, take, drop, List, sym, ◌∙◌, ap, subst, arith}
+use Rattle.std.proofs.Common.{◌≡◌, ◌+◌, ◌-◌, ◌*◌, ◌/◌, ◌++◌, length, length-take, length-drop, ℕ, take, drop, sym, ◌∙◌, ap, subst, arith}
 use Rattle.capnp_wire.specs.Trim.{first}
 use Rattle.capnp_wire.specs.Layout.{run, pointers_to, formed}
 use Rattle.capnp_values.specs.Fields.{CanWriteRow}

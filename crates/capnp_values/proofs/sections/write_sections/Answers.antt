@@ -1,5 +1,5 @@
 -- The data words, and then the pointers.
-use Rattle.std.proofs.Common.{◌≡◌, ◌+◌, ◌-◌, ◌/◌, ℕ, length, sym, subst, arith}
+use Rattle.std.proofs.Common.{◌≡◌, ◌+◌, ◌-◌, ◌/◌, ℕ, length, subst, arith}
 use Rattle.capnp_wire.specs.Layout.{formed}
 use Rattle.capnp_values.specs.Fields.{IsRowWritten}
 use Rattle.capnp_values.proofs.SectionLemmas.{own_written}

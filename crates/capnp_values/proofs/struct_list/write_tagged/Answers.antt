@@ -1,5 +1,5 @@
 -- The tag, the elements, and then what these lead to.
-use Rattle.std.proofs.Common.{◌≡◌, ◌+◌, ◌-◌, ◌*◌, ◌∷◌, ◌++◌, [], ℕ, List, length, sym, ap, ◌∙◌, subst, arith}
+use Rattle.std.proofs.Common.{◌≡◌, ◌+◌, ◌-◌, ◌*◌, ◌∷◌, ◌++◌, [], ℕ, List, length, ap, ◌∙◌, subst, arith}
 use Rattle.capnp_wire.specs.Pointer.{words_of}
 use Rattle.capnp_wire.specs.Layout.{struct_pointer}
 use Rattle.capnp_wire.proofs.words.PutLemmas.{words_split}
