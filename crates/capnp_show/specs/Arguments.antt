@@ -1,5 +1,5 @@
 -- The words that the program takes (src/arguments.rt).
-use Rattle.std.specs.Prelude.{◌≡◌, ◌⊎◌, ℕ, List, Some, None, codes}
+use Rattle.std.specs.Prelude.{◌≡◌, ◌⊎◌, ℕ, Bool, true, false, List, Some, None, codes}
 use Rattle.capnp_show.specs.declared.settings.Reading.{Reading}
 use Rattle.capnp_show.specs.declared.settings.Reading.TheVariants.{Framed, Packed, Detected}
 use Rattle.capnp_show.specs.declared.settings.Form.{Form}
@@ -26,3 +26,8 @@ pub record AsksForm (found : Found) (form : Form) : Type 0 where
   pub json : IsAbsent found (codes "count") → IsGiven found (codes "json") → form ≡ Json
   pub html : IsAbsent found (codes "count") → IsAbsent found (codes "json") → IsGiven found (codes "html") → form ≡ Html
   pub lines : IsAbsent found (codes "count") → IsAbsent found (codes "json") → IsAbsent found (codes "html") → form ≡ Lines
+
+-- whether a flag is given
+pub record AsksFlag (found : Found) (name : List ℕ) (flag : Bool) : Type 0 where
+  pub given : IsGiven found name → flag ≡ true
+  pub absent : IsAbsent found name → flag ≡ false

@@ -1,5 +1,5 @@
 -- What is shown of a message's canonical form (src/hash.rt).
-use Rattle.std.specs.Prelude.{◌≡◌, ℕ, List, string_bytes}
+use Rattle.std.specs.Prelude.{◌≡◌, ⊤, ℕ, List, string_bytes}
 use Rattle.sha2.specs.Sha256.{sha256}
 use Rattle.hex.specs.Hex.{encode_lower}
 use Rattle.capnp.specs.Passed.{Pointer, LacksForm}
@@ -18,3 +18,8 @@ pub record IsHashOf (pointer : Pointer) (hash : List ℕ) : Type 0 where
 abbrev pub ShowsHash : Pointer → Hash → Type 0
 ShowsHash pointer (Of text) = (hash : List ℕ) × IsHashOf pointer hash × (string_bytes text ≡ encode_lower hash)
 ShowsHash pointer (Lacking kind) = LacksForm pointer kind
+
+-- a fact about the text of a hash, where there is one
+abbrev pub IfHash : Hash → (List ℕ → Type 0) → Type 0
+IfHash (Of text) fact = fact (string_bytes text)
+IfHash (Lacking kind) fact = ⊤

@@ -1,7 +1,7 @@
 //! The words that the program takes.
 ghost use Rattle.std.specs.Prelude.{◌≡◌, Some, None, codes};
 ghost use Rattle.clap.specs.Words.{found_of, one_text};
-ghost use Rattle.capnp_show.specs.Arguments.{IsGiven, IsAbsent, AsksReading, AsksForm};
+ghost use Rattle.capnp_show.specs.Arguments.{AsksFlag, AsksReading, AsksForm};
 
 use crate::settings::{Form, Reading, Settings};
 use capnp::message::{DEFAULT_READER_OPTIONS, ReaderOptions};
@@ -125,6 +125,9 @@ pub fn settings_of(matches: &ArgMatches<'_>) -> Settings
     ensures reading { AsksReading (found_of matches.now) result.reading }
     ensures form { AsksForm (found_of matches.now) result.form }
     ensures all { one_text (found_of matches.now) (codes "first") ≡ None → result.first ≡ u64.MAX }
+    ensures shows { AsksFlag (found_of matches.now) (codes "hash") result.has_hash
+        × AsksFlag (found_of matches.now) (codes "tree") result.has_tree
+        × AsksFlag (found_of matches.now) (codes "progress") result.has_progress }
 {
     Settings {
         reading: reading_of(matches),

@@ -1,5 +1,6 @@
 //! Messages as JSON.
-ghost use Rattle.std.specs.Prelude.{◌≡◌, ◌++◌, OnOk, codes, string_bytes, String};
+ghost use Rattle.std.specs.Prelude.{◌≡◌, ◌++◌, OnOk, codes, string_bytes};
+ghost use Rattle.capnp_show.specs.Hashes.{IfHash};
 ghost use Rattle.capnp_show.specs.Texts.{member, listed_members};
 
 use crate::hash::Hash;
@@ -32,8 +33,8 @@ pub fn push_listed(text: &mut String, listed: &Listed) -> Result<(), AllocError>
 
 /// Adds the hash of a canonical form, or why there is none.
 pub fn push_hash(text: &mut String, hash: &Hash) -> Result<(), AllocError>
-    ensures { (shown : String) → hash.now ≡ Hash.Of shown → OnOk result (string_bytes text.new
-        ≡ string_bytes text.old ++ (codes ",\"sha256\":\"" ++ (string_bytes shown ++ codes "\""))) }
+    ensures { IfHash hash.now (λ shown. OnOk result (string_bytes text.new
+        ≡ string_bytes text.old ++ (codes ",\"sha256\":\"" ++ (shown ++ codes "\"")))) }
 {
     match hash {
         Hash::Of(hash) => write!(text, ",\"sha256\":\"{hash}\""),

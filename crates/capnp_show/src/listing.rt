@@ -1,5 +1,6 @@
 //! Messages as lines.
-ghost use Rattle.std.specs.Prelude.{◌≡◌, ◌++◌, OnOk, codes, decimal, string_bytes, String};
+ghost use Rattle.std.specs.Prelude.{◌≡◌, ◌++◌, OnOk, codes, decimal, string_bytes};
+ghost use Rattle.capnp_show.specs.Hashes.{IfHash};
 ghost use Rattle.capnp_show.specs.Texts.{element_name, counted, listed_line};
 
 use crate::hash::Hash;
@@ -51,8 +52,8 @@ pub fn push_listed(text: &mut String, listed: &Listed) -> Result<(), AllocError>
 
 /// Adds the hash of a canonical form, or why there is none.
 pub fn push_hash(text: &mut String, hash: &Hash) -> Result<(), AllocError>
-    ensures { (shown : String) → hash.now ≡ Hash.Of shown → OnOk result (string_bytes text.new
-        ≡ string_bytes text.old ++ (codes ", sha256 " ++ string_bytes shown)) }
+    ensures { IfHash hash.now (λ shown. OnOk result (string_bytes text.new
+        ≡ string_bytes text.old ++ (codes ", sha256 " ++ shown))) }
 {
     match hash {
         Hash::Of(hash) => write!(text, ", sha256 {hash}"),
