@@ -1,6 +1,6 @@
 //! The words of a segment, as rows of a table.
 ghost use Rattle.std.specs.Prelude.{◌≡◌, ◌%◌, ◌++◌, OnOk, codes, string_bytes};
-ghost use Rattle.capnp_show.specs.Texts.{counted, message_name, word_name, word_classes};
+ghost use Rattle.capnp_show.specs.Texts.{counted, message_name, word_name, null_class, owner_classes, refused_class, word_classes};
 
 use crate::owners::{Lead, Owner, Owners, Role, Word};
 use crate::refusals::push_refusal;
@@ -103,13 +103,22 @@ fn push_cell(
     text.push_str("</td>")
 }
 
-// Adds what a word is to whom it belongs.
+// Adds the classes of a word: what it is to whom it belongs, and how a pointer fares.
 fn push_classes(text: &mut String, word: &Word) -> Result<(), AllocError>
     ensures { OnOk result (string_bytes text.new ≡ string_bytes text.old ++ word_classes word.now) }
 {
-    match word.owner {
-        Owner::Free => text.push_str("free")?,
-        Owner::Root => text.push_str("pointer root")?,
+    push_owner(text, word.owner)?;
+    push_null(text, word)?;
+    push_refused(text, word)
+}
+
+// Adds what a word is to whom it belongs.
+fn push_owner(text: &mut String, owner: Owner) -> Result<(), AllocError>
+    ensures { OnOk result (string_bytes text.new ≡ string_bytes text.old ++ owner_classes owner) }
+{
+    match owner {
+        Owner::Free => text.push_str("free"),
+        Owner::Root => text.push_str("pointer root"),
         Owner::Object(number, role) => {
             let class = match role {
                 Role::Data => "data",
@@ -118,12 +127,27 @@ fn push_classes(text: &mut String, word: &Word) -> Result<(), AllocError>
                 Role::Landing => "landing",
             };
             write!(text, "{class} ")?;
-            push_object_classes(text, number)?;
+            push_object_classes(text, number)
         }
     }
+}
+
+// Adds that a word is a null pointer.
+fn push_null(text: &mut String, word: &Word) -> Result<(), AllocError>
+    ensures { OnOk result (string_bytes text.new
+        ≡ string_bytes text.old ++ null_class word.now.owner word.now.lead) }
+{
     if word.is_pointer() && word.lead == Lead::Null {
         text.push_str(" null")?;
     }
+    Ok(())
+}
+
+// Adds that what a word leads to is refused.
+fn push_refused(text: &mut String, word: &Word) -> Result<(), AllocError>
+    ensures { OnOk result (string_bytes text.new
+        ≡ string_bytes text.old ++ refused_class word.now.refusal) }
+{
     if word.refusal.is_some() {
         text.push_str(" refused")?;
     }
