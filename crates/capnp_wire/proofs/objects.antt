@@ -11,3 +11,4 @@ pub mod OwnWordLemmas
 pub mod PaddedLemmas
 pub mod ReadNearLemmas
 pub mod StructLemmas
+pub mod PartLemmas

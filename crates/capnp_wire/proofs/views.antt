@@ -2,6 +2,9 @@
 pub mod ViewLemmas
 pub mod FormLemmas
 pub mod ListViewLemmas
+pub mod UpgradedRowLemmas
+pub mod UpgradedNumberLemmas
+pub mod UpgradedPointerLemmas
 pub mod ValueLemmas
 pub mod SetterLemmas
 pub mod OneValueLemmas

@@ -10,10 +10,13 @@ pub mod Reached
 pub mod Traversed
 pub mod Faults
 pub mod Views
+pub mod Parts
 pub mod Readers
 pub mod ListViews
 pub mod Fields
 pub mod NumberViews
+pub mod UpgradedViews
+pub mod UpgradedReaders
 pub mod Layout
 pub mod Block
 pub mod Rows

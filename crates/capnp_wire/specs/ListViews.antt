@@ -1,5 +1,5 @@
 -- What the views of lists of structs and of lists of pointers show (src/struct_list, any_pointer_list).
-use Rattle.std.specs.Prelude.{◌≡◌, ℕ, ◌-◌, ◌*◌, ⊤, List, [], Option, take, drop, slice_get, slice_index_or}
+use Rattle.std.specs.Prelude.{◌≡◌, ℕ, ◌+◌, ◌-◌, ◌*◌, ⊤, List, [], Option, take, drop, slice_get, slice_index_or}
 use Rattle.capnp_frame.specs.declared.error.ErrorKind.{ErrorKind}
 use Rattle.capnp_frame.specs.declared.error.ErrorKind.TheVariants.{WrongPointerKind}
 use Rattle.capnp_frame.specs.declared.message.segments.ReaderSegments.{Ghosts}
@@ -10,6 +10,8 @@ use Rattle.capnp_wire.specs.Traversed.{Within}
 use Rattle.capnp_wire.specs.Readers.{limit_of}
 use Rattle.capnp_wire.specs.Views.{Pointer, Struct, Shows}
 use Rattle.capnp_wire.specs.declared.layout.place.Place.{Place}
+use Rattle.capnp_wire.specs.declared.layout.pointer.Elements.{Elements}
+use Rattle.capnp_wire.specs.declared.layout.object.Object.{Object as ReadObject}
 use Rattle.capnp_wire.specs.declared.struct_list.reader.Reader.{Reader as StructListReader}
 use Rattle.capnp_wire.specs.declared.any_pointer_list.reader.Reader.{Reader as PointerListReader}
 
@@ -95,6 +97,29 @@ struct_list_of segments reader =
       held = row_places reader.first.segment reader.first.word size.data_words size.pointers reader.elements.count;
       nesting = reader.nesting;
       limit = limit_of reader.limiter;
+    }
+
+-- no structs, as null has them, and those that stand in an object, after some words of it
+abbrev pub no_structs : Pointer → StructList
+no_structs pointer = record {
+  message = pointer.message;
+  rows = [];
+  pointer_words = 0;
+  held = [];
+  nesting = pointer.nesting - 1;
+  limit = pointer.limit;
+}
+
+abbrev pub structs_in : Pointer → ReadObject → ℕ → Elements → StructList
+structs_in pointer object skipped elements =
+    let size = elements.size in
+    let first = object.start.word + skipped in record {
+      message = pointer.message;
+      rows = rows_from (words_of object.segment.now) first size.data_words size.pointers elements.count;
+      pointer_words = size.pointers;
+      held = row_places object.start.segment first size.data_words size.pointers elements.count;
+      nesting = pointer.nesting - 1;
+      limit = pointer.limit;
     }
 
 abbrev pub pointer_list_of : {S : Type 0} → (S → List (List ℕ)) → PointerListReader S → PointerList

@@ -10,6 +10,7 @@ use Rattle.capnp_wire.specs.Reached.{root}
 use Rattle.capnp_wire.specs.Traversed.{Within}
 use Rattle.capnp_wire.specs.Landing.{IsObject, shape_of}
 use Rattle.capnp_wire.specs.Views.{Pointer, Struct}
+use Rattle.capnp_wire.specs.Parts.{own_data}
 use Rattle.capnp_wire.specs.declared.layout.place.Place.{Place}
 use Rattle.capnp_wire.specs.declared.layout.object.Object.{Object as ReadObject}
 use Rattle.capnp_wire.specs.declared.any_pointer.reader.Reader.{Reader}
@@ -52,7 +53,7 @@ default_root segments = record { message = message_of segments; place = Some roo
 abbrev pub struct_of : {S : Type 0} {ghosts : Ghosts S} → (S → List (List ℕ)) → StructReader S ghosts → Struct
 struct_of segments reader = record {
   message = message_of (segments reader.segments.now);
-  words = words_from (words_of reader.segment.now) reader.start.word reader.size.data_words;
+  words = own_data reader.part (words_from (words_of reader.segment.now) reader.start.word reader.size.data_words);
   held = places reader.start.segment (reader.start.word + reader.size.data_words) reader.size.pointers;
   nesting = reader.nesting;
   limit = limit_of reader.limiter;

@@ -1,7 +1,9 @@
 //! Structs.
 mod fields;
+pub(crate) mod part;
 mod reader;
 
+use crate::layout::place::Place;
 use crate::layout::struct_value;
 use crate::pointer_word::word_of;
 use crate::read_limiter::limit_in_words;
@@ -17,6 +19,12 @@ impl<'a, S: ReaderSegments + 'a> traits::Owned<'a, S> for Owned {
     type Reader = StructReader<'a, S>;
 }
 
+// Where a data word stands that is copied out of its list.
+const ALONE: Place = Place {
+    segment: 0,
+    word: 0,
+};
+
 // The tree of the struct, within the nesting depth left and the traversal limit.
 impl<'a, S: ReaderSegments> SetterInput<Owned> for StructReader<'a, S> {
     ghost use Rattle.capnp_wire.specs.Readers.{struct_of};
@@ -31,27 +39,50 @@ impl<'a, S: ReaderSegments> SetterInput<Owned> for StructReader<'a, S> {
     ghost one = { λ value trees is. ap count is.whole };
 
     fn measure(&self, canonical: bool) -> Result<u32> {
-        struct_value::measure(
-            self.segments,
-            self.segment,
-            self.start,
-            self.size,
-            self.nesting,
-            limit_in_words(self.limiter),
-            canonical,
-        )
+        let limit = limit_in_words(self.limiter);
+        match self.part {
+            None => struct_value::measure(
+                self.segments,
+                self.segment,
+                self.start,
+                self.size,
+                self.nesting,
+                limit,
+                canonical,
+            ),
+            Some(_) => struct_value::measure(
+                self.segments,
+                &self.get_word(0).to_le_bytes(),
+                ALONE,
+                self.size,
+                self.nesting,
+                limit,
+                canonical,
+            ),
+        }
     }
 
     fn write(&self, canonical: bool, block: &mut [u8]) -> Word {
-        let pointer = struct_value::write(
-            self.segments,
-            self.segment,
-            self.start,
-            self.size,
-            self.nesting,
-            canonical,
-            block,
-        );
+        let pointer = match self.part {
+            None => struct_value::write(
+                self.segments,
+                self.segment,
+                self.start,
+                self.size,
+                self.nesting,
+                canonical,
+                block,
+            ),
+            Some(_) => struct_value::write(
+                self.segments,
+                &self.get_word(0).to_le_bytes(),
+                ALONE,
+                self.size,
+                self.nesting,
+                canonical,
+                block,
+            ),
+        };
         word_of(pointer)
     }
 }

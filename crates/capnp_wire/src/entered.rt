@@ -68,8 +68,8 @@ fn bytes_at(segment: &[u8], start: usize, count: u32) -> &[u8]
     &segment[begin..begin + count as usize]
 }
 
-// The bytes of the words of a list of numbers, which begins at a word of a segment.
-fn words_at(segment: &[u8], start: usize, size: ElementSize, count: u32) -> &[u8]
+/// The bytes of the words of a list of numbers, which begins at a word of a segment.
+pub(crate) fn words_at(segment: &[u8], start: usize, size: ElementSize, count: u32) -> &[u8]
     requires { start + words_for count (width (code_of size)) ≤ length segment.now / 8 }
     ensures elements { elements (words_of result.now) 0 (code_of size) count
         ≡ elements (words_of segment.now) start (code_of size) count }

@@ -28,5 +28,6 @@ pub mod struct_list;
 pub mod text;
 pub mod text_list;
 pub mod traits;
+pub mod upgraded;
 
 pub use message_size::MessageSize;

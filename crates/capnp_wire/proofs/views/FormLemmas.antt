@@ -35,6 +35,15 @@ entered_reads p object fact entered holds = (
   (holds, entered.within),
 )
 
+pub entered_shown : (p : Pointer) (object : ReadObject) (fact : Form → List Place → Type 0) → IsEntered p object
+    → (let shape = shape_of (words_of object.segment.now) object.start object.body in fact shape.form shape.held)
+    → Shows p (λ shape. fact shape.form shape.held × Within p.limit shape.traversed)
+entered_shown p object fact entered holds = (
+  record (shape_of (words_of object.segment.now) object.start object.body) { traversed = object.traversed },
+  at_place entered.stands entered.object_is.object (λ not. entered.nesting),
+  (holds, entered.within),
+)
+
 -- a list of numbers is not declined by what takes it
 pub numbers_form : (object : ReadObject) (sizes : ElementSize) (n : ℕ) (values : List ℕ) → object.body ≡ Numbers sizes n
     → values ≡ elements (words_of object.segment.now) object.start.word (code_of sizes) n → form_of object ≡ numbers (code_of sizes) values

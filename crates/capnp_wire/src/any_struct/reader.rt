@@ -1,10 +1,11 @@
 //! Structs that are read.
-ghost use Rattle.std.specs.Prelude.{◌≡◌, ◌+◌, ◌/◌, ◌≤◌, length, slice_index, MatchResult};
+ghost use Rattle.std.specs.Prelude.{◌≡◌, ◌≢◌, ◌+◌, ◌/◌, ◌≤◌, length, slice_index, None, MatchResult};
 ghost use Rattle.capnp_wire.specs.Pointer.{words_of};
 ghost use Rattle.capnp_wire.specs.Object.{message_of};
 ghost use Rattle.capnp_wire.specs.Values.{HoldsPointers};
 
 use crate::any_pointer;
+use crate::any_struct::part::{self, WordPart};
 use crate::entered::wrong_kind;
 use crate::layout::place::{Place, word};
 use crate::layout::pointer::StructSize;
@@ -22,9 +23,12 @@ pub struct StructReader<'a, S: ReaderSegments> {
     pub(crate) start: Place,
     pub(crate) size: StructSize,
     pub(crate) nesting: u32,
+    /// Which part of its one data word is its own, where it is a number of a list.
+    pub(crate) part: Option<WordPart>,
     ghost room: { start.word + (size.data_words + size.pointers) ≤ length segment.now / 8 },
     ghost content: { HoldsPointers (message_of (S.segments segments.now)) (words_of segment.now)
         start size },
+    ghost own: { part ≢ None → (size.data_words ≡ 1) × (size.pointers ≡ 0) },
 }
 
 impl<'a, S: ReaderSegments> StructReader<'a, S> {
@@ -44,7 +48,7 @@ impl<'a, S: ReaderSegments> StructReader<'a, S> {
     {
         if index < self.size.data_words {
             match word(self.segment, self.start.word + index as usize) {
-                Some(word) => word,
+                Some(word) => part::own_bits(self.part, word),
                 None => 0,
             }
         } else {
@@ -102,6 +106,7 @@ impl<'a, S: ReaderSegments> StructReader<'a, S> {
                     pointers: 0,
                 },
                 nesting,
+                part: None,
             });
         };
         let Some(size) = object.body.as_struct() else {
@@ -114,6 +119,7 @@ impl<'a, S: ReaderSegments> StructReader<'a, S> {
             start: object.start,
             size,
             nesting,
+            part: None,
         })
     }
 }

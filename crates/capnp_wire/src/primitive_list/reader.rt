@@ -17,7 +17,7 @@ pub struct Reader<'a, T: PrimitiveElement> {
     /// The words of the list.
     pub(crate) bytes: &'a [u8],
     pub(crate) count: u32,
-    element: PhantomData<T>,
+    pub(crate) element: PhantomData<T>,
     ghost whole: { length bytes.now ≡ 8 * words_for count (width T.code) },
 }
 

@@ -7,6 +7,7 @@ ghost use Rattle.capnp_wire.specs.Values.{HoldsPointers};
 use crate::any_pointer;
 use crate::any_struct::StructReader;
 use crate::entered::wrong_kind;
+use crate::layout::object::{Object, words_fit};
 use crate::layout::place::Place;
 use crate::layout::pointer::{Elements, StructSize};
 use crate::read_limiter::ReadLimiter;
@@ -31,9 +32,9 @@ pub struct Reader<'a, S: ReaderSegments> {
 }
 
 impl<'a, S: ReaderSegments> Reader<'a, S> {
-    ghost use Rattle.capnp_wire.specs.Readers.{struct_of, pointer_of};
+    ghost use Rattle.capnp_wire.specs.Readers.{struct_of, pointer_of, IsEntered};
     ghost use Rattle.capnp_wire.specs.Views.{Refuses};
-    ghost use Rattle.capnp_wire.specs.ListViews.{struct_list_of, element_of, IsStructList, DeclinesStructs};
+    ghost use Rattle.capnp_wire.specs.ListViews.{struct_list_of, element_of, no_structs, structs_in, IsStructList, DeclinesStructs};
 
     /// The number of elements.
     pub fn len(&self) -> u32
@@ -60,6 +61,7 @@ impl<'a, S: ReaderSegments> Reader<'a, S> {
             },
             size: self.elements.size,
             nesting: self.nesting,
+            part: None,
         }
     }
 
@@ -69,42 +71,64 @@ impl<'a, S: ReaderSegments> Reader<'a, S> {
             (λ view. IsStructList pointer (struct_list_of S.segments view))
             (λ error. Refuses pointer DeclinesStructs error.kind) }
     {
-        let segments = reader.segments;
-        let limiter = reader.limiter;
-        let nesting = reader.nesting.saturating_sub(1);
         let Some(object) = reader.enter()? else {
-            return Ok(Reader {
-                segments,
-                limiter,
-                segment: &[],
-                first: Place {
-                    segment: 0,
-                    word: 0,
-                },
-                elements: Elements {
-                    size: StructSize {
-                        data_words: 0,
-                        pointers: 0,
-                    },
-                    count: 0,
-                },
-                nesting,
-            });
+            return Ok(Reader::empty(reader));
         };
         let Some(elements) = object.body.as_structs() else {
             return Err(wrong_kind());
         };
-        Ok(Reader {
-            segments,
-            limiter,
+        Ok(Reader::within(reader, &object, 1, elements))
+    }
+
+    /// The list of null, which has no elements.
+    pub(crate) fn empty(reader: &any_pointer::Reader<'a, S>) -> Reader<'a, S>
+        ensures { struct_list_of S.segments result ≡ no_structs (pointer_of S.segments reader.now) }
+    {
+        Reader {
+            segments: reader.segments,
+            limiter: reader.limiter,
+            segment: &[],
+            first: Place {
+                segment: 0,
+                word: 0,
+            },
+            elements: Elements {
+                size: StructSize {
+                    data_words: 0,
+                    pointers: 0,
+                },
+                count: 0,
+            },
+            nesting: reader.nesting.saturating_sub(1),
+        }
+    }
+
+    /// The structs that stand in an object, after some words of it.
+    pub(crate) fn within(
+        reader: &any_pointer::Reader<'a, S>,
+        object: &Object<'a>,
+        skipped: usize,
+        elements: Elements,
+    ) -> Reader<'a, S>
+        requires entered { IsEntered (pointer_of S.segments reader.now) object.now }
+        requires room { object.now.start.word + skipped
+            + elements.count * (elements.size.data_words + elements.size.pointers)
+            ≤ length object.now.segment.now / 8 }
+        ensures { struct_list_of S.segments result
+            ≡ structs_in (pointer_of S.segments reader.now) object.now skipped elements }
+    {
+        words_fit(object.segment);
+        Reader {
+            segments: reader.segments,
+            limiter: reader.limiter,
             segment: object.segment,
             first: Place {
                 segment: object.start.segment,
-                word: object.start.word + 1,
+                word: object.start.word + skipped,
             },
             elements,
-            nesting,
-        })
+            nesting: reader.nesting.saturating_sub(1),
+        }
     }
 }
 

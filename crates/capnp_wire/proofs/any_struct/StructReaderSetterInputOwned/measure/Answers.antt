@@ -1,15 +1,45 @@
 -- The words of a struct that is read, with all below it, are those of its tree.
-use Rattle.capnp_wire.specs.Readers.{struct_of}
-use Rattle.capnp_wire.specs.Values.{IsTreeOf, StopsInside}
+use Rattle.std.proofs.Common.{◌≡◌, ◌≢◌, ◌^◌, ◌<◌, MatchResult, None, Some, length, sym, ◌∙◌, subst, refl, w64, arith}
+use Rattle.std.specs.Int.{to_le_bytes}
+use Rattle.capnp_wire.specs.Pointer.{words_of}
+use Rattle.capnp_wire.specs.Object.{message_of}
+use Rattle.capnp_wire.specs.Readers.{struct_of, limit_of}
+use Rattle.capnp_wire.specs.Views.{Struct}
+use Rattle.capnp_wire.specs.Values.{HasWords, LacksWords, IsTreeOf, StopsInside, fields_at}
+use Rattle.capnp_wire.proofs.objects.FieldLemmas.{length-words_from}
+use Rattle.capnp_wire.proofs.objects.PartLemmas.{whole, alone, one_word}
 use Rattle.capnp_wire.proofs.views.OneValueLemmas.{one_of_struct, measured_found, measured_exactly}
 use Rattle.capnp_wire.proofs.any_struct.StructReaderSetterInputOwned.measure.Goals as goal
 
-pub returns : goal.returns
-returns g c =
-    let fields = struct_of g.S.ReaderSegments.segments c.args.self.now in
-    let returned = rw c.limit_in_words.ensures at c.measure.ensures in
+pub returns-in-None : goal.returns-in-None
+returns-in-None g c =
+    let self = c.args.self.now in
+    let fields = struct_of g.S.ReaderSegments.segments self in
+    let m = message_of (g.S.ReaderSegments.segments self.segments.now) in
+    let same = whole m (words_of self.segment.now) self.start self.size self.part self.nesting (limit_of self.limiter) c.in-None.is in
+    let measured = rw c.limit_in_words-limit.ensures at c.measure.ensures in
+    let returned = subst (λ (f : Struct). MatchResult c.measure.result (λ words. HasWords (IsTreeOf f) c.args.canonical words) (λ error. LacksWords (IsTreeOf f) (StopsInside f) c.args.canonical error.kind)) same measured in
     record {
       returned = returned;
       found = measured_found (IsTreeOf fields) (StopsInside fields) (one_of_struct fields) c.args.canonical c.measure.result returned;
       exact = measured_exactly (IsTreeOf fields) (StopsInside fields) (one_of_struct fields) c.args.canonical c.measure.result returned;
+    }
+
+pub returns-in-Some : goal.returns-in-Some
+returns-in-Some g c =
+    let self = c.args.self.now in
+    let fields = struct_of g.S.ReaderSegments.segments self in
+    let m = message_of (g.S.ReaderSegments.segments self.segments.now) in
+    let some : self.part ≢ None = λ none. cc in
+    let own = self.own some in
+    let long = sym (length-words_from self.segment.now self.start.word self.size.data_words (omega (arith, self.room))) ∙ own.0 in
+    let small : c.get_word.result < 2 ^ 64 = omega (arith, c.get_word.type_inv) in
+    let same = alone m (words_of self.segment.now) _ self.start (record { segment = 0; word = 0 }) self.size self.part self.nesting (limit_of self.limiter) c.get_word.result own.0 own.1 refl long c.get_word.ensures
+    (one_word c.to_le_bytes.result c.get_word.result small c.to_le_bytes.ensures) in
+    let measured = rw c.limit_in_words-limit.ensures at c.measure-in-Some.ensures in
+    let returned = subst (λ (f : Struct). MatchResult c.measure-in-Some.result (λ words. HasWords (IsTreeOf f) c.args.canonical words) (λ error. LacksWords (IsTreeOf f) (StopsInside f) c.args.canonical error.kind)) same measured in
+    record {
+      returned = returned;
+      found = measured_found (IsTreeOf fields) (StopsInside fields) (one_of_struct fields) c.args.canonical c.measure-in-Some.result returned;
+      exact = measured_exactly (IsTreeOf fields) (StopsInside fields) (one_of_struct fields) c.args.canonical c.measure-in-Some.result returned;
     }

@@ -1,14 +1,23 @@
--- A data word is that of the segment, and 0 past the last one.
-use Rattle.capnp_wire.specs.Pointer.{words_of}
-use Rattle.capnp_wire.proofs.objects.FieldLemmas.{word_within, no_word_within}
+-- A data word is the struct's own part of that of the segment, and 0 past the last one.
+use Rattle.std.proofs.Common.{◌≤◌, length, sym, ◌∙◌, ap, arith, length-take}
+use Rattle.capnp_wire.specs.Pointer.{words_of, words_from}
+use Rattle.capnp_wire.specs.Parts.{own_part}
+use Rattle.capnp_wire.proofs.objects.FieldLemmas.{length-words_from, word_within, no_word_within}
+use Rattle.capnp_wire.proofs.objects.PartLemmas.{own_part_zero, own_data_at, no_own_data}
 use Rattle.capnp_wire.proofs.any_struct.reader.StructReader.get_word.Goals as goal
 
 pub returns-in-Some : goal.returns-in-Some
 returns-in-Some g c =
     let self = c.args.self.now in
-    word_within (words_of self.segment.now) self.start.word self.size.data_words c.args.index c.in-Some.word c.if-index-self.true c.in-Some.ensures.value
+    let words = words_of self.segment.now in
+    c.own_bits.ensures
+    ∙ ap (own_part self.part) (word_within words self.start.word self.size.data_words c.args.index c.in-Some.word c.if-index-self.true c.in-Some.ensures.value)
+    ∙ sym (own_data_at self.part (words_from words self.start.word self.size.data_words) c.args.index)
 
 pub returns-in-None : goal.returns-in-None
 returns-in-None g c =
     let self = c.args.self.now in
-    no_word_within (words_of self.segment.now) self.start.word self.size.data_words c.args.index c.if-index-self.true c.in-None.ensures.value
+    let words = words_of self.segment.now in
+    sym (own_part_zero self.part)
+    ∙ ap (own_part self.part) (no_word_within words self.start.word self.size.data_words c.args.index c.if-index-self.true c.in-None.ensures.value)
+    ∙ sym (own_data_at self.part (words_from words self.start.word self.size.data_words) c.args.index)

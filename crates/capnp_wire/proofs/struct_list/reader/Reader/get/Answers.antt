@@ -1,5 +1,5 @@
 -- An element of a list of structs stands after those before it, and within the list.
-use Rattle.std.proofs.Common.{◌+◌, ◌*◌, ℕ, List, [], slice_index_or, ap, ◌∙◌, arith}
+use Rattle.std.proofs.Common.{◌+◌, ◌*◌, ℕ, List, [], slice_index_or, refl, ap, ◌∙◌, arith}
 use Rattle.capnp_wire.specs.Pointer.{words_of}
 use Rattle.capnp_wire.specs.Object.{message_of, places, rows_from}
 use Rattle.capnp_wire.specs.Readers.{limit_of}
@@ -27,7 +27,7 @@ invariant_of-result g c =
     let self = c.args.self.now in
     let size = self.elements.size in
     let ends = element_within (words_of self.segment.now) self.first.word size.data_words size.pointers self.elements.count c.args.index c.words.result c.requires c.words.ensures in
-    record { room = omega (arith, ends, self.room); content = self.content }
+    record { room = omega (arith, ends, self.room); content = self.content; own = λ some. absurd (some refl) }
 
 pub returns : goal.returns
 returns g c =

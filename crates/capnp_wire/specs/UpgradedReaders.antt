@@ -1,0 +1,75 @@
+-- What contracts see of readers of upgraded lists (src/upgraded).
+use Rattle.std.specs.Prelude.{ℕ, zero, suc, ◌+◌, ◌-◌, List, [], ◌∷◌, map}
+use Rattle.capnp_frame.specs.declared.message.segments.ReaderSegments.{Ghosts as SegmentGhosts}
+use Rattle.capnp_wire.specs.Pointer.{words_of}
+use Rattle.capnp_wire.specs.Element.{code_of}
+use Rattle.capnp_wire.specs.Object.{message_of, elements, rows_from}
+use Rattle.capnp_wire.specs.Readers.{limit_of}
+use Rattle.capnp_wire.specs.Views.{Pointer}
+use Rattle.capnp_wire.specs.ListViews.{StructList, PointerList, struct_list_of}
+use Rattle.capnp_wire.specs.NumberViews.{numbers_of}
+use Rattle.capnp_wire.specs.UpgradedViews.{number_row, first_fields}
+use Rattle.capnp_wire.specs.declared.layout.place.Place.{Place}
+use Rattle.capnp_wire.specs.declared.primitive_element.PrimitiveElement.{Ghosts as ElementGhosts}
+use Rattle.capnp_wire.specs.declared.primitive_list.reader.Reader.{Reader as NumbersReader}
+use Rattle.capnp_wire.specs.declared.upgraded.struct_list.NumberRows.{NumberRows}
+use Rattle.capnp_wire.specs.declared.upgraded.struct_list.Rows.{Rows}
+use Rattle.capnp_wire.specs.declared.upgraded.struct_list.Rows.TheVariants.{InPlace as StructsInPlace, Numbers as NumbersAsStructs}
+use Rattle.capnp_wire.specs.declared.upgraded.struct_list.StructList.{StructList as StructListReader}
+use Rattle.capnp_wire.specs.declared.upgraded.number_list.FirstFields.{FirstFields}
+use Rattle.capnp_wire.specs.declared.upgraded.number_list.Numbers.{Numbers}
+use Rattle.capnp_wire.specs.declared.upgraded.number_list.Numbers.TheVariants.{InPlace as NumbersInPlace, OfStructs}
+use Rattle.capnp_wire.specs.declared.upgraded.number_list.NumberList.{NumberList as NumberListReader}
+use Rattle.capnp_wire.specs.declared.upgraded.pointer_list.PointerList.{PointerList as PointerListReader}
+
+-- numbers as structs, each of one data word
+abbrev pub number_rows_of : {S : Type 0} {ghosts : SegmentGhosts S} → (S → List (List ℕ)) → NumberRows S ghosts → StructList
+number_rows_of segments rows = record {
+  message = message_of (segments rows.segments.now);
+  rows = map (number_row (code_of rows.size)) (elements (words_of rows.bytes.now) 0 (code_of rows.size) rows.count);
+  pointer_words = 0;
+  held = [];
+  nesting = rows.nesting;
+  limit = limit_of rows.limiter;
+}
+
+abbrev pub rows_of : {S : Type 0} {ghosts : SegmentGhosts S} → (S → List (List ℕ)) → Rows S ghosts → StructList
+rows_of segments (StructsInPlace list) = struct_list_of segments list
+rows_of segments (NumbersAsStructs rows) = number_rows_of segments rows
+
+abbrev pub upgraded_structs_of : {S : Type 0} {ghosts : SegmentGhosts S} → (S → List (List ℕ)) → StructListReader S ghosts → StructList
+upgraded_structs_of segments list = rows_of segments list.rows
+
+-- the first fields of structs that stand one after the other
+abbrev pub fields_of : {T : Type 0} {ghosts : ElementGhosts T} → ℕ → FirstFields T ghosts → List ℕ
+fields_of code list =
+    first_fields code (rows_from (words_of list.segment.now) list.first list.size.data_words list.size.pointers list.count)
+
+abbrev pub values_of : {T : Type 0} {ghosts : ElementGhosts T} → ℕ → Numbers (NumbersReader T ghosts) (FirstFields T ghosts) → List ℕ
+values_of code (NumbersInPlace list) = numbers_of code list
+values_of code (OfStructs list) = fields_of code list
+
+abbrev pub upgraded_numbers_of : {T : Type 0} {ghosts : ElementGhosts T} → ℕ → NumberListReader T ghosts → List ℕ
+upgraded_numbers_of code list = values_of code list.numbers
+
+-- n places, each a step after the one before
+abbrev pub stepped_places : ℕ → ℕ → ℕ → ℕ → List Place
+stepped_places segment word step zero = []
+stepped_places segment word step (suc n) = record { segment = segment; word = word } ∷ stepped_places segment (word + step) step n
+
+abbrev pub upgraded_pointers_of : {S : Type 0} → (S → List (List ℕ)) → PointerListReader S → PointerList
+upgraded_pointers_of segments list = record {
+  message = message_of (segments list.segments.now);
+  held = stepped_places list.first.segment list.first.word list.step list.count;
+  nesting = list.nesting;
+  limit = limit_of list.limiter;
+}
+
+-- pointers that stand a step after one another, below the pointer that led to them
+abbrev pub pointers_from : Pointer → Place → ℕ → ℕ → PointerList
+pointers_from pointer first step n = record {
+  message = pointer.message;
+  held = stepped_places first.segment first.word step n;
+  nesting = pointer.nesting - 1;
+  limit = pointer.limit;
+}

@@ -1,0 +1,103 @@
+-- What views show of lists whose elements were numbers or pointers before they became structs, or the other way round
+-- (src/upgraded). Encoding document, "Lists": a list of elements that are no bits may be read as a list of structs whose first field
+-- they are, and a list of structs as a list of such first fields.
+use Rattle.std.specs.Prelude.{◌≡◌, ◌≢◌, ℕ, zero, suc, ◌-◌, ◌*◌, ◌%◌, ◌^◌, ◌<◌, ◌≤◌, ⊤, List, [], ◌∷◌, ◌++◌, length, map, take, drop, replicate, slice_index}
+use Rattle.capnp_frame.specs.declared.error.ErrorKind.{ErrorKind}
+use Rattle.capnp_frame.specs.declared.error.ErrorKind.TheVariants.{WrongPointerKind}
+use Rattle.capnp_wire.specs.Element.{width}
+use Rattle.capnp_wire.specs.Tree.{Form, null, numbers, pointers, structs}
+use Rattle.capnp_wire.specs.Traversed.{Within}
+use Rattle.capnp_wire.specs.Views.{Pointer, Shows}
+use Rattle.capnp_wire.specs.ListViews.{StructList, PointerList}
+use Rattle.capnp_wire.specs.declared.layout.place.Place.{Place}
+use Rattle.capnp_wire.specs.declared.layout.pointer.Elements.{Elements}
+
+-- the data words of a struct that was a number: that word alone, or none where an element is nothing
+abbrev pub number_row : ℕ → ℕ → List ℕ
+number_row zero value = []
+number_row (suc code) value = value ∷ []
+
+-- Structs by the data words of each, and the pointers of each. None from null; those of a list of structs; numbers, each in the low
+-- bits of one data word; pointers, n of them, each the one of a struct.
+abbrev pub ReadsAsRows : Form → ℕ → ℕ → List (List ℕ) → Type 0
+ReadsAsRows null n p rows = rows ≡ []
+ReadsAsRows (structs d q there) n p rows = (p ≡ q) × (rows ≡ there)
+ReadsAsRows (numbers code values) n p rows = (code ≢ 1) × (p ≡ 0) × (rows ≡ map (number_row code) values)
+ReadsAsRows pointers n p rows = (p ≡ 1) × (rows ≡ replicate n [])
+ReadsAsRows _ n p rows = ⊥
+
+-- forms that are read as structs, and how the others are refused: structs and bits
+abbrev pub TakesRows : Form → Type 0
+TakesRows null = ⊤
+TakesRows (structs d p rows) = ⊤
+TakesRows (numbers code values) = code ≢ 1
+TakesRows pointers = ⊤
+TakesRows _ = ⊥
+
+abbrev pub DeclinesRows : Form → ErrorKind → Type 0
+DeclinesRows form kind = (TakesRows form → ⊥) × (kind ≡ WrongPointerKind)
+
+-- a list read as one of structs: the elements that stand there, with one less of nesting depth left
+pub record IsUpgradedStructs (pointer : Pointer) (list : StructList) : Type 0 where
+  pub same_message : list.message ≡ pointer.message
+  pub shown : Shows pointer (λ shape. ReadsAsRows shape.form (length shape.held) list.pointer_words list.rows
+      × (list.held ≡ shape.held) × Within pointer.limit shape.traversed)
+  pub nesting_below : list.nesting ≡ pointer.nesting - 1
+  pub same_limit : list.limit ≡ pointer.limit
+
+-- structs of no data words, each with some pointers
+abbrev pub bare_elements : ℕ → ℕ → Elements
+bare_elements p n = record { size = record { data_words = 0; pointers = p }; count = n }
+
+-- elements of some code are the first fields of structs of d data words: no bits, and within these words
+pub record IsFirstField (code d : ℕ) : Type 0 where
+  pub no_bits : code ≢ 1
+  pub inside : width code ≤ 64 * d
+
+-- the low bits of the first data word of each struct
+abbrev pub first_fields : ℕ → List (List ℕ) → List ℕ
+first_fields code rows = map (λ row. slice_index row 0 % 2 ^ width code) rows
+
+-- Numbers of a code: none from null, those of a list of this code, the first fields of structs.
+abbrev pub ReadsAsNumbers : ℕ → Form → List ℕ → Type 0
+ReadsAsNumbers wanted null values = values ≡ []
+ReadsAsNumbers wanted (numbers code there) values = (code ≡ wanted) × (values ≡ there)
+ReadsAsNumbers wanted (structs d p rows) values = IsFirstField wanted d × (values ≡ first_fields wanted rows)
+ReadsAsNumbers wanted _ values = ⊥
+
+abbrev pub TakesFields : ℕ → Form → Type 0
+TakesFields wanted null = ⊤
+TakesFields wanted (numbers code values) = code ≡ wanted
+TakesFields wanted (structs d p rows) = IsFirstField wanted d
+TakesFields wanted _ = ⊥
+
+abbrev pub DeclinesFields : ℕ → Form → ErrorKind → Type 0
+DeclinesFields wanted form kind = (TakesFields wanted form → ⊥) × (kind ≡ WrongPointerKind)
+
+-- the first pointer of each of n structs of p pointers
+abbrev pub first_pointers : ℕ → ℕ → List Place → List Place
+first_pointers p zero held = []
+first_pointers p (suc n) held = take 1 held ++ first_pointers p n (drop p held)
+
+-- Pointers: none from null, those of a list of pointers, the first ones of structs.
+abbrev pub ReadsAsPointers : Form → List Place → List Place → Type 0
+ReadsAsPointers null held places = places ≡ []
+ReadsAsPointers pointers held places = places ≡ held
+ReadsAsPointers (structs d p rows) held places = (0 < p) × (places ≡ first_pointers p (length rows) held)
+ReadsAsPointers _ held places = ⊥
+
+abbrev pub TakesFirstPointers : Form → Type 0
+TakesFirstPointers null = ⊤
+TakesFirstPointers pointers = ⊤
+TakesFirstPointers (structs d p rows) = 0 < p
+TakesFirstPointers _ = ⊥
+
+abbrev pub DeclinesFirstPointers : Form → ErrorKind → Type 0
+DeclinesFirstPointers form kind = (TakesFirstPointers form → ⊥) × (kind ≡ WrongPointerKind)
+
+-- a list read as one of pointers, with one less of nesting depth left
+pub record IsUpgradedPointers (pointer : Pointer) (list : PointerList) : Type 0 where
+  pub same_message : list.message ≡ pointer.message
+  pub shown : Shows pointer (λ shape. ReadsAsPointers shape.form shape.held list.held × Within pointer.limit shape.traversed)
+  pub nesting_below : list.nesting ≡ pointer.nesting - 1
+  pub same_limit : list.limit ≡ pointer.limit

@@ -1,0 +1,74 @@
+//! Lists that are read as lists of pointers to views of one type.
+ghost use Rattle.std.specs.Prelude.{◌≡◌, ◌<◌, length};
+
+use crate::any_pointer;
+use crate::traits::FromPointerReader;
+use crate::upgraded::pointer_list::PointerList;
+use capnp_frame::Result;
+use capnp_frame::message::ReaderSegments;
+use std::marker::PhantomData;
+
+/// A list of pointers in a message, or of structs whose first pointers they are, each of which is read
+/// as a view of one type, as text, data or a list.
+#[derive(Drop)]
+pub struct ListList<'a, S, T> {
+    pub(crate) pointers: PointerList<'a, S>,
+    element: PhantomData<T>,
+}
+
+impl<'a, S: ReaderSegments, T: FromPointerReader<'a, S>> ListList<'a, S, T> {
+    ghost use Rattle.capnp_wire.specs.Views.{IsViewOf};
+    ghost use Rattle.capnp_wire.specs.ListViews.{pointer_at};
+    ghost use Rattle.capnp_wire.specs.UpgradedReaders.{upgraded_pointers_of};
+
+    /// The number of elements.
+    pub fn len(&self) -> u32
+        ensures { result ≡ length (upgraded_pointers_of S.segments self.now.pointers).held }
+    {
+        self.pointers.len()
+    }
+
+    /// The element of this index, or why it is none. It is counted against the traversal limit each
+    /// time.
+    pub fn get(&self, index: u32) -> Result<T>
+        requires { index < length (upgraded_pointers_of S.segments self.now.pointers).held }
+        ensures { let pointer = pointer_at (upgraded_pointers_of S.segments self.now.pointers) index in
+            IsViewOf pointer (T.shows pointer) (T.accepts pointer) (T.refuses pointer)
+            (T.declines pointer) result }
+    {
+        T::get_from_pointer(self.pointers.get(index))
+    }
+}
+
+// No elements from null; any object but a list of pointers, or of structs that have one, fails with
+// `WrongPointerKind`.
+impl<'a, S: ReaderSegments, T> FromPointerReader<'a, S> for ListList<'a, S, T> {
+    ghost use Rattle.capnp_wire.specs.Readers.{pointer_of};
+    ghost use Rattle.capnp_wire.specs.Views.{IsViewOf, Accepts, Refuses, Declines};
+    ghost use Rattle.capnp_wire.specs.UpgradedViews.{IsUpgradedPointers, TakesFirstPointers, DeclinesFirstPointers};
+    ghost use Rattle.capnp_wire.specs.UpgradedReaders.{upgraded_pointers_of};
+
+    ghost shows = { λ pointer view.
+        IsUpgradedPointers pointer (upgraded_pointers_of S.segments view.pointers) };
+
+    ghost accepts = { λ pointer. Accepts pointer TakesFirstPointers };
+
+    ghost refuses = { λ pointer kind. Refuses pointer DeclinesFirstPointers kind };
+
+    ghost declines = { λ pointer kind. Declines pointer DeclinesFirstPointers kind };
+
+    fn get_from_pointer(reader: any_pointer::Reader<'a, S>) -> Result<Self>
+        ensures { let pointer = pointer_of S.segments reader.entry in IsViewOf pointer
+            (λ view. IsUpgradedPointers pointer (upgraded_pointers_of S.segments view.pointers))
+            (Accepts pointer TakesFirstPointers) (Refuses pointer DeclinesFirstPointers)
+            (Declines pointer DeclinesFirstPointers) result }
+    {
+        match PointerList::get_from_pointer(reader) {
+            Ok(pointers) => Ok(ListList {
+                pointers,
+                element: PhantomData,
+            }),
+            Err(error) => Err(error),
+        }
+    }
+}

@@ -1,0 +1,177 @@
+//! Lists that are read as lists of numbers.
+ghost use Rattle.std.specs.Prelude.{◌≡◌, ◌↔◌, ◌+◌, ◌*◌, ◌/◌, ◌<◌, ◌≤◌, length, slice_index, IsTrue, MatchResult};
+ghost use Rattle.capnp_wire.specs.Element.{code_of, width};
+ghost use Rattle.capnp_wire.specs.Landing.{room_of, words_in};
+ghost use Rattle.capnp_wire.specs.UpgradedViews.{IsFirstField};
+
+use crate::entered::wrong_kind;
+use crate::layout::element::ElementSize;
+use crate::layout::object::{Object, words_fit};
+use crate::layout::place::word;
+use crate::layout::pointer::StructSize;
+use crate::primitive_element::PrimitiveElement;
+use crate::traits::FromPointerReader;
+use crate::{any_pointer, primitive_list};
+use capnp_frame::Result;
+use capnp_frame::message::ReaderSegments;
+use std::marker::PhantomData;
+
+/// A list of numbers in a message, or of structs whose first field is such a number.
+#[derive(Drop)]
+pub struct NumberList<'a, T: PrimitiveElement> {
+    pub(crate) numbers: Numbers<primitive_list::Reader<'a, T>, FirstFields<'a, T>>,
+}
+
+/// The elements: of a list of numbers, or the first fields of structs.
+#[derive(Drop)]
+pub(crate) enum Numbers<L, F> {
+    InPlace(L),
+    OfStructs(F),
+}
+
+/// The first fields of structs that stand one after the other.
+#[derive(Drop)]
+pub(crate) struct FirstFields<'a, T: PrimitiveElement> {
+    pub segment: &'a [u8],
+    /// The word of the first struct.
+    pub first: usize,
+    pub size: StructSize,
+    pub count: u32,
+    pub element: PhantomData<T>,
+    ghost room: { first + count * (size.data_words + size.pointers) ≤ length segment.now / 8 },
+    ghost inside: { width T.code ≤ 64 * size.data_words },
+}
+
+impl<'a, T: PrimitiveElement> FirstFields<'a, T> {
+    ghost use Rattle.capnp_wire.specs.UpgradedReaders.{fields_of};
+
+    // The field of the struct of this index.
+    fn get(&self, index: u32) -> T
+        requires { index < length (fields_of T.code self.now) }
+        ensures { result ≡ T.value_of (slice_index (fields_of T.code self.now) index) }
+    {
+        words_fit(self.segment);
+        let size = T::size();
+        let words_before = index as usize * self.size.words() as usize;
+        let word = word(self.segment, self.first + words_before).unwrap_or(0);
+        T::from_bits(size.in_word(word, 0))
+    }
+}
+
+impl<'a, T: PrimitiveElement> NumberList<'a, T> {
+    ghost use Rattle.capnp_wire.specs.Readers.{pointer_of, form_of};
+    ghost use Rattle.capnp_wire.specs.Views.{Reads, Refuses};
+    ghost use Rattle.capnp_wire.specs.UpgradedViews.{ReadsAsNumbers, DeclinesFields};
+    ghost use Rattle.capnp_wire.specs.UpgradedReaders.{upgraded_numbers_of};
+
+    /// The number of elements.
+    pub fn len(&self) -> u32
+        ensures { result ≡ length (upgraded_numbers_of T.code self.now) }
+    {
+        match &self.numbers {
+            Numbers::InPlace(list) => list.len(),
+            Numbers::OfStructs(list) => list.count,
+        }
+    }
+
+    /// The element of this index.
+    pub fn get(&self, index: u32) -> T
+        requires { index < length (upgraded_numbers_of T.code self.now) }
+        ensures { result ≡ T.value_of (slice_index (upgraded_numbers_of T.code self.now) index) }
+    {
+        match &self.numbers {
+            Numbers::InPlace(list) => list.get(index),
+            Numbers::OfStructs(list) => list.get(index),
+        }
+    }
+
+    // The list that a pointer leads to.
+    fn read<S: ReaderSegments>(reader: &any_pointer::Reader<'a, S>) -> Result<NumberList<'a, T>>
+        ensures { let pointer = pointer_of S.segments reader.now in MatchResult result
+            (λ view. Reads pointer (λ form.
+            ReadsAsNumbers T.code form (upgraded_numbers_of T.code view)))
+            (λ error. Refuses pointer (DeclinesFields T.code) error.kind) }
+    {
+        let Some(object) = reader.enter()? else {
+            return Ok(NumberList {
+                numbers: Numbers::InPlace(primitive_list::Reader {
+                    bytes: &[],
+                    count: 0,
+                    element: PhantomData,
+                }),
+            });
+        };
+        let list = NumberList::of(&object)?;
+        Ok(list)
+    }
+
+    // The list that an object is.
+    fn of(object: &Object<'a>) -> Result<NumberList<'a, T>>
+        requires room { object.now.start.word + room_of object.now.body
+            ≤ length object.now.segment.now / 8 }
+        requires elements { words_in object.now.body ≤ room_of object.now.body }
+        ensures { MatchResult result (λ view.
+            ReadsAsNumbers T.code (form_of object.now) (upgraded_numbers_of T.code view))
+            (λ error. DeclinesFields T.code (form_of object.now) error.kind) }
+    {
+        let Some(elements) = object.body.as_structs() else {
+            let list = object.numbers(T::size())?;
+            return Ok(NumberList {
+                numbers: Numbers::InPlace(primitive_list::Reader {
+                    bytes: list.bytes,
+                    count: list.count,
+                    element: PhantomData,
+                }),
+            });
+        };
+        if !is_first_field(T::size(), elements.size.data_words) {
+            return Err(wrong_kind());
+        }
+        words_fit(object.segment);
+        Ok(NumberList {
+            numbers: Numbers::OfStructs(FirstFields {
+                segment: object.segment,
+                first: object.start.word + 1,
+                size: elements.size,
+                count: elements.count,
+                element: PhantomData,
+            }),
+        })
+    }
+}
+
+// Whether an element of a size can be the first field of structs of some data words.
+fn is_first_field(size: ElementSize, data_words: u16) -> bool
+    ensures { IsTrue result ↔ IsFirstField (code_of size) data_words }
+{
+    size != ElementSize::Bit && size.bits() <= 64 * data_words as u64
+}
+
+// Empty from null, else the numbers of a list of this size, or the first fields of structs that have a
+// data word; any other object fails with `WrongPointerKind`, and so does any but a list of bits where
+// these are asked for.
+impl<'a, S: ReaderSegments, T: PrimitiveElement> FromPointerReader<'a, S> for NumberList<'a, T> {
+    ghost use Rattle.capnp_wire.specs.Readers.{pointer_of};
+    ghost use Rattle.capnp_wire.specs.Views.{IsViewOf, Accepts, Reads, Refuses, Declines};
+    ghost use Rattle.capnp_wire.specs.UpgradedViews.{ReadsAsNumbers, TakesFields, DeclinesFields};
+    ghost use Rattle.capnp_wire.specs.UpgradedReaders.{upgraded_numbers_of};
+
+    ghost shows = { λ pointer view.
+        Reads pointer (λ form. ReadsAsNumbers T.code form (upgraded_numbers_of T.code view)) };
+
+    ghost accepts = { λ pointer. Accepts pointer (TakesFields T.code) };
+
+    ghost refuses = { λ pointer kind. Refuses pointer (DeclinesFields T.code) kind };
+
+    ghost declines = { λ pointer kind. Declines pointer (DeclinesFields T.code) kind };
+
+    fn get_from_pointer(reader: any_pointer::Reader<'a, S>) -> Result<Self>
+        ensures { let pointer = pointer_of S.segments reader.entry in IsViewOf pointer
+            (λ view. Reads pointer (λ form.
+            ReadsAsNumbers T.code form (upgraded_numbers_of T.code view)))
+            (Accepts pointer (TakesFields T.code)) (Refuses pointer (DeclinesFields T.code))
+            (Declines pointer (DeclinesFields T.code)) result }
+    {
+        NumberList::read(&reader)
+    }
+}

@@ -1,0 +1,148 @@
+//! Lists that are read as lists of pointers.
+ghost use Rattle.std.specs.Prelude.{◌≡◌, ◌+◌, ◌*◌, ◌^◌, ◌<◌, length, MatchResult};
+
+use crate::any_pointer;
+use crate::entered::wrong_kind;
+use crate::layout::object::{Object, words_fit};
+use crate::layout::place::Place;
+use crate::read_limiter::ReadLimiter;
+use crate::traits::FromPointerReader;
+use capnp_frame::Result;
+use capnp_frame::message::ReaderSegments;
+
+/// A list of pointers in a message, or of structs whose first pointers they are.
+#[derive(Drop)]
+pub struct PointerList<'a, S> {
+    pub(crate) segments: &'a S,
+    pub(crate) limiter: Option<&'a ReadLimiter>,
+    /// Where the first pointer stands.
+    pub(crate) first: Place,
+    /// The words from one pointer to the next.
+    pub(crate) step: usize,
+    pub(crate) count: u32,
+    pub(crate) nesting: u32,
+    ghost bound: { first.word + count * step < 2 ^ 64 },
+}
+
+impl<'a, S: ReaderSegments> PointerList<'a, S> {
+    ghost use Rattle.capnp_wire.specs.Readers.{pointer_of, IsEntered};
+    ghost use Rattle.capnp_wire.specs.Views.{Refuses};
+    ghost use Rattle.capnp_wire.specs.ListViews.{pointer_at};
+    ghost use Rattle.capnp_wire.specs.UpgradedViews.{IsUpgradedPointers, DeclinesFirstPointers};
+    ghost use Rattle.capnp_wire.specs.UpgradedReaders.{upgraded_pointers_of, pointers_from};
+
+    /// The number of elements.
+    pub fn len(&self) -> u32
+        ensures { result ≡ length (upgraded_pointers_of S.segments self.now).held }
+    {
+        self.count
+    }
+
+    /// The pointer of this index. What it leads to is counted against the traversal limit when it is
+    /// followed.
+    pub fn get(&self, index: u32) -> any_pointer::Reader<'a, S>
+        requires { index < length (upgraded_pointers_of S.segments self.now).held }
+        ensures { pointer_of S.segments result
+            ≡ pointer_at (upgraded_pointers_of S.segments self.now) index }
+    {
+        let words_before = index as usize * self.step;
+        any_pointer::Reader {
+            segments: self.segments,
+            limiter: self.limiter,
+            place: Some(Place {
+                segment: self.first.segment,
+                word: self.first.word + words_before,
+            }),
+            nesting: self.nesting,
+        }
+    }
+
+    // The list that a pointer leads to.
+    fn read(reader: &any_pointer::Reader<'a, S>) -> Result<PointerList<'a, S>>
+        ensures { let pointer = pointer_of S.segments reader.now in MatchResult result
+            (λ view. IsUpgradedPointers pointer (upgraded_pointers_of S.segments view))
+            (λ error. Refuses pointer DeclinesFirstPointers error.kind) }
+    {
+        let Some(object) = reader.enter()? else {
+            let nowhere = Place {
+                segment: 0,
+                word: 0,
+            };
+            return Ok(PointerList::new(reader, nowhere, 0, 0));
+        };
+        PointerList::of(reader, &object)
+    }
+
+    // The list that an object is.
+    fn of(reader: &any_pointer::Reader<'a, S>, object: &Object<'a>) -> Result<PointerList<'a, S>>
+        requires { IsEntered (pointer_of S.segments reader.now) object.now }
+        ensures { let pointer = pointer_of S.segments reader.now in MatchResult result
+            (λ view. IsUpgradedPointers pointer (upgraded_pointers_of S.segments view))
+            (λ error. Refuses pointer DeclinesFirstPointers error.kind) }
+    {
+        words_fit(object.segment);
+        if let Some(count) = object.body.as_pointers() {
+            return Ok(PointerList::new(reader, object.start, 1, count));
+        }
+        let Some(elements) = object.body.as_structs() else {
+            return Err(wrong_kind());
+        };
+        if elements.size.pointers == 0 {
+            return Err(wrong_kind());
+        }
+        let first = Place {
+            segment: object.start.segment,
+            word: object.start.word + 1 + elements.size.data_words as usize,
+        };
+        let step = elements.size.words() as usize;
+        Ok(PointerList::new(reader, first, step, elements.count))
+    }
+
+    // Pointers that stand a step after one another.
+    fn new(
+        reader: &any_pointer::Reader<'a, S>,
+        first: Place,
+        step: usize,
+        count: u32,
+    ) -> PointerList<'a, S>
+        requires { first.word + count * step < 2 ^ 64 }
+        ensures { upgraded_pointers_of S.segments result
+            ≡ pointers_from (pointer_of S.segments reader.now) first step count }
+    {
+        PointerList {
+            segments: reader.segments,
+            limiter: reader.limiter,
+            first,
+            step,
+            count,
+            nesting: reader.nesting.saturating_sub(1),
+        }
+    }
+}
+
+// No elements from null; any object but a list of pointers, or of structs that have one, fails with
+// `WrongPointerKind`.
+impl<'a, S: ReaderSegments> FromPointerReader<'a, S> for PointerList<'a, S> {
+    ghost use Rattle.capnp_wire.specs.Readers.{pointer_of};
+    ghost use Rattle.capnp_wire.specs.Views.{IsViewOf, Accepts, Refuses, Declines};
+    ghost use Rattle.capnp_wire.specs.UpgradedViews.{IsUpgradedPointers, TakesFirstPointers, DeclinesFirstPointers};
+    ghost use Rattle.capnp_wire.specs.UpgradedReaders.{upgraded_pointers_of};
+
+    ghost shows = { λ pointer view.
+        IsUpgradedPointers pointer (upgraded_pointers_of S.segments view) };
+
+    ghost accepts = { λ pointer. Accepts pointer TakesFirstPointers };
+
+    ghost refuses = { λ pointer kind. Refuses pointer DeclinesFirstPointers kind };
+
+    ghost declines = { λ pointer kind. Declines pointer DeclinesFirstPointers kind };
+
+    fn get_from_pointer(reader: any_pointer::Reader<'a, S>) -> Result<Self>
+        ensures { let pointer = pointer_of S.segments reader.entry in IsViewOf pointer
+            (λ view. IsUpgradedPointers pointer (upgraded_pointers_of S.segments view))
+            (Accepts pointer TakesFirstPointers) (Refuses pointer DeclinesFirstPointers)
+            (Declines pointer DeclinesFirstPointers) result }
+    {
+        PointerList::read(&reader)
+    }
+}

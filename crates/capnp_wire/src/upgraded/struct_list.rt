@@ -1,0 +1,233 @@
+//! Lists that are read as lists of structs.
+ghost use Rattle.std.specs.Prelude.{◌≡◌, ◌+◌, ◌*◌, ◌/◌, ◌<◌, ◌≤◌, length, MatchResult};
+ghost use Rattle.capnp_wire.specs.Element.{code_of, width, words_for};
+ghost use Rattle.capnp_wire.specs.declared.layout.object.Body.{Body};
+ghost use Rattle.capnp_wire.specs.UpgradedViews.{bare_elements as elements_of};
+
+use crate::any_struct::StructReader;
+use crate::any_struct::part::WordPart;
+use crate::entered::{words_at, wrong_kind};
+use crate::layout::element::ElementSize;
+use crate::layout::object::{Body, Object, words_fit};
+use crate::layout::place::Place;
+use crate::layout::pointer::{Elements, StructSize};
+use crate::read_limiter::ReadLimiter;
+use crate::traits::FromPointerReader;
+use crate::{any_pointer, struct_list};
+use capnp_frame::Result;
+use capnp_frame::message::ReaderSegments;
+
+/// A list of structs, of numbers or of pointers in a message, read as a list of structs: a number is the
+/// low bits of the one data word of its struct, a pointer is the one pointer of its own.
+#[derive(Drop)]
+pub struct StructList<'a, S: ReaderSegments> {
+    pub(crate) rows: Rows<'a, S>,
+}
+
+/// The elements.
+#[derive(Drop)]
+pub(crate) enum Rows<'a, S: ReaderSegments> {
+    /// Structs, and what stands as structs do: pointers, and elements of no bytes.
+    InPlace(struct_list::Reader<'a, S>),
+    Numbers(NumberRows<'a, S>),
+}
+
+/// Numbers, each of which is a struct of one data word.
+#[derive(Drop)]
+pub(crate) struct NumberRows<'a, S: ReaderSegments> {
+    pub segments: &'a S,
+    pub limiter: Option<&'a ReadLimiter>,
+    /// The words of the list.
+    pub bytes: &'a [u8],
+    pub size: ElementSize,
+    pub count: u32,
+    pub nesting: u32,
+    ghost whole: { length bytes.now ≡ 8 * words_for count (width (code_of size)) },
+    ghost some: { 0 < code_of size },
+}
+
+impl<'a, S: ReaderSegments> NumberRows<'a, S> {
+    ghost use Rattle.capnp_wire.specs.Readers.{struct_of};
+    ghost use Rattle.capnp_wire.specs.ListViews.{element_of};
+    ghost use Rattle.capnp_wire.specs.UpgradedReaders.{number_rows_of};
+
+    // The number of this index, as a struct.
+    fn get(&self, index: u32) -> StructReader<'a, S>
+        requires { index < length (number_rows_of S.segments self.now).rows }
+        ensures { struct_of S.segments result
+            ≡ element_of (number_rows_of S.segments self.now) index }
+    {
+        words_fit(self.bytes);
+        StructReader {
+            segments: self.segments,
+            limiter: self.limiter,
+            segment: self.bytes,
+            start: Place {
+                segment: 0,
+                word: self.size.word_of(index) as usize,
+            },
+            size: StructSize {
+                data_words: 1,
+                pointers: 0,
+            },
+            nesting: self.nesting,
+            part: Some(WordPart {
+                size: self.size,
+                index,
+            }),
+        }
+    }
+}
+
+impl<'a, S: ReaderSegments> StructList<'a, S> {
+    ghost use Rattle.capnp_wire.specs.Readers.{struct_of, pointer_of, IsEntered};
+    ghost use Rattle.capnp_wire.specs.Views.{Refuses};
+    ghost use Rattle.capnp_wire.specs.ListViews.{element_of, structs_in};
+    ghost use Rattle.capnp_wire.specs.UpgradedViews.{IsUpgradedStructs, DeclinesRows};
+    ghost use Rattle.capnp_wire.specs.UpgradedReaders.{upgraded_structs_of};
+
+    /// The number of elements.
+    pub fn len(&self) -> u32
+        ensures { result ≡ length (upgraded_structs_of S.segments self.now).rows }
+    {
+        match &self.rows {
+            Rows::InPlace(list) => list.len(),
+            Rows::Numbers(numbers) => numbers.count,
+        }
+    }
+
+    /// The element of this index, whose pointers have as much nesting depth left as those of the list.
+    /// Its words were counted against the traversal limit with the list's.
+    pub fn get(&self, index: u32) -> StructReader<'a, S>
+        requires { index < length (upgraded_structs_of S.segments self.now).rows }
+        ensures { struct_of S.segments result
+            ≡ element_of (upgraded_structs_of S.segments self.now) index }
+    {
+        match &self.rows {
+            Rows::InPlace(list) => list.get(index),
+            Rows::Numbers(numbers) => numbers.get(index),
+        }
+    }
+
+    // The list that a pointer leads to.
+    fn read(reader: &any_pointer::Reader<'a, S>) -> Result<StructList<'a, S>>
+        ensures { let pointer = pointer_of S.segments reader.now in MatchResult result
+            (λ view. IsUpgradedStructs pointer (upgraded_structs_of S.segments view))
+            (λ error. Refuses pointer DeclinesRows error.kind) }
+    {
+        let Some(object) = reader.enter()? else {
+            return Ok(StructList {
+                rows: Rows::InPlace(struct_list::Reader::empty(reader)),
+            });
+        };
+        StructList::of(reader, &object)
+    }
+
+    // The list that an object is.
+    fn of(reader: &any_pointer::Reader<'a, S>, object: &Object<'a>) -> Result<StructList<'a, S>>
+        requires { IsEntered (pointer_of S.segments reader.now) object.now }
+        ensures { let pointer = pointer_of S.segments reader.now in MatchResult result
+            (λ view. IsUpgradedStructs pointer (upgraded_structs_of S.segments view))
+            (λ error. Refuses pointer DeclinesRows error.kind) }
+    {
+        match object.body {
+            Body::Structs(elements, _) => Ok(StructList::in_place(reader, object, 1, elements)),
+            Body::Pointers(count) => {
+                Ok(StructList::in_place(reader, object, 0, bare_elements(1, count)))
+            }
+            Body::Numbers(size, count) => StructList::of_numbers(reader, object, size, count),
+            Body::Struct(_) => Err(wrong_kind()),
+        }
+    }
+
+    // The list that an object is that is a list of numbers.
+    fn of_numbers(
+        reader: &any_pointer::Reader<'a, S>,
+        object: &Object<'a>,
+        size: ElementSize,
+        count: u32,
+    ) -> Result<StructList<'a, S>>
+        requires entered { IsEntered (pointer_of S.segments reader.now) object.now }
+        requires numbers { object.now.body ≡ Body.Numbers size count }
+        ensures { let pointer = pointer_of S.segments reader.now in MatchResult result
+            (λ view. IsUpgradedStructs pointer (upgraded_structs_of S.segments view))
+            (λ error. Refuses pointer DeclinesRows error.kind) }
+    {
+        let bits = size.bits();
+        if bits == 1 {
+            return Err(wrong_kind());
+        }
+        if bits == 0 {
+            let elements = bare_elements(0, count);
+            return Ok(StructList::in_place(reader, object, 0, elements));
+        }
+        Ok(StructList {
+            rows: Rows::Numbers(NumberRows {
+                segments: reader.segments,
+                limiter: reader.limiter,
+                bytes: words_at(object.segment, object.start.word, size, count),
+                size,
+                count,
+                nesting: reader.nesting.saturating_sub(1),
+            }),
+        })
+    }
+
+    // The structs that stand in an object as those of a list of structs do.
+    fn in_place(
+        reader: &any_pointer::Reader<'a, S>,
+        object: &Object<'a>,
+        skipped: usize,
+        elements: Elements,
+    ) -> StructList<'a, S>
+        requires entered { IsEntered (pointer_of S.segments reader.now) object.now }
+        requires room { object.now.start.word + skipped
+            + elements.count * (elements.size.data_words + elements.size.pointers)
+            ≤ length object.now.segment.now / 8 }
+        ensures { upgraded_structs_of S.segments result
+            ≡ structs_in (pointer_of S.segments reader.now) object.now skipped elements }
+    {
+        StructList {
+            rows: Rows::InPlace(struct_list::Reader::within(reader, object, skipped, elements)),
+        }
+    }
+}
+
+// Structs of no data words, each with some pointers.
+fn bare_elements(pointers: u16, count: u32) -> Elements
+    ensures { result ≡ elements_of pointers count }
+{
+    Elements {
+        size: StructSize {
+            data_words: 0,
+            pointers,
+        },
+        count,
+    }
+}
+
+// No elements from null; a struct, and a list of bits, fail with `WrongPointerKind`.
+impl<'a, S: ReaderSegments> FromPointerReader<'a, S> for StructList<'a, S> {
+    ghost use Rattle.capnp_wire.specs.Readers.{pointer_of};
+    ghost use Rattle.capnp_wire.specs.Views.{IsViewOf, Accepts, Refuses, Declines};
+    ghost use Rattle.capnp_wire.specs.UpgradedViews.{IsUpgradedStructs, TakesRows, DeclinesRows};
+    ghost use Rattle.capnp_wire.specs.UpgradedReaders.{upgraded_structs_of};
+
+    ghost shows = { λ pointer view.
+        IsUpgradedStructs pointer (upgraded_structs_of S.segments view) };
+
+    ghost accepts = { λ pointer. Accepts pointer TakesRows };
+
+    ghost refuses = { λ pointer kind. Refuses pointer DeclinesRows kind };
+
+    ghost declines = { λ pointer kind. Declines pointer DeclinesRows kind };
+
+    fn get_from_pointer(reader: any_pointer::Reader<'a, S>) -> Result<Self>
+        ensures { let pointer = pointer_of S.segments reader.entry in IsViewOf pointer
+            (λ view. IsUpgradedStructs pointer (upgraded_structs_of S.segments view))
+            (Accepts pointer TakesRows) (Refuses pointer DeclinesRows)
+            (Declines pointer DeclinesRows) result }
+    {
+        StructList::read(&reader)
+    }
+}
