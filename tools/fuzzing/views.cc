@@ -2,7 +2,7 @@
 // and with the C++ library's readers.
 //
 //   views make SEED COUNT             writes the inputs to standard output
-//   views compare SEED COUNT [SUMS]   reads the answers from standard input; adds a line of counts to SUMS
+//   views compare SEED COUNT [SUMS]   reads what was found from standard input; adds a line of counts to SUMS
 #include "texts.h"
 #include "views.h"
 #include <fstream>
@@ -52,17 +52,17 @@ int compare(uint64_t seed, uint64_t count, const char *sums) {
         Plan plan(input.message, input.limit, library);
         plan.root();
         char head[4];
-        if (!std::cin.read(head, 4)) return printf("seed %lu: no answer to input %lu\n", seed, i), 1;
-        Bytes answer(field(Bytes(head, 4), 0, 4), 0);
-        std::cin.read(answer.data(), answer.size());
+        if (!std::cin.read(head, 4)) return printf("seed %lu: nothing was found of input %lu\n", seed, i), 1;
+        Bytes found(field(Bytes(head, 4), 0, 4), 0);
+        std::cin.read(found.data(), found.size());
         visited += library.pointers_visited, views += library.compared, same += library.same, both_fail += library.both_fail;
         limited += input.limit != 0;
         for (auto &[why, times] : library.allowed) allowed[why] += times;
-        bool differs = answer != plan.answers;
+        bool differs = found != plan.log;
         differences += differs + library.differences;
         if ((differs || library.differences) && ++shown <= 5)
             printf("difference: seed %lu input %lu, limit %lu\ntext %s\nC++ %s\nwanted %s\nfound  %s\n", seed, i, input.limit,
-                hex(framed(input.message)).c_str(), library.said.c_str(), hex(plan.answers).c_str(), hex(answer).c_str());
+                hex(framed(input.message)).c_str(), library.said.c_str(), hex(plan.log).c_str(), hex(found).c_str());
     }
     printf("seed %lu: %lu inputs, %lu of them with a limit, %lu pointers, %lu views beside C++: %lu read the same, %lu fail; "
         "%lu differences", seed, count, limited, visited, views, same, both_fail, differences);

@@ -62,9 +62,15 @@ GHOSTS = """    ghost has_tree = { λ value trees. ⊥ };
 """
 
 
+def viewed(kind, upgrades):
+    """The type of what is read, and set as what is held: of lists of any writer, or of those of the schema's."""
+    name = held(kind)[0]
+    return name.replace("Held", "Upgraded", 1) if upgrades and name.startswith("Held") else name
+
+
 class Struct:
     def __init__(self, name, group):
-        self.name, self.group = name, group
+        self.name, self.group, self.upgrades = name, group, name == "Upgrades"
         self.words, self.pointers = schema.sizes[name][0] // 8, schema.sizes[name][1]
         self.life = "<'a>" if holds_bytes(name) else ""
         self.slots = [[field for field in fields(group) if field.pointer == index] for index in range(self.pointers)]
@@ -73,18 +79,19 @@ class Struct:
         """The type of what a pointer is set to, and its type as a schema's."""
         users = self.slots[index]
         if len(users) == 1:
-            return held(users[0].kind)
+            return viewed(users[0].kind, self.upgrades), held(users[0].kind)[1]
         life = "<'a>" if any(holds_bytes(field.kind) for field in users) else ""
         return "%sPointer%d%s" % (self.name, index, life), "any_pointer::Owned"
 
-    def read_field(self, field, pad):
+    def read_field(self, field, indent):
         if field.pointer is not None:
             call = "read_or_default" if field.default is not None else "read_kept"
-            found = "%s::<S, %s>(reading, &view, %d)?" % (call, held(field.kind)[0], field.pointer)
+            found = "%s::<S, %s>(reading, &view, %d)?" % (call, viewed(field.kind, self.upgrades), field.pointer)
             if len(self.slots[field.pointer]) > 1:
                 found = "match %s.value {\n%s    Some(value) => Kept { value: Some(%sPointer%d::%s(value)) },\n" \
-                    "%s    None => Kept { value: None },\n%s}" % (found, pad, self.name, field.pointer, upper(field.name), pad, pad)
-            return "%spointer%d = %s;\n" % (pad, field.pointer, found)
+                    "%s    None => Kept { value: None },\n%s}" % (
+                        found, indent, self.name, field.pointer, upper(field.name), indent, indent)
+            return "%spointer%d = %s;\n" % (indent, field.pointer, found)
         number, width = schema.number(field.kind)
         offset = field.bit // width if width else 0
         if field.default in (None, "0", "false", "void") or field.default == (schema.enums.get(field.kind) or [""])[0]:
@@ -93,21 +100,20 @@ class Struct:
             default = literal(field.kind, field.default)
             bits = "bits_of(view.get_data_field_mask::<%s>(%d, %s)) ^ bits_of::<%s>(%s)" % (
                 number, offset, default, number, default)
-        return "%sput(&mut words, %d, %s);\n" % (pad, field.bit if width else 0, bits)
+        return "%sput(&mut words, %d, %s);\n" % (indent, field.bit if width else 0, bits)
 
-    def read_group(self, group, pad):
-        text = ""
+    def read_group(self, group, indent):
         if group.tag_bit is None:
-            return "".join(self.read_field(member, pad) if member.kind else self.read_group(member, pad)
+            return "".join(self.read_field(member, indent) if member.kind else self.read_group(member, indent)
                            for member in group.members)
         offset = group.tag_bit // 16
-        text += "%slet tag = view.get_data_field::<u16>(%d);\n%sput(&mut words, %d, bits_of(tag));\n%smatch tag {\n" % (
-            pad, offset, pad, group.tag_bit, pad)
+        text = "%slet tag = view.get_data_field::<u16>(%d);\n%sput(&mut words, %d, bits_of(tag));\n%smatch tag {\n" % (
+            indent, offset, indent, group.tag_bit, indent)
         for member in group.members:
-            text += "%s    %d => {\n" % (pad, member.tag)
-            text += self.read_field(member, pad + " " * 8) if member.kind else self.read_group(member, pad + " " * 8)
-            text += "%s    }\n" % pad
-        return text + "%s    _ => {}\n%s}\n" % (pad, pad)
+            text += "%s    %d => {\n" % (indent, member.tag)
+            text += self.read_field(member, indent + " " * 8) if member.kind else self.read_group(member, indent + " " * 8)
+            text += "%s    }\n" % indent
+        return text + "%s    _ => {}\n%s}\n" % (indent, indent)
 
     def enums(self):
         text = ""
@@ -117,7 +123,8 @@ class Struct:
             name = self.slot(index)[0]
             text += "#[derive(Drop)]\npub enum %s {\n" % name
             text += "".join("    %s(%s),\n" % (upper(field.name), held(field.kind)[0]) for field in users)
-            text += "}\n\nimpl%s SetterInput<any_pointer::Owned> for %s {\n%s\n" % ("<'a>" if "<" in name else "", name, GHOSTS)
+            text += "}\n\nimpl%s SetterInput<any_pointer::Owned> for %s {\n%s\n" % (
+                "<'a>" if "<" in name else "", name, GHOSTS)
             bare = name.partition("<")[0]
             for call, result, extra in (("measure", "capnp::Result<u32>", ""), ("write", "Word", ", block: &mut [u8]")):
                 text += "    fn %s(&self, canonical: bool%s) -> %s {\n        match self {\n" % (call, extra, result)
@@ -142,7 +149,6 @@ class Struct:
         name, generics = self.name, "<'a>" if self.life else ""
         kind, row = self.row()
         value = "StructValue<%d, %s>" % (self.words, kind)
-        view_life = "'a"
         text = self.enums()
         text += "#[derive(Drop)]\npub struct %s%s {\n    words: [u64; %d],\n" % (name, self.life, self.words)
         text += "".join("    pointer%d: Kept<%s>,\n" % (index, self.slot(index)[0]) for index in range(self.pointers))
@@ -210,6 +216,7 @@ class Struct:
 
 print("""//! Made by tools/round-trip/generate.py.
 use crate::held::*;
+use crate::upgraded::*;
 use anyhow::Result;
 use capnp_frame::Word;
 use capnp_frame::message::ReaderSegments;
