@@ -26,6 +26,7 @@ pub mod text;
 pub mod text_list;
 pub mod traits;
 mod transcoding;
+pub mod upgraded;
 
 pub use crate::transcoding::{Way, transcode, transcode_lenient};
 pub use capnp_frame::{Error, ErrorKind, Result, Word, io, word};

@@ -13,5 +13,6 @@ mod numbers;
 mod objects;
 mod traversals;
 mod unlimited_roots;
+mod upgrades;
 mod values;
 mod views;
