@@ -151,7 +151,8 @@ def add_struct(tasks, name):
 
 
 tasks = Tasks()
-for name in SCHEMAS["later"].structs:
+KINDS = [name for name in SCHEMAS["later"].structs if not name.endswith("Row")]
+for name in KINDS:
     add_struct(tasks, name)
 output = os.path.join(folder, "rebuilt")
 # The interpreter, which `rt try` asks first, reads no arguments.
@@ -176,7 +177,7 @@ for label, version, name, form, wanted in tasks.wanted:
         print("%s, %s schema, %s, message %d\nwanted %s\nfound  %s" % (name, version, label, index,
               b"".join(lines[index:index + 1]).decode(), b"".join(found[index:index + 1]).decode()))
 print("round-trip-with-capnp: %d messages of %d kinds of structs, %d of several segments, by two schemas: %s" % (
-    2 * count * len(SCHEMAS["later"].structs), len(SCHEMAS["later"].structs), tasks.several,
+    2 * count * len(KINDS), len(KINDS), tasks.several,
     ", ".join("%d %s" % (number, label) for label, number in sums.items())))
 print("round-trip-with-capnp: read by views, rebuilt of values %d times, %d bytes: %s" % (
     messages, len(rebuilt), "the same text" if not different else "%d differ" % different))

@@ -62,9 +62,15 @@ GHOSTS = """    ghost has_tree = { λ value trees. ⊥ };
 """
 
 
+def viewed(kind, upgrades):
+    """The type of what is read, and set as what is held: of lists of any writer, or of those of the schema's."""
+    name = held(kind)[0]
+    return name.replace("Held", "Upgraded", 1) if upgrades and name.startswith("Held") else name
+
+
 class Struct:
     def __init__(self, name, group):
-        self.name, self.group = name, group
+        self.name, self.group, self.upgrades = name, group, name == "Upgrades"
         self.words, self.pointers = schema.sizes[name][0] // 8, schema.sizes[name][1]
         self.life = "<'a>" if holds_bytes(name) else ""
         self.slots = [[field for field in fields(group) if field.pointer == index] for index in range(self.pointers)]
@@ -73,14 +79,14 @@ class Struct:
         """The type of what a pointer is set to, and its type as a schema's."""
         users = self.slots[index]
         if len(users) == 1:
-            return held(users[0].kind)
+            return viewed(users[0].kind, self.upgrades), held(users[0].kind)[1]
         life = "<'a>" if any(holds_bytes(field.kind) for field in users) else ""
         return "%sPointer%d%s" % (self.name, index, life), "any_pointer::Owned"
 
     def read_field(self, field, indent):
         if field.pointer is not None:
             call = "read_or_default" if field.default is not None else "read_kept"
-            found = "%s::<S, %s>(reading, &view, %d)?" % (call, held(field.kind)[0], field.pointer)
+            found = "%s::<S, %s>(reading, &view, %d)?" % (call, viewed(field.kind, self.upgrades), field.pointer)
             if len(self.slots[field.pointer]) > 1:
                 found = "match %s.value {\n%s    Some(value) => Kept { value: Some(%sPointer%d::%s(value)) },\n" \
                     "%s    None => Kept { value: None },\n%s}" % (
@@ -210,6 +216,7 @@ class Struct:
 
 print("""//! Made by tools/round-trip/generate.py.
 use crate::held::*;
+use crate::upgraded::*;
 use anyhow::Result;
 use capnp_frame::Word;
 use capnp_frame::message::ReaderSegments;

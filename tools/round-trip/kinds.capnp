@@ -1,5 +1,5 @@
 # Structs with every kind of field and list, from which tools/round-trip/generate.py makes a program.
-# A line that ends in "# later" is left out of the older schema.
+# A line that ends in "# later" is left out of the earlier schema, and one in "# earlier" of the later one.
 @0xa1f0c3d2b4e56879;
 
 enum Mood {
@@ -149,4 +149,128 @@ struct Nested {
   several @5 :List(Objects);
   choiceLists @6 :List(List(Choices));  # later
   more @7 :List(Defaults);  # later
+}
+
+# Lists whose elements are structs in the later schema, and their first fields in the earlier one.
+struct Upgrades {
+  voids @0 :List(Void);  # earlier
+  voids @0 :List(VoidRow);  # later
+  int8s @1 :List(Int8);  # earlier
+  int8s @1 :List(Int8Row);  # later
+  int16s @2 :List(Int16);  # earlier
+  int16s @2 :List(Int16Row);  # later
+  int32s @3 :List(Int32);  # earlier
+  int32s @3 :List(Int32Row);  # later
+  int64s @4 :List(Int64);  # earlier
+  int64s @4 :List(Int64Row);  # later
+  word8s @5 :List(UInt8);  # earlier
+  word8s @5 :List(UInt8Row);  # later
+  word16s @6 :List(UInt16);  # earlier
+  word16s @6 :List(UInt16Row);  # later
+  word32s @7 :List(UInt32);  # earlier
+  word32s @7 :List(UInt32Row);  # later
+  word64s @8 :List(UInt64);  # earlier
+  word64s @8 :List(UInt64Row);  # later
+  float32s @9 :List(Float32);  # earlier
+  float32s @9 :List(Float32Row);  # later
+  float64s @10 :List(Float64);  # earlier
+  float64s @10 :List(Float64Row);  # later
+  moods @11 :List(Mood);  # earlier
+  moods @11 :List(MoodRow);  # later
+  texts @12 :List(Text);  # earlier
+  texts @12 :List(TextRow);  # later
+  datas @13 :List(Data);  # earlier
+  datas @13 :List(DataRow);  # later
+  word16Lists @14 :List(List(UInt16));  # earlier
+  word16Lists @14 :List(Word16ListRow);  # later
+}
+
+struct VoidRow {
+  first @0 :Void;
+  number @1 :UInt16 = 7;
+  name @2 :Text;
+}
+
+struct Int8Row {
+  first @0 :Int8;
+  number @1 :UInt16 = 7;
+  name @2 :Text;
+}
+
+struct Int16Row {
+  first @0 :Int16;
+  number @1 :UInt16 = 7;
+  name @2 :Text;
+}
+
+struct Int32Row {
+  first @0 :Int32;
+  number @1 :UInt16 = 7;
+  name @2 :Text;
+}
+
+struct Int64Row {
+  first @0 :Int64;
+  number @1 :UInt16 = 7;
+  name @2 :Text;
+}
+
+struct UInt8Row {
+  first @0 :UInt8;
+  number @1 :UInt16 = 7;
+  name @2 :Text;
+}
+
+struct UInt16Row {
+  first @0 :UInt16;
+  number @1 :UInt16 = 7;
+  name @2 :Text;
+}
+
+struct UInt32Row {
+  first @0 :UInt32;
+  number @1 :UInt16 = 7;
+  name @2 :Text;
+}
+
+struct UInt64Row {
+  first @0 :UInt64;
+  number @1 :UInt16 = 7;
+  name @2 :Text;
+}
+
+struct Float32Row {
+  first @0 :Float32;
+  number @1 :UInt16 = 7;
+  name @2 :Text;
+}
+
+struct Float64Row {
+  first @0 :Float64;
+  number @1 :UInt16 = 7;
+  name @2 :Text;
+}
+
+struct MoodRow {
+  first @0 :Mood;
+  number @1 :UInt16 = 7;
+  name @2 :Text;
+}
+
+struct TextRow {
+  first @0 :Text;
+  number @1 :UInt16 = 7;
+  name @2 :Text;
+}
+
+struct DataRow {
+  first @0 :Data;
+  number @1 :UInt16 = 7;
+  name @2 :Text;
+}
+
+struct Word16ListRow {
+  first @0 :List(UInt16);
+  number @1 :UInt16 = 7;
+  name @2 :Text;
 }
