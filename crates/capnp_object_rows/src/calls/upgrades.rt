@@ -12,10 +12,15 @@ use std::test::Fail;
 
 // Three nothings, bits, and numbers of 1, 2, 4 and 8 bytes.
 const NOTHINGS: &[u8] = b"\x01\0\0\0\x18\0\0\0";
+
 const BITS: &[u8] = b"\x01\0\0\0\x19\0\0\0\x07\0\0\0\0\0\0\0";
+
 const BYTES: &[u8] = b"\x01\0\0\0\x1a\0\0\0\x05\xfa\x07\0\0\0\0\0";
+
 const PAIRS: &[u8] = b"\x01\0\0\0\x1b\0\0\0\x01\0\x02\x03\xff\xff\0\0";
+
 const QUADS: &[u8] = b"\x01\0\0\0\x1c\0\0\0\x07\0\0\0\x01\0\0\x80\x09\0\0\0\0\0\0\0";
+
 const WORDS: &[u8] =
     b"\x01\0\0\0\x1d\0\0\0\x01\0\0\0\0\0\0\x80\x02\0\0\0\0\0\0\0\x03\0\0\0\x04\0\0\0";
 
@@ -39,6 +44,7 @@ b\0\0\0\0\0\0\0c\0\0\0\0\0\0\0";
 
 // A struct of one data word, and null.
 const STRUCT: &[u8] = b"\0\0\0\0\x01\0\0\0\x05\0\0\0\0\0\0\0";
+
 const NULL: &[u8] = b"\0\0\0\0\0\0\0\0";
 
 // Segments, and the refusals of their roots as lists of structs, of pointers, of nothing, of bools, and of
@@ -121,9 +127,16 @@ fn elements_as_structs(rt: HostRuntime) -> std::result::Result<(), Fail> {
         for index in 0..3 {
             let element = list.get(index);
             let word = words[index as usize];
-            assert_eq!(rt; (element.data_words(), element.pointers()), sizes, "at {segment:?}");
+            assert_eq!(rt;
+                (element.data_words(), element.pointers()),
+                sizes,
+                "at {segment:?}"
+            );
             assert_eq!(rt; element.get_word(0), word, "at {segment:?}");
-            assert_eq!(rt; element.get_data_field::<u16>(1), (word / 65536 % 65536) as u16);
+            assert_eq!(rt;
+                element.get_data_field::<u16>(1),
+                (word / 65536 % 65536) as u16
+            );
             assert!(rt; element.get_pointer(2).is_null());
         }
     }
@@ -135,15 +148,27 @@ fn first_fields_of_structs(rt: HostRuntime) -> std::result::Result<(), Fail> {
     let segments = [DATA];
     let arena = arena_of(&segments, 1000, 64);
     let bytes = root_as::<NumberList<'_, u8>>(&arena)?;
-    assert_eq!(rt; (bytes.len(), bytes.get(0), bytes.get(1), bytes.get(2)), (3, 1, 0xf1, 0));
+    assert_eq!(rt;
+        (bytes.len(), bytes.get(0), bytes.get(1), bytes.get(2)),
+        (3, 1, 0xf1, 0)
+    );
     let pairs = root_as::<NumberList<'_, i16>>(&arena)?;
-    assert_eq!(rt; (pairs.get(0), pairs.get(1), pairs.get(2)), (0x0201, -0x0d0f, 0));
+    assert_eq!(rt;
+        (pairs.get(0), pairs.get(1), pairs.get(2)),
+        (0x0201, -0x0d0f, 0)
+    );
     let words = root_as::<NumberList<'_, u64>>(&arena)?;
-    assert_eq!(rt; (words.get(0), words.get(2)), (0x0807_0605_0403_0201, 1 << 56));
+    assert_eq!(rt;
+        (words.get(0), words.get(2)),
+        (0x0807_0605_0403_0201, 1 << 56)
+    );
     let segments = [HELLO];
     let arena = arena_of(&segments, 1000, 64);
     let letters = root_as::<NumberList<'_, u8>>(&arena)?;
-    assert_eq!(rt; (letters.len(), letters.get(4), letters.get(13)), (14, b'o', 0));
+    assert_eq!(rt;
+        (letters.len(), letters.get(4), letters.get(13)),
+        (14, b'o', 0)
+    );
     Ok(())
 }
 
