@@ -1,23 +1,12 @@
 -- What lists that are read as lists of numbers show.
 use Rattle.std.proofs.lemmas.List.{length-map, get_or-map, get_or-take, get_or-drop}
-use Rattle.std.proofs.Common.{◌≡◌, ◌≢◌, ℕ, zero, suc, ◌+◌, ◌*◌, ◌/◌, ◌%◌, ◌^◌, ◌<◌, ◌≤◌, List, [], length, map, drop, slice_index_or, refl, sym, ◌∙◌, ap, subst, arith}
-use Rattle.capnp_frame.specs.declared.error.ErrorKind.{ErrorKind}
-use Rattle.capnp_frame.specs.declared.error.ErrorKind.TheVariants.{WrongPointerKind}
-use Rattle.capnp_wire.specs.Pointer.{words_of, words_from}
-use Rattle.capnp_wire.specs.Element.{code_of, width}
+use Rattle.std.proofs.Common.{◌≡◌, ℕ, zero, suc, ◌+◌, ◌*◌, ◌/◌, ◌%◌, ◌^◌, ◌<◌, ◌≤◌, List, [], length, drop, slice_index_or, sym, ◌∙◌, ap, arith}
+use Rattle.capnp_wire.specs.Pointer.{words_from}
+use Rattle.capnp_wire.specs.Element.{width}
 use Rattle.capnp_wire.specs.Tree.{Form, null, struct, numbers, pointers, structs}
 use Rattle.capnp_wire.specs.Object.{rows_from}
-use Rattle.capnp_wire.specs.Landing.{shape_of}
-use Rattle.capnp_wire.specs.Views.{Pointer, Accepts, Reads, TakesNumbers, DeclinesNumbers}
-use Rattle.capnp_wire.specs.Readers.{form_of}
-use Rattle.capnp_wire.specs.UpgradedViews.{IsFirstField, first_fields, ReadsAsNumbers, TakesFields, DeclinesFields}
-use Rattle.capnp_wire.specs.declared.layout.place.Place.{Place}
-use Rattle.capnp_wire.specs.declared.layout.element.ElementSize.{ElementSize}
-use Rattle.capnp_wire.specs.declared.layout.element.ElementSize.TheVariants.{Void, Bit, Byte, TwoBytes, FourBytes, EightBytes}
-use Rattle.capnp_wire.specs.declared.layout.object.Body.{Body}
-use Rattle.capnp_wire.specs.declared.layout.object.Body.TheVariants.{Struct, Numbers, Pointers, Structs}
-use Rattle.capnp_wire.specs.declared.layout.pointer.Elements.{Elements}
-use Rattle.capnp_wire.specs.declared.layout.object.Object.{Object as ReadObject}
+use Rattle.capnp_wire.specs.Views.{Pointer, Accepts, Reads}
+use Rattle.capnp_wire.specs.UpgradedViews.{first_fields, ReadsAsNumbers, TakesFields, DeclinesFields}
 use Rattle.capnp_wire.proofs.objects.RowLemmas.{row_within}
 use Rattle.capnp_wire.proofs.trees.RoomLemmas.{length-rows_from}
 use Rattle.capnp_wire.proofs.views.ViewLemmas.{Decides, wrong_kind_once, wrong_kind_unlimited}

@@ -1,6 +1,6 @@
 -- What lists that are read as lists of pointers show.
 use Rattle.std.proofs.Math.Seq.{drop-append-add}
-use Rattle.std.proofs.Common.{◌≡◌, ℕ, zero, suc, ◌+◌, ◌-◌, ◌*◌, ◌<◌, ◌≤◌, List, [], ◌∷◌, ◌++◌, length, take, drop, Some, slice_get, inr, refl, sym, ◌∙◌, ap, subst, arith}
+use Rattle.std.proofs.Common.{◌≡◌, ℕ, zero, suc, ◌+◌, ◌-◌, ◌*◌, ◌<◌, ◌≤◌, List, ◌∷◌, ◌++◌, length, drop, Some, slice_get, inr, refl, sym, ◌∙◌, ap, subst, arith}
 use Rattle.capnp_frame.specs.declared.error.ErrorKind.{ErrorKind}
 use Rattle.capnp_frame.specs.declared.error.ErrorKind.TheVariants.{WrongPointerKind}
 use Rattle.capnp_wire.specs.Pointer.{words_of}
@@ -8,7 +8,7 @@ use Rattle.capnp_wire.specs.Tree.{Form, null, struct, numbers, pointers, structs
 use Rattle.capnp_wire.specs.Object.{places, row_places, rows_from}
 use Rattle.capnp_wire.specs.Landing.{shape_of}
 use Rattle.capnp_wire.specs.Views.{Pointer, Accepts, Refuses}
-use Rattle.capnp_wire.specs.Readers.{IsEntered, form_of}
+use Rattle.capnp_wire.specs.Readers.{IsEntered}
 use Rattle.capnp_wire.specs.ListViews.{PointerList}
 use Rattle.capnp_wire.specs.UpgradedViews.{first_pointers, ReadsAsPointers, TakesFirstPointers, DeclinesFirstPointers, IsUpgradedPointers}
 use Rattle.capnp_wire.specs.UpgradedReaders.{stepped_places, pointers_from}

@@ -1,9 +1,9 @@
 -- A data word is the struct's own part of that of the segment, and 0 past the last one.
-use Rattle.std.proofs.Common.{◌≤◌, length, sym, ◌∙◌, ap, arith, length-take}
+use Rattle.std.proofs.Common.{sym, ◌∙◌, ap}
 use Rattle.capnp_wire.specs.Pointer.{words_of, words_from}
 use Rattle.capnp_wire.specs.Parts.{own_part}
-use Rattle.capnp_wire.proofs.objects.FieldLemmas.{length-words_from, word_within, no_word_within}
-use Rattle.capnp_wire.proofs.objects.PartLemmas.{own_part_zero, own_data_at, no_own_data}
+use Rattle.capnp_wire.proofs.objects.FieldLemmas.{word_within, no_word_within}
+use Rattle.capnp_wire.proofs.objects.PartLemmas.{own_part_zero, own_data_at}
 use Rattle.capnp_wire.proofs.any_struct.reader.StructReader.get_word.Goals as goal
 
 pub returns-in-Some : goal.returns-in-Some

@@ -1,10 +1,10 @@
 -- The first field of a struct is the low bits of its first word.
 use Rattle.std.proofs.lemmas.List.{length-map}
-use Rattle.std.proofs.Common.{◌≡◌, ◌+◌, ◌*◌, ◌/◌, ◌%◌, ◌^◌, ◌<◌, ℕ, List, Option, length, slice_index_or, sym, ap, ◌∙◌, subst, arith}
+use Rattle.std.proofs.Common.{◌≡◌, ◌+◌, ◌*◌, ◌/◌, ◌%◌, ◌^◌, ◌<◌, ℕ, List, Option, length, slice_index_or, ap, ◌∙◌, subst, arith}
 use Rattle.std.proofs.lemmas.Option.{unwrap_or-slice_get}
 use Rattle.std.specs.Option.{unwrap_or}
 use Rattle.capnp_wire.specs.Pointer.{words_of}
-use Rattle.capnp_wire.specs.Element.{code_of, width}
+use Rattle.capnp_wire.specs.Element.{width}
 use Rattle.capnp_wire.specs.Object.{rows_from}
 use Rattle.capnp_wire.specs.UpgradedViews.{first_fields}
 use Rattle.capnp_wire.proofs.objects.RowLemmas.{element_within}

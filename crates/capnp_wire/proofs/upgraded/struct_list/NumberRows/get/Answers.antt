@@ -1,6 +1,6 @@
 -- A number is the one data word of its struct, by its part of the word in which it stands.
 use Rattle.std.proofs.lemmas.List.{length-map}
-use Rattle.std.proofs.Common.{◌≡◌, ◌+◌, ◌*◌, ◌/◌, ◌^◌, ◌<◌, ◌≤◌, ℕ, List, [], ◌∷◌, Some, length, slice_index_or, refl, ap, ◌∙◌, arith}
+use Rattle.std.proofs.Common.{◌≡◌, ◌^◌, ◌<◌, ℕ, List, [], ◌∷◌, Some, length, slice_index_or, refl, ap, ◌∙◌, arith}
 use Rattle.capnp_wire.specs.Pointer.{number_of, words_of, words_from}
 use Rattle.capnp_wire.specs.Element.{code_of, width, words_for}
 use Rattle.capnp_wire.specs.Object.{message_of, elements}
