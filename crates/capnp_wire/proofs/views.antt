@@ -2,6 +2,7 @@
 pub mod ViewLemmas
 pub mod FormLemmas
 pub mod ListViewLemmas
+pub mod ObjectViewLemmas
 pub mod UpgradedRowLemmas
 pub mod UpgradedNumberLemmas
 pub mod UpgradedPointerLemmas

@@ -15,6 +15,7 @@ pub mod Readers
 pub mod ListViews
 pub mod Fields
 pub mod NumberViews
+pub mod ObjectViews
 pub mod UpgradedViews
 pub mod UpgradedReaders
 pub mod Layout

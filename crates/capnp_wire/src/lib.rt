@@ -8,6 +8,7 @@
 //! [encoding document]: https://capnproto.org/encoding.html
 #![tactic(auto)]
 
+pub mod any_object;
 pub mod any_pointer;
 pub mod any_pointer_list;
 pub mod any_struct;

@@ -10,7 +10,7 @@ use Rattle.capnp_wire.specs.Landing.{shape_of, words_in}
 use Rattle.capnp_wire.specs.Views.{Pointer, at_place, Shows, Accepts, Reads, TakesNumbers}
 use Rattle.capnp_wire.specs.NumberViews.{IsNumbers}
 use Rattle.capnp_wire.specs.Readers.{IsEntered, form_of}
-use Rattle.capnp_wire.specs.ListViews.{StructList, PointerList, HasRows, IsStructList, IsPointerList, TakesStructs, TakesPointers, DeclinesStructs, DeclinesPointers}
+use Rattle.capnp_wire.specs.ListViews.{StructList, PointerList, HasRows, IsStructList, IsPointerList, TakesStructs, TakesPointers, DeclinesStructs, DeclinesPointers, structs_in}
 use Rattle.capnp_wire.specs.declared.layout.place.Place.{Place}
 use Rattle.capnp_wire.specs.declared.layout.object.Body.{Body}
 use Rattle.capnp_wire.specs.declared.layout.object.Body.TheVariants.{Struct, Numbers, Pointers, Structs}
@@ -83,7 +83,16 @@ structs_show p object elements following entered body =
       (holds.0, holds.1, entered.within),
     )
 
--- and lie within its segment
+pub structs_entered : (p : Pointer) (object : ReadObject) (elements : Elements) (following : ℕ) → IsEntered p object → object.body ≡ Structs elements following
+    → IsStructList p (structs_in p object 1 elements)
+structs_entered p object elements following entered body = record {
+  same_message = refl;
+  shown = structs_show p object elements following entered body;
+  nesting_below = refl;
+  same_limit = refl;
+}
+
+-- these lie within its segment
 pub structs_within : (p : Pointer) (object : ReadObject) (elements : Elements) (following : ℕ) → IsEntered p object → object.body ≡ Structs elements following
     → object.start.word + 1 + elements.count * (elements.size.data_words + elements.size.pointers) ≤ length object.segment.now / 8
 structs_within p object elements following entered body =

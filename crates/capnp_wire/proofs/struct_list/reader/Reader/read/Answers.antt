@@ -1,9 +1,9 @@
 -- The elements of a list are those of the object that the pointer leads to, with one less of nesting depth left.
-use Rattle.std.proofs.Common.{inr, refl, sym, subst}
+use Rattle.std.proofs.Common.{inr, sym, subst}
 use Rattle.capnp_wire.specs.Readers.{pointer_of, IsEntered}
 use Rattle.capnp_wire.specs.ListViews.{DeclinesStructs, IsStructList}
 use Rattle.capnp_wire.proofs.views.FormLemmas.{entered_shows}
-use Rattle.capnp_wire.proofs.views.ListViewLemmas.{other_than_structs, structs_show}
+use Rattle.capnp_wire.proofs.views.ListViewLemmas.{other_than_structs, structs_entered}
 use Rattle.capnp_wire.proofs.struct_list.reader.Reader.read.Goals as goal
 
 pub returns-in_default-as_structs : goal.returns-in_default-as_structs
@@ -19,9 +19,4 @@ returns g c =
     let entered : IsEntered p c.in-Some.object = rw c.in-Some.is at c.in_ok-object.ensures.found in
     let elements = c.in-Some-as_structs.elements in
     let there = c.in-Some-as_structs.ensures in
-    subst (IsStructList p) (sym c.within.ensures) (record {
-      same_message = refl;
-      shown = structs_show p c.in-Some.object elements there.0 entered there.1;
-      nesting_below = refl;
-      same_limit = refl;
-    })
+    subst (IsStructList p) (sym c.within.ensures) (structs_entered p c.in-Some.object elements there.0 entered there.1)

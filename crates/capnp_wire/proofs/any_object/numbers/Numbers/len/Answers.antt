@@ -1,0 +1,12 @@
+-- A list has as many elements as its count says.
+use Rattle.std.proofs.Common.{◌^◌, sym}
+use Rattle.capnp_wire.specs.Pointer.{number_of, words_of, words_from}
+use Rattle.capnp_wire.specs.Element.{code_of, width, words_for}
+use Rattle.capnp_wire.proofs.words.DigitLemmas.{length-digits}
+use Rattle.capnp_wire.proofs.any_object.numbers.Numbers.len.Goals as goal
+
+pub returns : goal.returns
+returns c =
+    let self = c.args.self.now in
+    let bits = width (code_of self.size) in
+    sym (length-digits (2 ^ bits) self.count (number_of (2 ^ 64) (words_from (words_of self.bytes.now) 0 (words_for self.count bits))))

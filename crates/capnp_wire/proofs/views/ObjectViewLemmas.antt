@@ -1,0 +1,57 @@
+-- What the view of whatever a pointer leads to shows.
+use Rattle.std.proofs.Common.{◌≡◌, ℕ, List, Result, Ok, Err, MatchResult, inl, sym, subst}
+use Rattle.capnp_frame.specs.declared.error.Error.{Error}
+use Rattle.capnp_frame.specs.declared.error.ErrorKind.{ErrorKind}
+use Rattle.capnp_frame.specs.declared.message.segments.ReaderSegments.{Ghosts}
+use Rattle.capnp_wire.specs.Pointer.{words_of}
+use Rattle.capnp_wire.specs.Tree.{Form}
+use Rattle.capnp_wire.specs.Landing.{shape_of}
+use Rattle.capnp_wire.specs.Views.{Pointer, IsViewOf, Accepts, Refuses, Unreadable}
+use Rattle.capnp_wire.specs.Readers.{IsEntered}
+use Rattle.capnp_wire.specs.ObjectViews.{IsObjectView, TakesAll}
+use Rattle.capnp_wire.specs.declared.any_object.reader.Reader.{Reader}
+use Rattle.capnp_wire.specs.declared.layout.object.Body.{Body}
+use Rattle.capnp_wire.specs.declared.layout.object.Object.{Object as ReadObject}
+use Rattle.capnp_wire.proofs.views.FormLemmas.{entered_shows}
+use Rattle.capnp_wire.proofs.views.ViewLemmas.{Decides, is_view_of}
+
+-- the kind of an object that was entered, by its body
+pub entered_kind : (p : Pointer) (object : ReadObject) (body : Body) (kind : Form → Type 0) → IsEntered p object → object.body ≡ body
+    → kind (shape_of (words_of object.segment.now) object.start body).form → Accepts p kind
+entered_kind p object body kind entered is holds =
+    entered_shows p object kind entered (subst (λ (b : Body). kind (shape_of (words_of object.segment.now) object.start b).form) (sym is) holds)
+
+pub entered_form : (p : Pointer) (object : ReadObject) (body : Body) (form : Form) → IsEntered p object → object.body ≡ body
+    → (shape_of (words_of object.segment.now) object.start body).form ≡ form → Accepts p (λ there. there ≡ form)
+entered_form p object body form entered is form_is = entered_kind p object body (λ there. there ≡ form) entered is form_is
+
+-- every object is taken, and none is declined
+abbrev DeclinesNone : Form → ErrorKind → Type 0
+DeclinesNone form kind = ⊥
+
+all_decide : Decides TakesAll DeclinesNone
+all_decide = record {
+  apart = λ form kind declined. absurd declined;
+  once = λ form kind other declined. absurd declined;
+  unlimited = λ form kind declined. absurd declined;
+}
+
+module _ {S : Type 0} {ghosts : Ghosts S} (segments : S → List (List ℕ)) (p : Pointer) where
+  taken : (view : Reader S ghosts) → IsObjectView segments p view → Accepts p TakesAll
+  taken view shown = (shown.kind.0, shown.kind.1, tt)
+
+  refused : (result : Result (Reader S ghosts) Error) → MatchResult result (IsObjectView segments p) (λ error. Unreadable p error.kind)
+      → MatchResult result (IsObjectView segments p) (λ error. Refuses p DeclinesNone error.kind)
+  refused (Ok view) returned = returned
+  refused (Err error) returned = inl returned
+
+  pub is_object_view : (result : Result (Reader S ghosts) Error) → MatchResult result (IsObjectView segments p) (λ error. Unreadable p error.kind)
+      → IsViewOf p (IsObjectView segments p) (Accepts p TakesAll) (Unreadable p) (λ kind. ⊥) result
+  is_object_view result returned =
+      let view = is_view_of p TakesAll DeclinesNone (IsObjectView segments p) all_decide taken result (refused result returned) in record {
+        returned = returned;
+        found = view.found;
+        unlimited = view.unlimited;
+        exact = view.exact;
+        declined = λ kind declined. absurd declined;
+      }

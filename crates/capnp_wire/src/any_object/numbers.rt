@@ -1,0 +1,53 @@
+//! Lists of numbers of any size that are read.
+ghost use Rattle.std.specs.Prelude.{◌≡◌, ◌*◌, length};
+ghost use Rattle.capnp_wire.specs.Element.{code_of, width, words_for};
+
+use crate::layout::element::ElementSize;
+use crate::layout::object::words_fit;
+use crate::layout::place::word;
+
+/// A list of numbers in a message, of bits or of nothing, whatever the size of its elements.
+#[derive(Drop)]
+pub struct Numbers<'a> {
+    /// The words of the list.
+    pub(crate) bytes: &'a [u8],
+    pub(crate) size: ElementSize,
+    pub(crate) count: u32,
+    ghost whole: { length bytes.now ≡ 8 * words_for count (width (code_of size)) },
+}
+
+impl<'a> Numbers<'a> {
+    ghost use Rattle.std.specs.Prelude.{◌<◌, slice_index};
+    ghost use Rattle.capnp_wire.specs.NumberViews.{sized_numbers_of};
+
+    /// The number of elements.
+    pub fn len(&self) -> u32
+        ensures { result ≡ length (sized_numbers_of self.now) }
+    {
+        self.count
+    }
+
+    /// How many bits each element has: 0, 1, 8, 16, 32 or 64.
+    pub fn bits_of_each(&self) -> u32
+        ensures { result ≡ width (code_of self.now.size) }
+    {
+        self.size.bits() as u32
+    }
+
+    /// The bits of the element of this index, as a number.
+    pub fn get(&self, index: u32) -> u64
+        requires { index < length (sized_numbers_of self.now) }
+        ensures { result ≡ slice_index (sized_numbers_of self.now) index }
+    {
+        words_fit(self.bytes);
+        let word = word(self.bytes, self.size.word_of(index) as usize).unwrap_or(0);
+        self.size.in_word(word, index)
+    }
+
+    /// The bytes of the words that the elements stand in, the first element in the lowest bits.
+    pub fn as_bytes(&self) -> &'a [u8]
+        ensures { result.now ≡ self.now.bytes.now }
+    {
+        self.bytes
+    }
+}

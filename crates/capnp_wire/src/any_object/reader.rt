@@ -1,0 +1,101 @@
+//! The view of whatever a pointer leads to.
+ghost use Rattle.std.specs.Prelude.{MatchResult};
+
+use crate::any_object::Numbers;
+use crate::any_struct::StructReader;
+use crate::entered::words_at;
+use crate::layout::object::{Body, Object};
+use crate::traits::FromPointerReader;
+use crate::{any_pointer, any_pointer_list, struct_list};
+use capnp_frame::Result;
+use capnp_frame::message::ReaderSegments;
+
+/// What a pointer leads to, counted once against the traversal limit: null, or the view of the kind of
+/// object that stands there. What the pointers of the object lead to is counted when they are followed.
+#[derive(Drop)]
+pub enum Reader<'a, S: ReaderSegments> {
+    Null,
+    Struct(StructReader<'a, S>),
+    /// A list of structs.
+    Structs(struct_list::Reader<'a, S>),
+    /// A list of pointers.
+    Pointers(any_pointer_list::Reader<'a, S>),
+    /// A list of numbers, of bits or of nothing.
+    Numbers(Numbers<'a>),
+}
+
+impl<'a, S: ReaderSegments> Reader<'a, S> {
+    ghost use Rattle.capnp_wire.specs.Readers.{pointer_of, IsEntered};
+    ghost use Rattle.capnp_wire.specs.Views.{Unreadable};
+    ghost use Rattle.capnp_wire.specs.ObjectViews.{IsObjectView};
+
+    // The view of what a pointer leads to.
+    fn read(reader: &any_pointer::Reader<'a, S>) -> Result<Reader<'a, S>>
+        ensures { let pointer = pointer_of S.segments reader.now in MatchResult result
+            (λ view. IsObjectView S.segments pointer view)
+            (λ error. Unreadable pointer error.kind) }
+    {
+        let Some(object) = reader.enter()? else {
+            return Ok(Reader::Null);
+        };
+        Ok(Reader::of(reader, &object))
+    }
+
+    // The view of an object that was entered.
+    fn of(reader: &any_pointer::Reader<'a, S>, object: &Object<'a>) -> Reader<'a, S>
+        requires { IsEntered (pointer_of S.segments reader.now) object.now }
+        ensures { IsObjectView S.segments (pointer_of S.segments reader.now) result }
+    {
+        let nesting = reader.nesting.saturating_sub(1);
+        match object.body {
+            Body::Struct(size) => Reader::Struct(StructReader {
+                segments: reader.segments,
+                limiter: reader.limiter,
+                segment: object.segment,
+                start: object.start,
+                size,
+                nesting,
+                part: None,
+            }),
+            Body::Structs(elements, _) => {
+                Reader::Structs(struct_list::Reader::within(reader, object, 1, elements))
+            }
+            Body::Pointers(count) => Reader::Pointers(any_pointer_list::Reader {
+                segments: reader.segments,
+                limiter: reader.limiter,
+                first: object.start,
+                count,
+                nesting,
+            }),
+            Body::Numbers(size, count) => Reader::Numbers(Numbers {
+                bytes: words_at(object.segment, object.start.word, size, count),
+                size,
+                count,
+            }),
+        }
+    }
+}
+
+// Null, and every object, is taken.
+impl<'a, S: ReaderSegments> FromPointerReader<'a, S> for Reader<'a, S> {
+    ghost use Rattle.std.specs.Prelude.{⊤};
+    ghost use Rattle.capnp_wire.specs.Readers.{pointer_of};
+    ghost use Rattle.capnp_wire.specs.Views.{IsViewOf, Accepts, Unreadable};
+    ghost use Rattle.capnp_wire.specs.ObjectViews.{IsObjectView, TakesAll};
+
+    ghost shows = { λ pointer view. IsObjectView S.segments pointer view };
+
+    ghost accepts = { λ pointer. Accepts pointer TakesAll };
+
+    ghost refuses = { λ pointer kind. Unreadable pointer kind };
+
+    ghost declines = { λ pointer kind. ⊥ };
+
+    fn get_from_pointer(reader: any_pointer::Reader<'a, S>) -> Result<Self>
+        ensures { let pointer = pointer_of S.segments reader.entry in IsViewOf pointer
+            (λ view. IsObjectView S.segments pointer view) (Accepts pointer TakesAll)
+            (Unreadable pointer) (λ kind. ⊥) result }
+    {
+        Reader::read(&reader)
+    }
+}
