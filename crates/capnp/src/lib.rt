@@ -5,6 +5,7 @@
 //! `specs/Streams.antt` say so, over the grammars of the crates below.
 #![tactic(auto)]
 
+pub mod any_object;
 pub mod any_pointer;
 pub mod any_pointer_list;
 pub mod any_struct;
