@@ -1,5 +1,5 @@
 -- An element is some of the bits of the word in which it stands.
-use Rattle.std.proofs.Common.{◌*◌, ◌^◌, ◌<◌, ℕ, Option, length, slice_index_or, ap, ◌∙◌, arith}
+use Rattle.std.proofs.Common.{◌^◌, ◌<◌, ℕ, Option, slice_index_or, ap, ◌∙◌, arith}
 use Rattle.std.proofs.lemmas.Option.{unwrap_or-slice_get}
 use Rattle.std.specs.Option.{unwrap_or}
 use Rattle.capnp_wire.specs.Pointer.{number_of, words_of, words_from}
