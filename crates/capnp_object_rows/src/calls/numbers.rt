@@ -96,6 +96,7 @@ fn numbers_of_a_list(rt: HostRuntime) -> std::result::Result<(), Fail> {
         root_as::<SegmentArray<'_>, primitive_list::Owned<i32>>(&arena)?,
         root_as::<SegmentArray<'_>, primitive_list::Owned<f32>>(&arena)?,
     );
+    assert_eq!(rt; (list.len(), floats.len()), (3, 3));
     assert_eq!(rt; (list.get(0), list.get(2)), (0x3f80_0000, 7));
     assert_eq!(rt; (floats.get(0), floats.get(1)), (1.0, -2.0));
     let segments = [WORDS];
@@ -104,6 +105,7 @@ fn numbers_of_a_list(rt: HostRuntime) -> std::result::Result<(), Fail> {
         root_as::<SegmentArray<'_>, primitive_list::Owned<u64>>(&arena)?,
         root_as::<SegmentArray<'_>, primitive_list::Owned<f64>>(&arena)?,
     );
+    assert_eq!(rt; (list.len(), floats.len()), (2, 2));
     assert_eq!(rt; (list.get(1), floats.get(0)), ((1 << 63) + 7, 1.5));
     Ok(())
 }

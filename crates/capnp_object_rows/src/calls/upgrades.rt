@@ -148,16 +148,16 @@ fn first_fields_of_structs(rt: HostRuntime) -> std::result::Result<(), Fail> {
     let segments = [DATA];
     let arena = arena_of(&segments, 1000, 64);
     let bytes = root_as::<SegmentArray<'_>, NumberList<'_, u8>>(&arena)?;
-    assert_eq!(rt;
-        (bytes.len(), bytes.get(0), bytes.get(1), bytes.get(2)),
-        (3, 1, 0xf1, 0)
-    );
+    assert_eq!(rt; bytes.len(), 3);
+    assert_eq!(rt; (bytes.get(0), bytes.get(1), bytes.get(2)), (1, 0xf1, 0));
     let pairs = root_as::<SegmentArray<'_>, NumberList<'_, i16>>(&arena)?;
+    assert_eq!(rt; pairs.len(), 3);
     assert_eq!(rt;
         (pairs.get(0), pairs.get(1), pairs.get(2)),
         (0x0201, -0x0d0f, 0)
     );
     let words = root_as::<SegmentArray<'_>, NumberList<'_, u64>>(&arena)?;
+    assert_eq!(rt; words.len(), 3);
     assert_eq!(rt;
         (words.get(0), words.get(2)),
         (0x0807_0605_0403_0201, 1 << 56)
@@ -165,10 +165,8 @@ fn first_fields_of_structs(rt: HostRuntime) -> std::result::Result<(), Fail> {
     let segments = [HELLO];
     let arena = arena_of(&segments, 1000, 64);
     let letters = root_as::<SegmentArray<'_>, NumberList<'_, u8>>(&arena)?;
-    assert_eq!(rt;
-        (letters.len(), letters.get(4), letters.get(13)),
-        (14, b'o', 0)
-    );
+    assert_eq!(rt; letters.len(), 14);
+    assert_eq!(rt; (letters.get(4), letters.get(13)), (b'o', 0));
     Ok(())
 }
 
@@ -190,6 +188,7 @@ fn first_pointers_of_structs(rt: HostRuntime) -> std::result::Result<(), Fail> {
     let segments = [POINTERS];
     let arena = arena_of(&segments, 1000, 1);
     let structs = root_as::<SegmentArray<'_>, StructList<'_, SegmentArray<'_>>>(&arena)?;
+    assert_eq!(rt; structs.len(), 3);
     let below = structs.get(1).get_pointer(0);
     assert_eq!(rt; refusal(below.get_as::<text::Reader<'_>>()), 19);
     Ok(())
