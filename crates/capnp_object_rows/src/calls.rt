@@ -1,6 +1,7 @@
 //! The calls of reading views, of builders and of allocators by worked bytes: what no contract says,
 //! above all that they succeed. Where a growth is refused, these tests may fail.
 mod allocators;
+mod any_objects;
 mod arenas;
 mod builders;
 mod canonical_messages;
