@@ -5,6 +5,8 @@
 #[cfg(test)]
 mod accounts;
 #[cfg(test)]
+mod any_numbers;
+#[cfg(test)]
 mod built_roots;
 #[cfg(test)]
 mod callers;

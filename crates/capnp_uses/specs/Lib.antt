@@ -3,3 +3,4 @@ pub mod Regions
 pub mod Roots
 pub mod Streaming
 pub mod People
+pub mod AnyNumbers

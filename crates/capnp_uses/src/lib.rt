@@ -5,6 +5,7 @@
 #![tactic(auto)]
 
 pub mod account;
+pub mod any_numbers;
 pub mod building;
 pub mod canonical;
 pub mod entries;

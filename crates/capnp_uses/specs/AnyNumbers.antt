@@ -1,0 +1,31 @@
+-- Lists of numbers of any width (src/any_numbers.rt).
+use Rattle.std.specs.Prelude.{◌≡◌, ℕ, ⊤, List, [], Option, Some, None}
+use Rattle.capnp_frame.specs.declared.error.ErrorKind.{ErrorKind}
+use Rattle.capnp_frame.specs.declared.error.ErrorKind.TheVariants.{WrongPointerKind}
+use Rattle.capnp_wire.specs.Tree.{Form, null, numbers}
+use Rattle.capnp_wire.specs.NumberViews.{sized_numbers_of}
+use Rattle.capnp_wire.specs.declared.any_object.numbers.Numbers.{Numbers}
+use Rattle.capnp_uses.specs.declared.any_numbers.Reader.{Reader}
+
+-- the bits of each element; none where there is no list
+abbrev pub values_of : Option Numbers → List ℕ
+values_of None = []
+values_of (Some list) = sized_numbers_of list
+
+abbrev pub any_numbers_of : Reader → List ℕ
+any_numbers_of list = values_of list.numbers
+
+-- none from null, those of a list of numbers of any width
+abbrev pub IsAnyNumbers : Form → List ℕ → Type 0
+IsAnyNumbers null values = values ≡ []
+IsAnyNumbers (numbers code there) values = values ≡ there
+IsAnyNumbers _ values = ⊥
+
+abbrev pub TakesAnyNumbers : Form → Type 0
+TakesAnyNumbers null = ⊤
+TakesAnyNumbers (numbers code values) = ⊤
+TakesAnyNumbers _ = ⊥
+
+-- and how other forms are refused
+abbrev pub DeclinesAnyNumbers : Form → ErrorKind → Type 0
+DeclinesAnyNumbers form kind = (TakesAnyNumbers form → ⊥) × (kind ≡ WrongPointerKind)

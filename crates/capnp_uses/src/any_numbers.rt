@@ -1,0 +1,82 @@
+//! A view that takes several kinds of objects: a list of numbers of any width, each read as `u64`.
+//!
+//! It asks for whatever the pointer leads to, which is entered once, and keeps what it takes of the
+//! kinds (Cap'n Proto's encoding, "Lists").
+ghost use Rattle.std.specs.Prelude.{◌≡◌, MatchResult};
+ghost use Rattle.capnp_wire.specs.Readers.{pointer_of};
+ghost use Rattle.capnp_wire.specs.Views.{IsViewOf, Accepts, Refuses, Declines, Reads};
+
+use capnp_frame::message::ReaderSegments;
+use capnp_frame::{Error, ErrorKind, Result};
+use capnp_wire::traits::FromPointerReader;
+use capnp_wire::{any_object, any_pointer};
+
+/// A list of unsigned numbers of any width in a message; none from null.
+#[derive(Drop)]
+pub struct Reader<'a> {
+    numbers: Option<any_object::Numbers<'a>>,
+}
+
+impl<'a> Reader<'a> {
+    ghost use Rattle.std.specs.Prelude.{◌<◌, length, slice_index};
+    ghost use Rattle.capnp_uses.specs.AnyNumbers.{any_numbers_of, IsAnyNumbers, DeclinesAnyNumbers};
+
+    /// The number of elements.
+    pub fn len(&self) -> u32
+        ensures { result ≡ length (any_numbers_of self.now) }
+    {
+        match &self.numbers {
+            None => 0,
+            Some(numbers) => numbers.len(),
+        }
+    }
+
+    /// The element of this index.
+    pub fn get(&self, index: u32) -> u64
+        requires { index < length (any_numbers_of self.now) }
+        ensures { result ≡ slice_index (any_numbers_of self.now) index }
+    {
+        match &self.numbers {
+            None => 0,
+            Some(numbers) => numbers.get(index),
+        }
+    }
+
+    // The list that a pointer leads to.
+    fn read<S: ReaderSegments>(reader: &any_pointer::Reader<'a, S>) -> Result<Reader<'a>>
+        ensures { let pointer = pointer_of S.segments reader.now in MatchResult result
+            (λ view. Reads pointer (λ form. IsAnyNumbers form (any_numbers_of view)))
+            (λ error. Refuses pointer DeclinesAnyNumbers error.kind) }
+    {
+        let object: any_object::Reader<'a, S> = reader.get_as()?;
+        match object {
+            any_object::Reader::Null => Ok(Reader { numbers: None }),
+            any_object::Reader::Numbers(numbers) => Ok(Reader {
+                numbers: Some(numbers),
+            }),
+            _ => Err(Error::from_kind(ErrorKind::WrongPointerKind)),
+        }
+    }
+}
+
+impl<'a, S: ReaderSegments> FromPointerReader<'a, S> for Reader<'a> {
+    ghost use Rattle.capnp_uses.specs.AnyNumbers.{any_numbers_of, IsAnyNumbers, TakesAnyNumbers, DeclinesAnyNumbers};
+
+    ghost shows = { λ pointer view.
+        Reads pointer (λ form. IsAnyNumbers form (any_numbers_of view)) };
+
+    ghost accepts = { λ pointer. Accepts pointer TakesAnyNumbers };
+
+    ghost refuses = { λ pointer kind. Refuses pointer DeclinesAnyNumbers kind };
+
+    ghost declines = { λ pointer kind. Declines pointer DeclinesAnyNumbers kind };
+
+    fn get_from_pointer(reader: any_pointer::Reader<'a, S>) -> Result<Self>
+        ensures { let pointer = pointer_of S.segments reader.entry in IsViewOf pointer
+            (λ view. Reads pointer (λ form. IsAnyNumbers form (any_numbers_of view)))
+            (Accepts pointer TakesAnyNumbers) (Refuses pointer DeclinesAnyNumbers)
+            (Declines pointer DeclinesAnyNumbers) result }
+    {
+        Reader::read(&reader)
+    }
+}
