@@ -68,9 +68,7 @@ fn arena_of<'a>(
     ReaderArena::new(SegmentArray::new(segments), options)
 }
 
-fn root_of<'a, 'b>(
-    arena: &'b ReaderArena<SegmentArray<'a>>,
-) -> Result<any_object::Reader<'b, SegmentArray<'a>>> {
+fn root_of<'a, S: ReaderSegments>(arena: &'a ReaderArena<S>) -> Result<any_object::Reader<'a, S>> {
     arena.get_root()?.get_as()
 }
 
@@ -78,11 +76,20 @@ fn outline<S: ReaderSegments>(view: any_object::Reader<'_, S>) -> (Kind, u32, u3
     match view {
         any_object::Reader::Null => (Kind::Null, 0, 0, 0),
         any_object::Reader::Struct(fields) => {
-            (Kind::Struct, fields.data_words() as u32, 0, fields.get_word(0))
+            (
+                Kind::Struct,
+                fields.data_words() as u32,
+                0,
+                fields.get_word(0),
+            )
         }
         any_object::Reader::Structs(list) => {
             let count = list.len();
-            let word = if count == 0 { 0 } else { list.get(0).get_word(0) };
+            let word = if count == 0 {
+                0
+            } else {
+                list.get(0).get_word(0)
+            };
             (Kind::Structs, count, 0, word)
         }
         any_object::Reader::Pointers(list) => (Kind::Pointers, list.len(), 0, 0),
