@@ -10,7 +10,7 @@ use Rattle.capnp_wire.specs.Tree.{struct, Trees, none, tree, total_words}
 use Rattle.capnp_wire.specs.Trim.{cut_zeros, keep_word}
 use Rattle.capnp_wire.specs.Layout.{body, pointer, layout, formed, struct_pointer, minus_one, AllHaveRoom}
 use Rattle.capnp_wire.specs.Values.{HasWords, pointed}
-use Rattle.capnp_wire.proofs.trees.PlacedLemmas.{if_positive}
+use Rattle.capnp_wire.proofs.layouts.LayoutLemmas.{if_positive}
 use Rattle.capnp_build.specs.Body.{words_of_body, Fits, body_tag, zero_form, formed_new_object}
 use Rattle.capnp_build.specs.declared.object.Body.{Body}
 use Rattle.capnp_build.specs.declared.object.Body.TheVariants.{Bytes, Words, Struct}

@@ -11,7 +11,8 @@ use Rattle.capnp_wire.specs.Layout.{pointer, body, layout, formed, AllHaveRoom}
 use Rattle.capnp_wire.specs.Values.{HasWords, pointed}
 use Rattle.capnp_wire.proofs.trees.TrimLemmas.{count-trim}
 use Rattle.capnp_wire.proofs.layouts.OpenLemmas.{room_formed}
-use Rattle.capnp_wire.proofs.words.WordLemmas.{length-words_of}
+use Rattle.capnp_wire.proofs.words.WordLemmas.{length-words_of, heads, tails}
+use Rattle.capnp_wire.proofs.trees.PlacedLemmas.{alone}
 use Rattle.capnp_build.specs.Bytes.{Space}
 use Rattle.capnp_build.specs.Filled.{IsBlockOf}
 use Rattle.capnp_build.specs.Held.{space_at}
@@ -33,26 +34,15 @@ pub record Ready (has_tree : Trees → Type 0) (c : Bool) (word : Word) (n : ℕ
   pub tag : number_of 256 (bytes_of word) ≡ pointer form (count held) 0
   pub body_is : words_of block ≡ body (tree form held none)
 
-one_of : (trees : Trees) → count trees ≡ 1 → (form : Form) × (held : Trees) × (trees ≡ tree form held none)
-one_of none one = absurd (omega (arith, one))
-one_of (tree form held none) one = (form, held, refl)
-one_of (tree form held (tree f h rest)) one = absurd (omega (arith, one))
-
 count_formed : (c : Bool) (trees : Trees) → count (formed c trees) ≡ count trees
 count_formed true trees = count-trim trees
 count_formed false trees = refl
-
-heads : (a b : ℕ) (xs ys : List ℕ) → a ∷ xs ≡ b ∷ ys → a ≡ b
-heads a b xs ys e = cc
-
-tails : (a b : ℕ) (xs ys : List ℕ) → a ∷ xs ≡ b ∷ ys → xs ≡ ys
-tails a b xs ys e = cc
 
 pub ready : (has_tree : Trees → Type 0) (c : Bool) (word : Word) (n : ℕ) (block : List ℕ) → ((trees : Trees) → has_tree trees → count trees ≡ 1) → HasWords has_tree c n
     → IsBlockOf has_tree c word block
     → Ready has_tree c word n block
 ready has_tree c word n block one w holds =
-    let f = one_of (formed c w.trees) (count_formed c w.trees ∙ one w.trees w.tree_is) in
+    let f = alone (formed c w.trees) (count_formed c w.trees ∙ one w.trees w.tree_is) in
     let whole : pointed word block ≡ layout (tree f.0 f.1 none) = holds w.trees w.tree_is ∙ ap layout f.2 in
     record {
       trees = w.trees;
@@ -63,8 +53,8 @@ ready has_tree c word n block one w holds =
       rooms = subst AllHaveRoom f.2 (room_formed c w.trees w.rooms);
       size = w.words_are ∙ ap total_words f.2;
       few = w.few;
-      tag = heads _ _ _ _ whole;
-      body_is = tails _ _ _ _ whole;
+      tag = heads whole;
+      body_is = tails whole;
     }
 
 -- the root is the value whose body it leads to

@@ -1,5 +1,5 @@
 -- The used bytes of a segment.
-use Rattle.std.proofs.Common.{◌≡◌, ℕ, zero, suc, ◌+◌, ◌-◌, ◌≤◌, List, [], ◌∷◌, ◌++◌, length, take, drop, replicate, Bool, All, refl, ap, sym, subst, ◌∙◌, arith, length-append, length-take}
+use Rattle.std.proofs.Common.{◌≡◌, ℕ, zero, suc, ◌+◌, ◌-◌, ◌*◌, ◌/◌, ◌^◌, ◌≤◌, min, List, [], ◌∷◌, ◌++◌, length, take, drop, replicate, Bool, All, refl, ap, sym, subst, ◌∙◌, arith, length-append, length-take}
 use Rattle.std.proofs.Common.{length-drop, append_assoc}
 use Rattle.std.proofs.lemmas.List.Elements.{All-drop}
 use Rattle.std.proofs.lemmas.List.{drop-drop, take-take, take-append-drop, drop-take}
@@ -79,3 +79,16 @@ block_after at n xs w long fits =
 
 pub zeros_after : (used n : ℕ) (xs : List ℕ) → used + n ≤ length xs → ZeroFrom used xs → take n (drop used xs) ≡ replicate n 0
 zeros_after used n xs fits clean = zeros n (drop used xs) (omega (arith, fits, length-drop used xs)) clean
+
+-- what is asked of a segment, in words of its fields
+pub grown_within : (words n size : ℕ) (used content : List ℕ) → used ≡ take (8 * words) content → size ≡ length content → 8 * words ≤ length content
+    → words ≤ 2 ^ 29 → n ≤ min (size / 8) (2 ^ 29) - length used / 8 → (8 * words + 8 * n ≤ length content) × (words + n ≤ 2 ^ 29)
+grown_within words n size used content e f fits few room =
+    let l : length used ≡ 8 * words = ap length e ∙ omega (arith, length-take (8 * words) content) in
+    (omega arith, omega arith)
+
+pub written_within : (words at : ℕ) (used content w : List ℕ) → used ≡ take (8 * words) content → 8 * words ≤ length content → at + length w ≤ length used
+    → at + length w ≤ 8 * words
+written_within words at used content w e fits h =
+    let l : length used ≡ 8 * words = ap length e ∙ omega (arith, length-take (8 * words) content) in
+    omega arith

@@ -20,6 +20,7 @@ use Rattle.capnp_frame.specs.declared.message.options.ReaderOptions.{ReaderOptio
 use Rattle.capnp_wire.specs.Pointer.{words_of}
 use Rattle.capnp_wire.specs.Object.{message_of}
 use Rattle.capnp_wire.specs.Readers.{nesting_of}
+use Rattle.capnp_wire.proofs.trees.FrontLemmas.{null_trimmed}
 
 -- what trimming keeps of trees is as deep at most
 kept_shallow : (nesting : ℕ) (rest : Trees) (form : Form) (held : Trees) → depth rest ≤ nesting → (if is_null form then 0 else depth held + 1) ≤ nesting → depth (keep_tree rest form held) ≤ nesting
@@ -49,18 +50,11 @@ one_shallow (numbers code values) a b c d same p = omega arith
 one_shallow pointers a b c d same p = omega arith
 one_shallow (structs n q rows) a b c d same p = omega arith
 
-same_null : (form : Form) (held : Trees) → is_null (trim_form form held) ≡ is_null form
-same_null null held = refl
-same_null (struct words) held = refl
-same_null (numbers code values) held = refl
-same_null pointers held = refl
-same_null (structs d p rows) held = refl
-
 pub trim_shallow : (t : Trees) → depth (trim t) ≤ depth t
 trim_shallow none = omega arith
 trim_shallow (tree form held rest) =
     let inside : depth (trim_held form (trim held)) ≤ depth held = held_shallow (depth held) form (trim held) (trim_shallow held) in
-    let first = one_shallow form held (trim_held form (trim held)) (trim held) none (same_null form (trim held)) inside in
+    let first = one_shallow form held (trim_held form (trim held)) (trim held) none (null_trimmed form (trim held)) inside in
     omega (arith, first, trim_shallow rest)
 
 -- one tree

@@ -1,29 +1,19 @@
 -- A pointer leads to one tree.
-use Rattle.std.proofs.Common.{◌≡◌, ℕ, List, [], ◌∷◌, ◌++◌, Option, Some, None, MatchOption, Result, Ok, Err, OnOk, false, true, refl, sym, ◌∙◌, ap, subst, ◌<◌, length, arith}
-use Rattle.capnp_wire.specs.Tree.{Form, null, Trees, none, tree}
+use Rattle.std.proofs.Common.{◌≡◌, ℕ, List, [], ◌∷◌, ◌++◌, false, true, refl, ◌∙◌, ap, subst, ◌<◌, length, arith}
+use Rattle.capnp_wire.specs.Tree.{Form, Trees, none, tree}
 use Rattle.capnp_wire.specs.Reached.{At, at, root, Root}
 use Rattle.capnp_wire.specs.Layout.{canon}
 use Rattle.capnp_wire.specs.Views.{Pointer}
-use Rattle.capnp_wire.specs.Values.{TreeAt, LeadsToTree}
-use Rattle.capnp_wire.specs.declared.layout.place.Place.{Place}
-use Rattle.capnp_wire.proofs.objects.ObjectLemmas.{one_tree}
+use Rattle.capnp_wire.specs.Values.{LeadsToTree}
 use Rattle.capnp_wire.proofs.pointers.FaultLemmas.{word_of_object}
+use Rattle.capnp_wire.proofs.views.OneValueLemmas.{one_there}
 use Rattle.capnp_frame.specs.Sink.{Adds}
 use Rattle.capnp_build.specs.Bytes.{Space}
 use Rattle.capnp_build.specs.Built.{message, IsSet, IsWhole}
 use Rattle.capnp.specs.Written.{IsFrameText}
 
-one_at : (o : Option Place) (m : List (List ℕ)) (nesting : ℕ) (limit : Option ℕ) (a b : Trees) → MatchOption o (a ≡ tree null none none) (λ place. TreeAt m place nesting limit a)
-    → MatchOption o (b ≡ tree null none none) (λ place. TreeAt m place nesting limit b) → a ≡ b
-one_at None m nesting limit a b x y = x ∙ sym y
-one_at (Some place) m nesting limit a b x y = (one_tree m (place ∷ []) a b x.traversed y.traversed x.stand y.stand).0
-
 leads_one : (p : Pointer) (a b : Trees) → LeadsToTree p a → LeadsToTree p b → a ≡ b
-leads_one p a b x y = one_at p.place p.message p.nesting p.limit a b x y
-
-pub on_ok : {A E : Type 0} (r : Result A E) (P Q : Type 0) → (P → Q) → OnOk r P → OnOk r Q
-on_ok (Ok a) P Q step p = step p
-on_ok (Err e) P Q step p = p
+leads_one p a b x y = one_there p.place p.message p.nesting p.limit a b x y
 
 pub set_as : (p : Pointer) (spaces : List Space) (form : Form) (held : Trees) → LeadsToTree p (tree form held none) → IsSet (LeadsToTree p) false spaces
     → (traversed : ℕ) × Root (message spaces) form held traversed

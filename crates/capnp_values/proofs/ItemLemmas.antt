@@ -7,6 +7,7 @@ use Rattle.capnp_wire.specs.Tree.{Form, Trees, none, tree, count, total_words}
 use Rattle.capnp_wire.specs.Layout.{formed}
 use Rattle.capnp_wire.specs.Values.{HasWords, LacksWords}
 use Rattle.capnp_wire.proofs.trees.TrimLemmas.{total-trim}
+use Rattle.capnp_wire.proofs.layouts.CopyLemmas.{totals_step}
 use Rattle.capnp_values.specs.Fields.{IsPart, IsSettled}
 use Rattle.capnp_values.specs.FieldLaws.{settled_none, settled_more}
 use Rattle.capnp_values.specs.Lists.{AreItems, RefusesItems, MeasuresRow}
@@ -34,10 +35,6 @@ formed_small false size t s = s.few
 
 pub items_few : {V : Type 0} (h : V → Trees → Type 0) (vs : List V) (c : Bool) (t : Trees) → AreItems h vs t → total_words (formed c t) ≤ length vs * 2 ^ 29
 items_few h vs c t is = formed_small c (length vs) t (items_settled h vs t is)
-
-pub more_total : (c : Bool) (form : Form) (held rest : Trees) → total_words (formed c (tree form held rest)) ≡ total_words (formed c (tree form held none)) + total_words (formed c rest)
-more_total true form held rest = omega arith
-more_total false form held rest = omega arith
 
 pub measured_few : {V : Type 0} (h : V → Trees → Type 0) (r : V → ErrorKind → Type 0) (vs : List V) (c : Bool) (returned : Result ℕ Error) (words : ℕ) → returned ≡ Ok words
     → MeasuresRow (λ t. AreItems h vs t) (λ k. RefusesItems h r vs k) c returned → words ≤ length vs * 2 ^ 29
@@ -81,13 +78,13 @@ items_measured h r v vs c returned rest plain own words was rest_was has one exa
       returned = (
         tree p.0 p.1 a.0,
         record { form = p.0; held = p.1; rest = a.0; whole = refl; part = p.2; others = a.1 },
-        omega (arith, own_is p.0 p.1 p.2, a.2, more_total c p.0 p.1 a.0),
+        omega (arith, own_is p.0 p.1 p.2, a.2, totals_step c p.0 p.1 a.0),
       );
       found = λ trees is.
           let there : Ok words ≡ Ok (total_words (formed c is.rest)) = m_ok.found is.rest is.others in
           let same : words ≡ total_words (formed c is.rest) = cc in
           let whole : total_words (formed c trees) ≡ total_words (formed c (tree is.form is.held is.rest)) = ap (λ (t : Trees). total_words (formed c t)) is.whole in
-          ap (λ (n : ℕ). Ok n) (omega (arith, own_is is.form is.held is.part, same, whole, more_total c is.form is.held is.rest));
+          ap (λ (n : ℕ). Ok n) (omega (arith, own_is is.form is.held is.part, same, whole, totals_step c is.form is.held is.rest));
       exact = λ kind refused.
           m_ok.exact kind (refused_rest (h v) (r v) (λ k. RefusesItems h r vs k) returned plain kind was exact refused);
     }

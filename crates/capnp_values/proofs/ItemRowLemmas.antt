@@ -1,5 +1,5 @@
 -- Values of one type, one after the other: what is written of them, from the last one on.
-use Rattle.std.proofs.Common.{◌≡◌, ℕ, zero, suc, ◌+◌, ◌-◌, ◌*◌, ◌/◌, ◌<◌, ◌≤◌, Bool, true, false, List, [], ◌∷◌, ◌++◌, length, take, drop, refl, sym, ◌∙◌, ap, subst, arith, get_or, length-take, length-drop, take-take, drop-drop}
+use Rattle.std.proofs.Common.{◌≡◌, ℕ, zero, suc, ◌+◌, ◌-◌, ◌*◌, ◌/◌, ◌<◌, ◌≤◌, Bool, List, [], ◌∷◌, ◌++◌, length, take, drop, refl, sym, ◌∙◌, ap, subst, arith, get_or, length-take, length-drop, take-take, drop-drop}
 use Rattle.std.specs.Prelude.{replicate}
 use Rattle.std.proofs.lemmas.List.{take_all, append-nil, take-replicate, drop-replicate, drop-take, length-append}
 use Rattle.std.proofs.Math.Seq.{take-append_seam, drop-append_seam}
@@ -7,11 +7,12 @@ use Rattle.capnp_wire.specs.Pointer.{words_of}
 use Rattle.capnp_wire.specs.Tree.{Form, Trees, none, tree, count, own_words, total_words}
 use Rattle.capnp_wire.specs.Layout.{pointer, pointer_to, run, pointers_to, own, body, formed}
 use Rattle.capnp_wire.proofs.words.PutLemmas.{words_split}
-use Rattle.capnp_wire.proofs.layouts.SizeLemmas.{links_of}
+use Rattle.capnp_wire.proofs.layouts.SizeLemmas.{own_layout}
+use Rattle.capnp_wire.proofs.layouts.CopyLemmas.{totals_step, none_formed}
 use Rattle.capnp_values.specs.Fields.{IsPart}
 use Rattle.capnp_values.specs.Lists.{AreItems, FillsBlock, IsWrittenFrom}
 use Rattle.capnp_values.proofs.PartLemmas.{own_form, own_held, formed_tree, part_total, part_total_is, part_layout}
-use Rattle.capnp_values.proofs.ItemLemmas.{from_here, more_total}
+use Rattle.capnp_values.proofs.ItemLemmas.{from_here}
 
 -- the values from one on are trees, of no more words than all
 pub items_from : {V : Type 0} (h : V → Trees → Type 0) (c : Bool) (items : List V) (i : ℕ) (t : Trees) → AreItems h items t → i ≤ length items
@@ -22,7 +23,7 @@ items_from h c (x ∷ xs) zero t is within = (t, is, omega arith)
 items_from h c (x ∷ xs) (suc i) t is within =
     let r = items_from h c xs i is.rest is.others (omega (arith, within)) in
     let whole : total_words (formed c t) ≡ total_words (formed c (tree is.form is.held is.rest)) = ap (λ (a : Trees). total_words (formed c a)) is.whole in
-    (r.0, r.1, omega (arith, r.2, whole, more_total c is.form is.held is.rest))
+    (r.0, r.1, omega (arith, r.2, whole, totals_step c is.form is.held is.rest))
 
 -- the value in front of those that are written has room in the block
 pub record HasPlace (h : Trees → Type 0) (c : Bool) (end : ℕ) : Type 0 where
@@ -41,7 +42,7 @@ has_place {V = V} h c items i n end v slots block within is fills written =
       form = row.form;
       held = row.held;
       part = row.part;
-      fits = omega (arith, fills.room_is, r.2, whole, more_total c row.form row.held row.rest, written.words row.rest row.others);
+      fits = omega (arith, fills.room_is, r.2, whole, totals_step c row.form row.held row.rest, written.words row.rest row.others);
     }
 
 -- a part of a block
@@ -113,9 +114,6 @@ link_in_front c form held rest t i k m next further off slot others whole k_is e
     ∙ ap (λ (a : Trees). pointers_to (run i (suc m)) next a) (sym (ap (formed c) whole ∙ formed_tree c form held rest))
     ∙ ap (λ (n : ℕ). pointers_to (run i n) next (formed c t)) (sym k_is)
 
-abbrev own_layout : Form → Trees → List ℕ
-own_layout form held = own form (links_of form held) ++ body held
-
 body_in_front : (c : Bool) (form : Form) (held rest t : Trees) (n : ℕ) (part others : List ℕ) → t ≡ tree form held rest → length part ≡ 8 * n
     → words_of part ≡ body (formed c (tree form held none)) → words_of others ≡ body (formed c rest) → words_of (part ++ others) ≡ body (formed c t)
 body_in_front c form held rest t n part others whole long part_is others_are =
@@ -144,7 +142,7 @@ written_before h c items i n end own v slots block slot part within n_is v_is sl
       zero = put.zero;
       words = λ t is.
           let whole : total_words (formed c t) ≡ total_words (formed c (tree is.form is.held is.rest)) = ap (λ (a : Trees). total_words (formed c a)) is.whole in
-          omega (arith, put.long, w.words is.rest is.others, whole, more_total c is.form is.held is.rest, own_is is.form is.held is.part);
+          omega (arith, put.long, w.words is.rest is.others, whole, totals_step c is.form is.held is.rest, own_is is.form is.held is.part);
       pointers = λ t is.
           ap words_of slots_rest
           ∙ link_in_front c is.form is.held is.rest t i (n - i) (n - (i + 1)) (n + (end - own)) (n + end) (n - i - 1 + (end - own)) slot (drop (8 * (i + 1)) slots) is.whole (omega arith) eight (omega arith)
@@ -167,15 +165,11 @@ no_items h [] (suc n) t past is = is
 no_items h (x ∷ xs) zero t past is = absurd (omega (arith, past))
 no_items h (x ∷ xs) (suc n) t past is = no_items h xs n t (omega (arith, past)) is
 
-formed_none : (c : Bool) → formed c none ≡ none
-formed_none true = refl
-formed_none false = refl
-
 pub none_written : {V : Type 0} (h : V → Trees → Type 0) (c : Bool) (items : List V) (n room : ℕ) (slots block : List ℕ) → n ≡ length items → length slots ≡ 8 * n → length block ≡ 8 * room
     → block ≡ replicate (length block) 0 → IsWrittenFrom (λ t. AreItems h (drop n items) t) c n n (length block / 8) slots block
 none_written h c items n room slots block n_is slots_long long zeros =
     let all : 8 * (length block / 8) ≡ length block = omega (arith, long) in
-    let empty : (t : Trees) → AreItems h (drop n items) t → formed c t ≡ none = λ t is. ap (formed c) (no_items h items n t (omega (arith, n_is)) is) ∙ formed_none c in
+    let empty : (t : Trees) → AreItems h (drop n items) t → formed c t ≡ none = λ t is. ap (formed c) (no_items h items n t (omega (arith, n_is)) is) ∙ none_formed c in
     record {
       within = omega (arith, all);
       zero = take_all (8 * (length block / 8)) block (omega (arith, all)) ∙ zeros ∙ ap (λ (k : ℕ). replicate k 0) (sym all);

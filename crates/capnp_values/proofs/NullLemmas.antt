@@ -7,16 +7,13 @@ use Rattle.capnp_wire.specs.Tree.{null, Trees, none, tree, total_words}
 use Rattle.capnp_wire.specs.Layout.{layout, formed}
 use Rattle.capnp_wire.specs.Values.{HasWords, pointed}
 use Rattle.capnp_wire.proofs.views.OneValueLemmas.{IsOne}
+use Rattle.capnp_wire.proofs.views.SetterLemmas.{null_words}
 
 abbrev pub IsNull : Trees → Type 0
 IsNull trees = trees ≡ tree null none none
 
-null_total : (c : Bool) → 0 ≡ total_words (formed c (tree null none none))
-null_total true = refl
-null_total false = refl
-
 pub null_has : (c : Bool) → HasWords IsNull c 0
-null_has c = record { trees = tree null none none; tree_is = refl; rooms = (refl, tt, tt); words_are = null_total c; few = omega arith }
+null_has c = record { trees = tree null none none; tree_is = refl; rooms = (refl, tt, tt); words_are = null_words c; few = omega arith }
 
 pub one_null : IsOne IsNull (λ kind. ⊥)
 one_null = record {
@@ -36,6 +33,6 @@ empty_words (x ∷ xs) e = absurd (omega arith)
 pub null_written : (c : Bool) (word : Word) (block : List ℕ) (trees : Trees) → HasWords IsNull c (length block / 8) → length block % 8 ≡ 0
     → bytes_of word ≡ 0 ∷ 0 ∷ 0 ∷ 0 ∷ 0 ∷ 0 ∷ 0 ∷ 0 ∷ [] → IsNull trees → pointed word block ≡ layout (formed c trees)
 null_written c word block trees w even is n =
-    let none_there : total_words (formed c w.trees) ≡ 0 = ap (λ (t : Trees). total_words (formed c t)) w.tree_is ∙ sym (null_total c) in
+    let none_there : total_words (formed c w.trees) ≡ 0 = ap (λ (t : Trees). total_words (formed c t)) w.tree_is ∙ sym (null_words c) in
     let empty : words_of block ≡ [] = empty_words block (omega (arith, w.words_are)) in
     ap (λ (l : List ℕ). number_of 256 l ∷ words_of block) is ∙ ap (λ (l : List ℕ). 0 ∷ l) empty ∙ sym (null_layout c) ∙ ap (λ (t : Trees). layout (formed c t)) (sym n)

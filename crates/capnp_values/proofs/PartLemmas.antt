@@ -6,7 +6,7 @@ use Rattle.std.specs.Int.{from_le_bytes, to_le_bytes}
 use Rattle.std.specs.Simd.{first_chunks}
 use Rattle.std.proofs.lemmas.List.{take_all, drop-replicate}
 use Rattle.std.proofs.lemmas.Nat.{from_le_bytes-to_le_bytes_8}
-use Rattle.capnp_wire.proofs.words.WordLemmas.{number_of_eight}
+use Rattle.capnp_wire.proofs.words.WordLemmas.{number_of_eight, heads, tails}
 use Rattle.capnp_frame.specs.Words.{bytes_of}
 use Rattle.capnp_frame.specs.declared.words.Word.{Word}
 use Rattle.capnp_wire.specs.Pointer.{number_of, words_of}
@@ -16,6 +16,7 @@ use Rattle.capnp_wire.specs.Layout.{pointer, pointer_to, body, layout, formed, H
 use Rattle.capnp_wire.specs.Values.{HasWords, pointed}
 use Rattle.capnp_wire.proofs.trees.TrimLemmas.{total-trim}
 use Rattle.capnp_wire.proofs.layouts.OpenLemmas.{room_formed}
+use Rattle.capnp_wire.proofs.trees.PlacedLemmas.{alone, no_trees}
 use Rattle.capnp_values.specs.Fields.{IsPart}
 
 -- a tree as it stands, or in canonical form, in two parts
@@ -56,14 +57,9 @@ pub plain_total : (form : Form) (held : Trees) → part_total false form held �
 plain_total form held = refl
 
 -- a value that is measured as it stands is a part
-one_tree : (trees : Trees) → count trees ≡ 1 → (form : Form) × (held : Trees) × (trees ≡ tree form held none)
-one_tree none one = absurd (omega (arith, one))
-one_tree (tree form held none) one = (form, held, refl)
-one_tree (tree form held (tree f h rest)) one = absurd (omega (arith, one))
-
 pub part_of : (h : Trees → Type 0) (words : ℕ) → ((trees : Trees) → h trees → count trees ≡ 1) → HasWords h false words → (form : Form) × (held : Trees) × IsPart h form held
 part_of h words one w =
-    let t = one_tree w.trees (one w.trees w.tree_is) in (
+    let t = alone w.trees (one w.trees w.tree_is) in (
       t.0,
       t.1,
       subst (λ (x : Trees). (h x × AllHaveRoom x × (total_words x < 2 ^ 29)) → IsPart h t.0 t.1) (sym t.2)
@@ -72,10 +68,6 @@ part_of h words one w =
     )
 
 -- a null value has no words
-pub no_trees : (t : Trees) → count t ≡ 0 → t ≡ none
-no_trees none e = refl
-no_trees (tree f h r) e = absurd (omega (arith, e))
-
 pub null_empty : (form : Form) (held : Trees) → AllHaveRoom (tree form held none) → 0 < total_words (tree form held none) → false ≡ is_null form
 null_empty null held rooms some = let h : held ≡ none = no_trees held rooms.0 in let z : total_words held ≡ 0 = ap total_words h in absurd (omega (arith, z))
 null_empty (struct ws) held rooms some = refl
@@ -84,12 +76,6 @@ null_empty pointers held rooms some = refl
 null_empty (structs d p rows) held rooms some = refl
 
 -- what is written of it
-pub heads : (a b : ℕ) (xs ys : List ℕ) → a ∷ xs ≡ b ∷ ys → a ≡ b
-heads a b xs ys e = cc
-
-pub tails : (a b : ℕ) (xs ys : List ℕ) → a ∷ xs ≡ b ∷ ys → xs ≡ ys
-tails a b xs ys e = cc
-
 pub rest_zero : (block rest : List ℕ) (k : ℕ) → block ≡ replicate (length block) 0 → rest ≡ drop k block → rest ≡ replicate (length rest) 0
 rest_zero block rest k zero_is is =
     let long : length rest ≡ length block - k = omega (arith, ap length is, length-drop k block) in
@@ -111,10 +97,10 @@ one_word bytes x small is eight =
 
 pub link_is : (c : Bool) (form : Form) (held : Trees) (word : Word) (block : List ℕ) → pointed word block ≡ layout (formed c (tree form held none))
     → number_of 256 (bytes_of word) ≡ pointer (own_form c form held) (count (own_held c form held)) 0
-link_is c form held word block e = heads _ _ _ _ (e ∙ ap layout (part_layout c form held))
+link_is c form held word block e = heads (e ∙ ap layout (part_layout c form held))
 
 pub body_is : (c : Bool) (trees : Trees) (word : Word) (block : List ℕ) → pointed word block ≡ layout (formed c trees) → words_of block ≡ body (formed c trees)
-body_is c trees word block e = tails _ _ _ _ e
+body_is c trees word block e = tails e
 
 pub slot_is : (c : Bool) (form : Form) (held : Trees) (link offset : ℕ) (slot : List ℕ) → link ≡ pointer (own_form c form held) (count (own_held c form held)) offset → link < 2 ^ 64
     → slot ≡ to_le_bytes w64 link → length slot ≡ 8 → words_of slot ≡ pointer_to (formed c (tree form held none)) offset ∷ []

@@ -3,11 +3,13 @@ use Rattle.std.proofs.Common.{◌≡◌, ℕ, ◌+◌, ◌<◌, ◌≤◌, ◌^�
 use Rattle.capnp_wire.specs.Tree.{Form, null, struct, numbers, pointers, structs, Trees, none, tree, count, is_null, total_words}
 use Rattle.capnp_wire.specs.Trim.{keep_tree, cut_nulls, trim, trim_form, trim_held}
 use Rattle.capnp_wire.specs.Layout.{AllHaveRoom}
-use Rattle.capnp_wire.proofs.trees.TrimLemmas.{total-trim, count-trim}
-use Rattle.capnp_wire.proofs.trees.ChunkLemmas.{total-cut, count-cut}
+use Rattle.capnp_wire.proofs.trees.TrimLemmas.{total-trim}
+use Rattle.capnp_wire.proofs.trees.ChunkLemmas.{total-cut}
+use Rattle.capnp_wire.proofs.trees.PlacedLemmas.{no_trees}
 use Rattle.capnp_values.specs.Fields.{IsSettled, kept_row, extent_of}
 use Rattle.capnp_values.specs.declared.fields.Extent.{Extent}
-use Rattle.capnp_values.proofs.PartLemmas.{part_total, no_trees}
+use Rattle.capnp_values.proofs.PartLemmas.{part_total}
+use Rattle.capnp_values.proofs.StructLemmas.{kept_within}
 
 kept_null : (form : Form) (held others : Trees) → count (cut_nulls (trim others)) ≡ 0 → is_null form ≡ true → cut_nulls (trim (tree form held others)) ≡ none
 kept_null null held others e n = ap (λ (t : Trees). keep_tree t null (trim held)) (no_trees (cut_nulls (trim others)) e)
@@ -69,10 +71,6 @@ kept_total : (c : Bool) (t : Trees) → AllHaveRoom t → total_words (kept_row 
 kept_total true t rooms = omega (arith, total-cut (trim t), total-trim t rooms)
 kept_total false t rooms = omega arith
 
-kept_count : (c : Bool) (t : Trees) → count (kept_row c t) ≤ count t
-kept_count true t = omega (arith, count-cut (trim t), count-trim t)
-kept_count false t = omega arith
-
 pub record Bounded (rest : Extent) : Type 0 where
   pub pointers_few : rest.pointers < 2 ^ 16
   pub words_few : rest.words < 2 ^ 46
@@ -82,6 +80,6 @@ bounded c size t rest small s e =
     let a : rest.pointers ≡ count (kept_row c t) = ap (λ (x : Extent). x.pointers) e in
     let b : rest.words ≡ total_words (kept_row c t) = ap (λ (x : Extent). x.words) e in
     record {
-      pointers_few = omega (arith, kept_count c t, s.many);
+      pointers_few = omega (arith, kept_within c t, s.many);
       words_few = omega (arith, kept_total c t s.rooms, s.few);
     }

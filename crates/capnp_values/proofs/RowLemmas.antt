@@ -3,7 +3,7 @@ use Rattle.std.proofs.Common.{◌≡◌, ℕ, suc, ◌+◌, ◌-◌, ◌*◌, �
 use Rattle.std.specs.Prelude.{replicate}
 use Rattle.std.proofs.lemmas.List.{append-nil, take_all}
 use Rattle.capnp_values.proofs.ItemRowLemmas.{past_end, PutBefore}
-use Rattle.capnp_wire.proofs.layouts.SizeLemmas.{links_of}
+use Rattle.capnp_wire.proofs.layouts.SizeLemmas.{own_layout}
 use Rattle.capnp_wire.specs.Pointer.{words_of}
 use Rattle.capnp_wire.specs.Tree.{Form, Trees, none, tree, count, own_words, total_words}
 use Rattle.capnp_wire.specs.Trim.{first}
@@ -60,9 +60,6 @@ none_row_written h c n end block n_is whole zeros =
       room = λ t is. let no : total_words (first n (formed c t)) ≡ 0 = ap total_words (none_there t) in omega (arith, whole, no);
       body = λ t is. ap words_of (past_end block (8 * end) (omega (arith, whole))) ∙ ap body (sym (none_there t));
     }
-
-abbrev own_layout : Form → Trees → List ℕ
-own_layout form held = own form (links_of form held) ++ body held
 
 -- the pointers of a row, the first one in front
 pub row_pointers : (c : Bool) (form : Form) (held rest trees : Trees) (start n m gap : ℕ) (slot others : List ℕ) → trees ≡ tree form held rest → n ≡ suc m → length slot ≡ 8

@@ -11,10 +11,11 @@ use Rattle.capnp_wire.specs.Tree.{structs, Trees, none, tree, count, total_words
 use Rattle.capnp_wire.specs.Trim.{first, following, before, cut_nulls, least_pointers, narrowed, trim}
 use Rattle.capnp_wire.specs.Layout.{formed, AllHaveRoom}
 use Rattle.capnp_wire.proofs.trees.FrontLemmas.{trim_before}
-use Rattle.capnp_wire.proofs.trees.NarrowLemmas.{first-before, following-before, first_all}
-use Rattle.capnp_wire.proofs.trees.ChunkLemmas.{count-first, count-before, count-following, total-before, before_chunks}
-use Rattle.capnp_wire.proofs.trees.StoodLemmas.{total_cut, total_narrowed}
+use Rattle.capnp_wire.proofs.trees.NarrowLemmas.{first-before, following-before}
+use Rattle.capnp_wire.proofs.trees.ChunkLemmas.{count-before, total-before}
+use Rattle.capnp_wire.proofs.trees.StoodLemmas.{total_cut, total_narrowed, rooms_both}
 use Rattle.capnp_wire.proofs.trees.TrimLemmas.{room_trim}
+use Rattle.capnp_wire.proofs.forms.FullLemmas.{narrowed_all}
 use Rattle.capnp_values.specs.Fields.{IsSettled, kept_row, extent_of, HasExtent}
 use Rattle.capnp_values.specs.declared.fields.Extent.{Extent}
 use Rattle.capnp_values.specs.declared.rows.Reach.{Reach}
@@ -24,11 +25,6 @@ use Rattle.capnp_values.proofs.PointerListLemmas.{count_formed}
 use Rattle.capnp_values.proofs.ItemLemmas.{formed_small}
 use Rattle.capnp_values.proofs.ResultLemmas.{ok_not_err}
 use Rattle.capnp_values.proofs.StructLemmas.{same_extents}
-
--- the rows of some structs
-rooms_before : (a b : Trees) → AllHaveRoom a → AllHaveRoom b → AllHaveRoom (before a b)
-rooms_before none b x y = y
-rooms_before (tree form held rest) b x y = (x.0, x.1, rooms_before rest b x.2 y)
 
 settled_no_rows : (p : ℕ) → IsSettled (0 * p) none
 settled_no_rows p = record { many = omega arith; rooms = tt; few = omega arith }
@@ -42,7 +38,7 @@ rows_settled h p s (v ∷ vs) t is =
     subst (λ (x : Trees). IsSettled (suc (length vs) * p) x) (sym is.whole)
     (record {
       many = omega (arith, count-before is.row is.rest, a.many, b.many, split);
-      rooms = rooms_before is.row is.rest a.rooms b.rooms;
+      rooms = rooms_both is.row is.rest a.rooms b.rooms;
       few = omega (arith, total-before is.row is.rest, a.few, b.few, split);
     })
 
@@ -176,16 +172,6 @@ take_even d (row ∷ rows) even =
     let one : take d row ≡ row = take_all d row (omega (arith, wide)) in
     let rest : map (take d) rows ≡ rows = take_even d rows (All-tail (λ r. (length r ≡ d) × All (λ w. w < 2 ^ 64) r) row rows even) in
     ap (λ (l : List ℕ). l ∷ map (take d) rows) one ∙ ap (λ (l : List (List ℕ)). row ∷ l) rest
-
-narrowed_all : (p : ℕ) (rows : List (List ℕ)) (held : Trees) → count held ≡ length rows * p → narrowed p p rows held ≡ held
-narrowed_all p [] none long = refl
-narrowed_all p [] (tree form held rest) long = absurd (omega arith)
-narrowed_all p (row ∷ rows) held long =
-    let split : suc (length rows) * p ≡ p + length rows * p = omega arith in
-    let many : count (first p held) ≡ p = omega (arith, count-first p held (omega arith)) in
-    let rest : narrowed p p rows (following p held) ≡ following p held = narrowed_all p rows (following p held) (omega (arith, count-following p held (omega arith))) in
-    ap (λ (t : Trees). before t (narrowed p p rows (following p held))) (first_all p (first p held) many)
-    ∙ ap (λ (t : Trees). before (first p held) t) rest ∙ before_chunks p held
 
 pub structs_formed : (c : Bool) (d p : ℕ) (rows : List (List ℕ)) (held : Trees) → AreEven d rows → count held ≡ length rows * p
     → formed c (tree (structs d p rows) held none)

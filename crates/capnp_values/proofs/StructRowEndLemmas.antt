@@ -1,10 +1,10 @@
 -- Lists of structs: none of their elements are written, or all.
-use Rattle.std.proofs.Common.{◌≡◌, ℕ, zero, suc, ◌+◌, ◌*◌, ◌/◌, ◌≤◌, Bool, true, false, List, [], ◌∷◌, length, map, take, drop, refl, sym, ◌∙◌, ap, subst, arith}
+use Rattle.std.proofs.Common.{◌≡◌, ℕ, zero, suc, ◌+◌, ◌*◌, ◌/◌, ◌≤◌, Bool, List, [], ◌∷◌, length, map, take, drop, refl, sym, ◌∙◌, ap, subst, arith}
 use Rattle.std.specs.Prelude.{replicate}
 use Rattle.std.proofs.lemmas.List.{take_all}
 use Rattle.capnp_wire.specs.Pointer.{words_of}
 use Rattle.capnp_wire.specs.Tree.{Trees, none, total_words}
-use Rattle.capnp_wire.specs.Layout.{row_run, pointers_to, woven, body, formed}
+use Rattle.capnp_wire.specs.Layout.{row_run, pointers_to, woven, body}
 use Rattle.capnp_values.specs.StructLists.{AreRows, shown, FillsRows, RowsWritten}
 
 -- none is written yet
@@ -13,10 +13,6 @@ past_end [] zero past = refl
 past_end [] (suc n) past = refl
 past_end (x ∷ xs) zero past = absurd (omega (arith, past))
 past_end (x ∷ xs) (suc n) past = past_end xs n (omega (arith, past))
-
-formed_none : (c : Bool) → formed c none ≡ none
-formed_none true = refl
-formed_none false = refl
 
 no_rows : {V : Type 0} (h : V → Trees → Type 0) (items : List V) (n : ℕ) (t : Trees) → length items ≤ n → AreRows h (drop n items) t → t ≡ none
 no_rows h [] zero t past is = is

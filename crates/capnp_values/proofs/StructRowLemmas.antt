@@ -4,11 +4,11 @@ use Rattle.std.specs.Prelude.{replicate}
 use Rattle.std.proofs.lemmas.List.{length-append, take-append-le, drop-append-le}
 use Rattle.std.proofs.Math.Seq.{take-append_seam, drop-append_seam}
 use Rattle.capnp_wire.specs.Pointer.{words_of}
-use Rattle.capnp_wire.specs.Tree.{Form, Trees, none, tree, count, own_words, total_words}
+use Rattle.capnp_wire.specs.Tree.{Trees, none, tree, count, own_words, total_words}
 use Rattle.capnp_wire.specs.Trim.{first, before, trim}
 use Rattle.capnp_wire.specs.Layout.{pointer, run, row_run, pointers_to, woven, own, body, formed}
 use Rattle.capnp_wire.proofs.words.PutLemmas.{words_split}
-use Rattle.capnp_wire.proofs.layouts.SizeLemmas.{links_of, length-run, length-pointers_to}
+use Rattle.capnp_wire.proofs.layouts.SizeLemmas.{length-run, length-pointers_to, own_layout}
 use Rattle.capnp_wire.proofs.trees.ChunkLemmas.{count-first, total-before, least_pointers_within}
 use Rattle.capnp_values.specs.Fields.{IsSettled, CanWriteRow}
 use Rattle.capnp_values.specs.StructLists.{AreRows, element_pointers, shown, FillsRows, RowsWritten}
@@ -27,9 +27,6 @@ pointers_both (x ∷ s) t next (tree f h r) b long =
     ap (λ (l : List ℕ). pointer f (count h) (next - (x + 1)) ∷ l)
     (pointers_both s t (next + own_words f (count h) + total_words h) r b (omega (arith, long))
     ∙ ap (λ (n : ℕ). pointers_to s (next + own_words f (count h) + total_words h) r ++ pointers_to t n b) onward)
-
-abbrev own_layout : Form → Trees → List ℕ
-own_layout form held = own form (links_of form held) ++ body held
 
 body_both : (a b : Trees) → body (before a b) ≡ body a ++ body b
 body_both none b = refl

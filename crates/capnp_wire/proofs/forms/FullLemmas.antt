@@ -77,7 +77,7 @@ take_rows d (row ∷ rows) even =
     let rest : map (take d) rows ≡ rows = take_rows d rows (All-tail (λ r. length r ≡ d) row rows even) in
     cc
 
-narrowed_all : (p : ℕ) (rows : List (List ℕ)) (held : Trees) → count held ≡ length rows * p → narrowed p p rows held ≡ held
+pub narrowed_all : (p : ℕ) (rows : List (List ℕ)) (held : Trees) → count held ≡ length rows * p → narrowed p p rows held ≡ held
 narrowed_all p [] none long = refl
 narrowed_all p [] (tree form held rest) long = absurd (omega arith)
 narrowed_all p (row ∷ rows) held long =

@@ -11,6 +11,7 @@ use Rattle.capnp_wire.specs.declared.layout.row_pair.RowPair.{RowPair}
 use Rattle.capnp_wire.specs.declared.layout.place.Place.{Place}
 use Rattle.capnp_wire.specs.declared.layout.copy.Copied.{Copied}
 use Rattle.capnp_wire.proofs.objects.ObjectLemmas.{one_tree}
+use Rattle.capnp_wire.proofs.walks.ProgressLemmas.{some_left}
 
 -- the first of some trees, and those after it
 pub totals_step : (c : Bool) (form : Form) (held rest : Trees) → total_words (formed c (tree form held rest)) ≡ total_words (formed c (tree form held none)) + total_words (formed c rest)
@@ -116,9 +117,6 @@ pub record Copying (m : List (List ℕ)) (words : List ℕ) (nesting : ℕ) (c :
 pub copying_begins : {m : List (List ℕ)} {words : List ℕ} {nesting : ℕ} {c : Bool} {rows : RowPair} {start : ℕ} {old : List ℕ} → CanCopyRows m words rows nesting c start (length old)
     → Copying m words nesting c rows start old rows start old
 copying_begins can = record { can = can; long = refl; ends = λ new after done. done }
-
-some_left : {place : Place} {rest others : List Place} → rest ≡ place ∷ others → rest ≢ []
-some_left is nothing = absurd (omega (arith, ap length is, ap length nothing))
 
 -- what is to be copied next
 pub record CanCopyNext (m : List (List ℕ)) (words : List ℕ) (place : Place) (nesting : ℕ) (c : Bool) (slot free room : ℕ) : Type 0 where

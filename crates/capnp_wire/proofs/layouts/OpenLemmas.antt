@@ -26,6 +26,7 @@ use Rattle.capnp_wire.proofs.layouts.BlockLemmas.{put_both, length-put, put_none
 use Rattle.capnp_wire.proofs.layouts.FillLemmas.{fill_is}
 use Rattle.capnp_wire.proofs.words.DigitLemmas.{length-digits}
 use Rattle.capnp_wire.proofs.layouts.BlockRowLemmas.{moved_run, moved_rows, put_short, put_rows_woven}
+use Rattle.capnp_wire.proofs.trees.PlacedLemmas.{no_trees}
 
 -- what an object opens to: the places of the pointers that are copied, and what is left to be put into the block
 pub record Opened (m : List (List ℕ)) (words : List ℕ) (start : Place) (from copied : Body) (nesting : ℕ) (c : Bool) (next room : ℕ) (trees : Trees) : Type 0 where
@@ -145,10 +146,6 @@ pointers_open m words start n nesting c next room trees kept held traversed form
       few = omega arith;
       few_elements = omega arith;
     }
-
-no_trees : (trees : Trees) → count trees ≡ 0 → trees ≡ none
-no_trees none e = refl
-no_trees (tree form held rest) e = absurd (omega arith)
 
 -- a list of numbers
 pub numbers_open : (m : List (List ℕ)) (words : List ℕ) (start : Place) (n nesting : ℕ) (size : ElementSize) (c : Bool) (next room : ℕ) (trees held : Trees)

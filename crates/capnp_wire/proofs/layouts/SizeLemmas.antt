@@ -88,6 +88,10 @@ length-pointers_to (slot ∷ slots) next (tree form held rest) long =
 abbrev pub links_of : Form → Trees → List ℕ
 links_of form held = pointers_to (slots form (count held)) (own_words form (count held)) held
 
+-- all that is written of an object: its own words, and what it leads to
+abbrev pub own_layout : Form → Trees → List ℕ
+own_layout form held = own form (links_of form held) ++ body held
+
 pub length-links : (form : Form) (held : Trees) → HasRoom form (count held) → length (links_of form held) ≡ count held
 length-links form held room = length-pointers_to (slots form (count held)) (own_words form (count held)) held (length-slots form (count held) room)
 

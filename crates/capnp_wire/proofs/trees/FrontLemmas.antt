@@ -60,7 +60,7 @@ count_keep (tree f h r) form held =
     let two : count r + 1 + 1 ≡ suc (suc (count r)) = omega arith in
     rw (more) (omega arith)
 
-null_trimmed : (form : Form) (held : Trees) → is_null (trim_form form held) ≡ is_null form
+pub null_trimmed : (form : Form) (held : Trees) → is_null (trim_form form held) ≡ is_null form
 null_trimmed null held = refl
 null_trimmed (struct words) held = refl
 null_trimmed (numbers c values) held = refl

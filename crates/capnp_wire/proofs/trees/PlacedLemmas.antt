@@ -2,7 +2,6 @@
 use Rattle.std.proofs.Common.{◌≡◌, ℕ, zero, suc, ◌+◌, ◌-◌, ◌^◌, ◌<◌, ◌≤◌, ◌==◌, if◌then◌else◌, false, true, List, [], ◌∷◌, ◌++◌}
 use Rattle.std.proofs.Common.{length, take, drop, Some, slice_get, refl, sym, ◌∙◌, ap, subst, arith, length-take}
 use Rattle.std.proofs.lemmas.List.{take-append-drop}
-use Rattle.std.proofs.lemmas.Bool.Decides.{nat_tests}
 use Rattle.capnp_wire.specs.Pointer.{pointer_kind, words_from, landing_pad_segment, landing_pad_position, has_wide_landing_pad}
 use Rattle.capnp_wire.specs.Tree.{Form, null, struct, numbers, pointers, structs, Trees, none, tree, count, is_null as is_null_form, own_words, total_words}
 use Rattle.capnp_wire.specs.Object.{PointsTo, is_null, is_object, near, far, double_far, IsFar, landing_pad, word_at, Shape}
@@ -58,9 +57,6 @@ far_at m place word tag form held traversed here is_far following some is_near (
     let there = far_object m place word tag s here is_far following some is_near object in
     (there.0 + i + 0, at there.1 inner nowhere)
 
-pub if_positive : (k a b : ℕ) → 0 < k → (if k == 0 then a else b) ≡ b
-if_positive k a b positive = grind (arith, nat_tests)
-
 -- pointers to objects
 pub pointer_near : (form : Form) (n offset : ℕ) → pointer_kind (pointer form n offset) < 2
 pointer_near null n offset = omega arith
@@ -103,9 +99,14 @@ far_tree m place k q words form held there room small some low here stand laid =
     far_at m place (far_pointer k q) (pointer form (count held) 0) form held there_is.0 here (record { far = f.2; wide = f.3 }) tag_there (pointer_some form (count held) 0 some)
     (pointer_near form (count held) 0) at_landing_pad
 
-no_trees : (trees : Trees) → count trees ≡ 0 → trees ≡ none
+pub no_trees : (trees : Trees) → count trees ≡ 0 → trees ≡ none
 no_trees none e = refl
 no_trees (tree form held rest) e = absurd (omega arith)
+
+pub alone : (trees : Trees) → count trees ≡ 1 → (form : Form) × (held : Trees) × (trees ≡ tree form held none)
+alone none one = absurd (omega (arith, one))
+alone (tree form held none) one = (form, held, refl)
+alone (tree form held (tree f h rest)) one = absurd (omega (arith, one))
 
 -- what has words is an object
 pub some_form : (form : Form) (held : Trees) → AllHaveRoom (tree form held none) → 0 < total_words (tree form held none) → is_null_form form ≡ false

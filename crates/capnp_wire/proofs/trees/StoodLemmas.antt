@@ -43,7 +43,7 @@ formed_both : (c : Bool) (a b : Trees) → total_words (formed c (before a b)) �
 formed_both true a b = ap total_words (trim_before a b) ∙ total-before (trim a) (trim b)
 formed_both false a b = total-before a b
 
-rooms_both : (a b : Trees) → AllHaveRoom a → AllHaveRoom b → AllHaveRoom (before a b)
+pub rooms_both : (a b : Trees) → AllHaveRoom a → AllHaveRoom b → AllHaveRoom (before a b)
 rooms_both none b p q = q
 rooms_both (tree form held rest) b p q = (p.0, p.1, rooms_both rest b p.2 q)
 

@@ -50,7 +50,7 @@ measured_found h r one c (Ok others) m words w = ap (λ (n : ℕ). Ok n) (one_me
 measured_found h r one c (Err error) m words w = absurd (has_or_lacks h r one c words error.kind w m)
 
 -- the tree that a pointer leads to
-one_there : (o : Option Place) (m : List (List ℕ)) (nesting : ℕ) (limit : Option ℕ) (a b : Trees) → MatchOption o (a ≡ tree null none none) (λ place. TreeAt m place nesting limit a)
+pub one_there : (o : Option Place) (m : List (List ℕ)) (nesting : ℕ) (limit : Option ℕ) (a b : Trees) → MatchOption o (a ≡ tree null none none) (λ place. TreeAt m place nesting limit a)
     → MatchOption o (b ≡ tree null none none) (λ place. TreeAt m place nesting limit b) → a ≡ b
 one_there None m nesting limit a b x y = x ∙ sym y
 one_there (Some place) m nesting limit a b x y = (one_tree m (place ∷ []) a b x.traversed y.traversed x.stand y.stand).0

@@ -3,8 +3,6 @@ use Rattle.std.proofs.Common.{◌≡◌, ℕ, ◌+◌, ◌-◌, ◌*◌, ◌/◌
 use Rattle.std.proofs.Common.{length-append, Option, Some, None, MatchOption, Result, Ok, Err, MatchResult, inl, inr, refl, sym, ◌∙◌, ap, subst, arith}
 use Rattle.std.proofs.Math.Seq.{drop-append_seam}
 use Rattle.std.proofs.lemmas.List.{append-nil, take_all, drop_all}
-use Rattle.std.specs.Prelude.{map}
-use Rattle.std.specs.Simd.{first_chunks}
 use Rattle.capnp_frame.specs.Words.{bytes_of}
 use Rattle.capnp_frame.specs.declared.error.Error.{Error}
 use Rattle.capnp_frame.specs.declared.words.Word.{Word}
@@ -21,7 +19,7 @@ use Rattle.capnp_wire.specs.declared.layout.place.Place.{Place}
 use Rattle.capnp_wire.proofs.forms.CanonLemmas.{root_of_canon, canon_tells}
 use Rattle.capnp_wire.proofs.layouts.LayoutLemmas.{small_reaches}
 use Rattle.capnp_wire.proofs.trees.TrimLemmas.{trim_twice}
-use Rattle.capnp_wire.proofs.words.PutLemmas.{words_split}
+use Rattle.capnp_wire.proofs.words.PutLemmas.{words_split, chunked}
 use Rattle.capnp_wire.proofs.views.ValueLemmas.{drop_past}
 
 to_tree : (p : Pointer) (place : Place) (trees : Trees) → p.place ≡ Some place → TreeAt p.message place p.nesting p.limit trees → LeadsToTree p trees
@@ -31,7 +29,7 @@ to_tree p place trees e t =
 pub from_tree : (p : Pointer) (place : Place) (trees : Trees) → p.place ≡ Some place → LeadsToTree p trees → TreeAt p.message place p.nesting p.limit trees
 from_tree p place trees e t = subst (λ (o : Option Place). MatchOption o (trees ≡ tree null none none) (λ there. TreeAt p.message there p.nesting p.limit trees)) e t
 
-null_words : (c : Bool) → 0 ≡ total_words (formed c (tree null none none))
+pub null_words : (c : Bool) → 0 ≡ total_words (formed c (tree null none none))
 null_words true = refl
 null_words false = refl
 
@@ -51,9 +49,6 @@ measured_value p place c (Ok words) e m = record { trees = m.trees; tree_is = to
 measured_value p place c (Err error) e (inl stops) = inl (place, e, stops)
 measured_value p place c (Err error) e (inr many) = inr (many.0, to_tree p place many.0 e many.1, many.2, many.3)
 
-abbrev words_in : ℕ → List ℕ → List ℕ
-words_in k block = map (number_of 256) (first_chunks 8 k block)
-
 -- a block after the eight bytes of its pointer
 after_eight : (old block : List ℕ) → 8 ≤ length old → length block ≡ length old - 8 → drop 8 (take 8 old ++ (block ++ drop (length old - 8) (drop 8 old))) ≡ block
 after_eight old block some long =
@@ -66,7 +61,7 @@ pub one_word : (bytes : List ℕ) → length bytes ≡ 8 → words_of bytes ≡ 
 one_word bytes eight =
     let one : length bytes / 8 ≡ 1 = omega arith in
     let whole : take 8 bytes ≡ bytes = take_all 8 bytes (omega arith) in
-    ap (λ (k : ℕ). words_in k bytes) one ∙ ap (λ (l : List ℕ). number_of 256 l ∷ []) whole
+    ap (λ (k : ℕ). chunked k bytes) one ∙ ap (λ (l : List ℕ). number_of 256 l ∷ []) whole
 
 pub whole_form : (p : Pointer) (word : Word) (front old block : List ℕ) → front ≡ bytes_of word
     → length front ≡ length (take 8 (take 8 old ++ (block ++ drop (length old - 8) (drop 8 old))))

@@ -3,7 +3,7 @@ use Rattle.std.proofs.Common.{◌≡◌, ℕ, ◌+◌, ◌-◌, ◌^◌, ◌<◌
 use Rattle.std.specs.Prelude.{All}
 use Rattle.capnp_frame.specs.declared.error.ErrorKind.{ErrorKind}
 use Rattle.capnp_wire.specs.Pointer.{pointer_kind}
-use Rattle.capnp_wire.specs.Tree.{Form, null, struct, numbers, pointers, structs, Trees, none, tree, count, own_words, total_words}
+use Rattle.capnp_wire.specs.Tree.{Trees, none, tree, count, own_words, total_words}
 use Rattle.capnp_wire.specs.Trim.{trim_form, trim_held}
 use Rattle.capnp_wire.specs.Object.{Shape}
 use Rattle.capnp_wire.specs.Reached.{At, nowhere, at}
@@ -21,6 +21,7 @@ use Rattle.capnp_wire.proofs.walks.StepLemmas.{tidy_step}
 use Rattle.capnp_wire.proofs.trees.RoomLemmas.{object_room, one_segment}
 use Rattle.capnp_wire.proofs.forms.TightLemmas.{or_there}
 use Rattle.capnp_wire.proofs.layouts.LaidOutLemmas.{word_of, IsPlaced, laid_is_placed, laid_room, tight_is_trimmed}
+use Rattle.capnp_wire.proofs.trees.PlacedLemmas.{pointer_near}
 
 -- refusals stop every walk
 stand_of : (segment : List ℕ) (places : List Place) (nesting traversed next after : ℕ) (p : Passes segment places nesting traversed next after) → TreesAt (segment ∷ []) places nesting traversed (total_words p.trees)
@@ -34,14 +35,6 @@ ends_stops segment places nesting next limit kind (inside {shape = s} m l e) =
     stops_inside m.object m.deep m.within (ends_stops segment s.held (nesting - 1) (next + own_words s.form (length s.held)) (less limit s.traversed) kind e)
 ends_stops segment places nesting next limit kind (later {place = place} {others = others} {traversed = traversed} {after = after} p w e) =
     stops_later (stand_of segment (place ∷ []) nesting traversed next after p) w (ends_stops segment others nesting after (less limit traversed) kind e)
-
--- a layout has no far pointer
-near_pointer : (form : Form) (n offset : ℕ) → pointer_kind (pointer form n offset) < 2
-near_pointer null n offset = omega arith
-near_pointer (struct words) n offset = omega arith
-near_pointer (numbers c values) n offset = omega arith
-near_pointer pointers n offset = omega arith
-near_pointer (structs d p rows) n offset = omega arith
 
 far_is_not_near : (segment : List ℕ) (place : Place) (tag : ℕ) → IsFarAt segment place → slice_get segment place.word ≡ Some tag → pointer_kind tag < 2 → ⊥
 far_is_not_near segment place tag f there is_near =
@@ -97,7 +90,7 @@ held_before segment word nesting next limit shape all before within meets l =
 pub ends_not : (segment : List ℕ) (places : List Place) (nesting next : ℕ) (limit : Option ℕ) (trees : Trees) (traversed : ℕ) → All (λ w. w < 2 ^ 64) segment
     → Ends segment places nesting limit next not_canonical → At (segment ∷ []) places trees traversed → AllBefore next places → next ≤ length segment → Tidy segment places next trees → Trimmed trees → ⊥
 ends_not segment places nesting next limit trees traversed all (far {place = place} f) (at {shape = s} {held = h} o inner tail) before within tidy trimmed =
-    far_is_not_near segment place (pointer s.form (count h) (next - (place.word + 1))) f tidy.0 (near_pointer s.form (count h) (next - (place.word + 1)))
+    far_is_not_near segment place (pointer s.form (count h) (next - (place.word + 1))) f tidy.0 (pointer_near s.form (count h) (next - (place.word + 1)))
 ends_not segment places nesting next limit trees traversed all (elsewhere {place = place} {shape = shape} meets not_laid) (at {shape = s} {held = h} {inside = i} o inner tail) before within tidy trimmed =
     let same : s ≡ shape = one_object (segment ∷ []) place s shape o meets.object in
     let stand : At (segment ∷ []) shape.held h i = subst (λ (x : Shape). At (segment ∷ []) x.held h i) same inner in

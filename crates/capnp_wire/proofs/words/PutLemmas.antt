@@ -10,7 +10,7 @@ use Rattle.capnp_wire.specs.Block.{put, numbers_of}
 use Rattle.capnp_wire.proofs.words.WordLemmas.{length-words_of}
 use Rattle.capnp_wire.proofs.layouts.BlockLemmas.{put_parts, put_both}
 
-abbrev chunked : ℕ → List ℕ → List ℕ
+abbrev pub chunked : ℕ → List ℕ → List ℕ
 chunked k bytes = map (number_of 256) (first_chunks 8 k bytes)
 
 chunks_split : (k j : ℕ) (xs ys : List ℕ) → length xs ≡ 8 * k → chunked (k + j) (xs ++ ys) ≡ chunked k xs ++ chunked j ys

@@ -1,23 +1,16 @@
 -- A block after the used bytes.
-use Rattle.std.proofs.Common.{◌≡◌, ℕ, ◌+◌, ◌-◌, ◌*◌, ◌/◌, ◌^◌, ◌≤◌, List, ◌++◌, length, take, drop, min, All, arith, ◌∙◌, ap, sym, subst, length-take}
+use Rattle.std.proofs.Common.{◌≡◌, ℕ, ◌+◌, ◌*◌, ◌≤◌, List, ◌++◌, length, take, drop, All, arith, ◌∙◌, ap, sym, subst}
 use Rattle.capnp_build.specs.Bytes.{Space, written}
 use Rattle.capnp_build.specs.Filled.{with_more}
-use Rattle.capnp_build.proofs.UsedLemmas.{block_after, still_zero, same_space, written_length, written_zero}
+use Rattle.capnp_build.proofs.UsedLemmas.{block_after, still_zero, same_space, written_length, written_zero, grown_within}
 use Rattle.capnp_build.proofs.builder_segment.BuilderSegment.append.Goals as goal
-
--- the request, in words of the fields
-asked : (words n size : ℕ) (used content : List ℕ) → used ≡ take (8 * words) content → size ≡ length content → 8 * words ≤ length content
-    → words ≤ 2 ^ 29 → n ≤ min (size / 8) (2 ^ 29) - length used / 8 → (8 * words + 8 * n ≤ length content) × (words + n ≤ 2 ^ 29)
-asked words n size used content e f fits few room =
-    let l : length used ≡ 8 * words = ap length e ∙ omega (arith, length-take (8 * words) content) in
-    (omega arith, omega arith)
 
 pub invariant_of-self : goal.invariant_of-self
 invariant_of-self g c =
     let content : List ℕ = g.S.SegmentSpace.content c.self.inside.segment in
     let words : ℕ = c.self.inside.words in
     let n : ℕ = c.args.words in
-    let room = asked words n c.args.self.now.size c.args.self.now.used content (ap (λ (s : Space). s.used) (sym c.self.view_is)) (ap (λ (s : Space). s.size)
+    let room = grown_within words n c.args.self.now.size c.args.self.now.used content (ap (λ (s : Space). s.used) (sym c.self.view_is)) (ap (λ (s : Space). s.size)
     (sym c.self.view_is)) c.self.invariant.0 c.self.invariant.2 c.requires.room in
     let f = c.write_value-pointer.ensures.filled in
     let on : 8 * words + 8 * n ≡ 8 * (words + n) = omega arith in
@@ -35,7 +28,7 @@ returns g c =
     let content : List ℕ = g.S.SegmentSpace.content c.self.inside.segment in
     let words : ℕ = c.self.inside.words in
     let n : ℕ = c.args.words in
-    let room = asked words n c.args.self.now.size c.args.self.now.used content (ap (λ (s : Space). s.used) (sym c.self.view_is)) (ap (λ (s : Space). s.size)
+    let room = grown_within words n c.args.self.now.size c.args.self.now.used content (ap (λ (s : Space). s.used) (sym c.self.view_is)) (ap (λ (s : Space). s.size)
     (sym c.self.view_is)) c.self.invariant.0 c.self.invariant.2 c.requires.room in
     let f = c.write_value-pointer.ensures.filled in
     let on : 8 * (words + n) ≡ 8 * words + 8 * n = omega arith in

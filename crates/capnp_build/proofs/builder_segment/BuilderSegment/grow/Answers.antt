@@ -1,20 +1,13 @@
 -- More bytes are used, which are zero.
-use Rattle.std.proofs.Common.{◌≡◌, ℕ, ◌+◌, ◌-◌, ◌*◌, ◌/◌, ◌^◌, ◌≤◌, List, ◌++◌, length, take, replicate, min, arith, ◌∙◌, ap, refl, sym, length-take}
+use Rattle.std.proofs.Common.{◌≡◌, ℕ, ◌+◌, ◌*◌, List, ◌++◌, take, replicate, arith, ◌∙◌, ap, refl, sym}
 use Rattle.capnp_build.specs.Bytes.{Space, with_block}
-use Rattle.capnp_build.proofs.UsedLemmas.{grows, still_zero, same_space}
+use Rattle.capnp_build.proofs.UsedLemmas.{grows, still_zero, same_space, grown_within}
 use Rattle.capnp_build.proofs.builder_segment.BuilderSegment.grow.Goals as goal
-
--- the request, in words of the fields
-asked : (words n size : ℕ) (used content : List ℕ) → used ≡ take (8 * words) content → size ≡ length content → 8 * words ≤ length content
-    → words ≤ 2 ^ 29 → n ≤ min (size / 8) (2 ^ 29) - length used / 8 → (8 * words + 8 * n ≤ length content) × (words + n ≤ 2 ^ 29)
-asked words n size used content e f fits few room =
-    let l : length used ≡ 8 * words = ap length e ∙ omega (arith, length-take (8 * words) content) in
-    (omega arith, omega arith)
 
 pub invariant_of-self : goal.invariant_of-self
 invariant_of-self g c =
     let content : List ℕ = g.S.SegmentSpace.content c.self.inside.segment in
-    let room = asked c.self.inside.words c.args.words c.args.self.now.size c.args.self.now.used content (ap (λ (s : Space). s.used) (sym c.self.view_is)) (ap (λ (s : Space). s.size)
+    let room = grown_within c.self.inside.words c.args.words c.args.self.now.size c.args.self.now.used content (ap (λ (s : Space). s.used) (sym c.self.view_is)) (ap (λ (s : Space). s.size)
     (sym c.self.view_is)) c.self.invariant.0 c.self.invariant.2 c.requires in
     let e : 8 * c.self.inside.words + 8 * c.args.words ≡ 8 * (c.self.inside.words + c.args.words) = omega arith in
     rw (← e) (room.0, still_zero (8 * c.self.inside.words) (8 * c.args.words) content c.self.invariant.1, room.1)
@@ -22,7 +15,7 @@ invariant_of-self g c =
 pub returns : goal.returns
 returns g c =
     let content : List ℕ = g.S.SegmentSpace.content c.self.inside.segment in
-    let room = asked c.self.inside.words c.args.words c.args.self.now.size c.args.self.now.used content (ap (λ (s : Space). s.used) (sym c.self.view_is)) (ap (λ (s : Space). s.size)
+    let room = grown_within c.self.inside.words c.args.words c.args.self.now.size c.args.self.now.used content (ap (λ (s : Space). s.used) (sym c.self.view_is)) (ap (λ (s : Space). s.size)
     (sym c.self.view_is)) c.self.invariant.0 c.self.invariant.2 c.requires in
     let e : 8 * (c.self.inside.words + c.args.words) ≡ 8 * c.self.inside.words + 8 * c.args.words = omega arith in
     let more : take (8 * (c.self.inside.words + c.args.words)) content ≡ take (8 * c.self.inside.words) content ++ replicate (8 * c.args.words) 0 =

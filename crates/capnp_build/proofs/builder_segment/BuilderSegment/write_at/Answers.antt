@@ -1,21 +1,15 @@
 -- A write inside of the used bytes.
-use Rattle.std.proofs.Common.{◌≡◌, ℕ, ◌+◌, ◌*◌, ◌≤◌, List, length, take, All, arith, ◌∙◌, ap, sym, subst, length-take}
+use Rattle.std.proofs.Common.{◌≡◌, ℕ, ◌+◌, ◌*◌, ◌≤◌, List, length, take, All, arith, ◌∙◌, ap, sym, subst}
 use Rattle.capnp_build.specs.Bytes.{Space, with_bytes}
-use Rattle.capnp_build.proofs.UsedLemmas.{written_used, written_zero, written_length, same_space}
+use Rattle.capnp_build.proofs.UsedLemmas.{written_used, written_zero, written_length, same_space, written_within}
 use Rattle.capnp_build.proofs.builder_segment.BuilderSegment.write_at.Goals as goal
-
--- what is asked, in words of the fields
-inside_of : (words at : ℕ) (used content w : List ℕ) → used ≡ take (8 * words) content → 8 * words ≤ length content → at + length w ≤ length used → at + length w ≤ 8 * words
-inside_of words at used content w e fits h =
-    let l : length used ≡ 8 * words = ap length e ∙ omega (arith, length-take (8 * words) content) in
-    omega arith
 
 pub invariant_of-self : goal.invariant_of-self
 invariant_of-self g c =
     let content : List ℕ = g.S.SegmentSpace.content c.self.inside.segment in
     let w : List ℕ = c.args.bytes.now in
     let n : ℕ = 8 * c.self.inside.words in
-    let inside : c.args.at + length w ≤ n = inside_of c.self.inside.words c.args.at c.args.self.now.used content w (ap (λ (s : Space). s.used) (sym c.self.view_is)) c.self.invariant.0 c.requires in
+    let inside : c.args.at + length w ≤ n = written_within c.self.inside.words c.args.at c.args.self.now.used content w (ap (λ (s : Space). s.used) (sym c.self.view_is)) c.self.invariant.0 c.requires in
     rw c.write_at.ensures.bytes (
       omega (arith, c.self.invariant.0, inside, written_length c.args.at content w (omega (arith, c.self.invariant.0, inside))),
       subst (All (λ b. b ≡ 0)) (sym (written_zero c.args.at n content w inside c.self.invariant.0)) c.self.invariant.1,
@@ -27,7 +21,7 @@ returns g c =
     let content : List ℕ = g.S.SegmentSpace.content c.self.inside.segment in
     let w : List ℕ = c.args.bytes.now in
     let n : ℕ = 8 * c.self.inside.words in
-    let inside : c.args.at + length w ≤ n = inside_of c.self.inside.words c.args.at c.args.self.now.used content w (ap (λ (s : Space). s.used) (sym c.self.view_is)) c.self.invariant.0 c.requires in
+    let inside : c.args.at + length w ≤ n = written_within c.self.inside.words c.args.at c.args.self.now.used content w (ap (λ (s : Space). s.used) (sym c.self.view_is)) c.self.invariant.0 c.requires in
     same_space _ _ _ _ _ _ (ap (take n) c.write_at.ensures.bytes ∙ written_used c.args.at n content w inside c.self.invariant.0)
     (ap length c.write_at.ensures.bytes ∙ written_length c.args.at content w (omega (arith, c.self.invariant.0, inside))) c.write_at.ensures.provided
     ∙ ap (λ (s : Space). with_bytes s c.args.at w) c.self.view_is

@@ -9,7 +9,7 @@ use Rattle.capnp_uses.proofs.any_numbers.Reader.read.Goals as goal
 
 pub returns-in_err-object : goal.returns-in_err-object
 returns-in_err-object g c =
-    let e = err_from_is_err_and c.from_residual-in_err-object.result c.from_residual-in_err-object.ensures.1 in
+    let e = err_from_is_err_and c.from_residual.result c.from_residual.ensures.1 in
     rw (e.1, e.2) (inl c.in_err-object.ensures.returned)
 
 pub returns-in-Null : goal.returns-in-Null
