@@ -1,9 +1,11 @@
 //! Bytes that are read.
-ghost use Rattle.std.specs.Prelude.{MatchResult};
+ghost use Rattle.std.specs.Prelude.{◌+◌, ◌/◌, ◌≤◌, length, MatchResult};
+ghost use Rattle.capnp_wire.specs.Landing.{room_of};
 ghost use Rattle.capnp_wire.specs.Views.{IsViewOf, Accepts, Reads, Refuses, Declines, IsData, TakesNumbers, DeclinesNumbers};
-ghost use Rattle.capnp_wire.specs.Readers.{pointer_of};
+ghost use Rattle.capnp_wire.specs.Readers.{pointer_of, form_of};
 
 use crate::any_pointer;
+use crate::layout::object::Object;
 use crate::traits::FromPointerReader;
 use capnp_frame::Result;
 use capnp_frame::message::ReaderSegments;
@@ -38,9 +40,32 @@ fn read_bytes<'a, S: ReaderSegments>(reader: &any_pointer::Reader<'a, S>) -> Res
         (λ bytes. Reads pointer (λ form. IsData form bytes.now))
         (λ error. Refuses pointer (DeclinesNumbers 2) error.kind) }
 {
+    match reader.enter_near_numbers() {
+        Some(object) => bytes_in(&object),
+        None => enter_bytes(reader),
+    }
+}
+
+// The bytes of a list of bytes that may stand anywhere.
+fn enter_bytes<'a, S: ReaderSegments>(reader: &any_pointer::Reader<'a, S>) -> Result<&'a [u8]>
+    ensures { let pointer = pointer_of S.segments reader.now in MatchResult result
+        (λ bytes. Reads pointer (λ form. IsData form bytes.now))
+        (λ error. Refuses pointer (DeclinesNumbers 2) error.kind) }
+{
     let Some(object) = reader.enter()? else {
         return Ok(&[]);
     };
+    bytes_in(&object)
+}
+
+// The bytes that an object holds.
+#[inline(always)]
+fn bytes_in<'a>(object: &Object<'a>) -> Result<&'a [u8]>
+    requires { object.now.start.word + room_of object.now.body
+        ≤ length object.now.segment.now / 8 }
+    ensures { MatchResult result (λ bytes. IsData (form_of object.now) bytes.now)
+        (λ error. DeclinesNumbers 2 (form_of object.now) error.kind) }
+{
     let bytes = object.bytes()?;
     Ok(bytes)
 }
