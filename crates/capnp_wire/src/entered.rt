@@ -20,8 +20,21 @@ pub(crate) fn wrong_kind() -> Error
     Error::from_kind(ErrorKind::WrongPointerKind)
 }
 
+/// The same result. A call of `enter` returns its result by memory, and what short ways return stands
+/// in registers where this does not: put together anew, both do.
+#[inline(always)]
+pub(crate) fn rebuilt<T>(entered: Result<T>) -> Result<T>
+    ensures { result ≡ entered }
+{
+    match entered {
+        Ok(view) => Ok(view),
+        Err(error) => Err(error),
+    }
+}
+
 impl<'a> Object<'a> {
     /// The bytes of a list of bytes.
+    #[inline(always)]
     pub(crate) fn bytes(&self) -> Result<&'a [u8]>
         requires { self.now.start.word + room_of self.now.body ≤ length self.now.segment.now / 8 }
         ensures { MatchResult result (λ bytes. form_of self.now ≡ numbers 2 bytes.now)
@@ -34,6 +47,7 @@ impl<'a> Object<'a> {
     }
 
     /// The elements of a list of numbers of a size, by its words.
+    #[inline(always)]
     pub(crate) fn numbers(&self, size: ElementSize) -> Result<EnteredNumbers<'a>>
         requires { self.now.start.word + room_of self.now.body ≤ length self.now.segment.now / 8 }
         ensures { let code = code_of size in MatchResult result
@@ -60,6 +74,7 @@ pub(crate) struct EnteredNumbers<'a> {
 }
 
 // A given number of bytes from a word of a segment on.
+#[inline(always)]
 fn bytes_at(segment: &[u8], start: usize, count: u32) -> &[u8]
     requires { start + words_for count 8 ≤ length segment.now / 8 }
     ensures { result.now ≡ elements (words_of segment.now) start 2 count }
@@ -69,6 +84,7 @@ fn bytes_at(segment: &[u8], start: usize, count: u32) -> &[u8]
 }
 
 /// The bytes of the words of a list of numbers, which begins at a word of a segment.
+#[inline(always)]
 pub(crate) fn words_at(segment: &[u8], start: usize, size: ElementSize, count: u32) -> &[u8]
     requires { start + words_for count (width (code_of size)) ≤ length segment.now / 8 }
     ensures elements { elements (words_of result.now) 0 (code_of size) count

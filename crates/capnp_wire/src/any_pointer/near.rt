@@ -7,6 +7,8 @@ ghost use Rattle.capnp_wire.specs.Readers.{pointer_of, IsEntered};
 ghost use Rattle.capnp_wire.specs.declared.layout.place.Place.{Place};
 
 use crate::any_pointer::Reader;
+use crate::layout::element::ElementSize;
+use crate::layout::place::word;
 use crate::layout::near::{NearStruct, near_list, near_struct};
 use crate::layout::number_list::NumberList;
 use crate::layout::object::{Body, Object};
@@ -20,11 +22,11 @@ impl<'a, S: ReaderSegments> Reader<'a, S> {
     /// The list of numbers that the pointer leads to without a landing pad, once it is counted against
     /// the traversal limit.
     #[inline(always)]
-    pub(crate) fn enter_near_numbers(&self) -> Option<Object<'a>>
+    pub(crate) fn enter_near_numbers(&self, size: ElementSize) -> Option<Object<'a>>
         ensures { let pointer = pointer_of S.segments self.now in
             IfSome result (λ object. IsEntered pointer object) }
     {
-        let list = self.near_numbers()?;
+        let list = self.near_numbers(size)?;
         let words = list.traversed();
         match traversed(self.limiter, words) {
             Ok(()) => Some(Object {
@@ -58,13 +60,17 @@ impl<'a, S: ReaderSegments> Reader<'a, S> {
 
     // The list of numbers that the pointer leads to.
     #[inline(always)]
-    fn near_numbers(&self) -> Option<NumberList<'a>>
+    fn near_numbers(&self, size: ElementSize) -> Option<NumberList<'a>>
         ensures { IfSome result (λ list. (place : Place) × (self.now.place ≡ Some place)
             × IsObject (message_of (S.segments self.now.segments.now)) place (object_of list)
             × (0 < self.now.nesting)) }
     {
         let place = self.place?;
         let segment = self.segments.get_segment(place.segment)?;
+        let pointer = word(segment, place.word)?;
+        if pointer / (1 << 32) % 8 != size.code() {
+            return None;
+        }
         near_list(segment, place, self.nesting)
     }
 

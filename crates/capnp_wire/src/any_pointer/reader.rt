@@ -108,6 +108,7 @@ impl<'a, S: ReaderSegments> Reader<'a, S> {
     /// pointer leads to no object, by `NestingLimitExceeded` where the object lies deeper than the
     /// nesting limit, by `ReadLimitExceeded` where it would bring what is read past the traversal
     /// limit, and else by `WrongPointerKind` or `TextNotTerminated` as the type of the view says.
+    #[inline(always)]
     pub fn get_as<T: FromPointerReader<'a, S>>(&self) -> Result<T>
         ensures returned { let pointer = pointer_of S.segments self.now in MatchResult result
             (λ view. T.shows pointer view) (λ error. T.refuses pointer error.kind) }
@@ -132,8 +133,23 @@ impl<'a, S: ReaderSegments> Reader<'a, S> {
         })
     }
 
+    /// The same pointer once more. A call of `enter` is handed this one, so that the reader that the
+    /// short ways ask need not stand in memory.
+    #[inline(always)]
+    pub(crate) fn again(&self) -> Reader<'a, S>
+        ensures { result ≡ self.now }
+    {
+        Reader {
+            segments: self.segments,
+            limiter: self.limiter,
+            place: self.place,
+            nesting: self.nesting,
+        }
+    }
+
     /// The object that the pointer leads to, once it is counted against the traversal limit; `None`
     /// for null.
+    #[inline(never)]
     pub(crate) fn enter(&self) -> Result<Option<Object<'a>>>
         ensures found { let pointer = pointer_of S.segments self.now in
             IfOk result (λ found. MatchOption found (Denotes pointer nothing)

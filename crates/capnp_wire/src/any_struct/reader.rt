@@ -6,7 +6,7 @@ ghost use Rattle.capnp_wire.specs.Values.{HoldsPointers};
 
 use crate::any_pointer;
 use crate::any_struct::part::{self, WordPart};
-use crate::entered::wrong_kind;
+use crate::entered::{rebuilt, wrong_kind};
 use crate::layout::object::Object;
 use crate::layout::place::{Place, word};
 use crate::layout::pointer::StructSize;
@@ -44,6 +44,7 @@ impl<'a, S: ReaderSegments> StructReader<'a, S> {
     }
 
     /// A data word; 0 past the last one.
+    #[inline(always)]
     pub fn get_word(&self, index: u16) -> u64
         ensures { result ≡ slice_index (struct_of S.segments self.now).words index }
     {
@@ -65,6 +66,7 @@ impl<'a, S: ReaderSegments> StructReader<'a, S> {
     }
 
     /// A pointer; null past the last one.
+    #[inline(always)]
     pub fn get_pointer(&self, index: u16) -> any_pointer::Reader<'a, S>
         ensures { pointer_of S.segments result ≡ pointer_in (struct_of S.segments self.now) index }
     {
@@ -85,6 +87,7 @@ impl<'a, S: ReaderSegments> StructReader<'a, S> {
     }
 
     // The struct that a pointer leads to.
+    #[inline(always)]
     fn read(reader: &any_pointer::Reader<'a, S>) -> Result<StructReader<'a, S>>
         ensures { let pointer = pointer_of S.segments reader.now in MatchResult result
             (λ view. IsStruct pointer (struct_of S.segments view))
@@ -92,11 +95,12 @@ impl<'a, S: ReaderSegments> StructReader<'a, S> {
     {
         match reader.enter_near_struct() {
             Some(object) => StructReader::in_object(reader, &object),
-            None => StructReader::enter(reader),
+            None => rebuilt(StructReader::enter(&reader.again())),
         }
     }
 
     // The struct that a pointer leads to, which may stand anywhere.
+    #[inline(never)]
     fn enter(reader: &any_pointer::Reader<'a, S>) -> Result<StructReader<'a, S>>
         ensures { let pointer = pointer_of S.segments reader.now in MatchResult result
             (λ view. IsStruct pointer (struct_of S.segments view))
@@ -162,6 +166,7 @@ impl<'a, S: ReaderSegments> FromPointerReader<'a, S> for StructReader<'a, S> {
 
     ghost declines = { λ pointer kind. Declines pointer DeclinesStruct kind };
 
+    #[inline(always)]
     fn get_from_pointer(reader: any_pointer::Reader<'a, S>) -> Result<Self>
         ensures { let pointer = pointer_of S.segments reader.entry in IsViewOf pointer
             (λ view. IsStruct pointer (struct_of S.segments view))

@@ -5,6 +5,8 @@ ghost use Rattle.capnp_wire.specs.Views.{IsViewOf, Accepts, Reads, Refuses, Decl
 ghost use Rattle.capnp_wire.specs.Readers.{pointer_of, form_of};
 
 use crate::any_pointer;
+use crate::entered::rebuilt;
+use crate::layout::element::ElementSize;
 use crate::layout::object::Object;
 use crate::traits::FromPointerReader;
 use capnp_frame::Result;
@@ -24,6 +26,7 @@ impl<'a, S: ReaderSegments> FromPointerReader<'a, S> for &'a [u8] {
 
     ghost declines = { λ pointer kind. Declines pointer (DeclinesNumbers 2) kind };
 
+    #[inline(always)]
     fn get_from_pointer(reader: any_pointer::Reader<'a, S>) -> Result<Self>
         ensures { let pointer = pointer_of S.segments reader.entry in IsViewOf pointer
             (λ view. Reads pointer (λ form. IsData form view.now))
@@ -35,18 +38,20 @@ impl<'a, S: ReaderSegments> FromPointerReader<'a, S> for &'a [u8] {
 }
 
 // The bytes of a list of bytes.
+#[inline(always)]
 fn read_bytes<'a, S: ReaderSegments>(reader: &any_pointer::Reader<'a, S>) -> Result<&'a [u8]>
     ensures { let pointer = pointer_of S.segments reader.now in MatchResult result
         (λ bytes. Reads pointer (λ form. IsData form bytes.now))
         (λ error. Refuses pointer (DeclinesNumbers 2) error.kind) }
 {
-    match reader.enter_near_numbers() {
+    match reader.enter_near_numbers(ElementSize::Byte) {
         Some(object) => bytes_in(&object),
-        None => enter_bytes(reader),
+        None => rebuilt(enter_bytes(&reader.again())),
     }
 }
 
 // The bytes of a list of bytes that may stand anywhere.
+#[inline(never)]
 fn enter_bytes<'a, S: ReaderSegments>(reader: &any_pointer::Reader<'a, S>) -> Result<&'a [u8]>
     ensures { let pointer = pointer_of S.segments reader.now in MatchResult result
         (λ bytes. Reads pointer (λ form. IsData form bytes.now))

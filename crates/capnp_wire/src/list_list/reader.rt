@@ -19,6 +19,7 @@ impl<'a, S: ReaderSegments, T: FromPointerReader<'a, S>> Reader<'a, S, T> {
     ghost use Rattle.capnp_wire.specs.ListViews.{pointer_list_of, pointer_at};
 
     /// The number of elements.
+    #[inline(always)]
     pub fn len(&self) -> u32
         ensures { result ≡ length (pointer_list_of S.segments self.now.pointers).held }
     {
@@ -27,6 +28,7 @@ impl<'a, S: ReaderSegments, T: FromPointerReader<'a, S>> Reader<'a, S, T> {
 
     /// The element of this index, or why it is none. It is counted against the traversal limit each
     /// time.
+    #[inline(always)]
     pub fn get(&self, index: u32) -> Result<T>
         requires { index < length (pointer_list_of S.segments self.now.pointers).held }
         ensures { let pointer = pointer_at (pointer_list_of S.segments self.now.pointers) index in

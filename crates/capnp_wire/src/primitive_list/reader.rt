@@ -4,6 +4,7 @@ ghost use Rattle.capnp_wire.specs.Element.{width, words_for};
 ghost use Rattle.capnp_wire.specs.Landing.{room_of};
 
 use crate::any_pointer;
+use crate::entered::rebuilt;
 use crate::layout::object::{Object, words_fit};
 use crate::layout::place::word;
 use crate::primitive_element::PrimitiveElement;
@@ -28,6 +29,7 @@ impl<'a, T: PrimitiveElement> Reader<'a, T> {
     ghost use Rattle.capnp_wire.specs.Readers.{pointer_of, form_of};
 
     /// The number of elements.
+    #[inline(always)]
     pub fn len(&self) -> u32
         ensures { result ≡ length (numbers_of T.code self.now) }
     {
@@ -35,6 +37,7 @@ impl<'a, T: PrimitiveElement> Reader<'a, T> {
     }
 
     /// The element of this index.
+    #[inline(always)]
     pub fn get(&self, index: u32) -> T
         requires { index < length (numbers_of T.code self.now) }
         ensures { result ≡ T.value_of (slice_index (numbers_of T.code self.now) index) }
@@ -46,18 +49,20 @@ impl<'a, T: PrimitiveElement> Reader<'a, T> {
     }
 
     // The list that a pointer leads to.
+    #[inline(always)]
     fn read<S: ReaderSegments>(reader: &any_pointer::Reader<'a, S>) -> Result<Reader<'a, T>>
         ensures { let pointer = pointer_of S.segments reader.now in MatchResult result
             (λ view. Reads pointer (λ form. IsNumbers T.code form (numbers_of T.code view)))
             (λ error. Refuses pointer (DeclinesNumbers T.code) error.kind) }
     {
-        match reader.enter_near_numbers() {
+        match reader.enter_near_numbers(T::size()) {
             Some(object) => Reader::in_object(&object),
-            None => Reader::enter(reader),
+            None => rebuilt(Reader::enter(&reader.again())),
         }
     }
 
     // The list that a pointer leads to, which may stand anywhere.
+    #[inline(never)]
     fn enter<S: ReaderSegments>(reader: &any_pointer::Reader<'a, S>) -> Result<Reader<'a, T>>
         ensures { let pointer = pointer_of S.segments reader.now in MatchResult result
             (λ view. Reads pointer (λ form. IsNumbers T.code form (numbers_of T.code view)))
@@ -107,6 +112,7 @@ impl<'a, S: ReaderSegments, T: PrimitiveElement> FromPointerReader<'a, S> for Re
 
     ghost declines = { λ pointer kind. Declines pointer (DeclinesNumbers T.code) kind };
 
+    #[inline(always)]
     fn get_from_pointer(reader: any_pointer::Reader<'a, S>) -> Result<Self>
         ensures { let pointer = pointer_of S.segments reader.entry in IsViewOf pointer
             (λ view. Reads pointer (λ form. IsNumbers T.code form (numbers_of T.code view)))

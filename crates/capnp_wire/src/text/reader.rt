@@ -5,6 +5,8 @@ ghost use Rattle.capnp_wire.specs.Views.{IsViewOf, Accepts, Reads, Refuses, Decl
 ghost use Rattle.capnp_wire.specs.Readers.{pointer_of, form_of};
 
 use crate::any_pointer;
+use crate::entered::rebuilt;
+use crate::layout::element::ElementSize;
 use crate::layout::object::Object;
 use crate::traits::FromPointerReader;
 use capnp_frame::message::ReaderSegments;
@@ -18,6 +20,7 @@ pub struct Reader<'a> {
 
 impl<'a> Reader<'a> {
     /// The bytes, without the zero byte that ends them in the message.
+    #[inline(always)]
     pub fn as_bytes(&self) -> &'a [u8]
         ensures { result.now ≡ self.now.bytes.now }
     {
@@ -25,6 +28,7 @@ impl<'a> Reader<'a> {
     }
 
     /// The number of bytes.
+    #[inline(always)]
     pub fn len(&self) -> usize
         ensures { result ≡ length self.now.bytes.now }
     {
@@ -43,6 +47,7 @@ impl<'a, S: ReaderSegments> FromPointerReader<'a, S> for Reader<'a> {
 
     ghost declines = { λ pointer kind. Declines pointer DeclinesText kind };
 
+    #[inline(always)]
     fn get_from_pointer(reader: any_pointer::Reader<'a, S>) -> Result<Self>
         ensures { let pointer = pointer_of S.segments reader.entry in IsViewOf pointer
             (λ view. Reads pointer (λ form. IsText form view.bytes.now))
@@ -54,18 +59,20 @@ impl<'a, S: ReaderSegments> FromPointerReader<'a, S> for Reader<'a> {
 }
 
 // The text of a list of bytes.
+#[inline(always)]
 fn read_text<'a, S: ReaderSegments>(reader: &any_pointer::Reader<'a, S>) -> Result<Reader<'a>>
     ensures { let pointer = pointer_of S.segments reader.now in MatchResult result
         (λ view. Reads pointer (λ form. IsText form view.bytes.now))
         (λ error. Refuses pointer DeclinesText error.kind) }
 {
-    match reader.enter_near_numbers() {
+    match reader.enter_near_numbers(ElementSize::Byte) {
         Some(object) => text_in(&object),
-        None => enter_text(reader),
+        None => rebuilt(enter_text(&reader.again())),
     }
 }
 
 // The text of a list of bytes that may stand anywhere.
+#[inline(never)]
 fn enter_text<'a, S: ReaderSegments>(reader: &any_pointer::Reader<'a, S>) -> Result<Reader<'a>>
     ensures { let pointer = pointer_of S.segments reader.now in MatchResult result
         (λ view. Reads pointer (λ form. IsText form view.bytes.now))
@@ -93,6 +100,7 @@ fn text_in<'a>(object: &Object<'a>) -> Result<Reader<'a>>
 }
 
 // The bytes before a zero byte at the end.
+#[inline(always)]
 fn before_zero(bytes: &[u8]) -> Option<&[u8]>
     ensures { MatchOption result ((text : List ℕ) → bytes.now ≡ text ++ 0 ∷ [] → ⊥)
         (λ text. bytes.now ≡ text.now ++ 0 ∷ []) }

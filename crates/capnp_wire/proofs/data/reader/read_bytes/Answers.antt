@@ -8,3 +8,6 @@ pub returns-in-Some : goal.returns-in-Some
 returns-in-Some g c =
     let pointer = pointer_of g.S.ReaderSegments.segments c.args.reader.now in
     entered_view pointer c.in-Some.object (λ bytes form. IsData form bytes.now) (DeclinesNumbers 2) c.bytes_in.result c.in-Some.ensures c.bytes_in.ensures
+
+pub returns-in-None : goal.returns-in-None
+returns-in-None g c = rw c.rebuilt.ensures (rw c.again.ensures at c.enter_bytes.ensures)

@@ -10,3 +10,6 @@ returns-in-Some g c =
     let pointer = pointer_of g.S.ReaderSegments.segments c.args.reader.now in
     let code = g.T.PrimitiveElement.code in
     entered_view pointer c.in-Some.object (λ view form. IsNumbers code form (numbers_of code view)) (DeclinesNumbers code) c.in_object.result c.in-Some.ensures c.in_object.ensures
+
+pub returns-in-None : goal.returns-in-None
+returns-in-None g c = rw c.rebuilt.ensures (rw c.again.ensures at c.enter.ensures)
