@@ -34,7 +34,6 @@ pub(crate) fn rebuilt<T>(entered: Result<T>) -> Result<T>
 
 impl<'a> Object<'a> {
     /// The bytes of a list of bytes.
-    #[inline(always)]
     pub(crate) fn bytes(&self) -> Result<&'a [u8]>
         requires { self.now.start.word + room_of self.now.body ≤ length self.now.segment.now / 8 }
         ensures { MatchResult result (λ bytes. form_of self.now ≡ numbers 2 bytes.now)
@@ -47,7 +46,6 @@ impl<'a> Object<'a> {
     }
 
     /// The elements of a list of numbers of a size, by its words.
-    #[inline(always)]
     pub(crate) fn numbers(&self, size: ElementSize) -> Result<EnteredNumbers<'a>>
         requires { self.now.start.word + room_of self.now.body ≤ length self.now.segment.now / 8 }
         ensures { let code = code_of size in MatchResult result
@@ -74,7 +72,6 @@ pub(crate) struct EnteredNumbers<'a> {
 }
 
 // A given number of bytes from a word of a segment on.
-#[inline(always)]
 fn bytes_at(segment: &[u8], start: usize, count: u32) -> &[u8]
     requires { start + words_for count 8 ≤ length segment.now / 8 }
     ensures { result.now ≡ elements (words_of segment.now) start 2 count }
@@ -84,7 +81,6 @@ fn bytes_at(segment: &[u8], start: usize, count: u32) -> &[u8]
 }
 
 /// The bytes of the words of a list of numbers, which begins at a word of a segment.
-#[inline(always)]
 pub(crate) fn words_at(segment: &[u8], start: usize, size: ElementSize, count: u32) -> &[u8]
     requires { start + words_for count (width (code_of size)) ≤ length segment.now / 8 }
     ensures elements { elements (words_of result.now) 0 (code_of size) count

@@ -8,10 +8,10 @@ ghost use Rattle.capnp_wire.specs.declared.layout.place.Place.{Place};
 
 use crate::any_pointer::Reader;
 use crate::layout::element::ElementSize;
-use crate::layout::place::word;
 use crate::layout::near::{NearStruct, near_list, near_struct};
 use crate::layout::number_list::NumberList;
 use crate::layout::object::{Body, Object};
+use crate::layout::place::word;
 use crate::read_limiter::traversed;
 use capnp_frame::message::ReaderSegments;
 

@@ -149,7 +149,6 @@ impl<'a, S: ReaderSegments> Reader<'a, S> {
 
     /// The object that the pointer leads to, once it is counted against the traversal limit; `None`
     /// for null.
-    #[inline(never)]
     pub(crate) fn enter(&self) -> Result<Option<Object<'a>>>
         ensures found { let pointer = pointer_of S.segments self.now in
             IfOk result (λ found. MatchOption found (Denotes pointer nothing)

@@ -27,7 +27,6 @@ impl<'a, S: ReaderSegments> Reader<'a, S> {
     ghost use Rattle.capnp_wire.specs.ListViews.{pointer_list_of, pointer_at, IsPointerList, DeclinesPointers};
 
     /// The number of elements.
-    #[inline(always)]
     pub fn len(&self) -> u32
         ensures { result ≡ length (pointer_list_of S.segments self.now).held }
     {
@@ -36,7 +35,6 @@ impl<'a, S: ReaderSegments> Reader<'a, S> {
 
     /// The pointer of this index. What it leads to is counted against the traversal limit when it is
     /// followed.
-    #[inline(always)]
     pub fn get(&self, index: u32) -> any_pointer::Reader<'a, S>
         requires { index < length (pointer_list_of S.segments self.now).held }
         ensures { pointer_of S.segments result

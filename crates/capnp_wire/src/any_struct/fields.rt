@@ -17,7 +17,6 @@ use capnp_frame::message::ReaderSegments;
 impl<'a, S: ReaderSegments> StructReader<'a, S> {
     /// A field of the data section, at an offset in units of its own width. Its bits are zero where the
     /// section ends before it.
-    #[inline(always)]
     pub fn get_data_field<T: PrimitiveElement>(&self, offset: u32) -> T
         ensures { result ≡ T.value_of
             (field (struct_of S.segments self.now).words (width T.code) offset) }
@@ -64,7 +63,6 @@ impl<'a, S: ReaderSegments> StructReader<'a, S> {
     }
 
     // The bits of a field of a size.
-    #[inline(always)]
     fn field_bits(&self, size: ElementSize, offset: u32) -> u64
         ensures bits { result
             ≡ field (struct_of S.segments self.now).words (width (code_of size)) offset }
@@ -75,7 +73,6 @@ impl<'a, S: ReaderSegments> StructReader<'a, S> {
     }
 
     // A data word; 0 past the last one.
-    #[inline(always)]
     fn data_word(&self, index: u64) -> u64
         ensures { result ≡ slice_index (struct_of S.segments self.now).words index }
     {

@@ -14,7 +14,6 @@ pub(crate) struct WordPart {
 }
 
 /// A data word of a struct, by the word in which it stands: all of it, or its own part in the low bits.
-#[inline(always)]
 pub(crate) fn own_bits(part: Option<WordPart>, word: u64) -> u64
     ensures { result ≡ own_part part word }
 {

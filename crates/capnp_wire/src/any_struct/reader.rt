@@ -44,7 +44,6 @@ impl<'a, S: ReaderSegments> StructReader<'a, S> {
     }
 
     /// A data word; 0 past the last one.
-    #[inline(always)]
     pub fn get_word(&self, index: u16) -> u64
         ensures { result ≡ slice_index (struct_of S.segments self.now).words index }
     {
@@ -66,7 +65,6 @@ impl<'a, S: ReaderSegments> StructReader<'a, S> {
     }
 
     /// A pointer; null past the last one.
-    #[inline(always)]
     pub fn get_pointer(&self, index: u16) -> any_pointer::Reader<'a, S>
         ensures { pointer_of S.segments result ≡ pointer_in (struct_of S.segments self.now) index }
     {

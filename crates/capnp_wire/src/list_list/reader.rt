@@ -19,7 +19,6 @@ impl<'a, S: ReaderSegments, T: FromPointerReader<'a, S>> Reader<'a, S, T> {
     ghost use Rattle.capnp_wire.specs.ListViews.{pointer_list_of, pointer_at};
 
     /// The number of elements.
-    #[inline(always)]
     pub fn len(&self) -> u32
         ensures { result ≡ length (pointer_list_of S.segments self.now.pointers).held }
     {

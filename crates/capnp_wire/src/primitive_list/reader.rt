@@ -29,7 +29,6 @@ impl<'a, T: PrimitiveElement> Reader<'a, T> {
     ghost use Rattle.capnp_wire.specs.Readers.{pointer_of, form_of};
 
     /// The number of elements.
-    #[inline(always)]
     pub fn len(&self) -> u32
         ensures { result ≡ length (numbers_of T.code self.now) }
     {
@@ -37,7 +36,6 @@ impl<'a, T: PrimitiveElement> Reader<'a, T> {
     }
 
     /// The element of this index.
-    #[inline(always)]
     pub fn get(&self, index: u32) -> T
         requires { index < length (numbers_of T.code self.now) }
         ensures { result ≡ T.value_of (slice_index (numbers_of T.code self.now) index) }

@@ -37,7 +37,6 @@ impl<'a, S: ReaderSegments> Reader<'a, S> {
     ghost use Rattle.capnp_wire.specs.ListViews.{struct_list_of, element_of, no_structs, structs_in, IsStructList, DeclinesStructs};
 
     /// The number of elements.
-    #[inline(always)]
     pub fn len(&self) -> u32
         ensures { result ≡ length (struct_list_of S.segments self.now).rows }
     {
@@ -46,7 +45,6 @@ impl<'a, S: ReaderSegments> Reader<'a, S> {
 
     /// The element of this index, whose pointers have as much nesting depth left as those of the list.
     /// Its words were counted against the traversal limit with the list's.
-    #[inline(always)]
     pub fn get(&self, index: u32) -> StructReader<'a, S>
         requires { index < length (struct_list_of S.segments self.now).rows }
         ensures { struct_of S.segments result

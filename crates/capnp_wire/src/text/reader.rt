@@ -20,7 +20,6 @@ pub struct Reader<'a> {
 
 impl<'a> Reader<'a> {
     /// The bytes, without the zero byte that ends them in the message.
-    #[inline(always)]
     pub fn as_bytes(&self) -> &'a [u8]
         ensures { result.now ≡ self.now.bytes.now }
     {
@@ -28,7 +27,6 @@ impl<'a> Reader<'a> {
     }
 
     /// The number of bytes.
-    #[inline(always)]
     pub fn len(&self) -> usize
         ensures { result ≡ length self.now.bytes.now }
     {
@@ -100,7 +98,6 @@ fn text_in<'a>(object: &Object<'a>) -> Result<Reader<'a>>
 }
 
 // The bytes before a zero byte at the end.
-#[inline(always)]
 fn before_zero(bytes: &[u8]) -> Option<&[u8]>
     ensures { MatchOption result ((text : List ℕ) → bytes.now ≡ text ++ 0 ∷ [] → ⊥)
         (λ text. bytes.now ≡ text.now ++ 0 ∷ []) }
