@@ -125,16 +125,11 @@ impl<'a, S: ReaderSegments> Reader<'a, S> {
             (kind : ErrorKind) → T.declines pointer kind →
             IsErrAnd result (λ error. (error.kind ≡ kind) ⊎ MeetsLimit pointer error.kind) }
     {
-        T::get_from_pointer(Reader {
-            segments: self.segments,
-            limiter: self.limiter,
-            place: self.place,
-            nesting: self.nesting,
-        })
+        T::get_from_pointer(self.again())
     }
 
-    /// The same pointer once more. A call of `enter` is handed this one, so that the reader that the
-    /// short ways ask need not stand in memory.
+    /// The same pointer once more. What decides where a short way gives up is handed this one, so that
+    /// the reader that was asked first need not stand in memory.
     #[inline(always)]
     pub(crate) fn again(&self) -> Reader<'a, S>
         ensures { result ≡ self.now }
