@@ -7,6 +7,7 @@ ghost use Rattle.capnp_wire.specs.Layout.{layout, formed};
 ghost use Rattle.capnp_wire.specs.Readers.{pointer_of};
 ghost use Rattle.capnp_wire.specs.Values.{HasWords, LeadsToTree};
 
+mod near;
 mod reader;
 
 use crate::layout::block::BlockItem;

@@ -20,6 +20,18 @@ pub(crate) fn wrong_kind() -> Error
     Error::from_kind(ErrorKind::WrongPointerKind)
 }
 
+/// The same result. A call of `enter` returns its result by memory, and what short ways return stands
+/// in registers where this does not: put together anew, both do.
+#[inline(always)]
+pub(crate) fn rebuilt<T>(entered: Result<T>) -> Result<T>
+    ensures { result ≡ entered }
+{
+    match entered {
+        Ok(view) => Ok(view),
+        Err(error) => Err(error),
+    }
+}
+
 impl<'a> Object<'a> {
     /// The bytes of a list of bytes.
     pub(crate) fn bytes(&self) -> Result<&'a [u8]>

@@ -1,7 +1,8 @@
 -- What views show of objects.
-use Rattle.std.proofs.Common.{◌≡◌, ℕ, suc, ◌+◌, List, [], ◌∷◌, ◌++◌, length, take, slice_index_or, inr, refl, sym, ◌∙◌, ap, subst, arith, length-append}
+use Rattle.std.proofs.Common.{◌≡◌, ℕ, suc, ◌+◌, List, [], ◌∷◌, ◌++◌, length, take, slice_index_or, Result, Ok, Err, MatchResult, inr, refl, sym, ◌∙◌, ap, subst, arith, length-append}
 use Rattle.std.proofs.lemmas.List.{take_all}
 use Rattle.std.proofs.Math.Seq.{take-suc, get_or-append_seam}
+use Rattle.capnp_frame.specs.declared.error.Error.{Error}
 use Rattle.capnp_frame.specs.declared.error.ErrorKind.{ErrorKind}
 use Rattle.capnp_frame.specs.declared.error.ErrorKind.TheVariants.{WrongPointerKind, TextNotTerminated}
 use Rattle.capnp_wire.specs.Pointer.{words_of, words_from}
@@ -10,7 +11,7 @@ use Rattle.capnp_wire.specs.Tree.{Form, numbers}
 use Rattle.capnp_wire.specs.Object.{elements, places}
 use Rattle.capnp_wire.specs.Traversed.{Within}
 use Rattle.capnp_wire.specs.Landing.{shape_of}
-use Rattle.capnp_wire.specs.Views.{Pointer, at_place, Shows, Reads, IsText, HasData, TakesNumbers, TakesText, TakesStruct, DeclinesNumbers, DeclinesText, DeclinesStruct}
+use Rattle.capnp_wire.specs.Views.{Pointer, at_place, Shows, Reads, Refuses, IsText, HasData, TakesNumbers, TakesText, TakesStruct, DeclinesNumbers, DeclinesText, DeclinesStruct}
 use Rattle.capnp_wire.specs.Readers.{IsEntered, form_of}
 use Rattle.capnp_wire.specs.declared.layout.place.Place.{Place}
 use Rattle.capnp_wire.specs.declared.layout.element.ElementSize.{ElementSize}
@@ -34,6 +35,14 @@ entered_reads p object fact entered holds = (
   at_place entered.stands entered.object_is.object (λ not. entered.nesting),
   (holds, entered.within),
 )
+
+-- and a view of the object is one of its pointer
+pub entered_view : {V : Type 0} (p : Pointer) (object : ReadObject) (shows : V → Form → Type 0) (declines : Form → ErrorKind → Type 0)
+    (result : Result V Error) → IsEntered p object
+    → MatchResult result (λ view. shows view (form_of object)) (λ error. declines (form_of object) error.kind)
+    → MatchResult result (λ view. Reads p (shows view)) (λ error. Refuses p declines error.kind)
+entered_view p object shows declines (Ok view) entered holds = entered_reads p object (shows view) entered holds
+entered_view p object shows declines (Err error) entered holds = inr (entered_shows p object (λ form. declines form error.kind) entered holds)
 
 pub entered_shown : (p : Pointer) (object : ReadObject) (fact : Form → List Place → Type 0) → IsEntered p object
     → (let shape = shape_of (words_of object.segment.now) object.start object.body in fact shape.form shape.held)

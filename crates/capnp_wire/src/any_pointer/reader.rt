@@ -108,6 +108,7 @@ impl<'a, S: ReaderSegments> Reader<'a, S> {
     /// pointer leads to no object, by `NestingLimitExceeded` where the object lies deeper than the
     /// nesting limit, by `ReadLimitExceeded` where it would bring what is read past the traversal
     /// limit, and else by `WrongPointerKind` or `TextNotTerminated` as the type of the view says.
+    #[inline(always)]
     pub fn get_as<T: FromPointerReader<'a, S>>(&self) -> Result<T>
         ensures returned { let pointer = pointer_of S.segments self.now in MatchResult result
             (λ view. T.shows pointer view) (λ error. T.refuses pointer error.kind) }
@@ -124,12 +125,21 @@ impl<'a, S: ReaderSegments> Reader<'a, S> {
             (kind : ErrorKind) → T.declines pointer kind →
             IsErrAnd result (λ error. (error.kind ≡ kind) ⊎ MeetsLimit pointer error.kind) }
     {
-        T::get_from_pointer(Reader {
+        T::get_from_pointer(self.again())
+    }
+
+    /// The same pointer once more. What decides where a short way gives up is handed this one, so that
+    /// the reader that was asked first need not stand in memory.
+    #[inline(always)]
+    pub(crate) fn again(&self) -> Reader<'a, S>
+        ensures { result ≡ self.now }
+    {
+        Reader {
             segments: self.segments,
             limiter: self.limiter,
             place: self.place,
             nesting: self.nesting,
-        })
+        }
     }
 
     /// The object that the pointer leads to, once it is counted against the traversal limit; `None`

@@ -6,7 +6,8 @@ ghost use Rattle.capnp_wire.specs.Values.{HoldsPointers};
 
 use crate::any_pointer;
 use crate::any_struct::part::{self, WordPart};
-use crate::entered::wrong_kind;
+use crate::entered::{rebuilt, wrong_kind};
+use crate::layout::object::Object;
 use crate::layout::place::{Place, word};
 use crate::layout::pointer::StructSize;
 use crate::read_limiter::ReadLimiter;
@@ -32,7 +33,7 @@ pub struct StructReader<'a, S: ReaderSegments> {
 }
 
 impl<'a, S: ReaderSegments> StructReader<'a, S> {
-    ghost use Rattle.capnp_wire.specs.Readers.{struct_of, pointer_of};
+    ghost use Rattle.capnp_wire.specs.Readers.{struct_of, pointer_of, IsEntered};
     ghost use Rattle.capnp_wire.specs.Views.{pointer_in, IsStruct, Refuses, DeclinesStruct};
 
     /// The number of data words.
@@ -84,18 +85,29 @@ impl<'a, S: ReaderSegments> StructReader<'a, S> {
     }
 
     // The struct that a pointer leads to.
+    #[inline(always)]
     fn read(reader: &any_pointer::Reader<'a, S>) -> Result<StructReader<'a, S>>
         ensures { let pointer = pointer_of S.segments reader.now in MatchResult result
             (λ view. IsStruct pointer (struct_of S.segments view))
             (λ error. Refuses pointer DeclinesStruct error.kind) }
     {
-        let segments = reader.segments;
-        let limiter = reader.limiter;
-        let nesting = reader.nesting.saturating_sub(1);
+        match reader.enter_near_struct() {
+            Some(object) => StructReader::in_object(reader, &object),
+            None => rebuilt(StructReader::enter(&reader.again())),
+        }
+    }
+
+    // The struct that a pointer leads to, which may stand anywhere.
+    #[inline(never)]
+    fn enter(reader: &any_pointer::Reader<'a, S>) -> Result<StructReader<'a, S>>
+        ensures { let pointer = pointer_of S.segments reader.now in MatchResult result
+            (λ view. IsStruct pointer (struct_of S.segments view))
+            (λ error. Refuses pointer DeclinesStruct error.kind) }
+    {
         let Some(object) = reader.enter()? else {
             return Ok(StructReader {
-                segments,
-                limiter,
+                segments: reader.segments,
+                limiter: reader.limiter,
                 segment: &[],
                 start: Place {
                     segment: 0,
@@ -105,16 +117,31 @@ impl<'a, S: ReaderSegments> StructReader<'a, S> {
                     data_words: 0,
                     pointers: 0,
                 },
-                nesting,
+                nesting: reader.nesting.saturating_sub(1),
                 part: None,
             });
         };
+        StructReader::in_object(reader, &object)
+    }
+
+    // The struct that an object is.
+    #[inline(always)]
+    fn in_object(
+        reader: &any_pointer::Reader<'a, S>,
+        object: &Object<'a>,
+    ) -> Result<StructReader<'a, S>>
+        requires { IsEntered (pointer_of S.segments reader.now) object.now }
+        ensures { let pointer = pointer_of S.segments reader.now in MatchResult result
+            (λ view. IsStruct pointer (struct_of S.segments view))
+            (λ error. Refuses pointer DeclinesStruct error.kind) }
+    {
+        let nesting = reader.nesting.saturating_sub(1);
         let Some(size) = object.body.as_struct() else {
             return Err(wrong_kind());
         };
         Ok(StructReader {
-            segments,
-            limiter,
+            segments: reader.segments,
+            limiter: reader.limiter,
             segment: object.segment,
             start: object.start,
             size,
@@ -137,6 +164,7 @@ impl<'a, S: ReaderSegments> FromPointerReader<'a, S> for StructReader<'a, S> {
 
     ghost declines = { λ pointer kind. Declines pointer DeclinesStruct kind };
 
+    #[inline(always)]
     fn get_from_pointer(reader: any_pointer::Reader<'a, S>) -> Result<Self>
         ensures { let pointer = pointer_of S.segments reader.entry in IsViewOf pointer
             (λ view. IsStruct pointer (struct_of S.segments view))

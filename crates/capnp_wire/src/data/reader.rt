@@ -1,9 +1,13 @@
 //! Bytes that are read.
-ghost use Rattle.std.specs.Prelude.{MatchResult};
+ghost use Rattle.std.specs.Prelude.{◌+◌, ◌/◌, ◌≤◌, length, MatchResult};
+ghost use Rattle.capnp_wire.specs.Landing.{room_of};
 ghost use Rattle.capnp_wire.specs.Views.{IsViewOf, Accepts, Reads, Refuses, Declines, IsData, TakesNumbers, DeclinesNumbers};
-ghost use Rattle.capnp_wire.specs.Readers.{pointer_of};
+ghost use Rattle.capnp_wire.specs.Readers.{pointer_of, form_of};
 
 use crate::any_pointer;
+use crate::entered::rebuilt;
+use crate::layout::element::ElementSize;
+use crate::layout::object::Object;
 use crate::traits::FromPointerReader;
 use capnp_frame::Result;
 use capnp_frame::message::ReaderSegments;
@@ -22,6 +26,7 @@ impl<'a, S: ReaderSegments> FromPointerReader<'a, S> for &'a [u8] {
 
     ghost declines = { λ pointer kind. Declines pointer (DeclinesNumbers 2) kind };
 
+    #[inline(always)]
     fn get_from_pointer(reader: any_pointer::Reader<'a, S>) -> Result<Self>
         ensures { let pointer = pointer_of S.segments reader.entry in IsViewOf pointer
             (λ view. Reads pointer (λ form. IsData form view.now))
@@ -33,7 +38,21 @@ impl<'a, S: ReaderSegments> FromPointerReader<'a, S> for &'a [u8] {
 }
 
 // The bytes of a list of bytes.
+#[inline(always)]
 fn read_bytes<'a, S: ReaderSegments>(reader: &any_pointer::Reader<'a, S>) -> Result<&'a [u8]>
+    ensures { let pointer = pointer_of S.segments reader.now in MatchResult result
+        (λ bytes. Reads pointer (λ form. IsData form bytes.now))
+        (λ error. Refuses pointer (DeclinesNumbers 2) error.kind) }
+{
+    match reader.enter_near_numbers(ElementSize::Byte) {
+        Some(object) => bytes_in(&object),
+        None => rebuilt(enter_bytes(&reader.again())),
+    }
+}
+
+// The bytes of a list of bytes that may stand anywhere.
+#[inline(never)]
+fn enter_bytes<'a, S: ReaderSegments>(reader: &any_pointer::Reader<'a, S>) -> Result<&'a [u8]>
     ensures { let pointer = pointer_of S.segments reader.now in MatchResult result
         (λ bytes. Reads pointer (λ form. IsData form bytes.now))
         (λ error. Refuses pointer (DeclinesNumbers 2) error.kind) }
@@ -41,6 +60,17 @@ fn read_bytes<'a, S: ReaderSegments>(reader: &any_pointer::Reader<'a, S>) -> Res
     let Some(object) = reader.enter()? else {
         return Ok(&[]);
     };
+    bytes_in(&object)
+}
+
+// The bytes that an object holds.
+#[inline(always)]
+fn bytes_in<'a>(object: &Object<'a>) -> Result<&'a [u8]>
+    requires { object.now.start.word + room_of object.now.body
+        ≤ length object.now.segment.now / 8 }
+    ensures { MatchResult result (λ bytes. IsData (form_of object.now) bytes.now)
+        (λ error. DeclinesNumbers 2 (form_of object.now) error.kind) }
+{
     let bytes = object.bytes()?;
     Ok(bytes)
 }

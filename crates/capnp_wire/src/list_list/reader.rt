@@ -27,6 +27,7 @@ impl<'a, S: ReaderSegments, T: FromPointerReader<'a, S>> Reader<'a, S, T> {
 
     /// The element of this index, or why it is none. It is counted against the traversal limit each
     /// time.
+    #[inline(always)]
     pub fn get(&self, index: u32) -> Result<T>
         requires { index < length (pointer_list_of S.segments self.now.pointers).held }
         ensures { let pointer = pointer_at (pointer_list_of S.segments self.now.pointers) index in

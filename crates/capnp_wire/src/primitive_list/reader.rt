@@ -1,9 +1,11 @@
 //! Lists of numbers that are read.
-ghost use Rattle.std.specs.Prelude.{◌≡◌, ◌*◌, ◌<◌, length, slice_index, MatchResult};
+ghost use Rattle.std.specs.Prelude.{◌≡◌, ◌+◌, ◌*◌, ◌/◌, ◌<◌, ◌≤◌, length, slice_index, MatchResult};
 ghost use Rattle.capnp_wire.specs.Element.{width, words_for};
+ghost use Rattle.capnp_wire.specs.Landing.{room_of};
 
 use crate::any_pointer;
-use crate::layout::object::words_fit;
+use crate::entered::rebuilt;
+use crate::layout::object::{Object, words_fit};
 use crate::layout::place::word;
 use crate::primitive_element::PrimitiveElement;
 use crate::traits::FromPointerReader;
@@ -24,7 +26,7 @@ pub struct Reader<'a, T: PrimitiveElement> {
 impl<'a, T: PrimitiveElement> Reader<'a, T> {
     ghost use Rattle.capnp_wire.specs.NumberViews.{numbers_of, IsNumbers};
     ghost use Rattle.capnp_wire.specs.Views.{Reads, Refuses, DeclinesNumbers};
-    ghost use Rattle.capnp_wire.specs.Readers.{pointer_of};
+    ghost use Rattle.capnp_wire.specs.Readers.{pointer_of, form_of};
 
     /// The number of elements.
     pub fn len(&self) -> u32
@@ -45,7 +47,21 @@ impl<'a, T: PrimitiveElement> Reader<'a, T> {
     }
 
     // The list that a pointer leads to.
+    #[inline(always)]
     fn read<S: ReaderSegments>(reader: &any_pointer::Reader<'a, S>) -> Result<Reader<'a, T>>
+        ensures { let pointer = pointer_of S.segments reader.now in MatchResult result
+            (λ view. Reads pointer (λ form. IsNumbers T.code form (numbers_of T.code view)))
+            (λ error. Refuses pointer (DeclinesNumbers T.code) error.kind) }
+    {
+        match reader.enter_near_numbers(T::size()) {
+            Some(object) => Reader::in_object(&object),
+            None => rebuilt(Reader::enter(&reader.again())),
+        }
+    }
+
+    // The list that a pointer leads to, which may stand anywhere.
+    #[inline(never)]
+    fn enter<S: ReaderSegments>(reader: &any_pointer::Reader<'a, S>) -> Result<Reader<'a, T>>
         ensures { let pointer = pointer_of S.segments reader.now in MatchResult result
             (λ view. Reads pointer (λ form. IsNumbers T.code form (numbers_of T.code view)))
             (λ error. Refuses pointer (DeclinesNumbers T.code) error.kind) }
@@ -57,6 +73,18 @@ impl<'a, T: PrimitiveElement> Reader<'a, T> {
                 element: PhantomData,
             });
         };
+        Reader::in_object(&object)
+    }
+
+    // The list that an object is.
+    #[inline(always)]
+    fn in_object(object: &Object<'a>) -> Result<Reader<'a, T>>
+        requires { object.now.start.word + room_of object.now.body
+            ≤ length object.now.segment.now / 8 }
+        ensures { MatchResult result
+            (λ view. IsNumbers T.code (form_of object.now) (numbers_of T.code view))
+            (λ error. DeclinesNumbers T.code (form_of object.now) error.kind) }
+    {
         let list = object.numbers(T::size())?;
         Ok(Reader {
             bytes: list.bytes,
@@ -82,6 +110,7 @@ impl<'a, S: ReaderSegments, T: PrimitiveElement> FromPointerReader<'a, S> for Re
 
     ghost declines = { λ pointer kind. Declines pointer (DeclinesNumbers T.code) kind };
 
+    #[inline(always)]
     fn get_from_pointer(reader: any_pointer::Reader<'a, S>) -> Result<Self>
         ensures { let pointer = pointer_of S.segments reader.entry in IsViewOf pointer
             (λ view. Reads pointer (λ form. IsNumbers T.code form (numbers_of T.code view)))

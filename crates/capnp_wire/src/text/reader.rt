@@ -1,9 +1,13 @@
 //! Texts that are read.
-ghost use Rattle.std.specs.Prelude.{◌≡◌, ◌++◌, ◌∷◌, [], ℕ, List, length, MatchResult, MatchOption};
+ghost use Rattle.std.specs.Prelude.{◌≡◌, ◌+◌, ◌/◌, ◌≤◌, ◌++◌, ◌∷◌, [], ℕ, List, length, MatchResult, MatchOption};
+ghost use Rattle.capnp_wire.specs.Landing.{room_of};
 ghost use Rattle.capnp_wire.specs.Views.{IsViewOf, Accepts, Reads, Refuses, Declines, IsText, TakesText, DeclinesText};
-ghost use Rattle.capnp_wire.specs.Readers.{pointer_of};
+ghost use Rattle.capnp_wire.specs.Readers.{pointer_of, form_of};
 
 use crate::any_pointer;
+use crate::entered::rebuilt;
+use crate::layout::element::ElementSize;
+use crate::layout::object::Object;
 use crate::traits::FromPointerReader;
 use capnp_frame::message::ReaderSegments;
 use capnp_frame::{Error, ErrorKind, Result};
@@ -41,6 +45,7 @@ impl<'a, S: ReaderSegments> FromPointerReader<'a, S> for Reader<'a> {
 
     ghost declines = { λ pointer kind. Declines pointer DeclinesText kind };
 
+    #[inline(always)]
     fn get_from_pointer(reader: any_pointer::Reader<'a, S>) -> Result<Self>
         ensures { let pointer = pointer_of S.segments reader.entry in IsViewOf pointer
             (λ view. Reads pointer (λ form. IsText form view.bytes.now))
@@ -52,7 +57,21 @@ impl<'a, S: ReaderSegments> FromPointerReader<'a, S> for Reader<'a> {
 }
 
 // The text of a list of bytes.
+#[inline(always)]
 fn read_text<'a, S: ReaderSegments>(reader: &any_pointer::Reader<'a, S>) -> Result<Reader<'a>>
+    ensures { let pointer = pointer_of S.segments reader.now in MatchResult result
+        (λ view. Reads pointer (λ form. IsText form view.bytes.now))
+        (λ error. Refuses pointer DeclinesText error.kind) }
+{
+    match reader.enter_near_numbers(ElementSize::Byte) {
+        Some(object) => text_in(&object),
+        None => rebuilt(enter_text(&reader.again())),
+    }
+}
+
+// The text of a list of bytes that may stand anywhere.
+#[inline(never)]
+fn enter_text<'a, S: ReaderSegments>(reader: &any_pointer::Reader<'a, S>) -> Result<Reader<'a>>
     ensures { let pointer = pointer_of S.segments reader.now in MatchResult result
         (λ view. Reads pointer (λ form. IsText form view.bytes.now))
         (λ error. Refuses pointer DeclinesText error.kind) }
@@ -60,6 +79,17 @@ fn read_text<'a, S: ReaderSegments>(reader: &any_pointer::Reader<'a, S>) -> Resu
     let Some(object) = reader.enter()? else {
         return Ok(Reader { bytes: &[] });
     };
+    text_in(&object)
+}
+
+// The text that an object holds.
+#[inline(always)]
+fn text_in<'a>(object: &Object<'a>) -> Result<Reader<'a>>
+    requires { object.now.start.word + room_of object.now.body
+        ≤ length object.now.segment.now / 8 }
+    ensures { MatchResult result (λ view. IsText (form_of object.now) view.bytes.now)
+        (λ error. DeclinesText (form_of object.now) error.kind) }
+{
     let bytes = object.bytes()?;
     match before_zero(bytes) {
         Some(bytes) => Ok(Reader { bytes }),

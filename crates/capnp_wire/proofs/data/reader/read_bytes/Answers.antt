@@ -1,21 +1,13 @@
--- The bytes are those of the list that the pointer leads to.
-use Rattle.std.proofs.Common.{inr, refl, sym, subst}
-use Rattle.std.proofs.lemmas.Result.{err_from_is_err_and}
+-- The bytes of a list of bytes in the pointer's segment are those of the pointer.
 use Rattle.capnp_wire.specs.Views.{IsData, DeclinesNumbers}
-use Rattle.capnp_wire.specs.Readers.{pointer_of, IsEntered}
-use Rattle.capnp_wire.proofs.views.FormLemmas.{entered_shows, entered_reads}
+use Rattle.capnp_wire.specs.Readers.{pointer_of}
+use Rattle.capnp_wire.proofs.views.FormLemmas.{entered_view}
 use Rattle.capnp_wire.proofs.data.reader.read_bytes.Goals as goal
 
-pub returns-in_err-bytes : goal.returns-in_err-bytes
-returns-in_err-bytes g c =
-    let p = err_from_is_err_and c.from_residual-in_err-bytes.result c.from_residual-in_err-bytes.ensures.1 in
+pub returns-in-Some : goal.returns-in-Some
+returns-in-Some g c =
     let pointer = pointer_of g.S.ReaderSegments.segments c.args.reader.now in
-    let entered : IsEntered pointer c.in-Some.object = rw c.in-Some.is at c.in_ok-object.ensures.found in
-    rw (p.1, p.2) (inr (entered_shows pointer c.in-Some.object (λ form. DeclinesNumbers 2 form c.in_err-bytes.field-0.0.kind) entered c.in_err-bytes.ensures))
+    entered_view pointer c.in-Some.object (λ bytes form. IsData form bytes.now) (DeclinesNumbers 2) c.bytes_in.result c.in-Some.ensures c.bytes_in.ensures
 
-pub returns : goal.returns
-returns g c =
-    let pointer = pointer_of g.S.ReaderSegments.segments c.args.reader.now in
-    let entered : IsEntered pointer c.in-Some.object = rw c.in-Some.is at c.in_ok-object.ensures.found in
-    let bytes = c.in_ok-bytes.bytes.now in
-    entered_reads pointer c.in-Some.object (λ form. IsData form bytes) entered (subst (λ form. IsData form bytes) (sym c.in_ok-bytes.ensures) (refl, refl))
+pub returns-in-None : goal.returns-in-None
+returns-in-None g c = rw c.rebuilt.ensures (rw c.again.ensures at c.enter_bytes.ensures)
