@@ -5,6 +5,7 @@ ghost use Rattle.capnp_build.specs.Bytes.{IsOverwritten};
 ghost use Rattle.capnp_build.specs.Filled.{IsFilled};
 
 use capnp_frame::Word;
+use capnp_wire::pointer_word::word_of;
 use capnp_wire::traits::SetterInput;
 
 /// The bytes of a segment. How many there are, and whether they are caller-provided, stays as it is.
@@ -72,7 +73,8 @@ impl SegmentSpace for Vec<u8> {
         canonical: bool,
         value: &V,
     ) -> Word {
-        value.write(canonical, &mut self[from..to])
+        let copied = value.write(canonical, &mut self[from..to], 0, 0);
+        word_of(copied.pointer)
     }
 }
 
@@ -100,6 +102,7 @@ impl<'a> SegmentSpace for &'a mut [u8] {
         canonical: bool,
         value: &V,
     ) -> Word {
-        value.write(canonical, &mut self[from..to])
+        let copied = value.write(canonical, &mut self[from..to], 0, 0);
+        word_of(copied.pointer)
     }
 }

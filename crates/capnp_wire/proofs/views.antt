@@ -8,3 +8,4 @@ pub mod UpgradedPointerLemmas
 pub mod ValueLemmas
 pub mod SetterLemmas
 pub mod OneValueLemmas
+pub mod PartWordLemmas
