@@ -110,7 +110,7 @@ null_at None p trees result e told is = told.1 (nowhere e) ∙ sym (ap starts_wi
 null_at (Some place) p trees result e told is =
     same_bool result (starts_with_null trees)
     (λ yes. elim (told.0 yes) [
-      | nowhere none ↦ absurd (cc)
+      | nowhere empty ↦ absurd (cc)
       | at_place {place = other} g object deep ↦
           (let same : other ≡ place = cc in null_starts p.message place trees is.traversed is.stand (subst (λ (x : Place). PointsTo p.message x nothing) same object))
     ])
