@@ -6,7 +6,6 @@ pub mod RowLemmas
 pub mod StructLemmas
 pub mod StructListLemmas
 pub mod StructRowLemmas
-pub mod StructRowEndLemmas
 pub mod StructListValueLemmas
 pub mod SectionLemmas
 pub mod NullLemmas
@@ -14,3 +13,8 @@ pub mod ItemLemmas
 pub mod ItemRowLemmas
 pub mod PointerListLemmas
 pub mod NumberListLemmas
+pub mod MeasuredLemmas
+pub mod FilledLemmas
+pub mod FillRowLemmas
+pub mod RowMeasureLemmas
+pub mod KeptRowLemmas

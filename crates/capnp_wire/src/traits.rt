@@ -5,8 +5,8 @@ ghost use Rattle.capnp_frame.specs.declared.error.ErrorKind.{ErrorKind};
 ghost use Rattle.capnp_wire.specs.Views.{Pointer, IsViewOf};
 ghost use Rattle.capnp_wire.specs.Readers.{pointer_of};
 ghost use Rattle.capnp_wire.specs.Pointer.{words_of};
-ghost use Rattle.capnp_wire.specs.Tree.{Trees, count};
-ghost use Rattle.capnp_wire.specs.Layout.{formed};
+ghost use Rattle.capnp_wire.specs.Tree.{Trees, count, total_words};
+ghost use Rattle.capnp_wire.specs.Layout.{body, formed};
 ghost use Rattle.capnp_wire.specs.Copy.{IsCopied};
 ghost use Rattle.capnp_wire.specs.Values.{HasWords, LacksWords, HasPart, HasRoomAt, IsFreeFrom, starts_with_null};
 ghost use Rattle.capnp_wire.specs.declared.traits.PartWords.{PartWords};
@@ -111,6 +111,8 @@ pub trait SetterInput<T> {
         ensures written { (trees : Trees) → has_tree self.now trees →
             IsCopied (formed canonical trees) (next - following) next
             (words_of block.old) (words_of block.new) result }
+        ensures long { (trees : Trees) → has_tree self.now trees →
+            length (body (formed canonical trees)) ≡ total_words (formed canonical trees) }
         ensures len { length block.new ≡ length block.old };
 
     /// What a value is, is one tree.

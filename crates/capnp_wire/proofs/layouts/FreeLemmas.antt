@@ -137,17 +137,20 @@ pub zero_part : (bytes : List ℕ) (k n : ℕ) → bytes ≡ replicate (length b
 zero_part bytes k n zeros room =
     ap (λ (l : List ℕ). take n (drop k l)) zeros ∙ ap (λ (l : List ℕ). take n l) (drop-replicate k (length bytes) 0) ∙ take-replicate n (length bytes - k) 0 (omega (arith, room))
 
+-- where a value is one tree, which has room, that has as many words as its body
+pub body_long : (h : Trees → Type 0) (c : Bool) (next room : ℕ) → ((a b : Trees) → h a → h b → a ≡ b) → HasRoomAt h c next room → (trees : Trees) → h trees
+    → length (body (formed c trees)) ≡ total_words (formed c trees)
+body_long h c next room one w trees is = length-body (formed c trees) (room_formed c trees (subst AllHaveRoom (one w.trees trees w.tree_is is) w.rooms))
+
 -- a value that is measured, in a block of just its words
 pub has_room : (h : Trees → Type 0) (c : Bool) (n room : ℕ) → HasWords h c n → n ≡ room → HasRoomAt h c 0 room
 has_room h c n room w is = record { trees = w.trees; tree_is = w.tree_is; rooms = w.rooms; fits = omega (arith, w.words_are, is) }
 
-pub whole_written : (c : Bool) (trees : Trees) (old new : List ℕ) (copied : Copied) → AllHaveRoom trees → total_words (formed c trees) ≡ length old → IsCopied (formed c trees) (0 - 0) 0 old new copied
-    → copied.pointer ∷ new ≡ layout (formed c trees)
-whole_written c trees old new copied rooms long is =
-    let size : length (body (formed c trees)) ≡ length old = length-body (formed c trees) (room_formed c trees rooms) ∙ long in
+pub whole_written : (trees : Trees) (old new : List ℕ) (copied : Copied) → length (body trees) ≡ length old → IsCopied trees (0 - 0) 0 old new copied → copied.pointer ∷ new ≡ layout trees
+whole_written trees old new copied size is =
     let none : 0 - 0 ≡ 0 = omega arith in
-    ap (λ (p : ℕ). p ∷ new) (is.pointer_is ∙ ap (λ (n : ℕ). pointer_to (formed c trees) n) none)
-    ∙ ap (λ (l : List ℕ). pointer_to (formed c trees) 0 ∷ l) (is.words_are ∙ put_whole (body (formed c trees)) old size)
+    ap (λ (p : ℕ). p ∷ new) (is.pointer_is ∙ ap (λ (n : ℕ). pointer_to trees n) none)
+    ∙ ap (λ (l : List ℕ). pointer_to trees 0 ∷ l) (is.words_are ∙ put_whole (body trees) old size)
 
 -- null that is put there
 null_formed : (c : Bool) → formed c (tree null none none) ≡ tree null none none

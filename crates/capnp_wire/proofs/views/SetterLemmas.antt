@@ -12,7 +12,7 @@ use Rattle.capnp_wire.specs.Pointer.{number_of, words_of}
 use Rattle.capnp_wire.specs.Tree.{Form, null, Trees, none, tree, total_words}
 use Rattle.capnp_wire.specs.Trim.{trim, trim_form, trim_held}
 use Rattle.capnp_wire.specs.Reached.{At, nowhere, at, root}
-use Rattle.capnp_wire.specs.Layout.{layout, canon, formed, AllHaveRoom, AllReach}
+use Rattle.capnp_wire.specs.Layout.{body, layout, canon, formed, AllHaveRoom, AllReach}
 use Rattle.capnp_wire.specs.Canonical.{IsCanonical}
 use Rattle.capnp_wire.specs.Views.{Pointer}
 use Rattle.capnp_wire.specs.Block.{numbers_of}
@@ -23,6 +23,8 @@ use Rattle.capnp_wire.specs.declared.layout.place.Place.{Place}
 use Rattle.capnp_wire.proofs.forms.CanonLemmas.{root_of_canon, canon_tells}
 use Rattle.capnp_wire.proofs.layouts.LayoutLemmas.{small_reaches}
 use Rattle.capnp_wire.proofs.trees.TrimLemmas.{trim_twice}
+use Rattle.capnp_wire.proofs.layouts.SizeLemmas.{length-body}
+use Rattle.capnp_wire.proofs.layouts.OpenLemmas.{room_formed}
 use Rattle.capnp_wire.proofs.layouts.FreeLemmas.{whole_written}
 use Rattle.capnp_wire.proofs.objects.PartLemmas.{one_word}
 use Rattle.capnp_wire.proofs.words.WordLemmas.{length-words_of}
@@ -64,6 +66,9 @@ after_eight old block some long =
     ap (λ (n : ℕ). drop n (take 8 old ++ (block ++ drop (length old - 8) (drop 8 old)))) (sym eight) ∙ drop-append_seam (take 8 old) (block ++ drop (length old - 8) (drop 8 old))
     ∙ ap (λ (l : List ℕ). block ++ l) none ∙ append-nil block
 
+size_of : (trees : Trees) → AllHaveRoom trees → length (body (formed true trees)) ≡ total_words (formed true trees)
+size_of trees rooms = length-body (formed true trees) (room_formed true trees rooms)
+
 pub whole_form : (p : Pointer) (copied : Copied) (front old held block : List ℕ) → front ≡ to_le_bytes w64 copied.pointer → copied.pointer < 2 ^ 64
     → length front ≡ length (take 8 (take 8 old ++ (block ++ drop (length old - 8) (drop 8 old)))) → (w : (following : ℕ) × HasWords (LeadsToTree p) true following × (length old ≡ 8 * (following + 1)))
     → length block ≡ length old - 8 → length held ≡ length old - 8
@@ -90,7 +95,7 @@ whole_form p copied front old held block front_is small room w long held_long wr
       rooms = h.rooms;
       few = omega (arith, h.words_are, h.few);
       words_are = ap (λ (l : List ℕ). words_of (front ++ l)) rest ∙ parts ∙ ap (λ (l : List ℕ). l ++ words_of block) head
-          ∙ whole_written true h.trees (words_of held) (words_of block) copied h.rooms total (written h.trees h.tree_is);
+          ∙ whole_written (formed true h.trees) (words_of held) (words_of block) copied (size_of h.trees h.rooms ∙ total) (written h.trees h.tree_is);
     }
 
 -- the same in words
@@ -110,7 +115,7 @@ words_form p copied word (x ∷ xs) held block word_is w long written =
       rooms = h.rooms;
       few = omega (arith, h.words_are, h.few);
       words_are = ap (λ (l : List Word). numbers_of (word ∷ l)) whole ∙ ap (λ (n : ℕ). n ∷ numbers_of block) word_is
-          ∙ whole_written true h.trees (numbers_of held) (numbers_of block) copied h.rooms total (written h.trees h.tree_is);
+          ∙ whole_written (formed true h.trees) (numbers_of held) (numbers_of block) copied (size_of h.trees h.rooms ∙ total) (written h.trees h.tree_is);
     }
 
 one_root : (m : List (List ℕ)) (place : Place) (trees : Trees) (traversed : ℕ) → At m (place ∷ []) trees traversed → (f : Form) × (h : Trees) × (trees ≡ tree f h none)

@@ -2,11 +2,13 @@
 use Rattle.std.proofs.Common.{◌≡◌, ◌≢◌, ◌-◌, ◌^◌, ◌<◌, None, length, sym, ◌∙◌, subst, refl, arith}
 use Rattle.capnp_wire.specs.Pointer.{words_of}
 use Rattle.capnp_wire.specs.Object.{message_of}
-use Rattle.capnp_wire.specs.Readers.{limit_of}
+use Rattle.capnp_wire.specs.Readers.{struct_of, limit_of}
 use Rattle.capnp_wire.specs.Views.{Struct}
 use Rattle.capnp_wire.specs.Values.{HasRoomAt, IsTreeOf}
 use Rattle.capnp_wire.proofs.objects.FieldLemmas.{length-words_from}
 use Rattle.capnp_wire.proofs.objects.PartLemmas.{whole, alone, one_word}
+use Rattle.capnp_wire.proofs.layouts.FreeLemmas.{body_long}
+use Rattle.capnp_wire.proofs.views.OneValueLemmas.{one_of_struct}
 use Rattle.capnp_wire.proofs.any_struct.StructReaderSetterInputOwned.write.Goals as goal
 
 pub write-requires-in-Some-clause-value : goal.write-requires-in-Some-clause-value
@@ -39,3 +41,13 @@ returns-in-Some-clause-written g c trees is =
     let same = alone m (words_of self.segment.now) _ self.start (record { segment = 0; word = 0 }) self.size self.part self.nesting (limit_of self.limiter) c.get_word.result own.0 own.1 refl long c.get_word.ensures
     (one_word c.to_le_bytes.result c.get_word.result small c.to_le_bytes.ensures) in
     c.write-in-Some.ensures.written (limit_of self.limiter) trees (subst (λ (f : Struct). IsTreeOf f trees) (sym same) is)
+
+pub returns-in-None-clause-long : goal.returns-in-None-clause-long
+returns-in-None-clause-long g c trees is =
+    let fields = struct_of g.S.ReaderSegments.segments c.args.self.now in
+    body_long (IsTreeOf fields) c.args.canonical c.args.next _ (one_of_struct fields).same_tree c.requires.value trees is
+
+pub returns-in-Some-clause-long : goal.returns-in-Some-clause-long
+returns-in-Some-clause-long g c trees is =
+    let fields = struct_of g.S.ReaderSegments.segments c.args.self.now in
+    body_long (IsTreeOf fields) c.args.canonical c.args.next _ (one_of_struct fields).same_tree c.requires.value trees is

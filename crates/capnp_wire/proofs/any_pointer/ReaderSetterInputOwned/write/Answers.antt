@@ -1,0 +1,11 @@
+-- A pointer leads to one tree.
+use Rattle.capnp_wire.specs.Readers.{pointer_of}
+use Rattle.capnp_wire.specs.Values.{LeadsToTree}
+use Rattle.capnp_wire.proofs.layouts.FreeLemmas.{body_long}
+use Rattle.capnp_wire.proofs.views.OneValueLemmas.{one_of_pointer}
+use Rattle.capnp_wire.proofs.any_pointer.ReaderSetterInputOwned.write.Goals as goal
+
+pub returns-clause-long : goal.returns-clause-long
+returns-clause-long g c trees is =
+    let p = pointer_of g.S.ReaderSegments.segments c.args.self.now in
+    body_long (LeadsToTree p) c.args.canonical c.args.next _ (one_of_pointer p).same_tree c.requires.value trees is
