@@ -1,11 +1,11 @@
 -- How far rows reach.
-use Rattle.std.proofs.Common.{◌≡◌, ℕ, ◌+◌, ◌<◌, ◌≤◌, ◌^◌, Bool, true, false, refl, sym, ◌∙◌, ap, arith}
+use Rattle.std.proofs.Common.{◌≡◌, ℕ, zero, suc, ◌+◌, ◌<◌, ◌≤◌, ◌^◌, Bool, true, false, refl, sym, ◌∙◌, ap, arith}
 use Rattle.capnp_wire.specs.Tree.{Form, null, struct, numbers, pointers, structs, Trees, none, tree, count, is_null, total_words}
 use Rattle.capnp_wire.specs.Trim.{keep_tree, cut_nulls, trim, trim_form, trim_held}
 use Rattle.capnp_wire.specs.Layout.{AllHaveRoom}
 use Rattle.capnp_wire.proofs.trees.TrimLemmas.{total-trim, count-trim}
 use Rattle.capnp_wire.proofs.trees.ChunkLemmas.{total-cut, count-cut}
-use Rattle.capnp_values.specs.Fields.{IsSettled, kept_row, extent_of}
+use Rattle.capnp_values.specs.Fields.{IsSettled, kept_row, is_left_out, extent_of}
 use Rattle.capnp_values.specs.declared.fields.Extent.{Extent}
 use Rattle.capnp_values.proofs.PartLemmas.{part_total, no_trees}
 
@@ -45,6 +45,43 @@ pub kept_of_some : (c : Bool) (form : Form) (held others : Trees) (kept : ℕ) �
 kept_of_some true form held others kept is some =
     let whole = ap count (kept_some form held others (λ z n. some refl (is ∙ z) n)) in omega (arith, is, whole)
 kept_of_some false form held others kept is some = omega (arith, is)
+
+-- a value that is left out, and one that is not
+pub left_out : (c : Bool) (n : ℕ) (form : Form) → is_left_out c n form ≡ true → (c ≡ true) × (n ≡ 0) × (is_null form ≡ true)
+left_out true zero form e = (refl, refl, e)
+left_out true (suc n) form e = absurd (cc)
+left_out false n form e = absurd (cc)
+
+pub left_in : (c : Bool) (n : ℕ) (form : Form) → is_left_out c n form ≡ false → c ≡ true → n ≡ 0 → is_null form ≡ true → ⊥
+left_in true zero form e canonical none null_is = absurd (cc)
+left_in true (suc n) form e canonical none null_is = omega (arith, none)
+left_in false n form e canonical none null_is = absurd (cc)
+
+pub not_left_out : (c : Bool) (n : ℕ) (form : Form) → c ≡ false → false ≡ is_left_out c n form
+not_left_out true n form e = absurd (cc)
+not_left_out false n form e = refl
+
+pub some_after : (c : Bool) (n : ℕ) (form : Form) → 0 < n → false ≡ is_left_out c n form
+some_after true zero form some = absurd (omega (arith, some))
+some_after true (suc n) form some = refl
+some_after false n form some = refl
+
+pub null_last : (c : Bool) (n : ℕ) (form : Form) (b : Bool) → c ≡ true → n ≤ 0 → b ≡ is_null form → b ≡ is_left_out c n form
+null_last true zero form b e last is = is
+null_last true (suc n) form b e last is = absurd (omega (arith, last))
+null_last false n form b e last is = absurd (cc)
+
+pub kept_left_out : (c : Bool) (form : Form) (held others trees : Trees) (n : ℕ) → trees ≡ tree form held others → n ≡ count (kept_row c others) → is_left_out c n form ≡ true
+    → 0 ≡ count (kept_row c trees)
+kept_left_out false form held others trees n whole is e = absurd (cc)
+kept_left_out true form held others trees n whole is e =
+    let l = left_out true n form e in
+    sym (ap (λ (t : Trees). count (cut_nulls (trim t))) whole ∙ kept_of_null form held others (sym is ∙ l.1) l.2)
+
+pub kept_left_in : (c : Bool) (form : Form) (held others trees : Trees) (n : ℕ) → trees ≡ tree form held others → n ≡ count (kept_row c others) → is_left_out c n form ≡ false
+    → n + 1 ≡ count (kept_row c trees)
+kept_left_in c form held others trees n whole is e =
+    kept_of_some c form held others n is (left_in c n form e) ∙ sym (ap (λ (t : Trees). count (kept_row c t)) whole)
 
 same_extent : (a b : Extent) → a.pointers ≡ b.pointers → a.words ≡ b.words → a.standing ≡ b.standing → a ≡ b
 same_extent a b p w s =

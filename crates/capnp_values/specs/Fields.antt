@@ -1,7 +1,7 @@
 -- Rows of pointer fields (src/fields.rt).
-use Rattle.std.specs.Prelude.{◌≡◌, ◌⊎◌, ℕ, ◌+◌, ◌*◌, ◌^◌, ◌<◌, ◌≤◌, Bool, true, false, List}
+use Rattle.std.specs.Prelude.{◌≡◌, ◌⊎◌, ℕ, zero, suc, ◌+◌, ◌*◌, ◌^◌, ◌<◌, ◌≤◌, Bool, true, false, List}
 use Rattle.capnp_frame.specs.declared.error.ErrorKind.{ErrorKind}
-use Rattle.capnp_wire.specs.Tree.{Form, Trees, none, tree, count, total_words}
+use Rattle.capnp_wire.specs.Tree.{Form, is_null, Trees, none, tree, count, total_words}
 use Rattle.capnp_wire.specs.Trim.{cut_nulls, first, trim}
 use Rattle.capnp_wire.specs.Layout.{run, formed, AllHaveRoom}
 use Rattle.capnp_wire.specs.Block.{fill}
@@ -39,6 +39,12 @@ pub record IsSettled (size : ℕ) (trees : Trees) : Type 0 where
 abbrev pub kept_row : Bool → Trees → Trees
 kept_row true trees = cut_nulls (trim trees)
 kept_row false trees = trees
+
+-- A value is left out of a row that keeps n pointers after it: in canonical form a null one, where it keeps none.
+abbrev pub is_left_out : Bool → ℕ → Form → Bool
+is_left_out true zero form = is_null form
+is_left_out true (suc n) form = false
+is_left_out false n form = false
 
 abbrev pub extent_of : Bool → Trees → Extent
 extent_of canonical trees = record {

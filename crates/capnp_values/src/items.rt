@@ -24,10 +24,9 @@ pub(crate) fn measure_items<T, V: SetterInput<T>>(items: &[V], canonical: bool) 
     };
     for index in 0..items.len() {
         let own = items[index].measure_part(canonical)?;
-        words = TreeWords {
-            standing: words.standing + own.standing as u64,
-            formed: words.formed + own.formed as u64,
-        };
+        let standing = words.standing + own.standing as u64;
+        let formed = words.formed + own.formed as u64;
+        words = TreeWords { standing, formed };
     }
     Ok(words)
 }

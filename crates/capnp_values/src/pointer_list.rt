@@ -80,8 +80,7 @@ fn measure_list<T, V: SetterInput<T>>(items: &[V], canonical: bool) -> Result<Tr
         return Err(too_many(count));
     }
     let words = measure_items::<T, V>(items, canonical)?;
-    Ok(TreeWords {
-        standing: count + words.standing,
-        formed: count + words.formed,
-    })
+    let standing = count + words.standing;
+    let formed = count + words.formed;
+    Ok(TreeWords { standing, formed })
 }

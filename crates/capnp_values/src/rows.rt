@@ -86,11 +86,13 @@ fn with_row(reach: Reach, data_words: usize, extent: Extent) -> Reach
     requires standing { reach.standing + extent.standing < 2 ^ 64 }
     ensures { result ≡ reached reach data_words extent }
 {
+    let words = reach.words + extent.words;
+    let standing = reach.standing + extent.standing;
     Reach {
         data_words: reach.data_words.max(data_words),
         pointers: reach.pointers.max(extent.pointers),
-        words: reach.words + extent.words,
-        standing: reach.standing + extent.standing,
+        words,
+        standing,
     }
 }
 

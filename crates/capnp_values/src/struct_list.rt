@@ -80,12 +80,11 @@ fn measure_list<E: Fields + Element>(items: &[E], canonical: bool) -> Result<Tre
     let count = items.len();
     elements_fit(count, E::data_words(), E::count())?;
     let reach = measure_rows(items, canonical)?;
-    let standing = count * (E::data_words() + E::count() as usize);
+    let all = count * (E::data_words() + E::count() as usize);
     let kept = count * (reach.data_words + reach.pointers as usize);
-    Ok(TreeWords {
-        standing: 1 + standing as u64 + reach.standing,
-        formed: 1 + kept as u64 + reach.words,
-    })
+    let standing = 1 + all as u64 + reach.standing;
+    let formed = 1 + kept as u64 + reach.words;
+    Ok(TreeWords { standing, formed })
 }
 
 // A pointer and a tag can tell as many structs of this size.

@@ -86,10 +86,9 @@ fn measure_struct<F: Fields>(words: &[u64], fields: &F, canonical: bool) -> Resu
     words_fit(words);
     let extent = fields.measure(canonical)?;
     let data = kept_data(words, canonical) as u64;
-    Ok(TreeWords {
-        standing: words.len() as u64 + F::count() as u64 + extent.standing,
-        formed: data + extent.pointers as u64 + extent.words,
-    })
+    let standing = words.len() as u64 + F::count() as u64 + extent.standing;
+    let formed = data + extent.pointers as u64 + extent.words;
+    Ok(TreeWords { standing, formed })
 }
 
 // The fields alone.

@@ -137,3 +137,19 @@ fn structs_as_values(rt: HostRuntime) -> std::result::Result<(), Fail> {
     );
     Ok(())
 }
+
+// A text in a block, after a word that stays, and before one that does.
+#[test]
+fn inside_a_block(rt: HostRuntime) -> std::result::Result<(), Fail> {
+    let text = "Hello, World!";
+    let mut block = [0; 40];
+    block[..8].copy_from_slice(b"in front");
+    let copied = SetterInput::<text::Owned>::write(&text, false, &mut block, 1, 2);
+    assert_eq!(rt; copied.pointer.to_le_bytes(), *b"\x05\0\0\0\x72\0\0\0");
+    assert_eq!(rt; copied.next, 4);
+    assert_eq!(rt;
+        &block[..],
+        b"in front\0\0\0\0\0\0\0\0Hello, World!\0\0\0\0\0\0\0\0\0\0\0".as_slice()
+    );
+    Ok(())
+}

@@ -2,8 +2,7 @@
 ghost use Rattle.std.specs.Prelude.{◌≡◌, ◌<◌, ◌^◌};
 ghost use Rattle.capnp_wire.specs.Tree.{Form, Trees, none, tree, total_words};
 ghost use Rattle.capnp_wire.specs.Layout.{formed};
-ghost use Rattle.capnp_wire.specs.Values.{HasPart};
-ghost use Rattle.capnp_values.specs.Fields.{IsPart, extent_of};
+ghost use Rattle.capnp_values.specs.Fields.{IsPart, is_left_out, extent_of};
 
 use crate::fields::{Extent, Fields};
 use capnp_frame::Result;
@@ -67,7 +66,7 @@ impl<T, V: SetterInput<T>, F: Fields> Fields for Field<T, V, F> {
 
     fn kept(&self, canonical: bool) -> u32 {
         let rest = self.rest.kept(canonical);
-        if canonical && rest == 0 && self.value.is_null() {
+        if is_left_out(&self.value, canonical, rest) {
             return 0;
         }
         rest + 1
@@ -93,7 +92,6 @@ impl<T, V: SetterInput<T>, F: Fields> Fields for Field<T, V, F> {
 
 // How far a row reaches with one more value in front, of these words.
 fn front<T, V: SetterInput<T>>(value: &V, canonical: bool, own: PartWords, rest: Extent) -> Extent
-    requires has { HasPart (V.has_tree value.now) canonical own }
     requires pointers { rest.pointers < 2 ^ 16 }
     requires words { rest.words < 2 ^ 46 }
     requires standing { rest.standing < 2 ^ 46 }
@@ -104,16 +102,32 @@ fn front<T, V: SetterInput<T>>(value: &V, canonical: bool, own: PartWords, rest:
         result ≡ extent_of canonical (tree form held others) }
 {
     let standing = own.standing as u64 + rest.standing;
-    if canonical && rest.pointers == 0 && value.is_null() {
+    if is_left_out(value, canonical, rest.pointers) {
         return Extent {
             pointers: 0,
             words: 0,
             standing,
         };
     }
+    let words = own.formed as u64 + rest.words;
+    let pointers = rest.pointers + 1;
     Extent {
-        pointers: rest.pointers + 1,
-        words: own.formed as u64 + rest.words,
+        pointers,
+        words,
         standing,
     }
+}
+
+// Whether a value is left out of a row that keeps so many pointers after it.
+fn is_left_out<T, V: SetterInput<T>>(value: &V, canonical: bool, after: u32) -> bool
+    ensures { (form : Form) (held : Trees) → IsPart (V.has_tree value.now) form held →
+        result ≡ is_left_out canonical after form }
+{
+    if !canonical {
+        return false;
+    }
+    if after > 0 {
+        return false;
+    }
+    value.is_null()
 }
