@@ -10,9 +10,10 @@ use Rattle.capnp_wire.specs.Element.{width, words_for}
 use Rattle.capnp_wire.specs.Tree.{numbers, Trees, none, tree, total_words}
 use Rattle.capnp_wire.specs.Layout.{own, formed, AllHaveRoom}
 use Rattle.capnp_wire.specs.Block.{put}
-use Rattle.capnp_wire.specs.Values.{HasWords}
+use Rattle.capnp_wire.specs.Values.{HasWords, HasRoomAt}
 use Rattle.capnp_wire.proofs.words.WordLemmas.{length-words_of}
 use Rattle.capnp_wire.proofs.words.PutLemmas.{put_mid_words}
+use Rattle.capnp_wire.proofs.layouts.FreeLemmas.{numbers_total as numbers_total_of}
 use Rattle.capnp_wire.proofs.views.OneValueLemmas.{IsOne}
 use Rattle.capnp_wire.proofs.objects.ElementLemmas.{low_digit, high_digits}
 use Rattle.capnp_wire.proofs.words.DigitLemmas.{number_below, pow-mul}
@@ -181,3 +182,11 @@ digit_at f code each m i last word items some known each_is within m_is last_is 
 
 pub list_fits : (code : ℕ) (bits : List ℕ) (trees : Trees) → IsNumberList code bits trees → AllHaveRoom trees → All (λ v. v < 2 ^ width code) bits
 list_fits code bits trees is rooms = (subst AllHaveRoom is.1 rooms).0.3
+
+-- a list that has room in a block
+pub list_room : {V : Type 0} (code : ℕ) (f : V → ℕ) (items : List V) (c : Bool) (next room : ℕ) → HasRoomAt (λ t. IsNumberList code (map f items) t) c next room
+    → (length items < 2 ^ 29) × (next + words_for (length items) (width code) ≤ room)
+list_room code f items c next room w =
+    let same : length (map f items) ≡ length items = length-map items f in
+    let total = numbers_total_of c code (map f items) w.trees w.tree_is.1 in
+    (omega (arith, w.tree_is.0, same), omega (arith, w.fits, total, ap (λ (k : ℕ). words_for k (width code)) same))

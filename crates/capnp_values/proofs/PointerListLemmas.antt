@@ -1,16 +1,18 @@
 -- Lists of pointers.
 use Rattle.std.proofs.Common.{◌≡◌, ℕ, ◌+◌, ◌<◌, ◌≤◌, ◌^◌, Bool, true, false, List, length, Result, Ok, Err, inl, inr, refl, sym, ◌∙◌, ap, subst, arith}
-use Rattle.std.specs.Result.{IsErrAnd}
+use Rattle.std.specs.Prelude.{min, ◌-◌}
 use Rattle.capnp_frame.specs.declared.error.Error.{Error}
 use Rattle.capnp_frame.specs.declared.error.ErrorKind.{ErrorKind}
+use Rattle.capnp_frame.specs.declared.error.ErrorKind.TheVariants.{AllocationTooLarge}
 use Rattle.capnp_wire.specs.Tree.{pointers, Trees, none, tree, count, total_words}
 use Rattle.capnp_wire.specs.Layout.{list_pointer, run, formed, AllHaveRoom}
 use Rattle.capnp_wire.specs.Block.{fill}
 use Rattle.capnp_wire.specs.Copy.{IsCopied}
+use Rattle.capnp_wire.specs.Values.{HasRoomAt}
 use Rattle.capnp_wire.proofs.trees.TrimLemmas.{count-trim}
 use Rattle.capnp_wire.proofs.layouts.OpenLemmas.{room_formed}
 use Rattle.capnp_values.specs.Measured.{tree_words, Measures}
-use Rattle.capnp_values.specs.Lists.{AreItems, RefusesItems, IsPointerList, RefusesPointerList}
+use Rattle.capnp_values.specs.Lists.{AreItems, RefusesItems, HasRoomForItems, IsPointerList, RefusesPointerList}
 use Rattle.capnp_values.specs.declared.measured.TreeWords.{TreeWords}
 use Rattle.capnp_values.proofs.ItemLemmas.{items_settled, same_tree_words, MeasuresItems}
 use Rattle.capnp_values.proofs.FilledLemmas.{list_filled}
@@ -27,6 +29,22 @@ pub list_total : (c : Bool) (held : Trees) → total_words (formed c (tree point
 list_total c held =
     let whole : total_words (formed c (tree pointers held none)) ≡ count (formed c held) + total_words (formed c held) + 0 = ap total_words (list_formed c held) in
     omega (arith, whole, count_formed c held)
+
+-- the words of the list of some values, which has room
+pub values_total : {V : Type 0} (h : V → Trees → Type 0) (vs : List V) (c : Bool) (t : Trees) (is : IsPointerList h vs t) → total_words (formed c t) ≡ length vs + total_words (formed c is.held)
+values_total h vs c t is =
+    let whole : total_words (formed c t) ≡ total_words (formed c (tree pointers is.held none)) = ap (λ (a : Trees). total_words (formed c a)) is.whole in
+    omega (arith, whole, list_total c is.held, (items_settled h vs is.held is.held_is).many)
+
+pub values_rooms : {V : Type 0} (h : V → Trees → Type 0) (vs : List V) (t : Trees) → IsPointerList h vs t → AllHaveRoom t
+values_rooms h vs t is =
+    let s = items_settled h vs is.held is.held_is in
+    subst AllHaveRoom (sym is.whole) (omega (arith, s.many, is.few), s.rooms, tt)
+
+pub values_begin : {V : Type 0} (h : V → Trees → Type 0) (vs : List V) (c : Bool) (next room : ℕ) → HasRoomAt (λ t. IsPointerList h vs t) c next room
+    → HasRoomForItems (λ t. AreItems h vs t) c (next + length vs) room
+values_begin h vs c next room w =
+    record { trees = w.tree_is.held; trees_are = w.tree_is.held_is; fits = omega (arith, w.fits, values_total h vs c w.trees w.tree_is) }
 
 -- what is measured of the list of some values
 list_words : (c : Bool) (n : ℕ) (held trees : Trees) (words : TreeWords) → trees ≡ tree pointers held none → count held ≡ n → words ≡ tree_words c held
@@ -62,12 +80,14 @@ list_measured h r vs c returned words few was m =
 
 -- it is refused: for its length, or for one of the values
 pub list_too_long : {V : Type 0} (h : V → Trees → Type 0) (r : V → ErrorKind → Type 0) (vs : List V) (c : Bool) (error : Error) → 2 ^ 29 ≤ length vs
-    → ((kind : ErrorKind) → RefusesPointerList h r vs kind → error.kind ≡ kind) → RefusesPointerList h r vs error.kind
-    → Measures (λ t. IsPointerList h vs t) (λ k. RefusesPointerList h r vs k) c (Err error)
-list_too_long h r vs c error many same refused = record {
-  returned = refused;
-  found = λ trees is. absurd (omega (arith, many, is.few));
-  exact = same;
+    → error.kind ≡ AllocationTooLarge (min (length vs) (2 ^ 32 - 1)) → Measures (λ t. IsPointerList h vs t) (λ k. RefusesPointerList h r vs k) c (Err error)
+list_too_long h r vs c error many is = record {
+  returned = inl (many, is);
+  found = λ trees there. absurd (omega (arith, many, there.few));
+  exact = λ kind refused. elim refused [
+    | inl others ↦ (is ∙ sym others.1)
+    | inr others ↦ absurd (omega (arith, many, others.0))
+  ];
 }
 
 pub list_refused : {V : Type 0} (h : V → Trees → Type 0) (r : V → ErrorKind → Type 0) (vs : List V) (c : Bool) (returned : Result TreeWords Error) (error : Error) → length vs < 2 ^ 29
@@ -85,16 +105,15 @@ list_refused h r vs c returned error few was m =
 
 -- what is written of it
 pub list_copied : (c : Bool) (held trees : Trees) (gap next n free tag : ℕ) (old new : List ℕ) → trees ≡ tree pointers held none → n ≡ count held → AllHaveRoom trees → tag ≡ list_pointer gap 6 n
-    → next + total_words (formed c trees) ≤ length old → new ≡ fill (run next n) (next + n) (formed c held) old → free ≡ next + n + total_words (formed c held)
+    → free ≤ length old → new ≡ fill (run next n) (next + n) (formed c held) old → free ≡ next + n + total_words (formed c held)
     → IsCopied (formed c trees) gap next old new (record { pointer = tag; next = free })
 list_copied c held trees gap next n free tag old new whole n_is rooms tag_is fits new_is free_is =
     let x : Trees = formed c held in
     let form_is : formed c trees ≡ tree pointers (formed c held) none = ap (formed c) whole ∙ list_formed c held in
     let all : AllHaveRoom (tree pointers (formed c held) none) = subst AllHaveRoom form_is (room_formed c trees rooms) in
     let many : n ≡ count (formed c held) = n_is ∙ count_formed c held in
-    let total : total_words (formed c trees) ≡ count (formed c held) + total_words (formed c held) = ap total_words form_is ∙ omega arith in
     subst (λ (t : Trees). IsCopied t gap next old new (record { pointer = tag; next = free })) (sym form_is) (record {
-      words_are = new_is ∙ ap (λ (k : ℕ). fill (run next k) (next + k) x old) many ∙ list_filled next x old all.0 all.1 (omega (arith, total, fits));
+      words_are = new_is ∙ ap (λ (k : ℕ). fill (run next k) (next + k) x old) many ∙ list_filled next x old all.0 all.1 (omega (arith, fits, free_is, many));
       pointer_is = tag_is ∙ ap (λ (k : ℕ). list_pointer gap 6 k) many;
       next_is = omega (arith, free_is, many);
     })

@@ -15,6 +15,9 @@ ok_not_err {X = X} r x P is e = subst (λ (a : Result X Error). IsErrAnd a P) is
 pub err_kind : {X : Type 0} (r : Result X Error) (error : Error) (kind : ErrorKind) → r ≡ Err error → IsErrAnd r (λ e. e.kind ≡ kind) → error.kind ≡ kind
 err_kind {X = X} r error kind is e = subst (λ (a : Result X Error). IsErrAnd a (λ e. e.kind ≡ kind)) is e
 
+pub same_parts : (r : Result PartWords Error) (x y : PartWords) → r ≡ Ok x → r ≡ Ok y → x ≡ y
+same_parts r x y a b = cc
+
 -- the first value of a row is refused, or the row after it
 pub refused_first : (h : Trees → Type 0) (r rr : ErrorKind → Type 0) (c : Bool) (returned : Result PartWords Error) (error : Error) (kind : ErrorKind) → returned ≡ Err error
     → ((words : PartWords) → HasPart h c words → returned ≡ Ok words) → ((k : ErrorKind) → LacksWords h r false k → IsErrAnd returned (λ e. e.kind ≡ k)) → RefusesRow h r rr kind

@@ -1,14 +1,17 @@
 -- Rows that are written: the first value, and those after it.
-use Rattle.std.proofs.Common.{◌≡◌, ℕ, suc, ◌+◌, ◌-◌, ◌≤◌, Bool, true, false, List, [], ◌∷◌, length, sym, ◌∙◌, ap, arith}
+use Rattle.std.proofs.Common.{◌≡◌, ℕ, suc, ◌+◌, ◌-◌, ◌/◌, ◌<◌, ◌≤◌, Bool, true, false, List, [], ◌∷◌, length, sym, ◌∙◌, ap, arith}
 use Rattle.capnp_wire.specs.Pointer.{words_of}
 use Rattle.capnp_wire.specs.Tree.{Form, Trees, none, tree, count, total_words}
 use Rattle.capnp_wire.specs.Trim.{first, trim, trim_form, trim_held}
 use Rattle.capnp_wire.specs.Layout.{pointer_to, run, body, formed}
 use Rattle.capnp_wire.specs.Block.{put, fill}
 use Rattle.capnp_wire.specs.Copy.{IsCopied}
-use Rattle.capnp_wire.specs.Values.{HasRoomAt}
+use Rattle.capnp_wire.specs.Values.{HasRoomAt, IsFreeFrom}
 use Rattle.capnp_wire.specs.declared.layout.copy.Copied.{Copied}
+use Rattle.capnp_wire.proofs.words.WordLemmas.{length-words_of}
 use Rattle.capnp_wire.proofs.layouts.CopyLemmas.{fill_step}
+use Rattle.capnp_wire.proofs.layouts.FreeLemmas.{free_after, free_copied}
+use Rattle.capnp_wire.proofs.layouts.OpenLemmas.{room_formed}
 use Rattle.capnp_values.specs.Fields.{IsPart, IsRow, CanWriteRow, IsRowWritten}
 use Rattle.capnp_values.proofs.PartLemmas.{part_total}
 
@@ -53,6 +56,36 @@ pub first_room : (h hs : Trees → Type 0) (c : Bool) (n m next room : ℕ) → 
 first_room h hs c n m next room n_is r =
     let s = row_split h hs c n m next room n_is r in
     record { trees = tree s.form s.held none; tree_is = s.part.tree_is; rooms = s.part.rooms; fits = omega (arith, s.fits) }
+
+-- what is left once the first value is written, and its pointer put
+pub record RowStep (hs : Trees → Type 0) (c : Bool) (slot m : ℕ) (old mid : List ℕ) (copied : Copied) : Type 0 where
+  pub put_room : slot < length (words_of mid)
+  pub before_it : slot + 1 + m ≤ copied.next
+  pub can : (new : List ℕ) → length new ≡ length mid → CanWriteRow hs c m copied.next (length (words_of new))
+  pub free_from : (new : List ℕ) → words_of new ≡ put slot (copied.pointer ∷ []) (words_of mid) → length new ≡ length mid → IsFreeFrom copied.next new
+
+pub row_step : (h hs : Trees → Type 0) (c : Bool) (slot n m next : ℕ) (old mid : List ℕ) (copied : Copied) → n ≡ suc m → CanWriteRow (λ t. IsRow h hs t) c n next (length (words_of old)) → IsFreeFrom next old
+    → slot + n ≤ next → ((t : Trees) → h t → IsCopied (formed c t) (next - (slot + 1)) next (words_of old) (words_of mid) copied) → length mid ≡ length old → RowStep hs c slot m old mid copied
+row_step h hs c slot n m next old mid copied n_is r f before_it own long =
+    let s = row_split h hs c n m next (length (words_of old)) n_is r in
+    let t : Trees = tree s.form s.held none in
+    let d = own (tree s.form s.held none) s.part.tree_is in
+    let same : length (words_of mid) ≡ length (words_of old) = omega (arith, ap (λ (k : ℕ). k / 8) long, length-words_of mid, length-words_of old) in
+    let fits : next + part_total c s.form s.held ≤ length (words_of old) = omega (arith, s.fits) in
+    let after : slot + 1 ≤ copied.next = omega (arith, before_it, n_is, d.next_is) in
+    let room : slot + 1 ≤ length (words_of mid) = omega (arith, before_it, n_is, fits, same) in
+    let mid_free = free_copied (formed c t) (next - (slot + 1)) next old mid copied d (room_formed c t s.part.rooms) long fits f in
+    record {
+      put_room = room;
+      before_it = omega (arith, before_it, n_is, d.next_is);
+      can = λ new new_long. record {
+        trees = s.rest;
+        trees_are = s.others;
+        some = s.some;
+        fits = omega (arith, s.fits, d.next_is, same, ap (λ (k : ℕ). k / 8) new_long, length-words_of new, length-words_of mid);
+      };
+      free_from = λ new put_is new_long. free_after slot copied.next copied.next (copied.pointer ∷ []) mid new put_is new_long after (omega arith) room mid_free;
+    }
 
 -- the first pointer, with what it leads to, and those after it
 fill_first : (c : Bool) (slot m next : ℕ) (form : Form) (held rest : Trees) (block : List ℕ)

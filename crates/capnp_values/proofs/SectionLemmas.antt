@@ -1,10 +1,12 @@
 -- The data section and the pointer section of a struct.
 use Rattle.std.proofs.Common.{◌≡◌, ℕ, zero, suc, ◌+◌, ◌-◌, ◌*◌, ◌<◌, ◌≤◌, ◌^◌, List, [], ◌∷◌, ◌++◌, length, take, drop, refl, sym, ◌∙◌, ap, arith}
-use Rattle.std.proofs.Common.{Some, slice_get, slice_index_or, length-take, w64}
+use Rattle.std.proofs.Common.{Some, slice_get, slice_index_or, length-take, length-drop, length-append, w64}
 use Rattle.std.specs.Int.{to_le_bytes}
 use Rattle.std.proofs.lemmas.List.{take_all}
 use Rattle.capnp_wire.specs.Block.{put}
-use Rattle.capnp_wire.proofs.layouts.BlockLemmas.{put_both}
+use Rattle.capnp_wire.specs.Values.{IsFreeFrom}
+use Rattle.capnp_wire.proofs.layouts.BlockLemmas.{put_both, length-put}
+use Rattle.capnp_wire.proofs.layouts.FreeLemmas.{free_after}
 use Rattle.capnp_wire.proofs.words.UsedLemmas.{take_more, last_used, last_unused}
 use Rattle.capnp_wire.proofs.views.ValueLemmas.{put_whole}
 use Rattle.capnp_wire.proofs.objects.PartLemmas.{one_word}
@@ -47,6 +49,43 @@ data_put at k words block part is long k_is room =
     ap (λ (n : ℕ). words_of (take (8 * at) block ++ (part ++ drop n (drop (8 * at) block)))) (k_is ∙ sym long)
     ∙ put_mid_words at block part (omega (arith, long)) (omega (arith, long, room, length-words_of block))
     ∙ ap (λ (l : List ℕ). put at l (words_of block)) is
+
+pub record DataPut (at next : ℕ) (words block new : List ℕ) : Type 0 where
+  pub words_are : words_of new ≡ put at words (words_of block)
+  pub same : length (words_of new) ≡ length (words_of block)
+  pub long : length new ≡ length block
+  pub free_from : IsFreeFrom next new
+
+pub data_is_put : (at slot next : ℕ) (words block part : List ℕ) → words_of part ≡ words → length part ≡ length (take (8 * slot - 8 * at) (drop (8 * at) block)) → slot ≡ at + length words
+    → slot ≤ next → next ≤ length (words_of block) → IsFreeFrom next block
+    → DataPut at next words block (take (8 * at) block ++ (part ++ drop (8 * slot - 8 * at) (drop (8 * at) block)))
+data_is_put at slot next words block part is part_long slot_is le room f =
+    let new : List ℕ = take (8 * at) block ++ (part ++ drop (8 * slot - 8 * at) (drop (8 * at) block)) in
+    let inside : 8 * next ≤ length block = omega (arith, room, length-words_of block) in
+    let size : 8 * slot - 8 * at ≡ 8 * length words = omega (arith, slot_is) in
+    let part_size : length part ≡ 8 * length words =
+    omega (arith, part_long, size, le, inside, slot_is, length-take (8 * slot - 8 * at) (drop (8 * at) block), length-drop (8 * at) block) in
+    let words_are = data_put at (8 * slot - 8 * at) words block part is part_size size (omega (arith, slot_is, le, room)) in
+    let long : length (take (8 * at) block ++ (part ++ drop (8 * slot - 8 * at) (drop (8 * at) block))) ≡ length block =
+    omega (
+      arith,
+      length-append (take (8 * at) block) (part ++ drop (8 * slot - 8 * at) (drop (8 * at) block)),
+      length-append part (drop (8 * slot - 8 * at) (drop (8 * at) block)),
+      length-take (8 * at) block,
+      length-drop (8 * slot - 8 * at) (drop (8 * at) block),
+      length-drop (8 * at) block,
+      part_size,
+      size,
+      slot_is,
+      le,
+      inside,
+    ) in
+    record {
+      words_are = words_are;
+      same = ap length words_are ∙ length-put at words (words_of block) (omega (arith, slot_is, le, room));
+      long = long;
+      free_from = free_after at next next words block new words_are long (omega (arith, slot_is, le)) (omega arith) (omega (arith, slot_is, le, room)) f;
+    }
 
 pub here_used : (words : List ℕ) (left w : ℕ) → 0 < left → left ≤ length words → w ≡ slice_index_or words (left - 1) 0 → 0 < w → left ≡ length (cut_zeros (words_from words 0 left))
 here_used words left w some room is positive =

@@ -1,7 +1,8 @@
 -- Structs of data words and of rows.
 use Rattle.std.proofs.Common.{◌≡◌, ℕ, ◌+◌, ◌≤◌, ◌<◌, ◌^◌, Bool, true, false, List, length, take, Result, Ok, Err, inl, inr, refl, sym, ◌∙◌, ap, subst, arith}
-use Rattle.std.specs.Prelude.{All, ◌==◌, if◌then◌else◌, ◌⊎◌}
+use Rattle.std.specs.Prelude.{All, IsTrue, min, ◌↔◌, ◌==◌, if◌then◌else◌, ◌⊎◌}
 use Rattle.std.specs.Result.{IsErrAnd}
+use Rattle.std.proofs.lemmas.Bool.{cases_lt}
 use Rattle.std.proofs.lemmas.List.{take_all}
 use Rattle.capnp_frame.specs.declared.error.Error.{Error}
 use Rattle.capnp_frame.specs.declared.error.ErrorKind.{ErrorKind}
@@ -11,6 +12,7 @@ use Rattle.capnp_wire.specs.Trim.{first, trim}
 use Rattle.capnp_wire.specs.Layout.{struct_pointer, minus_one, run, formed, AllHaveRoom}
 use Rattle.capnp_wire.specs.Block.{put, fill}
 use Rattle.capnp_wire.specs.Copy.{IsCopied}
+use Rattle.capnp_wire.specs.Values.{HasRoomAt}
 use Rattle.capnp_wire.proofs.trees.FrontLemmas.{first_cut, cut_front}
 use Rattle.capnp_wire.proofs.trees.NarrowLemmas.{first_all}
 use Rattle.capnp_wire.proofs.words.CutLemmas.{length-cut}
@@ -18,7 +20,7 @@ use Rattle.capnp_wire.proofs.trees.TrimLemmas.{count-trim}
 use Rattle.capnp_wire.proofs.trees.ChunkLemmas.{count-cut}
 use Rattle.capnp_wire.proofs.layouts.OpenLemmas.{room_formed}
 use Rattle.capnp_values.specs.Measured.{tree_words, Measures}
-use Rattle.capnp_values.specs.Fields.{IsSettled, kept_row, extent_of, HasExtent}
+use Rattle.capnp_values.specs.Fields.{IsSettled, kept_row, extent_of, HasExtent, CanWriteRow}
 use Rattle.capnp_values.specs.Structs.{IsStruct, RefusesStruct, kept_words}
 use Rattle.capnp_values.specs.declared.fields.Extent.{Extent}
 use Rattle.capnp_values.specs.declared.measured.TreeWords.{TreeWords}
@@ -117,9 +119,48 @@ struct_refused c words size hs rs returned error was refused found exact few_wor
   ];
 }
 
+-- a pointer can't tell a size that is refused
+pub not_fitting : (a b size : ℕ) (fits : Bool) → (IsTrue fits ↔ ((a < 2 ^ 16) × (b < 2 ^ 16))) → fits ≡ false → b ≡ min size (2 ^ 16) → (2 ^ 16 ≤ a ⊎ 2 ^ 16 ≤ size)
+not_fitting a b size fits told no b_is = elim (cases_lt a (2 ^ 16)) [
+  | inl few ↦ (elim (cases_lt size (2 ^ 16)) [
+    | inl small ↦ (let yes : fits ≡ true = told.1 (few, omega (arith, small, b_is)) in absurd (cc))
+    | inr many ↦ inr many
+  ])
+  | inr many ↦ inl many
+]
+
+-- a struct that is one tree has room
+pub struct_rooms : (words : List ℕ) (size : ℕ) (hs : Trees → Type 0) (trees : Trees) → ((t : Trees) → hs t → IsSettled size t) → IsStruct words size hs trees → All (λ w. w < 2 ^ 64) words
+    → AllHaveRoom trees
+struct_rooms words size hs trees settled is small =
+    let s = settled is.held is.held_is in
+    subst AllHaveRoom (sym is.whole) ((is.few_words, omega (arith, s.many, is.few_pointers), small), s.rooms, tt)
+
+pub struct_small : (words : List ℕ) (size : ℕ) (hs : Trees → Type 0) (trees : Trees) → IsStruct words size hs trees → AllHaveRoom trees → All (λ w. w < 2 ^ 64) words
+struct_small words size hs trees is rooms = (subst AllHaveRoom is.whole rooms).0.2
+
+-- what is kept of it has room in a block
+pub record StructPlace (hs : Trees → Type 0) (c : Bool) (next d n room : ℕ) (held : Trees) : Type 0 where
+  pub can : CanWriteRow hs c n (next + d + n) room
+  pub first_fits : next + d + n + total_words (first n (formed c held)) ≤ room
+
+pub struct_place : (c : Bool) (words : List ℕ) (size : ℕ) (hs : Trees → Type 0) (next d n room : ℕ) → (w : HasRoomAt (λ t. IsStruct words size hs t) c next room) → d ≡ length (kept_words c words)
+    → ((held : Trees) → hs held → n ≡ count (kept_row c held)) → StructPlace hs c next d n room w.tree_is.held
+struct_place c words size hs next d n room w d_is kept_is =
+    let held : Trees = w.tree_is.held in
+    let n_is : n ≡ count (kept_row c w.tree_is.held) = kept_is w.tree_is.held w.tree_is.held_is in
+    let row_there : total_words (first n (formed c w.tree_is.held)) ≡ total_words (kept_row c w.tree_is.held) =
+    ap total_words (ap (λ (k : ℕ). first k (formed c held)) n_is ∙ kept_first c held) in
+    let total : total_words (formed c w.trees) ≡ length (kept_words c words) + count (kept_row c w.tree_is.held) + total_words (kept_row c w.tree_is.held) =
+    ap (λ (t : Trees). total_words (formed c t)) w.tree_is.whole ∙ struct_total c words held in
+    record {
+      can = record { trees = held; trees_are = w.tree_is.held_is; some = omega (arith, n_is, kept_within c held); fits = omega (arith, w.fits, total, row_there, d_is, n_is) };
+      first_fits = omega (arith, w.fits, total, row_there, d_is, n_is);
+    }
+
 -- what is written of it
 pub struct_copied : (c : Bool) (words : List ℕ) (held trees : Trees) (gap next d n free tag : ℕ) (old new : List ℕ) → trees ≡ tree (struct words) held none → d ≡ length (kept_words c words)
-    → n ≡ count (kept_row c held) → AllHaveRoom trees → tag ≡ struct_pointer (if d + n == 0 then minus_one else gap) d n → next + total_words (formed c trees) ≤ length old
+    → n ≡ count (kept_row c held) → AllHaveRoom trees → tag ≡ struct_pointer (if d + n == 0 then minus_one else gap) d n → free ≤ length old
     → new ≡ fill (run (next + length (take d words)) n) (next + d + n) (first n (formed c held)) (put next (take d words) old)
     → free ≡ next + d + n + total_words (first n (formed c held)) → IsCopied (formed c trees) gap next old new (record { pointer = tag; next = free })
 struct_copied c words held trees gap next d n free tag old new whole d_is n_is rooms tag_is fits new_is free_is =
@@ -129,10 +170,9 @@ struct_copied c words held trees gap next d n free tag old new whole d_is n_is r
     let all : AllHaveRoom (tree (struct (kept_words c words)) (kept_row c held) none) = subst AllHaveRoom form_is (room_formed c trees rooms) in
     let words_there : take d words ≡ kept_words c words = ap (λ (k : ℕ). take k words) d_is ∙ kept_front c words in
     let row_there : first n (formed c held) ≡ kept_row c held = ap (λ (k : ℕ). first k (formed c held)) n_is ∙ kept_first c held in
-    let total : total_words (formed c trees) ≡ length (kept_words c words) + count (kept_row c held) + total_words (kept_row c held) = ap total_words form_is ∙ omega arith in
     let on : next + d + count (kept_row c held) ≡ next + (length (kept_words c words) + count (kept_row c held)) = omega (arith, d_is) in
     let tag_of : ℕ → ℕ → ℕ = λ e k. struct_pointer (if e + k == 0 then minus_one else gap) e k in
-    let filled = struct_filled next ws row old all.0 all.1 (omega (arith, total, fits)) in
+    let filled = struct_filled next ws row old all.0 all.1 (omega (arith, fits, free_is, ap total_words row_there, d_is, n_is)) in
     subst (λ (t : Trees). IsCopied t gap next old new (record { pointer = tag; next = free })) (sym form_is) (record {
       words_are = new_is
           ∙ ap (λ (l : List ℕ). fill (run (next + length l) n) (next + d + n) (first n (formed c held)) (put next l old)) words_there

@@ -225,7 +225,7 @@ list_place w h c d p e m s vs next room trees is rooms fits data_is pointers_are
 -- what is written of it
 pub list_copied : (c : Bool) (d p : ℕ) (rows : List (List ℕ)) (held trees : Trees) (gap next n e m free tag : ℕ) (old new : List ℕ) → trees ≡ tree (structs d p rows) held none → AreEven d rows
     → count held ≡ length rows * p → n ≡ length rows → e ≡ element_data c d rows → m ≡ element_pointers c p rows held → AllHaveRoom trees → tag ≡ list_pointer gap 7 (n * (e + m))
-    → next + total_words (formed c trees) ≤ length old
+    → free ≤ length old
     → new ≡ fill (row_slots (next + 1) e m n) (next + 1 + n * (e + m)) (shown c m p rows held) (put_rows (next + 1) m (map (take e) rows) (put next (struct_pointer n e m ∷ []) old))
     → free ≡ next + 1 + n * (e + m) + total_words (shown c m p rows held) → IsCopied (formed c trees) gap next old new (record { pointer = tag; next = free })
 list_copied c d p rows held trees gap next n e m free tag old new whole even many n_is e_is m_is rooms tag_is fits new_is free_is =
@@ -238,9 +238,11 @@ list_copied c d p rows held trees gap next n e m free tag old new whole even man
     let all : AllHaveRoom (tree (structs (element_data c d rows) (element_pointers c p rows held) (map (take (element_data c d rows)) rows)) (shown c (element_pointers c p rows held) p rows held) none) =
     subst AllHaveRoom form_is (room_formed c trees rooms) in
     let long : n ≡ length (map (take (element_data c d rows)) rows) = n_is ∙ sym (length-map rows (take (element_data c d rows))) in
-    let total : total_words (formed c trees)
-    ≡ 1 + length (map (take (element_data c d rows)) rows) * (element_data c d rows + element_pointers c p rows held) + total_words (shown c (element_pointers c p rows held) p rows held) =
-    ap total_words form_is ∙ omega arith in
+    let end_is : free
+    ≡ next + 1 + length (map (take (element_data c d rows)) rows) * (element_data c d rows + element_pointers c p rows held) + total_words (shown c (element_pointers c p rows held) p rows held) =
+    free_is ∙ ap (λ (k : ℕ). next + 1 + k * (e + m) + total_words (shown c m p rows held)) long
+    ∙ ap (λ (a : ℕ). next + 1 + length (map (take (element_data c d rows)) rows) * (a + m) + total_words (shown c m p rows held)) e_is
+    ∙ ap (λ (b : ℕ). next + 1 + length (map (take (element_data c d rows)) rows) * (element_data c d rows + b) + total_words (shown c b p rows held)) m_is in
     let on : (k : ℕ) → next + 1 + k ≡ next + (1 + k) = λ k. omega arith in
     let there : ℕ → ℕ → ℕ → Trees → List ℕ = λ k a b t. fill (row_slots (next + 1) a b k) (next + 1 + k * (a + b)) t (put_rows (next + 1) b (map (take a) rows) (put next (struct_pointer k a b ∷ []) old)) in
     let tag_of : ℕ → ℕ → ℕ → ℕ = λ k a b. list_pointer gap 7 (k * (a + b)) in
@@ -250,10 +252,7 @@ list_copied c d p rows held trees gap next n e m free tag old new whole even man
           ∙ ap (λ (a : ℕ). there (length cut) a m (shown c m p rows held)) e_is
           ∙ ap (λ (b : ℕ). there (length cut) kept b (shown c b p rows held)) m_is
           ∙ ap (λ (k : ℕ). fill (row_slots (next + 1) kept most (length cut)) k x (put_rows (next + 1) most cut (put next (struct_pointer (length cut) kept most ∷ []) old))) (on (length cut * (kept + most)))
-          ∙ structs_filled next kept most cut x old all.0 all.1 (omega (arith, total, fits));
+          ∙ structs_filled next kept most cut x old all.0 all.1 (omega (arith, end_is, fits));
       pointer_is = tag_is ∙ ap (λ (k : ℕ). tag_of k e m) long ∙ ap (λ (a : ℕ). tag_of (length cut) a m) e_is ∙ ap (λ (b : ℕ). tag_of (length cut) kept b) m_is;
-      next_is = free_is ∙ ap (λ (k : ℕ). next + 1 + k * (e + m) + total_words (shown c m p rows held)) long
-          ∙ ap (λ (a : ℕ). next + 1 + length cut * (a + m) + total_words (shown c m p rows held)) e_is
-          ∙ ap (λ (b : ℕ). next + 1 + length cut * (kept + b) + total_words (shown c b p rows held)) m_is
-          ∙ omega arith;
+      next_is = omega (arith, end_is);
     })

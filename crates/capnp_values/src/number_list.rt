@@ -52,8 +52,8 @@ impl<'a, N: PrimitiveElement + Copy> SetterInput<Owned<N>> for NumberList<'a, N>
     }
 
     fn write(&self, _canonical: bool, block: &mut [u8], following: usize, next: usize) -> Copied {
-        let count = self.items.len();
-        let end = next + words_of_list::<N>(count as u32) as usize;
+        let count = self.items.len() as u32;
+        let end = next + words_of_list::<N>(count) as usize;
         put_numbers(self.items, &mut block[8 * next..8 * end]);
         Copied {
             pointer: list_word((next - following) as u64, N::size().code(), count as u64),

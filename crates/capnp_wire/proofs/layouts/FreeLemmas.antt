@@ -97,6 +97,9 @@ free_after at next k xs old new is long before le room f =
           ∙ ap (λ (n : ℕ). replicate (n - k) 0) (sym same);
     }
 
+pub free_later : (next k : ℕ) (block : List ℕ) → next ≤ k → IsFreeFrom next block → IsFreeFrom k block
+free_later next k block le f = record { whole = f.whole; few = f.few; zero = zero_later next k (words_of block) le f.zero }
+
 pub free_copied : (trees : Trees) (gap next : ℕ) (old new : List ℕ) (copied : Copied) → IsCopied trees gap next (words_of old) (words_of new) copied → AllHaveRoom trees → length new ≡ length old
     → next + total_words trees ≤ length (words_of old) → IsFreeFrom next old → IsFreeFrom copied.next new
 free_copied trees gap next old new copied is rooms long fits f =
