@@ -1,0 +1,16 @@
+-- The words of a list are those of its tree.
+use Rattle.capnp_values.specs.StructLists.{IsStructList, RefusesStructList}
+use Rattle.capnp_values.proofs.MeasuredLemmas.{whole_returned, whole_found, whole_exact}
+use Rattle.capnp_values.proofs.struct_list.StructListSetterInputOwned.measure.Goals as goal
+
+pub returns-clause-returned : goal.returns-clause-returned
+returns-clause-returned g c =
+    whole_returned (λ t. IsStructList g.E.Element.words g.E.Fields.has_trees g.E.Element.data_words g.E.Fields.size c.args.self.now.items.now t) (λ k. RefusesStructList g.E.Fields.has_trees g.E.Fields.refuses g.E.Element.data_words g.E.Fields.size c.args.self.now.items.now k) c.args.canonical c.in_ok-words.words c.fitting.result c.in_ok-words.ensures.returned c.fitting.ensures
+
+pub returns-clause-found : goal.returns-clause-found
+returns-clause-found g c =
+    whole_found (λ t. IsStructList g.E.Element.words g.E.Fields.has_trees g.E.Element.data_words g.E.Fields.size c.args.self.now.items.now t) (λ k. RefusesStructList g.E.Fields.has_trees g.E.Fields.refuses g.E.Element.data_words g.E.Fields.size c.args.self.now.items.now k) c.args.canonical c.in_ok-words.words c.measure_list.result c.fitting.result c.in_ok-words.was c.measure_list.ensures c.fitting.ensures
+
+pub returns-clause-exact : goal.returns-clause-exact
+returns-clause-exact g c =
+    whole_exact (λ t. IsStructList g.E.Element.words g.E.Fields.has_trees g.E.Element.data_words g.E.Fields.size c.args.self.now.items.now t) (λ k. RefusesStructList g.E.Fields.has_trees g.E.Fields.refuses g.E.Element.data_words g.E.Fields.size c.args.self.now.items.now k) c.args.canonical c.in_ok-words.words c.measure_list.result c.fitting.result c.in_ok-words.was c.measure_list.ensures c.fitting.ensures
