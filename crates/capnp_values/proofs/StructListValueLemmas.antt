@@ -38,6 +38,11 @@ told n d p x y x_is y_is a b few small =
     let sum : n * (x + y) ≡ n * (d + p) = ap (λ (k : ℕ). n * (k + y)) x_is ∙ ap (λ (k : ℕ). n * (d + k)) y_there in
     record { few_words = omega (arith, a, x_is); few_pointers = omega (arith, b, y_there); few = few; small = omega (arith, small, sum) }
 
+pub told_size : (n d p x y : ℕ) → x ≡ d → y ≡ min p (2 ^ 16) → AreTold n d p → n * (x + y) ≡ n * (d + p)
+told_size n d p x y x_is y_is t =
+    let y_there : y ≡ p = omega (arith, y_is, t.few_pointers) in
+    ap (λ (k : ℕ). n * (k + y)) x_is ∙ ap (λ (k : ℕ). n * (d + k)) y_there
+
 not_too_many : (n d p : ℕ) (kind : ErrorKind) → AreTold n d p → TooManyStructs n d p kind → ⊥
 not_too_many n d p kind t (inl (inl many, is)) = absurd (omega (arith, many, t.few_words))
 not_too_many n d p kind t (inl (inr many, is)) = absurd (omega (arith, many, t.few_pointers))
@@ -185,6 +190,14 @@ list_even w h d p vs trees is rooms = (subst AllHaveRoom is.whole rooms).0.5
 
 pub list_told : {V : Type 0} (w : V → List ℕ) (h : V → Trees → Type 0) (d p : ℕ) (vs : List V) (trees : Trees) → IsStructList w h d p vs trees → AreTold (length vs) d p
 list_told w h d p vs trees is = record { few_words = is.few_words; few_pointers = is.few_pointers; few = is.few; small = is.small }
+
+pub structs_rooms : {V : Type 0} (w : V → List ℕ) (h : V → Trees → Type 0) (d p : ℕ) → ((v : V) (t : Trees) → h v t → IsSettled p t) → (vs : List V) (trees : Trees)
+    → IsStructList w h d p vs trees → AreEven d (map w vs) → AllHaveRoom trees
+structs_rooms w h d p s vs trees is even = subst AllHaveRoom (sym is.whole) (list_rooms w h d p s vs is.held is.held_is (list_told w h d p vs trees is) even)
+
+pub structs_many : {V : Type 0} (w : V → List ℕ) (h : V → Trees → Type 0) (p : ℕ) → ((v : V) (t : Trees) → h v t → IsSettled p t) → (vs : List V) (held : Trees) → AreRows h vs held
+    → count held ≡ length (map w vs) * p
+structs_many w h p s vs held is = (rows_settled h p s vs held is).many ∙ ap (λ (n : ℕ). n * p) (sym (length-map vs w))
 
 -- a list that has room in a block, from a word on
 pub record ListPlace {V : Type 0} (w : V → List ℕ) (h : V → Trees → Type 0) (c : Bool) (d p e m : ℕ) (vs : List V) (next room : ℕ) : Type 0 where

@@ -98,7 +98,7 @@ fn with_row(reach: Reach, data_words: usize, extent: Extent) -> Reach
 
 /// What each of some structs keeps.
 pub(crate) fn kept_by_each<E: Fields + Element>(items: &[E], canonical: bool) -> KeptWords
-    requires pointers { E.size < 2 ^ 16 }
+    requires { E.size < 2 ^ 16 }
     ensures words { (held : Trees) → AreRows E.has_trees items.now held →
         result.data_words ≡ element_data canonical E.data_words (map E.words items.now) }
     ensures pointers { (held : Trees) → AreRows E.has_trees items.now held →

@@ -64,7 +64,7 @@ returns-clause-written g c trees is =
     as_formed c.args._canonical code bits trees _ c.args.next _ _ _ is.1
     (numbers_copied code bits _ c.args.next _ _ _
     (numbers_put code (length c.args.self.now.items.now) c.args.next _ bits c.args.block.now c.put_numbers.new.block same c.put_numbers.ensures long size (omega (arith, r.1)))
-    (c.list_word.ensures ∙ ap (λ (k : ℕ). list_pointer (c.args.next - c.args.following) c.code.result k) same ∙ ap (λ (k : ℕ). list_pointer (c.args.next - c.args.following) k (length bits)) c.code.ensures)
+    (c.list_word.ensures ∙ ap (λ (k : ℕ). list_pointer (c.args.next - c.args.following) c.code.result k) same ∙ ap (λ (k : ℕ). list_pointer (c.args.next - c.args.following) k (length bits)) (c.code.ensures.code ∙ c.size.ensures))
     (omega (arith, c.words_of_list.ensures.words, ap (λ (k : ℕ). words_for k (width g.N.PrimitiveElement.code)) same)))
 
 pub returns-clause-long : goal.returns-clause-long

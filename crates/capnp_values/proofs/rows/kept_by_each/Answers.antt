@@ -1,0 +1,14 @@
+-- As they stand all is kept, and in canonical form what one of them needs.
+use Rattle.std.proofs.Common.{◌≡◌, ◌∙◌, List, ℕ, length, ap, false, sym, arith}
+use Rattle.capnp_wire.specs.Trim.{cut_zeros}
+use Rattle.capnp_values.proofs.KeptRowLemmas.{needing_begins, needing_goes_on, needing_ends}
+use Rattle.capnp_values.proofs.rows.kept_by_each.Goals as goal
+
+pub loop-index-init : goal.loop-index-init
+loop-index-init g c = needing_begins g.E.Element.words g.E.Fields.has_trees g.E.Fields.size c.args.items.now
+
+pub loop-index-preserved : goal.loop-index-preserved
+loop-index-preserved g c =
+    needing_goes_on g.E.Element.words g.E.Fields.has_trees g.E.Fields.size g.met.E.Fields.settled c.args.items.now c.loop-index.index c.loop-index.kept.data_words c.loop-index.kept.pointers _ _ c.used.result
+    c.kept.result c.index-items-index.result (omega arith) c.index-items-index.is (c.used.ensures ∙ ap (λ (l : List ℕ). length (cut_zeros l)) c.words.ensures.value) c.kept.ensures.kept c.max.ensures c.max-2.ensures
+    c.loop-index.invariant
