@@ -11,12 +11,7 @@ use Rattle.capnp_wire.proofs.trees.ChunkLemmas.{count-first, count-following, to
 use Rattle.capnp_wire.proofs.trees.KeptLemmas.{rooms_first, rooms_after}
 use Rattle.capnp_wire.proofs.layouts.SizeLemmas.{Before, before_more, length-run, length-body}
 use Rattle.capnp_wire.proofs.layouts.BlockLemmas.{put_apart, length-put}
-
--- The rows from a word of a block on, each before its p pointers, and what these lead to from another word on.
-abbrev pub fill_rows : ℕ → ℕ → List (List ℕ) → ℕ → Trees → List ℕ → List ℕ
-fill_rows p at [] next held block = block
-fill_rows p at (row ∷ rows) next held block =
-    fill_rows p (at + length row + p) rows (next + total_words (first p held)) (following p held) (fill (run (at + length row) p) next (first p held) (put at row block))
+use Rattle.capnp_values.specs.StructLists.{fill_rows}
 
 -- what is filled in keeps the block's length
 pub length-fill : (slots : List ℕ) (next : ℕ) (trees : Trees) (block : List ℕ) → Before next slots → AllHaveRoom trees → next + total_words trees ≤ length block

@@ -14,14 +14,16 @@ use Rattle.capnp_wire.specs.Rows.{row_slots}
 use Rattle.capnp_wire.specs.Copy.{IsCopied}
 use Rattle.capnp_wire.proofs.words.CutLemmas.{least_data_within}
 use Rattle.capnp_wire.proofs.layouts.SizeLemmas.{rows_even}
+use Rattle.capnp_wire.proofs.layouts.BlockLemmas.{length-put}
 use Rattle.capnp_wire.proofs.layouts.OpenLemmas.{room_formed}
 use Rattle.capnp_values.specs.Measured.{tree_words, Measures}
 use Rattle.capnp_values.specs.Fields.{IsSettled}
 use Rattle.capnp_values.specs.declared.rows.Reach.{Reach}
 use Rattle.capnp_values.specs.declared.measured.TreeWords.{TreeWords}
-use Rattle.capnp_values.specs.StructLists.{AreRows, IsStructList, TooManyStructs, RefusesStructList, RefusesRows, element_data, element_pointers, shown, reach_of, AreEven, ReachesRows, HasRoomForRows}
+use Rattle.capnp_values.specs.StructLists.{AreRows, IsStructList, TooManyStructs, RefusesStructList, RefusesRows, element_data, element_pointers, shown, reach_of, AreEven, ReachesRows, fill_rows, HasRoomForRows}
 use Rattle.capnp_values.proofs.ItemLemmas.{same_tree_words}
 use Rattle.capnp_values.proofs.FilledLemmas.{structs_filled}
+use Rattle.capnp_values.proofs.FillRowLemmas.{rows_filled}
 use Rattle.capnp_values.proofs.StructListLemmas.{rows_settled, structs_formed, structs_total, total_shown}
 use Rattle.capnp_values.proofs.StructRowLemmas.{pointers_within}
 
@@ -221,15 +223,17 @@ list_place w h c d p e m s vs next room trees is rooms fits data_is pointers_are
     ap (λ (k : ℕ). total_words (shown c k p (map w vs) is.held)) m_is ∙ total_shown c p (map w vs) is.held settled.rooms many in
     let total : total_words (formed c trees) ≡ 1 + length vs * (e + m) + total_words (formed c is.held) =
     ap (λ (x : Trees). total_words (formed c x)) is.whole ∙ list_total w h c d p e m s vs is.held is.held_is e_is m_is in
+    let size = size_told c (length vs) d p e m (map w vs) is.held t even e_is m_is in
     record {
       told_is = t;
-      size = size_told c (length vs) d p e m (map w vs) is.held t even e_is m_is;
+      size = size;
       begin_within = omega (arith, fits, total);
       rows = record {
         held = is.held;
         held_is = is.held_is;
+        few_words = omega (arith, size.words_within, t.few_words);
         few_pointers = t.few_pointers;
-        data_fits = (size_told c (length vs) d p e m (map w vs) is.held t even e_is m_is).words_within;
+        data_fits = size.words_within;
         pointers_are = m_is;
         fits = omega (arith, fits, total, shown_is);
       };
@@ -239,7 +243,7 @@ list_place w h c d p e m s vs next room trees is rooms fits data_is pointers_are
 pub list_copied : (c : Bool) (d p : ℕ) (rows : List (List ℕ)) (held trees : Trees) (gap next n e m free tag : ℕ) (old new : List ℕ) → trees ≡ tree (structs d p rows) held none → AreEven d rows
     → count held ≡ length rows * p → n ≡ length rows → e ≡ element_data c d rows → m ≡ element_pointers c p rows held → AllHaveRoom trees → tag ≡ list_pointer gap 7 (n * (e + m))
     → free ≤ length old
-    → new ≡ fill (row_slots (next + 1) e m n) (next + 1 + n * (e + m)) (shown c m p rows held) (put_rows (next + 1) m (map (take e) rows) (put next (struct_pointer n e m ∷ []) old))
+    → new ≡ fill_rows m (next + 1) (map (take e) rows) (next + 1 + n * (e + m)) (shown c m p rows held) (put next (struct_pointer n e m ∷ []) old)
     → free ≡ next + 1 + n * (e + m) + total_words (shown c m p rows held) → IsCopied (formed c trees) gap next old new (record { pointer = tag; next = free })
 list_copied c d p rows held trees gap next n e m free tag old new whole even many n_is e_is m_is rooms tag_is fits new_is free_is =
     let kept : ℕ = element_data c d rows in
@@ -257,13 +261,18 @@ list_copied c d p rows held trees gap next n e m free tag old new whole even man
     ∙ ap (λ (a : ℕ). next + 1 + length (map (take (element_data c d rows)) rows) * (a + m) + total_words (shown c m p rows held)) e_is
     ∙ ap (λ (b : ℕ). next + 1 + length (map (take (element_data c d rows)) rows) * (element_data c d rows + b) + total_words (shown c b p rows held)) m_is in
     let on : (k : ℕ) → next + 1 + k ≡ next + (1 + k) = λ k. omega arith in
-    let there : ℕ → ℕ → ℕ → Trees → List ℕ = λ k a b t. fill (row_slots (next + 1) a b k) (next + 1 + k * (a + b)) t (put_rows (next + 1) b (map (take a) rows) (put next (struct_pointer k a b ∷ []) old)) in
+    let there : ℕ → ℕ → ℕ → Trees → List ℕ = λ k a b t. fill_rows b (next + 1) (map (take a) rows) (next + 1 + k * (a + b)) t (put next (struct_pointer k a b ∷ []) old) in
+    let tagged : List ℕ = put next (struct_pointer (length (map (take (element_data c d rows)) rows)) (element_data c d rows) (element_pointers c p rows held) ∷ []) old in
+    let tagged_long : length (put next (struct_pointer (length (map (take (element_data c d rows)) rows)) (element_data c d rows) (element_pointers c p rows held) ∷ []) old) ≡ length old =
+    length-put next (struct_pointer (length (map (take (element_data c d rows)) rows)) (element_data c d rows) (element_pointers c p rows held) ∷ []) old (omega (arith, end_is, fits)) in
+    let filled = rows_filled kept most (next + 1) cut (next + 1 + length cut * (kept + most)) x tagged (rows_even kept cut all.0.5) all.0.4 all.1 (omega arith) (omega (arith, tagged_long, end_is, fits)) in
     let tag_of : ℕ → ℕ → ℕ → ℕ = λ k a b. list_pointer gap 7 (k * (a + b)) in
     subst (λ (t : Trees). IsCopied t gap next old new (record { pointer = tag; next = free })) (sym form_is) (record {
       words_are = new_is
           ∙ ap (λ (k : ℕ). there k e m (shown c m p rows held)) long
           ∙ ap (λ (a : ℕ). there (length cut) a m (shown c m p rows held)) e_is
           ∙ ap (λ (b : ℕ). there (length cut) kept b (shown c b p rows held)) m_is
+          ∙ filled
           ∙ ap (λ (k : ℕ). fill (row_slots (next + 1) kept most (length cut)) k x (put_rows (next + 1) most cut (put next (struct_pointer (length cut) kept most ∷ []) old))) (on (length cut * (kept + most)))
           ∙ structs_filled next kept most cut x old all.0 all.1 (omega (arith, end_is, fits));
       pointer_is = tag_is ∙ ap (λ (k : ℕ). tag_of k e m) long ∙ ap (λ (a : ℕ). tag_of (length cut) a m) e_is ∙ ap (λ (b : ℕ). tag_of (length cut) kept b) m_is;

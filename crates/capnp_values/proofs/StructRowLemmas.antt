@@ -11,10 +11,9 @@ use Rattle.capnp_wire.specs.Values.{IsFreeFrom}
 use Rattle.capnp_wire.proofs.trees.ChunkLemmas.{count-first, total-before, least_pointers_within}
 use Rattle.capnp_wire.proofs.trees.NarrowLemmas.{first-before, following-before}
 use Rattle.capnp_values.specs.Fields.{IsSettled, CanWriteRow, IsRowWritten}
-use Rattle.capnp_values.specs.StructLists.{AreRows, element_pointers, shown, HasRoomForRows}
+use Rattle.capnp_values.specs.StructLists.{AreRows, element_pointers, shown, fill_rows, HasRoomForRows}
 use Rattle.capnp_values.proofs.PointerListLemmas.{count_formed}
 use Rattle.capnp_values.proofs.ItemLemmas.{from_here, none_left}
-use Rattle.capnp_values.proofs.FillRowLemmas.{fill_rows}
 use Rattle.capnp_values.proofs.StructListLemmas.{shown_front}
 
 shown_total : (c : Bool) (m p : ℕ) (words : List ℕ) (rows : List (List ℕ)) (row rest held : Trees) → held ≡ before row rest → count row ≡ p

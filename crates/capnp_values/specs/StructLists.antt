@@ -6,10 +6,9 @@ use Rattle.capnp_frame.specs.declared.error.Error.{Error}
 use Rattle.capnp_frame.specs.declared.error.ErrorKind.{ErrorKind}
 use Rattle.capnp_frame.specs.declared.error.ErrorKind.TheVariants.{AllocationTooLarge}
 use Rattle.capnp_wire.specs.Tree.{structs, Trees, none, tree, total_words}
-use Rattle.capnp_wire.specs.Trim.{before, least_data, least_pointers, narrowed, trim}
-use Rattle.capnp_wire.specs.Layout.{formed}
-use Rattle.capnp_wire.specs.Block.{put_rows, fill}
-use Rattle.capnp_wire.specs.Rows.{row_slots}
+use Rattle.capnp_wire.specs.Trim.{first, following, before, least_data, least_pointers, narrowed, trim}
+use Rattle.capnp_wire.specs.Layout.{run, formed}
+use Rattle.capnp_wire.specs.Block.{put, fill}
 use Rattle.capnp_values.specs.declared.fields.Extent.{Extent}
 use Rattle.capnp_values.specs.declared.rows.Reach.{Reach}
 
@@ -97,10 +96,17 @@ pub record ReachesRows {V : Type 0} (words : V → List ℕ) (has_trees : V → 
   pub found : (held : Trees) → AreRows has_trees values held → result ≡ Ok (reach_of canonical d p (map words values) held)
   pub exact : (kind : ErrorKind) → RefusesRows has_trees refuses values kind → IsErrAnd result (λ error. error.kind ≡ kind)
 
+-- rows from a word of a block on, each before its p pointers, and what these lead to from another word on
+abbrev pub fill_rows : ℕ → ℕ → List (List ℕ) → ℕ → Trees → List ℕ → List ℕ
+fill_rows p at [] next held block = block
+fill_rows p at (row ∷ rows) next held block =
+    fill_rows p (at + length row + p) rows (next + total_words (first p held)) (following p held) (fill (run (at + length row) p) next (first p held) (put at row block))
+
 -- of each of some structs d words and m pointers are kept, and what these lead to has room in a block, from a word on
 pub record HasRoomForRows {V : Type 0} (words : V → List ℕ) (has_trees : V → Trees → Type 0) (canonical : Bool) (d m most p : ℕ) (values : List V) (next room : ℕ) : Type 0 where
   pub held : Trees
   pub held_is : AreRows has_trees values held
+  pub few_words : d < 2 ^ 16
   pub few_pointers : p < 2 ^ 16
   pub data_fits : d ≤ most
   pub pointers_are : m ≡ element_pointers canonical p (map words values) held
@@ -110,5 +116,5 @@ pub record HasRoomForRows {V : Type 0} (words : V → List ℕ) (has_trees : V �
 -- free word
 pub record AreRowsWritten {V : Type 0} (words : V → List ℕ) (has_trees : V → Trees → Type 0) (canonical : Bool) (d m p : ℕ) (values : List V) (at next : ℕ) (old new : List ℕ) (free : ℕ) : Type 0 where
   pub words_are : (held : Trees) → AreRows has_trees values held
-      → new ≡ fill (row_slots at d m (length values)) next (shown canonical m p (map words values) held) (put_rows at m (map (take d) (map words values)) old)
+      → new ≡ fill_rows m at (map (take d) (map words values)) next (shown canonical m p (map words values) held) old
   pub next_is : (held : Trees) → AreRows has_trees values held → free ≡ next + total_words (shown canonical m p (map words values) held)

@@ -174,6 +174,7 @@ fn write_element<E: Fields + Element>(
         next (put at (take kept.data_words (E.words item.now)) (words_of block.old))
         (words_of block.new) result }
     ensures free { IsFreeFrom result block.new }
+    ensures wide { length (E.words item.now) ≡ E.data_words }
     ensures len { length block.new ≡ length block.old }
 {
     let words = item.words();

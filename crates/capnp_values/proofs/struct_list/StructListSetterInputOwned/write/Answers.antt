@@ -2,13 +2,12 @@
 use Rattle.std.proofs.Common.{◌≡◌, ◌+◌, ◌-◌, ◌*◌, ◌∷◌, [], ◌∙◌, ℕ, List, length, map, take, refl, subst, sym, ap, arith}
 use Rattle.std.proofs.lemmas.List.{length-map}
 use Rattle.capnp_wire.specs.Pointer.{words_of}
-use Rattle.capnp_wire.specs.Block.{put, put_rows, fill}
-use Rattle.capnp_wire.specs.Rows.{row_slots}
+use Rattle.capnp_wire.specs.Block.{put}
 use Rattle.capnp_wire.proofs.words.WordLemmas.{length-words_of}
 use Rattle.capnp_wire.proofs.layouts.FreeLemmas.{free_after}
 use Rattle.capnp_wire.proofs.layouts.SizeLemmas.{length-body}
 use Rattle.capnp_wire.proofs.layouts.OpenLemmas.{room_formed}
-use Rattle.capnp_values.specs.StructLists.{HasRoomForRows, shown}
+use Rattle.capnp_values.specs.StructLists.{HasRoomForRows, shown, fill_rows}
 use Rattle.capnp_values.proofs.StructListValueLemmas.{list_place, list_even, structs_rooms, structs_many, list_copied}
 use Rattle.capnp_values.proofs.struct_list.StructListSetterInputOwned.write.Goals as goal
 
@@ -106,7 +105,7 @@ returns-clause-written g c trees is =
     (c.kept_by_each-kept.ensures.pointers is.held is.held_is) (structs_rooms g.E.Element.words h d p g.met.E.Fields.settled items trees is even) c.list_word.ensures
     (omega (arith, r.next_is l.rows.held l.rows.held_is, l.rows.fits))
     (r.words_are is.held is.held_is
-    ∙ ap (λ (x : List ℕ). fill (row_slots (next + 1) e m n) (next + 1 + n * (e + m)) (shown c.args.canonical m p rows is.held) (put_rows (next + 1) m (map (take e) rows) x)) put_tag)
+    ∙ ap (λ (x : List ℕ). fill_rows m (next + 1) (map (take e) rows) (next + 1 + n * (e + m)) (shown c.args.canonical m p rows is.held) x) put_tag)
     (r.next_is is.held is.held_is)
 
 pub returns-clause-long : goal.returns-clause-long
