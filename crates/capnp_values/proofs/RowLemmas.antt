@@ -76,7 +76,7 @@ row_step h hs c slot n m next old mid copied n_is r f before_it own long =
     let room : slot + 1 ≤ length (words_of mid) = omega (arith, before_it, n_is, fits, same) in
     let mid_free = free_copied (formed c t) (next - (slot + 1)) next old mid copied d (room_formed c t s.part.rooms) long fits f in
     record {
-      put_room = room;
+      put_room = omega (arith, room);
       before_it = omega (arith, before_it, n_is, d.next_is);
       can = λ new new_long. record {
         trees = s.rest;
