@@ -1,5 +1,5 @@
 -- Values that are written into a part of a segment, which is just their words.
-use Rattle.std.proofs.Common.{◌≡◌, ℕ, ◌+◌, ◌-◌, ◌*◌, ◌/◌, ◌%◌, ◌≤◌, ◌<◌, ◌^◌, Bool, List, ◌∷◌, length, take, drop, ◌∙◌, ap, subst, arith, length-take, length-drop}
+use Rattle.std.proofs.Common.{◌≡◌, ℕ, ◌+◌, ◌-◌, ◌*◌, ◌/◌, ◌%◌, ◌≤◌, ◌<◌, ◌^◌, Bool, List, ◌∷◌, ◌++◌, length, take, drop, ◌∙◌, ap, arith, length-take, length-drop, drop-drop}
 use Rattle.std.specs.Prelude.{replicate}
 use Rattle.capnp_frame.specs.Words.{bytes_of}
 use Rattle.capnp_frame.specs.declared.words.Word.{Word}
@@ -11,6 +11,7 @@ use Rattle.capnp_wire.specs.Values.{HasWords, HasRoomAt, IsFreeFrom}
 use Rattle.capnp_wire.specs.declared.layout.copy.Copied.{Copied}
 use Rattle.capnp_wire.proofs.words.WordLemmas.{length-words_of}
 use Rattle.capnp_wire.proofs.layouts.FreeLemmas.{free_part, has_room, whole_written}
+use Rattle.capnp_build.specs.Bytes.{written}
 use Rattle.capnp_build.specs.Filled.{IsBlockOf}
 
 part_words : (bytes : List ℕ) (from n : ℕ) → from + n ≤ length bytes → length (words_of (take n (drop from bytes))) ≡ n / 8
@@ -37,3 +38,12 @@ is_block h c n old new copied word w size written sizes word_is trees is =
     let all = written w.trees w.tree_is in
     let long : length (body (formed c trees)) ≡ length (words_of old) = omega (arith, sizes trees is, own.next_is, all.next_is, w.words_are, size) in
     ap (λ (k : ℕ). k ∷ words_of new) word_is ∙ whole_written (formed c trees) (words_of old) (words_of new) copied long own
+
+-- a part of some bytes is written over
+pub part_written : (bytes block : List ℕ) (from n : ℕ) → length block ≡ n → take from bytes ++ (block ++ drop n (drop from bytes)) ≡ written bytes from block
+part_written bytes block from n long =
+    let end : from + n ≡ from + length block = omega (arith, long) in
+    ap (λ (l : List ℕ). take from bytes ++ (block ++ l)) (drop-drop n from bytes ∙ ap (λ (k : ℕ). drop k bytes) end)
+
+pub part_long : (bytes : List ℕ) (from to : ℕ) → from ≤ to → to ≤ length bytes → length (take (to - from) (drop from bytes)) ≡ to - from
+part_long bytes from to order within = omega (arith, length-take (to - from) (drop from bytes), length-drop from bytes, order, within)
