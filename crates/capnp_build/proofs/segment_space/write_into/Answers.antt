@@ -15,14 +15,14 @@ write-copied-requires-clause-free g c =
 
 pub returns : goal.returns
 returns g c =
-    let bytes : List ℕ = c.args.bytes.now in
+    let old : List ℕ = c.args.bytes.now in
     let part : List ℕ = take (c.args.to - c.args.from) (drop c.args.from c.args.bytes.now) in
-    let long : length (take (c.args.to - c.args.from) (drop c.args.from c.args.bytes.now)) ≡ c.args.to - c.args.from = part_long bytes c.args.from c.args.to c.requires.order c.requires.within in
+    let long : length (take (c.args.to - c.args.from) (drop c.args.from c.args.bytes.now)) ≡ c.args.to - c.args.from = part_long old c.args.from c.args.to c.requires.order c.requires.within in
     let block_long : length c.write-copied.new.block ≡ c.args.to - c.args.from = c.write-copied.ensures.len ∙ long in
     record {
       block = c.write-copied.new.block;
       len = block_long;
       holds = is_block (g.V.SetterInput.has_tree c.args.value.now) c.args.canonical (c.args.to - c.args.from) part c.write-copied.new.block c.write-copied.result c.word_of.result c.requires.words
           (omega (arith, length-words_of (take (c.args.to - c.args.from) (drop c.args.from c.args.bytes.now)), ap (λ (n : ℕ). n / 8) long)) c.write-copied.ensures.written c.write-copied.ensures.long c.word_of.ensures;
-      bytes = part_written bytes c.write-copied.new.block c.args.from (c.args.to - c.args.from) block_long;
+      bytes = part_written old c.write-copied.new.block c.args.from (c.args.to - c.args.from) block_long;
     }
