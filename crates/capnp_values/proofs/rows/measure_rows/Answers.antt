@@ -26,7 +26,7 @@ with_row-reach-requires-clause-words g c =
     let a = c.in_ok-extent.ensures.returned in
     let p = g.E.Fields.size in
     let few = extent_few c.args.canonical p a.0 c.in_ok-extent.extent (g.met.E.Fields.settled c.index-items-index.result a.0 a.1) a.2 in
-    let area : p * c.loop-index.index ≤ p * length c.args.items.now = mul-le-mul_left p (omega arith) in
+    let area : p * c.loop-index.index ≤ p * length c.args.items.now = mul-le-mul_left p (omega (arith, c.loop-index-test.true)) in
     omega (arith, c.loop-index.invariant.words_few, few.0, area, c.requires.few, c.requires.pointers)
 
 pub with_row-reach-requires-clause-standing : goal.with_row-reach-requires-clause-standing
@@ -34,14 +34,14 @@ with_row-reach-requires-clause-standing g c =
     let a = c.in_ok-extent.ensures.returned in
     let p = g.E.Fields.size in
     let few = extent_few c.args.canonical p a.0 c.in_ok-extent.extent (g.met.E.Fields.settled c.index-items-index.result a.0 a.1) a.2 in
-    let area : p * c.loop-index.index ≤ p * length c.args.items.now = mul-le-mul_left p (omega arith) in
+    let area : p * c.loop-index.index ≤ p * length c.args.items.now = mul-le-mul_left p (omega (arith, c.loop-index-test.true)) in
     omega (arith, c.loop-index.invariant.standing_few, few.1, area, c.requires.few, c.requires.pointers)
 
 pub loop-index-preserved : goal.loop-index-preserved
 loop-index-preserved g c =
     let k = c.args.canonical in
     measuring_goes_on g.E.Element.words g.E.Fields.has_trees g.E.Fields.refuses k g.E.Element.data_words g.E.Fields.size g.met.E.Fields.settled c.args.items.now c.loop-index.index _ c.loop-index.reach
-    c.with_row-reach.result c.index-items-index.result c.measure.result c.in_ok-extent.extent c.kept_data-data_words.result (omega arith) c.index-items-index.is c.in_ok-extent.was c.in_ok-extent.ensures.returned
+    c.with_row-reach.result c.index-items-index.result c.measure.result c.in_ok-extent.extent c.kept_data-data_words.result c.loop-index-test.true c.index-items-index.is c.in_ok-extent.was c.in_ok-extent.ensures.returned
     c.measure.ensures.found c.measure.ensures.exact c.words.ensures.long c.words.ensures.fit
     (c.kept_data-data_words.ensures.value ∙ ap (λ (l : List ℕ). length (kept_words k l)) c.words.ensures.value) c.with_row-reach.ensures c.loop-index.invariant
 
@@ -53,7 +53,7 @@ returns-in_err-extent g c =
     let was : c.from_residual.result ≡ Err c.in_err-extent.field-0.0 = search rules in
     subst (λ (x : Result Reach Error). ReachesRows w h r c.args.canonical g.E.Element.data_words g.E.Fields.size c.args.items.now x) (sym was)
     (measuring_stops w h r c.args.canonical g.E.Element.data_words g.E.Fields.size c.args.items.now c.loop-index.index _ c.loop-index.reach c.index-items-index.result c.measure.result c.in_err-extent.field-0.0
-    (omega arith) c.index-items-index.is c.in_err-extent.was c.in_err-extent.ensures.returned c.measure.ensures.found c.measure.ensures.exact c.loop-index.invariant)
+    c.loop-index-test.true c.index-items-index.is c.in_err-extent.was c.in_err-extent.ensures.returned c.measure.ensures.found c.measure.ensures.exact c.loop-index.invariant)
 
 pub returns : goal.returns
 returns g c =

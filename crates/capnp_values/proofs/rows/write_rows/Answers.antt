@@ -31,7 +31,7 @@ write_element-next-requires-clause-row g c =
     let r = c.requires.room in
     let le : c.args.kept.pointers ≤ g.E.Fields.size = omega (arith, r.pointers_are, pointers_within c.args.canonical p (map w c.args.items.now) r.held) in
     let room = row_room w h c.args.canonical d m p g.met.E.Fields.settled c.args.items.now c.args.first _ c.loop-index.index c.loop-index.at c.loop-index.next c.index-items-index.result c.args.block.now
-    c.loop-index.block le (omega arith) c.index-items-index.is c.loop-index.invariant in
+    c.loop-index.block le c.loop-index-test.true c.index-items-index.is c.loop-index.invariant in
     room.can
 
 pub write_element-next-requires-clause-before : goal.write_element-next-requires-clause-before
@@ -44,7 +44,7 @@ write_element-next-requires-clause-before g c =
     let r = c.requires.room in
     let le : c.args.kept.pointers ≤ g.E.Fields.size = omega (arith, r.pointers_are, pointers_within c.args.canonical p (map w c.args.items.now) r.held) in
     let room = row_room w h c.args.canonical d m p g.met.E.Fields.settled c.args.items.now c.args.first _ c.loop-index.index c.loop-index.at c.loop-index.next c.index-items-index.result c.args.block.now
-    c.loop-index.block le (omega arith) c.index-items-index.is c.loop-index.invariant in
+    c.loop-index.block le c.loop-index-test.true c.index-items-index.is c.loop-index.invariant in
     room.before_it
 
 pub write_element-next-requires-clause-free : goal.write_element-next-requires-clause-free
@@ -60,7 +60,7 @@ overflow_add-at g c =
     let r = c.requires.room in
     let le : c.args.kept.pointers ≤ g.E.Fields.size = omega (arith, r.pointers_are, pointers_within c.args.canonical p (map w c.args.items.now) r.held) in
     let room = row_room w h c.args.canonical d m p g.met.E.Fields.settled c.args.items.now c.args.first _ c.loop-index.index c.loop-index.at c.loop-index.next c.index-items-index.result c.args.block.now
-    c.loop-index.block le (omega arith) c.index-items-index.is c.loop-index.invariant in
+    c.loop-index.block le c.loop-index-test.true c.index-items-index.is c.loop-index.invariant in
     record { fits = omega (arith, room.before_it, room.can.fits, c.loop-index.invariant.free_from.few) }
 
 pub loop-index-preserved : goal.loop-index-preserved
@@ -73,7 +73,7 @@ loop-index-preserved g c =
     let r = c.requires.room in
     let le : c.args.kept.pointers ≤ g.E.Fields.size = omega (arith, r.pointers_are, pointers_within c.args.canonical p (map w c.args.items.now) r.held) in
     writing_goes_on w h c.args.canonical d m p g.met.E.Fields.settled c.args.items.now c.args.first _ c.loop-index.index c.loop-index.at c.loop-index.next c.write_element-next.result c.index-items-index.result
-    c.args.block.now c.loop-index.block c.write_element-next.new.block le (omega (arith, c.write_element-next.ensures.wide, r.data_fits)) (omega arith) c.index-items-index.is c.write_element-next.ensures.len
+    c.args.block.now c.loop-index.block c.write_element-next.new.block le (omega (arith, c.write_element-next.ensures.wide, r.data_fits)) c.loop-index-test.true c.index-items-index.is c.write_element-next.ensures.len
     (omega (arith, c.write_element-next.ensures.len, length-words_of c.write_element-next.new.block, length-words_of c.loop-index.block)) c.write_element-next.ensures.free c.write_element-next.ensures.written
     c.loop-index.invariant
 

@@ -1,5 +1,5 @@
 -- A struct has the words that are kept of it, a word for each pointer, and those of its row.
-use Rattle.std.proofs.Common.{rules, ◌≡◌, ◌+◌, ◌∙◌, Err, IsTrue, Result, length, subst, sym, ap, arith}
+use Rattle.std.proofs.Common.{rules, ◌≡◌, ◌+◌, ◌∙◌, false, Err, IsTrue, Result, length, subst, sym, ap, arith}
 use Rattle.capnp_frame.specs.declared.error.Error.{Error}
 use Rattle.capnp_values.specs.Measured.{Measures}
 use Rattle.capnp_values.specs.Structs.{IsStruct, RefusesStruct}
@@ -10,8 +10,9 @@ use Rattle.capnp_values.proofs.struct_value.measure_struct.Goals as goal
 
 pub returns-then-not-fits : goal.returns-then-not-fits
 returns-then-not-fits g c =
-    let no = not_fitting (length c.args.words.now) c.count.result g.F.Fields.size c.fits.result c.fits.ensures (search rules) c.count.ensures in
-    struct_too_large c.args.canonical c.args.words.now g.F.Fields.size (g.F.Fields.has_trees c.args.fields.now) (g.F.Fields.refuses c.args.fields.now) _ no c.from_kind.ensures
+    let no_fit : c.fits.result ≡ false = search rules in
+    let no = not_fitting (length c.args.words.now) c.count.result g.F.Fields.size c.fits.result c.fits.ensures no_fit c.count.ensures in
+    struct_too_large c.args.canonical c.args.words.now g.F.Fields.size (g.F.Fields.has_trees c.args.fields.now) (g.F.Fields.refuses c.args.fields.now) c.from_kind.result no c.from_kind.ensures
 
 pub returns-in_err-extent : goal.returns-in_err-extent
 returns-in_err-extent g c =
