@@ -7,6 +7,7 @@ pub mod StructLemmas
 pub mod StructListLemmas
 pub mod StructRowLemmas
 pub mod StructListValueLemmas
+pub mod StructListCopyLemmas
 pub mod SectionLemmas
 pub mod NullLemmas
 pub mod ItemLemmas

@@ -8,7 +8,7 @@ use Rattle.capnp_wire.proofs.layouts.FreeLemmas.{free_after}
 use Rattle.capnp_wire.proofs.layouts.SizeLemmas.{length-body}
 use Rattle.capnp_wire.proofs.layouts.OpenLemmas.{room_formed}
 use Rattle.capnp_values.specs.StructLists.{HasRoomForRows, shown, fill_rows}
-use Rattle.capnp_values.proofs.StructListValueLemmas.{list_place, list_even, structs_rooms, structs_many, list_copied}
+use Rattle.capnp_values.proofs.StructListCopyLemmas.{list_place, list_even, structs_rooms, structs_many, list_copied}
 use Rattle.capnp_values.proofs.struct_list.StructListSetterInputOwned.write.Goals as goal
 
 pub kept_by_each-kept-requires : goal.kept_by_each-kept-requires
