@@ -53,9 +53,9 @@ left_out true (suc n) form e = absurd (cc)
 left_out false n form e = absurd (cc)
 
 pub left_in : (c : Bool) (n : ℕ) (form : Form) → is_left_out c n form ≡ false → c ≡ true → n ≡ 0 → is_null form ≡ true → ⊥
-left_in true zero form e canonical none null_is = absurd (cc)
-left_in true (suc n) form e canonical none null_is = omega (arith, none)
-left_in false n form e canonical none null_is = absurd (cc)
+left_in true zero form e canonical last null_is = absurd (cc)
+left_in true (suc n) form e canonical last null_is = omega (arith, last)
+left_in false n form e canonical last null_is = absurd (cc)
 
 pub not_left_out : (c : Bool) (n : ℕ) (form : Form) → c ≡ false → false ≡ is_left_out c n form
 not_left_out true n form e = absurd (cc)

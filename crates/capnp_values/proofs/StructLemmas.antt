@@ -121,7 +121,7 @@ struct_refused c words size hs rs returned error was refused found exact few_wor
 
 -- a pointer can't tell a size that is refused
 pub not_fitting : (a b size : ℕ) (fits : Bool) → (IsTrue fits ↔ ((a < 2 ^ 16) × (b < 2 ^ 16))) → fits ≡ false → b ≡ min size (2 ^ 16) → (2 ^ 16 ≤ a ⊎ 2 ^ 16 ≤ size)
-not_fitting a b size fits told no b_is = elim (cases_lt a (2 ^ 16)) [
+not_fitting a b size fits told unfit b_is = elim (cases_lt a (2 ^ 16)) [
   | inl few ↦ (elim (cases_lt size (2 ^ 16)) [
     | inl small ↦ (let yes : fits ≡ true = told.1 (few, omega (arith, small, b_is)) in absurd (cc))
     | inr many ↦ inr many

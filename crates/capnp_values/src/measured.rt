@@ -1,5 +1,5 @@
 //! Words that are counted of trees, and how many a value may have.
-ghost use Rattle.std.specs.Prelude.{◌≡◌, ◌≤◌, ◌<◌, ◌^◌, min, false, MatchResult};
+ghost use Rattle.std.specs.Prelude.{◌≡◌, ◌-◌, ◌≤◌, ◌<◌, ◌^◌, min, false, MatchResult};
 ghost use Rattle.capnp_frame.specs.declared.error.ErrorKind.TheVariants.{AllocationTooLarge};
 ghost use Rattle.capnp_wire.specs.Values.{too_large};
 

@@ -33,7 +33,7 @@ loop-index-preserved g c =
 
 pub returns-clause-written : goal.returns-clause-written
 returns-clause-written g c =
-    writing_ends g.V.SetterInput.has_tree c.args.canonical c.args.items.now c.args.first c.loop-index.index c.loop-index.next c.args.block.now c.loop-index.block c.loop-index-test.true c.loop-index.invariant
+    writing_ends g.V.SetterInput.has_tree c.args.canonical c.args.items.now c.args.first c.loop-index.index c.loop-index.next c.args.block.now c.loop-index.block (omega arith) c.loop-index.invariant
 
 pub returns-clause-len : goal.returns-clause-len
 returns-clause-len g c = c.loop-index.invariant.long

@@ -10,8 +10,8 @@ loop-index-init g c = needing_begins g.E.Element.words g.E.Fields.has_trees g.E.
 
 pub loop-index-preserved : goal.loop-index-preserved
 loop-index-preserved g c =
-    needing_goes_on g.E.Element.words g.E.Fields.has_trees g.E.Fields.size g.met.E.Fields.settled c.args.items.now c.loop-index.index c.loop-index.kept.data_words c.loop-index.kept.pointers c.max.result c.max-2.result c.used.result
-    c.kept.result c.index-items-index.result c.loop-index-test.true c.index-items-index.is (c.used.ensures ∙ ap (λ (l : List ℕ). length (cut_zeros l)) c.words.ensures.value) c.kept.ensures.kept c.max.ensures c.max-2.ensures
+    needing_goes_on g.E.Element.words g.E.Fields.has_trees g.E.Fields.size g.met.E.Fields.settled c.args.items.now c.loop-index.index c.loop-index.kept.data_words c.loop-index.kept.pointers c.max.result c.max-in-loop-index.result c.used.result
+    c.kept.result c.index-items-index.result c.loop-index-test.true c.index-items-index.is (c.used.ensures ∙ ap (λ (l : List ℕ). length (cut_zeros l)) c.words.ensures.value) c.kept.ensures.kept c.max.ensures c.max-in-loop-index.ensures
     c.loop-index.invariant
 
 pub returns-clause-words : goal.returns-clause-words

@@ -27,7 +27,7 @@ returns-in_err-reach g c =
     let p = g.E.Fields.size in
     let f = c.in_ok-elements_fit.ensures in
     let t = told (length c.args.items.now) d p c.data_words.result c.count.result c.data_words.ensures c.count.ensures f.0 f.1 f.2 f.3 in
-    let was : c.from_residual.result ≡ Err c.in_err-reach.field-0.0 = search rules in
+    let was : c.from_residual-in_err-reach.result ≡ Err c.in_err-reach.field-0.0 = search rules in
     subst (λ (x : Result TreeWords Error). Measures (λ t. IsStructList w h d p c.args.items.now t) (λ k. RefusesStructList h g.E.Fields.refuses d p c.args.items.now k) c.args.canonical x) (sym was)
     (list_refused w h g.E.Fields.refuses c.args.canonical d p c.args.items.now c.measure_rows.result c.in_err-reach.field-0.0 t c.in_err-reach.was c.measure_rows.ensures)
 
@@ -55,6 +55,15 @@ overflow_add-kept g c =
 
 pub overflow_mul-kept : goal.overflow_mul-kept
 overflow_mul-kept g c =
+    let a = c.in_ok-reach.ensures.returned in
+    let f = c.in_ok-elements_fit.ensures in
+    let n : ℕ = length c.args.items.now in
+    let t = told n g.E.Element.data_words g.E.Fields.size c.data_words.result c.count.result c.data_words.ensures c.count.ensures f.0 f.1 f.2 f.3 in
+    let k = reach_told c.args.canonical n g.E.Element.data_words g.E.Fields.size (map g.E.Element.words c.args.items.now) a.1.0 c.in_ok-reach.reach t a.0 a.1.2 in
+    record { fits = omega (arith, k.elements) }
+
+pub overflow_add-formed : goal.overflow_add-formed
+overflow_add-formed g c =
     let a = c.in_ok-reach.ensures.returned in
     let f = c.in_ok-elements_fit.ensures in
     let n : ℕ = length c.args.items.now in

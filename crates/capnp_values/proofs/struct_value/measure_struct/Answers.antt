@@ -39,7 +39,7 @@ overflow_add-formed g c =
     let small = c.fits.ensures.0 yes in
     let a = c.in_ok-extent.ensures.returned in
     let b = bounded c.args.canonical g.F.Fields.size a.0 c.in_ok-extent.extent (omega (arith, small.1, c.count.ensures)) (g.met.F.Fields.settled c.args.fields.now a.0 a.1) a.2 in
-    record { fits = omega (arith, b.pointers_few, small.0, c.kept_data.ensures.bound) }
+    record { fits = omega (arith, b.pointers_few, small.0, c.kept_data-data.ensures.bound) }
 
 pub overflow_add-formed-2 : goal.overflow_add-formed-2
 overflow_add-formed-2 g c =
@@ -47,7 +47,7 @@ overflow_add-formed-2 g c =
     let small = c.fits.ensures.0 yes in
     let a = c.in_ok-extent.ensures.returned in
     let b = bounded c.args.canonical g.F.Fields.size a.0 c.in_ok-extent.extent (omega (arith, small.1, c.count.ensures)) (g.met.F.Fields.settled c.args.fields.now a.0 a.1) a.2 in
-    record { fits = omega (arith, b.pointers_few, b.words_few, small.0, c.kept_data.ensures.bound) }
+    record { fits = omega (arith, b.pointers_few, b.words_few, small.0, c.kept_data-data.ensures.bound) }
 
 pub returns : goal.returns
 returns g c =
@@ -57,4 +57,4 @@ returns g c =
     let extent = c.in_ok-extent.extent in
     struct_measured c.args.canonical c.args.words.now g.F.Fields.size (g.F.Fields.has_trees c.args.fields.now) (g.F.Fields.refuses c.args.fields.now) c.measure.result c.in_ok-extent.extent _ _
     (g.met.F.Fields.settled c.args.fields.now) c.in_ok-extent.was c.in_ok-extent.ensures.returned c.measure.ensures.found c.measure.ensures.exact small.0 (omega (arith, small.1, c.count.ensures)) c.words_fit.ensures
-    (omega (arith, c.count-2.ensures, small.1, c.count.ensures)) (omega (arith, c.kept_data.ensures.value))
+    (omega (arith, c.count-2.ensures, small.1, c.count.ensures)) (omega (arith, c.kept_data-data.ensures.value))

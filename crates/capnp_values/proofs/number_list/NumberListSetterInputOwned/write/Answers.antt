@@ -13,8 +13,8 @@ use Rattle.capnp_values.proofs.number_list.NumberListSetterInputOwned.write.Goal
 pub overflow_cast-count : goal.overflow_cast-count
 overflow_cast-count g c = record { fits = omega (arith, (list_room g.N.PrimitiveElement.code g.N.PrimitiveElement.bits_of c.args.self.now.items.now c.args._canonical c.args.next _ c.requires.value).0) }
 
-pub words_of_list-requires-clause-few : goal.words_of_list-requires-clause-few
-words_of_list-requires-clause-few g c = omega (arith, (list_room g.N.PrimitiveElement.code g.N.PrimitiveElement.bits_of c.args.self.now.items.now c.args._canonical c.args.next _ c.requires.value).0)
+pub words_of_list-requires : goal.words_of_list-requires
+words_of_list-requires g c = omega (arith, (list_room g.N.PrimitiveElement.code g.N.PrimitiveElement.bits_of c.args.self.now.items.now c.args._canonical c.args.next _ c.requires.value).0)
 
 pub overflow_add-end : goal.overflow_add-end
 overflow_add-end g c =

@@ -28,15 +28,15 @@ overflow_mul-words g c =
     c.kept_by_each-kept.ensures.pointers in
     record { fits = omega (arith, l.size.elements) }
 
-pub overflow_cast-tag : goal.overflow_cast-tag
-overflow_cast-tag g c =
+pub overflow_cast-kept : goal.overflow_cast-kept
+overflow_cast-kept g c =
     let l = list_place g.E.Element.words g.E.Fields.has_trees c.args.canonical g.E.Element.data_words g.E.Fields.size c.kept_by_each-kept.result.data_words c.kept_by_each-kept.result.pointers g.met.E.Fields.settled
     c.args.self.now.items.now c.args.next (length (words_of c.args.block.now)) c.requires.value.trees c.requires.value.tree_is c.requires.value.rooms c.requires.value.fits c.kept_by_each-kept.ensures.words
     c.kept_by_each-kept.ensures.pointers in
     record { fits = omega (arith, l.size.words_within, l.told_is.few_words) }
 
-pub overflow_cast-tag-2 : goal.overflow_cast-tag-2
-overflow_cast-tag-2 g c =
+pub overflow_cast-kept-2 : goal.overflow_cast-kept-2
+overflow_cast-kept-2 g c =
     let l = list_place g.E.Element.words g.E.Fields.has_trees c.args.canonical g.E.Element.data_words g.E.Fields.size c.kept_by_each-kept.result.data_words c.kept_by_each-kept.result.pointers g.met.E.Fields.settled
     c.args.self.now.items.now c.args.next (length (words_of c.args.block.now)) c.requires.value.trees c.requires.value.tree_is c.requires.value.rooms c.requires.value.fits c.kept_by_each-kept.ensures.words
     c.kept_by_each-kept.ensures.pointers in

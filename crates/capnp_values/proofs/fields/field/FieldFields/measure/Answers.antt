@@ -1,8 +1,9 @@
 -- A row reaches as far as its first value and what is after it.
-use Rattle.std.proofs.Common.{rules, ◌≡◌, ◌∙◌, refl, sym, ap, Ok, Err, arith}
+use Rattle.std.proofs.Common.{rules, ◌≡◌, ◌∙◌, refl, sym, ap, Ok, Err, inr, arith}
 use Rattle.capnp_wire.specs.Tree.{Trees, tree}
 use Rattle.capnp_wire.specs.declared.traits.PartWords.{PartWords}
-use Rattle.capnp_values.specs.Fields.{extent_of}
+use Rattle.capnp_wire.proofs.views.PartWordLemmas.{standing_words}
+use Rattle.capnp_values.specs.Fields.{RefusesRow, extent_of}
 use Rattle.capnp_values.specs.declared.fields.Extent.{Extent}
 use Rattle.capnp_values.proofs.PartLemmas.{part_sizes, has_part, part_of}
 use Rattle.capnp_values.proofs.ReachLemmas.{bounded}
@@ -23,6 +24,14 @@ returns-in_err-own-clause-exact g c kind refused =
     let same : c.in_err-own.field-0.0.kind ≡ kind =
     refused_first (g.V.SetterInput.has_tree c.args.self.now.value) (g.V.SetterInput.refuses c.args.self.now.value) (g.F.Fields.refuses c.args.self.now.rest) c.args.canonical
     c.measure_part.result c.in_err-own.field-0.0 kind was c.measure_part.ensures.found c.measure_part.ensures.exact refused in
+    search rules
+
+pub returns-in_err-rest-clause-returned : goal.returns-in_err-rest-clause-returned
+returns-in_err-rest-clause-returned g c =
+    let h = g.V.SetterInput.has_tree c.args.self.now.value in
+    let own = standing_words h c.args.canonical c.in_ok-own.own c.in_ok-own.ensures.returned in
+    let refused : RefusesRow h (g.V.SetterInput.refuses c.args.self.now.value) (g.F.Fields.refuses c.args.self.now.rest) c.in_err-rest.field-0.0.kind =
+    inr (c.in_ok-own.own.standing, own, c.in_err-rest.ensures.returned) in
     search rules
 
 pub returns-in_err-rest-clause-exact : goal.returns-in_err-rest-clause-exact
