@@ -37,8 +37,7 @@ pub needing_ends : {V : Type 0} (w : V → List ℕ) (h : V → Trees → Type 0
     → (held : Trees) → AreRows h items held → (data_words ≡ least_data (map w items)) × (pointers ≡ least_pointers p (map w items) (trim held))
 needing_ends {V = V} w h p items i data_words pointers past so_far held is =
     let l = so_far.left held is in
-    let empty = none_left items i past in
-    (
+    let empty = none_left items i past in (
       omega (arith, so_far.least_is, ap (λ (x : List V). least_data (map w x)) empty),
       omega (arith, l.2, ap (λ (x : List V). least_pointers p (map w x) (trim l.0)) empty),
     )

@@ -76,12 +76,7 @@ pub(crate) fn measure_bytes(bytes: &[u8]) -> Result<u32>
 }
 
 /// Writes a list of bytes into a block that is zero from the word `next` on.
-pub(crate) fn write_bytes(
-    bytes: &[u8],
-    block: &mut [u8],
-    following: usize,
-    next: usize,
-) -> Copied
+pub(crate) fn write_bytes(bytes: &[u8], block: &mut [u8], following: usize, next: usize) -> Copied
     requires few { length bytes.now < 2 ^ 29 }
     requires room { next + words_for (length bytes.now) 8 ≤ length (words_of block.old) }
     requires free { IsFreeFrom next block.old }
@@ -128,12 +123,7 @@ pub(crate) fn measure_text(bytes: &[u8]) -> Result<u32>
 }
 
 /// Writes a text into a block that is zero from the word `next` on.
-pub(crate) fn write_text(
-    bytes: &[u8],
-    block: &mut [u8],
-    following: usize,
-    next: usize,
-) -> Copied
+pub(crate) fn write_text(bytes: &[u8], block: &mut [u8], following: usize, next: usize) -> Copied
     requires few { length bytes.now + 1 < 2 ^ 29 }
     requires room { next + words_for (length bytes.now + 1) 8 ≤ length (words_of block.old) }
     requires free { IsFreeFrom next block.old }
@@ -166,12 +156,7 @@ pub(crate) fn measure_words(bytes: &[u8]) -> Result<u32>
 
 /// Writes a list of words into a block, from the word `next` on.
 #[tactic(auto, using(crate::proofs::words::WordListLemmas::words_counted))]
-pub(crate) fn write_words(
-    bytes: &[u8],
-    block: &mut [u8],
-    following: usize,
-    next: usize,
-) -> Copied
+pub(crate) fn write_words(bytes: &[u8], block: &mut [u8], following: usize, next: usize) -> Copied
     requires few { length (words_of bytes.now) < 2 ^ 29 }
     requires room { next + length (words_of bytes.now) ≤ length (words_of block.old) }
     requires free { IsFreeFrom next block.old }
