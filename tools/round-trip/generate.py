@@ -62,6 +62,12 @@ GHOSTS = """    ghost has_tree = { λ value trees. ⊥ };
 """
 
 
+CALLS = (
+    ("measure", ", canonical: bool", "capnp::Result<u32>"),
+    ("is_null", "", "bool"),
+    ("write", ", canonical: bool, block: &mut [u8], following: usize, next: usize", "Copied"))
+
+
 def viewed(kind, upgrades):
     """The type of what is read, and set as what is held: of lists of any writer, or of those of the schema's."""
     name = held(kind)[0]
@@ -126,12 +132,13 @@ class Struct:
             text += "}\n\nimpl%s SetterInput<any_pointer::Owned> for %s {\n%s\n" % (
                 "<'a>" if "<" in name else "", name, GHOSTS)
             bare = name.partition("<")[0]
-            for call, result, extra in (("measure", "capnp::Result<u32>", ""), ("write", "Word", ", block: &mut [u8]")):
-                text += "    fn %s(&self, canonical: bool%s) -> %s {\n        match self {\n" % (call, extra, result)
+            for call, taken, result in CALLS:
+                text += "    fn %s(&self%s) -> %s {\n        match self {\n" % (call, taken, result)
+                given = "".join(", " + part.split(":")[0] for part in taken.split(", ")[1:])
                 for field in users:
                     types = "%s, %s" % (held(field.kind)[1], held(field.kind)[0])
-                    text += "            %s::%s(value) => %s_as::<%s>(value, canonical%s),\n" % (
-                        bare, upper(field.name), call, types, ", block" if extra else "")
+                    text += "            %s::%s(value) => %s_as::<%s>(value%s),\n" % (
+                        bare, upper(field.name), call, types, given)
                 text += "        }\n    }\n"
             text += "}\n\n"
         return text
@@ -172,8 +179,12 @@ class Struct:
         measure_as::<any_struct::Owned, _>(&self.value(), canonical)
     }
 
-    fn write(&self, canonical: bool, block: &mut [u8]) -> Word {
-        write_as::<any_struct::Owned, _>(&self.value(), canonical, block)
+    fn is_null(&self) -> bool {
+        is_null_as::<any_struct::Owned, _>(&self.value())
+    }
+
+    fn write(&self, canonical: bool, block: &mut [u8], following: usize, next: usize) -> Copied {
+        write_as::<any_struct::Owned, _>(&self.value(), canonical, block, following, next)
     }
 }
 
@@ -193,8 +204,19 @@ class Struct:
         measure_fields(&self.value().fields, canonical)
     }
 
-    fn write(&self, canonical: bool, gap: u32, pointers: &mut [u8], block: &mut [u8]) {
-        write_fields(&self.value().fields, canonical, gap, pointers, block)
+    fn kept(&self, canonical: bool) -> u32 {
+        kept_fields(&self.value().fields, canonical)
+    }
+
+    fn write(
+        &self,
+        canonical: bool,
+        block: &mut [u8],
+        slot: usize,
+        count: u32,
+        next: usize,
+    ) -> usize {
+        write_fields(&self.value().fields, canonical, block, slot, count, next)
     }
 }
 
@@ -218,13 +240,12 @@ print("""//! Made by tools/round-trip/generate.py.
 use crate::held::*;
 use crate::upgraded::*;
 use anyhow::Result;
-use capnp_frame::Word;
 use capnp_frame::message::ReaderSegments;
 use capnp_values::fields::Extent;
 use capnp_values::{Borrowed, Element, Field, Fields, NoFields, StructValue, pointer_list, struct_list as structs};
 use capnp_wire::any_struct::StructReader;
 use capnp_wire::primitive_element::PrimitiveElement;
-use capnp_wire::traits::SetterInput;
+use capnp_wire::traits::{Copied, SetterInput};
 use capnp_wire::{any_pointer, any_struct, data, primitive_list, text};
 
 fn bits_of<T: PrimitiveElement>(value: T) -> u64 {

@@ -21,4 +21,5 @@ pub mod CanonicalLemmas
 pub mod InitLemmas
 pub mod WriteLemmas
 pub mod NewObjectLemmas
+pub mod BlockLemmas
 pub mod OutputLemmas

@@ -1,20 +1,20 @@
 -- New objects as trees.
 use Rattle.std.proofs.Common.{◌≡◌, ℕ, zero, suc, ◌+◌, ◌*◌, ◌/◌, ◌%◌, ◌^◌, ◌<◌, ◌==◌, if◌then◌else◌, Bool, true, false, List, [], ◌∷◌, ◌++◌, length, replicate, refl, ap, sym, ◌∙◌, arith}
-use Rattle.std.proofs.lemmas.List.{append-nil, length-replicate}
+use Rattle.std.proofs.lemmas.List.{append-nil, length-replicate, drop-replicate, replicate-append-replicate, take-append-drop}
 use Rattle.std.proofs.lemmas.List.Elements.{All-replicate}
-use Rattle.capnp_frame.specs.Words.{bytes_of}
-use Rattle.capnp_frame.specs.declared.words.Word.{Word}
 use Rattle.capnp_wire.specs.Pointer.{number_of, digits, words_of}
 use Rattle.capnp_wire.specs.Element.{words_for}
 use Rattle.capnp_wire.specs.Tree.{struct, Trees, none, tree, total_words}
 use Rattle.capnp_wire.specs.Trim.{cut_zeros, keep_word}
-use Rattle.capnp_wire.specs.Layout.{body, pointer, layout, formed, struct_pointer, minus_one, AllHaveRoom}
-use Rattle.capnp_wire.specs.Values.{HasWords, pointed}
+use Rattle.capnp_wire.specs.Layout.{body, pointer, formed, struct_pointer, minus_one, AllHaveRoom}
+use Rattle.capnp_wire.specs.Block.{put}
+use Rattle.capnp_wire.specs.Copy.{IsCopied}
+use Rattle.capnp_wire.specs.Values.{HasWords, HasRoomAt, IsFreeFrom}
+use Rattle.capnp_wire.proofs.layouts.FreeLemmas.{body_long}
 use Rattle.capnp_wire.proofs.layouts.LayoutLemmas.{if_positive}
 use Rattle.capnp_build.specs.Body.{words_of_body, Fits, body_tag, zero_form, formed_new_object}
 use Rattle.capnp_build.specs.declared.object.Body.{Body}
 use Rattle.capnp_build.specs.declared.object.Body.TheVariants.{Bytes, Words, Struct}
-use Rattle.capnp_build.proofs.WordLemmas.{zero_words}
 
 abbrev pub new_tree : Body → Trees
 new_tree b = tree (zero_form b) none none
@@ -51,9 +51,6 @@ body_of_bytes n = digits (2 ^ 64) (words_for (length {A = ℕ} (replicate n 0)) 
 abbrev body_of_words : ℕ → List ℕ
 body_of_words n = digits (2 ^ 64) (words_for (length {A = ℕ} (replicate n 0)) 64) (number_of (2 ^ 64) (replicate n 0))
 
-abbrev struct_pointer_of : ℕ → ℕ
-struct_pointer_of d = struct_pointer (if d + 0 == 0 then minus_one else 0) d 0
-
 zero_body : (b : Body) → body (new_tree b) ≡ replicate (words_of_body b) 0
 zero_body (Bytes n) =
     append-nil (body_of_bytes n ++ []) ∙ append-nil (body_of_bytes n) ∙ zero_digits (2 ^ 8) (words_for (length {A = ℕ} (replicate n 0)) 8) n (no_number (2 ^ 8) n)
@@ -63,14 +60,9 @@ zero_body (Words n) =
     ∙ ap (λ (k : ℕ). replicate k 0) (omega (arith, long n))
 zero_body (Struct d) = append-nil ((replicate d 0 ++ []) ++ []) ∙ append-nil (replicate d 0 ++ []) ∙ append-nil (replicate d 0)
 
-struct_tag : (d : ℕ) → struct_pointer_of d ≡ body_tag 0 (Struct d)
-struct_tag zero = omega arith
-struct_tag (suc d) = let a = if_positive (suc d + 0) minus_one 0 (omega arith) in omega (arith, a)
-
-zero_tag : (b : Body) → pointer (zero_form b) 0 0 ≡ body_tag 0 b
-zero_tag (Bytes n) = omega (arith, long n)
-zero_tag (Words n) = omega (arith, long n)
-zero_tag (Struct d) = ap struct_pointer_of (long d) ∙ struct_tag d
+struct_tag_at : (gap d : ℕ) → struct_pointer (if d + 0 == 0 then minus_one else gap) d 0 ≡ body_tag gap (Struct d)
+struct_tag_at gap zero = omega arith
+struct_tag_at gap (suc d) = let a = if_positive (suc d + 0) minus_one gap (omega arith) in omega (arith, a)
 
 pub zero_total : (b : Body) → total_words (new_tree b) ≡ words_of_body b
 zero_total (Bytes n) = omega (arith, ap (λ (k : ℕ). words_for k 8) (long n))
@@ -91,14 +83,36 @@ new_object_words b c n fits is few = record {
   few = few;
 }
 
-pub new_object_written : (b : Body) (c : Bool) (word : Word) (block : List ℕ) → HasWords (λ trees. trees ≡ new_tree b) c (length block / 8) → length block % 8 ≡ 0 → block ≡ replicate (length block) 0
-    → number_of 256 (bytes_of word) ≡ body_tag 0 (formed_new_object c b) → (trees : Trees) → trees ≡ new_tree b → pointed word block ≡ layout (formed c trees)
-new_object_written b c word block w whole zeros tag trees is =
-    let n : ℕ = words_of_body (formed_new_object c b) in
-    let count_is : length block / 8 ≡ words_of_body (formed_new_object c b) = w.words_are ∙ ap (λ (t : Trees). total_words (formed c t)) w.tree_is ∙ ap total_words (formed_new c b)
-    ∙ zero_total (formed_new_object c b) in
-    let size : length block ≡ 8 * words_of_body (formed_new_object c b) = omega (arith, count_is, whole) in
-    let words : words_of block ≡ replicate (words_of_body (formed_new_object c b)) 0 = ap words_of zeros ∙ ap (λ (k : ℕ). words_of (replicate k 0)) size ∙ zero_words (words_of_body (formed_new_object c b)) in
-    ap (λ (x : ℕ). x ∷ words_of block) tag ∙ ap (λ (l : List ℕ). body_tag 0 (formed_new_object c b) ∷ l) (words ∙ sym (zero_body (formed_new_object c b)))
-    ∙ ap (λ (x : ℕ). x ∷ body (new_tree (formed_new_object c b))) (sym (zero_tag (formed_new_object c b)))
-    ∙ ap layout (sym (formed_new c b)) ∙ ap (λ (t : Trees). layout (formed c t)) (sym is)
+body_tag_at : (gap : ℕ) (b : Body) → pointer (zero_form b) 0 gap ≡ body_tag gap b
+body_tag_at gap (Bytes n) = omega (arith, long n)
+body_tag_at gap (Words n) = omega (arith, long n)
+body_tag_at gap (Struct d) = ap (λ (k : ℕ). struct_pointer (if k + 0 == 0 then minus_one else gap) k 0) (long d) ∙ struct_tag_at gap d
+
+-- zeros that are put among zeros
+zeros_put : (n next : ℕ) (ws : List ℕ) → drop next ws ≡ replicate (length ws - next) 0 → next + n ≤ length ws → put next (replicate n 0) ws ≡ ws
+zeros_put n next ws zeros room =
+    let size : length {A = ℕ} (replicate n 0) ≡ n = length-replicate {A = ℕ} n 0 in
+    let split : next + length {A = ℕ} (replicate n 0) ≡ next + n = omega (arith, size) in
+    let left : n + (length ws - next - n) ≡ length ws - next = omega (arith, room) in
+    let after : drop (next + n) ws ≡ replicate (length ws - next - n) 0 =
+    sym (drop-drop n next ws) ∙ ap (λ (l : List ℕ). drop n l) zeros ∙ drop-replicate n (length ws - next) 0 in
+    ap (λ (k : ℕ). take next ws ++ (replicate n 0 ++ drop k ws)) split
+    ∙ ap (λ (l : List ℕ). take next ws ++ (replicate n 0 ++ l)) after
+    ∙ ap (λ (l : List ℕ). take next ws ++ l) (replicate-append-replicate n (length ws - next - n) 0 ∙ ap (λ (k : ℕ). replicate k 0) left ∙ sym zeros)
+    ∙ take-append-drop next ws
+
+pub new_object_written : (b : Body) (c : Bool) (gap next tag end : ℕ) (block : List ℕ) → HasRoomAt (λ trees. trees ≡ new_tree b) c next (length (words_of block)) → IsFreeFrom next block
+    → tag ≡ body_tag gap (formed_new_object c b) → end ≡ next + words_of_body (formed_new_object c b) → (trees : Trees) → trees ≡ new_tree b
+    → IsCopied (formed c trees) gap next (words_of block) (words_of block) (record { pointer = tag; next = end })
+new_object_written b c gap next tag end block w f tag_is end_is trees is =
+    let made : Body = formed_new_object c b in
+    let total : total_words (formed c w.trees) ≡ words_of_body (formed_new_object c b) = ap (λ (t : Trees). total_words (formed c t)) w.tree_is ∙ ap total_words (formed_new c b) ∙ zero_total (formed_new_object c b) in
+    subst (λ (t : Trees). IsCopied t gap next (words_of block) (words_of block) (record { pointer = tag; next = end })) (sym (ap (formed c) is ∙ formed_new c b)) (record {
+      words_are = sym (ap (λ (l : List ℕ). put next l (words_of block)) (zero_body made) ∙ zeros_put (words_of_body made) next (words_of block) f.zero (omega (arith, w.fits, total)));
+      pointer_is = tag_is ∙ sym (body_tag_at gap made);
+      next_is = end_is ∙ ap (λ (n : ℕ). next + n) (sym (zero_total made));
+    })
+
+pub new_object_long : (b : Body) (c : Bool) (next room : ℕ) → HasRoomAt (λ trees. trees ≡ new_tree b) c next room → (trees : Trees) → trees ≡ new_tree b
+    → length (body (formed c trees)) ≡ total_words (formed c trees)
+new_object_long b c next room w = body_long (λ trees. trees ≡ new_tree b) c next room (λ x y p q. p ∙ sym q) w

@@ -65,25 +65,6 @@ words_set bytes i x w within small is eight =
     ∙ set_chunk k i bytes w (omega arith) inside eight
     ∙ ap (λ (v : ℕ). slice_set (words_of bytes) i v) (word_back x w small is eight)
 
-number_zero : (xs : List ℕ) → All (λ b. b ≡ 0) xs → number_of 256 xs ≡ 0
-number_zero [] all = refl
-number_zero (x ∷ xs) all =
-    let first : x ≡ 0 = all 0 0 (omega arith) in
-    let rest : number_of 256 xs ≡ 0 = number_zero xs (λ k d h. all (suc k) d (omega (arith, h))) in
-    omega (arith, first, rest)
-
-zero_chunks : (k : ℕ) (xs : List ℕ) → All (λ b. b ≡ 0) xs → map (number_of 256) (first_chunks 8 k xs) ≡ replicate k 0
-zero_chunks zero xs all = refl
-zero_chunks (suc k) xs all =
-    let first : number_of 256 (take 8 xs) ≡ 0 = number_zero (take 8 xs) (All-take (λ b. b ≡ 0) 8 xs all) in
-    let rest : map (number_of 256) (first_chunks 8 k (drop 8 xs)) ≡ replicate k 0 = zero_chunks k (drop 8 xs) (All-drop (λ b. b ≡ 0) 8 xs all) in
-    rw (first, rest) refl
-
-pub zero_words : (n : ℕ) → words_of (replicate (8 * n) 0) ≡ replicate n 0
-zero_words n =
-    let count : length {A = ℕ} (replicate (8 * n) 0) / 8 ≡ n = omega (arith, length-replicate {A = ℕ} (8 * n) 0) in
-    zero_chunks (length {A = ℕ} (replicate (8 * n) 0) / 8) (replicate (8 * n) 0) (All-replicate (λ b. b ≡ 0) (8 * n) 0 refl) ∙ ap (λ (k : ℕ). replicate k 0) count
-
 -- a word that is looked up, 0 past the end
 pub got_word : (xs : List ℕ) (i x : ℕ) → slice_get xs i ≡ Some x → slice_index_or xs i 0 ≡ x
 got_word [] i x e = cc

@@ -6,9 +6,8 @@ ghost use Rattle.capnp_wire.specs.Values.{HasWords};
 ghost use Rattle.std.specs.Prelude.{false};
 
 use crate::object::Body;
-use capnp_frame::{Result, Word};
-use capnp_wire::pointer_word::word_of;
-use capnp_wire::traits::SetterInput;
+use capnp_frame::Result;
+use capnp_wire::traits::{Copied, SetterInput};
 use std::marker::Model;
 
 /// New objects, as a type of a schema.
@@ -72,7 +71,16 @@ impl SetterInput<Owned> for NewObject {
         Ok(self.formed(canonical).words())
     }
 
-    fn write(&self, canonical: bool, block: &mut [u8]) -> Word {
-        word_of(self.formed(canonical).tag(0))
+    fn is_null(&self) -> bool {
+        false
+    }
+
+    // The block is zero there.
+    fn write(&self, canonical: bool, _block: &mut [u8], following: usize, next: usize) -> Copied {
+        let body = self.formed(canonical);
+        Copied {
+            pointer: body.tag((next - following) as u32),
+            next: next + body.words() as usize,
+        }
     }
 }

@@ -5,6 +5,7 @@ ghost use Rattle.capnp_build.specs.Bytes.{IsOverwritten};
 ghost use Rattle.capnp_build.specs.Filled.{IsFilled};
 
 use capnp_frame::Word;
+use capnp_wire::pointer_word::word_of;
 use capnp_wire::traits::SetterInput;
 
 /// The bytes of a segment. How many there are, and whether they are caller-provided, stays as it is.
@@ -72,7 +73,7 @@ impl SegmentSpace for Vec<u8> {
         canonical: bool,
         value: &V,
     ) -> Word {
-        value.write(canonical, &mut self[from..to])
+        write_into(self, from, to, canonical, value)
     }
 }
 
@@ -100,6 +101,25 @@ impl<'a> SegmentSpace for &'a mut [u8] {
         canonical: bool,
         value: &V,
     ) -> Word {
-        value.write(canonical, &mut self[from..to])
+        write_into(self, from, to, canonical, value)
     }
+}
+
+// Writes a value into a part of some bytes, which is zero and just its words.
+fn write_into<T, V: SetterInput<T>>(
+    bytes: &mut [u8],
+    from: usize,
+    to: usize,
+    canonical: bool,
+    value: &V,
+) -> Word
+    requires order { from ≤ to }
+    requires within { to ≤ length bytes.old }
+    requires whole { (to - from) % 8 ≡ 0 }
+    requires zero { take (to - from) (drop from bytes.old) ≡ replicate (to - from) 0 }
+    requires words { HasWords (V.has_tree value.now) canonical ((to - from) / 8) }
+    ensures { IsFilled (V.has_tree value.now) canonical result from (to - from) bytes.old bytes.new }
+{
+    let copied = value.write(canonical, &mut bytes[from..to], 0, 0);
+    word_of(copied.pointer)
 }

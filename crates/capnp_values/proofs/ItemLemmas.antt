@@ -3,15 +3,18 @@ use Rattle.std.proofs.Common.{◌≡◌, ℕ, zero, suc, ◌+◌, ◌*◌, ◌<�
 use Rattle.std.specs.Result.{IsErrAnd}
 use Rattle.capnp_frame.specs.declared.error.Error.{Error}
 use Rattle.capnp_frame.specs.declared.error.ErrorKind.{ErrorKind}
-use Rattle.capnp_wire.specs.Tree.{Form, Trees, none, tree, count, total_words}
-use Rattle.capnp_wire.specs.Layout.{formed}
-use Rattle.capnp_wire.specs.Values.{HasWords, LacksWords}
+use Rattle.capnp_wire.specs.Tree.{Trees, none, tree, count, total_words}
+use Rattle.capnp_wire.specs.Layout.{formed, AllHaveRoom}
+use Rattle.capnp_wire.specs.Values.{LacksWords, HasPart}
+use Rattle.capnp_wire.specs.declared.traits.PartWords.{PartWords}
 use Rattle.capnp_wire.proofs.trees.TrimLemmas.{total-trim}
-use Rattle.capnp_wire.proofs.layouts.CopyLemmas.{totals_step}
-use Rattle.capnp_values.specs.Fields.{IsPart, IsSettled}
+use Rattle.capnp_wire.proofs.views.PartWordLemmas.{standing_words}
+use Rattle.capnp_values.specs.Fields.{IsSettled}
 use Rattle.capnp_values.specs.FieldLaws.{settled_none, settled_more}
-use Rattle.capnp_values.specs.Lists.{AreItems, RefusesItems, MeasuresRow}
-use Rattle.capnp_values.proofs.PartLemmas.{part_total, part_words, part_of}
+use Rattle.capnp_values.specs.Measured.{tree_words, Measures}
+use Rattle.capnp_values.specs.Lists.{AreItems, RefusesItems}
+use Rattle.capnp_values.specs.declared.measured.TreeWords.{TreeWords}
+use Rattle.capnp_values.proofs.PartLemmas.{part_sizes, has_part, part_of, part_less, more_total}
 use Rattle.capnp_values.proofs.ResultLemmas.{refused_first, refused_rest}
 
 -- the values from one on
@@ -33,67 +36,146 @@ pub formed_small : (c : Bool) (size : ℕ) (t : Trees) → IsSettled size t → 
 formed_small true size t s = omega (arith, total-trim t s.rooms, s.few)
 formed_small false size t s = s.few
 
-pub items_few : {V : Type 0} (h : V → Trees → Type 0) (vs : List V) (c : Bool) (t : Trees) → AreItems h vs t → total_words (formed c t) ≤ length vs * 2 ^ 29
-items_few h vs c t is = formed_small c (length vs) t (items_settled h vs t is)
+-- words of trees, and those of others
+pub same_tree_words : (a b : TreeWords) → a.standing ≡ b.standing → a.formed ≡ b.formed → a ≡ b
+same_tree_words a b s f =
+    let p : ℕ → ℕ → TreeWords = λ x y. record { standing = x; formed = y } in
+    ap (λ (x : ℕ). p x a.formed) s ∙ ap (λ (y : ℕ). p b.standing y) f
 
-pub measured_few : {V : Type 0} (h : V → Trees → Type 0) (r : V → ErrorKind → Type 0) (vs : List V) (c : Bool) (returned : Result ℕ Error) (words : ℕ) → returned ≡ Ok words
-    → MeasuresRow (λ t. AreItems h vs t) (λ k. RefusesItems h r vs k) c returned → words ≤ length vs * 2 ^ 29
-measured_few h r vs c returned words was m =
-    let a = (subst (λ (x : Result ℕ Error). MeasuresRow (λ t. AreItems h vs t) (λ k. RefusesItems h r vs k) c x) was m).returned in
-    omega (arith, a.2, items_few h vs c a.0 a.1)
+abbrev pub both_words : TreeWords → TreeWords → TreeWords
+both_words a b = record { standing = a.standing + b.standing; formed = a.formed + b.formed }
+
+abbrev pub onto : TreeWords → Result TreeWords Error → Result TreeWords Error
+onto words (Ok more) = Ok (both_words words more)
+onto words (Err error) = Err error
+
+onto_none : (rest : Result TreeWords Error) → onto (record { standing = 0; formed = 0 }) rest ≡ rest
+onto_none (Ok more) = ap (λ (w : TreeWords). Ok w) (same_tree_words (both_words (record { standing = 0; formed = 0 }) more) more (omega arith) (omega arith))
+onto_none (Err error) = refl
+
+onto_both : (a b : TreeWords) (rest : Result TreeWords Error) → onto a (onto b rest) ≡ onto (both_words a b) rest
+onto_both a b (Ok more) = ap (λ (w : TreeWords). Ok w) (same_tree_words (both_words a (both_words b more)) (both_words (both_words a b) more) (omega arith) (omega arith))
+onto_both a b (Err error) = refl
+
+-- what is measured of some values
+abbrev pub MeasuresItems : {V : Type 0} → (V → Trees → Type 0) → (V → ErrorKind → Type 0) → List V → Bool → Result TreeWords Error → Type 0
+MeasuresItems h r vs c res = Measures (λ t. AreItems h vs t) (λ k. RefusesItems h r vs k) c res
+
+pub items_few : {V : Type 0} (h : V → Trees → Type 0) (r : V → ErrorKind → Type 0) (vs : List V) (c : Bool) (res : Result TreeWords Error) (words : TreeWords) → res ≡ Ok words
+    → MeasuresItems h r vs c res → (words.standing ≤ length vs * 2 ^ 29) × (words.formed ≤ length vs * 2 ^ 29)
+items_few h r vs c res words was m =
+    let a = (subst (λ (x : Result TreeWords Error). MeasuresItems h r vs c x) was m).returned in
+    let s = items_settled h vs a.0 a.1 in (
+      omega (arith, ap (λ (w : TreeWords). w.standing) a.3, s.few),
+      omega (arith, ap (λ (w : TreeWords). w.formed) a.3, formed_small c (length vs) a.0 s),
+    )
 
 -- the first of them is refused
-pub first_refused : {V : Type 0} (h : V → Trees → Type 0) (r : V → ErrorKind → Type 0) (v : V) (vs : List V) (c : Bool) (returned : Result ℕ Error) (error : Error) → returned ≡ Err error
-    → LacksWords (h v) (r v) false error.kind → ((words : ℕ) → HasWords (h v) false words → returned ≡ Ok words)
-    → ((k : ErrorKind) → LacksWords (h v) (r v) false k → IsErrAnd returned (λ e. e.kind ≡ k)) → MeasuresRow (λ t. AreItems h (v ∷ vs) t) (λ k. RefusesItems h r (v ∷ vs) k) c (Err error)
+pub first_refused : {V : Type 0} (h : V → Trees → Type 0) (r : V → ErrorKind → Type 0) (v : V) (vs : List V) (c : Bool) (returned : Result PartWords Error) (error : Error) → returned ≡ Err error
+    → LacksWords (h v) (r v) false error.kind → ((words : PartWords) → HasPart (h v) c words → returned ≡ Ok words)
+    → ((k : ErrorKind) → LacksWords (h v) (r v) false k → IsErrAnd returned (λ e. e.kind ≡ k)) → MeasuresItems h r (v ∷ vs) c (Err error)
 first_refused h r v vs c returned error was lacks found exact = record {
   returned = inl lacks;
-  found = λ trees is. let ok : returned ≡ Ok (part_total false is.form is.held) = found (part_total false is.form is.held) (part_words false (h v) is.form is.held is.part) in absurd (cc);
-  exact = λ kind refused. refused_first (h v) (r v) (λ k. RefusesItems h r vs k) returned error kind was found exact refused;
+  found = λ trees is. let ok : returned ≡ Ok (part_sizes c is.form is.held) = found (part_sizes c is.form is.held) (has_part (h v) c is.form is.held is.part) in absurd (cc);
+  exact = λ kind refused. refused_first (h v) (r v) (λ k. RefusesItems h r vs k) c returned error kind was found exact refused;
 }
 
--- one of those after it is
-pub rest_refused : {V : Type 0} (h : V → Trees → Type 0) (r : V → ErrorKind → Type 0) (v : V) (vs : List V) (c : Bool) (returned rest : Result ℕ Error) (plain : ℕ) (error : Error)
-    → returned ≡ Ok plain → rest ≡ Err error → HasWords (h v) false plain → ((k : ErrorKind) → LacksWords (h v) (r v) false k → IsErrAnd returned (λ e. e.kind ≡ k))
-    → MeasuresRow (λ t. AreItems h vs t) (λ k. RefusesItems h r vs k) c rest → MeasuresRow (λ t. AreItems h (v ∷ vs) t) (λ k. RefusesItems h r (v ∷ vs) k) c (Err error)
-rest_refused h r v vs c returned rest plain error was rest_was has exact m =
-    let m_err : MeasuresRow (λ t. AreItems h vs t) (λ k. RefusesItems h r vs k) c (Err error) = subst (λ (x : Result ℕ Error). MeasuresRow (λ t. AreItems h vs t) (λ k. RefusesItems h r vs k) c x) rest_was m in
+-- it is measured, in front of those after it
+abbrev as_trees : PartWords → TreeWords
+as_trees own = record { standing = own.standing; formed = own.formed }
+
+item_refused : {V : Type 0} (h : V → Trees → Type 0) (r : V → ErrorKind → Type 0) (v : V) (vs : List V) (c : Bool) (returned : Result PartWords Error) (own : PartWords) (error : Error)
+    → returned ≡ Ok own → HasPart (h v) c own → ((k : ErrorKind) → LacksWords (h v) (r v) false k → IsErrAnd returned (λ e. e.kind ≡ k))
+    → MeasuresItems h r vs c (Err error) → MeasuresItems h r (v ∷ vs) c (Err error)
+item_refused h r v vs c returned own error was has exact m = record {
+  returned = inr (own.standing, standing_words (h v) c own has, m.returned);
+  found = λ trees is. let ok : Err error ≡ Ok (tree_words c is.rest) = m.found is.rest is.others in absurd (cc);
+  exact = λ kind refused. m.exact kind (refused_rest (h v) (r v) (λ k. RefusesItems h r vs k) returned own kind was exact refused);
+}
+
+item_found : {V : Type 0} (h : V → Trees → Type 0) (r : V → ErrorKind → Type 0) (v : V) (vs : List V) (c : Bool) (returned : Result PartWords Error) (own : PartWords) (words : TreeWords)
+    → returned ≡ Ok own → ((parts : PartWords) → HasPart (h v) c parts → returned ≡ Ok parts) → MeasuresItems h r vs c (Ok words) → (trees : Trees) → AreItems h (v ∷ vs) trees
+    → both_words (as_trees own) words ≡ tree_words c trees
+item_found h r v vs c returned own words was found m trees is =
+    let there : Ok words ≡ Ok (tree_words c is.rest) = m.found is.rest is.others in
+    let same : words ≡ tree_words c is.rest = cc in
+    let parts : returned ≡ Ok (part_sizes c is.form is.held) = found (part_sizes c is.form is.held) (has_part (h v) c is.form is.held is.part) in
+    let own_is : own ≡ part_sizes c is.form is.held = cc in
+    let whole : tree_words c trees ≡ tree_words c (tree is.form is.held is.rest) = ap (tree_words c) is.whole in
+    same_tree_words (both_words (as_trees own) words) (tree_words c (tree is.form is.held is.rest))
+    (omega (arith, ap (λ (w : TreeWords). w.standing) same, ap (λ (w : PartWords). w.standing) own_is))
+    (omega (arith, ap (λ (w : TreeWords). w.formed) same, ap (λ (w : PartWords). w.formed) own_is, more_total c is.form is.held is.rest)) ∙ sym whole
+
+item_measured : {V : Type 0} (h : V → Trees → Type 0) (r : V → ErrorKind → Type 0) (v : V) (vs : List V) (c : Bool) (returned : Result PartWords Error) (own : PartWords) (words : TreeWords)
+    → returned ≡ Ok own → HasPart (h v) c own → ((trees : Trees) → h v trees → count trees ≡ 1) → ((parts : PartWords) → HasPart (h v) c parts → returned ≡ Ok parts)
+    → ((k : ErrorKind) → LacksWords (h v) (r v) false k → IsErrAnd returned (λ e. e.kind ≡ k)) → MeasuresItems h r vs c (Ok words)
+    → MeasuresItems h r (v ∷ vs) c (Ok (both_words (as_trees own) words))
+item_measured h r v vs c returned own words was has one found exact m =
+    let p = part_of (h v) c own one has in
+    let a = m.returned in
+    let is : AreItems h (v ∷ vs) (tree p.form p.held a.0) = record { form = p.form; held = p.held; rest = a.0; whole = refl; part = p.part; others = a.1 } in
     record {
-      returned = inr (plain, has, m_err.returned);
-      found = λ trees is. let ok : Err error ≡ Ok (total_words (formed c is.rest)) = m_err.found is.rest is.others in absurd (cc);
-      exact = λ kind refused. m_err.exact kind (refused_rest (h v) (r v) (λ k. RefusesItems h r vs k) returned plain kind was exact refused);
+      returned = (tree p.form p.held a.0, is, (p.part.rooms.0, p.part.rooms.1, a.2), item_found h r v vs c returned own words was found m (tree p.form p.held a.0) is);
+      found = λ trees there. ap (λ (w : TreeWords). Ok w) (item_found h r v vs c returned own words was found m trees there);
+      exact = λ kind refused. m.exact kind (refused_rest (h v) (r v) (λ k. RefusesItems h r vs k) returned own kind was exact refused);
     }
 
--- all are measured
-pub items_measured : {V : Type 0} (h : V → Trees → Type 0) (r : V → ErrorKind → Type 0) (v : V) (vs : List V) (c : Bool) (returned rest : Result ℕ Error) (plain own words : ℕ)
-    → returned ≡ Ok plain → rest ≡ Ok words → HasWords (h v) false plain → ((trees : Trees) → h v trees → count trees ≡ 1)
-    → ((k : ErrorKind) → LacksWords (h v) (r v) false k → IsErrAnd returned (λ e. e.kind ≡ k))
-    → ((form : Form) (held : Trees) → IsPart (h v) form held → own ≡ total_words (formed c (tree form held none)))
-    → MeasuresRow (λ t. AreItems h vs t) (λ k. RefusesItems h r vs k) c rest → MeasuresRow (λ t. AreItems h (v ∷ vs) t) (λ k. RefusesItems h r (v ∷ vs) k) c (Ok (own + words))
-items_measured h r v vs c returned rest plain own words was rest_was has one exact own_is m =
-    let m_ok : MeasuresRow (λ t. AreItems h vs t) (λ k. RefusesItems h r vs k) c (Ok words) = subst (λ (x : Result ℕ Error). MeasuresRow (λ t. AreItems h vs t) (λ k. RefusesItems h r vs k) c x) rest_was m in
-    let p = part_of (h v) plain one has in
-    let a = m_ok.returned in
+item_front : {V : Type 0} (h : V → Trees → Type 0) (r : V → ErrorKind → Type 0) (v : V) (vs : List V) (c : Bool) (returned : Result PartWords Error) (own : PartWords) (rest : Result TreeWords Error)
+    → returned ≡ Ok own → HasPart (h v) c own → ((trees : Trees) → h v trees → count trees ≡ 1) → ((parts : PartWords) → HasPart (h v) c parts → returned ≡ Ok parts)
+    → ((k : ErrorKind) → LacksWords (h v) (r v) false k → IsErrAnd returned (λ e. e.kind ≡ k)) → MeasuresItems h r vs c rest → MeasuresItems h r (v ∷ vs) c (onto (as_trees own) rest)
+item_front h r v vs c returned own (Ok words) was has one found exact m = item_measured h r v vs c returned own words was has one found exact m
+item_front h r v vs c returned own (Err error) was has one found exact m = item_refused h r v vs c returned own error was has exact m
+
+-- how far the measuring of some values has come: with what is measured of those that are left, all are measured
+pub record ItemsMeasured {V : Type 0} (h : V → Trees → Type 0) (r : V → ErrorKind → Type 0) (c : Bool) (items : List V) (i : ℕ) (words : TreeWords) : Type 0 where
+  pub standing_few : words.standing ≤ i * 2 ^ 29
+  pub formed_few : words.formed ≤ i * 2 ^ 29
+  pub ends : (rest : Result TreeWords Error) → MeasuresItems h r (drop i items) c rest → MeasuresItems h r items c (onto words rest)
+
+pub measuring_begins : {V : Type 0} (h : V → Trees → Type 0) (r : V → ErrorKind → Type 0) (c : Bool) (items : List V) → ItemsMeasured h r c items 0 (record { standing = 0; formed = 0 })
+measuring_begins h r c items = record {
+  standing_few = omega arith;
+  formed_few = omega arith;
+  ends = λ rest m. subst (λ (x : Result TreeWords Error). MeasuresItems h r items c x) (sym (onto_none rest)) m;
+}
+
+pub measuring_goes_on : {V : Type 0} (h : V → Trees → Type 0) (r : V → ErrorKind → Type 0) (c : Bool) (items : List V) (i : ℕ) (words : TreeWords) (v : V) (returned : Result PartWords Error) (own : PartWords)
+    → i < length items → v ≡ get_or items i v → returned ≡ Ok own → HasPart (h v) c own → ((trees : Trees) → h v trees → count trees ≡ 1)
+    → ((parts : PartWords) → HasPart (h v) c parts → returned ≡ Ok parts) → ((k : ErrorKind) → LacksWords (h v) (r v) false k → IsErrAnd returned (λ e. e.kind ≡ k))
+    → ItemsMeasured h r c items i words → ItemsMeasured h r c items (i + 1) (both_words words (as_trees own))
+measuring_goes_on {V = V} h r c items i words v returned own within is was has one found exact so_far =
+    let p = part_of (h v) c own one has in
+    let small : own.standing < 2 ^ 29 = has.few in
+    let less : own.formed ≤ own.standing = omega (arith, p.standing_is, p.formed_is, part_less c p.form p.held p.part.rooms) in
     record {
-      returned = (
-        tree p.0 p.1 a.0,
-        record { form = p.0; held = p.1; rest = a.0; whole = refl; part = p.2; others = a.1 },
-        omega (arith, own_is p.0 p.1 p.2, a.2, totals_step c p.0 p.1 a.0),
-      );
-      found = λ trees is.
-          let there : Ok words ≡ Ok (total_words (formed c is.rest)) = m_ok.found is.rest is.others in
-          let same : words ≡ total_words (formed c is.rest) = cc in
-          let whole : total_words (formed c trees) ≡ total_words (formed c (tree is.form is.held is.rest)) = ap (λ (t : Trees). total_words (formed c t)) is.whole in
-          ap (λ (n : ℕ). Ok n) (omega (arith, own_is is.form is.held is.part, same, whole, totals_step c is.form is.held is.rest));
-      exact = λ kind refused.
-          m_ok.exact kind (refused_rest (h v) (r v) (λ k. RefusesItems h r vs k) returned plain kind was exact refused);
+      standing_few = omega (arith, so_far.standing_few, small);
+      formed_few = omega (arith, so_far.formed_few, small, less);
+      ends = λ rest m.
+          let here = subst (λ (l : List V). MeasuresItems h r l c (onto (as_trees own) rest)) (sym (from_here items i v within is))
+          (item_front h r v (drop (i + 1) items) c returned own rest was has one found exact m) in
+          subst (λ (x : Result TreeWords Error). MeasuresItems h r items c x) (onto_both words (as_trees own) rest) (so_far.ends (onto (as_trees own) rest) here);
     }
 
-pub none_measured : {V : Type 0} (h : V → Trees → Type 0) (r : V → ErrorKind → Type 0) (items : List V) (c : Bool) (n : ℕ) → length items ≤ n
-    → MeasuresRow (λ t. AreItems h (drop n items) t) (λ k. RefusesItems h r (drop n items) k) c (Ok 0)
-none_measured h r (x ∷ xs) c zero past = absurd (omega (arith, past))
-none_measured h r (x ∷ xs) c (suc n) past = none_measured h r xs c n (omega arith)
-none_measured h r [] true zero past = record { returned = (none, refl, refl); found = λ trees is. ap (λ (t : Trees). Ok (total_words (formed true t))) (sym is); exact = λ kind refused. absurd refused }
-none_measured h r [] true (suc n) past = record { returned = (none, refl, refl); found = λ trees is. ap (λ (t : Trees). Ok (total_words (formed true t))) (sym is); exact = λ kind refused. absurd refused }
-none_measured h r [] false zero past = record { returned = (none, refl, refl); found = λ trees is. ap (λ (t : Trees). Ok (total_words (formed false t))) (sym is); exact = λ kind refused. absurd refused }
-none_measured h r [] false (suc n) past = record { returned = (none, refl, refl); found = λ trees is. ap (λ (t : Trees). Ok (total_words (formed false t))) (sym is); exact = λ kind refused. absurd refused }
+pub measuring_stops : {V : Type 0} (h : V → Trees → Type 0) (r : V → ErrorKind → Type 0) (c : Bool) (items : List V) (i : ℕ) (words : TreeWords) (v : V) (returned : Result PartWords Error) (error : Error)
+    → i < length items → v ≡ get_or items i v → returned ≡ Err error → LacksWords (h v) (r v) false error.kind → ((parts : PartWords) → HasPart (h v) c parts → returned ≡ Ok parts)
+    → ((k : ErrorKind) → LacksWords (h v) (r v) false k → IsErrAnd returned (λ e. e.kind ≡ k)) → ItemsMeasured h r c items i words → MeasuresItems h r items c (Err error)
+measuring_stops {V = V} h r c items i words v returned error within is was lacks found exact so_far =
+    so_far.ends (Err error) (subst (λ (l : List V). MeasuresItems h r l c (Err error)) (sym (from_here items i v within is))
+    (first_refused h r v (drop (i + 1) items) c returned error was lacks found exact))
+
+none_measured : {V : Type 0} (h : V → Trees → Type 0) (r : V → ErrorKind → Type 0) (c : Bool) → MeasuresItems h r [] c (Ok (record { standing = 0; formed = 0 }))
+none_measured h r true = record { returned = (none, refl, tt, refl); found = λ trees is. ap (λ (t : Trees). Ok (tree_words true t)) (sym is); exact = λ kind refused. absurd refused }
+none_measured h r false = record { returned = (none, refl, tt, refl); found = λ trees is. ap (λ (t : Trees). Ok (tree_words false t)) (sym is); exact = λ kind refused. absurd refused }
+
+pub none_left : {V : Type 0} (items : List V) (n : ℕ) → length items ≤ n → drop n items ≡ []
+none_left [] zero past = refl
+none_left [] (suc n) past = refl
+none_left (x ∷ xs) zero past = absurd (omega (arith, past))
+none_left (x ∷ xs) (suc n) past = none_left xs n (omega (arith, past))
+
+pub measuring_ends : {V : Type 0} (h : V → Trees → Type 0) (r : V → ErrorKind → Type 0) (c : Bool) (items : List V) (i : ℕ) (words : TreeWords) → length items ≤ i
+    → ItemsMeasured h r c items i words → MeasuresItems h r items c (Ok words)
+measuring_ends {V = V} h r c items i words past so_far =
+    subst (λ (w : TreeWords). MeasuresItems h r items c (Ok w)) (same_tree_words (both_words words (record { standing = 0; formed = 0 })) words (omega arith) (omega arith))
+    (so_far.ends (Ok (record { standing = 0; formed = 0 }))
+    (subst (λ (l : List V). MeasuresItems h r l c (Ok (record { standing = 0; formed = 0 }))) (sym (none_left items i past)) (none_measured h r c)))

@@ -6,11 +6,16 @@ pub mod RowLemmas
 pub mod StructLemmas
 pub mod StructListLemmas
 pub mod StructRowLemmas
-pub mod StructRowEndLemmas
 pub mod StructListValueLemmas
+pub mod StructListCopyLemmas
 pub mod SectionLemmas
 pub mod NullLemmas
 pub mod ItemLemmas
 pub mod ItemRowLemmas
 pub mod PointerListLemmas
 pub mod NumberListLemmas
+pub mod MeasuredLemmas
+pub mod FilledLemmas
+pub mod FillRowLemmas
+pub mod RowMeasureLemmas
+pub mod KeptRowLemmas

@@ -3,15 +3,17 @@ use native.Mathlib.Nat.{pow-zero, pow-suc, one-mul, pow-le-pow_right}
 use Rattle.std.proofs.Common.{◌≡◌, ℕ, zero, suc, ◌+◌, ◌-◌, ◌*◌, ◌/◌, ◌%◌, ◌<◌, ◌≤◌, ◌^◌, Bool, true, false, List, [], ◌∷◌, ◌++◌, length, map, take, drop, Some, slice_get, refl, sym, ◌∙◌, ap, subst, arith, get_or, length-take, length-drop, drop-drop}
 use Rattle.std.specs.Prelude.{All, min}
 use Rattle.std.proofs.Math.Nat.{mul-le-mul_left}
-use Rattle.std.proofs.lemmas.List.{append-nil, take-map, drop-map, length-map}
+use Rattle.std.proofs.lemmas.List.{take-map, drop-map, length-map}
 use Rattle.std.proofs.lemmas.List.Elements.{All-cons, All-take, All-drop}
-use Rattle.capnp_frame.specs.Words.{bytes_of}
-use Rattle.capnp_frame.specs.declared.words.Word.{Word}
 use Rattle.capnp_wire.specs.Pointer.{digits, number_of, words_of}
 use Rattle.capnp_wire.specs.Element.{width, words_for}
 use Rattle.capnp_wire.specs.Tree.{numbers, Trees, none, tree, total_words}
-use Rattle.capnp_wire.specs.Layout.{list_pointer, layout, formed, AllHaveRoom}
-use Rattle.capnp_wire.specs.Values.{HasWords, pointed}
+use Rattle.capnp_wire.specs.Layout.{own, formed, AllHaveRoom}
+use Rattle.capnp_wire.specs.Block.{put}
+use Rattle.capnp_wire.specs.Values.{HasWords, HasRoomAt}
+use Rattle.capnp_wire.proofs.words.WordLemmas.{length-words_of}
+use Rattle.capnp_wire.proofs.words.PutLemmas.{put_mid_words}
+use Rattle.capnp_wire.proofs.layouts.FreeLemmas.{numbers_total as numbers_total_of}
 use Rattle.capnp_wire.proofs.views.OneValueLemmas.{IsOne}
 use Rattle.capnp_wire.proofs.objects.ElementLemmas.{low_digit, high_digits}
 use Rattle.capnp_wire.proofs.words.DigitLemmas.{number_below, pow-mul}
@@ -130,20 +132,14 @@ word_within (suc (suc (suc (suc (suc (suc code)))))) each n index some known is 
 pub base_power : (code each : ℕ) → each * width code ≡ 64 → (2 ^ width code) ^ each ≡ 2 ^ 64
 base_power code each room = sym (pow-mul 2 (width code) each) ∙ ap (λ (n : ℕ). 2 ^ n) (let e : width code * each ≡ 64 = omega (arith, room) in e)
 
-numbers_layout : (c : Bool) (code : ℕ) (bits : List ℕ) → layout (tree (numbers code bits) none none) ≡ layout (formed c (tree (numbers code bits) none none))
-numbers_layout true code bits = refl
-numbers_layout false code bits = refl
-
--- what is written of a list
-pub numbers_written : (c : Bool) (code n : ℕ) (bits : List ℕ) (word : Word) (block : List ℕ) (trees : Trees) → IsNumberList code bits trees → n ≡ length bits
-    → number_of 256 (bytes_of word) ≡ list_pointer 0 code n → words_of block ≡ digits (2 ^ 64) (words_for n (width code)) (number_of (2 ^ width code) bits)
-    → pointed word block ≡ layout (formed c trees)
-numbers_written c code n bits word block trees is n_is word_is block_is =
-    let d : ℕ → List ℕ = λ k. digits (2 ^ 64) (words_for k (width code)) (number_of (2 ^ width code) bits) in
-    ap (λ (l : List ℕ). number_of 256 (bytes_of word) ∷ l) block_is ∙ ap (λ (k : ℕ). k ∷ d n) word_is
-    ∙ ap (λ (k : ℕ). list_pointer 0 code k ∷ d k) n_is
-    ∙ ap (λ (l : List ℕ). list_pointer 0 code (length bits) ∷ l) (sym (append-nil (d (length bits) ++ []) ∙ append-nil (d (length bits))))
-    ∙ numbers_layout c code bits ∙ ap (λ (t : Trees). layout (formed c t)) (sym is.1)
+-- the words of a list that are put into a block
+pub numbers_put : (code n at k : ℕ) (bits block part : List ℕ) → n ≡ length bits → words_of part ≡ digits (2 ^ 64) (words_for n (width code)) (number_of (2 ^ width code) bits)
+    → length part ≡ 8 * words_for n (width code) → k ≡ 8 * words_for n (width code) → at + words_for n (width code) ≤ length (words_of block)
+    → words_of (take (8 * at) block ++ (part ++ drop k (drop (8 * at) block))) ≡ put at (own (numbers code bits) []) (words_of block)
+numbers_put code n at k bits block part n_is part_is long k_is room =
+    ap (λ (j : ℕ). words_of (take (8 * at) block ++ (part ++ drop j (drop (8 * at) block)))) (k_is ∙ sym long)
+    ∙ put_mid_words at block part (omega (arith, long)) (omega (arith, long, room, length-words_of block))
+    ∙ ap (λ (l : List ℕ). put at l (words_of block)) (part_is ∙ ap (λ (j : ℕ). digits (2 ^ 64) (words_for j (width code)) (number_of (2 ^ width code) bits)) n_is)
 
 -- one number in front of others
 pub fit_front : {V : Type 0} (f : V → ℕ) (base : ℕ) (items : List V) (i left : ℕ) (v : V) → left ≡ i + 1 → i < length items → v ≡ get_or items i v → f v < base
@@ -186,3 +182,11 @@ digit_at f code each m i last word items some known each_is within m_is last_is 
 
 pub list_fits : (code : ℕ) (bits : List ℕ) (trees : Trees) → IsNumberList code bits trees → AllHaveRoom trees → All (λ v. v < 2 ^ width code) bits
 list_fits code bits trees is rooms = (subst AllHaveRoom is.1 rooms).0.3
+
+-- a list that has room in a block
+pub list_room : {V : Type 0} (code : ℕ) (f : V → ℕ) (items : List V) (c : Bool) (next room : ℕ) → HasRoomAt (λ t. IsNumberList code (map f items) t) c next room
+    → (length items < 2 ^ 29) × (next + words_for (length items) (width code) ≤ room)
+list_room code f items c next room w =
+    let same : length (map f items) ≡ length items = length-map items f in
+    let total = numbers_total_of c code (map f items) w.trees w.tree_is.1 in
+    (omega (arith, w.tree_is.0, same), omega (arith, w.fits, total, ap (λ (k : ℕ). words_for k (width code)) same))

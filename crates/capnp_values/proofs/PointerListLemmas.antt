@@ -1,21 +1,21 @@
 -- Lists of pointers.
-use Rattle.std.proofs.Common.{◌≡◌, ℕ, ◌+◌, ◌*◌, ◌<◌, ◌^◌, Bool, true, false, List, [], ◌∷◌, ◌++◌, length, Result, Ok, Err, MatchResult, inl, inr, refl, sym, ◌∙◌, ap, arith}
-use Rattle.std.specs.Result.{IsErrAnd}
-use Rattle.std.proofs.lemmas.List.{append-nil}
-use Rattle.capnp_frame.specs.Words.{bytes_of}
-use Rattle.capnp_frame.specs.declared.words.Word.{Word}
+use Rattle.std.proofs.Common.{◌≡◌, ℕ, ◌+◌, ◌<◌, ◌≤◌, ◌^◌, Bool, true, false, List, length, Result, Ok, Err, inl, inr, refl, sym, ◌∙◌, ap, subst, arith}
+use Rattle.std.specs.Prelude.{min, ◌-◌}
 use Rattle.capnp_frame.specs.declared.error.Error.{Error}
 use Rattle.capnp_frame.specs.declared.error.ErrorKind.{ErrorKind}
-use Rattle.capnp_wire.specs.Pointer.{number_of, words_of}
+use Rattle.capnp_frame.specs.declared.error.ErrorKind.TheVariants.{AllocationTooLarge}
 use Rattle.capnp_wire.specs.Tree.{pointers, Trees, none, tree, count, total_words}
-use Rattle.capnp_wire.specs.Layout.{list_pointer, run, pointers_to, body, layout, formed}
-use Rattle.capnp_wire.specs.Values.{HasWords, LacksWords, pointed, too_large}
-use Rattle.capnp_wire.proofs.words.PutLemmas.{words_split}
+use Rattle.capnp_wire.specs.Layout.{list_pointer, run, formed, AllHaveRoom}
+use Rattle.capnp_wire.specs.Block.{fill}
+use Rattle.capnp_wire.specs.Copy.{IsCopied}
+use Rattle.capnp_wire.specs.Values.{HasRoomAt}
 use Rattle.capnp_wire.proofs.trees.TrimLemmas.{count-trim}
-use Rattle.capnp_values.specs.Lists.{AreItems, RefusesItems, MeasuresRow, IsPointerList, RefusesPointerList}
-use Rattle.capnp_values.proofs.ResultLemmas.{ok_not_err, same_ok}
-use Rattle.capnp_values.proofs.ItemLemmas.{items_settled}
-use Rattle.capnp_values.proofs.StructLemmas.{Fitted, fitted_found, fitted_lacks}
+use Rattle.capnp_wire.proofs.layouts.OpenLemmas.{room_formed}
+use Rattle.capnp_values.specs.Measured.{tree_words, Measures}
+use Rattle.capnp_values.specs.Lists.{AreItems, RefusesItems, HasRoomForItems, IsPointerList, RefusesPointerList}
+use Rattle.capnp_values.specs.declared.measured.TreeWords.{TreeWords}
+use Rattle.capnp_values.proofs.ItemLemmas.{items_settled, same_tree_words, MeasuresItems}
+use Rattle.capnp_values.proofs.FilledLemmas.{list_filled}
 
 list_formed : (c : Bool) (held : Trees) → formed c (tree pointers held none) ≡ tree pointers (formed c held) none
 list_formed true held = refl
@@ -30,52 +30,90 @@ list_total c held =
     let whole : total_words (formed c (tree pointers held none)) ≡ count (formed c held) + total_words (formed c held) + 0 = ap total_words (list_formed c held) in
     omega (arith, whole, count_formed c held)
 
--- the words of the list of some values
+-- the words of the list of some values, which has room
 pub values_total : {V : Type 0} (h : V → Trees → Type 0) (vs : List V) (c : Bool) (t : Trees) (is : IsPointerList h vs t) → total_words (formed c t) ≡ length vs + total_words (formed c is.held)
 values_total h vs c t is =
     let whole : total_words (formed c t) ≡ total_words (formed c (tree pointers is.held none)) = ap (λ (a : Trees). total_words (formed c a)) is.whole in
     omega (arith, whole, list_total c is.held, (items_settled h vs is.held is.held_is).many)
 
-pub list_result : {V : Type 0} (h : V → Trees → Type 0) (r : V → ErrorKind → Type 0) (vs : List V) (c : Bool) (words : ℕ) (held : Trees) (res : Result ℕ Error) → AreItems h vs held → length vs < 2 ^ 29
-    → words ≡ total_words (formed c held) → Fitted c (length vs + words) res
-    → MatchResult res (λ n. HasWords (λ t. IsPointerList h vs t) c n) (λ error. LacksWords (λ t. IsPointerList h vs t) (λ k. RefusesPointerList h r vs k) c error.kind)
-list_result h r vs c words held (Ok n) is few words_are f =
-    let s = items_settled h vs held is in
+pub values_rooms : {V : Type 0} (h : V → Trees → Type 0) (vs : List V) (t : Trees) → IsPointerList h vs t → AllHaveRoom t
+values_rooms h vs t is =
+    let s = items_settled h vs is.held is.held_is in
+    subst AllHaveRoom (sym is.whole) (omega (arith, s.many, is.few), s.rooms, tt)
+
+pub values_begin : {V : Type 0} (h : V → Trees → Type 0) (vs : List V) (c : Bool) (next room : ℕ) → HasRoomAt (λ t. IsPointerList h vs t) c next room
+    → HasRoomForItems (λ t. AreItems h vs t) c (next + length vs) room
+values_begin h vs c next room w =
+    record { trees = w.tree_is.held; trees_are = w.tree_is.held_is; fits = omega (arith, w.fits, values_total h vs c w.trees w.tree_is) }
+
+-- what is measured of the list of some values
+list_words : (c : Bool) (n : ℕ) (held trees : Trees) (words : TreeWords) → trees ≡ tree pointers held none → count held ≡ n → words ≡ tree_words c held
+    → record { standing = n + words.standing; formed = n + words.formed } ≡ tree_words c trees
+list_words c n held trees words whole many is =
+    same_tree_words (record { standing = n + words.standing; formed = n + words.formed }) (tree_words c (tree pointers held none))
+    (omega (arith, many, ap (λ (w : TreeWords). w.standing) is)) (omega (arith, many, ap (λ (w : TreeWords). w.formed) is, list_total c held))
+    ∙ sym (ap (tree_words c) whole)
+
+pub list_measured : {V : Type 0} (h : V → Trees → Type 0) (r : V → ErrorKind → Type 0) (vs : List V) (c : Bool) (returned : Result TreeWords Error) (words : TreeWords) → length vs < 2 ^ 29
+    → returned ≡ Ok words → MeasuresItems h r vs c returned
+    → Measures (λ t. IsPointerList h vs t) (λ k. RefusesPointerList h r vs k) c (Ok (record { standing = length vs + words.standing; formed = length vs + words.formed }))
+list_measured h r vs c returned words few was m =
+    let m_ok : MeasuresItems h r vs c (Ok words) = subst (λ (x : Result TreeWords Error). MeasuresItems h r vs c x) was m in
+    let a = m_ok.returned in
+    let s = items_settled h vs a.0 a.1 in
     record {
-      trees = tree pointers held none;
-      tree_is = record { held = held; held_is = is; few = few; whole = refl };
-      rooms = (omega (arith, s.many, few), s.rooms, tt);
-      words_are = omega (arith, f.0, words_are, list_total c held, s.many);
-      few = f.1;
+      returned = (
+        tree pointers a.0 none,
+        record { held = a.0; held_is = a.1; few = few; whole = refl },
+        (omega (arith, s.many, few), s.rooms, tt),
+        list_words c (length vs) a.0 (tree pointers a.0 none) words refl s.many a.3,
+      );
+      found = λ trees is.
+          let there : Ok words ≡ Ok (tree_words c is.held) = m_ok.found is.held is.held_is in
+          let same : words ≡ tree_words c is.held = cc in
+          ap (λ (w : TreeWords). Ok w) (list_words c (length vs) is.held trees words is.whole (items_settled h vs is.held is.held_is).many same);
+      exact = λ kind refused. elim refused [
+        | inl many ↦ absurd (omega (arith, few, many.0))
+        | inr others ↦ m_ok.exact kind others.1
+      ];
     }
-list_result h r vs c words held (Err error) is few words_are f =
-    let s = items_settled h vs held is in
-    let total : total_words (formed c (tree pointers held none)) ≡ length vs + words = omega (arith, words_are, list_total c held, s.many) in
-    inr (tree pointers held none, record { held = held; held_is = is; few = few; whole = refl }, omega (arith, f.0, total), f.1 ∙ ap (too_large c) (sym total))
 
-pub list_found : {V : Type 0} (h : V → Trees → Type 0) (vs : List V) (c : Bool) (words : ℕ) (returned res : Result ℕ Error) → returned ≡ Ok words
-    → ((t : Trees) → AreItems h vs t → returned ≡ Ok (total_words (formed c t))) → Fitted c (length vs + words) res → (n : ℕ) → HasWords (λ t. IsPointerList h vs t) c n → res ≡ Ok n
-list_found h vs c words returned res was found f n w =
-    let same = same_ok returned words (total_words (formed c w.tree_is.held)) was (found w.tree_is.held w.tree_is.held_is) in
-    fitted_found c (length vs + words) n res f (omega (arith, w.words_are, values_total h vs c w.trees w.tree_is, same)) w.few
+-- it is refused: for its length, or for one of the values
+pub list_too_long : {V : Type 0} (h : V → Trees → Type 0) (r : V → ErrorKind → Type 0) (vs : List V) (c : Bool) (error : Error) → 2 ^ 29 ≤ length vs
+    → error.kind ≡ AllocationTooLarge (min (length vs) (2 ^ 32 - 1)) → Measures (λ t. IsPointerList h vs t) (λ k. RefusesPointerList h r vs k) c (Err error)
+list_too_long h r vs c error many is = record {
+  returned = inl (many, is);
+  found = λ trees there. absurd (omega (arith, many, there.few));
+  exact = λ kind refused. elim refused [
+    | inl others ↦ (is ∙ sym others.1)
+    | inr others ↦ absurd (omega (arith, many, others.0))
+  ];
+}
 
-pub list_exact : {V : Type 0} (h : V → Trees → Type 0) (r : V → ErrorKind → Type 0) (vs : List V) (c : Bool) (words : ℕ) (returned res : Result ℕ Error) → length vs < 2 ^ 29 → returned ≡ Ok words
-    → MeasuresRow (λ t. AreItems h vs t) (λ k. RefusesItems h r vs k) c returned → Fitted c (length vs + words) res → (kind : ErrorKind)
-    → LacksWords (λ t. IsPointerList h vs t) (λ k. RefusesPointerList h r vs k) c kind → IsErrAnd res (λ e. e.kind ≡ kind)
-list_exact h r vs c words returned res few was m f kind (inl (inl many)) = absurd (omega (arith, few, many.0))
-list_exact h r vs c words returned res few was m f kind (inl (inr refused)) = absurd (ok_not_err returned words (λ e. e.kind ≡ kind) was (m.exact kind refused.1))
-list_exact h r vs c words returned res few was m f kind (inr lacks) =
-    let same = same_ok returned words (total_words (formed c lacks.1.held)) was (m.found lacks.1.held lacks.1.held_is) in
-    fitted_lacks c (length vs + words) (total_words (formed c lacks.0)) kind res f (omega (arith, values_total h vs c lacks.0 lacks.1, same)) lacks.2 lacks.3
+pub list_refused : {V : Type 0} (h : V → Trees → Type 0) (r : V → ErrorKind → Type 0) (vs : List V) (c : Bool) (returned : Result TreeWords Error) (error : Error) → length vs < 2 ^ 29
+    → returned ≡ Err error → MeasuresItems h r vs c returned → Measures (λ t. IsPointerList h vs t) (λ k. RefusesPointerList h r vs k) c (Err error)
+list_refused h r vs c returned error few was m =
+    let m_err : MeasuresItems h r vs c (Err error) = subst (λ (x : Result TreeWords Error). MeasuresItems h r vs c x) was m in
+    record {
+      returned = inr (few, m_err.returned);
+      found = λ trees is. let ok : Err error ≡ Ok (tree_words c is.held) = m_err.found is.held is.held_is in absurd (cc);
+      exact = λ kind there. elim there [
+        | inl many ↦ absurd (omega (arith, few, many.0))
+        | inr others ↦ m_err.exact kind others.1
+      ];
+    }
 
 -- what is written of it
-pub list_written : (c : Bool) (held trees : Trees) (n : ℕ) (word : Word) (slots block : List ℕ) → trees ≡ tree pointers held none → n ≡ count held → number_of 256 (bytes_of word) ≡ list_pointer 0 6 n
-    → length slots ≡ 8 * n → words_of slots ≡ pointers_to (run 0 n) n (formed c held) → words_of block ≡ body (formed c held) → pointed word (slots ++ block) ≡ layout (formed c trees)
-list_written c held trees n word slots block whole n_is word_is long slots_are block_is =
+pub list_copied : (c : Bool) (held trees : Trees) (gap next n free tag : ℕ) (old new : List ℕ) → trees ≡ tree pointers held none → n ≡ count held → AllHaveRoom trees → tag ≡ list_pointer gap 6 n
+    → free ≤ length old → new ≡ fill (run next n) (next + n) (formed c held) old → free ≡ next + n + total_words (formed c held)
+    → IsCopied (formed c trees) gap next old new (record { pointer = tag; next = free })
+list_copied c held trees gap next n free tag old new whole n_is rooms tag_is fits new_is free_is =
     let x : Trees = formed c held in
-    let n_there : n ≡ count x = n_is ∙ count_formed c held in
-    ap (λ (l : List ℕ). number_of 256 (bytes_of word) ∷ l)
-    (words_split n slots block long ∙ ap (λ (l : List ℕ). l ++ words_of block) slots_are ∙ ap (λ (l : List ℕ). pointers_to (run 0 n) n x ++ l) block_is ∙ sym (append-nil (pointers_to (run 0 n) n x ++ body x)))
-    ∙ ap (λ (k : ℕ). k ∷ pointers_to (run 0 n) n x ++ body x ++ []) word_is
-    ∙ ap (λ (k : ℕ). list_pointer 0 6 k ∷ pointers_to (run 0 k) k x ++ body x ++ []) n_there
-    ∙ ap layout (sym (list_formed c held)) ∙ ap (λ (t : Trees). layout (formed c t)) (sym whole)
+    let form_is : formed c trees ≡ tree pointers (formed c held) none = ap (formed c) whole ∙ list_formed c held in
+    let all : AllHaveRoom (tree pointers (formed c held) none) = subst AllHaveRoom form_is (room_formed c trees rooms) in
+    let many : n ≡ count (formed c held) = n_is ∙ count_formed c held in
+    subst (λ (t : Trees). IsCopied t gap next old new (record { pointer = tag; next = free })) (sym form_is) (record {
+      words_are = new_is ∙ ap (λ (k : ℕ). fill (run next k) (next + k) x old) many ∙ list_filled next x old all.0 all.1 (omega (arith, fits, free_is, many));
+      pointer_is = tag_is ∙ ap (λ (k : ℕ). list_pointer gap 6 k) many;
+      next_is = omega (arith, free_is, many);
+    })

@@ -1,15 +1,13 @@
 -- How far rows reach.
-use Rattle.std.proofs.Common.{◌≡◌, ℕ, ◌+◌, ◌<◌, ◌≤◌, ◌^◌, Bool, true, false, refl, sym, ◌∙◌, ap, arith}
+use Rattle.std.proofs.Common.{◌≡◌, ℕ, zero, suc, ◌+◌, ◌<◌, ◌≤◌, ◌^◌, Bool, true, false, refl, sym, ◌∙◌, ap, arith}
 use Rattle.capnp_wire.specs.Tree.{Form, null, struct, numbers, pointers, structs, Trees, none, tree, count, is_null, total_words}
 use Rattle.capnp_wire.specs.Trim.{keep_tree, cut_nulls, trim, trim_form, trim_held}
 use Rattle.capnp_wire.specs.Layout.{AllHaveRoom}
-use Rattle.capnp_wire.proofs.trees.TrimLemmas.{total-trim}
-use Rattle.capnp_wire.proofs.trees.ChunkLemmas.{total-cut}
-use Rattle.capnp_wire.proofs.trees.PlacedLemmas.{no_trees}
-use Rattle.capnp_values.specs.Fields.{IsSettled, kept_row, extent_of}
+use Rattle.capnp_wire.proofs.trees.TrimLemmas.{total-trim, count-trim}
+use Rattle.capnp_wire.proofs.trees.ChunkLemmas.{total-cut, count-cut}
+use Rattle.capnp_values.specs.Fields.{IsSettled, kept_row, is_left_out, extent_of}
 use Rattle.capnp_values.specs.declared.fields.Extent.{Extent}
-use Rattle.capnp_values.proofs.PartLemmas.{part_total}
-use Rattle.capnp_values.proofs.StructLemmas.{kept_within}
+use Rattle.capnp_values.proofs.PartLemmas.{part_total, no_trees}
 
 kept_null : (form : Form) (held others : Trees) → count (cut_nulls (trim others)) ≡ 0 → is_null form ≡ true → cut_nulls (trim (tree form held others)) ≡ none
 kept_null null held others e n = ap (λ (t : Trees). keep_tree t null (trim held)) (no_trees (cut_nulls (trim others)) e)
@@ -33,53 +31,108 @@ still_null (numbers c values) held e = e
 still_null pointers held e = e
 still_null (structs d p rows) held e = e
 
-same_extent : (a b : Extent) → a.pointers ≡ b.pointers → a.words ≡ b.words → a ≡ b
-same_extent a b p w = let f : ℕ → ℕ → Extent = λ x y. record { pointers = x; words = y } in ap (λ (x : ℕ). f x a.words) p ∙ ap (λ (y : ℕ). f b.pointers y) w
+-- as many pointers are kept
+pub kept_of_null : (form : Form) (held others : Trees) → count (cut_nulls (trim others)) ≡ 0 → is_null form ≡ true → count (cut_nulls (trim (tree form held others))) ≡ 0
+kept_of_null form held others e n = ap count (kept_null form held others e n)
 
-pub front_plain : (c : Bool) (form : Form) (held others : Trees) (rest : Extent) (plain : ℕ) → c ≡ false → plain ≡ total_words (tree form held none) → rest ≡ extent_of c others
-    → record { pointers = rest.pointers + 1; words = plain + rest.words } ≡ extent_of c (tree form held others)
-front_plain true form held others rest plain is plain_is e = absurd (cc)
-front_plain false form held others rest plain is plain_is e =
+kept_some : (form : Form) (held others : Trees) → (count (cut_nulls (trim others)) ≡ 0 → is_null form ≡ true → ⊥)
+    → cut_nulls (trim (tree form held others)) ≡ tree (trim_form form (trim held)) (trim_held form (trim held)) (cut_nulls (trim others))
+kept_some form held others some =
+    keep_some (cut_nulls (trim others)) (trim_form form (trim held)) (trim_held form (trim held)) (λ z n. some z (still_null form (trim held) n))
+
+pub kept_of_some : (c : Bool) (form : Form) (held others : Trees) (kept : ℕ) → kept ≡ count (kept_row c others) → (c ≡ true → kept ≡ 0 → is_null form ≡ true → ⊥)
+    → kept + 1 ≡ count (kept_row c (tree form held others))
+kept_of_some true form held others kept is some =
+    let whole = ap count (kept_some form held others (λ z n. some refl (is ∙ z) n)) in omega (arith, is, whole)
+kept_of_some false form held others kept is some = omega (arith, is)
+
+-- a value that is left out, and one that is not
+pub left_out : (c : Bool) (n : ℕ) (form : Form) → is_left_out c n form ≡ true → (c ≡ true) × (n ≡ 0) × (is_null form ≡ true)
+left_out true zero form e = (refl, refl, e)
+left_out true (suc n) form e = absurd (cc)
+left_out false n form e = absurd (cc)
+
+pub left_in : (c : Bool) (n : ℕ) (form : Form) → is_left_out c n form ≡ false → c ≡ true → n ≡ 0 → is_null form ≡ true → ⊥
+left_in true zero form e canonical last null_is = absurd (cc)
+left_in true (suc n) form e canonical last null_is = omega (arith, last)
+left_in false n form e canonical last null_is = absurd (cc)
+
+pub not_left_out : (c : Bool) (n : ℕ) (form : Form) → c ≡ false → false ≡ is_left_out c n form
+not_left_out true n form e = absurd (cc)
+not_left_out false n form e = refl
+
+pub some_after : (c : Bool) (n : ℕ) (form : Form) → 0 < n → false ≡ is_left_out c n form
+some_after true zero form some = absurd (omega (arith, some))
+some_after true (suc n) form some = refl
+some_after false n form some = refl
+
+pub null_last : (c : Bool) (n : ℕ) (form : Form) (b : Bool) → c ≡ true → n ≤ 0 → b ≡ is_null form → b ≡ is_left_out c n form
+null_last true zero form b e last is = is
+null_last true (suc n) form b e last is = absurd (omega (arith, last))
+null_last false n form b e last is = absurd (cc)
+
+pub kept_left_out : (c : Bool) (form : Form) (held others trees : Trees) (n : ℕ) → trees ≡ tree form held others → n ≡ count (kept_row c others) → is_left_out c n form ≡ true
+    → 0 ≡ count (kept_row c trees)
+kept_left_out false form held others trees n whole is e = absurd (cc)
+kept_left_out true form held others trees n whole is e =
+    let l = left_out true n form e in
+    sym (ap (λ (t : Trees). count (cut_nulls (trim t))) whole ∙ kept_of_null form held others (sym is ∙ l.1) l.2)
+
+pub kept_left_in : (c : Bool) (form : Form) (held others trees : Trees) (n : ℕ) → trees ≡ tree form held others → n ≡ count (kept_row c others) → is_left_out c n form ≡ false
+    → n + 1 ≡ count (kept_row c trees)
+kept_left_in c form held others trees n whole is e =
+    kept_of_some c form held others n is (left_in c n form e) ∙ sym (ap (λ (t : Trees). count (kept_row c t)) whole)
+
+same_extent : (a b : Extent) → a.pointers ≡ b.pointers → a.words ≡ b.words → a.standing ≡ b.standing → a ≡ b
+same_extent a b p w s =
+    let f : ℕ → ℕ → ℕ → Extent = λ x y z. record { pointers = x; words = y; standing = z } in
+    ap (λ (x : ℕ). f x a.words a.standing) p ∙ ap (λ (y : ℕ). f b.pointers y a.standing) w ∙ ap (λ (z : ℕ). f b.pointers b.words z) s
+
+pub front_null : (c : Bool) (form : Form) (held others : Trees) (rest : Extent) (standing : ℕ) → c ≡ true → rest.pointers ≡ 0 → is_null form ≡ true → rest ≡ extent_of c others
+    → standing ≡ total_words (tree form held none) + rest.standing → record { pointers = 0; words = 0; standing = standing } ≡ extent_of c (tree form held others)
+front_null false form held others rest standing is zero_is n e s = absurd (cc)
+front_null true form held others rest standing is zero_is n e s =
+    let a : rest.pointers ≡ count (cut_nulls (trim others)) = ap (λ (x : Extent). x.pointers) e in
+    let b : rest.standing ≡ total_words others = ap (λ (x : Extent). x.standing) e in
+    let whole : cut_nulls (trim (tree form held others)) ≡ none = kept_null form held others (omega (arith, a, zero_is)) n in
+    same_extent (record { pointers = 0; words = 0; standing = standing }) (extent_of true (tree form held others)) (sym (ap count whole)) (sym (ap total_words whole)) (omega (arith, s, b))
+
+pub front_kept : (c : Bool) (form : Form) (held others : Trees) (rest : Extent) (words standing : ℕ) → (c ≡ true → rest.pointers ≡ 0 → is_null form ≡ true → ⊥) → words ≡ part_total c form held
+    → rest ≡ extent_of c others → standing ≡ total_words (tree form held none) + rest.standing
+    → record { pointers = rest.pointers + 1; words = words + rest.words; standing = standing } ≡ extent_of c (tree form held others)
+front_kept false form held others rest words standing some words_is e s =
     let a : rest.pointers ≡ count others = ap (λ (x : Extent). x.pointers) e in
     let b : rest.words ≡ total_words others = ap (λ (x : Extent). x.words) e in
-    same_extent (record { pointers = rest.pointers + 1; words = plain + rest.words }) (extent_of false (tree form held others)) (omega arith) (omega (arith, plain_is))
-
-pub front_null : (c : Bool) (form : Form) (held others : Trees) (rest : Extent) → c ≡ true → rest.pointers ≡ 0 → is_null form ≡ true → rest ≡ extent_of c others
-    → rest ≡ extent_of c (tree form held others)
-front_null false form held others rest is zero_is n e = absurd (cc)
-front_null true form held others rest is zero_is n e =
-    let a : rest.pointers ≡ count (cut_nulls (trim others)) = ap (λ (x : Extent). x.pointers) e in
-    let z : count (cut_nulls (trim others)) ≡ 0 = omega arith in
-    let whole : cut_nulls (trim (tree form held others)) ≡ none = kept_null form held others z n in
-    let before : cut_nulls (trim others) ≡ none = no_trees (cut_nulls (trim others)) z in
-    let f : Trees → Extent = λ t. record { pointers = count t; words = total_words t } in
-    e ∙ ap f (before ∙ sym whole)
-
-pub front_kept : (c : Bool) (form : Form) (held others : Trees) (rest : Extent) (words : ℕ) → c ≡ true → (rest.pointers ≡ 0 → is_null form ≡ true → ⊥) → words ≡ part_total true form held
-    → rest ≡ extent_of c others → record { pointers = rest.pointers + 1; words = words + rest.words } ≡ extent_of c (tree form held others)
-front_kept false form held others rest words is some words_is e = absurd (cc)
-front_kept true form held others rest words is some words_is e =
+    let d : rest.standing ≡ total_words others = ap (λ (x : Extent). x.standing) e in
+    same_extent (record { pointers = rest.pointers + 1; words = words + rest.words; standing = standing }) (extent_of false (tree form held others)) (omega (arith, a)) (omega (arith, b, words_is)) (omega (arith, d, s))
+front_kept true form held others rest words standing some words_is e s =
     let a : rest.pointers ≡ count (cut_nulls (trim others)) = ap (λ (x : Extent). x.pointers) e in
     let b : rest.words ≡ total_words (cut_nulls (trim others)) = ap (λ (x : Extent). x.words) e in
-    let keeps : keep_tree (cut_nulls (trim others)) (trim_form form (trim held)) (trim_held form (trim held)) ≡ tree (trim_form form (trim held)) (trim_held form (trim held)) (cut_nulls (trim others)) =
-    keep_some (cut_nulls (trim others)) (trim_form form (trim held)) (trim_held form (trim held)) (λ z n. some (a ∙ z) (still_null form (trim held) n)) in
-    let f : Trees → Extent = λ t. record { pointers = count t; words = total_words t } in
-    same_extent (record { pointers = rest.pointers + 1; words = words + rest.words }) (f (tree (trim_form form (trim held)) (trim_held form (trim held)) (cut_nulls (trim others)))) (omega arith) (omega (arith, words_is))
-    ∙ ap f (sym keeps)
+    let d : rest.standing ≡ total_words others = ap (λ (x : Extent). x.standing) e in
+    let whole = kept_some form held others (λ z n. some refl (a ∙ z) n) in
+    same_extent (record { pointers = rest.pointers + 1; words = words + rest.words; standing = standing }) (extent_of true (tree form held others)) (omega (arith, a, ap count whole))
+    (omega (arith, b, words_is, ap total_words whole)) (omega (arith, d, s))
 
-kept_total : (c : Bool) (t : Trees) → AllHaveRoom t → total_words (kept_row c t) ≤ total_words t
+pub kept_total : (c : Bool) (t : Trees) → AllHaveRoom t → total_words (kept_row c t) ≤ total_words t
 kept_total true t rooms = omega (arith, total-cut (trim t), total-trim t rooms)
 kept_total false t rooms = omega arith
+
+pub kept_count : (c : Bool) (t : Trees) → count (kept_row c t) ≤ count t
+kept_count true t = omega (arith, count-cut (trim t), count-trim t)
+kept_count false t = omega arith
 
 pub record Bounded (rest : Extent) : Type 0 where
   pub pointers_few : rest.pointers < 2 ^ 16
   pub words_few : rest.words < 2 ^ 46
+  pub standing_few : rest.standing < 2 ^ 46
 
 pub bounded : (c : Bool) (size : ℕ) (t : Trees) (rest : Extent) → size < 2 ^ 16 → IsSettled size t → rest ≡ extent_of c t → Bounded rest
 bounded c size t rest small s e =
     let a : rest.pointers ≡ count (kept_row c t) = ap (λ (x : Extent). x.pointers) e in
     let b : rest.words ≡ total_words (kept_row c t) = ap (λ (x : Extent). x.words) e in
+    let d : rest.standing ≡ total_words t = ap (λ (x : Extent). x.standing) e in
     record {
-      pointers_few = omega (arith, kept_within c t, s.many);
-      words_few = omega (arith, kept_total c t s.rooms, s.few);
+      pointers_few = omega (arith, kept_count c t, s.many, a);
+      words_few = omega (arith, kept_total c t s.rooms, s.few, b);
+      standing_few = omega (arith, s.few, d);
     }

@@ -1,10 +1,12 @@
 -- What a measure returns.
-use Rattle.std.proofs.Common.{◌≡◌, ℕ, false, Result, Ok, Err, inl, inr, ◌∙◌, ap, subst}
-use Rattle.std.specs.Result.{IsErrAnd, result_unwrap_or}
+use Rattle.std.proofs.Common.{◌≡◌, Bool, false, Result, Ok, Err, inl, inr, ap, subst}
+use Rattle.std.specs.Result.{IsErrAnd}
 use Rattle.capnp_frame.specs.declared.error.Error.{Error}
 use Rattle.capnp_frame.specs.declared.error.ErrorKind.{ErrorKind}
 use Rattle.capnp_wire.specs.Tree.{Trees}
-use Rattle.capnp_wire.specs.Values.{HasWords, LacksWords}
+use Rattle.capnp_wire.specs.Values.{LacksWords, HasPart}
+use Rattle.capnp_wire.specs.declared.traits.PartWords.{PartWords}
+use Rattle.capnp_wire.proofs.views.PartWordLemmas.{part_words}
 use Rattle.capnp_values.specs.Fields.{RefusesRow}
 
 pub ok_not_err : {X : Type 0} (r : Result X Error) (x : X) (P : Error → Type 0) → r ≡ Ok x → IsErrAnd r P → ⊥
@@ -13,19 +15,17 @@ ok_not_err {X = X} r x P is e = subst (λ (a : Result X Error). IsErrAnd a P) is
 pub err_kind : {X : Type 0} (r : Result X Error) (error : Error) (kind : ErrorKind) → r ≡ Err error → IsErrAnd r (λ e. e.kind ≡ kind) → error.kind ≡ kind
 err_kind {X = X} r error kind is e = subst (λ (a : Result X Error). IsErrAnd a (λ e. e.kind ≡ kind)) is e
 
-pub same_ok : (r : Result ℕ Error) (x y : ℕ) → r ≡ Ok x → r ≡ Ok y → x ≡ y
-same_ok r x y a b = cc
+pub same_parts : (r : Result PartWords Error) (x y : PartWords) → r ≡ Ok x → r ≡ Ok y → x ≡ y
+same_parts r x y a b = cc
 
-pub unwrapped : {X : Type 0} (r : Result X Error) (other x y : X) → r ≡ Ok x → y ≡ result_unwrap_or r other → y ≡ x
-unwrapped {X = X} r other x y a b = b ∙ ap (λ (a : Result X Error). result_unwrap_or a other) a
-
-pub refused_first : (h : Trees → Type 0) (r rr : ErrorKind → Type 0) (returned : Result ℕ Error) (error : Error) (kind : ErrorKind) → returned ≡ Err error
-    → ((words : ℕ) → HasWords h false words → returned ≡ Ok words) → ((k : ErrorKind) → LacksWords h r false k → IsErrAnd returned (λ e. e.kind ≡ k)) → RefusesRow h r rr kind
+-- the first value of a row is refused, or the row after it
+pub refused_first : (h : Trees → Type 0) (r rr : ErrorKind → Type 0) (c : Bool) (returned : Result PartWords Error) (error : Error) (kind : ErrorKind) → returned ≡ Err error
+    → ((words : PartWords) → HasPart h c words → returned ≡ Ok words) → ((k : ErrorKind) → LacksWords h r false k → IsErrAnd returned (λ e. e.kind ≡ k)) → RefusesRow h r rr kind
     → error.kind ≡ kind
-refused_first h r rr returned error kind is found exact (inl lacks) = err_kind returned error kind is (exact kind lacks)
-refused_first h r rr returned error kind is found exact (inr others) = let ok = found others.0 others.1 in absurd (cc)
+refused_first h r rr c returned error kind is found exact (inl lacks) = err_kind returned error kind is (exact kind lacks)
+refused_first h r rr c returned error kind is found exact (inr others) = let ok = found _ (part_words h c others.0 others.1) in absurd (cc)
 
-pub refused_rest : (h : Trees → Type 0) (r rr : ErrorKind → Type 0) (returned : Result ℕ Error) (words : ℕ) (kind : ErrorKind) → returned ≡ Ok words
+pub refused_rest : (h : Trees → Type 0) (r rr : ErrorKind → Type 0) (returned : Result PartWords Error) (words : PartWords) (kind : ErrorKind) → returned ≡ Ok words
     → ((k : ErrorKind) → LacksWords h r false k → IsErrAnd returned (λ e. e.kind ≡ k)) → RefusesRow h r rr kind → rr kind
 refused_rest h r rr returned words kind is exact (inl lacks) = absurd (ok_not_err returned words (λ e. e.kind ≡ kind) is (exact kind lacks))
 refused_rest h r rr returned words kind is exact (inr others) = others.2

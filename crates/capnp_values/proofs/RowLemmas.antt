@@ -1,124 +1,125 @@
 -- Rows that are written: the first value, and those after it.
-use Rattle.std.proofs.Common.{◌≡◌, ℕ, suc, ◌+◌, ◌-◌, ◌*◌, ◌≤◌, Bool, true, false, List, [], ◌∷◌, ◌++◌, length, drop, sym, ◌∙◌, ap, arith}
-use Rattle.std.specs.Prelude.{replicate}
-use Rattle.std.proofs.lemmas.List.{append-nil, take_all}
-use Rattle.capnp_values.proofs.ItemRowLemmas.{past_end, PutBefore}
-use Rattle.capnp_wire.proofs.layouts.SizeLemmas.{own_layout}
+use Rattle.std.proofs.Common.{◌≡◌, ℕ, suc, ◌+◌, ◌-◌, ◌/◌, ◌<◌, ◌≤◌, Bool, true, false, List, [], ◌∷◌, length, sym, ◌∙◌, ap, arith}
 use Rattle.capnp_wire.specs.Pointer.{words_of}
-use Rattle.capnp_wire.specs.Tree.{Form, Trees, none, tree, count, own_words, total_words}
-use Rattle.capnp_wire.specs.Trim.{first}
-use Rattle.capnp_wire.specs.Layout.{pointer, pointer_to, run, pointers_to, own, body, formed}
-use Rattle.capnp_wire.proofs.words.PutLemmas.{words_split}
-use Rattle.capnp_values.specs.Fields.{IsPart, CanWritePart, IsRow, CanWriteRow, IsRowWritten}
-use Rattle.capnp_values.proofs.PartLemmas.{own_form, own_held, formed_tree, part_total, part_total_is, part_layout}
+use Rattle.capnp_wire.specs.Tree.{Form, Trees, none, tree, count, total_words}
+use Rattle.capnp_wire.specs.Trim.{first, trim, trim_form, trim_held}
+use Rattle.capnp_wire.specs.Layout.{pointer_to, run, body, formed}
+use Rattle.capnp_wire.specs.Block.{put, fill}
+use Rattle.capnp_wire.specs.Copy.{IsCopied}
+use Rattle.capnp_wire.specs.Values.{HasRoomAt, IsFreeFrom}
+use Rattle.capnp_wire.specs.declared.layout.copy.Copied.{Copied}
+use Rattle.capnp_wire.proofs.words.WordLemmas.{length-words_of}
+use Rattle.capnp_wire.proofs.layouts.CopyLemmas.{fill_step}
+use Rattle.capnp_wire.proofs.layouts.FreeLemmas.{free_after, free_copied}
+use Rattle.capnp_wire.proofs.layouts.OpenLemmas.{room_formed}
+use Rattle.capnp_values.specs.Fields.{IsPart, IsRow, CanWriteRow, IsRowWritten}
+use Rattle.capnp_values.proofs.PartLemmas.{part_total}
 
 -- a row that is written: its first value, and those after it
-pub record RowSplit (h hs : Trees → Type 0) (c : Bool) (n room : ℕ) : Type 0 where
+pub record RowSplit (h hs : Trees → Type 0) (c : Bool) (n next room : ℕ) : Type 0 where
   pub form : Form
   pub held : Trees
   pub rest : Trees
   pub part : IsPart h form held
   pub others : hs rest
   pub some : n ≤ count rest
-  pub fits : 8 * (part_total c form held + total_words (first n (formed c rest))) ≤ room
+  pub fits : next + part_total c form held + total_words (first n (formed c rest)) ≤ room
 
-first_total : (c : Bool) (form : Form) (held rest : Trees) (n : ℕ) → total_words (first (suc n) (formed c (tree form held rest))) ≡ part_total c form held + total_words (first n (formed c rest))
-first_total true form held rest n = omega arith
-first_total false form held rest n = omega arith
+pub first_total : (c : Bool) (form : Form) (held rest trees : Trees) (n m : ℕ) → trees ≡ tree form held rest → n ≡ suc m
+    → total_words (first n (formed c trees)) ≡ part_total c form held + total_words (first m (formed c rest))
+first_total true form held rest trees n m whole is =
+    let all : total_words (first n (trim trees)) ≡ total_words (first (suc m) (trim (tree form held rest))) =
+    ap (λ (k : ℕ). total_words (first k (trim trees))) is ∙ ap (λ (t : Trees). total_words (first (suc m) (trim t))) whole in
+    omega (arith, all)
+first_total false form held rest trees n m whole is =
+    let all : total_words (first n trees) ≡ total_words (first (suc m) (tree form held rest)) =
+    ap (λ (k : ℕ). total_words (first k trees)) is ∙ ap (λ (t : Trees). total_words (first (suc m) t)) whole in
+    omega (arith, all)
 
-split_at : (h hs : Trees → Type 0) (c : Bool) (n room : ℕ) (trees : Trees) (is : IsRow h hs trees) → suc n ≤ count trees → 8 * total_words (first (suc n) (formed c trees)) ≤ room → RowSplit h hs c n room
-split_at h hs c n room trees is some e =
-    let many : count trees ≡ count is.rest + 1 = ap count is.whole in
-    let total : total_words (first (suc n) (formed c trees)) ≡ total_words (first (suc n) (formed c (tree is.form is.held is.rest))) = ap (λ (t : Trees). total_words (first (suc n) (formed c t))) is.whole in
+split_at : (h hs : Trees → Type 0) (c : Bool) (n m next room : ℕ) (trees : Trees) (is : IsRow h hs trees) → n ≡ suc m → n ≤ count trees → next + total_words (first n (formed c trees)) ≤ room
+    → RowSplit h hs c m next room
+split_at h hs c n m next room trees is n_is some fits = record {
+  form = is.form;
+  held = is.held;
+  rest = is.rest;
+  part = is.part;
+  others = is.others;
+  some = omega (arith, some, n_is, ap count is.whole);
+  fits = omega (arith, fits, first_total c is.form is.held is.rest trees n m is.whole n_is);
+}
+
+pub row_split : (h hs : Trees → Type 0) (c : Bool) (n m next room : ℕ) → n ≡ suc m → CanWriteRow (λ t. IsRow h hs t) c n next room → RowSplit h hs c m next room
+row_split h hs c n m next room n_is r = split_at h hs c n m next room r.trees r.trees_are n_is r.some r.fits
+
+-- the first value has room
+pub first_room : (h hs : Trees → Type 0) (c : Bool) (n m next room : ℕ) → n ≡ suc m → CanWriteRow (λ t. IsRow h hs t) c n next room → HasRoomAt h c next room
+first_room h hs c n m next room n_is r =
+    let s = row_split h hs c n m next room n_is r in
+    record { trees = tree s.form s.held none; tree_is = s.part.tree_is; rooms = s.part.rooms; fits = omega (arith, s.fits) }
+
+-- what is left once the first value is written, and its pointer put
+pub record RowStep (hs : Trees → Type 0) (c : Bool) (slot m : ℕ) (old mid : List ℕ) (copied : Copied) : Type 0 where
+  pub put_room : slot < length (words_of mid)
+  pub before_it : slot + 1 + m ≤ copied.next
+  pub can : (new : List ℕ) → length new ≡ length mid → CanWriteRow hs c m copied.next (length (words_of new))
+  pub free_from : (new : List ℕ) → words_of new ≡ put slot (copied.pointer ∷ []) (words_of mid) → length new ≡ length mid → IsFreeFrom copied.next new
+
+pub row_step : (h hs : Trees → Type 0) (c : Bool) (slot n m next : ℕ) (old mid : List ℕ) (copied : Copied) → n ≡ suc m → CanWriteRow (λ t. IsRow h hs t) c n next (length (words_of old)) → IsFreeFrom next old
+    → slot + n ≤ next → ((t : Trees) → h t → IsCopied (formed c t) (next - (slot + 1)) next (words_of old) (words_of mid) copied) → length mid ≡ length old → RowStep hs c slot m old mid copied
+row_step h hs c slot n m next old mid copied n_is r f before_it own long =
+    let s = row_split h hs c n m next (length (words_of old)) n_is r in
+    let t : Trees = tree s.form s.held none in
+    let d = own (tree s.form s.held none) s.part.tree_is in
+    let same : length (words_of mid) ≡ length (words_of old) = omega (arith, ap (λ (k : ℕ). k / 8) long, length-words_of mid, length-words_of old) in
+    let fits : next + part_total c s.form s.held ≤ length (words_of old) = omega (arith, s.fits) in
+    let after : slot + 1 ≤ copied.next = omega (arith, before_it, n_is, d.next_is) in
+    let room : slot + 1 ≤ length (words_of mid) = omega (arith, before_it, n_is, fits, same) in
+    let mid_free = free_copied (formed c t) (next - (slot + 1)) next old mid copied d (room_formed c t s.part.rooms) long fits f in
     record {
-      form = is.form;
-      held = is.held;
-      rest = is.rest;
-      part = is.part;
-      others = is.others;
-      some = omega (arith, many);
-      fits = omega (arith, e, total, first_total c is.form is.held is.rest n);
+      put_room = omega (arith, room);
+      before_it = omega (arith, before_it, n_is, d.next_is);
+      can = λ new new_long. record {
+        trees = s.rest;
+        trees_are = s.others;
+        some = s.some;
+        fits = omega (arith, s.fits, d.next_is, same, ap (λ (k : ℕ). k / 8) new_long, length-words_of new, length-words_of mid);
+      };
+      free_from = λ new put_is new_long. free_after slot copied.next copied.next (copied.pointer ∷ []) mid new put_is new_long after (omega arith) room mid_free;
     }
 
-pub row_split : (h hs : Trees → Type 0) (c : Bool) (n m room : ℕ) → n ≡ suc m → CanWriteRow (λ t. IsRow h hs t) c n room → RowSplit h hs c m room
-row_split h hs c n m room is r =
-    let same : total_words (first n (formed c r.trees)) ≡ total_words (first (suc m) (formed c r.trees)) = ap (λ (k : ℕ). total_words (first k (formed c r.trees))) is in
-    split_at h hs c m room r.trees r.trees_are (omega (arith, r.some)) (omega (arith, r.fits, same))
+-- the first pointer, with what it leads to, and those after it
+fill_first : (c : Bool) (slot m next : ℕ) (form : Form) (held rest : Trees) (block : List ℕ)
+    → fill (run slot (suc m)) next (first (suc m) (formed c (tree form held rest))) block
+    ≡ fill (run (slot + 1) m) (next + part_total c form held) (first m (formed c rest))
+    (put slot (pointer_to (formed c (tree form held none)) (next - (slot + 1)) ∷ []) (put next (body (formed c (tree form held none))) block))
+fill_first true slot m next form held rest block = fill_step false slot (run (slot + 1) m) next (trim_form form (trim held)) (trim_held form (trim held)) (first m (trim rest)) block
+fill_first false slot m next form held rest block = fill_step false slot (run (slot + 1) m) next form held (first m rest) block
 
-pub row_total : (c : Bool) (form : Form) (held rest trees : Trees) (n m : ℕ) → trees ≡ tree form held rest → n ≡ suc m
-    → total_words (first n (formed c trees)) ≡ part_total c form held + total_words (first m (formed c rest))
-row_total c form held rest trees n m whole is =
-    ap (λ (k : ℕ). total_words (first k (formed c trees))) is ∙ ap (λ (t : Trees). total_words (first (suc m) (formed c t))) whole ∙ first_total c form held rest m
+-- a row is written where its first value is, and those after it
+pub row_written : (h hs : Trees → Type 0) (c : Bool) (slot n m next free : ℕ) (old mid new last : List ℕ) (copied : Copied) → n ≡ suc m
+    → ((t : Trees) → h t → IsCopied (formed c t) (next - (slot + 1)) next old mid copied) → new ≡ put slot (copied.pointer ∷ []) mid
+    → IsRowWritten hs c (slot + 1) m copied.next new last free → IsRowWritten (λ t. IsRow h hs t) c slot n next old last free
+row_written h hs c slot n m next free old mid new last copied n_is own new_is others = record {
+  words_are = λ t is.
+      let d = own (tree is.form is.held none) is.part.tree_is in
+      let words_are : mid ≡ put next (body (formed c (tree is.form is.held none))) old = d.words_are in
+      let pointer_is : copied.pointer ≡ pointer_to (formed c (tree is.form is.held none)) (next - (slot + 1)) = d.pointer_is in
+      let next_is : copied.next ≡ next + part_total c is.form is.held = d.next_is in
+      let filled : fill (run (slot + 1) m) copied.next (first m (formed c is.rest)) new ≡ fill (run slot (suc m)) next (first (suc m) (formed c (tree is.form is.held is.rest))) old =
+      rw (new_is, words_are, pointer_is, next_is) (sym (fill_first c slot m next is.form is.held is.rest old)) in
+      others.words_are is.rest is.others ∙ filled
+      ∙ ap (λ (x : Trees). fill (run slot (suc m)) next (first (suc m) (formed c x)) old) (sym is.whole)
+      ∙ ap (λ (k : ℕ). fill (run slot k) next (first k (formed c t)) old) (sym n_is);
+  next_is = λ t is.
+      let d = own (tree is.form is.held none) is.part.tree_is in
+      omega (arith, others.next_is is.rest is.others, d.next_is, first_total c is.form is.held is.rest t n m is.whole n_is);
+}
 
 -- no pointers lead to nothing
-pub none_row_written : (h : Trees → Type 0) (c : Bool) (n end : ℕ) (block : List ℕ) → n ≡ 0 → 8 * end ≡ length block → block ≡ replicate (length block) 0 → IsRowWritten h c n end block
-none_row_written h c n end block n_is whole zeros =
+pub none_row_written : (h : Trees → Type 0) (c : Bool) (slot n next : ℕ) (block : List ℕ) → n ≡ 0 → IsRowWritten h c slot n next block block next
+none_row_written h c slot n next block n_is =
     let none_there : (t : Trees) → first n (formed c t) ≡ none = λ t. ap (λ (k : ℕ). first k (formed c t)) n_is in
     record {
-      within = omega (arith, whole);
-      zero = take_all (8 * end) block (omega (arith, whole)) ∙ zeros ∙ ap (λ (k : ℕ). replicate k 0) (sym whole);
-      room = λ t is. let no : total_words (first n (formed c t)) ≡ 0 = ap total_words (none_there t) in omega (arith, whole, no);
-      body = λ t is. ap words_of (past_end block (8 * end) (omega (arith, whole))) ∙ ap body (sym (none_there t));
+      words_are = λ t is. sym (ap (λ (x : Trees). fill (run slot n) next x block) (none_there t));
+      next_is = λ t is. omega (arith, ap total_words (none_there t));
     }
-
--- the pointers of a row, the first one in front
-pub row_pointers : (c : Bool) (form : Form) (held rest trees : Trees) (start n m gap : ℕ) (slot others : List ℕ) → trees ≡ tree form held rest → n ≡ suc m → length slot ≡ 8
-    → words_of slot ≡ pointer_to (formed c (tree form held none)) (gap + m) ∷ []
-    → words_of others ≡ pointers_to (run (start + 1) m) (start + 1 + m + (gap + part_total c form held)) (first m (formed c rest))
-    → words_of (slot ++ others) ≡ pointers_to (run start n) (start + n + gap) (first n (formed c trees))
-row_pointers c form held rest trees start n m gap slot others whole n_is eight slot_is others_are =
-    let f : Form = own_form c form held in
-    let h : Trees = own_held c form held in
-    let total : part_total c form held ≡ own_words f (count h) + total_words h = part_total_is c form held in
-    let offset : start + suc m + gap - (start + 1) ≡ gap + m = omega arith in
-    let onward : start + 1 + m + (gap + part_total c form held) ≡ start + suc m + gap + own_words f (count h) + total_words h = omega (arith, total) in
-    words_split 1 slot others eight
-    ∙ ap (λ (l : List ℕ). l ++ words_of others) (slot_is ∙ ap (λ (t : Trees). pointer_to t (gap + m) ∷ []) (part_layout c form held))
-    ∙ ap (λ (l : List ℕ). pointer f (count h) (gap + m) ∷ l) (others_are ∙ ap (λ (k : ℕ). pointers_to (run (start + 1) m) k (first m (formed c rest))) onward)
-    ∙ ap (λ (k : ℕ). pointer f (count h) k ∷ pointers_to (run (start + 1) m) (start + suc m + gap + own_words f (count h) + total_words h) (first m (formed c rest))) (sym offset)
-    ∙ ap (λ (t : Trees). pointers_to (run start (suc m)) (start + suc m + gap) (first (suc m) t)) (sym (ap (formed c) whole ∙ formed_tree c form held rest))
-    ∙ ap (λ (k : ℕ). pointers_to (run start k) (start + k + gap) (first k (formed c trees))) (sym n_is)
-
--- and what they lead to
-pub row_body : (c : Bool) (form : Form) (held rest trees : Trees) (n m : ℕ) (own held_block : List ℕ) → trees ≡ tree form held rest → n ≡ suc m → length own ≡ 8 * part_total c form held
-    → words_of own ≡ body (formed c (tree form held none)) → words_of held_block ≡ body (first m (formed c rest))
-    → words_of (own ++ held_block) ≡ body (first n (formed c trees))
-row_body c form held rest trees n m own held_block whole n_is long own_is held_is =
-    let f : Form = own_form c form held in
-    let h : Trees = own_held c form held in
-    words_split (part_total c form held) own held_block long
-    ∙ ap (λ (l : List ℕ). l ++ words_of held_block) (own_is ∙ ap body (part_layout c form held))
-    ∙ ap (λ (l : List ℕ). body (tree f h none) ++ l) held_is
-    ∙ ap (λ (l : List ℕ). l ++ body (first m (formed c rest))) (append-nil (own_layout f h))
-    ∙ ap (λ (t : Trees). body (first (suc m) t)) (sym (ap (formed c) whole ∙ formed_tree c form held rest))
-    ∙ ap (λ (k : ℕ). body (first k (formed c trees))) (sym n_is)
-
--- the values after the first one, and that one
-pub rest_row : (h hs : Trees → Type 0) (c : Bool) (n m room : ℕ) → n ≡ suc m → CanWriteRow (λ t. IsRow h hs t) c n room → CanWriteRow hs c m room
-rest_row h hs c n m room n_is r = let s = row_split h hs c n m room n_is r in record { trees = s.rest; trees_are = s.others; some = s.some; fits = omega (arith, s.fits) }
-
-pub first_part : (h hs : Trees → Type 0) (c : Bool) (n m room own long : ℕ) → n ≡ suc m → CanWriteRow (λ t. IsRow h hs t) c n room
-    → ((form : Form) (held : Trees) → IsPart h form held → own ≡ part_total c form held) → long ≡ 8 * own → CanWritePart h c long
-first_part h hs c n m room own long n_is r own_is long_is =
-    let s = row_split h hs c n m room n_is r in record { form = s.form; held = s.held; part = s.part; room_is = omega (arith, own_is s.form s.held s.part, long_is) }
-
--- the first value has room in front of those that are written
-pub own_within : (h hs : Trees → Type 0) (c : Bool) (n m room own end : ℕ) (block : List ℕ) → n ≡ suc m → CanWriteRow (λ t. IsRow h hs t) c n room
-    → ((form : Form) (held : Trees) → IsPart h form held → own ≡ part_total c form held) → IsRowWritten hs c m end block → length block ≡ room → own ≤ end
-own_within h hs c n m room own end block n_is r own_is w long =
-    let s = row_split h hs c n m room n_is r in
-    omega (arith, own_is s.form s.held s.part, s.fits, w.room s.rest s.others, long)
-
--- and is written there
-pub row_front : (h hs : Trees → Type 0) (c : Bool) (n m start own end : ℕ) (block new part : List ℕ) → n ≡ suc m → start + own ≡ end → length part ≡ 8 * own → PutBefore start end block new part
-    → IsRowWritten hs c m end block → ((form : Form) (held : Trees) → IsPart h form held → own ≡ part_total c form held) → ((t : Trees) → h t → words_of part ≡ body (formed c t))
-    → IsRowWritten (λ t. IsRow h hs t) c n start new
-row_front h hs c n m start own end block new part n_is fits long put w own_is part_is = record {
-  within = omega (arith, put.long, w.within);
-  zero = put.zero;
-  room = λ t is. omega (arith, put.long, w.room is.rest is.others, row_total c is.form is.held is.rest t n m is.whole n_is, own_is is.form is.held is.part);
-  body = λ t is.
-      ap words_of put.rest
-      ∙ row_body c is.form is.held is.rest t n m part (drop (8 * end) block) is.whole n_is (omega (arith, long, own_is is.form is.held is.part)) (part_is (tree is.form is.held none) is.part.tree_is)
-      (w.body is.rest is.others);
-}

@@ -1,18 +1,19 @@
 -- The data section and the pointer section of a struct.
 use Rattle.std.proofs.Common.{◌≡◌, ℕ, zero, suc, ◌+◌, ◌-◌, ◌*◌, ◌<◌, ◌≤◌, ◌^◌, List, [], ◌∷◌, ◌++◌, length, take, drop, refl, sym, ◌∙◌, ap, arith}
-use Rattle.std.proofs.Common.{Some, slice_get, slice_index_or, length-take, w64}
+use Rattle.std.proofs.Common.{Some, slice_get, slice_index_or, length-take, length-drop, length-append, w64}
 use Rattle.std.specs.Int.{to_le_bytes}
 use Rattle.std.proofs.lemmas.List.{take_all}
 use Rattle.capnp_wire.specs.Block.{put}
-use Rattle.capnp_wire.proofs.layouts.BlockLemmas.{put_both}
+use Rattle.capnp_wire.specs.Values.{IsFreeFrom}
+use Rattle.capnp_wire.proofs.layouts.BlockLemmas.{put_both, length-put}
+use Rattle.capnp_wire.proofs.layouts.FreeLemmas.{free_after}
 use Rattle.capnp_wire.proofs.words.UsedLemmas.{take_more, last_used, last_unused}
 use Rattle.capnp_wire.proofs.views.ValueLemmas.{put_whole}
-use Rattle.capnp_values.proofs.PartLemmas.{one_word}
+use Rattle.capnp_wire.proofs.objects.PartLemmas.{one_word}
 use Rattle.capnp_wire.specs.Pointer.{words_of, words_from}
-use Rattle.capnp_wire.specs.Tree.{Trees}
-use Rattle.capnp_wire.specs.Trim.{first, cut_zeros}
-use Rattle.capnp_wire.specs.Layout.{run, pointers_to}
-use Rattle.capnp_wire.proofs.words.PutLemmas.{words_split, put_mid_words}
+use Rattle.capnp_wire.specs.Trim.{cut_zeros}
+use Rattle.capnp_wire.proofs.words.WordLemmas.{length-words_of}
+use Rattle.capnp_wire.proofs.words.PutLemmas.{put_mid_words}
 
 -- words that are put one after the other
 same_there : (xs : List ℕ) (k e : ℕ) → k < length xs → slice_get xs k ≡ Some (slice_index_or xs k e)
@@ -24,7 +25,7 @@ pub word_put : (i k : ℕ) (block w old words : List ℕ) (x : ℕ) → k ≡ 8 
     → length block ≡ 8 * length words → length old ≡ length words → words_of block ≡ put 0 (take i words) old
     → words_of (take (8 * i) block ++ (w ++ drop k (drop (8 * i) block))) ≡ put 0 (take (i + 1) words) old
 word_put i k block w old words x k_is w_is eight small there within long old_long so_far =
-    let one : words_of w ≡ x ∷ [] = one_word w x small w_is eight in
+    let one : words_of w ≡ x ∷ [] = one_word w x small w_is in
     let front : length (take i words) ≡ i = omega (arith, length-take i words) in
     let next : suc i ≡ i + 1 = omega arith in
     ap (λ (n : ℕ). words_of (take (8 * i) block ++ (w ++ drop n (drop (8 * i) block)))) (k_is ∙ sym eight)
@@ -41,12 +42,50 @@ there_is xs k e x within is = same_there xs k e within ∙ ap (λ (n : ℕ). Som
 pub all_put : (words old block : List ℕ) (i : ℕ) → length old ≡ length words → length words ≤ i → words_of block ≡ put 0 (take i words) old → words_of block ≡ words
 all_put words old block i long past is = is ∙ ap (λ (l : List ℕ). put 0 l old) (take_all i words past) ∙ put_whole words old (sym long)
 
--- data words, with the pointers after them
-pub own_written : (words own_data pointers : List ℕ) (start n m gap : ℕ) (t : Trees) → words_of own_data ≡ words → length own_data ≡ 8 * length words → n ≡ m
-    → words_of pointers ≡ pointers_to (run start m) (start + m + gap) (first m t) → words_of (own_data ++ pointers) ≡ words ++ pointers_to (run start n) (start + n + gap) (first n t)
-own_written words own_data pointers start n m gap t data_there long same links =
-    words_split (length words) own_data pointers long ∙ ap (λ (l : List ℕ). l ++ words_of pointers) data_there ∙ ap (λ (l : List ℕ). words ++ l) links
-    ∙ ap (λ (k : ℕ). words ++ pointers_to (run start k) (start + k + gap) (first k t)) (sym same)
+-- data words that are put into a block
+pub data_put : (at k : ℕ) (words block part : List ℕ) → words_of part ≡ words → length part ≡ 8 * length words → k ≡ 8 * length words → at + length words ≤ length (words_of block)
+    → words_of (take (8 * at) block ++ (part ++ drop k (drop (8 * at) block))) ≡ put at words (words_of block)
+data_put at k words block part is long k_is room =
+    ap (λ (n : ℕ). words_of (take (8 * at) block ++ (part ++ drop n (drop (8 * at) block)))) (k_is ∙ sym long)
+    ∙ put_mid_words at block part (omega (arith, long)) (omega (arith, long, room, length-words_of block))
+    ∙ ap (λ (l : List ℕ). put at l (words_of block)) is
+
+pub record DataPut (at next : ℕ) (words block new : List ℕ) : Type 0 where
+  pub words_are : words_of new ≡ put at words (words_of block)
+  pub same : length (words_of new) ≡ length (words_of block)
+  pub long : length new ≡ length block
+  pub free_from : IsFreeFrom next new
+
+pub data_is_put : (at slot next : ℕ) (words block part : List ℕ) → words_of part ≡ words → length part ≡ length (take (8 * slot - 8 * at) (drop (8 * at) block)) → slot ≡ at + length words
+    → slot ≤ next → next ≤ length (words_of block) → IsFreeFrom next block
+    → DataPut at next words block (take (8 * at) block ++ (part ++ drop (8 * slot - 8 * at) (drop (8 * at) block)))
+data_is_put at slot next words block part is part_long slot_is le room f =
+    let new : List ℕ = take (8 * at) block ++ (part ++ drop (8 * slot - 8 * at) (drop (8 * at) block)) in
+    let inside : 8 * next ≤ length block = omega (arith, room, length-words_of block) in
+    let size : 8 * slot - 8 * at ≡ 8 * length words = omega (arith, slot_is) in
+    let part_size : length part ≡ 8 * length words =
+    omega (arith, part_long, size, le, inside, slot_is, length-take (8 * slot - 8 * at) (drop (8 * at) block), length-drop (8 * at) block) in
+    let words_are = data_put at (8 * slot - 8 * at) words block part is part_size size (omega (arith, slot_is, le, room)) in
+    let long : length (take (8 * at) block ++ (part ++ drop (8 * slot - 8 * at) (drop (8 * at) block))) ≡ length block =
+    omega (
+      arith,
+      length-append (take (8 * at) block) (part ++ drop (8 * slot - 8 * at) (drop (8 * at) block)),
+      length-append part (drop (8 * slot - 8 * at) (drop (8 * at) block)),
+      length-take (8 * at) block,
+      length-drop (8 * slot - 8 * at) (drop (8 * at) block),
+      length-drop (8 * at) block,
+      part_size,
+      size,
+      slot_is,
+      le,
+      inside,
+    ) in
+    record {
+      words_are = words_are;
+      same = ap length words_are ∙ length-put at words (words_of block) (omega (arith, slot_is, le, room));
+      long = long;
+      free_from = free_after at next next words block new words_are long (omega (arith, slot_is, le)) (omega arith) (omega (arith, slot_is, le, room)) f;
+    }
 
 pub here_used : (words : List ℕ) (left w : ℕ) → 0 < left → left ≤ length words → w ≡ slice_index_or words (left - 1) 0 → 0 < w → left ≡ length (cut_zeros (words_from words 0 left))
 here_used words left w some room is positive =

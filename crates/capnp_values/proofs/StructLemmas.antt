@@ -1,27 +1,32 @@
 -- Structs of data words and of rows.
-use Rattle.std.proofs.Common.{◌≡◌, ℕ, ◌+◌, ◌-◌, ◌*◌, ◌/◌, ◌%◌, ◌<◌, ◌≤◌, ◌^◌, Bool, true, false, List, ◌∷◌, ◌++◌, length, take, Result, Ok, Err, MatchResult, inl, inr, refl, sym, ◌∙◌, ap, arith}
-use Rattle.std.specs.Prelude.{All, ◌==◌, if◌then◌else◌}
-use Rattle.std.proofs.Common.{length-take}
-use Rattle.std.proofs.lemmas.List.{append-nil, take_all}
-use Rattle.capnp_frame.specs.Words.{bytes_of}
-use Rattle.capnp_frame.specs.declared.words.Word.{Word}
+use Rattle.std.proofs.Common.{◌≡◌, ℕ, ◌+◌, ◌≤◌, ◌<◌, ◌^◌, Bool, true, false, List, length, take, Result, Ok, Err, inl, inr, refl, sym, ◌∙◌, ap, subst, arith}
+use Rattle.std.specs.Prelude.{All, IsTrue, min, ◌↔◌, ◌==◌, if◌then◌else◌, ◌⊎◌}
+use Rattle.std.specs.Result.{IsErrAnd}
+use Rattle.std.proofs.lemmas.Bool.{cases_lt}
+use Rattle.std.proofs.lemmas.List.{take_all}
 use Rattle.capnp_frame.specs.declared.error.Error.{Error}
 use Rattle.capnp_frame.specs.declared.error.ErrorKind.{ErrorKind}
-use Rattle.std.specs.Result.{IsErrAnd}
-use Rattle.capnp_wire.specs.Pointer.{number_of, words_of}
+use Rattle.capnp_frame.specs.declared.error.ErrorKind.TheVariants.{AllocationTooLarge}
 use Rattle.capnp_wire.specs.Tree.{struct, Trees, none, tree, count, total_words}
 use Rattle.capnp_wire.specs.Trim.{first, trim}
-use Rattle.capnp_wire.specs.Layout.{struct_pointer, minus_one, run, pointers_to, body, layout, formed}
-use Rattle.capnp_wire.specs.Values.{HasWords, LacksWords, pointed, too_large}
+use Rattle.capnp_wire.specs.Layout.{struct_pointer, minus_one, run, formed, AllHaveRoom}
+use Rattle.capnp_wire.specs.Block.{put, fill}
+use Rattle.capnp_wire.specs.Copy.{IsCopied}
+use Rattle.capnp_wire.specs.Values.{HasRoomAt}
 use Rattle.capnp_wire.proofs.trees.FrontLemmas.{first_cut, cut_front}
 use Rattle.capnp_wire.proofs.trees.NarrowLemmas.{first_all}
 use Rattle.capnp_wire.proofs.words.CutLemmas.{length-cut}
 use Rattle.capnp_wire.proofs.trees.TrimLemmas.{count-trim}
 use Rattle.capnp_wire.proofs.trees.ChunkLemmas.{count-cut}
-use Rattle.capnp_wire.proofs.words.PutLemmas.{words_split}
-use Rattle.capnp_values.specs.Fields.{IsSettled, kept_row, extent_of, CanWriteRow}
+use Rattle.capnp_wire.proofs.layouts.OpenLemmas.{room_formed}
+use Rattle.capnp_values.specs.Measured.{tree_words, Measures}
+use Rattle.capnp_values.specs.Fields.{IsSettled, kept_row, extent_of, HasExtent, CanWriteRow}
 use Rattle.capnp_values.specs.Structs.{IsStruct, RefusesStruct, kept_words}
 use Rattle.capnp_values.specs.declared.fields.Extent.{Extent}
+use Rattle.capnp_values.specs.declared.measured.TreeWords.{TreeWords}
+use Rattle.capnp_values.proofs.ResultLemmas.{ok_not_err, err_kind}
+use Rattle.capnp_values.proofs.ItemLemmas.{same_tree_words}
+use Rattle.capnp_values.proofs.FilledLemmas.{struct_filled}
 
 pub kept_first : (c : Bool) (t : Trees) → first (count (kept_row c t)) (formed c t) ≡ kept_row c t
 kept_first true t = first_cut (trim t)
@@ -50,104 +55,131 @@ struct_total true words held = omega arith
 struct_total false words held = omega arith
 
 -- what is measured of it
-abbrev pub Fitted : Bool → ℕ → Result ℕ Error → Type 0
-Fitted c total r = MatchResult r (λ number. (number ≡ total) × (number < 2 ^ 29)) (λ error. (2 ^ 29 ≤ total) × (error.kind ≡ too_large c total))
-
-pub total_of : (c : Bool) (words : List ℕ) (held : Trees) (extent : Extent) (d : ℕ) → d ≡ length (kept_words c words) → extent ≡ extent_of c held
-    → total_words (formed c (tree (struct words) held none)) ≡ d + extent.pointers + extent.words
-total_of c words held extent d d_is e =
-    let a : extent.pointers ≡ count (kept_row c held) = ap (λ (x : Extent). x.pointers) e in
-    let b : extent.words ≡ total_words (kept_row c held) = ap (λ (x : Extent). x.words) e in
-    omega (arith, struct_total c words held)
-
-pub struct_result : (c : Bool) (words : List ℕ) (size : ℕ) (hs : Trees → Type 0) (rs : ErrorKind → Type 0) (held : Trees) (total : ℕ) (r : Result ℕ Error) → hs held → IsSettled size held
-    → length words < 2 ^ 16 → size < 2 ^ 16 → All (λ w. w < 2 ^ 64) words → total_words (formed c (tree (struct words) held none)) ≡ total → Fitted c total r
-    → MatchResult r (λ n. HasWords (λ t. IsStruct words size hs t) c n) (λ error. LacksWords (λ t. IsStruct words size hs t) (λ k. RefusesStruct (length words) size rs k) c error.kind)
-struct_result c words size hs rs held total (Ok n) has s few_words few_pointers small is f = record {
-  trees = tree (struct words) held none;
-  tree_is = record { held = held; held_is = has; few_words = few_words; few_pointers = few_pointers; whole = refl };
-  rooms = ((few_words, omega (arith, s.many), small), s.rooms, tt);
-  words_are = f.0 ∙ sym is;
-  few = f.1;
-}
-struct_result c words size hs rs held total (Err error) has s few_words few_pointers small is f = inr (
-  tree (struct words) held none,
-  record { held = held; held_is = has; few_words = few_words; few_pointers = few_pointers; whole = refl },
-  omega (arith, f.0, is),
-  f.1 ∙ ap (too_large c) (sym is),
-)
-
-pub fitted_found : (c : Bool) (total words : ℕ) (r : Result ℕ Error) → Fitted c total r → words ≡ total → words < 2 ^ 29 → r ≡ Ok words
-fitted_found c total words (Ok n) f is few = ap (λ (k : ℕ). Ok k) (f.0 ∙ sym is)
-fitted_found c total words (Err e) f is few = absurd (omega (arith, f.0))
-
-pub fitted_lacks : (c : Bool) (total words : ℕ) (kind : ErrorKind) (r : Result ℕ Error) → Fitted c total r → words ≡ total → 2 ^ 29 ≤ words → kind ≡ too_large c words
-    → IsErrAnd r (λ e. e.kind ≡ kind)
-fitted_lacks c total words kind (Ok n) f is many k = absurd (omega (arith, f.0, f.1))
-fitted_lacks c total words kind (Err e) f is many k = f.1 ∙ ap (too_large c) (sym is) ∙ sym k
-
--- what is written of it
-pub struct_written : (c : Bool) (words : List ℕ) (held : Trees) (word : Word) (d n : ℕ) (own_block held_block : List ℕ) → d ≡ length (kept_words c words) → n ≡ count (kept_row c held)
-    → number_of 256 (bytes_of word) ≡ struct_pointer (if d + n == 0 then minus_one else 0) d n → length own_block ≡ 8 * (d + n)
-    → words_of own_block ≡ take d words ++ pointers_to (run d n) (d + n + 0) (first n (formed c held)) → words_of held_block ≡ body (first n (formed c held))
-    → pointed word (own_block ++ held_block) ≡ layout (formed c (tree (struct words) held none))
-struct_written c words held word d n own_block held_block d_is n_is word_is long own_is held_there_is =
-    let kept : first n (formed c held) ≡ kept_row c held = ap (λ (k : ℕ). first k (formed c held)) n_is ∙ kept_first c held in
-    let ws : take d words ≡ kept_words c words = ap (λ (k : ℕ). take k words) d_is ∙ kept_front c words in
-    let end : d + n + 0 ≡ d + n = omega arith in
-    let links : List ℕ → ℕ → ℕ → Trees → List ℕ = λ xs e k t. xs ++ pointers_to (run e k) (e + k) t in
-    let own_there : words_of own_block ≡ links (kept_words c words) (length (kept_words c words)) (count (kept_row c held)) (kept_row c held) =
-    own_is ∙ ap (λ (k : ℕ). take d words ++ pointers_to (run d n) k (first n (formed c held))) end
-    ∙ ap (λ (l : List ℕ). links l d n (first n (formed c held))) ws
-    ∙ ap (λ (t : Trees). links (kept_words c words) d n t) kept
-    ∙ ap (λ (k : ℕ). links (kept_words c words) k n (kept_row c held)) d_is
-    ∙ ap (λ (k : ℕ). links (kept_words c words) (length (kept_words c words)) k (kept_row c held)) n_is in
-    let held_there : words_of held_block ≡ body (kept_row c held) = held_there_is ∙ ap body kept in
-    let tag : ℕ → ℕ → ℕ = λ e k. struct_pointer (if e + k == 0 then minus_one else 0) e k in
-    let word_there : number_of 256 (bytes_of word) ≡ tag (length (kept_words c words)) (count (kept_row c held)) =
-    word_is ∙ ap (λ (k : ℕ). tag k n) d_is ∙ ap (λ (k : ℕ). tag (length (kept_words c words)) k) n_is in
-    ap (λ (l : List ℕ). number_of 256 (bytes_of word) ∷ l)
-    (words_split (d + n) own_block held_block long ∙ ap (λ (l : List ℕ). l ++ words_of held_block) own_there
-    ∙ ap (λ (l : List ℕ). links (kept_words c words) (length (kept_words c words)) (count (kept_row c held)) (kept_row c held) ++ l) held_there
-    ∙ sym (append-nil (links (kept_words c words) (length (kept_words c words)) (count (kept_row c held)) (kept_row c held) ++ body (kept_row c held))))
-    ∙ ap (λ (k : ℕ). k ∷ body (tree (struct (kept_words c words)) (kept_row c held) none)) word_there
-    ∙ ap layout (sym (struct_formed c words held))
-
 pub same_extents : (r : Result Extent Error) (a b : Extent) → r ≡ Ok a → r ≡ Ok b → a ≡ b
 same_extents r a b x y = cc
 
-pub struct_exact : (c : Bool) (words : List ℕ) (size : ℕ) (hs : Trees → Type 0) (rs : ErrorKind → Type 0) (total : ℕ) (r : Result ℕ Error) (kind : ErrorKind) → length words < 2 ^ 16 → size < 2 ^ 16
-    → ((held : Trees) → hs held → total_words (formed c (tree (struct words) held none)) ≡ total) → (rs kind → ⊥) → Fitted c total r
-    → LacksWords (λ t. IsStruct words size hs t) (λ k. RefusesStruct (length words) size rs k) c kind → IsErrAnd r (λ e. e.kind ≡ kind)
-struct_exact c words size hs rs total r kind few_words few_pointers totals not f (inl (inl (inl many, is))) = absurd (omega (arith, many, few_words))
-struct_exact c words size hs rs total r kind few_words few_pointers totals not f (inl (inl (inr many, is))) = absurd (omega (arith, many, few_pointers))
-struct_exact c words size hs rs total r kind few_words few_pointers totals not f (inl (inr refused)) = absurd (not refused.2)
-struct_exact c words size hs rs total r kind few_words few_pointers totals not f (inr lacks) =
-    let is : total_words (formed c lacks.0) ≡ total = ap (λ (t : Trees). total_words (formed c t)) lacks.1.whole ∙ totals lacks.1.held lacks.1.held_is in
-    fitted_lacks c total (total_words (formed c lacks.0)) kind r f is lacks.2 lacks.3
+struct_words : (c : Bool) (words : List ℕ) (size : ℕ) (held trees : Trees) (extent : Extent) (standing formed_words : ℕ) → trees ≡ tree (struct words) held none → IsSettled size held
+    → extent ≡ extent_of c held → standing ≡ length words + size + extent.standing → formed_words ≡ length (kept_words c words) + extent.pointers + extent.words
+    → record { standing = standing; formed = formed_words } ≡ tree_words c trees
+struct_words c words size held trees extent standing formed_words whole s e standing_is formed_is =
+    let a : extent.pointers ≡ count (kept_row c held) = ap (λ (x : Extent). x.pointers) e in
+    let b : extent.words ≡ total_words (kept_row c held) = ap (λ (x : Extent). x.words) e in
+    let d : extent.standing ≡ total_words held = ap (λ (x : Extent). x.standing) e in
+    same_tree_words (record { standing = standing; formed = formed_words }) (tree_words c (tree (struct words) held none)) (omega (arith, standing_is, d, s.many))
+    (omega (arith, formed_is, a, b, struct_total c words held)) ∙ sym (ap (tree_words c) whole)
 
--- where its row is written
-pub struct_row : (c : Bool) (words : List ℕ) (size : ℕ) (hs : Trees → Type 0) (whole own_long held_long d n : ℕ) → (w : HasWords (λ t. IsStruct words size hs t) c (whole / 8)) → whole % 8 ≡ 0
-    → own_long ≡ 8 * (d + n) → held_long + own_long ≡ whole → d ≡ length (kept_words c words) → n ≡ count (kept_row c w.tree_is.held)
-    → CanWriteRow hs c (own_long / 8 - length (take d words)) held_long × (held_long ≡ 8 * total_words (first (own_long / 8 - length (take d words)) (formed c w.tree_is.held)))
-struct_row c words size hs whole own_long held_long d n w even own_is sum d_is n_is =
+too_many : (d p : ℕ) → d < 2 ^ 16 → p < 2 ^ 16 → (2 ^ 16 ≤ d ⊎ 2 ^ 16 ≤ p) → ⊥
+too_many d p a b (inl many) = omega (arith, a, many)
+too_many d p a b (inr many) = omega (arith, b, many)
+
+pub struct_measured : (c : Bool) (words : List ℕ) (size : ℕ) (hs : Trees → Type 0) (rs : ErrorKind → Type 0) (returned : Result Extent Error) (extent : Extent) (standing formed_words : ℕ)
+    → ((t : Trees) → hs t → IsSettled size t) → returned ≡ Ok extent → HasExtent hs c extent → ((t : Trees) → hs t → returned ≡ Ok (extent_of c t))
+    → ((kind : ErrorKind) → rs kind → IsErrAnd returned (λ e. e.kind ≡ kind)) → length words < 2 ^ 16 → size < 2 ^ 16 → All (λ w. w < 2 ^ 64) words
+    → standing ≡ length words + size + extent.standing → formed_words ≡ length (kept_words c words) + extent.pointers + extent.words
+    → Measures (λ t. IsStruct words size hs t) (λ k. RefusesStruct (length words) size rs k) c (Ok (record { standing = standing; formed = formed_words }))
+struct_measured c words size hs rs returned extent standing formed_words settled was has found exact few_words few_pointers small standing_is formed_is =
+    let s = settled has.0 has.1 in
+    record {
+      returned = (
+        tree (struct words) has.0 none,
+        record { held = has.0; held_is = has.1; few_words = few_words; few_pointers = few_pointers; whole = refl },
+        ((few_words, omega (arith, s.many, few_pointers), small), s.rooms, tt),
+        struct_words c words size has.0 (tree (struct words) has.0 none) extent standing formed_words refl s has.2 standing_is formed_is,
+      );
+      found = λ trees is.
+          let same : extent ≡ extent_of c is.held = same_extents returned extent (extent_of c is.held) was (found is.held is.held_is) in
+          ap (λ (w : TreeWords). Ok w) (struct_words c words size is.held trees extent standing formed_words is.whole (settled is.held is.held_is) same standing_is formed_is);
+      exact = λ kind refused. elim refused [
+        | inl many ↦ absurd (too_many (length words) size few_words few_pointers many.0)
+        | inr others ↦ absurd (ok_not_err returned extent (λ e. e.kind ≡ kind) was (exact kind others.2))
+      ];
+    }
+
+-- it is refused: a pointer can't tell its size, or its row is
+pub struct_too_large : (c : Bool) (words : List ℕ) (size : ℕ) (hs : Trees → Type 0) (rs : ErrorKind → Type 0) (error : Error) → (2 ^ 16 ≤ length words ⊎ 2 ^ 16 ≤ size)
+    → error.kind ≡ AllocationTooLarge (2 ^ 16) → Measures (λ t. IsStruct words size hs t) (λ k. RefusesStruct (length words) size rs k) c (Err error)
+struct_too_large c words size hs rs error many is = record {
+  returned = inl (many, is);
+  found = λ trees there. absurd (too_many (length words) size there.few_words there.few_pointers many);
+  exact = λ kind refused. elim refused [
+    | inl there ↦ (is ∙ sym there.1)
+    | inr others ↦ absurd (too_many (length words) size others.0 others.1 many)
+  ];
+}
+
+pub struct_refused : (c : Bool) (words : List ℕ) (size : ℕ) (hs : Trees → Type 0) (rs : ErrorKind → Type 0) (returned : Result Extent Error) (error : Error) → returned ≡ Err error → rs error.kind
+    → ((t : Trees) → hs t → returned ≡ Ok (extent_of c t)) → ((kind : ErrorKind) → rs kind → IsErrAnd returned (λ e. e.kind ≡ kind)) → length words < 2 ^ 16 → size < 2 ^ 16
+    → Measures (λ t. IsStruct words size hs t) (λ k. RefusesStruct (length words) size rs k) c (Err error)
+struct_refused c words size hs rs returned error was refused found exact few_words few_pointers = record {
+  returned = inr (few_words, few_pointers, refused);
+  found = λ trees is. let ok : returned ≡ Ok (extent_of c is.held) = found is.held is.held_is in absurd (cc);
+  exact = λ kind there. elim there [
+    | inl many ↦ absurd (too_many (length words) size few_words few_pointers many.0)
+    | inr others ↦ err_kind returned error kind was (exact kind others.2)
+  ];
+}
+
+-- a pointer can't tell a size that is refused
+pub not_fitting : (a b size : ℕ) (fits : Bool) → (IsTrue fits ↔ ((a < 2 ^ 16) × (b < 2 ^ 16))) → fits ≡ false → b ≡ min size (2 ^ 16) → (2 ^ 16 ≤ a ⊎ 2 ^ 16 ≤ size)
+not_fitting a b size fits told unfit b_is = elim (cases_lt a (2 ^ 16)) [
+  | inl few ↦ (elim (cases_lt size (2 ^ 16)) [
+    | inl small ↦ (let yes : fits ≡ true = told.1 (few, omega (arith, small, b_is)) in absurd (cc))
+    | inr many ↦ inr many
+  ])
+  | inr many ↦ inl many
+]
+
+-- a struct that is one tree has room
+pub struct_rooms : (words : List ℕ) (size : ℕ) (hs : Trees → Type 0) (trees : Trees) → ((t : Trees) → hs t → IsSettled size t) → IsStruct words size hs trees → All (λ w. w < 2 ^ 64) words
+    → AllHaveRoom trees
+struct_rooms words size hs trees settled is small =
+    let s = settled is.held is.held_is in
+    subst AllHaveRoom (sym is.whole) ((is.few_words, omega (arith, s.many, is.few_pointers), small), s.rooms, tt)
+
+pub struct_small : (words : List ℕ) (size : ℕ) (hs : Trees → Type 0) (trees : Trees) → IsStruct words size hs trees → AllHaveRoom trees → All (λ w. w < 2 ^ 64) words
+struct_small words size hs trees is rooms = (subst AllHaveRoom is.whole rooms).0.2
+
+-- what is kept of it has room in a block
+pub record StructPlace (hs : Trees → Type 0) (c : Bool) (next d n room : ℕ) (held : Trees) : Type 0 where
+  pub can : CanWriteRow hs c n (next + d + n) room
+  pub first_fits : next + d + n + total_words (first n (formed c held)) ≤ room
+
+pub struct_place : (c : Bool) (words : List ℕ) (size : ℕ) (hs : Trees → Type 0) (next d n room : ℕ) → (w : HasRoomAt (λ t. IsStruct words size hs t) c next room) → d ≡ length (kept_words c words)
+    → ((held : Trees) → hs held → n ≡ count (kept_row c held)) → StructPlace hs c next d n room w.tree_is.held
+struct_place c words size hs next d n room w d_is kept_is =
+    let held : Trees = w.tree_is.held in
+    let n_is : n ≡ count (kept_row c w.tree_is.held) = kept_is w.tree_is.held w.tree_is.held_is in
+    let row_there : total_words (first n (formed c w.tree_is.held)) ≡ total_words (kept_row c w.tree_is.held) =
+    ap total_words (ap (λ (k : ℕ). first k (formed c held)) n_is ∙ kept_first c held) in
     let total : total_words (formed c w.trees) ≡ length (kept_words c words) + count (kept_row c w.tree_is.held) + total_words (kept_row c w.tree_is.held) =
-    ap (λ (t : Trees). total_words (formed c t)) w.tree_is.whole ∙ struct_total c words w.tree_is.held in
-    let some : own_long / 8 - length (take d words) ≡ count (kept_row c w.tree_is.held) = omega (arith, length-take d words, kept_fewer c words) in
-    let first_is : total_words (first (own_long / 8 - length (take d words)) (formed c w.tree_is.held)) ≡ total_words (kept_row c w.tree_is.held) =
-    ap (λ (k : ℕ). total_words (first k (formed c w.tree_is.held))) some ∙ ap total_words (kept_first c w.tree_is.held) in
-    let long : held_long ≡ 8 * total_words (first (own_long / 8 - length (take d words)) (formed c w.tree_is.held)) = omega (arith, first_is, total, w.words_are) in (
-      record { trees = w.tree_is.held; trees_are = w.tree_is.held_is; some = omega (arith, some, kept_within c w.tree_is.held); fits = omega (arith, long) },
-      long,
-    )
+    ap (λ (t : Trees). total_words (formed c t)) w.tree_is.whole ∙ struct_total c words held in
+    record {
+      can = record { trees = held; trees_are = w.tree_is.held_is; some = omega (arith, n_is, kept_within c held); fits = omega (arith, w.fits, total, row_there, d_is, n_is) };
+      first_fits = omega (arith, w.fits, total, row_there, d_is, n_is);
+    }
 
-pub struct_written_at : (c : Bool) (words : List ℕ) (held trees : Trees) (word : Word) (d n m : ℕ) (own_block held_block : List ℕ) → trees ≡ tree (struct words) held none
-    → d ≡ length (kept_words c words) → n ≡ count (kept_row c held) → m ≡ n
-    → number_of 256 (bytes_of word) ≡ struct_pointer (if d + n == 0 then minus_one else 0) d n → length own_block ≡ 8 * (d + n)
-    → words_of own_block ≡ take d words ++ pointers_to (run d m) (d + m + 0) (first m (formed c held)) → words_of held_block ≡ body (first m (formed c held))
-    → pointed word (own_block ++ held_block) ≡ layout (formed c trees)
-struct_written_at c words held trees word d n m own_block held_block whole d_is n_is same word_is long own_is held_there_is =
-    struct_written c words held word d n own_block held_block d_is n_is word_is long
-    (own_is ∙ ap (λ (k : ℕ). take d words ++ pointers_to (run d k) (d + k + 0) (first k (formed c held))) same)
-    (held_there_is ∙ ap (λ (k : ℕ). body (first k (formed c held))) same)
-    ∙ ap (λ (t : Trees). layout (formed c t)) (sym whole)
+-- what is written of it
+pub struct_copied : (c : Bool) (words : List ℕ) (held trees : Trees) (gap next d n free tag : ℕ) (old new : List ℕ) → trees ≡ tree (struct words) held none → d ≡ length (kept_words c words)
+    → n ≡ count (kept_row c held) → AllHaveRoom trees → tag ≡ struct_pointer (if d + n == 0 then minus_one else gap) d n → free ≤ length old
+    → new ≡ fill (run (next + length (take d words)) n) (next + d + n) (first n (formed c held)) (put next (take d words) old)
+    → free ≡ next + d + n + total_words (first n (formed c held)) → IsCopied (formed c trees) gap next old new (record { pointer = tag; next = free })
+struct_copied c words held trees gap next d n free tag old new whole d_is n_is rooms tag_is fits new_is free_is =
+    let ws : List ℕ = kept_words c words in
+    let row : Trees = kept_row c held in
+    let form_is : formed c trees ≡ tree (struct (kept_words c words)) (kept_row c held) none = ap (formed c) whole ∙ struct_formed c words held in
+    let all : AllHaveRoom (tree (struct (kept_words c words)) (kept_row c held) none) = subst AllHaveRoom form_is (room_formed c trees rooms) in
+    let words_there : take d words ≡ kept_words c words = ap (λ (k : ℕ). take k words) d_is ∙ kept_front c words in
+    let row_there : first n (formed c held) ≡ kept_row c held = ap (λ (k : ℕ). first k (formed c held)) n_is ∙ kept_first c held in
+    let on : next + d + count (kept_row c held) ≡ next + (length (kept_words c words) + count (kept_row c held)) = omega (arith, d_is) in
+    let tag_of : ℕ → ℕ → ℕ = λ e k. struct_pointer (if e + k == 0 then minus_one else gap) e k in
+    let filled = struct_filled next ws row old all.0 all.1 (omega (arith, fits, free_is, ap total_words row_there, d_is, n_is)) in
+    subst (λ (t : Trees). IsCopied t gap next old new (record { pointer = tag; next = free })) (sym form_is) (record {
+      words_are = new_is
+          ∙ ap (λ (l : List ℕ). fill (run (next + length l) n) (next + d + n) (first n (formed c held)) (put next l old)) words_there
+          ∙ ap (λ (t : Trees). fill (run (next + length ws) n) (next + d + n) t (put next ws old)) row_there
+          ∙ ap (λ (k : ℕ). fill (run (next + length ws) k) (next + d + k) row (put next ws old)) n_is
+          ∙ ap (λ (k : ℕ). fill (run (next + length ws) (count row)) k row (put next ws old)) on
+          ∙ filled;
+      pointer_is = tag_is ∙ ap (λ (k : ℕ). tag_of k n) d_is ∙ ap (λ (k : ℕ). tag_of (length ws) k) n_is;
+      next_is = omega (arith, free_is, ap total_words row_there, d_is, n_is);
+    })

@@ -1,30 +1,25 @@
 -- Lists of structs: the rows of trees of their elements, as they stand or in canonical form, and how far these reach.
-use Rattle.std.proofs.Common.{◌≡◌, ℕ, zero, suc, ◌+◌, ◌*◌, ◌<◌, ◌≤◌, ◌^◌, Bool, true, false, max, List, [], ◌∷◌, length, map, take, drop, Result, Ok, inl, inr, refl, sym, ◌∙◌, ap, subst, arith}
+use Rattle.std.proofs.Common.{◌≡◌, ℕ, zero, suc, ◌+◌, ◌*◌, ◌<◌, ◌≤◌, ◌^◌, Bool, true, false, max, List, [], ◌∷◌, length, map, take, drop, refl, sym, ◌∙◌, ap, subst, arith}
 use Rattle.std.specs.Prelude.{All}
-use Rattle.std.proofs.Math.Nat.{mul-le-mul_left}
-use Rattle.std.specs.Result.{IsErrAnd}
-use Rattle.capnp_frame.specs.declared.error.Error.{Error}
-use Rattle.capnp_frame.specs.declared.error.ErrorKind.{ErrorKind}
 use Rattle.std.proofs.lemmas.List.{take_all, length-map}
 use Rattle.std.proofs.lemmas.List.Elements.{All-nil, All-cons, All-head, All-tail}
 use Rattle.capnp_wire.specs.Tree.{structs, Trees, none, tree, count, total_words}
 use Rattle.capnp_wire.specs.Trim.{first, following, before, cut_nulls, least_pointers, narrowed, trim}
 use Rattle.capnp_wire.specs.Layout.{formed, AllHaveRoom}
 use Rattle.capnp_wire.proofs.trees.FrontLemmas.{trim_before}
-use Rattle.capnp_wire.proofs.trees.NarrowLemmas.{first-before, following-before}
-use Rattle.capnp_wire.proofs.trees.ChunkLemmas.{count-before, total-before}
-use Rattle.capnp_wire.proofs.trees.StoodLemmas.{total_cut, total_narrowed, rooms_both}
+use Rattle.capnp_wire.proofs.trees.NarrowLemmas.{first-before, following-before, first_all}
+use Rattle.capnp_wire.proofs.trees.ChunkLemmas.{count-first, count-before, count-following, total-before, before_chunks}
+use Rattle.capnp_wire.proofs.trees.StoodLemmas.{total_cut, total_narrowed}
 use Rattle.capnp_wire.proofs.trees.TrimLemmas.{room_trim}
-use Rattle.capnp_wire.proofs.forms.FullLemmas.{narrowed_all}
-use Rattle.capnp_values.specs.Fields.{IsSettled, kept_row, extent_of, HasExtent}
-use Rattle.capnp_values.specs.declared.fields.Extent.{Extent}
-use Rattle.capnp_values.specs.declared.rows.Reach.{Reach}
+use Rattle.capnp_values.specs.Fields.{IsSettled, kept_row}
 use Rattle.capnp_values.specs.Structs.{kept_words}
-use Rattle.capnp_values.specs.StructLists.{AreRows, element_data, element_pointers, shown, reach_of, AreEven, ReachesRows}
+use Rattle.capnp_values.specs.StructLists.{AreRows, element_data, element_pointers, shown, AreEven}
 use Rattle.capnp_values.proofs.PointerListLemmas.{count_formed}
-use Rattle.capnp_values.proofs.ItemLemmas.{formed_small}
-use Rattle.capnp_values.proofs.ResultLemmas.{ok_not_err}
-use Rattle.capnp_values.proofs.StructLemmas.{same_extents}
+
+-- the rows of some structs
+rooms_before : (a b : Trees) → AllHaveRoom a → AllHaveRoom b → AllHaveRoom (before a b)
+rooms_before none b x y = y
+rooms_before (tree form held rest) b x y = (x.0, x.1, rooms_before rest b x.2 y)
 
 settled_no_rows : (p : ℕ) → IsSettled (0 * p) none
 settled_no_rows p = record { many = omega arith; rooms = tt; few = omega arith }
@@ -38,7 +33,7 @@ rows_settled h p s (v ∷ vs) t is =
     subst (λ (x : Trees). IsSettled (suc (length vs) * p) x) (sym is.whole)
     (record {
       many = omega (arith, count-before is.row is.rest, a.many, b.many, split);
-      rooms = rooms_both is.row is.rest a.rooms b.rooms;
+      rooms = rooms_before is.row is.rest a.rooms b.rooms;
       few = omega (arith, total-before is.row is.rest, a.few, b.few, split);
     })
 
@@ -89,81 +84,6 @@ total_front c row rest held whole rooms =
     let t : formed c held ≡ before (formed c row) (formed c rest) = ap (formed c) whole ∙ formed_before c row rest in
     ap total_words t ∙ total-before (formed c row) (formed c rest) ∙ ap (λ (n : ℕ). n + total_words (formed c rest)) (sym (row_total c row rooms))
 
--- how far some structs reach, one in front
-pub same_reach : (a b : Reach) → a.data_words ≡ b.data_words → a.pointers ≡ b.pointers → a.words ≡ b.words → a ≡ b
-same_reach a b d p w =
-    let f : ℕ → ℕ → ℕ → Reach = λ x y z. record { data_words = x; pointers = y; words = z } in
-    ap (λ (x : ℕ). f x a.pointers a.words) d ∙ ap (λ (y : ℕ). f b.data_words y a.words) p ∙ ap (λ (z : ℕ). f b.data_words b.pointers z) w
-
-pub reach_front : (c : Bool) (d p kept : ℕ) (ws : List ℕ) (rows : List (List ℕ)) (row rest held : Trees) (extent : Extent) (reach : Reach) → held ≡ before row rest → IsSettled p row → length ws ≡ d
-    → kept ≡ length (kept_words c ws) → extent ≡ extent_of c row → reach ≡ reach_of c d p rows rest
-    → record { data_words = max kept reach.data_words; pointers = max extent.pointers reach.pointers; words = extent.words + reach.words } ≡ reach_of c d p (ws ∷ rows) held
-reach_front c d p kept ws rows row rest held extent reach whole s long kept_is extent_is reach_is =
-    let a : extent.pointers ≡ count (kept_row c row) = ap (λ (x : Extent). x.pointers) extent_is in
-    let b : extent.words ≡ total_words (kept_row c row) = ap (λ (x : Extent). x.words) extent_is in
-    let i : reach.data_words ≡ element_data c d rows = ap (λ (x : Reach). x.data_words) reach_is in
-    let j : reach.pointers ≡ element_pointers c p rows rest = ap (λ (x : Reach). x.pointers) reach_is in
-    let k : reach.words ≡ total_words (formed c rest) = ap (λ (x : Reach). x.words) reach_is in
-    same_reach (record { data_words = max kept reach.data_words; pointers = max extent.pointers reach.pointers; words = extent.words + reach.words }) (reach_of c d p (ws ∷ rows) held)
-    (omega (arith, kept_is, i, data_front c d ws rows long))
-    (omega (arith, a, j, pointers_front c p ws rows row rest held whole s.many))
-    (omega (arith, b, k, total_front c row rest held whole s.rooms))
-
-no_rows : {V : Type 0} (w : V → List ℕ) (h : V → Trees → Type 0) (r : V → ErrorKind → Type 0) (c : Bool) (d p : ℕ) (reach : Reach) → reach ≡ reach_of c d p [] none → ReachesRows w h r c d p [] (Ok reach)
-no_rows w h r c d p reach is = record {
-  returned = (All-nil (λ row. (length row ≡ d) × All (λ k. k < 2 ^ 64) row), (none, refl, is));
-  found = λ held there. ap (λ (k : Reach). Ok k) (is ∙ ap (λ (t : Trees). reach_of c d p [] t) (sym there));
-  exact = λ kind refused. absurd refused;
-}
-
--- all are measured
-pub rows_reached : {V : Type 0} (w : V → List ℕ) (h : V → Trees → Type 0) (r : V → ErrorKind → Type 0) (c : Bool) (d p : ℕ) → ((v : V) (t : Trees) → h v t → IsSettled p t) → (v : V) (vs : List V)
-    (returned : Result Extent Error) (others : Result Reach Error) (extent : Extent) (reach : Reach) (kept x y : ℕ) → returned ≡ Ok extent → others ≡ Ok reach → HasExtent (h v) c extent
-    → ((t : Trees) → h v t → returned ≡ Ok (extent_of c t)) → ((kind : ErrorKind) → r v kind → IsErrAnd returned (λ e. e.kind ≡ kind)) → length (w v) ≡ d → All (λ k. k < 2 ^ 64) (w v)
-    → kept ≡ length (kept_words c (w v)) → x ≡ max kept reach.data_words → y ≡ max extent.pointers reach.pointers → ReachesRows w h r c d p vs others
-    → ReachesRows w h r c d p (v ∷ vs) (Ok record { data_words = x; pointers = y; words = extent.words + reach.words })
-rows_reached w h r c d p s v vs returned others extent reach kept x y was others_was has found exact long fit kept_is x_is y_is m =
-    let m_ok : ReachesRows w h r c d p vs (Ok reach) = subst (λ (a : Result Reach Error). ReachesRows w h r c d p vs a) others_was m in
-    let f : ℕ → ℕ → Reach = λ a b. record { data_words = a; pointers = b; words = extent.words + reach.words } in
-    let is : f x y ≡ f (max kept reach.data_words) (max extent.pointers reach.pointers) = ap (λ (a : ℕ). f a y) x_is ∙ ap (λ (b : ℕ). f (max kept reach.data_words) b) y_is in
-    let a = m_ok.returned in
-    record {
-      returned = (
-        All-cons (λ row. (length row ≡ d) × All (λ k. k < 2 ^ 64) row) (w v) (map w vs) (long, fit) a.0,
-        (
-          before has.0 a.1.0,
-          record { row = has.0; rest = a.1.0; whole = refl; row_is = has.1; others = a.1.1 },
-          is ∙ reach_front c d p kept (w v) (map w vs) has.0 a.1.0 (before has.0 a.1.0) extent reach refl (s v has.0 has.1) long kept_is has.2 a.1.2,
-        ),
-      );
-      found = λ held there.
-          let same : extent ≡ extent_of c there.row = same_extents returned extent (extent_of c there.row) was (found there.row there.row_is) in
-          let rest_there : Ok reach ≡ Ok (reach_of c d p (map w vs) there.rest) = m_ok.found there.rest there.others in
-          let rest_same : reach ≡ reach_of c d p (map w vs) there.rest = cc in
-          ap (λ (k : Reach). Ok k) (is ∙ reach_front c d p kept (w v) (map w vs) there.row there.rest held extent reach there.whole (s v there.row there.row_is) long kept_is same rest_same);
-      exact = λ kind refused. elim refused [
-        | inl own ↦ absurd (ok_not_err returned extent (λ e. e.kind ≡ kind) was (exact kind own))
-        | inr more ↦ m_ok.exact kind more.2
-      ];
-    }
-
-pub none_reached : {V : Type 0} (w : V → List ℕ) (h : V → Trees → Type 0) (r : V → ErrorKind → Type 0) (items : List V) (c : Bool) (d p n : ℕ) (reach : Reach) → length items ≤ n
-    → reach ≡ reach_of c d p [] none → ReachesRows w h r c d p (drop n items) (Ok reach)
-none_reached w h r (x ∷ xs) c d p zero reach past is = absurd (omega (arith, past))
-none_reached w h r (x ∷ xs) c d p (suc n) reach past is = none_reached w h r xs c d p n reach (omega arith) is
-none_reached w h r [] c d p zero reach past is = no_rows w h r c d p reach is
-none_reached w h r [] c d p (suc n) reach past is = no_rows w h r c d p reach is
-
--- they lead to few words
-pub reach_few : {V : Type 0} (w : V → List ℕ) (h : V → Trees → Type 0) (r : V → ErrorKind → Type 0) (c : Bool) (d p : ℕ) → ((v : V) (t : Trees) → h v t → IsSettled p t) → (vs : List V) (n : ℕ)
-    (others : Result Reach Error) (reach : Reach) → others ≡ Ok reach → ReachesRows w h r c d p vs others → length vs ≤ n → n * (d + p) < 2 ^ 29 → reach.words < 2 ^ 58
-reach_few w h r c d p s vs n others reach was m fewer few =
-    let a = (subst (λ (x : Result Reach Error). ReachesRows w h r c d p vs x) was m).returned in
-    let settled = rows_settled h p s vs a.1.0 a.1.1 in
-    let k : reach.words ≡ total_words (formed c a.1.0) = ap (λ (x : Reach). x.words) a.1.2 in
-    let area : p * length vs ≤ p * n = mul-le-mul_left p fewer in
-    omega (arith, k, area, few, formed_small c (length vs * p) a.1.0 settled)
-
 -- a list that is formed
 take_even : (d : ℕ) (rows : List (List ℕ)) → AreEven d rows → map (take d) rows ≡ rows
 take_even d [] even = refl
@@ -172,6 +92,16 @@ take_even d (row ∷ rows) even =
     let one : take d row ≡ row = take_all d row (omega (arith, wide)) in
     let rest : map (take d) rows ≡ rows = take_even d rows (All-tail (λ r. (length r ≡ d) × All (λ w. w < 2 ^ 64) r) row rows even) in
     ap (λ (l : List ℕ). l ∷ map (take d) rows) one ∙ ap (λ (l : List (List ℕ)). row ∷ l) rest
+
+narrowed_all : (p : ℕ) (rows : List (List ℕ)) (held : Trees) → count held ≡ length rows * p → narrowed p p rows held ≡ held
+narrowed_all p [] none long = refl
+narrowed_all p [] (tree form held rest) long = absurd (omega arith)
+narrowed_all p (row ∷ rows) held long =
+    let split : suc (length rows) * p ≡ p + length rows * p = omega arith in
+    let many : count (first p held) ≡ p = omega (arith, count-first p held (omega arith)) in
+    let rest : narrowed p p rows (following p held) ≡ following p held = narrowed_all p rows (following p held) (omega (arith, count-following p held (omega arith))) in
+    ap (λ (t : Trees). before t (narrowed p p rows (following p held))) (first_all p (first p held) many)
+    ∙ ap (λ (t : Trees). before (first p held) t) rest ∙ before_chunks p held
 
 pub structs_formed : (c : Bool) (d p : ℕ) (rows : List (List ℕ)) (held : Trees) → AreEven d rows → count held ≡ length rows * p
     → formed c (tree (structs d p rows) held none)

@@ -1,10 +1,10 @@
 -- Rows of pointer fields (src/fields.rt).
-use Rattle.std.specs.Prelude.{◌≡◌, ◌⊎◌, ℕ, ◌+◌, ◌*◌, ◌^◌, ◌<◌, ◌≤◌, Bool, true, false, List, length, take, drop, replicate}
+use Rattle.std.specs.Prelude.{◌≡◌, ◌⊎◌, ℕ, zero, suc, ◌+◌, ◌*◌, ◌^◌, ◌<◌, ◌≤◌, Bool, true, false, List}
 use Rattle.capnp_frame.specs.declared.error.ErrorKind.{ErrorKind}
-use Rattle.capnp_wire.specs.Tree.{Form, Trees, none, tree, count, total_words}
+use Rattle.capnp_wire.specs.Tree.{Form, is_null, Trees, none, tree, count, total_words}
 use Rattle.capnp_wire.specs.Trim.{cut_nulls, first, trim}
-use Rattle.capnp_wire.specs.Pointer.{words_of}
-use Rattle.capnp_wire.specs.Layout.{body, formed, AllHaveRoom}
+use Rattle.capnp_wire.specs.Layout.{run, formed, AllHaveRoom}
+use Rattle.capnp_wire.specs.Block.{fill}
 use Rattle.capnp_wire.specs.Values.{HasWords, LacksWords}
 use Rattle.capnp_values.specs.declared.fields.Extent.{Extent}
 
@@ -13,13 +13,6 @@ pub record IsPart (has_tree : Trees → Type 0) (form : Form) (held : Trees) : T
   pub tree_is : has_tree (tree form held none)
   pub rooms : AllHaveRoom (tree form held none)
   pub few : total_words (tree form held none) < 2 ^ 29
-
--- a value can be written into a block of just the words of its tree
-pub record CanWritePart (has_tree : Trees → Type 0) (canonical : Bool) (room : ℕ) : Type 0 where
-  pub form : Form
-  pub held : Trees
-  pub part : IsPart has_tree form held
-  pub room_is : room ≡ 8 * total_words (formed canonical (tree form held none))
 
 -- a value in front of a row
 pub record IsRow (has_tree has_trees : Trees → Type 0) (trees : Trees) : Type 0 where
@@ -47,26 +40,32 @@ abbrev pub kept_row : Bool → Trees → Trees
 kept_row true trees = cut_nulls (trim trees)
 kept_row false trees = trees
 
+-- A value is left out of a row that keeps n pointers after it: in canonical form a null one, where it keeps none.
+abbrev pub is_left_out : Bool → ℕ → Form → Bool
+is_left_out true zero form = is_null form
+is_left_out true (suc n) form = false
+is_left_out false n form = false
+
 abbrev pub extent_of : Bool → Trees → Extent
 extent_of canonical trees = record {
   pointers = count (kept_row canonical trees);
   words = total_words (kept_row canonical trees);
+  standing = total_words trees;
 }
 
 -- the trees of a row, and how far it reaches
 abbrev pub HasExtent : (Trees → Type 0) → Bool → Extent → Type 0
 HasExtent has_trees canonical extent = (trees : Trees) × has_trees trees × (extent ≡ extent_of canonical trees)
 
--- the first n pointers of a row can be written, with what they lead to at the end of a block
-pub record CanWriteRow (has_trees : Trees → Type 0) (canonical : Bool) (n room : ℕ) : Type 0 where
+-- the first n pointers of a row can be written, and what they lead to from a word of a block on
+pub record CanWriteRow (has_trees : Trees → Type 0) (canonical : Bool) (n next room : ℕ) : Type 0 where
   pub trees : Trees
   pub trees_are : has_trees trees
   pub some : n ≤ count trees
-  pub fits : 8 * total_words (first n (formed canonical trees)) ≤ room
+  pub fits : next + total_words (first n (formed canonical trees)) ≤ room
 
--- what the first n pointers of a row lead to is all of a block from a word on; before that it is zero
-pub record IsRowWritten (has_trees : Trees → Type 0) (canonical : Bool) (n start : ℕ) (block : List ℕ) : Type 0 where
-  pub within : 8 * start ≤ length block
-  pub zero : take (8 * start) block ≡ replicate (8 * start) 0
-  pub room : (trees : Trees) → has_trees trees → 8 * (start + total_words (first n (formed canonical trees))) ≡ length block
-  pub body : (trees : Trees) → has_trees trees → words_of (drop (8 * start) block) ≡ body (first n (formed canonical trees))
+-- the first n pointers of a row stand in the slots of a block from one on, and what they lead to from a word on, up to the first
+-- free one
+pub record IsRowWritten (has_trees : Trees → Type 0) (canonical : Bool) (slot n next : ℕ) (old new : List ℕ) (free : ℕ) : Type 0 where
+  pub words_are : (trees : Trees) → has_trees trees → new ≡ fill (run slot n) next (first n (formed canonical trees)) old
+  pub next_is : (trees : Trees) → has_trees trees → free ≡ next + total_words (first n (formed canonical trees))

@@ -1,4 +1,5 @@
 -- What composed values are.
+pub mod Measured
 pub mod Fields
 pub mod FieldLaws
 pub mod Structs

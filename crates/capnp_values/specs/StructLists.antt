@@ -1,14 +1,15 @@
 -- Lists of structs (src/struct_list.rt), and the elements that stand in them (src/rows.rt).
 -- Encoding document, "Lists", the elements of code 7.
-use Rattle.std.specs.Prelude.{◌≡◌, ◌⊎◌, ℕ, ◌+◌, ◌-◌, ◌*◌, ◌^◌, ◌<◌, ◌≤◌, min, Bool, true, false, List, [], ◌∷◌, ◌++◌, length, map, take, drop, replicate, All, Result, Ok, MatchResult}
+use Rattle.std.specs.Prelude.{◌≡◌, ◌⊎◌, ℕ, ◌+◌, ◌-◌, ◌*◌, ◌^◌, ◌<◌, ◌≤◌, max, min, Bool, true, false, List, [], ◌∷◌, length, map, take, All, Result, Ok, MatchResult}
 use Rattle.std.specs.Result.{IsErrAnd}
 use Rattle.capnp_frame.specs.declared.error.Error.{Error}
 use Rattle.capnp_frame.specs.declared.error.ErrorKind.{ErrorKind}
 use Rattle.capnp_frame.specs.declared.error.ErrorKind.TheVariants.{AllocationTooLarge}
-use Rattle.capnp_wire.specs.Pointer.{words_of}
 use Rattle.capnp_wire.specs.Tree.{structs, Trees, none, tree, total_words}
-use Rattle.capnp_wire.specs.Trim.{before, least_data, least_pointers, narrowed, trim}
-use Rattle.capnp_wire.specs.Layout.{struct_pointer, row_run, pointers_to, woven, body, formed}
+use Rattle.capnp_wire.specs.Trim.{first, following, before, least_data, least_pointers, narrowed, trim}
+use Rattle.capnp_wire.specs.Layout.{run, formed}
+use Rattle.capnp_wire.specs.Block.{put, fill}
+use Rattle.capnp_values.specs.declared.fields.Extent.{Extent}
 use Rattle.capnp_values.specs.declared.rows.Reach.{Reach}
 
 -- the row of trees of one struct, in front of those of others
@@ -71,6 +72,16 @@ reach_of canonical d p rows held = record {
   data_words = element_data canonical d rows;
   pointers = element_pointers canonical p rows held;
   words = total_words (formed canonical held);
+  standing = total_words held;
+}
+
+-- how far some structs reach, and one more, of which d data words are kept
+abbrev pub reached : Reach → ℕ → Extent → Reach
+reached reach d extent = record {
+  data_words = max reach.data_words d;
+  pointers = max reach.pointers extent.pointers;
+  words = reach.words + extent.words;
+  standing = reach.standing + extent.standing;
 }
 
 -- each row has d words
@@ -85,29 +96,25 @@ pub record ReachesRows {V : Type 0} (words : V → List ℕ) (has_trees : V → 
   pub found : (held : Trees) → AreRows has_trees values held → result ≡ Ok (reach_of canonical d p (map words values) held)
   pub exact : (kind : ErrorKind) → RefusesRows has_trees refuses values kind → IsErrAnd result (λ error. error.kind ≡ kind)
 
--- of each of some structs d words and m pointers are kept, and what all lead to takes just a block
-pub record FillsRows {V : Type 0} (words : V → List ℕ) (has_trees : V → Trees → Type 0) (canonical : Bool) (d m most p : ℕ) (values : List V) (room : ℕ) : Type 0 where
+-- rows from a word of a block on, each before its p pointers, and what these lead to from another word on
+abbrev pub fill_rows : ℕ → ℕ → List (List ℕ) → ℕ → Trees → List ℕ → List ℕ
+fill_rows p at [] next held block = block
+fill_rows p at (row ∷ rows) next held block =
+    fill_rows p (at + length row + p) rows (next + total_words (first p held)) (following p held) (fill (run (at + length row) p) next (first p held) (put at row block))
+
+-- of each of some structs d words and m pointers are kept, and what these lead to has room in a block, from a word on
+pub record HasRoomForRows {V : Type 0} (words : V → List ℕ) (has_trees : V → Trees → Type 0) (canonical : Bool) (d m most p : ℕ) (values : List V) (next room : ℕ) : Type 0 where
   pub held : Trees
   pub held_is : AreRows has_trees values held
+  pub few_words : d < 2 ^ 16
   pub few_pointers : p < 2 ^ 16
   pub data_fits : d ≤ most
   pub pointers_are : m ≡ element_pointers canonical p (map words values) held
-  pub room_is : room ≡ 8 * total_words (shown canonical m p (map words values) held)
+  pub fits : next + total_words (shown canonical m p (map words values) held) ≤ room
 
--- the words of a list of n structs: its tag, its elements of d words and m pointers, and what these lead to
-abbrev pub list_words : Bool → ℕ → ℕ → ℕ → ℕ → List (List ℕ) → Trees → List ℕ
-list_words canonical n d m p rows held =
-    struct_pointer n d m
-    ∷ (woven m (map (take d) rows) (pointers_to (row_run 1 d m (map (take d) rows)) (1 + n * (d + m)) (shown canonical m p rows held)) ++ body (shown canonical m p rows held))
-
--- Of n structs those from one on are written, with what they lead to, which is all of a block from a word on; before that it is
--- zero.
-pub record RowsWritten {V : Type 0} (words : V → List ℕ) (has_trees : V → Trees → Type 0) (canonical : Bool) (d m p : ℕ) (values : List V) (n from start : ℕ) (elements block : List ℕ) : Type 0 where
-  pub within : 8 * start ≤ length block
-  pub zero : take (8 * start) block ≡ replicate (8 * start) 0
-  pub room : (held : Trees) → AreRows has_trees values held → 8 * (start + total_words (shown canonical m p (map words values) held)) ≡ length block
-  pub rows : (held : Trees) → AreRows has_trees values held
-      → words_of (drop (8 * (from * (d + m))) elements)
-      ≡ woven m (map (take d) (map words values))
-      (pointers_to (row_run (1 + from * (d + m)) d m (map (take d) (map words values))) (1 + n * (d + m) + start) (shown canonical m p (map words values) held))
-  pub body : (held : Trees) → AreRows has_trees values held → words_of (drop (8 * start) block) ≡ body (shown canonical m p (map words values) held)
+-- the elements of a list stand in a block from a word on, and what their pointers lead to from another one on, up to the first
+-- free word
+pub record AreRowsWritten {V : Type 0} (words : V → List ℕ) (has_trees : V → Trees → Type 0) (canonical : Bool) (d m p : ℕ) (values : List V) (at next : ℕ) (old new : List ℕ) (free : ℕ) : Type 0 where
+  pub words_are : (held : Trees) → AreRows has_trees values held
+      → new ≡ fill_rows m at (map (take d) (map words values)) next (shown canonical m p (map words values) held) old
+  pub next_is : (held : Trees) → AreRows has_trees values held → free ≡ next + total_words (shown canonical m p (map words values) held)

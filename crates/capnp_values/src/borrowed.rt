@@ -1,8 +1,8 @@
 //! Values that are borrowed.
 ghost use Rattle.std.specs.Prelude.{◌≡◌};
 
-use capnp_frame::{Result, Word};
-use capnp_wire::traits::SetterInput;
+use capnp_frame::Result;
+use capnp_wire::traits::{Copied, PartWords, SetterInput};
 
 /// A value that is borrowed, so that it can be set more than once, or stand in more than one place.
 #[derive(Clone, Copy)]
@@ -32,7 +32,15 @@ impl<'a, T, V: SetterInput<T>> SetterInput<T> for Borrowed<'a, V> {
         self.value.measure(canonical)
     }
 
-    fn write(&self, canonical: bool, block: &mut [u8]) -> Word {
-        self.value.write(canonical, block)
+    fn measure_part(&self, canonical: bool) -> Result<PartWords> {
+        self.value.measure_part(canonical)
+    }
+
+    fn is_null(&self) -> bool {
+        self.value.is_null()
+    }
+
+    fn write(&self, canonical: bool, block: &mut [u8], following: usize, next: usize) -> Copied {
+        self.value.write(canonical, block, following, next)
     }
 }

@@ -1,12 +1,11 @@
 //! Rows of pointer fields: the pointer sections of structs (encoding document, "Structs").
-ghost use Rattle.std.specs.Prelude.{◌≡◌, ◌+◌, ◌/◌, ◌%◌, ◌<◌, ◌^◌, ℕ, length, min, replicate, Ok, MatchResult};
+ghost use Rattle.std.specs.Prelude.{◌≡◌, ◌+◌, ◌<◌, ◌≤◌, ◌^◌, ℕ, length, min, Ok, MatchResult};
 ghost use Rattle.std.specs.Result.{IsErrAnd};
 ghost use Rattle.capnp_frame.specs.declared.error.ErrorKind.{ErrorKind};
 ghost use Rattle.capnp_wire.specs.Pointer.{words_of};
-ghost use Rattle.capnp_wire.specs.Tree.{Trees};
-ghost use Rattle.capnp_wire.specs.Trim.{first};
-ghost use Rattle.capnp_wire.specs.Layout.{run, pointers_to, formed};
-ghost use Rattle.capnp_values.specs.Fields.{IsSettled, HasExtent, extent_of, CanWriteRow, IsRowWritten};
+ghost use Rattle.capnp_wire.specs.Tree.{Trees, count};
+ghost use Rattle.capnp_wire.specs.Values.{IsFreeFrom};
+ghost use Rattle.capnp_values.specs.Fields.{IsSettled, HasExtent, kept_row, extent_of, CanWriteRow, IsRowWritten};
 
 mod field;
 mod no_fields;
@@ -15,7 +14,7 @@ use capnp_frame::Result;
 pub use field::Field;
 pub use no_fields::NoFields;
 
-/// How far a row reaches: its pointers, and the words that these lead to.
+/// How far a row reaches: its pointers, and the words that they lead to.
 #[derive(Clone, Copy)]
 pub struct Extent {
     /// How many pointers it keeps.
@@ -23,6 +22,9 @@ pub struct Extent {
 
     /// The words of all that these lead to.
     pub words: u64,
+
+    /// The words of all that its pointers lead to as they stand.
+    pub standing: u64,
 }
 
 /// A row of pointer fields, each set to a value of its own.
@@ -51,21 +53,31 @@ pub trait Fields {
         ensures exact { (kind : ErrorKind) → refuses self.now kind →
             IsErrAnd result (λ error. error.kind ≡ kind) };
 
-    /// Writes the first pointers of the row, and what they lead to at the end of a block of zeros, which
-    /// begins a given number of words after the last of the pointers. Returns the word of the block at
-    /// which that begins.
-    fn write(&self, canonical: bool, gap: u32, pointers: &mut [u8], block: &mut [u8]) -> usize
-        requires row { CanWriteRow (has_trees self.now) canonical (length pointers.old / 8)
-            (length block.old) }
-        requires whole { length pointers.old % 8 ≡ 0 }
-        requires words { length block.old % 8 ≡ 0 }
-        requires zero { block.old ≡ replicate (length block.old) 0 }
-        requires near { gap + length pointers.old / 8 + length block.old / 8 < 2 ^ 29 }
-        ensures written { IsRowWritten (has_trees self.now) canonical (length pointers.old / 8)
-            result block.new }
-        ensures pointers { (trees : Trees) (start : ℕ) → has_trees self.now trees →
-            let n = length pointers.old / 8 in words_of pointers.new
-            ≡ pointers_to (run start n) (start + n + (gap + result)) (first n (formed canonical trees)) };
+    /// How many pointers the row keeps, as it stands or in canonical form.
+    fn kept(&self, canonical: bool) -> u32
+        requires { size < 2 ^ 16 }
+        ensures kept { (trees : Trees) → has_trees self.now trees →
+            result ≡ count (kept_row canonical trees) }
+        ensures bound { result ≤ size };
+
+    /// Writes the first pointers of the row into the slots of a block from one on, and what they lead
+    /// to into its words from `next` on, which are zero. Returns the first word after that.
+    fn write(
+        &self,
+        canonical: bool,
+        block: &mut [u8],
+        slot: usize,
+        count: u32,
+        next: usize,
+    ) -> usize
+        requires row { CanWriteRow (has_trees self.now) canonical count next
+            (length (words_of block.old)) }
+        requires free { IsFreeFrom next block.old }
+        requires before { slot + count ≤ next }
+        ensures written { IsRowWritten (has_trees self.now) canonical slot count next
+            (words_of block.old) (words_of block.new) result }
+        ensures free { IsFreeFrom result block.new }
+        ensures len { length block.new ≡ length block.old };
 
     /// The trees have room, and each has fewer than 2^29 words.
     ghost settled: { (row : Self) (trees : Trees) → has_trees row trees → IsSettled size trees };

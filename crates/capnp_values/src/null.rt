@@ -1,12 +1,12 @@
 //! Null pointers.
-use capnp_frame::{Result, Word, word};
-use capnp_wire::traits::SetterInput;
+use capnp_frame::Result;
+use capnp_wire::traits::{Copied, SetterInput};
 
 /// A null pointer, as a value of each type of a schema.
 #[derive(Clone, Copy)]
 pub struct Null;
 
-// It leads to no words, and is a word of zeros.
+// It leads to no words, and is zero.
 impl<T> SetterInput<T> for Null {
     ghost use Rattle.std.specs.Prelude.{◌≡◌};
     ghost use Rattle.capnp_wire.specs.Tree.{null, none, tree, count};
@@ -22,7 +22,11 @@ impl<T> SetterInput<T> for Null {
         Ok(0)
     }
 
-    fn write(&self, _canonical: bool, _block: &mut [u8]) -> Word {
-        word(0, 0, 0, 0, 0, 0, 0, 0)
+    fn is_null(&self) -> bool {
+        true
+    }
+
+    fn write(&self, _canonical: bool, _block: &mut [u8], _following: usize, next: usize) -> Copied {
+        Copied { pointer: 0, next }
     }
 }

@@ -3,12 +3,12 @@ ghost use Rattle.std.specs.Prelude.{◌≡◌, ◌+◌, ◌*◌, ◌^◌, ◌<�
 ghost use Rattle.capnp_wire.specs.Pointer.{digits, number_of, words_of};
 ghost use Rattle.capnp_wire.specs.Element.{width, words_for};
 
-use crate::sections::too_many;
-use capnp_frame::{Result, Word};
-use capnp_wire::pointer_word::{list_word, word_of};
+use crate::measured::too_many;
+use capnp_frame::Result;
+use capnp_wire::pointer_word::list_word;
 use capnp_wire::primitive_element::PrimitiveElement;
 use capnp_wire::primitive_list::Owned;
-use capnp_wire::traits::SetterInput;
+use capnp_wire::traits::{Copied, SetterInput};
 
 /// A list of numbers (encoding document, "Lists").
 #[derive(Drop)]
@@ -47,9 +47,18 @@ impl<'a, N: PrimitiveElement + Copy> SetterInput<Owned<N>> for NumberList<'a, N>
         Ok(words_of_list::<N>(count as u32))
     }
 
-    fn write(&self, _canonical: bool, block: &mut [u8]) -> Word {
-        put_numbers(self.items, block);
-        word_of(list_word(0, N::size().code(), self.items.len() as u64))
+    fn is_null(&self) -> bool {
+        false
+    }
+
+    fn write(&self, _canonical: bool, block: &mut [u8], following: usize, next: usize) -> Copied {
+        let count = self.items.len() as u32;
+        let end = next + words_of_list::<N>(count) as usize;
+        put_numbers(self.items, &mut block[8 * next..8 * end]);
+        Copied {
+            pointer: list_word((next - following) as u64, N::size().code(), count as u64),
+            next: end,
+        }
     }
 }
 

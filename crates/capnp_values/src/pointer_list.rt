@@ -1,12 +1,14 @@
 //! Lists of pointers as values.
 ghost use Rattle.std.specs.Prelude.{◌≡◌};
+ghost use Rattle.capnp_values.specs.Measured.{Measures};
+ghost use Rattle.capnp_values.specs.Lists.{IsPointerList, RefusesPointerList};
 
 use crate::items::{measure_items, write_items};
-use crate::sections::{fitting, too_many};
-use capnp_frame::{Result, Word};
+use crate::measured::{TreeWords, fitting, fitting_part, too_many};
+use capnp_frame::Result;
 use capnp_wire::list_list::Owned;
-use capnp_wire::pointer_word::{list_word, word_of};
-use capnp_wire::traits::SetterInput;
+use capnp_wire::pointer_word::list_word;
+use capnp_wire::traits::{Copied, PartWords, SetterInput};
 use std::marker::PhantomData;
 
 /// A list whose elements are pointers, each set to a value (encoding document, "Lists"): of texts, say.
@@ -46,18 +48,39 @@ impl<'a, T, V: SetterInput<T>> SetterInput<Owned<T>> for PointerList<'a, T, V> {
     ghost one = { λ value trees is. ap count is.whole };
 
     fn measure(&self, canonical: bool) -> Result<u32> {
-        let count = self.items.len();
-        if count >= 1 << 29 {
-            return Err(too_many(count as u64));
-        }
-        let words = measure_items::<T, V>(self.items, canonical)?;
-        fitting(count as u64 + words, canonical)
+        let words = measure_list::<T, V>(self.items, canonical)?;
+        fitting(words.formed, canonical)
     }
 
-    fn write(&self, canonical: bool, block: &mut [u8]) -> Word {
-        let count = self.items.len();
-        let (slots, held) = block.split_at_mut(8 * count);
-        write_items::<T, V>(self.items, canonical, slots, held);
-        word_of(list_word(0, 6, count as u64))
+    fn measure_part(&self, canonical: bool) -> Result<PartWords> {
+        let words = measure_list::<T, V>(self.items, canonical)?;
+        fitting_part(words)
     }
+
+    fn is_null(&self) -> bool {
+        false
+    }
+
+    fn write(&self, canonical: bool, block: &mut [u8], following: usize, next: usize) -> Copied {
+        let count = self.items.len();
+        Copied {
+            pointer: list_word((next - following) as u64, 6, count as u64),
+            next: write_items::<T, V>(self.items, canonical, block, next),
+        }
+    }
+}
+
+// The words of a list of pointers to some values.
+fn measure_list<T, V: SetterInput<T>>(items: &[V], canonical: bool) -> Result<TreeWords>
+    ensures { Measures (IsPointerList V.has_tree items.now)
+        (RefusesPointerList V.has_tree V.refuses items.now) canonical result }
+{
+    let count = items.len() as u64;
+    if count >= 1 << 29 {
+        return Err(too_many(count));
+    }
+    let words = measure_items::<T, V>(items, canonical)?;
+    let standing = count + words.standing;
+    let formed = count + words.formed;
+    Ok(TreeWords { standing, formed })
 }

@@ -1,17 +1,16 @@
 //! Lists of structs as values.
-ghost use Rattle.std.specs.Prelude.{◌≡◌, ℕ, ◌+◌, ◌-◌, ◌*◌, ◌/◌, ◌^◌, ◌<◌, ◌≤◌, length, map, replicate, MatchResult};
-ghost use Rattle.capnp_wire.specs.Pointer.{words_of};
-ghost use Rattle.capnp_wire.specs.Tree.{Trees};
-ghost use Rattle.capnp_values.specs.StructLists.{AreRows, FillsRows, TooManyStructs, list_words};
+ghost use Rattle.std.specs.Prelude.{◌≡◌, ◌+◌, ◌*◌, ◌^◌, ◌<◌, MatchResult};
+ghost use Rattle.capnp_values.specs.Measured.{Measures};
+ghost use Rattle.capnp_values.specs.StructLists.{IsStructList, RefusesStructList, TooManyStructs};
 
 use crate::element::Element;
 use crate::fields::Fields;
-use crate::rows::{KeptWords, kept_by_each, measure_rows, write_rows};
-use crate::sections::{fitting, too_many};
-use capnp_frame::{Error, ErrorKind, Result, Word};
-use capnp_wire::pointer_word::{list_word, struct_word, word_of};
+use crate::measured::{TreeWords, fitting, fitting_part, too_many};
+use crate::rows::{kept_by_each, measure_rows, write_rows};
+use capnp_frame::{Error, ErrorKind, Result};
+use capnp_wire::pointer_word::{list_word, put_word, struct_word};
 use capnp_wire::struct_list::Owned;
-use capnp_wire::traits::SetterInput;
+use capnp_wire::traits::{Copied, PartWords, SetterInput};
 
 /// A list whose elements are structs of one size, which stand in it one after the other (encoding
 /// document, "Lists").
@@ -47,49 +46,45 @@ impl<'a, E: Fields + Element> SetterInput<Owned> for StructList<'a, E> {
     ghost one = { λ value trees is. ap count is.whole };
 
     fn measure(&self, canonical: bool) -> Result<u32> {
-        let count = self.items.len();
-        elements_fit(count, E::data_words(), E::count())?;
-        let reach = measure_rows(self.items, canonical)?;
-        let elements = count * (reach.data_words + reach.pointers as usize);
-        fitting(1 + elements as u64 + reach.words, canonical)
+        let words = measure_list(self.items, canonical)?;
+        fitting(words.formed, canonical)
     }
 
-    fn write(&self, canonical: bool, block: &mut [u8]) -> Word {
+    fn measure_part(&self, canonical: bool) -> Result<PartWords> {
+        let words = measure_list(self.items, canonical)?;
+        fitting_part(words)
+    }
+
+    fn is_null(&self) -> bool {
+        false
+    }
+
+    fn write(&self, canonical: bool, block: &mut [u8], following: usize, next: usize) -> Copied {
+        let count = self.items.len();
         let kept = kept_by_each(self.items, canonical);
-        let words = self.items.len() * (kept.data_words + kept.pointers as usize);
-        write_tagged(self.items, canonical, kept, block);
-        word_of(list_word(0, 7, words as u64))
+        let words = count * (kept.data_words + kept.pointers as usize);
+        let tag = struct_word(count as u64, kept.data_words as u16, kept.pointers as u16);
+        put_word(block, next, tag);
+        Copied {
+            pointer: list_word((next - following) as u64, 7, words as u64),
+            next: write_rows(self.items, canonical, kept, block, next + 1),
+        }
     }
 }
 
-// Writes the tag of a list, its elements and what these lead to into a block of zeros of just these.
-fn write_tagged<E: Fields + Element>(
-    items: &[E],
-    canonical: bool,
-    kept: KeptWords,
-    block: &mut [u8],
-)
-    requires few { length items.now < 2 ^ 29 }
-    requires words { kept.data_words < 2 ^ 16 }
-    requires pointers { kept.pointers < 2 ^ 16 }
-    requires room { 8 * (1 + length items.now * (kept.data_words + kept.pointers))
-        ≤ length block.old }
-    requires fills { FillsRows E.words E.has_trees canonical
-        kept.data_words kept.pointers E.data_words E.size items.now
-        (length block.old - 8 * (1 + length items.now * (kept.data_words + kept.pointers))) }
-    requires zero { block.old ≡ replicate (length block.old) 0 }
-    requires near { length block.old / 8 < 2 ^ 29 }
-    ensures { (held : Trees) → AreRows E.has_trees items.now held →
-        words_of block.new ≡ list_words canonical (length items.now)
-        kept.data_words kept.pointers E.size (map E.words items.now) held }
+// The words of a list of some structs.
+fn measure_list<E: Fields + Element>(items: &[E], canonical: bool) -> Result<TreeWords>
+    ensures { Measures (IsStructList E.words E.has_trees E.data_words E.size items.now)
+        (RefusesStructList E.has_trees E.refuses E.data_words E.size items.now) canonical result }
 {
     let count = items.len();
-    let words = count * (kept.data_words + kept.pointers as usize);
-    let (tag, rest) = block.split_at_mut(8);
-    let (elements, held) = rest.split_at_mut(8 * words);
-    let size = struct_word(count as u64, kept.data_words as u16, kept.pointers as u16);
-    tag.copy_from_slice(&size.to_le_bytes());
-    write_rows(items, canonical, kept, elements, held);
+    elements_fit(count, E::data_words(), E::count())?;
+    let reach = measure_rows(items, canonical)?;
+    let all = count * (E::data_words() + E::count() as usize);
+    let kept = count * (reach.data_words + reach.pointers as usize);
+    let standing = 1 + all as u64 + reach.standing;
+    let formed = 1 + kept as u64 + reach.words;
+    Ok(TreeWords { standing, formed })
 }
 
 // A pointer and a tag can tell as many structs of this size.

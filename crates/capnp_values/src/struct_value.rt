@@ -1,15 +1,15 @@
 //! Structs as values.
-ghost use Rattle.std.specs.Prelude.{◌≡◌};
+ghost use Rattle.std.specs.Prelude.{◌≡◌, length};
+ghost use Rattle.capnp_values.specs.Measured.{Measures};
+ghost use Rattle.capnp_values.specs.Structs.{IsStruct, RefusesStruct};
 
 use crate::element::Element;
 use crate::fields::{Extent, Fields};
-use crate::sections::{
-    fits, fitting, kept_data, kept_pointers, struct_word, words_fit, write_sections,
-};
-use capnp_frame::{Error, ErrorKind, Result, Word};
+use crate::measured::{TreeWords, fitting, fitting_part};
+use crate::sections::{fits, kept_data, struct_word, words_fit, write_sections};
+use capnp_frame::{Error, ErrorKind, Result};
 use capnp_wire::any_struct::Owned;
-use capnp_wire::pointer_word::word_of;
-use capnp_wire::traits::SetterInput;
+use capnp_wire::traits::{Copied, PartWords, SetterInput};
 
 /// A struct of data words and of pointer fields (encoding document, "Structs").
 #[derive(Drop)]
@@ -48,26 +48,47 @@ impl<const D: usize, F: Fields> SetterInput<Owned> for StructValue<D, F> {
     ghost one = { λ value trees is. ap count is.whole };
 
     fn measure(&self, canonical: bool) -> Result<u32> {
-        if !fits(&self.words, F::count()) {
-            return Err(Error::from_kind(ErrorKind::AllocationTooLarge(1 << 16)));
-        }
-        words_fit(&self.words);
-        let extent = self.fields.measure(canonical)?;
-        let data = kept_data(&self.words, canonical);
-        fitting(
-            data as u64 + extent.pointers as u64 + extent.words,
-            canonical,
-        )
+        let words = measure_struct(&self.words, &self.fields, canonical)?;
+        fitting(words.formed, canonical)
     }
 
-    fn write(&self, canonical: bool, block: &mut [u8]) -> Word {
+    fn measure_part(&self, canonical: bool) -> Result<PartWords> {
+        let words = measure_struct(&self.words, &self.fields, canonical)?;
+        fitting_part(words)
+    }
+
+    fn is_null(&self) -> bool {
+        false
+    }
+
+    fn write(&self, canonical: bool, block: &mut [u8], following: usize, next: usize) -> Copied {
         let words: &[u64] = &self.words;
         let data = kept_data(words, canonical);
-        let pointers = kept_pointers(&self.fields, canonical);
-        let (own, held) = block.split_at_mut(8 * (data + pointers as usize));
-        write_sections(&words[..data], &self.fields, canonical, 0, own, held);
-        word_of(struct_word(data, pointers))
+        let pointers = self.fields.kept(canonical);
+        let held = next + data + pointers as usize;
+        let kept = &words[..data];
+        let free = write_sections(kept, &self.fields, canonical, pointers, block, next, held);
+        Copied {
+            pointer: struct_word(data, pointers, next - following),
+            next: free,
+        }
     }
+}
+
+// The words of a struct of these data words and fields.
+fn measure_struct<F: Fields>(words: &[u64], fields: &F, canonical: bool) -> Result<TreeWords>
+    ensures { Measures (IsStruct words.now F.size (F.has_trees fields.now))
+        (RefusesStruct (length words.now) F.size (F.refuses fields.now)) canonical result }
+{
+    if !fits(words, F::count()) {
+        return Err(Error::from_kind(ErrorKind::AllocationTooLarge(1 << 16)));
+    }
+    words_fit(words);
+    let extent = fields.measure(canonical)?;
+    let data = kept_data(words, canonical) as u64;
+    let standing = words.len() as u64 + F::count() as u64 + extent.standing;
+    let formed = data + extent.pointers as u64 + extent.words;
+    Ok(TreeWords { standing, formed })
 }
 
 // The fields alone.
@@ -88,8 +109,19 @@ impl<const D: usize, F: Fields> Fields for StructValue<D, F> {
         self.fields.measure(canonical)
     }
 
-    fn write(&self, canonical: bool, gap: u32, pointers: &mut [u8], block: &mut [u8]) -> usize {
-        self.fields.write(canonical, gap, pointers, block)
+    fn kept(&self, canonical: bool) -> u32 {
+        self.fields.kept(canonical)
+    }
+
+    fn write(
+        &self,
+        canonical: bool,
+        block: &mut [u8],
+        slot: usize,
+        count: u32,
+        next: usize,
+    ) -> usize {
+        self.fields.write(canonical, block, slot, count, next)
     }
 }
 

@@ -5,6 +5,7 @@ pub mod LayoutLemmas
 pub mod BlockLemmas
 pub mod CopyLemmas
 pub mod FillLemmas
+pub mod FreeLemmas
 pub mod BlockRowLemmas
 pub mod OpenLemmas
 pub mod OpenedLemmas

@@ -9,3 +9,4 @@ pub mod UpgradedPointerLemmas
 pub mod ValueLemmas
 pub mod SetterLemmas
 pub mod OneValueLemmas
+pub mod PartWordLemmas

@@ -1,5 +1,5 @@
 -- Values that are measured and written (src/layout/value.rt).
-use Rattle.std.specs.Prelude.{◌≡◌, ◌⊎◌, ℕ, ◌+◌, ◌-◌, ◌^◌, ◌<◌, ◌≤◌, min, Bool, true, false, List, [], ◌∷◌, ◌++◌, Option, Some, None, MatchOption, length, slice_get}
+use Rattle.std.specs.Prelude.{◌≡◌, ◌⊎◌, ℕ, ◌+◌, ◌-◌, ◌%◌, ◌^◌, ◌<◌, ◌≤◌, min, Bool, true, false, List, [], ◌∷◌, ◌++◌, Option, Some, None, MatchOption, length, drop, replicate, slice_get}
 use Rattle.std.proofs.Common.{refl, ap}
 use Rattle.capnp_frame.specs.declared.error.ErrorKind.{ErrorKind}
 use Rattle.capnp_frame.specs.declared.error.ErrorKind.TheVariants.{AllocationTooLarge, CanonicalTooLarge}
@@ -9,13 +9,14 @@ use Rattle.capnp_wire.specs.Pointer.{number_of, words_of, words_from}
 use Rattle.capnp_wire.specs.Element.{words_for}
 use Rattle.capnp_wire.specs.Object.{places}
 use Rattle.capnp_wire.specs.Views.{Pointer, Struct}
-use Rattle.capnp_wire.specs.Tree.{null, struct, numbers, Trees, none, tree, count, depth, total_words}
+use Rattle.capnp_wire.specs.Tree.{null, struct, numbers, Trees, none, tree, count, depth, is_null, total_words}
 use Rattle.capnp_wire.specs.Reached.{At, at, nowhere}
 use Rattle.capnp_wire.specs.Trim.{trim}
 use Rattle.capnp_wire.specs.Layout.{canon, formed, AllHaveRoom}
 use Rattle.capnp_wire.specs.Traversed.{Within}
 use Rattle.capnp_wire.specs.Faults.{StopsWalk}
 use Rattle.capnp_wire.specs.declared.layout.place.Place.{Place}
+use Rattle.capnp_wire.specs.declared.traits.PartWords.{PartWords}
 use Rattle.capnp_wire.specs.declared.layout.pointer.StructSize.{StructSize}
 
 -- the tree at a place, within the nesting depth left and a limit
@@ -45,16 +46,6 @@ UnmeasuredTree m place nesting limit canonical kind =
     ⊎ ((trees : Trees) × TreeAt m place nesting limit trees × (2 ^ 29 ≤ total_words (formed canonical trees))
     × (kind ≡ too_large canonical (total_words (formed canonical trees))))
 
--- a tree can be written into a block of just the words of its body
-pub record CanWrite (m : List (List ℕ)) (place : Place) (nesting : ℕ) (canonical : Bool) (words : ℕ) : Type 0 where
-  pub trees : Trees
-  pub traversed : ℕ
-  pub stand : At m (place ∷ []) trees traversed
-  pub shallow : depth trees ≤ nesting
-  pub rooms : AllHaveRoom trees
-  pub size : words ≡ total_words (formed canonical trees)
-  pub few : total_words (formed canonical trees) < 2 ^ 29
-
 -- What is measured of a value, by the trees that it may be; it is one tree, or none.
 pub record HasWords (has_tree : Trees → Type 0) (canonical : Bool) (words : ℕ) : Type 0 where
   pub trees : Trees
@@ -62,6 +53,33 @@ pub record HasWords (has_tree : Trees → Type 0) (canonical : Bool) (words : �
   pub rooms : AllHaveRoom trees
   pub words_are : words ≡ total_words (formed canonical trees)
   pub few : words < 2 ^ 29
+
+-- the first of some trees is null
+abbrev pub starts_with_null : Trees → Bool
+starts_with_null none = false
+starts_with_null (tree form held rest) = is_null form
+
+-- What is measured of a part of another value: the words of its tree as it stands, fewer than 2 ^ 29, and as it is formed.
+pub record HasPart (has_tree : Trees → Type 0) (canonical : Bool) (words : PartWords) : Type 0 where
+  pub trees : Trees
+  pub tree_is : has_tree trees
+  pub rooms : AllHaveRoom trees
+  pub standing_is : words.standing ≡ total_words trees
+  pub formed_is : words.formed ≡ total_words (formed canonical trees)
+  pub few : words.standing < 2 ^ 29
+
+-- its tree has room in a block of so many words, from a word on
+pub record HasRoomAt (has_tree : Trees → Type 0) (canonical : Bool) (next room : ℕ) : Type 0 where
+  pub trees : Trees
+  pub tree_is : has_tree trees
+  pub rooms : AllHaveRoom trees
+  pub fits : next + total_words (formed canonical trees) ≤ room
+
+-- a block of whole words, fewer than 2 ^ 29, which are zero from one on
+pub record IsFreeFrom (next : ℕ) (block : List ℕ) : Type 0 where
+  pub whole : length block % 8 ≡ 0
+  pub few : length (words_of block) < 2 ^ 29
+  pub zero : drop next (words_of block) ≡ replicate (length (words_of block) - next) 0
 
 -- It has no tree, for this reason, or a tree of too many words.
 abbrev pub LacksWords : (Trees → Type 0) → (ErrorKind → Type 0) → Bool → ErrorKind → Type 0

@@ -1,22 +1,21 @@
 //! Pointers that may lead to anything.
-ghost use Rattle.std.specs.Prelude.{◌≡◌, ◌∷◌, length};
-ghost use Rattle.capnp_frame.specs.Words.{bytes_of};
-ghost use Rattle.capnp_wire.specs.Pointer.{number_of};
+ghost use Rattle.std.specs.Prelude.{◌≡◌, ◌-◌, ◌^◌, ◌<◌, ◌≤◌, length};
 ghost use Rattle.capnp_wire.specs.Tree.{Trees};
-ghost use Rattle.capnp_wire.specs.Layout.{layout, formed};
+ghost use Rattle.capnp_wire.specs.Layout.{formed};
+ghost use Rattle.capnp_wire.specs.Copy.{IsCopied};
 ghost use Rattle.capnp_wire.specs.Readers.{pointer_of};
-ghost use Rattle.capnp_wire.specs.Values.{HasWords, LeadsToTree};
+ghost use Rattle.capnp_wire.specs.Values.{HasRoomAt, LeadsToTree};
 
 mod near;
 mod reader;
 
 use crate::layout::block::BlockItem;
+use crate::layout::copy::{Copied, copy};
 use crate::layout::value;
-use crate::pointer_word::word_of;
 use crate::read_limiter::limit_in_words;
 use crate::traits::{self, SetterInput};
+use capnp_frame::Result;
 use capnp_frame::message::ReaderSegments;
-use capnp_frame::{Result, Word};
 pub use reader::Reader;
 
 /// A pointer that may lead to anything, as a type of a schema.
@@ -50,27 +49,43 @@ impl<'a, S: ReaderSegments> SetterInput<Owned> for Reader<'a, S> {
         }
     }
 
-    fn write(&self, canonical: bool, block: &mut [u8]) -> Word {
-        write_into(self, canonical, block)
+    fn is_null(&self) -> bool {
+        Reader::is_null(self)
+    }
+
+    fn write(&self, canonical: bool, block: &mut [u8], following: usize, next: usize) -> Copied {
+        write_into(self, canonical, block, following, next)
     }
 }
 
-/// Writes the tree that a pointer leads to into a block of just its words, of bytes or of words, and
-/// returns the pointer to it for a block that follows this pointer at once.
+/// Writes the tree that a pointer leads to into a block of bytes or of words, from the word `next` on.
+/// The pointer to it stands just before the word `following`.
 pub(crate) fn write_into<S: ReaderSegments, T: BlockItem>(
     reader: &Reader<'_, S>,
     canonical: bool,
     block: &mut [T],
-) -> Word
-    requires { HasWords (LeadsToTree (pointer_of S.segments reader.now)) canonical
-        (length (T.as_words block.old)) }
+    following: usize,
+    next: usize,
+) -> Copied
+    requires value { HasRoomAt (LeadsToTree (pointer_of S.segments reader.now)) canonical
+        next (length (T.as_words block.old)) }
+    requires small { length (T.as_words block.old) < 2 ^ 29 }
+    requires following { following ≤ next }
     ensures written { (trees : Trees) → LeadsToTree (pointer_of S.segments reader.now) trees →
-        number_of 256 (bytes_of result) ∷ T.as_words block.new ≡ layout (formed canonical trees) }
+        IsCopied (formed canonical trees) (next - following) next
+        (T.as_words block.old) (T.as_words block.new) result }
     ensures len { length (T.as_words block.new) ≡ length (T.as_words block.old) }
 {
-    let pointer = match reader.place {
-        None => 0,
-        Some(place) => value::write(reader.segments, place, reader.nesting, canonical, block),
-    };
-    word_of(pointer)
+    match reader.place {
+        None => Copied { pointer: 0, next },
+        Some(place) => copy(
+            reader.segments,
+            place,
+            reader.nesting,
+            canonical,
+            block,
+            following,
+            next,
+        ),
+    }
 }

@@ -3,13 +3,13 @@ mod fields;
 pub(crate) mod part;
 mod reader;
 
+use crate::layout::copy::Copied;
 use crate::layout::place::Place;
 use crate::layout::struct_value;
-use crate::pointer_word::word_of;
 use crate::read_limiter::limit_in_words;
 use crate::traits::{self, SetterInput};
+use capnp_frame::Result;
 use capnp_frame::message::ReaderSegments;
-use capnp_frame::{Result, Word};
 pub use reader::StructReader;
 
 /// A struct, as a type of a schema.
@@ -62,8 +62,12 @@ impl<'a, S: ReaderSegments> SetterInput<Owned> for StructReader<'a, S> {
         }
     }
 
-    fn write(&self, canonical: bool, block: &mut [u8]) -> Word {
-        let pointer = match self.part {
+    fn is_null(&self) -> bool {
+        false
+    }
+
+    fn write(&self, canonical: bool, block: &mut [u8], following: usize, next: usize) -> Copied {
+        match self.part {
             None => struct_value::write(
                 self.segments,
                 self.segment,
@@ -72,6 +76,8 @@ impl<'a, S: ReaderSegments> SetterInput<Owned> for StructReader<'a, S> {
                 self.nesting,
                 canonical,
                 block,
+                following,
+                next,
             ),
             Some(_) => struct_value::write(
                 self.segments,
@@ -81,8 +87,9 @@ impl<'a, S: ReaderSegments> SetterInput<Owned> for StructReader<'a, S> {
                 self.nesting,
                 canonical,
                 block,
+                following,
+                next,
             ),
-        };
-        word_of(pointer)
+        }
     }
 }

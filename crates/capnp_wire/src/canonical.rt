@@ -10,6 +10,7 @@ ghost use Rattle.capnp_wire.specs.Readers.{pointer_of};
 ghost use Rattle.capnp_wire.specs.Values.{HasWords, LacksWords, LeadsToTree, StopsWalkFrom, IsCanonicalForm};
 
 use crate::any_pointer;
+use crate::pointer_word::word_of;
 use crate::traits::SetterInput;
 use capnp_frame::message::ReaderSegments;
 use capnp_frame::{Result, Word, word};
@@ -66,8 +67,8 @@ pub fn write_form<S: ReaderSegments>(reader: &any_pointer::Reader<'_, S>, bytes:
     ensures form { IsCanonicalForm (pointer_of S.segments reader.now) (words_of bytes.new) }
     ensures len { length bytes.new ≡ length bytes.old }
 {
-    let pointer = reader.write(true, &mut bytes[8..]);
-    bytes[..8].copy_from_slice(&pointer.bytes());
+    let copied = reader.write(true, &mut bytes[8..], 0, 0);
+    bytes[..8].copy_from_slice(&copied.pointer.to_le_bytes());
 }
 
 /// The canonical form of what a pointer leads to, as words.
@@ -98,5 +99,6 @@ fn write_words<S: ReaderSegments>(reader: &any_pointer::Reader<'_, S>, words: &m
         × (length words.old ≡ following + 1) }
     ensures { IsCanonicalForm (pointer_of S.segments reader.now) (numbers_of words.new) }
 {
-    words[0] = any_pointer::write_into(reader, true, &mut words[1..]);
+    let copied = any_pointer::write_into(reader, true, &mut words[1..], 0, 0);
+    words[0] = word_of(copied.pointer);
 }

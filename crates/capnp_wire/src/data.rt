@@ -1,10 +1,11 @@
 //! Bytes.
 mod reader;
 
+use crate::layout::copy::Copied;
 use crate::layout::value;
 use crate::traits::{self, SetterInput};
+use capnp_frame::Result;
 use capnp_frame::message::ReaderSegments;
-use capnp_frame::{Result, Word};
 pub use reader::Reader;
 
 /// Bytes, as a type of a schema.
@@ -30,7 +31,11 @@ impl<'a> SetterInput<Owned> for &'a [u8] {
         value::measure_bytes(self)
     }
 
-    fn write(&self, _canonical: bool, block: &mut [u8]) -> Word {
-        value::write_bytes(self, block)
+    fn is_null(&self) -> bool {
+        false
+    }
+
+    fn write(&self, _canonical: bool, block: &mut [u8], following: usize, next: usize) -> Copied {
+        value::write_bytes(self, block, following, next)
     }
 }

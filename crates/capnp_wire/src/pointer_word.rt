@@ -1,12 +1,14 @@
 //! Pointer words, made from what they say, read and moved (encoding document, "Structs", "Lists" and
 //! "Inter-Segment Pointers").
-ghost use Rattle.std.specs.Prelude.{◌≡◌, ◌<◌, ◌^◌, ℕ, MatchOption};
+ghost use Rattle.std.specs.Prelude.{◌≡◌, ◌<◌, ◌^◌, ℕ, [], ◌∷◌, length, MatchOption};
 ghost use Rattle.capnp_frame.specs.Words.{bytes_of};
-ghost use Rattle.capnp_wire.specs.Pointer.{number_of, pointer_kind};
+ghost use Rattle.capnp_wire.specs.Pointer.{number_of, pointer_kind, words_of};
+ghost use Rattle.capnp_wire.specs.Block.{put};
 ghost use Rattle.capnp_wire.specs.PointerWord.{IsNearShape};
 ghost use Rattle.capnp_wire.specs.Tree.{Form};
 ghost use Rattle.capnp_wire.specs.Layout.{far_pointer, list_pointer, pointer, struct_pointer, HasRoom};
 
+use crate::layout::block;
 use crate::layout::pointer::PointerWord;
 pub use crate::layout::pointer::{NearShape, StructSize};
 use capnp_frame::{Word, word};
@@ -65,6 +67,16 @@ pub fn moved(tag: u64, offset: u32) -> u64
         return tag;
     }
     tag + 4 * offset as u64
+}
+
+/// Puts a word into a block of words, in the place of another.
+#[inline(always)]
+pub fn put_word(block: &mut [u8], at: usize, word: u64)
+    requires { at < length (words_of block.old) }
+    ensures words { words_of block.new ≡ put at (word ∷ []) (words_of block.old) }
+    ensures len { length block.new ≡ length block.old }
+{
+    block::put_word(block, at, word);
 }
 
 /// A number as the word that it is.

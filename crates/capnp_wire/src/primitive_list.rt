@@ -3,11 +3,12 @@ ghost use Rattle.capnp_wire.specs.Pointer.{words_of};
 
 mod reader;
 
+use crate::layout::copy::Copied;
 use crate::layout::value;
 use crate::primitive_element::PrimitiveElement;
 use crate::traits::{self, SetterInput};
+use capnp_frame::Result;
 use capnp_frame::message::ReaderSegments;
-use capnp_frame::{Result, Word};
 pub use reader::Reader;
 use std::marker::PhantomData;
 
@@ -36,7 +37,11 @@ impl<'a> SetterInput<Owned<u64>> for Reader<'a, u64> {
         value::measure_words(self.bytes)
     }
 
-    fn write(&self, _canonical: bool, block: &mut [u8]) -> Word {
-        value::write_words(self.bytes, block)
+    fn is_null(&self) -> bool {
+        false
+    }
+
+    fn write(&self, _canonical: bool, block: &mut [u8], following: usize, next: usize) -> Copied {
+        value::write_words(self.bytes, block, following, next)
     }
 }

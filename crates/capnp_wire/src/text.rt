@@ -1,10 +1,11 @@
 //! Text.
 mod reader;
 
+use crate::layout::copy::Copied;
 use crate::layout::value;
 use crate::traits::{self, SetterInput};
+use capnp_frame::Result;
 use capnp_frame::message::ReaderSegments;
-use capnp_frame::{Result, Word};
 pub use reader::Reader;
 
 /// Text, as a type of a schema.
@@ -30,8 +31,12 @@ impl<'a> SetterInput<Owned> for Reader<'a> {
         value::measure_text(self.bytes)
     }
 
-    fn write(&self, _canonical: bool, block: &mut [u8]) -> Word {
-        value::write_text(self.bytes, block)
+    fn is_null(&self) -> bool {
+        false
+    }
+
+    fn write(&self, _canonical: bool, block: &mut [u8], following: usize, next: usize) -> Copied {
+        value::write_text(self.bytes, block, following, next)
     }
 }
 
@@ -51,7 +56,11 @@ impl<'a> SetterInput<Owned> for &'a str {
         value::measure_text(self.as_bytes())
     }
 
-    fn write(&self, _canonical: bool, block: &mut [u8]) -> Word {
-        value::write_text(self.as_bytes(), block)
+    fn is_null(&self) -> bool {
+        false
+    }
+
+    fn write(&self, _canonical: bool, block: &mut [u8], following: usize, next: usize) -> Copied {
+        value::write_text(self.as_bytes(), block, following, next)
     }
 }

@@ -1,16 +1,20 @@
 //! Types of views, and types of schemas.
-ghost use Rattle.std.specs.Prelude.{◌≡◌, ℕ, ◌/◌, ◌%◌, length, replicate, Ok, MatchResult};
+ghost use Rattle.std.specs.Prelude.{◌≡◌, ℕ, ◌-◌, ◌≤◌, length, false, Ok, MatchResult};
 ghost use Rattle.std.specs.Result.{IsErrAnd};
 ghost use Rattle.capnp_frame.specs.declared.error.ErrorKind.{ErrorKind};
 ghost use Rattle.capnp_wire.specs.Views.{Pointer, IsViewOf};
 ghost use Rattle.capnp_wire.specs.Readers.{pointer_of};
-ghost use Rattle.capnp_wire.specs.Tree.{Trees, count};
-ghost use Rattle.capnp_wire.specs.Layout.{layout, formed};
-ghost use Rattle.capnp_wire.specs.Values.{HasWords, LacksWords, pointed};
+ghost use Rattle.capnp_wire.specs.Pointer.{words_of};
+ghost use Rattle.capnp_wire.specs.Tree.{Trees, count, total_words};
+ghost use Rattle.capnp_wire.specs.Layout.{body, formed};
+ghost use Rattle.capnp_wire.specs.Copy.{IsCopied};
+ghost use Rattle.capnp_wire.specs.Values.{HasWords, LacksWords, HasPart, HasRoomAt, IsFreeFrom, starts_with_null};
+ghost use Rattle.capnp_wire.specs.declared.traits.PartWords.{PartWords};
 
 use crate::any_pointer;
+pub use crate::layout::copy::Copied;
+use capnp_frame::Result;
 use capnp_frame::message::ReaderSegments;
-use capnp_frame::{Result, Word};
 
 /// A type of views on what a pointer leads to.
 pub trait FromPointerReader<'a, S: ReaderSegments>: Sized {
@@ -39,6 +43,16 @@ pub trait Owned<'a, S: ReaderSegments> {
     type Reader: FromPointerReader<'a, S>;
 }
 
+/// The words of a value that is a part of another one, after its pointer.
+#[derive(Clone, Copy)]
+pub struct PartWords {
+    /// As the value stands.
+    pub standing: u32,
+
+    /// In the form that is made.
+    pub formed: u32,
+}
+
 /// A value that a pointer can be set to, of a type of a schema.
 pub trait SetterInput<T> {
     /// The value is this tree.
@@ -60,14 +74,45 @@ pub trait SetterInput<T> {
             LacksWords (has_tree self.now) (refuses self.now) canonical kind →
             IsErrAnd result (λ error. error.kind ≡ kind) };
 
-    /// Writes the value into a block of zeros of just its words, and returns the pointer to it for a
-    /// block that follows this pointer at once.
-    fn write(&self, canonical: bool, block: &mut [u8]) -> Word
-        requires words { HasWords (has_tree self.now) canonical (length block.old / 8) }
-        requires whole { length block.old % 8 ≡ 0 }
-        requires zero { block.old ≡ replicate (length block.old) 0 }
+    /// The words of the value as a part of another one.
+    ///
+    /// It is refused with its words as it stands, also where the canonical form is made.
+    fn measure_part(&self, canonical: bool) -> Result<PartWords>
+        ensures returned { MatchResult result (λ words. HasPart (has_tree self.now) canonical words)
+            (λ error. LacksWords (has_tree self.now) (refuses self.now) false error.kind) }
+        ensures found { (words : PartWords) → HasPart (has_tree self.now) canonical words →
+            result ≡ Ok words }
+        ensures exact { (kind : ErrorKind) →
+            LacksWords (has_tree self.now) (refuses self.now) false kind →
+            IsErrAnd result (λ error. error.kind ≡ kind) }
+    {
+        let standing = self.measure(false)?;
+        if !canonical {
+            return Ok(PartWords {
+                standing,
+                formed: standing,
+            });
+        }
+        let formed = self.measure(true).unwrap_or(0);
+        Ok(PartWords { standing, formed })
+    }
+
+    /// Whether the value is null.
+    fn is_null(&self) -> bool
+        ensures { (trees : Trees) → has_tree self.now trees → result ≡ starts_with_null trees };
+
+    /// Writes the value into a block, from the word `next` on, after which it is zero. The pointer to
+    /// it stands just before the word `following`. Returns that pointer, and the first word after the
+    /// value.
+    fn write(&self, canonical: bool, block: &mut [u8], following: usize, next: usize) -> Copied
+        requires value { HasRoomAt (has_tree self.now) canonical next (length (words_of block.old)) }
+        requires free { IsFreeFrom next block.old }
+        requires following { following ≤ next }
         ensures written { (trees : Trees) → has_tree self.now trees →
-            pointed result block.new ≡ layout (formed canonical trees) }
+            IsCopied (formed canonical trees) (next - following) next
+            (words_of block.old) (words_of block.new) result }
+        ensures long { (trees : Trees) → has_tree self.now trees →
+            length (body (formed canonical trees)) ≡ total_words (formed canonical trees) }
         ensures len { length block.new ≡ length block.old };
 
     /// What a value is, is one tree.

@@ -70,8 +70,8 @@ fn values(rt: HostRuntime) -> std::result::Result<(), Fail> {
     let text = "Hello, World!";
     let mut block = [0; 16];
     assert_eq!(rt; SetterInput::<text::Owned>::measure(&text, false)?, 2);
-    let pointer = SetterInput::<text::Owned>::write(&text, false, &mut block);
-    assert_eq!(rt; pointer.bytes(), *b"\x01\0\0\0\x72\0\0\0");
+    let copied = SetterInput::<text::Owned>::write(&text, false, &mut block, 0, 0);
+    assert_eq!(rt; copied.pointer.to_le_bytes(), *b"\x01\0\0\0\x72\0\0\0");
     assert_eq!(rt; &block[..], b"Hello, World!\0\0\0".as_slice());
 
     // a tree as it stands keeps its trailing words
@@ -82,8 +82,8 @@ fn values(rt: HostRuntime) -> std::result::Result<(), Fail> {
     let mut copy = [0; 24];
     assert_eq!(rt; root.measure(false)?, 3);
     assert_eq!(rt; root.measure(true)?, 1);
-    let pointer = root.write(false, &mut copy);
-    assert_eq!(rt; pointer.bytes(), *b"\0\0\0\0\x02\0\x01\0");
+    let copied = root.write(false, &mut copy, 0, 0);
+    assert_eq!(rt; copied.pointer.to_le_bytes(), *b"\0\0\0\0\x02\0\x01\0");
     assert_eq!(rt; &copy[..], &words[8..]);
     Ok(())
 }
@@ -104,12 +104,12 @@ fn structs_as_values(rt: HostRuntime) -> std::result::Result<(), Fail> {
         SetterInput::<any_struct::Owned>::measure(&fields, true)?,
         1
     );
-    let pointer = fields.write(false, &mut block);
-    assert_eq!(rt; pointer.bytes(), *b"\0\0\0\0\x02\0\x01\0");
+    let copied = fields.write(false, &mut block, 0, 0);
+    assert_eq!(rt; copied.pointer.to_le_bytes(), *b"\0\0\0\0\x02\0\x01\0");
     assert_eq!(rt; &block[..], &words[8..]);
     let mut least = [0; 8];
-    let pointer = fields.write(true, &mut least);
-    assert_eq!(rt; pointer.bytes(), *b"\0\0\0\0\x01\0\0\0");
+    let copied = fields.write(true, &mut least, 0, 0);
+    assert_eq!(rt; copied.pointer.to_le_bytes(), *b"\0\0\0\0\x01\0\0\0");
     assert_eq!(rt; &least[..], &words[8..16]);
 
     let shared: &[u8] =
@@ -119,8 +119,8 @@ fn structs_as_values(rt: HostRuntime) -> std::result::Result<(), Fail> {
     let fields: StructReader<'_, _> = arena.get_root()?.get_as()?;
     let mut block = [0; 32];
     assert_eq!(rt; fields.measure(true)?, 4);
-    let pointer = fields.write(true, &mut block);
-    assert_eq!(rt; pointer.bytes(), *b"\0\0\0\0\0\0\x02\0");
+    let copied = fields.write(true, &mut block, 0, 0);
+    assert_eq!(rt; copied.pointer.to_le_bytes(), *b"\0\0\0\0\0\0\x02\0");
     assert_eq!(rt;
         &block[..],
         b"\x04\0\0\0\x01\0\0\0\x04\0\0\0\x01\0\0\0\x09\0\0\0\0\0\0\0\x09\0\0\0\0\0\0\0".as_slice()
@@ -132,8 +132,24 @@ fn structs_as_values(rt: HostRuntime) -> std::result::Result<(), Fail> {
     let mut block = [];
     assert_eq!(rt; fields.measure(false)?, 0);
     assert_eq!(rt;
-        fields.write(false, &mut block).bytes(),
+        fields.write(false, &mut block, 0, 0).pointer.to_le_bytes(),
         *b"\xfc\xff\xff\xff\0\0\0\0"
+    );
+    Ok(())
+}
+
+// A text in a block, after a word that stays, and before one that does.
+#[test]
+fn inside_a_block(rt: HostRuntime) -> std::result::Result<(), Fail> {
+    let text = "Hello, World!";
+    let mut block = [0; 40];
+    block[..8].copy_from_slice(b"in front");
+    let copied = SetterInput::<text::Owned>::write(&text, false, &mut block, 1, 2);
+    assert_eq!(rt; copied.pointer.to_le_bytes(), *b"\x05\0\0\0\x72\0\0\0");
+    assert_eq!(rt; copied.next, 4);
+    assert_eq!(rt;
+        &block[..],
+        b"in front\0\0\0\0\0\0\0\0Hello, World!\0\0\0\0\0\0\0\0\0\0\0".as_slice()
     );
     Ok(())
 }

@@ -1,13 +1,13 @@
 //! A value in front of a row.
-ghost use Rattle.std.specs.Prelude.{◌≡◌, ◌<◌, ◌^◌, false};
+ghost use Rattle.std.specs.Prelude.{◌≡◌, ◌<◌, ◌^◌};
 ghost use Rattle.capnp_wire.specs.Tree.{Form, Trees, none, tree, total_words};
-ghost use Rattle.capnp_wire.specs.Values.{HasWords};
-ghost use Rattle.capnp_values.specs.Fields.{IsPart, extent_of};
+ghost use Rattle.capnp_wire.specs.Layout.{formed};
+ghost use Rattle.capnp_values.specs.Fields.{IsPart, is_left_out, extent_of};
 
 use crate::fields::{Extent, Fields};
-use crate::part::{is_null, part_words, put_part};
 use capnp_frame::Result;
-use capnp_wire::traits::SetterInput;
+use capnp_wire::pointer_word::put_word;
+use capnp_wire::traits::{PartWords, SetterInput};
 use std::marker::PhantomData;
 
 /// A field that is set to a value of a type of a schema, in front of further fields.
@@ -59,54 +59,75 @@ impl<T, V: SetterInput<T>, F: Fields> Fields for Field<T, V, F> {
     }
 
     fn measure(&self, canonical: bool) -> Result<Extent> {
-        let plain = self.value.measure(false)?;
+        let own = self.value.measure_part(canonical)?;
         let rest = self.rest.measure(canonical)?;
-        Ok(front(&self.value, canonical, plain, rest))
+        Ok(front(&self.value, canonical, own, rest))
     }
 
-    fn write(&self, canonical: bool, gap: u32, pointers: &mut [u8], block: &mut [u8]) -> usize {
-        if pointers.is_empty() {
-            return block.len() / 8;
+    fn kept(&self, canonical: bool) -> u32 {
+        let rest = self.rest.kept(canonical);
+        if is_left_out(&self.value, canonical, rest) {
+            return 0;
         }
-        let (slot, others) = pointers.split_at_mut(8);
-        let after = others.len() / 8;
-        let end = self.rest.write(canonical, gap, others, block);
-        let start = end - part_words(&self.value, canonical) as usize;
-        let offset = gap as usize + start + after;
-        put_part(
-            &self.value,
-            canonical,
-            offset as u32,
-            slot,
-            &mut block[8 * start..8 * end],
-        );
-        start
+        rest + 1
+    }
+
+    fn write(
+        &self,
+        canonical: bool,
+        block: &mut [u8],
+        slot: usize,
+        count: u32,
+        next: usize,
+    ) -> usize {
+        if count == 0 {
+            return next;
+        }
+        let copied = self.value.write(canonical, block, slot + 1, next);
+        put_word(block, slot, copied.pointer);
+        self.rest
+            .write(canonical, block, slot + 1, count - 1, copied.next)
     }
 }
 
-// How far a row reaches with one more value in front, which has these words as it stands.
-fn front<T, V: SetterInput<T>>(value: &V, canonical: bool, plain: u32, rest: Extent) -> Extent
-    requires has { HasWords (V.has_tree value.now) false plain }
-    requires plain { (form : Form) (held : Trees) → IsPart (V.has_tree value.now) form held →
-        plain ≡ total_words (tree form held none) }
+// How far a row reaches with one more value in front, of these words.
+fn front<T, V: SetterInput<T>>(value: &V, canonical: bool, own: PartWords, rest: Extent) -> Extent
     requires pointers { rest.pointers < 2 ^ 16 }
     requires words { rest.words < 2 ^ 46 }
+    requires standing { rest.standing < 2 ^ 46 }
     ensures { (form : Form) (held others : Trees) → IsPart (V.has_tree value.now) form held →
+        own.standing ≡ total_words (tree form held none) →
+        own.formed ≡ total_words (formed canonical (tree form held none)) →
         rest ≡ extent_of canonical others →
         result ≡ extent_of canonical (tree form held others) }
 {
-    if !canonical {
+    let standing = own.standing as u64 + rest.standing;
+    if is_left_out(value, canonical, rest.pointers) {
         return Extent {
-            pointers: rest.pointers + 1,
-            words: plain as u64 + rest.words,
+            pointers: 0,
+            words: 0,
+            standing,
         };
     }
-    if rest.pointers == 0 && is_null(value, plain) {
-        return rest;
-    }
-    let words = part_words(value, true);
+    let words = own.formed as u64 + rest.words;
+    let pointers = rest.pointers + 1;
     Extent {
-        pointers: rest.pointers + 1,
-        words: words as u64 + rest.words,
+        pointers,
+        words,
+        standing,
     }
+}
+
+// Whether a value is left out of a row that keeps so many pointers after it.
+fn is_left_out<T, V: SetterInput<T>>(value: &V, canonical: bool, after: u32) -> bool
+    ensures { (form : Form) (held : Trees) → IsPart (V.has_tree value.now) form held →
+        result ≡ is_left_out canonical after form }
+{
+    if !canonical {
+        return false;
+    }
+    if after > 0 {
+        return false;
+    }
+    value.is_null()
 }

@@ -28,10 +28,22 @@ impl Fields for NoFields {
         Ok(Extent {
             pointers: 0,
             words: 0,
+            standing: 0,
         })
     }
 
-    fn write(&self, _canonical: bool, _gap: u32, _pointers: &mut [u8], block: &mut [u8]) -> usize {
-        block.len() / 8
+    fn kept(&self, _canonical: bool) -> u32 {
+        0
+    }
+
+    fn write(
+        &self,
+        _canonical: bool,
+        _block: &mut [u8],
+        _slot: usize,
+        _count: u32,
+        next: usize,
+    ) -> usize {
+        next
     }
 }

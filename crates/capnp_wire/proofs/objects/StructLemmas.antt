@@ -9,11 +9,12 @@ use Rattle.capnp_wire.specs.Object.{places}
 use Rattle.capnp_wire.specs.Landing.{words_in}
 use Rattle.capnp_wire.specs.Reached.{At}
 use Rattle.capnp_wire.specs.Traversed.{WalkedAll}
-use Rattle.capnp_wire.specs.Layout.{layout, body, pointer_to, formed, HasRoom, AllHaveRoom}
-use Rattle.capnp_wire.specs.Block.{put, fill}
-use Rattle.capnp_wire.specs.Copy.{formed_body, pointer_of_body, put_own}
+use Rattle.capnp_wire.specs.Layout.{formed, HasRoom, AllHaveRoom}
+use Rattle.capnp_wire.specs.Block.{fill}
+use Rattle.capnp_wire.specs.Copy.{formed_body, pointer_of_body, put_own, IsCopied, CopiesAll}
+use Rattle.capnp_wire.specs.declared.layout.copy.Copied.{Copied}
 use Rattle.capnp_wire.specs.Rows.{row_size, kept_in, slots_of}
-use Rattle.capnp_wire.specs.Values.{HasWords, LacksWords, IsTreeOf, StopsInside, HoldsPointers, fields_at, too_large}
+use Rattle.capnp_wire.specs.Values.{HasWords, LacksWords, HasRoomAt, IsTreeOf, StopsInside, HoldsPointers, fields_at, too_large}
 use Rattle.capnp_wire.specs.declared.layout.place.Place.{Place}
 use Rattle.capnp_wire.specs.declared.layout.pointer.StructSize.{StructSize}
 use Rattle.capnp_wire.specs.declared.layout.object.Body.{Body}
@@ -24,12 +25,10 @@ use Rattle.capnp_wire.proofs.objects.ObjectLemmas.{one_tree}
 use Rattle.capnp_wire.proofs.trees.StandLemmas.{count_at}
 use Rattle.capnp_wire.proofs.trees.RoomLemmas.{words_below}
 use Rattle.capnp_wire.proofs.trees.TrimLemmas.{room_trim}
-use Rattle.capnp_wire.proofs.layouts.SizeLemmas.{length-body}
 use Rattle.capnp_wire.proofs.objects.OwnWordLemmas.{own_words_are}
 use Rattle.capnp_wire.proofs.trees.StoodLemmas.{struct_total}
-use Rattle.capnp_wire.proofs.layouts.OpenLemmas.{Opened, room_formed}
+use Rattle.capnp_wire.proofs.layouts.OpenLemmas.{Opened}
 use Rattle.capnp_wire.proofs.layouts.OpenedLemmas.{struct_plain, struct_trimmed}
-use Rattle.capnp_wire.proofs.views.ValueLemmas.{put_whole}
 
 -- its own words, with those of what it holds
 formed_total : (m : List (List ℕ)) (words : List ℕ) (start : Place) (size : StructSize) (c : Bool) (held : Trees) (inside : ℕ) → HoldsPointers m words start size
@@ -85,36 +84,35 @@ struct_measured m words start size nesting limit left c counted_then counted_now
     )
 
 -- what is copied of it
-pub struct_opened : (m : List (List ℕ)) (words : List ℕ) (start : Place) (size : StructSize) (nesting : ℕ) (limit : Option ℕ) (c : Bool) (room : ℕ) → HoldsPointers m words start size
-    → start.word + (size.data_words + size.pointers) ≤ length words → (w : HasWords (IsTreeOf (fields_at m words start size nesting limit)) c room)
-    → Opened m words start (Struct size) (formed_body c words start.word (Struct size)) nesting c 0 room w.trees
-struct_opened m words start size nesting limit false room here there w =
-    struct_plain m words start size nesting 0 room w.trees w.tree_is.held w.tree_is.traversed w.tree_is.whole w.tree_is.stand w.tree_is.shallow (subst AllHaveRoom w.tree_is.whole w.rooms).1 w.rooms there
-    (omega (arith, w.words_are))
-struct_opened m words start size nesting limit true room here there w =
-    struct_trimmed m words start size nesting 0 room w.trees w.tree_is.held w.tree_is.traversed here w.tree_is.whole w.tree_is.stand w.tree_is.shallow (subst AllHaveRoom w.tree_is.whole w.rooms).1
-    (room_trim w.trees w.rooms) there (omega (arith, w.words_are))
+struct_opened : (m : List (List ℕ)) (words : List ℕ) (start : Place) (size : StructSize) (nesting : ℕ) (limit : Option ℕ) (c : Bool) (next room : ℕ) → HoldsPointers m words start size
+    → start.word + (size.data_words + size.pointers) ≤ length words → (w : HasRoomAt (IsTreeOf (fields_at m words start size nesting limit)) c next room)
+    → Opened m words start (Struct size) (formed_body c words start.word (Struct size)) nesting c next room w.trees
+struct_opened m words start size nesting limit false next room here there w =
+    struct_plain m words start size nesting next room w.trees w.tree_is.held w.tree_is.traversed w.tree_is.whole w.tree_is.stand w.tree_is.shallow (subst AllHaveRoom w.tree_is.whole w.rooms).1 w.rooms there
+    w.fits
+struct_opened m words start size nesting limit true next room here there w =
+    struct_trimmed m words start size nesting next room w.trees w.tree_is.held w.tree_is.traversed here w.tree_is.whole w.tree_is.stand w.tree_is.shallow (subst AllHaveRoom w.tree_is.whole w.rooms).1
+    (room_trim w.trees w.rooms) there w.fits
 
-pub struct_opened_as : (m : List (List ℕ)) (words : List ℕ) (start : Place) (size : StructSize) (copied : Body) (nesting : ℕ) (limit : Option ℕ) (c : Bool) (room : ℕ) → HoldsPointers m words start size
-    → start.word + (size.data_words + size.pointers) ≤ length words → copied ≡ formed_body c words start.word (Struct size)
-    → (w : HasWords (IsTreeOf (fields_at m words start size nesting limit)) c room)
-    → Opened m words start (Struct size) copied nesting c 0 room w.trees
-struct_opened_as m words start size copied nesting limit c room here there is w =
-    subst (λ (b : Body). Opened m words start (Struct size) b nesting c 0 room w.trees) (sym is)
-    (struct_opened m words start size nesting limit c room here there w)
+pub struct_opened_as : (m : List (List ℕ)) (words : List ℕ) (start : Place) (size : StructSize) (copied : Body) (nesting : ℕ) (limit : Option ℕ) (c : Bool) (next room : ℕ)
+    → HoldsPointers m words start size → start.word + (size.data_words + size.pointers) ≤ length words → copied ≡ formed_body c words start.word (Struct size)
+    → (w : HasRoomAt (IsTreeOf (fields_at m words start size nesting limit)) c next room)
+    → Opened m words start (Struct size) copied nesting c next room w.trees
+struct_opened_as m words start size copied nesting limit c next room here there is w =
+    subst (λ (b : Body). Opened m words start (Struct size) b nesting c next room w.trees) (sym is)
+    (struct_opened m words start size nesting limit c next room here there w)
 
-pub struct_written : (m : List (List ℕ)) (words : List ℕ) (start : Place) (size : StructSize) (copied : Body) (nesting : ℕ) (c : Bool) (room : ℕ) (trees : Trees) (old mid new : List ℕ) (pointer_is : ℕ)
-    → Opened m words start (Struct size) copied nesting c 0 room trees
-    → AllHaveRoom trees → room ≡ total_words (formed c trees) → length old ≡ room → mid ≡ put_own words start.word (Struct size) copied 0 old
-    → ((held : Trees) (traversed : ℕ) → At m (kept_in start (Struct size) (row_size copied).pointers) held traversed → new ≡ fill (slots_of 0 copied) (0 + words_in copied) (formed c held) mid)
-    → pointer_is ≡ pointer_of_body copied 0 → pointer_is ∷ new ≡ layout (formed c trees)
-struct_written m words start size copied nesting c room trees old mid new pointer_is o rooms full long mid_is filled pointer =
-    let new_is : new ≡ put 0 (body (formed c trees)) old =
-    filled o.kept.trees o.kept.traversed o.kept.stand
-    ∙ ap (λ (b : List ℕ). fill (slots_of 0 copied) (0 + words_in copied) (formed c o.kept.trees) b) mid_is
-    ∙ o.fills old long in
-    let whole = put_whole (body (formed c trees)) old (omega (arith, length-body (formed c trees) (room_formed c trees rooms), full, long)) in
-    ap (λ (p : ℕ). p ∷ new) (pointer ∙ o.pointers_are 0) ∙ ap (λ (l : List ℕ). pointer_to (formed c trees) 0 ∷ l) (new_is ∙ whole)
+pub struct_written : {m : List (List ℕ)} {words : List ℕ} {start : Place} {size : StructSize} {copied : Body} {nesting : ℕ} {c : Bool} {gap next room : ℕ} {trees : Trees} {old mid new : List ℕ}
+    {done : Copied} → Opened m words start (Struct size) copied nesting c next room trees → length old ≡ room → mid ≡ put_own words start.word (Struct size) copied next old
+    → CopiesAll m (kept_in start (Struct size) (row_size copied).pointers) c (slots_of next copied) (next + words_in copied) mid new done.next
+    → done.pointer ≡ pointer_of_body copied gap → IsCopied (formed c trees) gap next old new done
+struct_written {m} {words} {start} {size} {copied} {nesting} {c} {gap} {next} {room} {trees} {old} {mid} {new} {done} o long mid_is all pointer_is =
+    let k = o.kept in
+    record {
+      words_are = all.words_are k.trees k.traversed k.stand ∙ ap (λ (b : List ℕ). fill (slots_of next copied) (next + words_in copied) (formed c k.trees) b) mid_is ∙ o.fills old long;
+      pointer_is = pointer_is ∙ o.pointers_are gap;
+      next_is = omega (arith, all.next_is k.trees k.traversed k.stand, o.totals);
+    }
 
 -- one struct is one tree, whatever the limit
 pub same_struct : (m : List (List ℕ)) (words : List ℕ) (start : Place) (size : StructSize) (nesting : ℕ) (limit other : Option ℕ) (a b : Trees)

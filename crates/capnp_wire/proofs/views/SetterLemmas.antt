@@ -2,7 +2,9 @@
 use Rattle.std.proofs.Common.{◌≡◌, ℕ, ◌+◌, ◌-◌, ◌*◌, ◌/◌, ◌<◌, ◌≤◌, ◌^◌, ◌↔◌, Bool, true, false, List, [], ◌∷◌, ◌++◌, length, take, drop, set, length-take, length-drop}
 use Rattle.std.proofs.Common.{length-append, Option, Some, None, MatchOption, Result, Ok, Err, MatchResult, inl, inr, refl, sym, ◌∙◌, ap, subst, arith}
 use Rattle.std.proofs.Math.Seq.{drop-append_seam}
-use Rattle.std.proofs.lemmas.List.{append-nil, take_all, drop_all}
+use Rattle.std.proofs.lemmas.List.{append-nil, drop_all}
+use Rattle.std.specs.Int.{to_le_bytes}
+use Rattle.std.proofs.Common.{w64}
 use Rattle.capnp_frame.specs.Words.{bytes_of}
 use Rattle.capnp_frame.specs.declared.error.Error.{Error}
 use Rattle.capnp_frame.specs.declared.words.Word.{Word}
@@ -10,16 +12,23 @@ use Rattle.capnp_wire.specs.Pointer.{number_of, words_of}
 use Rattle.capnp_wire.specs.Tree.{Form, null, Trees, none, tree, total_words}
 use Rattle.capnp_wire.specs.Trim.{trim, trim_form, trim_held}
 use Rattle.capnp_wire.specs.Reached.{At, nowhere, at, root}
-use Rattle.capnp_wire.specs.Layout.{layout, canon, formed, AllHaveRoom, AllReach}
+use Rattle.capnp_wire.specs.Layout.{body, layout, canon, formed, AllHaveRoom, AllReach}
 use Rattle.capnp_wire.specs.Canonical.{IsCanonical}
 use Rattle.capnp_wire.specs.Views.{Pointer}
 use Rattle.capnp_wire.specs.Block.{numbers_of}
-use Rattle.capnp_wire.specs.Values.{TreeAt, Measured, UnmeasuredTree, HasWords, LacksWords, LeadsToTree, StopsWalkFrom, pointed, IsCanonicalForm}
+use Rattle.capnp_wire.specs.Copy.{IsCopied}
+use Rattle.capnp_wire.specs.Values.{TreeAt, Measured, UnmeasuredTree, HasWords, LacksWords, LeadsToTree, StopsWalkFrom, IsCanonicalForm}
+use Rattle.capnp_wire.specs.declared.layout.copy.Copied.{Copied}
 use Rattle.capnp_wire.specs.declared.layout.place.Place.{Place}
 use Rattle.capnp_wire.proofs.forms.CanonLemmas.{root_of_canon, canon_tells}
 use Rattle.capnp_wire.proofs.layouts.LayoutLemmas.{small_reaches}
 use Rattle.capnp_wire.proofs.trees.TrimLemmas.{trim_twice}
-use Rattle.capnp_wire.proofs.words.PutLemmas.{words_split, chunked}
+use Rattle.capnp_wire.proofs.layouts.SizeLemmas.{length-body}
+use Rattle.capnp_wire.proofs.layouts.OpenLemmas.{room_formed}
+use Rattle.capnp_wire.proofs.layouts.FreeLemmas.{whole_written}
+use Rattle.capnp_wire.proofs.objects.PartLemmas.{one_word}
+use Rattle.capnp_wire.proofs.words.WordLemmas.{length-words_of}
+use Rattle.capnp_wire.proofs.words.PutLemmas.{words_split, length-numbers_of}
 use Rattle.capnp_wire.proofs.views.ValueLemmas.{drop_past}
 
 to_tree : (p : Pointer) (place : Place) (trees : Trees) → p.place ≡ Some place → TreeAt p.message place p.nesting p.limit trees → LeadsToTree p trees
@@ -57,18 +66,15 @@ after_eight old block some long =
     ap (λ (n : ℕ). drop n (take 8 old ++ (block ++ drop (length old - 8) (drop 8 old)))) (sym eight) ∙ drop-append_seam (take 8 old) (block ++ drop (length old - 8) (drop 8 old))
     ∙ ap (λ (l : List ℕ). block ++ l) none ∙ append-nil block
 
-pub one_word : (bytes : List ℕ) → length bytes ≡ 8 → words_of bytes ≡ number_of 256 bytes ∷ []
-one_word bytes eight =
-    let one : length bytes / 8 ≡ 1 = omega arith in
-    let whole : take 8 bytes ≡ bytes = take_all 8 bytes (omega arith) in
-    ap (λ (k : ℕ). chunked k bytes) one ∙ ap (λ (l : List ℕ). number_of 256 l ∷ []) whole
+size_of : (trees : Trees) → AllHaveRoom trees → length (body (formed true trees)) ≡ total_words (formed true trees)
+size_of trees rooms = length-body (formed true trees) (room_formed true trees rooms)
 
-pub whole_form : (p : Pointer) (word : Word) (front old block : List ℕ) → front ≡ bytes_of word
-    → length front ≡ length (take 8 (take 8 old ++ (block ++ drop (length old - 8) (drop 8 old))))
-    → (following : ℕ) × HasWords (LeadsToTree p) true following × (length old ≡ 8 * (following + 1)) → length block ≡ length old - 8
-    → ((trees : Trees) → LeadsToTree p trees → pointed word block ≡ layout (formed true trees))
+pub whole_form : (p : Pointer) (copied : Copied) (front old held block : List ℕ) → front ≡ to_le_bytes w64 copied.pointer → copied.pointer < 2 ^ 64
+    → length front ≡ length (take 8 (take 8 old ++ (block ++ drop (length old - 8) (drop 8 old)))) → (w : (following : ℕ) × HasWords (LeadsToTree p) true following × (length old ≡ 8 * (following + 1)))
+    → length block ≡ length old - 8 → length held ≡ length old - 8
+    → ((trees : Trees) → LeadsToTree p trees → IsCopied (formed true trees) (0 - 0) 0 (words_of held) (words_of block) copied)
     → IsCanonicalForm p (words_of (front ++ drop 8 (take 8 old ++ (block ++ drop (length old - 8) (drop 8 old)))))
-whole_form p word front old block front_is room w long written =
+whole_form p copied front old held block front_is small room w long held_long written =
     let h = w.1 in
     let eight : length front ≡ 8 =
     omega (
@@ -81,30 +87,35 @@ whole_form p word front old block front_is room w long written =
     ) in
     let rest = after_eight old block (omega (arith, w.2)) long in
     let parts : words_of (front ++ block) ≡ words_of front ++ words_of block = words_split 1 front block eight in
-    let head : words_of front ≡ number_of 256 (bytes_of word) ∷ [] = one_word front eight ∙ ap (λ (l : List ℕ). number_of 256 l ∷ []) front_is in
+    let head : words_of front ≡ copied.pointer ∷ [] = one_word front copied.pointer small front_is in
+    let total : total_words (formed true h.trees) ≡ length (words_of held) = omega (arith, h.words_are, w.2, held_long, length-words_of held) in
     record {
       trees = h.trees;
       tree_is = h.tree_is;
       rooms = h.rooms;
       few = omega (arith, h.words_are, h.few);
-      words_are = ap (λ (l : List ℕ). words_of (front ++ l)) rest ∙ parts ∙ ap (λ (l : List ℕ). l ++ words_of block) head ∙ written h.trees h.tree_is;
+      words_are = ap (λ (l : List ℕ). words_of (front ++ l)) rest ∙ parts ∙ ap (λ (l : List ℕ). l ++ words_of block) head
+          ∙ whole_written (formed true h.trees) (words_of held) (words_of block) copied (size_of h.trees h.rooms ∙ total) (written h.trees h.tree_is);
     }
 
 -- the same in words
-pub words_form : (p : Pointer) (word : Word) (old block : List Word) → (following : ℕ) × HasWords (LeadsToTree p) true following × (length old ≡ following + 1)
-    → ((trees : Trees) → LeadsToTree p trees → number_of 256 (bytes_of word) ∷ numbers_of block ≡ layout (formed true trees))
+pub words_form : (p : Pointer) (copied : Copied) (word : Word) (old held block : List Word) → number_of 256 (bytes_of word) ≡ copied.pointer
+    → (w : (following : ℕ) × HasWords (LeadsToTree p) true following × (length old ≡ following + 1)) → length held ≡ length old - 1
+    → ((trees : Trees) → LeadsToTree p trees → IsCopied (formed true trees) (0 - 0) 0 (numbers_of held) (numbers_of block) copied)
     → IsCanonicalForm p (numbers_of (set (take 1 old ++ (block ++ drop (length old - 1) (drop 1 old))) 0 word))
-words_form p word [] block w written = absurd (omega (arith, w.2))
-words_form p word (x ∷ xs) block w written =
+words_form p copied word [] held block word_is w long written = absurd (omega (arith, w.2))
+words_form p copied word (x ∷ xs) held block word_is w long written =
     let h = w.1 in
     let none : drop (length (x ∷ xs) - 1) xs ≡ [] = drop_all (length (x ∷ xs) - 1) xs (omega arith) in
     let whole : block ++ drop (length (x ∷ xs) - 1) xs ≡ block = ap (λ (l : List Word). block ++ l) none ∙ append-nil block in
+    let total : total_words (formed true h.trees) ≡ length (numbers_of held) = omega (arith, h.words_are, w.2, long, length-numbers_of held) in
     record {
       trees = h.trees;
       tree_is = h.tree_is;
       rooms = h.rooms;
       few = omega (arith, h.words_are, h.few);
-      words_are = ap (λ (l : List Word). numbers_of (word ∷ l)) whole ∙ written h.trees h.tree_is;
+      words_are = ap (λ (l : List Word). numbers_of (word ∷ l)) whole ∙ ap (λ (n : ℕ). n ∷ numbers_of block) word_is
+          ∙ whole_written (formed true h.trees) (numbers_of held) (numbers_of block) copied (size_of h.trees h.rooms ∙ total) (written h.trees h.tree_is);
     }
 
 one_root : (m : List (List ℕ)) (place : Place) (trees : Trees) (traversed : ℕ) → At m (place ∷ []) trees traversed → (f : Form) × (h : Trees) × (trees ≡ tree f h none)

@@ -1,19 +1,14 @@
 -- Values that are measured and written.
 use Rattle.std.proofs.lemmas.List.{append-nil}
-use Rattle.std.proofs.Common.{◌≡◌, ℕ, zero, suc, ◌+◌, ◌-◌, ◌<◌, ◌≤◌, ◌^◌, Result, Ok, Err, MatchResult, Bool, List, [], ◌∷◌, ◌++◌, length, drop, Option, Some, inr, refl, ◌∙◌, ap, subst, arith}
+use Rattle.std.proofs.Common.{◌≡◌, ℕ, zero, suc, ◌+◌, ◌<◌, ◌≤◌, ◌^◌, Result, Ok, Err, MatchResult, Bool, List, [], ◌∷◌, ◌++◌, length, drop, Option, Some, inr, refl, ◌∙◌, ap, arith}
 use Rattle.capnp_frame.specs.declared.error.ErrorKind.{ErrorKind}
 use Rattle.capnp_frame.specs.declared.error.Error.{Error}
-use Rattle.capnp_wire.specs.Tree.{Trees, total_words}
-use Rattle.capnp_wire.specs.Reached.{At}
-use Rattle.capnp_wire.specs.Layout.{layout, body, pointer_to, formed, AllHaveRoom}
+use Rattle.capnp_wire.specs.Tree.{total_words}
+use Rattle.capnp_wire.specs.Layout.{formed}
 use Rattle.capnp_wire.specs.Block.{put}
-use Rattle.capnp_wire.specs.Copy.{CanCopy}
 use Rattle.capnp_wire.specs.Traversed.{Walked}
-use Rattle.capnp_wire.specs.Values.{TreeAt, Measured, UnmeasuredTree, CanWrite, too_large}
+use Rattle.capnp_wire.specs.Values.{TreeAt, Measured, UnmeasuredTree, too_large}
 use Rattle.capnp_wire.specs.declared.layout.place.Place.{Place}
-use Rattle.capnp_wire.proofs.objects.ObjectLemmas.{one_tree}
-use Rattle.capnp_wire.proofs.layouts.SizeLemmas.{length-body}
-use Rattle.capnp_wire.proofs.layouts.OpenLemmas.{room_formed}
 
 pub drop_past : (n : ℕ) (xs : List ℕ) → length xs ≤ n → drop n xs ≡ []
 drop_past zero [] le = refl
@@ -24,22 +19,6 @@ drop_past (suc n) (x ∷ xs) le = drop_past n xs (omega arith)
 pub put_whole : (words block : List ℕ) → length words ≡ length block → put 0 words block ≡ words
 put_whole words block long =
     ap (λ (l : List ℕ). words ++ l) (drop_past (0 + length words) block (omega arith)) ∙ append-nil words
-
-pub can_copy : (m : List (List ℕ)) (place : Place) (nesting : ℕ) (c : Bool) (words : ℕ) → CanWrite m place nesting c words → CanCopy m (place ∷ []) nesting c 0 words
-can_copy m place nesting c words w = record { trees = w.trees; traversed = w.traversed; stand = w.stand; shallow = w.shallow; rooms = w.rooms; fits = omega (arith, w.size) }
-
-pub written : (m : List (List ℕ)) (place : Place) (nesting : ℕ) (c : Bool) (old new : List ℕ) (pointer_is : ℕ) → CanWrite m place nesting c (length old)
-    → ((trees : Trees) (traversed : ℕ) → At m (place ∷ []) trees traversed → new ≡ put 0 (body (formed c trees)) old)
-    → ((trees : Trees) (traversed : ℕ) → At m (place ∷ []) trees traversed → pointer_is ≡ pointer_to (formed c trees) (0 - 0))
-    → (trees : Trees) (traversed : ℕ) → At m (place ∷ []) trees traversed → pointer_is ∷ new ≡ layout (formed c trees)
-written m place nesting c old new pointer_is w words pointers trees traversed stand =
-    let same = one_tree m (place ∷ []) w.trees trees w.traversed traversed w.stand stand in
-    let rooms : AllHaveRoom (formed c trees) = room_formed c trees (subst AllHaveRoom same.0 w.rooms) in
-    let total : total_words (formed c w.trees) ≡ total_words (formed c trees) = ap (λ (t : Trees). total_words (formed c t)) same.0 in
-    let long : length (body (formed c trees)) ≡ length old = omega (arith, length-body (formed c trees) rooms, w.size, total) in
-    let none : 0 - 0 ≡ 0 = omega arith in
-    ap (λ (p : ℕ). p ∷ new) (pointers trees traversed stand)
-    ∙ ap (λ (l : List ℕ). pointer_to (formed c trees) (0 - 0) ∷ l) (words trees traversed stand ∙ put_whole (body (formed c trees)) old long)
 
 tree_at : (m : List (List ℕ)) (place : Place) (nesting : ℕ) (limit left : Option ℕ) (c : Bool) (before_it now : Option ℕ) (w : Walked m c place nesting limit left before_it now)
     → TreeAt m place nesting limit w.stand.trees

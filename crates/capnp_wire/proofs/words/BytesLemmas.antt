@@ -1,27 +1,17 @@
 -- Lists of bytes as values.
-use Rattle.std.proofs.lemmas.List.{append-nil, take_all}
+use Rattle.std.proofs.lemmas.List.{take_all}
 use Rattle.std.proofs.Common.{◌≡◌, ℕ, zero, suc, ◌+◌, ◌-◌, ◌*◌, ◌/◌, ◌<◌, ◌^◌, List, [], ◌∷◌, ◌++◌, length, take, drop, replicate, slice_index_or, refl, sym, ◌∙◌, ap, arith, length-append, lit<}
 use native.Mathlib.Nat.{mul-zero}
-use Rattle.capnp_frame.specs.Words.{bytes_of}
-use Rattle.capnp_frame.specs.declared.words.Word.{Word}
 use Rattle.capnp_wire.specs.Pointer.{digits, number_of, words_of}
 use Rattle.capnp_wire.specs.Element.{words_for}
-use Rattle.capnp_wire.specs.Tree.{numbers, none, tree}
-use Rattle.capnp_wire.specs.Layout.{own, layout, list_pointer}
-use Rattle.capnp_wire.specs.Values.{pointed}
+use Rattle.capnp_wire.specs.Tree.{numbers}
+use Rattle.capnp_wire.specs.Layout.{own}
 use Rattle.capnp_wire.proofs.words.WordLemmas.{numbers_from, number-append, length-words_of}
 use Rattle.capnp_wire.proofs.objects.ElementLemmas.{digits_back, words_below}
 
 zeros_number : (k : ℕ) → number_of 256 (replicate k 0) ≡ 0
 zeros_number zero = refl
 zeros_number (suc k) = omega (arith, zeros_number k)
-
-drop_zeros : (n k : ℕ) → drop {A = ℕ} n (replicate k 0) ≡ replicate (k - n) 0
-drop_zeros zero k = let all : k ≡ k - 0 = omega arith in ap (λ (j : ℕ). replicate j 0) all
-drop_zeros (suc n) zero = let none_left : 0 ≡ 0 - suc n = omega arith in ap (λ (j : ℕ). replicate j 0) none_left
-drop_zeros (suc n) (suc k) =
-    let less : k - n ≡ suc k - suc n = omega arith in
-    drop_zeros n k ∙ ap (λ (j : ℕ). replicate j 0) less
 
 long_zeros : (k : ℕ) → length {A = ℕ} (replicate k 0) ≡ k
 long_zeros zero = refl
@@ -50,30 +40,14 @@ padded bytes k n fits long =
     ∙ ap (λ (j : ℕ). digits (2 ^ 64) j (number_of (2 ^ 64) (words_of (bytes ++ replicate k 0)))) words
     ∙ ap (digits (2 ^ 64) n) (ap (number_of (2 ^ 64)) (sym all_words) ∙ value ∙ ap (number_of 256) all_bytes ∙ zero_more)
 
-pub bytes_written : (bytes block new : List ℕ) (word : Word) → ((j : ℕ) → slice_index_or bytes j 0 < 256) → length block ≡ 8 * words_for (length bytes) 8 → block ≡ replicate (length block) 0
-    → new ≡ bytes ++ drop (length bytes) block → number_of 256 (bytes_of word) ≡ list_pointer 0 2 (length bytes) → pointed word new ≡ layout (tree (numbers 2 bytes) none none)
-bytes_written bytes block new word fits room zeros new_is pointer_is =
-    let following : drop (length bytes) block ≡ replicate (length block - length bytes) 0 = ap (λ (l : List ℕ). drop (length bytes) l) zeros ∙ drop_zeros (length bytes) (length block) in
-    let words : words_of new ≡ own (numbers 2 bytes) [] =
-    ap words_of (new_is ∙ ap (λ (l : List ℕ). bytes ++ l) following) ∙ padded bytes (length block - length bytes) (words_for (length bytes) 8) fits (omega arith) in
-    ap (λ (n : ℕ). n ∷ words_of new) pointer_is
-    ∙ ap (λ (l : List ℕ). list_pointer 0 2 (length bytes) ∷ l) (words ∙ sym (append-nil (own (numbers 2 bytes) [] ++ []) ∙ append-nil (own (numbers 2 bytes) [])))
-
 -- text
 number_end : (bytes : List ℕ) → number_of 256 (bytes ++ 0 ∷ []) ≡ number_of 256 bytes
 number_end [] = refl
 number_end (b ∷ bytes) = ap (λ (z : ℕ). b + 256 * z) (number_end bytes)
 
-long_end : (bytes : List ℕ) → length (bytes ++ 0 ∷ []) ≡ length bytes + 1
+pub long_end : (bytes : List ℕ) → length (bytes ++ 0 ∷ []) ≡ length bytes + 1
 long_end bytes = length-append bytes (0 ∷ [])
 
-pub text_written : (bytes block new : List ℕ) (word : Word) → ((j : ℕ) → slice_index_or bytes j 0 < 256) → length block ≡ 8 * words_for (length bytes + 1) 8 → block ≡ replicate (length block) 0
-    → new ≡ bytes ++ drop (length bytes) block → number_of 256 (bytes_of word) ≡ list_pointer 0 2 (length bytes + 1) → pointed word new ≡ layout (tree (numbers 2 (bytes ++ 0 ∷ [])) none none)
-text_written bytes block new word fits room zeros new_is pointer_is =
-    let following : drop (length bytes) block ≡ replicate (length block - length bytes) 0 = ap (λ (l : List ℕ). drop (length bytes) l) zeros ∙ drop_zeros (length bytes) (length block) in
-    let long = long_end bytes in
-    let words : words_of new ≡ own (numbers 2 (bytes ++ 0 ∷ [])) [] =
-    ap words_of (new_is ∙ ap (λ (l : List ℕ). bytes ++ l) following) ∙ padded bytes (length block - length bytes) (words_for (length bytes + 1) 8) fits (omega arith)
-    ∙ ap (digits (2 ^ 64) (words_for (length bytes + 1) 8)) (sym (number_end bytes)) ∙ ap (λ (n : ℕ). digits (2 ^ 64) (words_for n 8) (number_of 256 (bytes ++ 0 ∷ []))) (sym long) in
-    ap (λ (n : ℕ). n ∷ words_of new) (pointer_is ∙ ap (list_pointer 0 2) (sym long))
-    ∙ ap (λ (l : List ℕ). list_pointer 0 2 (length (bytes ++ 0 ∷ [])) ∷ l) (words ∙ sym (append-nil (own (numbers 2 (bytes ++ 0 ∷ [])) [] ++ []) ∙ append-nil (own (numbers 2 (bytes ++ 0 ∷ [])) [])))
+pub text_own : (bytes : List ℕ) → digits (2 ^ 64) (words_for (length bytes + 1) 8) (number_of 256 bytes) ≡ own (numbers 2 (bytes ++ 0 ∷ [])) []
+text_own bytes =
+    ap (digits (2 ^ 64) (words_for (length bytes + 1) 8)) (sym (number_end bytes)) ∙ ap (λ (n : ℕ). digits (2 ^ 64) (words_for n 8) (number_of 256 (bytes ++ 0 ∷ []))) (sym (long_end bytes))

@@ -13,8 +13,11 @@ use capnp_frame::message::ReaderSegments;
 
 /// The pointer word to a copy, and the first free word after it.
 #[derive(Clone, Copy)]
-pub(crate) struct Copied {
+pub struct Copied {
+    /// The pointer word.
     pub pointer: u64,
+
+    /// The first free word.
     pub next: usize,
 }
 

@@ -1,12 +1,14 @@
-//! Structs that are read, as values: measured, and written into a block of their own.
-ghost use Rattle.std.specs.Prelude.{◌≡◌, ◌+◌, ◌/◌, ◌%◌, ◌<◌, ◌≤◌, ◌∷◌, ℕ, Option, length, MatchResult};
+//! Structs that are read, as values: measured, and written into a block.
+ghost use Rattle.std.specs.Prelude.{◌≡◌, ◌+◌, ◌-◌, ◌/◌, ◌^◌, ◌<◌, ◌≤◌, ℕ, Option, length, MatchResult};
 ghost use Rattle.capnp_wire.specs.Pointer.{words_of};
 ghost use Rattle.capnp_wire.specs.Tree.{Trees};
 ghost use Rattle.capnp_wire.specs.Object.{message_of};
-ghost use Rattle.capnp_wire.specs.Layout.{layout, formed};
-ghost use Rattle.capnp_wire.specs.Values.{HasWords, LacksWords, IsTreeOf, StopsInside, HoldsPointers, fields_at};
+ghost use Rattle.capnp_wire.specs.Layout.{formed};
+ghost use Rattle.capnp_wire.specs.Copy.{IsCopied};
+ghost use Rattle.capnp_wire.specs.Values.{HasWords, LacksWords, HasRoomAt, IsTreeOf, StopsInside, HoldsPointers, fields_at};
 
 use crate::layout::body_word::pointer_word;
+use crate::layout::copy::Copied;
 use crate::layout::copy_rows::copy_pointers;
 use crate::layout::formed::formed_as;
 use crate::layout::object::{Body, Object, words_fit};
@@ -49,8 +51,8 @@ pub(crate) fn measure<S: ReaderSegments>(
     fitting(walk.words(), canonical)
 }
 
-/// Writes the words of a struct with all below it into a block of just these, and returns the
-/// pointer to it for a block that follows this pointer at once.
+/// Writes the words of a struct with all below it into a block, from the word `next` on. The pointer
+/// to it stands just before the word `following`.
 pub(crate) fn write<S: ReaderSegments>(
     segments: &S,
     segment: &[u8],
@@ -59,18 +61,22 @@ pub(crate) fn write<S: ReaderSegments>(
     nesting: u32,
     canonical: bool,
     block: &mut [u8],
-) -> u64
+    following: usize,
+    next: usize,
+) -> Copied
     requires room { start.word + (size.data_words + size.pointers) ≤ length segment.now / 8 }
     requires content { HoldsPointers (message_of (S.segments segments.now))
         (words_of segment.now) start size }
-    requires words { (limit : Option ℕ) × HasWords (IsTreeOf
+    requires value { (limit : Option ℕ) × HasRoomAt (IsTreeOf
         (fields_at (message_of (S.segments segments.now))
-        (words_of segment.now) start size nesting limit)) canonical (length block.old / 8) }
-    requires whole { length block.old % 8 ≡ 0 }
+        (words_of segment.now) start size nesting limit)) canonical next (length (words_of block.old)) }
+    requires small { length (words_of block.old) < 2 ^ 29 }
+    requires following { following ≤ next }
     ensures written { (limit : Option ℕ) (trees : Trees) →
         IsTreeOf (fields_at (message_of (S.segments segments.now))
         (words_of segment.now) start size nesting limit) trees →
-        result ∷ words_of block.new ≡ layout (formed canonical trees) }
+        IsCopied (formed canonical trees) (next - following) next
+        (words_of block.old) (words_of block.new) result }
     ensures len { length block.new ≡ length block.old }
 {
     let object = Object {
@@ -80,7 +86,10 @@ pub(crate) fn write<S: ReaderSegments>(
         traversed: 0,
     };
     let copied = formed_as(&object, canonical);
-    put_own_words(&object, copied, block, 0);
-    copy_pointers(segments, &object, copied, nesting, canonical, block, 0);
-    pointer_word(copied, 0)
+    put_own_words(&object, copied, block, next);
+    let free = copy_pointers(segments, &object, copied, nesting, canonical, block, next);
+    Copied {
+        pointer: pointer_word(copied, (next - following) as u64),
+        next: free,
+    }
 }

@@ -1,21 +1,20 @@
-//! Trees of a message as values: measured, and written into a block of their own.
-ghost use Rattle.std.specs.Prelude.{◌≡◌, ◌<◌, ◌≤◌, ◌+◌, ◌-◌, ◌++◌, ◌*◌, ◌^◌, ℕ, All, replicate, [], ◌∷◌, length, min, MatchResult};
-ghost use Rattle.capnp_wire.specs.Pointer.{words_of};
+//! Trees of a message as values that are measured, and lists of bytes and of words, which are written too.
+ghost use Rattle.std.specs.Prelude.{◌≡◌, ◌<◌, ◌≤◌, ◌+◌, ◌-◌, ◌++◌, ◌*◌, ◌^◌, ℕ, All, [], ◌∷◌, length, min, MatchResult};
+ghost use Rattle.capnp_wire.specs.Pointer.{digits, number_of, words_of};
 ghost use Rattle.capnp_wire.specs.Element.{words_for};
-ghost use Rattle.capnp_wire.specs.Tree.{Trees, numbers, none, tree};
+ghost use Rattle.capnp_wire.specs.Tree.{numbers, none, tree};
 ghost use Rattle.capnp_wire.specs.Object.{message_of};
-ghost use Rattle.capnp_wire.specs.Reached.{At};
 ghost use Rattle.capnp_wire.specs.Traversed.{Counts};
-ghost use Rattle.capnp_wire.specs.Layout.{layout, formed};
-ghost use Rattle.capnp_wire.specs.Values.{Measured, UnmeasuredTree, CanWrite, too_large, ManyBytes, ManyWords, pointed};
+ghost use Rattle.capnp_wire.specs.Block.{put};
+ghost use Rattle.capnp_wire.specs.Copy.{IsCopied};
+ghost use Rattle.capnp_wire.specs.Values.{Measured, UnmeasuredTree, too_large, ManyBytes, ManyWords, IsFreeFrom};
 
-use crate::layout::block::BlockItem;
-use crate::layout::copy::copy;
+use crate::layout::copy::Copied;
 use crate::layout::place::Place;
 use crate::layout::walk::Walk;
-use crate::pointer_word::{list_word, word_of};
+use crate::pointer_word::list_word;
 use capnp_frame::message::ReaderSegments;
-use capnp_frame::{Error, ErrorKind, Result, Word};
+use capnp_frame::{Error, ErrorKind, Result};
 
 /// The words of the tree at a place, after its pointer, as it stands or in canonical form.
 pub(crate) fn measure<S: ReaderSegments>(
@@ -62,25 +61,6 @@ fn too_many(words: u64) -> Error
     Error::from_kind(ErrorKind::AllocationTooLarge(told))
 }
 
-/// Writes the body of the tree at a place into a block of just its words, and returns the pointer
-/// to it for a block that follows this pointer at once.
-pub(crate) fn write<S: ReaderSegments, T: BlockItem>(
-    segments: &S,
-    place: Place,
-    nesting: u32,
-    canonical: bool,
-    block: &mut [T],
-) -> u64
-    requires { CanWrite (message_of (S.segments segments.now)) place nesting canonical
-        (length (T.as_words block.old)) }
-    ensures written { (trees : Trees) (traversed : ℕ) →
-        At (message_of (S.segments segments.now)) (place ∷ []) trees traversed →
-        result ∷ T.as_words block.new ≡ layout (formed canonical trees) }
-    ensures len { length (T.as_words block.new) ≡ length (T.as_words block.old) }
-{
-    copy(segments, place, nesting, canonical, block, 0, 0).pointer
-}
-
 /// The words of a list of bytes.
 pub(crate) fn measure_bytes(bytes: &[u8]) -> Result<u32>
     ensures words { MatchResult result
@@ -95,16 +75,35 @@ pub(crate) fn measure_bytes(bytes: &[u8]) -> Result<u32>
     Err(too_many(words))
 }
 
-/// Writes a list of bytes into a block of zeros of its words, and returns the pointer to it.
-pub(crate) fn write_bytes(bytes: &[u8], block: &mut [u8]) -> Word
+/// Writes a list of bytes into a block that is zero from the word `next` on.
+pub(crate) fn write_bytes(bytes: &[u8], block: &mut [u8], following: usize, next: usize) -> Copied
     requires few { length bytes.now < 2 ^ 29 }
-    requires room { length block.old ≡ 8 * words_for (length bytes.now) 8 }
-    requires zero { block.old ≡ replicate (length block.old) 0 }
-    ensures written { pointed result block.new ≡ layout (tree (numbers 2 bytes.now) none none) }
+    requires room { next + words_for (length bytes.now) 8 ≤ length (words_of block.old) }
+    requires free { IsFreeFrom next block.old }
+    requires following { following ≤ next }
+    ensures written { IsCopied (tree (numbers 2 bytes.now) none none) (next - following) next
+        (words_of block.old) (words_of block.new) result }
     ensures len { length block.new ≡ length block.old }
 {
-    block[..bytes.len()].copy_from_slice(bytes);
-    word_of(list_word(0, 2, bytes.len() as u64))
+    put_padded(bytes, block, next);
+    Copied {
+        pointer: list_word((next - following) as u64, 2, bytes.len() as u64),
+        next: next + bytes.len().div_ceil(8),
+    }
+}
+
+// Puts bytes into a block that is zero from the word `next` on, so that zeros follow.
+#[inline(always)]
+fn put_padded(bytes: &[u8], block: &mut [u8], next: usize)
+    requires room { 8 * next + length bytes.now ≤ length block.old }
+    requires free { IsFreeFrom next block.old }
+    ensures words { (words : ℕ) → length bytes.now ≤ 8 * words →
+        next + words ≤ length (words_of block.old) → words_of block.new
+        ≡ put next (digits (2 ^ 64) words (number_of 256 bytes.now)) (words_of block.old) }
+    ensures len { length block.new ≡ length block.old }
+{
+    let begin = 8 * next;
+    block[begin..begin + bytes.len()].copy_from_slice(bytes);
 }
 
 /// The words of a text, with the zero byte at its end.
@@ -123,17 +122,21 @@ pub(crate) fn measure_text(bytes: &[u8]) -> Result<u32>
     Err(too_many(words))
 }
 
-/// Writes a text into a block of zeros of its words, and returns the pointer to it.
-pub(crate) fn write_text(bytes: &[u8], block: &mut [u8]) -> Word
+/// Writes a text into a block that is zero from the word `next` on.
+pub(crate) fn write_text(bytes: &[u8], block: &mut [u8], following: usize, next: usize) -> Copied
     requires few { length bytes.now + 1 < 2 ^ 29 }
-    requires room { length block.old ≡ 8 * words_for (length bytes.now + 1) 8 }
-    requires zero { block.old ≡ replicate (length block.old) 0 }
-    ensures written { pointed result block.new
-        ≡ layout (tree (numbers 2 (bytes.now ++ 0 ∷ [])) none none) }
+    requires room { next + words_for (length bytes.now + 1) 8 ≤ length (words_of block.old) }
+    requires free { IsFreeFrom next block.old }
+    requires following { following ≤ next }
+    ensures written { IsCopied (tree (numbers 2 (bytes.now ++ 0 ∷ [])) none none)
+        (next - following) next (words_of block.old) (words_of block.new) result }
     ensures len { length block.new ≡ length block.old }
 {
-    block[..bytes.len()].copy_from_slice(bytes);
-    word_of(list_word(0, 2, bytes.len() as u64 + 1))
+    put_padded(bytes, block, next);
+    Copied {
+        pointer: list_word((next - following) as u64, 2, bytes.len() as u64 + 1),
+        next: next + bytes.len() / 8 + 1,
+    }
 }
 
 /// The words of a list of words.
@@ -151,16 +154,22 @@ pub(crate) fn measure_words(bytes: &[u8]) -> Result<u32>
     Err(too_many(words as u64))
 }
 
-/// Writes a list of words into a block of just these, and returns the pointer to it.
+/// Writes a list of words into a block, from the word `next` on.
 #[tactic(auto, using(crate::proofs::words::WordListLemmas::words_counted))]
-pub(crate) fn write_words(bytes: &[u8], block: &mut [u8]) -> Word
+pub(crate) fn write_words(bytes: &[u8], block: &mut [u8], following: usize, next: usize) -> Copied
     requires few { length (words_of bytes.now) < 2 ^ 29 }
-    requires room { length block.old ≡ 8 * length (words_of bytes.now) }
-    ensures written { pointed result block.new
-        ≡ layout (tree (numbers 5 (words_of bytes.now)) none none) }
+    requires room { next + length (words_of bytes.now) ≤ length (words_of block.old) }
+    requires free { IsFreeFrom next block.old }
+    requires following { following ≤ next }
+    ensures written { IsCopied (tree (numbers 5 (words_of bytes.now)) none none)
+        (next - following) next (words_of block.old) (words_of block.new) result }
     ensures len { length block.new ≡ length block.old }
 {
     let words = bytes.len() / 8;
-    block.copy_from_slice(&bytes[..8 * words]);
-    word_of(list_word(0, 5, words as u64))
+    let begin = 8 * next;
+    block[begin..begin + 8 * words].copy_from_slice(&bytes[..8 * words]);
+    Copied {
+        pointer: list_word((next - following) as u64, 5, words as u64),
+        next: next + words,
+    }
 }

@@ -1,11 +1,6 @@
--- The values from here on are written.
-use Rattle.std.proofs.Common.{◌≤◌, length, drop}
-use Rattle.capnp_values.specs.Lists.{AreItems, IsWrittenFrom}
+-- The values so far are written.
+use Rattle.capnp_values.proofs.ItemRowLemmas.{ItemsWritten}
 use Rattle.capnp_values.proofs.items.write_items.Given as goal
 
-abbrev pub invariant-items : goal.invariant-items
-invariant-items g l =
-    (l.left ≤ length l.items) × IsWrittenFrom (λ t. AreItems g.V.SetterInput.has_tree (drop l.left l.items) t) l.canonical (length l.items) l.left l.start l.slots l.block
-
-abbrev pub decreases-items : goal.decreases-items
-decreases-items g l = l.left
+abbrev pub invariant-loop-index : goal.invariant-loop-index
+invariant-loop-index g l = ItemsWritten g.V.SetterInput.has_tree l.canonical l.items l.first l.index l.next l.fn.block l.block

@@ -1,31 +1,30 @@
 -- The pointers, and then what they lead to.
-use Rattle.std.proofs.Common.{◌*◌, length, ◌∙◌, sym, arith}
-use Rattle.capnp_values.proofs.PartLemmas.{rest_zero}
+use Rattle.std.proofs.Common.{◌≡◌, ◌+◌, ◌-◌, length, ◌∙◌, sym, arith}
+use Rattle.capnp_wire.specs.Pointer.{words_of}
+use Rattle.capnp_wire.proofs.layouts.FreeLemmas.{free_later}
+use Rattle.capnp_wire.proofs.layouts.SizeLemmas.{length-body}
+use Rattle.capnp_wire.proofs.layouts.OpenLemmas.{room_formed}
 use Rattle.capnp_values.proofs.ItemLemmas.{items_settled}
-use Rattle.capnp_values.proofs.PointerListLemmas.{values_total, list_written}
+use Rattle.capnp_values.proofs.PointerListLemmas.{values_total, values_rooms, values_begin, list_copied}
 use Rattle.capnp_values.proofs.pointer_list.PointerListSetterInputOwned.write.Goals as goal
 
-pub split_at_mut-slots-requires : goal.split_at_mut-slots-requires
-split_at_mut-slots-requires g c =
-    let w = c.requires.words in
-    omega (arith, w.words_are, values_total g.V.SetterInput.has_tree c.args.self.now.items.now c.args.canonical w.trees w.tree_is)
+pub write_items-requires-clause-room : goal.write_items-requires-clause-room
+write_items-requires-clause-room g c = values_begin g.V.SetterInput.has_tree c.args.self.now.items.now c.args.canonical c.args.next _ c.requires.value
 
-pub write_items-requires-clause-fills : goal.write_items-requires-clause-fills
-write_items-requires-clause-fills g c =
-    let w = c.requires.words in
-    record {
-      trees = w.tree_is.held;
-      trees_are = w.tree_is.held_is;
-      room_is = omega (arith, w.words_are, values_total g.V.SetterInput.has_tree c.args.self.now.items.now c.args.canonical w.trees w.tree_is, c.split_at_mut-slots.ensures.back_len, c.requires.whole);
-    }
-
-pub write_items-requires-clause-zero : goal.write_items-requires-clause-zero
-write_items-requires-clause-zero g c =
-    rest_zero c.args.block.now c.split_at_mut-slots.result.1.now (8 * length c.args.self.now.items.now) c.requires.zero c.split_at_mut-slots.ensures.back
+pub write_items-requires-clause-free : goal.write_items-requires-clause-free
+write_items-requires-clause-free g c = free_later c.args.next (c.args.next + length c.args.self.now.items.now) c.args.block.now (omega arith) c.requires.free
 
 pub returns-clause-written : goal.returns-clause-written
 returns-clause-written g c trees is =
-    list_written c.args.canonical is.held trees (length c.args.self.now.items.now) c.word_of.result c.write_items.new.slots c.write_items.new.block is.whole
-    (sym (items_settled g.V.SetterInput.has_tree c.args.self.now.items.now is.held is.held_is).many)
-    (c.word_of.ensures ∙ c.list_word.ensures) (omega (arith, c.write_items.auto.slots, c.split_at_mut-slots.ensures.front_len))
-    (c.write_items.ensures.pointers is.held is.held_is) (c.write_items.ensures.body is.held is.held_is)
+    let h = g.V.SetterInput.has_tree in
+    let items = c.args.self.now.items.now in
+    let w = c.requires.value in
+    let end = c.write_items.ensures.written.next_is w.tree_is.held w.tree_is.held_is in
+    list_copied c.args.canonical is.held trees (c.args.next - c.args.following) c.args.next (length items) c.write_items.result c.list_word.result (words_of c.args.block.now) (words_of c.write_items.new.block)
+    is.whole (sym (items_settled h items is.held is.held_is).many) (values_rooms h items trees is) c.list_word.ensures
+    (omega (arith, end, w.fits, values_total h items c.args.canonical w.trees w.tree_is))
+    (c.write_items.ensures.written.words_are is.held is.held_is) (c.write_items.ensures.written.next_is is.held is.held_is)
+
+pub returns-clause-long : goal.returns-clause-long
+returns-clause-long g c trees is =
+    length-body _ (room_formed c.args.canonical trees (values_rooms g.V.SetterInput.has_tree c.args.self.now.items.now trees is))

@@ -1,45 +1,57 @@
 -- A struct is its own words, and what its pointers lead to.
-use Rattle.std.proofs.Common.{◌≡◌, ◌+◌, ◌-◌, ◌/◌, ◌*◌, ◌++◌, ℕ, length, length-take, take, drop, sym, ap, ◌∙◌, arith}
+use Rattle.std.proofs.Common.{◌≡◌, ◌+◌, ◌-◌, ◌∙◌, ℕ, length, length-take, take, sym, arith}
 use Rattle.capnp_wire.specs.Pointer.{words_of}
-use Rattle.capnp_wire.specs.Trim.{first}
-use Rattle.capnp_wire.specs.Layout.{run, pointers_to, formed}
-use Rattle.capnp_values.proofs.PartLemmas.{rest_zero}
-use Rattle.capnp_values.proofs.StructLemmas.{kept_within, struct_row, struct_written_at}
+use Rattle.capnp_wire.proofs.layouts.FreeLemmas.{free_later}
+use Rattle.capnp_wire.proofs.layouts.SizeLemmas.{length-body}
+use Rattle.capnp_wire.proofs.layouts.OpenLemmas.{room_formed}
+use Rattle.capnp_values.proofs.StructLemmas.{struct_small, struct_rooms, struct_place, struct_copied}
 use Rattle.capnp_values.proofs.struct_value.StructValueSetterInputOwned.write.Goals as goal
 
-pub write_sections-requires-clause-row : goal.write_sections-requires-clause-row
-write_sections-requires-clause-row g c =
-    let w = c.requires.words in
-    let r = struct_row c.args.canonical c.args.self.now.words g.F.Fields.size (g.F.Fields.has_trees c.args.self.now.fields) (length c.args.block.now) (length c.split_at_mut-own.result.0.now)
-    (length c.split_at_mut-own.result.1.now) c.kept_data-data.result c.kept_pointers-pointers.result w c.requires.whole c.split_at_mut-own.ensures.front_len
-    (omega (arith, c.split_at_mut-own.ensures.front_len, c.split_at_mut-own.ensures.back_len)) c.kept_data-data.ensures.value
-    (c.kept_pointers-pointers.ensures w.tree_is.held w.tree_is.held_is) in
-    r.0
+pub kept-pointers-requires : goal.kept-pointers-requires
+kept-pointers-requires g c = c.requires.value.tree_is.few_pointers
 
-pub write_sections-requires-clause-zero : goal.write_sections-requires-clause-zero
-write_sections-requires-clause-zero g c =
-    rest_zero c.args.block.now c.split_at_mut-own.result.1.now (8 * (c.kept_data-data.result + c.kept_pointers-pointers.result)) c.requires.zero c.split_at_mut-own.ensures.back
+pub overflow_add-held-2 : goal.overflow_add-held-2
+overflow_add-held-2 g c =
+    let p = struct_place c.args.canonical c.args.self.now.words g.F.Fields.size (g.F.Fields.has_trees c.args.self.now.fields) c.args.next c.kept_data-data.result c.kept-pointers.result _ c.requires.value
+    c.kept_data-data.ensures.value c.kept-pointers.ensures.kept in
+    record { fits = omega (arith, p.first_fits, c.requires.free.few) }
+
+pub write_sections-free-requires-clause-row : goal.write_sections-free-requires-clause-row
+write_sections-free-requires-clause-row g c =
+    let p = struct_place c.args.canonical c.args.self.now.words g.F.Fields.size (g.F.Fields.has_trees c.args.self.now.fields) c.args.next c.kept_data-data.result c.kept-pointers.result _ c.requires.value
+    c.kept_data-data.ensures.value c.kept-pointers.ensures.kept in
+    p.can
+
+pub write_sections-free-requires-clause-before : goal.write_sections-free-requires-clause-before
+write_sections-free-requires-clause-before g c = omega (arith, length-take c.kept_data-data.result c.args.self.now.words)
+
+pub write_sections-free-requires-clause-free : goal.write_sections-free-requires-clause-free
+write_sections-free-requires-clause-free g c = free_later c.args.next (c.args.next + c.kept_data-data.result + c.kept-pointers.result) c.args.block.now (omega arith) c.requires.free
+
+pub struct_word-requires-clause-words : goal.struct_word-requires-clause-words
+struct_word-requires-clause-words g c = omega (arith, c.kept_data-data.ensures.bound, c.requires.value.tree_is.few_words)
 
 pub struct_word-requires-clause-pointers : goal.struct_word-requires-clause-pointers
-struct_word-requires-clause-pointers g c =
-    let w = c.requires.words in
-    let s = g.met.F.Fields.settled c.args.self.now.fields w.tree_is.held w.tree_is.held_is in
-    omega (arith, c.kept_pointers-pointers.ensures w.tree_is.held w.tree_is.held_is, kept_within c.args.canonical w.tree_is.held, s.many, w.tree_is.few_pointers)
+struct_word-requires-clause-pointers g c = omega (arith, c.kept-pointers.ensures.bound, c.requires.value.tree_is.few_pointers)
 
 pub returns-clause-written : goal.returns-clause-written
 returns-clause-written g c trees is =
-    let w = c.requires.words in
-    let d : ℕ = c.kept_data-data.result in
-    let r = struct_row c.args.canonical c.args.self.now.words g.F.Fields.size (g.F.Fields.has_trees c.args.self.now.fields) (length c.args.block.now) (length c.split_at_mut-own.result.0.now)
-    (length c.split_at_mut-own.result.1.now) c.kept_data-data.result c.kept_pointers-pointers.result w c.requires.whole c.split_at_mut-own.ensures.front_len
-    (omega (arith, c.split_at_mut-own.ensures.front_len, c.split_at_mut-own.ensures.back_len)) c.kept_data-data.ensures.value
-    (c.kept_pointers-pointers.ensures w.tree_is.held w.tree_is.held_is) in
-    let all : ℕ = length c.split_at_mut-own.result.0.now / 8 - length (take d c.args.self.now.words) in
-    let start_is : c.write_sections.result ≡ 0 = omega (arith, r.1, c.write_sections.ensures.written.room w.tree_is.held w.tree_is.held_is, c.write_sections.auto.held) in
-    let gap_is : 0 + c.write_sections.result ≡ 0 = omega (arith, start_is) in
-    let m : all ≡ c.kept_pointers-pointers.result = omega (arith, length-take d c.args.self.now.words, c.kept_data-data.ensures.bound, c.split_at_mut-own.ensures.front_len) in
-    struct_written_at c.args.canonical c.args.self.now.words is.held trees c.word_of.result d c.kept_pointers-pointers.result
-    all c.write_sections.new.own c.write_sections.new.held is.whole c.kept_data-data.ensures.value (c.kept_pointers-pointers.ensures is.held is.held_is) m (c.word_of.ensures ∙ c.struct_word.ensures)
-    (omega (arith, c.write_sections.auto.own, c.split_at_mut-own.ensures.front_len))
-    (c.write_sections.ensures.own is.held d is.held_is ∙ ap (λ (k : ℕ). take d c.args.self.now.words ++ pointers_to (run d all) (d + all + k) (first all (formed c.args.canonical is.held))) gap_is)
-    (ap (λ (k : ℕ). words_of (drop (8 * k) c.write_sections.new.held)) (sym start_is) ∙ c.write_sections.ensures.written.body is.held is.held_is)
+    let w = c.requires.value in
+    let size = g.F.Fields.size in
+    let hs = g.F.Fields.has_trees c.args.self.now.fields in
+    let words = c.args.self.now.words in
+    let p = struct_place c.args.canonical c.args.self.now.words g.F.Fields.size (g.F.Fields.has_trees c.args.self.now.fields) c.args.next c.kept_data-data.result c.kept-pointers.result _ c.requires.value
+    c.kept_data-data.ensures.value c.kept-pointers.ensures.kept in
+    let end = c.write_sections-free.ensures.written.next_is w.tree_is.held w.tree_is.held_is in
+    struct_copied c.args.canonical words is.held trees (c.args.next - c.args.following) c.args.next c.kept_data-data.result c.kept-pointers.result c.write_sections-free.result c.struct_word.result
+    (words_of c.args.block.now) (words_of c.write_sections-free.new.block) is.whole c.kept_data-data.ensures.value (c.kept-pointers.ensures.kept is.held is.held_is)
+    (struct_rooms words size hs trees (g.met.F.Fields.settled c.args.self.now.fields) is (struct_small words size hs w.trees w.tree_is w.rooms)) c.struct_word.ensures
+    (omega (arith, end, p.first_fits)) (c.write_sections-free.ensures.written.words_are is.held is.held_is) (c.write_sections-free.ensures.written.next_is is.held is.held_is)
+
+pub returns-clause-long : goal.returns-clause-long
+returns-clause-long g c trees is =
+    let w = c.requires.value in
+    let size = g.F.Fields.size in
+    let hs = g.F.Fields.has_trees c.args.self.now.fields in
+    let words = c.args.self.now.words in
+    length-body _ (room_formed c.args.canonical trees (struct_rooms words size hs trees (g.met.F.Fields.settled c.args.self.now.fields) is (struct_small words size hs w.trees w.tree_is w.rooms)))

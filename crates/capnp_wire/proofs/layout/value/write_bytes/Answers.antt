@@ -1,9 +1,13 @@
 -- The bytes of a list, and zeros after them, are its words.
-use Rattle.std.proofs.Common.{ℕ, ◌++◌, ◌∙◌, List, length, drop, ap, arith}
-use Rattle.capnp_wire.proofs.words.BytesLemmas.{bytes_written}
+use Rattle.std.proofs.Common.{arith, length}
+use Rattle.capnp_wire.specs.Element.{words_for}
+use Rattle.capnp_wire.proofs.words.WordLemmas.{length-words_of}
+use Rattle.capnp_wire.proofs.layouts.FreeLemmas.{numbers_copied}
 use Rattle.capnp_wire.proofs.layout.value.write_bytes.Goals as goal
+
+pub put_padded-requires-clause-room : goal.put_padded-requires-clause-room
+put_padded-requires-clause-room c = omega (arith, c.requires.room, length-words_of c.args.block.now)
 
 pub returns-clause-written : goal.returns-clause-written
 returns-clause-written c =
-    bytes_written c.args.bytes.now c.args.block.now _ c.word_of.result (λ i. omega (arith, c.type_inv.bytes i)) c.requires.room c.requires.zero
-    (ap (λ (l : List ℕ). l ++ drop (length c.args.bytes.now) c.args.block.now) c.copy_from_slice.ensures.after) (c.word_of.ensures ∙ c.list_word.ensures)
+    numbers_copied 2 c.args.bytes.now _ c.args.next _ _ _ (c.put_padded.ensures.words (words_for (length c.args.bytes.now) 8) (omega arith) c.requires.room) c.list_word.ensures (omega arith)

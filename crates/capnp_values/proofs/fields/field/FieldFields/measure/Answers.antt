@@ -1,39 +1,47 @@
 -- A row reaches as far as its first value and what is after it.
-use Rattle.std.proofs.Common.{rules, ◌≡◌, false, refl, Ok, Err, arith}
-use Rattle.capnp_wire.specs.Tree.{tree}
-use Rattle.capnp_values.proofs.PartLemmas.{part_total, part_words, part_of}
+use Rattle.std.proofs.Common.{rules, ◌≡◌, ◌∙◌, refl, sym, ap, Ok, Err, inr, arith}
+use Rattle.capnp_wire.specs.Tree.{Trees, tree}
+use Rattle.capnp_wire.specs.declared.traits.PartWords.{PartWords}
+use Rattle.capnp_wire.proofs.views.PartWordLemmas.{standing_words}
+use Rattle.capnp_values.specs.Fields.{RefusesRow, extent_of}
+use Rattle.capnp_values.specs.declared.fields.Extent.{Extent}
+use Rattle.capnp_values.proofs.PartLemmas.{part_sizes, has_part, part_of}
 use Rattle.capnp_values.proofs.ReachLemmas.{bounded}
-use Rattle.capnp_values.proofs.ResultLemmas.{same_ok, ok_not_err, err_kind, refused_first, refused_rest}
+use Rattle.capnp_values.proofs.ResultLemmas.{ok_not_err, err_kind, refused_first, refused_rest, same_parts}
+use Rattle.capnp_values.proofs.StructLemmas.{same_extents}
 use Rattle.capnp_values.proofs.fields.field.FieldFields.measure.Goals as goal
 
-pub returns-in_err-plain-clause-found : goal.returns-in_err-plain-clause-found
-returns-in_err-plain-clause-found g c trees is =
-    let found = c.measure.ensures.found (part_total false is.form is.held) (part_words false (g.V.SetterInput.has_tree c.args.self.now.value) is.form is.held is.part) in
-    let was : c.measure.result ≡ Err c.in_err-plain.field-0.0 = c.in_err-plain.was in
+pub returns-in_err-own-clause-found : goal.returns-in_err-own-clause-found
+returns-in_err-own-clause-found g c trees is =
+    let h = g.V.SetterInput.has_tree c.args.self.now.value in
+    let found = c.measure_part.ensures.found (part_sizes c.args.canonical is.form is.held) (has_part h c.args.canonical is.form is.held is.part) in
+    let was : c.measure_part.result ≡ Err c.in_err-own.field-0.0 = c.in_err-own.was in
     absurd (cc)
 
-pub returns-in_err-plain-clause-exact : goal.returns-in_err-plain-clause-exact
-returns-in_err-plain-clause-exact g c kind refused =
-    let was : c.measure.result ≡ Err c.in_err-plain.field-0.0 = c.in_err-plain.was in
-    let same : c.in_err-plain.field-0.0.kind ≡ kind =
-    refused_first (g.V.SetterInput.has_tree c.args.self.now.value) (g.V.SetterInput.refuses c.args.self.now.value) (g.F.Fields.refuses c.args.self.now.rest)
-    c.measure.result c.in_err-plain.field-0.0 kind was c.measure.ensures.found c.measure.ensures.exact refused in
+pub returns-in_err-own-clause-exact : goal.returns-in_err-own-clause-exact
+returns-in_err-own-clause-exact g c kind refused =
+    let was : c.measure_part.result ≡ Err c.in_err-own.field-0.0 = c.in_err-own.was in
+    let same : c.in_err-own.field-0.0.kind ≡ kind =
+    refused_first (g.V.SetterInput.has_tree c.args.self.now.value) (g.V.SetterInput.refuses c.args.self.now.value) (g.F.Fields.refuses c.args.self.now.rest) c.args.canonical
+    c.measure_part.result c.in_err-own.field-0.0 kind was c.measure_part.ensures.found c.measure_part.ensures.exact refused in
+    search rules
+
+pub returns-in_err-rest-clause-returned : goal.returns-in_err-rest-clause-returned
+returns-in_err-rest-clause-returned g c =
+    let h = g.V.SetterInput.has_tree c.args.self.now.value in
+    let own = standing_words h c.args.canonical c.in_ok-own.own c.in_ok-own.ensures.returned in
+    let refused : RefusesRow h (g.V.SetterInput.refuses c.args.self.now.value) (g.F.Fields.refuses c.args.self.now.rest) c.in_err-rest.field-0.0.kind =
+    inr (c.in_ok-own.own.standing, own, c.in_err-rest.ensures.returned) in
     search rules
 
 pub returns-in_err-rest-clause-exact : goal.returns-in_err-rest-clause-exact
 returns-in_err-rest-clause-exact g c kind refused =
-    let was : c.measure.result ≡ Ok c.in_ok-plain.plain = c.in_ok-plain.was in
-    let was_rest : c.measure-2.result ≡ Err c.in_err-rest.field-0.0 = c.in_err-rest.was in
+    let was_rest : c.measure.result ≡ Err c.in_err-rest.field-0.0 = c.in_err-rest.was in
     let others : g.F.Fields.refuses c.args.self.now.rest kind =
     refused_rest (g.V.SetterInput.has_tree c.args.self.now.value) (g.V.SetterInput.refuses c.args.self.now.value) (g.F.Fields.refuses c.args.self.now.rest)
-    c.measure.result c.in_ok-plain.plain kind was c.measure.ensures.exact refused in
-    let same : c.in_err-rest.field-0.0.kind ≡ kind = err_kind c.measure-2.result c.in_err-rest.field-0.0 kind was_rest (c.measure-2.ensures.exact kind others) in
+    c.measure_part.result c.in_ok-own.own kind c.in_ok-own.was c.measure_part.ensures.exact refused in
+    let same : c.in_err-rest.field-0.0.kind ≡ kind = err_kind c.measure.result c.in_err-rest.field-0.0 kind was_rest (c.measure.ensures.exact kind others) in
     search rules
-
-pub front-requires-clause-plain : goal.front-requires-clause-plain
-front-requires-clause-plain g c form held part =
-    let found = c.measure.ensures.found (part_total false form held) (part_words false (g.V.SetterInput.has_tree c.args.self.now.value) form held part) in
-    same_ok c.measure.result c.in_ok-plain.plain (part_total false form held) c.in_ok-plain.was found
 
 pub front-requires-clause-pointers : goal.front-requires-clause-pointers
 front-requires-clause-pointers g c =
@@ -45,16 +53,29 @@ front-requires-clause-words g c =
     let a = c.in_ok-rest.ensures.returned in
     (bounded c.args.canonical g.F.Fields.size a.0 c.in_ok-rest.rest (omega (arith, c.requires)) (g.met.F.Fields.settled c.args.self.now.rest a.0 a.1) a.2).words_few
 
+pub front-requires-clause-standing : goal.front-requires-clause-standing
+front-requires-clause-standing g c =
+    let a = c.in_ok-rest.ensures.returned in
+    (bounded c.args.canonical g.F.Fields.size a.0 c.in_ok-rest.rest (omega (arith, c.requires)) (g.met.F.Fields.settled c.args.self.now.rest a.0 a.1) a.2).standing_few
+
 pub returns-clause-returned : goal.returns-clause-returned
 returns-clause-returned g c =
     let a = c.in_ok-rest.ensures.returned in
-    let p = part_of (g.V.SetterInput.has_tree c.args.self.now.value) c.in_ok-plain.plain (g.met.V.SetterInput.one c.args.self.now.value) c.in_ok-plain.ensures.returned in
-    (tree p.0 p.1 a.0, record { form = p.0; held = p.1; rest = a.0; whole = refl; part = p.2; others = a.1 }, c.front.ensures p.0 p.1 a.0 p.2 a.2)
+    let p = part_of (g.V.SetterInput.has_tree c.args.self.now.value) c.args.canonical c.in_ok-own.own (g.met.V.SetterInput.one c.args.self.now.value) c.in_ok-own.ensures.returned in
+    (tree p.form p.held a.0, record { form = p.form; held = p.held; rest = a.0; whole = refl; part = p.part; others = a.1 }, c.front.ensures p.form p.held a.0 p.part p.standing_is p.formed_is a.2)
+
+pub returns-clause-found : goal.returns-clause-found
+returns-clause-found g c trees is =
+    let k = c.args.canonical in
+    let h = g.V.SetterInput.has_tree c.args.self.now.value in
+    let own = same_parts c.measure_part.result c.in_ok-own.own (part_sizes k is.form is.held) c.in_ok-own.was (c.measure_part.ensures.found (part_sizes k is.form is.held) (has_part h k is.form is.held is.part)) in
+    let rest = same_extents c.measure.result c.in_ok-rest.rest (extent_of k is.rest) c.in_ok-rest.was (c.measure.ensures.found is.rest is.others) in
+    ap (λ (x : Extent). Ok x)
+    (c.front.ensures is.form is.held is.rest is.part (ap (λ (w : PartWords). w.standing) own) (ap (λ (w : PartWords). w.formed) own) rest ∙ sym (ap (λ (t : Trees). extent_of k t) is.whole))
 
 pub returns-clause-exact : goal.returns-clause-exact
 returns-clause-exact g c kind refused =
-    let was : c.measure.result ≡ Ok c.in_ok-plain.plain = c.in_ok-plain.was in
     let others : g.F.Fields.refuses c.args.self.now.rest kind =
     refused_rest (g.V.SetterInput.has_tree c.args.self.now.value) (g.V.SetterInput.refuses c.args.self.now.value) (g.F.Fields.refuses c.args.self.now.rest)
-    c.measure.result c.in_ok-plain.plain kind was c.measure.ensures.exact refused in
-    ok_not_err c.measure-2.result c.in_ok-rest.rest (λ error. error.kind ≡ kind) c.in_ok-rest.was (c.measure-2.ensures.exact kind others)
+    c.measure_part.result c.in_ok-own.own kind c.in_ok-own.was c.measure_part.ensures.exact refused in
+    ok_not_err c.measure.result c.in_ok-rest.rest (λ error. error.kind ≡ kind) c.in_ok-rest.was (c.measure.ensures.exact kind others)

@@ -1,0 +1,55 @@
+-- Objects whose own words are put into a block, and whose pointers are filled in, are laid out there.
+use Rattle.std.proofs.Common.{◌≡◌, ℕ, ◌+◌, ◌*◌, ◌≤◌, List, [], ◌∷◌, ◌++◌, length, take, drop, refl, sym, ◌∙◌, ap, arith, length-take, length-drop}
+use Rattle.capnp_wire.specs.Tree.{Form, struct, pointers, structs, Trees, none, tree, count, own_words, total_words}
+use Rattle.capnp_wire.specs.Layout.{run, row_run, slots, own, woven, body, struct_pointer, HasRoom, AllHaveRoom}
+use Rattle.capnp_wire.specs.Block.{put, put_rows, fill, moved}
+use Rattle.capnp_wire.specs.Rows.{row_slots}
+use Rattle.capnp_wire.proofs.layouts.SizeLemmas.{length-woven, rows_even}
+use Rattle.capnp_wire.proofs.layouts.BlockLemmas.{put_both, length-put, put_none}
+use Rattle.capnp_wire.proofs.layouts.BlockRowLemmas.{moved_run, moved_rows, put_short, put_rows_woven}
+use Rattle.capnp_wire.proofs.layouts.FillLemmas.{fill_is}
+
+-- a struct
+pub struct_filled : (next : ℕ) (words : List ℕ) (held : Trees) (block : List ℕ) → HasRoom (struct words) (count held) → AllHaveRoom held
+    → next + (length words + count held + total_words held) ≤ length block
+    → fill (run (next + length words) (count held)) (next + (length words + count held)) held (put next words block) ≡ put next (body (tree (struct words) held none)) block
+struct_filled next words held block room inner fits =
+    let n : ℕ = count held in
+    let olds : List ℕ = take (count held) (drop (next + length words) block) in
+    let olds_long : length (take (count held) (drop (next + length words) block)) ≡ count held =
+    omega (arith, length-take (count held) (drop (next + length words) block), length-drop (next + length words) block, fits) in
+    ap (λ (l : List ℕ). fill l (next + (length words + n)) held (put next words block)) (sym (moved_run next (length words) n))
+    ∙ ap (λ (l : List ℕ). fill (moved next (run (length words) n)) (next + (length words + n)) held l) (put_short next n words block (omega (arith, fits)))
+    ∙ fill_is next (struct words) held olds block room inner olds_long (omega (arith, fits))
+
+-- a list of pointers
+pub list_filled : (next : ℕ) (held : Trees) (block : List ℕ) → HasRoom pointers (count held) → AllHaveRoom held → next + (count held + total_words held) ≤ length block
+    → fill (run next (count held)) (next + count held) held block ≡ put next (body (tree pointers held none)) block
+list_filled next held block room inner fits =
+    let n : ℕ = count held in
+    let start : next ≡ next + 0 = omega arith in
+    let olds : List ℕ = take (count held) (drop (next + 0) block) in
+    let olds_long : length (take (count held) (drop (next + 0) block)) ≡ count held = omega (arith, length-take (count held) (drop (next + 0) block), length-drop (next + 0) block, fits) in
+    let short : block ≡ put next olds block = sym (put_none next block) ∙ put_short next n [] block (omega (arith, fits)) in
+    ap (λ (k : ℕ). fill (run k n) (next + n) held block) start
+    ∙ ap (λ (l : List ℕ). fill l (next + n) held block) (sym (moved_run next 0 n))
+    ∙ ap (λ (l : List ℕ). fill (moved next (run 0 n)) (next + n) held l) short
+    ∙ fill_is next pointers held olds block room inner olds_long (omega (arith, fits))
+
+-- a list of structs
+pub structs_filled : (next d p : ℕ) (rows : List (List ℕ)) (held : Trees) (block : List ℕ) → HasRoom (structs d p rows) (count held) → AllHaveRoom held
+    → next + (1 + length rows * (d + p) + total_words held) ≤ length block
+    → fill (row_slots (next + 1) d p (length rows)) (next + (1 + length rows * (d + p))) held (put_rows (next + 1) p rows (put next (struct_pointer (length rows) d p ∷ []) block))
+    ≡ put next (body (tree (structs d p rows) held none)) block
+structs_filled next d p rows held block room inner fits =
+    let size : ℕ = length rows * (d + p) in
+    let tag : ℕ = struct_pointer (length rows) d p in
+    let wide = rows_even d rows room.5 in
+    let tagged_long : length (put next (struct_pointer (length rows) d p ∷ []) block) ≡ length block = length-put next (struct_pointer (length rows) d p ∷ []) block (omega (arith, fits)) in
+    let w = put_rows_woven (next + 1) d p rows (put next (struct_pointer (length rows) d p ∷ []) block) wide (omega (arith, tagged_long, fits)) in
+    let woven_long : length (woven p rows w.0) ≡ length rows * (d + p) = length-woven d p rows w.0 wide w.1 in
+    let joined : put_rows (next + 1) p rows (put next (tag ∷ []) block) ≡ put next (tag ∷ woven p rows w.0) block =
+    w.2 ∙ put_both next (tag ∷ []) (woven p rows w.0) block (omega (arith, woven_long, fits)) in
+    ap (λ (l : List ℕ). fill l (next + (1 + size)) held (put_rows (next + 1) p rows (put next (tag ∷ []) block))) (sym (moved_rows next 1 d p rows))
+    ∙ ap (λ (l : List ℕ). fill (moved next (row_run 1 d p rows)) (next + (1 + size)) held l) joined
+    ∙ fill_is next (structs d p rows) held w.0 block room inner (w.1 ∙ sym room.4) (omega (arith, fits))

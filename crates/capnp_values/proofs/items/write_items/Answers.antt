@@ -1,0 +1,39 @@
+-- Each value is written after those before it.
+use Rattle.std.proofs.Common.{◌≡◌, ◌+◌, ℕ, length, arith}
+use Rattle.capnp_wire.proofs.words.WordLemmas.{length-words_of}
+use Rattle.capnp_values.proofs.ItemRowLemmas.{writing_begins, item_room, writing_goes_on, writing_ends}
+use Rattle.capnp_values.proofs.items.write_items.Goals as goal
+
+pub loop-index-init : goal.loop-index-init
+loop-index-init g c = writing_begins g.V.SetterInput.has_tree c.args.canonical c.args.items.now c.args.first c.args.block.now c.requires.room c.requires.free
+
+pub write-copied-requires-clause-value : goal.write-copied-requires-clause-value
+write-copied-requires-clause-value g c =
+    item_room g.V.SetterInput.has_tree c.args.canonical c.args.items.now c.args.first c.loop-index.index c.loop-index.next c.index-items-index.result c.args.block.now c.loop-index.block c.loop-index-test.true
+    c.index-items-index.is c.loop-index.invariant
+
+pub write-copied-requires-clause-free : goal.write-copied-requires-clause-free
+write-copied-requires-clause-free g c = c.loop-index.invariant.free_from
+
+pub write-copied-requires-clause-following : goal.write-copied-requires-clause-following
+write-copied-requires-clause-following g c = omega (arith, c.loop-index.invariant.after, c.loop-index-test.true)
+
+pub put_word-requires : goal.put_word-requires
+put_word-requires g c =
+    let r = item_room g.V.SetterInput.has_tree c.args.canonical c.args.items.now c.args.first c.loop-index.index c.loop-index.next c.index-items-index.result c.args.block.now c.loop-index.block c.loop-index-test.true
+    c.index-items-index.is c.loop-index.invariant in
+    omega (arith, c.loop-index.invariant.after, c.loop-index-test.true, r.fits, c.write-copied.ensures.len, length-words_of c.write-copied.new.block, length-words_of c.loop-index.block)
+
+pub loop-index-preserved : goal.loop-index-preserved
+loop-index-preserved g c =
+    writing_goes_on g.V.SetterInput.has_tree c.args.canonical c.args.items.now c.args.first c.loop-index.index c.loop-index.next c.index-items-index.result c.args.block.now c.loop-index.block
+    c.write-copied.new.block c.put_word.new.block c.write-copied.result c.loop-index-test.true c.index-items-index.is
+    (λ t is. record { mid_long = c.write-copied.ensures.len; new_long = c.put_word.ensures.len; own = c.write-copied.ensures.written t is; put_is = c.put_word.ensures.words })
+    c.loop-index.invariant
+
+pub returns-clause-written : goal.returns-clause-written
+returns-clause-written g c =
+    writing_ends g.V.SetterInput.has_tree c.args.canonical c.args.items.now c.args.first c.loop-index.index c.loop-index.next c.args.block.now c.loop-index.block (omega arith) c.loop-index.invariant
+
+pub returns-clause-len : goal.returns-clause-len
+returns-clause-len g c = c.loop-index.invariant.long

@@ -1,0 +1,60 @@
+-- A struct has the words that are kept of it, a word for each pointer, and those of its row.
+use Rattle.std.proofs.Common.{rules, ◌≡◌, ◌+◌, ◌∙◌, false, Err, IsTrue, Result, length, subst, sym, ap, arith}
+use Rattle.capnp_frame.specs.declared.error.Error.{Error}
+use Rattle.capnp_values.specs.Measured.{Measures}
+use Rattle.capnp_values.specs.Structs.{IsStruct, RefusesStruct}
+use Rattle.capnp_values.specs.declared.measured.TreeWords.{TreeWords}
+use Rattle.capnp_values.proofs.ReachLemmas.{bounded}
+use Rattle.capnp_values.proofs.StructLemmas.{not_fitting, struct_too_large, struct_refused, struct_measured}
+use Rattle.capnp_values.proofs.struct_value.measure_struct.Goals as goal
+
+pub returns-then-not-fits : goal.returns-then-not-fits
+returns-then-not-fits g c =
+    let no_fit : c.fits.result ≡ false = search rules in
+    let no = not_fitting (length c.args.words.now) c.count.result g.F.Fields.size c.fits.result c.fits.ensures no_fit c.count.ensures in
+    struct_too_large c.args.canonical c.args.words.now g.F.Fields.size (g.F.Fields.has_trees c.args.fields.now) (g.F.Fields.refuses c.args.fields.now) c.from_kind.result no c.from_kind.ensures
+
+pub returns-in_err-extent : goal.returns-in_err-extent
+returns-in_err-extent g c =
+    let yes : IsTrue c.fits.result = search rules in
+    let small = c.fits.ensures.0 yes in
+    let hs = g.F.Fields.has_trees c.args.fields.now in
+    let rs = g.F.Fields.refuses c.args.fields.now in
+    let was : c.from_residual.result ≡ Err c.in_err-extent.field-0.0 = search rules in
+    subst (λ (x : Result TreeWords Error). Measures (λ t. IsStruct c.args.words.now g.F.Fields.size hs t) (λ k. RefusesStruct (length c.args.words.now) g.F.Fields.size rs k) c.args.canonical x) (sym was)
+    (struct_refused c.args.canonical c.args.words.now g.F.Fields.size hs rs c.measure.result c.in_err-extent.field-0.0 c.in_err-extent.was c.in_err-extent.ensures.returned c.measure.ensures.found c.measure.ensures.exact
+    small.0 (omega (arith, small.1, c.count.ensures)))
+
+pub overflow_add-standing-2 : goal.overflow_add-standing-2
+overflow_add-standing-2 g c =
+    let yes : IsTrue c.fits.result = search rules in
+    let small = c.fits.ensures.0 yes in
+    let a = c.in_ok-extent.ensures.returned in
+    let b = bounded c.args.canonical g.F.Fields.size a.0 c.in_ok-extent.extent (omega (arith, small.1, c.count.ensures)) (g.met.F.Fields.settled c.args.fields.now a.0 a.1) a.2 in
+    record { fits = omega (arith, b.standing_few, small.0, c.count-2.ensures) }
+
+pub overflow_add-formed : goal.overflow_add-formed
+overflow_add-formed g c =
+    let yes : IsTrue c.fits.result = search rules in
+    let small = c.fits.ensures.0 yes in
+    let a = c.in_ok-extent.ensures.returned in
+    let b = bounded c.args.canonical g.F.Fields.size a.0 c.in_ok-extent.extent (omega (arith, small.1, c.count.ensures)) (g.met.F.Fields.settled c.args.fields.now a.0 a.1) a.2 in
+    record { fits = omega (arith, b.pointers_few, small.0, c.kept_data-data.ensures.bound) }
+
+pub overflow_add-formed-2 : goal.overflow_add-formed-2
+overflow_add-formed-2 g c =
+    let yes : IsTrue c.fits.result = search rules in
+    let small = c.fits.ensures.0 yes in
+    let a = c.in_ok-extent.ensures.returned in
+    let b = bounded c.args.canonical g.F.Fields.size a.0 c.in_ok-extent.extent (omega (arith, small.1, c.count.ensures)) (g.met.F.Fields.settled c.args.fields.now a.0 a.1) a.2 in
+    record { fits = omega (arith, b.pointers_few, b.words_few, small.0, c.kept_data-data.ensures.bound) }
+
+pub returns : goal.returns
+returns g c =
+    let yes : IsTrue c.fits.result = search rules in
+    let small = c.fits.ensures.0 yes in
+    let size = g.F.Fields.size in
+    let extent = c.in_ok-extent.extent in
+    struct_measured c.args.canonical c.args.words.now g.F.Fields.size (g.F.Fields.has_trees c.args.fields.now) (g.F.Fields.refuses c.args.fields.now) c.measure.result c.in_ok-extent.extent _ _
+    (g.met.F.Fields.settled c.args.fields.now) c.in_ok-extent.was c.in_ok-extent.ensures.returned c.measure.ensures.found c.measure.ensures.exact small.0 (omega (arith, small.1, c.count.ensures)) c.words_fit.ensures
+    (omega (arith, c.count-2.ensures, small.1, c.count.ensures)) (omega (arith, c.kept_data-data.ensures.value))

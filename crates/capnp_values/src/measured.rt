@@ -1,0 +1,58 @@
+//! Words that are counted of trees, and how many a value may have.
+ghost use Rattle.std.specs.Prelude.{◌≡◌, ◌-◌, ◌≤◌, ◌<◌, ◌^◌, min, false, MatchResult};
+ghost use Rattle.capnp_frame.specs.declared.error.ErrorKind.TheVariants.{AllocationTooLarge};
+ghost use Rattle.capnp_wire.specs.Values.{too_large};
+
+use capnp_frame::{Error, ErrorKind, Result};
+use capnp_wire::traits::PartWords;
+
+/// The words of some trees.
+#[derive(Clone, Copy)]
+pub struct TreeWords {
+    /// As they stand.
+    pub standing: u64,
+
+    /// In the form that is made.
+    pub formed: u64,
+}
+
+/// A number of words that a block may have.
+pub(crate) fn fitting(words: u64, canonical: bool) -> Result<u32>
+    ensures { MatchResult result (λ number. (number ≡ words) × (number < 2 ^ 29))
+        (λ error. (2 ^ 29 ≤ words) × (error.kind ≡ too_large canonical words)) }
+{
+    if words < 1 << 29 {
+        return Ok(words as u32);
+    }
+    if canonical {
+        return Err(Error::from_kind(ErrorKind::CanonicalTooLarge));
+    }
+    Err(too_many(words))
+}
+
+/// The words that a part of a value may have: as it stands fewer than 2^29.
+pub(crate) fn fitting_part(words: TreeWords) -> Result<PartWords>
+    requires { words.formed ≤ words.standing }
+    ensures { MatchResult result
+        (λ part. (part.standing ≡ words.standing) × (part.formed ≡ words.formed)
+        × (part.standing < 2 ^ 29))
+        (λ error. (2 ^ 29 ≤ words.standing) × (error.kind ≡ too_large false words.standing)) }
+{
+    let standing = fitting(words.standing, false)?;
+    Ok(PartWords {
+        standing,
+        formed: words.formed as u32,
+    })
+}
+
+/// A given number of words or of elements are too many for a pointer.
+pub(crate) fn too_many(number: u64) -> Error
+    ensures { result.kind ≡ AllocationTooLarge (min number (2 ^ 32 - 1)) }
+{
+    let told = if number < u32::MAX as u64 {
+        number as u32
+    } else {
+        u32::MAX
+    };
+    Error::from_kind(ErrorKind::AllocationTooLarge(told))
+}

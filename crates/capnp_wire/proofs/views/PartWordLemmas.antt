@@ -1,0 +1,120 @@
+-- Values that are measured as parts of others, and null ones.
+use Rattle.std.proofs.Common.{◌≡◌, ◌↔◌, ℕ, ◌<◌, ◌≤◌, ◌^◌, Bool, true, false, Result, Ok, Option, Some, None, MatchOption, refl, sym, ◌∙◌, ap, subst, arith}
+use Rattle.std.specs.Prelude.{IsTrue, [], ◌∷◌, List}
+use Rattle.std.specs.Result.{result_unwrap_or}
+use Rattle.capnp_frame.specs.declared.error.Error.{Error}
+use Rattle.capnp_wire.specs.Tree.{null, Trees, none, tree, total_words, is_null}
+use Rattle.capnp_wire.specs.Object.{Shape, ShapeStands, a_struct, some_numbers, some_pointers, some_structs, PointsTo, is_null as null_there, is_object, nothing}
+use Rattle.capnp_wire.specs.Reached.{At, nowhere as nothing_more, at}
+use Rattle.capnp_wire.specs.Layout.{formed, AllHaveRoom}
+use Rattle.capnp_wire.specs.Views.{Pointer, Denotes, nowhere, at_place}
+use Rattle.capnp_wire.specs.Values.{HasWords, HasPart, LeadsToTree, TreeAt, starts_with_null}
+use Rattle.capnp_wire.specs.declared.layout.place.Place.{Place}
+use Rattle.capnp_wire.specs.declared.traits.PartWords.{PartWords}
+use Rattle.capnp_wire.proofs.objects.ObjectLemmas.{one_object}
+use Rattle.capnp_wire.proofs.trees.TrimLemmas.{total-trim}
+
+-- a part by its words as it stands, and in the form that is made
+pub formed_less : (c : Bool) (trees : Trees) → AllHaveRoom trees → total_words (formed c trees) ≤ total_words trees
+formed_less true trees rooms = total-trim trees rooms
+formed_less false trees rooms = omega arith
+
+pub standing_words : (h : Trees → Type 0) (c : Bool) (words : PartWords) → HasPart h c words → HasWords h false words.standing
+standing_words h c words p = record { trees = p.trees; tree_is = p.tree_is; rooms = p.rooms; words_are = p.standing_is; few = p.few }
+
+pub formed_words : (h : Trees → Type 0) (c : Bool) (words : PartWords) → HasPart h c words → HasWords h c words.formed
+formed_words h c words p = record {
+  trees = p.trees;
+  tree_is = p.tree_is;
+  rooms = p.rooms;
+  words_are = p.formed_is;
+  few = omega (arith, p.formed_is, p.standing_is, p.few, formed_less c p.trees p.rooms);
+}
+
+pub part_words : (h : Trees → Type 0) (c : Bool) (words : ℕ) → (w : HasWords h false words) → HasPart h c (record { standing = words; formed = total_words (formed c w.trees) })
+part_words h c words w = record { trees = w.trees; tree_is = w.tree_is; rooms = w.rooms; standing_is = w.words_are; formed_is = refl; few = w.few }
+
+pub same_part : (a b : PartWords) → a.standing ≡ b.standing → a.formed ≡ b.formed → a ≡ b
+same_part a b s f =
+    let p : ℕ → ℕ → PartWords = λ x y. record { standing = x; formed = y } in
+    ap (λ (x : ℕ). p x a.formed) s ∙ ap (λ (y : ℕ). p b.standing y) f
+
+same_ok : (r : Result ℕ Error) (x y : ℕ) → r ≡ Ok x → r ≡ Ok y → x ≡ y
+same_ok r x y a b = cc
+
+unwrapped : (r : Result ℕ Error) (other x y : ℕ) → r ≡ Ok x → y ≡ result_unwrap_or r other → y ≡ x
+unwrapped r other x y a b = b ∙ ap (λ (e : Result ℕ Error). result_unwrap_or e other) a
+
+-- what is returned of it: where no canonical form is made, its words once; else both
+pub standing_found : (h : Trees → Type 0) (c : Bool) (returned : Result ℕ Error) (standing : ℕ) (words : PartWords) → returned ≡ Ok standing → ((n : ℕ) → HasWords h false n → returned ≡ Ok n)
+    → c ≡ false → HasPart h c words → record { standing = standing; formed = standing } ≡ words
+standing_found h c returned standing words was found plain p =
+    let same : standing ≡ words.standing = same_ok returned standing words.standing was (found words.standing (standing_words h c words p)) in
+    let formed_is : words.formed ≡ words.standing = p.formed_is ∙ ap (λ (b : Bool). total_words (formed b p.trees)) plain ∙ sym p.standing_is in
+    same_part (record { standing = standing; formed = standing }) words same (same ∙ sym formed_is)
+
+pub both_returned : (h : Trees → Type 0) (c : Bool) (standing formed_words_are : ℕ) (other : Result ℕ Error) → c ≡ true → HasWords h false standing → ((n : ℕ) → HasWords h true n → other ≡ Ok n)
+    → formed_words_are ≡ result_unwrap_or other 0 → HasPart h c (record { standing = standing; formed = formed_words_are })
+both_returned h c standing formed_words_are other canonical w found is =
+    let n : ℕ = total_words (formed true w.trees) in
+    let there = found n (formed_words h true (record { standing = standing; formed = n }) (part_words h true standing w)) in
+    let formed_is : formed_words_are ≡ n = unwrapped other 0 n formed_words_are there is in
+    record {
+      trees = w.trees;
+      tree_is = w.tree_is;
+      rooms = w.rooms;
+      standing_is = w.words_are;
+      formed_is = formed_is ∙ ap (λ (b : Bool). total_words (formed b w.trees)) (sym canonical);
+      few = w.few;
+    }
+
+pub both_found : (h : Trees → Type 0) (c : Bool) (returned other : Result ℕ Error) (standing formed_words_are : ℕ) (words : PartWords) → returned ≡ Ok standing
+    → ((n : ℕ) → HasWords h false n → returned ≡ Ok n) → c ≡ true → ((n : ℕ) → HasWords h true n → other ≡ Ok n) → formed_words_are ≡ result_unwrap_or other 0 → HasPart h c words
+    → record { standing = standing; formed = formed_words_are } ≡ words
+both_found h c returned other standing formed_words_are words was found canonical found_formed is p =
+    let same : standing ≡ words.standing = same_ok returned standing words.standing was (found words.standing (standing_words h c words p)) in
+    let there = found_formed words.formed (subst (λ (b : Bool). HasWords h b words.formed) canonical (formed_words h c words p)) in
+    same_part (record { standing = standing; formed = formed_words_are }) words same (unwrapped other 0 words.formed formed_words_are there is)
+
+-- where a pointer stands nowhere, its tree is null
+pub null_there_tree : (p : Pointer) (trees : Trees) → p.place ≡ None → LeadsToTree p trees → trees ≡ tree null none none
+null_there_tree p trees e t =
+    subst (λ (o : Option Place). MatchOption o (trees ≡ tree null none none) (λ there. TreeAt p.message there p.nesting p.limit trees)) e t
+
+-- what stands somewhere is null where its pointer is
+some_form : (words : List ℕ) (start : Place) (tag : ℕ) (shape : Shape) → ShapeStands words start tag shape → is_null shape.form ≡ false
+some_form words start tag shape (a_struct _ _) = refl
+some_form words start tag shape (some_numbers _ _ _) = refl
+some_form words start tag shape (some_pointers _ _ _) = refl
+some_form words start tag shape (some_structs _ _ _ _ _ _) = refl
+
+null_form : (m : List (List ℕ)) (place : Place) (shape : Shape) → PointsTo m place shape → is_null shape.form ≡ true → PointsTo m place nothing
+null_form m place shape (null_there e) is = null_there e
+null_form m place shape (is_object {shape = s} lands e begins stands) is = let some = some_form _ _ _ s stands in absurd (cc)
+
+null_stands : (m : List (List ℕ)) (place : Place) (trees : Trees) (traversed : ℕ) → At m (place ∷ []) trees traversed → starts_with_null trees ≡ true → PointsTo m place nothing
+null_stands m place trees traversed (at {shape = s} object inner nothing_more) is = null_form m place s object is
+
+null_starts : (m : List (List ℕ)) (place : Place) (trees : Trees) (traversed : ℕ) → At m (place ∷ []) trees traversed → PointsTo m place nothing → starts_with_null trees ≡ true
+null_starts m place trees traversed (at {shape = s} object inner nothing_more) there = ap (λ (x : Shape). is_null x.form) (one_object m place s nothing object there)
+
+same_bool : (a b : Bool) → (a ≡ true → b ≡ true) → (b ≡ true → a ≡ true) → a ≡ b
+same_bool true true f g = refl
+same_bool true false f g = sym (f refl)
+same_bool false true f g = g refl
+same_bool false false f g = refl
+
+null_at : (o : Option Place) (p : Pointer) (trees : Trees) (result : Bool) → p.place ≡ o → (IsTrue result ↔ Denotes p nothing)
+    → MatchOption o (trees ≡ tree null none none) (λ place. TreeAt p.message place p.nesting p.limit trees) → result ≡ starts_with_null trees
+null_at None p trees result e told is = told.1 (nowhere e) ∙ sym (ap starts_with_null is)
+null_at (Some place) p trees result e told is =
+    same_bool result (starts_with_null trees)
+    (λ yes. elim (told.0 yes) [
+      | nowhere empty ↦ absurd (cc)
+      | at_place {place = other} g object deep ↦
+          (let same : other ≡ place = cc in null_starts p.message place trees is.traversed is.stand (subst (λ (x : Place). PointsTo p.message x nothing) same object))
+    ])
+    (λ null_is. told.1 (at_place e (null_stands p.message place trees is.traversed is.stand null_is) (λ not. absurd (cc))))
+
+pub null_told : (p : Pointer) (trees : Trees) (result : Bool) → (IsTrue result ↔ Denotes p nothing) → LeadsToTree p trees → result ≡ starts_with_null trees
+null_told p trees result told is = null_at p.place p trees result refl told is
