@@ -23,11 +23,11 @@ const LONG: usize = 32768;
 /// is unread.
 ///
 /// It returns and consumes what `try_read_segments` does, and fails as that does, but no memory is taken
-/// for the segments. `memory` is that of lengths before: it grows where it is too small.
+/// for the segments. The lengths stand in the memory of `spare`, which grows where it is too small.
 pub fn try_skip_segments<R: BufRead>(
     source: &mut R,
     options: ReaderOptions,
-    memory: Vec<(usize, usize)>,
+    spare: SegmentLengthsBuilder,
 ) -> Result<Option<SegmentLengthsBuilder>>
     ensures { SkipsMessage (ReadsStream R.Read source.old source.new
         (framed_rules Padding.Zero R.gives R.refuses) options.traversal_limit_in_words) result }
@@ -36,7 +36,7 @@ pub fn try_skip_segments<R: BufRead>(
         source,
         options.traversal_limit_in_words,
         Padding::Zero,
-        memory,
+        spare.to_segment_indices(),
     )
 }
 
@@ -44,7 +44,7 @@ pub fn try_skip_segments<R: BufRead>(
 pub fn try_skip_segments_lenient<R: BufRead>(
     source: &mut R,
     options: ReaderOptions,
-    memory: Vec<(usize, usize)>,
+    spare: SegmentLengthsBuilder,
 ) -> Result<Option<SegmentLengthsBuilder>>
     ensures { SkipsMessage (ReadsStream R.Read source.old source.new
         (framed_rules Padding.Any R.gives R.refuses) options.traversal_limit_in_words) result }
@@ -53,7 +53,7 @@ pub fn try_skip_segments_lenient<R: BufRead>(
         source,
         options.traversal_limit_in_words,
         Padding::Any,
-        memory,
+        spare.to_segment_indices(),
     )
 }
 
