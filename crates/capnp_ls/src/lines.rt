@@ -1,6 +1,6 @@
 //! The lines of framed messages, whose segments are skipped.
 ghost use Rattle.std.specs.Prelude.{◌≡◌, ◌<◌, ◌⊎◌, ◌^◌, length, IfSome, OnOk, IfErr};
-ghost use Rattle.capnp.specs.Passed.{ErrorKind, Padding, IsReaderKind, IfKnown, Advances, Fails, Adds, Grows, SkipsMessage, ReadsStream, default_limit};
+ghost use Rattle.capnp.specs.Passed.{ErrorKind, IsReaderKind, IfKnown, Advances, Fails, Adds, Grows, SkipsMessage, ReadsStream, default_limit};
 ghost use Rattle.capnp.specs.declared.streams.Format.{Format};
 ghost use Rattle.capnp.specs.Streams.{refuses_of, rules_of};
 ghost use Rattle.capnp.specs.Runs.{IsRunFault, HasRun, WritesEach};

@@ -1,5 +1,5 @@
 -- The length is that of its range.
-use Rattle.std.proofs.Common.{rules, arith, refl, sym, ap, ◌∙◌, ◌≡◌, ◌*◌, ◌<◌, ◌≤◌, length, map, replicate}
+use Rattle.std.proofs.Common.{rules, arith, refl, sym, ap, ℕ, ◌∙◌, ◌≡◌, ◌*◌, ◌<◌, ◌≤◌, length, map, replicate}
 use Rattle.std.proofs.lemmas.List.{length-map, length-replicate}
 use Rattle.std.proofs.lemmas.Option.{slice_get-map, slice_get_past, slice_get_read}
 use Rattle.std.specs.Option.{option_map}
@@ -14,7 +14,7 @@ zeros : (c : In_ok-start) → Shows (replicate (8 * sum (map range_len c.args.pa
     (cut (map range_len c.args.parts.now) (replicate (8 * sum (map range_len c.args.parts.now)) 0)) c.args.id c.in_ok-start.field-0.now
 zeros c =
     let size = 8 * sum (map range_len c.args.parts.now) in
-    let long : 8 * sum (map range_len c.args.parts.now) ≤ length (replicate size 0) = omega (arith, length-replicate size 0) in
+    let long : 8 * sum (map range_len c.args.parts.now) ≤ length (replicate size 0) = omega (arith, length-replicate {A = ℕ} size 0) in
     shows c.args.parts.now (replicate size 0) _ c.args.id _ c.requires long refl (search rules) c.in_ok-start.ensures.lookup.1
 
 pub returns-in_err-start : goal.returns-in_err-start
