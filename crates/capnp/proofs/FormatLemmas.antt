@@ -9,6 +9,7 @@ use Rattle.capnp_frame.specs.Limits.{IsWithin}
 use Rattle.capnp_frame.specs.Source.{Giving, Refusing, Splits, RunsShort, IfKnown, Advances, Fails}
 use Rattle.capnp_frame.specs.Refusals.{RefusesStream, TakesMemory, IsReaderKind}
 use Rattle.capnp_frame.specs.Requests.{MessageStands}
+use Rattle.capnp_frame.specs.Skipping.{SkipsMessage}
 use Rattle.capnp_frame.specs.Streams.{StreamRules, framed_rules, ReadsStream}
 use Rattle.capnp_frame.proofs.SourceLemmas.{IfKnown-weaker}
 use Rattle.capnp_frame.proofs.RefusalLemmas.{RefusesStream-map}
@@ -108,6 +109,13 @@ module _ {S : Type 0} (rule : Padding) (source : Ghosts S) (plain : IsPlainSourc
     failed = reads.failed;
     advances = reads.advances;
   }
+
+  pub plain_skips : (old new : S) (r : Result (Option (List ℕ)) Error)
+      → SkipsMessage (ReadsStream source old new (framed_rules rule source.gives source.refuses) limit) r
+      → SkipsMessage (ReadsStream source old new (rules_of rule Framed) limit) r
+  plain_skips old new (Ok (Some ns)) (message, same, reads) = (message, same, plain_reads old new (Ok (Some message)) reads)
+  plain_skips old new (Ok None) reads = plain_reads old new (Ok None) reads
+  plain_skips old new (Err error) reads = plain_reads old new (Err error) reads
 
 -- what holds of the form that may return None, carried over
 pub or_fails_map : {P Q : Result (Option (List (List ℕ))) Error → Type 0} (r : Result (Option (List (List ℕ))) Error)

@@ -1,6 +1,7 @@
 -- Words of the crates below, for callers that stand on this crate alone.
 pub use Rattle.capnp_frame.specs.declared.error.Error.{Error}
 pub use Rattle.capnp_frame.specs.declared.error.ErrorKind.{ErrorKind}
+pub use Rattle.capnp_frame.specs.declared.error.ErrorKind.TheVariants.{DeviceFailed, OutOfMemory}
 pub use Rattle.capnp_frame.specs.declared.serialize.segment_table.Padding.{Padding}
 pub use Rattle.capnp_frame.specs.declared.serialize.segment_table.Padding.TheVariants.{Any, Zero}
 pub use Rattle.capnp_frame.specs.Limits.{IsWithin, default_limit}
@@ -10,6 +11,8 @@ pub use Rattle.capnp_frame.specs.Refusals.{IsReaderKind}
 pub use Rattle.capnp_frame.specs.SegmentTable.{FitsField}
 pub use Rattle.capnp_frame.specs.Source.{Giving, Refusing, Splits, RunsShort, IsSource, IsPreorder, IfKnown, IsFront, IsRefused, Advances, Fails, Fills}
 pub use Rattle.capnp_frame.specs.SplittingLaws.{splitting, always}
+pub use Rattle.capnp_frame.specs.Skipping.{SkipsMessage}
+pub use Rattle.capnp_frame.specs.Streams.{ReadsStream}
 pub use Rattle.capnp_frame.specs.Sink.{Appending, AppendsSame, Leaving, LeavesNothing, LeavesFront, Declining, DeclinesSome, Adds, AppendsAll, Grows}
 pub use Rattle.capnp_frame.specs.Writing.{IsWritable, chunks}
 pub use Rattle.capnp_wire.specs.Object.{message_of}

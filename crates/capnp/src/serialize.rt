@@ -5,6 +5,7 @@ mod canonical;
 mod flat;
 mod lenient;
 mod reading;
+mod skipping;
 mod stream;
 mod writing;
 
@@ -21,6 +22,7 @@ pub use lenient::{
     read_message_lenient, read_message_no_alloc_lenient, try_read_message_lenient,
     try_read_message_no_alloc_lenient,
 };
+pub use skipping::{try_skip_message, try_skip_message_lenient};
 pub use stream::{
     read_message, read_message_no_alloc, try_read_message, try_read_message_no_alloc,
 };

@@ -1,5 +1,5 @@
 -- Calls that ask a source, one after another.
-use Rattle.std.proofs.Common.{◌≡◌, ℕ, List, Option, Result, Ok, Err, IfErr, sym, subst, arith}
+use Rattle.std.proofs.Common.{◌≡◌, ℕ, List, Option, Result, Ok, Err, IfErr, refl, sym, subst, arith}
 use Rattle.std.specs.Result.{IsErrAnd}
 use Rattle.capnp_frame.specs.declared.error.Error.{Error}
 use Rattle.capnp_frame.specs.declared.error.ErrorKind.{ErrorKind}
@@ -34,3 +34,10 @@ Asked-err {failures = failures} {a = a} {b = b} {c = c} {result = result} join i
           (second.failed device));
       advances = Advances-join a b c join first second.advances;
     }
+
+-- a call after one that was returned
+pub Asked-after : {S X : Type 0} {unread : S → Option (List ℕ)} {failures : S → ℕ} {same : S → S → Type 0} {a b c : S}
+    (result : Result X Error) → (same a b → same b c → same a c) → Advances unread failures same a b
+    → Asked unread failures same b c result → Asked unread failures same a c result
+Asked-after {a = a} {b = b} {c = c} (Ok returned) join first second = record { failed = tt; advances = Advances-join a b c join first second.advances }
+Asked-after (Err error) join first second = Asked-err join refl first second

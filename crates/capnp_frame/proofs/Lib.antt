@@ -25,4 +25,5 @@ pub mod TableReading
 pub mod AgreementLemmas
 pub mod ResultLemmas
 pub mod PartLemmas
+pub mod SkippingLemmas
 pub mod SinkLemmas

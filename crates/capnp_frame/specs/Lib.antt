@@ -21,5 +21,6 @@ pub mod FlatReaders
 pub mod KeptTables
 pub mod Asking
 pub mod Streams
+pub mod Skipping
 pub mod Steps
 pub mod Writers

@@ -11,6 +11,7 @@ mod provided_stream;
 mod segment_lengths;
 mod segment_table;
 mod segment_table_info;
+mod skipping;
 mod stream;
 mod text;
 mod writing;
@@ -22,6 +23,7 @@ pub use provided_stream::{try_read_segments_into, try_read_segments_into_lenient
 pub use segment_lengths::SegmentLengthsBuilder;
 pub use segment_table::{Padding, SEGMENTS_COUNT_LIMIT};
 pub use segment_table_info::{NoAllocSegmentTableInfo, describes};
+pub use skipping::{try_skip_segments, try_skip_segments_lenient};
 pub use stream::{
     try_read_segments, try_read_segments_lenient, try_read_segments_reusing,
     try_read_segments_reusing_lenient,

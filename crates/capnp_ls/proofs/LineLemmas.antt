@@ -1,14 +1,14 @@
 -- The line of a message, segment by segment.
 use Rattle.std.proofs.Common.{◌≡◌, ℕ, ◌+◌, ◌≤◌, ◌<◌, Some, None, List, [], ◌∷◌, ◌++◌, length, take, get_or, map, inl, inr, refl, sym, ap, ◌∙◌, arith, append_assoc}
-use Rattle.std.proofs.lemmas.List.{take_all, append-nil}
+use Rattle.std.proofs.lemmas.List.{take_all, take_more, append-nil, length-map}
 use Rattle.std.proofs.lemmas.List.Concat.{flat_map-append}
 use Rattle.std.proofs.lemmas.List.Sums.{sum_by-take-le, sum-map}
-use Rattle.std.proofs.lemmas.Option.{slice_get_within, slice_get_cases, none-some}
-use Rattle.std.specs.Prelude.{slice_get, decimal}
+use Rattle.std.proofs.lemmas.Option.{slice_get_within, slice_get_cases, get_or_from_slice_get, none-some}
+use Rattle.std.specs.Prelude.{slice_get, sum, decimal}
 use Rattle.std.specs.List.{flat_map}
 use Rattle.capnp.specs.Passed.{word_count, lengths, size_in_words}
 use Rattle.capnp.proofs.Passed.{lengths-next, size-next}
-use Rattle.capnp_ls.specs.Output.{spaced, line}
+use Rattle.capnp_ls.specs.Output.{spaced, line, line_of}
 
 -- the first segments are listed: their words, each after a space, and the words of all
 pub record IsListed (segments : List (List ℕ)) (count : ℕ) (text : List ℕ) (total : ℕ) : Type 0 where
@@ -67,6 +67,48 @@ line_parts index segments first second third fourth last listed a b c d e f =
     ∙ ap (λ l. l ++ 10 ∷ []) (d ∙ ap (λ l. third ++ l) e
     ∙ ap (λ l. l ++ flat_map spaced (lengths segments))
     (c ∙ ap (λ l. l ++ spaced (size_in_words segments)) (b ∙ ap (λ l. l ++ spaced (length segments)) a)))
+    ∙ simp append_assoc
+
+-- The line of these lengths.
+
+-- the first lengths are listed, each after a space
+pub record ListsLengths (ns : List ℕ) (count : ℕ) (text : List ℕ) : Type 0 where
+  pub within : count ≤ length ns
+  pub spelled : text ≡ flat_map spaced (take count ns)
+
+pub ListsLengths-next : (ns : List ℕ) (count n : ℕ) (text more : List ℕ) → ListsLengths ns count text → Some n ≡ slice_get ns count
+    → more ≡ text ++ spaced n → ListsLengths ns (count + 1) more
+ListsLengths-next ns count n text more listed here longer =
+    let within : count < length ns = slice_get_within ns count n (sym here) in
+    let next : take (count + 1) ns ≡ take count ns ++ n ∷ [] =
+    take_more ns count n within ∙ ap (λ k. take count ns ++ k ∷ []) (get_or_from_slice_get ns count n n (sym here)) in
+    record {
+      within = omega arith;
+      spelled =
+          longer
+          ∙ ap (λ l. l ++ spaced n) listed.spelled
+          ∙ ap (λ l. flat_map spaced (take count ns) ++ l) (sym (append-nil (spaced n)))
+          ∙ sym (flat_map-append spaced (take count ns) (n ∷ []))
+          ∙ ap (flat_map spaced) (sym next);
+    }
+
+pub ListsLengths-whole : (ns : List ℕ) (count : ℕ) (text : List ℕ) → ListsLengths ns count text → None ≡ slice_get ns count → text ≡ flat_map spaced ns
+ListsLengths-whole ns count text listed none = listed.spelled ∙ ap (flat_map spaced) (take_all count ns (past_end ns count none))
+
+-- the line of a message is that of its lengths
+pub line_told : (index : ℕ) (message : List (List ℕ)) (ns : List ℕ) → lengths message ≡ ns → line_of index ns ≡ line index message
+line_told index message ns same =
+    ap (line_of index) (sym same)
+    ∙ ap (λ k. decimal index ++ spaced k ++ spaced (size_in_words message) ++ flat_map spaced (lengths message) ++ 10 ∷ []) (length-map message word_count)
+
+-- the parts of that line
+pub lengths_parts : (index : ℕ) (ns first second third fourth last listed : List ℕ)
+    → first ≡ [] ++ decimal index → second ≡ first ++ spaced (length ns) → third ≡ second ++ spaced (sum ns)
+    → fourth ≡ third ++ listed → listed ≡ flat_map spaced ns → last ≡ fourth ++ 10 ∷ [] → last ≡ line_of index ns
+lengths_parts index ns first second third fourth last listed a b c d e f =
+    f
+    ∙ ap (λ l. l ++ 10 ∷ []) (d ∙ ap (λ l. third ++ l) e
+    ∙ ap (λ l. l ++ flat_map spaced ns) (c ∙ ap (λ l. l ++ spaced (sum ns)) (b ∙ ap (λ l. l ++ spaced (length ns)) a)))
     ∙ simp append_assoc
 
 -- a list of two elements

@@ -1,7 +1,12 @@
 -- A message that a reader accepts has a line.
-use Rattle.std.proofs.Common.{ℕ, ◌^◌, ◌<◌, None, List, length, arith}
+use Rattle.std.proofs.Common.{◌≡◌, ◌⊎◌, inl, inr, ℕ, ◌^◌, ◌<◌, Option, None, List, length, ap, subst, arith}
 use Rattle.std.proofs.lemmas.List.{length-map}
-use Rattle.capnp.specs.Passed.{IsWithin, lengths, word_count, size_in_words}
+use Rattle.capnp.specs.Passed.{Appending, Declining, Adds, ErrorKind, DeviceFailed, OutOfMemory, Padding, IfKnown, IsWithin, lengths, word_count, size_in_words}
+use Rattle.capnp.specs.declared.streams.Format.TheVariants.{Framed}
+use Rattle.capnp.specs.Runs.{IsWritingFault, BreaksOffOr}
+use Rattle.capnp_ls.specs.declared.command.Command.TheVariants.{Listing}
+use Rattle.capnp_ls.specs.Output.{line, line_of, DeclinesPrinted}
+use Rattle.capnp_ls.proofs.LineLemmas.{line_told}
 use Rattle.capnp.proofs.Passed.{sum_below}
 
 pub small_message : (segments : List (List ℕ)) → IsWithin segments None → (length segments < 2 ^ 32) × (size_in_words segments < 2 ^ 64)
@@ -9,3 +14,26 @@ small_message segments within =
     let few = within.few in
     let size = sum_below (lengths segments) within.each in
     (omega (arith, length-map segments word_count), omega arith)
+
+pub few_lengths : (message : List (List ℕ)) (ns : List ℕ) (limit : Option ℕ) → lengths message ≡ ns → IsWithin message limit → length ns < 2 ^ 32
+few_lengths message ns limit same within = let few = within.few in omega (arith, few, ap length same)
+
+-- What is printed of a message of these lengths, and why it isn't.
+
+pub line_written : (appends : Appending) (index : ℕ) (message : List (List ℕ)) (ns : List ℕ) (a b : Option (List ℕ)) → lengths message ≡ ns
+    → IfKnown a b (Adds (appends (line_of index ns))) → IfKnown a b (Adds (appends (line index message)))
+line_written appends index message ns a b same written = subst (λ l. IfKnown a b (Adds (appends l))) (line_told index message ns same) written
+
+pub line_refused : (refuses : Declining) (padding : Padding) (index : ℕ) (message : List (List ℕ)) (ns : List ℕ) (kind : ErrorKind)
+    → lengths message ≡ ns → (kind ≡ DeviceFailed) ⊎ (kind ≡ OutOfMemory) ⊎ refuses (line_of index ns) kind
+    → IsWritingFault (DeclinesPrinted (Listing Framed padding) refuses) index message kind
+line_refused refuses padding index message ns kind same (inl device) = inl device
+line_refused refuses padding index message ns kind same (inr (inl memory)) = inr (inl memory)
+line_refused refuses padding index message ns kind same (inr (inr refused)) = inr (inr (inr (subst (λ l. refuses l kind) (line_told index message ns same) refused)))
+
+pub line_untouched : (refuses : Declining) (padding : Padding) (index : ℕ) (message : List (List ℕ)) (ns : List ℕ) (kind : ErrorKind) (Same : Type 0)
+    → lengths message ≡ ns → (kind ≡ DeviceFailed) ⊎ refuses (line_of index ns) kind ⊎ Same
+    → BreaksOffOr (DeclinesPrinted (Listing Framed padding) refuses) index message Same kind
+line_untouched refuses padding index message ns kind Same same (inl device) = inl device
+line_untouched refuses padding index message ns kind Same same (inr (inl refused)) = inr (inl (subst (λ l. refuses l kind) (line_told index message ns same) refused))
+line_untouched refuses padding index message ns kind Same same (inr (inr kept)) = inr (inr kept)

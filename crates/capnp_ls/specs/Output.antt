@@ -1,5 +1,5 @@
 -- What the program prints of messages.
-use Rattle.std.specs.Prelude.{ℕ, List, [], ◌∷◌, ◌++◌, length, decimal}
+use Rattle.std.specs.Prelude.{ℕ, List, [], ◌∷◌, ◌++◌, length, sum, decimal}
 use Rattle.std.specs.List.{flat_map}
 use Rattle.capnp.specs.Passed.{Appending, Declining, lengths, size_in_words, default_root, LacksForm}
 use Rattle.capnp.specs.Canonical.{AppendsForm, BreaksForm}
@@ -16,6 +16,10 @@ spaced n = 32 ∷ decimal n
 -- space (32) parts them, and a newline (10) ends the line.
 abbrev pub line : ℕ → List (List ℕ) → List ℕ
 line index segments = decimal index ++ spaced (length segments) ++ spaced (size_in_words segments) ++ flat_map spaced (lengths segments) ++ 10 ∷ []
+
+-- the line of a message of these lengths, in words
+abbrev pub line_of : ℕ → List ℕ → List ℕ
+line_of index ns = decimal index ++ spaced (length ns) ++ spaced (sum ns) ++ flat_map spaced ns ++ 10 ∷ []
 
 -- What a sink adds for the message of this index: its line; its chunks, packed or as they are; or the chunks of its canonical form.
 abbrev pub Prints : Command → Appending → Writing

@@ -43,8 +43,8 @@ fn total_words<S: ReaderSegments>(segments: &S) -> usize
     total
 }
 
-// Adds a space and a number.
-fn push_spaced(text: &mut Vec<u8>, number: u64) -> Result<()>
+/// Adds a space and a number.
+pub fn push_spaced(text: &mut Vec<u8>, number: u64) -> Result<()>
     ensures ok { OnOk result (text.new.items ≡ text.old.items ++ spaced number) }
     ensures memory { IfErr result (λ error. error.kind ≡ ErrorKind.OutOfMemory) }
 {
@@ -52,8 +52,8 @@ fn push_spaced(text: &mut Vec<u8>, number: u64) -> Result<()>
     push_decimal(text, number)
 }
 
-// Adds a number in decimal.
-fn push_decimal(text: &mut Vec<u8>, number: u64) -> Result<()>
+/// Adds a number in decimal.
+pub fn push_decimal(text: &mut Vec<u8>, number: u64) -> Result<()>
     ensures ok { OnOk result (text.new.items ≡ text.old.items ++ decimal number) }
     ensures memory { IfErr result (λ error. error.kind ≡ ErrorKind.OutOfMemory) }
 {

@@ -12,6 +12,7 @@ ghost use Rattle.capnp_ls.specs.Stop.{IsAtStart, status_of};
 #[cfg(test)]
 mod choppy;
 mod command;
+mod lines;
 mod listing;
 mod program;
 mod stop;

@@ -8,10 +8,11 @@ ghost use Rattle.capnp_ls.specs.Output.{Prints, DeclinesPrinted};
 ghost use Rattle.capnp_ls.specs.Runs.{ForCommand};
 
 use crate::command::Command;
+use crate::lines::list_each;
 use crate::stop::Stop;
 use capnp::io::{BufRead, Write};
 use capnp::message::DEFAULT_READER_OPTIONS;
-use capnp::streams::{StoppedAt, write_each_message};
+use capnp::streams::{Format, StoppedAt, write_each_message};
 use std::alloc::Global;
 
 /// Runs the command of these words: reads the messages of `source`, and writes what the command
@@ -57,9 +58,29 @@ fn print_all<R: BufRead, W: Write>(
         (padding_of command) (command_input command) default_limit (Prints command W.appends)
         (DeclinesPrinted command W.refuses)) result }
 {
+    match print_each(alloc, command, source, sink) {
+        Ok(()) => Ok(()),
+        Err(StoppedAt { message, error }) => Err(Stop::Refused { message, error }),
+    }
+}
+
+// The same. A list needs the lengths of the segments alone, so framed messages are skipped.
+fn print_each<R: BufRead, W: Write>(
+    alloc: Global,
+    command: Command,
+    source: &mut R,
+    sink: &mut W,
+) -> std::result::Result<(), StoppedAt>
+    ensures { WritesEach R.Read source.old source.new W.Write sink.old sink.new
+        (padding_of command) (command_input command) default_limit (Prints command W.appends)
+        (DeclinesPrinted command W.refuses) result }
+{
+    if let Command::Listing(Format::Framed, padding) = command {
+        return list_each(alloc, padding, source, sink);
+    }
     let format = command.input();
     let padding = command.padding();
-    match write_each_message(
+    write_each_message(
         alloc,
         format,
         padding,
@@ -67,10 +88,7 @@ fn print_all<R: BufRead, W: Write>(
         &command,
         source,
         sink,
-    ) {
-        Ok(()) => Ok(()),
-        Err(StoppedAt { message, error }) => Err(Stop::Refused { message, error }),
-    }
+    )
 }
 
 #[cfg(test)]

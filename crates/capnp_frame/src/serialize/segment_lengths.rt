@@ -38,6 +38,13 @@ impl SegmentLengthsBuilder {
         })
     }
 
+    /// No lengths, with no memory.
+    pub fn empty(alloc: Global) -> SegmentLengthsBuilder
+        ensures { result ≡ [] }
+    {
+        SegmentLengthsBuilder::from_indices(Vec::new(alloc), 0)
+    }
+
     /// The lengths of the segments between these indices, in words, whose sum is `total_words`.
     pub(crate) fn from_indices(
         segment_indices: Vec<(usize, usize)>,
@@ -73,6 +80,20 @@ impl SegmentLengthsBuilder {
         self.total_words
     }
 
+    /// How many lengths there are.
+    pub fn segments_count(&self) -> usize
+        ensures { result ≡ length self.now }
+    {
+        self.segment_indices.len()
+    }
+
+    /// The length of the segment of this number, in words; `None` past the last.
+    pub fn length_of(&self, id: u32) -> Option<usize>
+        ensures { result ≡ slice_get self.now id }
+    {
+        length_at(&self.segment_indices, id)
+    }
+
     /// Where each segment begins and ends, in words from the start of the first.
     pub fn to_segment_indices(self) -> Vec<(usize, usize)>
         ensures { result.items ≡ ranges self }
@@ -100,6 +121,15 @@ impl SegmentLengthsBuilder {
     {
         BufferSegments::from_parts(slice, table_len, self.to_segment_indices())
     }
+}
+
+// The length of the part of this number; `None` past the last.
+fn length_at(parts: &[(usize, usize)], id: u32) -> Option<usize>
+    requires { parts.now ≡ ranges (map range_len parts.now) }
+    ensures { result ≡ slice_get (map range_len parts.now) id }
+{
+    let (start, end) = *parts.get(id as usize)?;
+    Some(end - start)
 }
 
 /// The part of `bytes` between the indices of this number, which are in words; `None` past the last.

@@ -1,6 +1,6 @@
 //! Streams of many messages, and messages of many segments.
 use crate::program::run;
-use crate::program::tests::words;
+use crate::program::tests::{refusal, words};
 use std::alloc::{AllocError, Global};
 use std::process::Abort;
 use std::test::*;
@@ -94,6 +94,27 @@ fn messages_of_many_segments(rt: HostRuntime) -> Result<(), Fail> {
         assert_prints(&rt, &["unpack"], &packed, &framed)?;
         assert_prints(&rt, &["list", "--packed"], &packed, line.as_bytes())?;
         assert_prints(&rt, &["canon", "--packed"], &packed, FORM)?;
+    }
+    Ok(())
+}
+
+// A message of 8,200 words is skipped in two parts and a rest. Where it is cut the run stops.
+#[test]
+fn a_long_message(rt: HostRuntime) -> Result<(), Fail> {
+    let mut framed = b"\0\0\0\0\x08\x20\0\0".to_vec(rt.alloc())?;
+    let bytes = vec![in rt.alloc(); 7u8; 65600]?;
+    framed.extend_from_slice(&bytes)?;
+    assert_prints(&rt, &["list"], &framed, b"0 1 8200 8200\n")?;
+    assert_prints(&rt, &["list", "--lenient"], &framed, b"0 1 8200 8200\n")?;
+    let words = words(rt.alloc(), &["list"])?;
+    for length in [8, 9, 32776, 65543, 65544, 65607] {
+        let Some(mut source) = framed.get(..length) else {
+            return Err(Fail::new(format_args!("{length} bytes are not there")));
+        };
+        let mut sink = Vec::new(rt.alloc());
+        let returned = run(rt.alloc(), &words, &mut source, &mut sink);
+        assert_eq!(rt; refusal(returned), Some((0, 1)), "of {length} bytes");
+        assert!(rt; sink.is_empty(), "of {length} bytes");
     }
     Ok(())
 }

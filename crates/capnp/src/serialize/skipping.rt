@@ -1,0 +1,40 @@
+//! Skipping messages of a stream, of which only the lengths of the segments are told.
+ghost use Rattle.capnp_frame.specs.Skipping.{SkipsMessage};
+ghost use Rattle.capnp_frame.specs.Streams.{ReadsStream};
+ghost use Rattle.capnp.specs.Streams.{rules_of};
+ghost use Rattle.capnp.specs.declared.streams.Format.{Format};
+
+use capnp_frame::Result;
+use capnp_frame::io::BufRead;
+use capnp_frame::message::ReaderOptions;
+use capnp_frame::serialize::{
+    Padding, SegmentLengthsBuilder, try_skip_segments, try_skip_segments_lenient,
+};
+
+/// Skips the next message of a stream, and returns the lengths of its segments in words, or `None` where
+/// nothing is unread.
+///
+/// It consumes what `try_read_message` does, and fails as that does, but takes no memory for the
+/// segments. The lengths stand in the memory of `spare`, which grows where it is too small.
+pub fn try_skip_message<R: BufRead>(
+    source: &mut R,
+    options: ReaderOptions,
+    spare: SegmentLengthsBuilder,
+) -> Result<Option<SegmentLengthsBuilder>>
+    ensures { SkipsMessage (ReadsStream R.Read source.old source.new
+        (rules_of Padding.Zero Format.Framed) options.traversal_limit_in_words) result }
+{
+    try_skip_segments(source, options, spare)
+}
+
+/// As `try_skip_message`, of a message whose padding may be anything.
+pub fn try_skip_message_lenient<R: BufRead>(
+    source: &mut R,
+    options: ReaderOptions,
+    spare: SegmentLengthsBuilder,
+) -> Result<Option<SegmentLengthsBuilder>>
+    ensures { SkipsMessage (ReadsStream R.Read source.old source.new
+        (rules_of Padding.Any Format.Framed) options.traversal_limit_in_words) result }
+{
+    try_skip_segments_lenient(source, options, spare)
+}

@@ -1,0 +1,21 @@
+-- What a call returns that skips a message, and tells the lengths of its segments (src/serialize/skipping.rt).
+use Rattle.std.specs.Prelude.{◌≡◌, ℕ, ◌≤◌, List, length, drop, Option, Some, None, Result, Ok, Err}
+use Rattle.capnp_frame.specs.declared.error.Error.{Error}
+use Rattle.capnp_frame.specs.declared.serialize.segment_table.Padding.{Padding}
+use Rattle.capnp_frame.specs.Message.{lengths}
+use Rattle.capnp_frame.specs.Requests.{MessageStands}
+use Rattle.capnp_frame.specs.Source.{Giving}
+
+-- It returns what a reader may return of which `Reads` holds: of some message the lengths, None, or a failure.
+abbrev pub SkipsMessage : (Result (Option (List (List ℕ))) Error → Type 0) → Result (Option (List ℕ)) Error → Type 0
+SkipsMessage Reads (Ok (Some ns)) = (message : List (List ℕ)) × (lengths message ≡ ns) × Reads (Ok (Some message))
+SkipsMessage Reads (Ok None) = Reads (Ok None)
+SkipsMessage Reads (Err error) = Reads (Err error)
+
+-- a message of these lengths stands at the front
+abbrev pub LengthsStand : Padding → Giving → List ℕ → List ℕ → List ℕ → Type 0
+LengthsStand rule gives ns raw rest = (message : List (List ℕ)) × (lengths message ≡ ns) × MessageStands rule gives message raw rest
+
+-- the first n bytes are dropped
+abbrev pub Drops : ℕ → List ℕ → List ℕ → Type 0
+Drops n raw rest = (n ≤ length raw) × (rest ≡ drop n raw)

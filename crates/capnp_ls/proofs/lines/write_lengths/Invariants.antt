@@ -1,0 +1,10 @@
+-- The first lengths are listed after what stood before.
+use Rattle.std.proofs.Common.{◌-◌, ◌≡◌, ◌++◌, List, ℕ, length}
+use Rattle.capnp_ls.proofs.LineLemmas.{ListsLengths}
+use Rattle.capnp_ls.proofs.lines.write_lengths.Given as goal
+
+abbrev pub invariant-loop-words : goal.invariant-loop-words
+invariant-loop-words l = (listed : List ℕ) × (l.text.items ≡ l.initial.text.items ++ listed) × ListsLengths l.lengths l.id listed
+
+abbrev pub decreases-loop-words : goal.decreases-loop-words
+decreases-loop-words l = length l.lengths - l.id

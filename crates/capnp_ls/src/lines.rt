@@ -1,0 +1,125 @@
+//! The lines of framed messages, whose segments are skipped.
+ghost use Rattle.std.specs.Prelude.{◌≡◌, ◌<◌, ◌⊎◌, ◌^◌, length, IfSome, OnOk, IfErr};
+ghost use Rattle.capnp.specs.Passed.{ErrorKind, IsReaderKind, IfKnown, Advances, Fails, Adds, Grows, SkipsMessage, ReadsStream, default_limit};
+ghost use Rattle.capnp.specs.declared.streams.Format.{Format};
+ghost use Rattle.capnp.specs.Streams.{refuses_of, rules_of};
+ghost use Rattle.capnp.specs.Runs.{IsRunFault, HasRun, WritesEach};
+ghost use Rattle.capnp_ls.specs.declared.command.Command.{Command};
+ghost use Rattle.capnp_ls.specs.Output.{line_of, Prints, DeclinesPrinted};
+
+use crate::command::Command;
+use crate::listing::{push_decimal, push_spaced};
+use capnp::Result;
+use capnp::io::{BufRead, Write};
+use capnp::message::DEFAULT_READER_OPTIONS;
+use capnp::serialize::{
+    Padding, SegmentLengthsBuilder, try_skip_message, try_skip_message_lenient,
+};
+use capnp::streams::{Format, StoppedAt};
+use std::alloc::Global;
+
+/// Prints the line of each framed message of the source, its padding by the rule, until none is left.
+pub fn list_each<R: BufRead, W: Write>(
+    alloc: Global,
+    padding: Padding,
+    source: &mut R,
+    sink: &mut W,
+) -> std::result::Result<(), StoppedAt>
+    ensures { WritesEach R.Read source.old source.new W.Write sink.old sink.new padding Format.Framed
+        default_limit (Prints (Command.Listing Format.Framed padding) W.appends)
+        (DeclinesPrinted (Command.Listing Format.Framed padding) W.refuses) result }
+{
+    list_all(alloc, padding, source, sink)
+}
+
+// Message by message.
+fn list_all<R: BufRead, W: Write>(
+    alloc: Global,
+    padding: Padding,
+    source: &mut R,
+    sink: &mut W,
+) -> std::result::Result<(), StoppedAt>
+    ensures written { IfSome (R.unread source.old) (HasRun padding Format.Framed default_limit
+        (Prints (Command.Listing Format.Framed padding) W.appends)
+        (DeclinesPrinted (Command.Listing Format.Framed padding) W.refuses) result
+        (R.unread source.new) (W.written sink.old) (W.written sink.new)) }
+    ensures kinds { IfErr result (λ stop. IsReaderKind padding (refuses_of Format.Framed) stop.error.kind
+        ⊎ IsRunFault (DeclinesPrinted (Command.Listing Format.Framed padding) W.refuses)
+        stop.message stop.error.kind) }
+    ensures failed { IfErr result (λ stop. stop.error.kind ≡ ErrorKind.DeviceFailed →
+        Fails (R.failures source.old) (R.failures source.new)
+        ⊎ Fails (W.failures sink.old) (W.failures sink.new)) }
+    ensures advances { Advances R.unread R.failures R.same source.old source.new }
+    ensures grows { Grows W.written W.failures W.same sink.old sink.new }
+{
+    let mut spare = SegmentLengthsBuilder::empty(alloc);
+    let mut text = Vec::new(alloc);
+    for message in 0..u64::MAX {
+        let lengths = match skip_next(padding, source, spare) {
+            Ok(Some(lengths)) => lengths,
+            Ok(None) => return Ok(()),
+            Err(error) => return Err(StoppedAt { message, error }),
+        };
+        match print_line(&mut text, message, &lengths, sink) {
+            Ok(()) => spare = lengths,
+            Err(error) => return Err(StoppedAt { message, error }),
+        }
+    }
+    Ok(())
+}
+
+// Skips the next message, its padding by the rule, and returns the lengths of its segments.
+fn skip_next<R: BufRead>(
+    padding: Padding,
+    source: &mut R,
+    spare: SegmentLengthsBuilder,
+) -> Result<Option<SegmentLengthsBuilder>>
+    ensures { SkipsMessage (ReadsStream R.Read source.old source.new (rules_of padding Format.Framed)
+        default_limit) result }
+{
+    match padding {
+        Padding::Zero => try_skip_message(source, DEFAULT_READER_OPTIONS, spare),
+        Padding::Any => try_skip_message_lenient(source, DEFAULT_READER_OPTIONS, spare),
+    }
+}
+
+// Prints the line of a message of these lengths. It is made in `text`.
+fn print_line<W: Write>(
+    text: &mut Vec<u8>,
+    index: u64,
+    lengths: &SegmentLengthsBuilder,
+    sink: &mut W,
+) -> Result<()>
+    requires { length lengths.now < 2 ^ 32 }
+    ensures written { OnOk result (IfKnown (W.written sink.old) (W.written sink.new)
+        (Adds (W.appends (line_of index lengths.now)))) }
+    ensures refused { IfErr result (λ error. (error.kind ≡ ErrorKind.DeviceFailed)
+        ⊎ (error.kind ≡ ErrorKind.OutOfMemory) ⊎ W.refuses (line_of index lengths.now) error.kind) }
+    ensures untouched { IfErr result (λ error. (error.kind ≡ ErrorKind.DeviceFailed)
+        ⊎ W.refuses (line_of index lengths.now) error.kind ⊎ (sink.new ≡ sink.old)) }
+    ensures failed { IfErr result (λ error. error.kind ≡ ErrorKind.DeviceFailed →
+        Fails (W.failures sink.old) (W.failures sink.new)) }
+    ensures grows { Grows W.written W.failures W.same sink.old sink.new }
+{
+    write_lengths(text, index, lengths)?;
+    sink.write_all(text)
+}
+
+// Makes `text` the line of a message of these lengths, as `write_line` does.
+fn write_lengths(text: &mut Vec<u8>, index: u64, lengths: &SegmentLengthsBuilder) -> Result<()>
+    requires { length lengths.now < 2 ^ 32 }
+    ensures ok { OnOk result (text.new.items ≡ line_of index lengths.now) }
+    ensures memory { IfErr result (λ error. error.kind ≡ ErrorKind.OutOfMemory) }
+{
+    text.clear();
+    push_decimal(text, index)?;
+    push_spaced(text, lengths.segments_count() as u64)?;
+    push_spaced(text, lengths.total_words() as u64)?;
+    let mut id = 0;
+    while let Some(words) = lengths.length_of(id) {
+        push_spaced(text, words as u64)?;
+        id += 1;
+    }
+    text.push(b'\n')?;
+    Ok(())
+}
