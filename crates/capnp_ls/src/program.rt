@@ -12,6 +12,7 @@ use crate::lines::list_each;
 use crate::stop::Stop;
 use capnp::io::{BufRead, Write};
 use capnp::message::DEFAULT_READER_OPTIONS;
+use capnp::serialize::Padding;
 use capnp::streams::{Format, StoppedAt, write_each_message};
 use std::alloc::Global;
 
@@ -64,7 +65,7 @@ fn print_all<R: BufRead, W: Write>(
     }
 }
 
-// The same. A list needs the lengths of the segments alone, so framed messages are skipped.
+// The same.
 fn print_each<R: BufRead, W: Write>(
     alloc: Global,
     command: Command,
@@ -75,8 +76,8 @@ fn print_each<R: BufRead, W: Write>(
         (padding_of command) (command_input command) default_limit (Prints command W.appends)
         (DeclinesPrinted command W.refuses) result }
 {
-    if let Command::Listing(Format::Framed, padding) = command {
-        return list_each(alloc, padding, source, sink);
+    if let Command::Listing(format, padding) = command {
+        return print_lines(alloc, format, padding, source, sink);
     }
     let format = command.input();
     let padding = command.padding();
@@ -89,6 +90,33 @@ fn print_each<R: BufRead, W: Write>(
         source,
         sink,
     )
+}
+
+// Prints a line for each message of a format. A line needs the lengths of the segments alone, so
+// framed messages are skipped.
+fn print_lines<R: BufRead, W: Write>(
+    alloc: Global,
+    format: Format,
+    padding: Padding,
+    source: &mut R,
+    sink: &mut W,
+) -> std::result::Result<(), StoppedAt>
+    ensures { WritesEach R.Read source.old source.new W.Write sink.old sink.new padding format
+        default_limit (Prints (Command.Listing format padding) W.appends)
+        (DeclinesPrinted (Command.Listing format padding) W.refuses) result }
+{
+    match format {
+        Format::Framed => list_each(alloc, padding, source, sink),
+        Format::Packed => write_each_message(
+            alloc,
+            Format::Packed,
+            padding,
+            DEFAULT_READER_OPTIONS,
+            &Command::Listing(Format::Packed, padding),
+            source,
+            sink,
+        ),
+    }
 }
 
 #[cfg(test)]
