@@ -4,11 +4,15 @@ use Rattle.capnp_wire.specs.Pointer.{words_of}
 use Rattle.capnp_wire.proofs.layouts.CopyLemmas.{copying_first, copying_next, copying_ends}
 use Rattle.capnp_wire.proofs.layouts.CopiedLemmas.{copyable, null_is_copied}
 use Rattle.capnp_wire.proofs.pointers.NearLemmas.{word_there}
+use Rattle.capnp_wire.proofs.pointers.EmptyStructLemmas.{empty_struct_copied}
 use Rattle.capnp_wire.proofs.layout.+copy.Goals as goal
 
 pub copy::copy_target-returns-then-is_null-clause-copied : goal.copy::copy_target-returns-then-is_null-clause-copied
 copy::copy_target-returns-then-is_null-clause-copied g t c =
     null_is_copied c.args.canonical (word_there _ c.args.place (words_of c.args.segment.now) 0 c.requires.content (c.is_null.ensures c.if-is_null.true))
+
+pub copy::copy_target-returns-then-is_empty_struct-clause-copied : goal.copy::copy_target-returns-then-is_empty_struct-clause-copied
+copy::copy_target-returns-then-is_empty_struct-clause-copied g t c = empty_struct_copied c.args.canonical c.requires.content (c.is_empty_struct.ensures c.if-is_empty_struct.true).0
 
 pub copy::copy_target-begin_struct-requires-clause-there : goal.copy::copy_target-begin_struct-requires-clause-there
 copy::copy_target-begin_struct-requires-clause-there g t c = copyable c.requires.there (c.in-Some.ensures _ c.requires.content).0

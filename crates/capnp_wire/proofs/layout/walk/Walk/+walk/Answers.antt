@@ -4,6 +4,7 @@ use Rattle.capnp_wire.specs.Object.{is_null as null_there}
 use Rattle.capnp_wire.specs.Rows.{places_in}
 use Rattle.capnp_wire.specs.Traversed.{counted}
 use Rattle.capnp_wire.proofs.pointers.NearLemmas.{word_there}
+use Rattle.capnp_wire.proofs.pointers.EmptyStructLemmas.{empty_struct_walked}
 use Rattle.capnp_frame.proofs.AskLemmas.{passed_on}
 use Rattle.capnp_wire.proofs.walks.ParentLemmas.{struct_met, struct_stops, held_by, going_below}
 use Rattle.capnp_wire.proofs.walks.ProgressLemmas.{going_begins, going_there, going_on, going_done, progress_done, progress_stops, progress_stopped, walked_null, entered, walk_goes_on, walk_stops}
@@ -49,6 +50,13 @@ next_parent-pointers-preserved-then-is_null g t c =
     let content = going_there c.pointers.invariant takes.taken takes.segment in
     going_on c.pointers.invariant takes.taken takes.same_segment
     (walked_null _ c.args.canonical c.take-place.result c.args.nesting _ _ (null_there (word_there _ c.take-place.result _ 0 content (c.is_null.ensures c.if-is_null.true))))
+
+pub next_parent-pointers-preserved-then-is_empty_struct : goal.next_parent-pointers-preserved-then-is_empty_struct
+next_parent-pointers-preserved-then-is_empty_struct g t c =
+    let takes = c.take-place.ensures in
+    let content = going_there c.pointers.invariant takes.taken takes.segment in
+    let empty = c.is_empty_struct.ensures c.if-is_empty_struct.true in
+    going_on c.pointers.invariant takes.taken takes.same_segment (empty_struct_walked c.args.canonical content empty.0 empty.1)
 
 pub next_parent-returns-in_err-alone-clause-refused : goal.next_parent-returns-in_err-alone-clause-refused
 next_parent-returns-in_err-alone-clause-refused g t c =
