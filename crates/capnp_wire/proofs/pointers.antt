@@ -6,6 +6,7 @@ pub mod LandingPadLemmas
 pub mod NearLemmas
 pub mod NullLemmas
 pub mod NullRunLemmas
+pub mod EmptyStructLemmas
 pub mod PointerRowLemmas
 pub mod TagLemmas
 pub mod SlotLemmas

@@ -1,8 +1,10 @@
--- Lists of numbers and structs as objects (src/layout/number_list.rt, src/layout/near.rt).
-use Rattle.std.specs.Prelude.{◌≡◌, ℕ, ◌+◌, List, length}
+-- Lists of numbers and structs as objects, and the pointer to a struct of no words (src/layout/number_list.rt,
+-- src/layout/near.rt).
+use Rattle.std.specs.Prelude.{◌≡◌, ◌⊎◌, ℕ, ◌+◌, ◌<◌, List, length}
 use Rattle.capnp_wire.specs.Pointer.{words_from}
 use Rattle.capnp_wire.specs.Trim.{cut_zeros}
 use Rattle.capnp_wire.specs.Landing.{traversed_of}
+use Rattle.capnp_wire.specs.Layout.{struct_pointer, minus_one}
 use Rattle.capnp_wire.specs.declared.layout.number_list.NumberList.{NumberList}
 use Rattle.capnp_wire.specs.declared.layout.near.NearStruct.{NearStruct}
 use Rattle.capnp_wire.specs.declared.layout.object.Body.TheVariants.{Struct, Numbers}
@@ -24,6 +26,14 @@ near_struct_of found = record {
   body = Struct found.size;
   traversed = found.size.data_words + found.size.pointers;
 }
+
+-- the pointer to a struct of no words that begins where the pointer does
+abbrev pub empty_struct : ℕ
+empty_struct = struct_pointer minus_one 0 0
+
+-- a pointer that is null, or leads to such a struct, which may be entered at this nesting depth left
+abbrev pub IsBare : ℕ → ℕ → Type 0
+IsBare pointer nesting = (pointer ≡ 0) ⊎ ((pointer ≡ empty_struct) × (0 < nesting))
 
 -- a given number of pointers are null, from a word on
 abbrev pub AreNull : List ℕ → ℕ → ℕ → Type 0

@@ -1,5 +1,5 @@
 -- Values that are measured as parts of others, and null ones.
-use Rattle.std.proofs.Common.{◌≡◌, ◌↔◌, ℕ, ◌<◌, ◌≤◌, ◌^◌, Bool, true, false, Result, Ok, Option, Some, None, MatchOption, refl, sym, ◌∙◌, ap, subst, arith}
+use Rattle.std.proofs.Common.{◌≡◌, ◌↔◌, ℕ, ◌≤◌, Bool, true, false, Result, Ok, Option, Some, None, MatchOption, refl, sym, ◌∙◌, ap, subst, arith}
 use Rattle.std.specs.Prelude.{IsTrue, [], ◌∷◌, List}
 use Rattle.std.specs.Result.{result_unwrap_or}
 use Rattle.capnp_frame.specs.declared.error.Error.{Error}

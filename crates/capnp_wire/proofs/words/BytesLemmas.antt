@@ -1,6 +1,6 @@
 -- Lists of bytes as values.
 use Rattle.std.proofs.lemmas.List.{take_all}
-use Rattle.std.proofs.Common.{◌≡◌, ℕ, zero, suc, ◌+◌, ◌-◌, ◌*◌, ◌/◌, ◌<◌, ◌^◌, List, [], ◌∷◌, ◌++◌, length, take, drop, replicate, slice_index_or, refl, sym, ◌∙◌, ap, arith, length-append, lit<}
+use Rattle.std.proofs.Common.{◌≡◌, ℕ, zero, suc, ◌+◌, ◌*◌, ◌/◌, ◌<◌, ◌^◌, List, [], ◌∷◌, ◌++◌, length, take, drop, replicate, slice_index_or, refl, sym, ◌∙◌, ap, arith, length-append, lit<}
 use native.Mathlib.Nat.{mul-zero}
 use Rattle.capnp_wire.specs.Pointer.{digits, number_of, words_of}
 use Rattle.capnp_wire.specs.Element.{words_for}

@@ -7,7 +7,7 @@ ghost use Rattle.capnp_wire.specs.Copy.{CanCopy, Copies};
 use crate::layout::begun::{StructCopy, begin, begin_struct, copy_list};
 use crate::layout::block::BlockItem;
 use crate::layout::copy_rows::{copy_pointers, copy_run};
-use crate::layout::near::{is_null, near_list, near_struct};
+use crate::layout::near::{bare_pointer, near_list, near_struct};
 use crate::layout::place::Place;
 use capnp_frame::message::ReaderSegments;
 
@@ -82,8 +82,8 @@ pub(crate) fn copy_target<S: ReaderSegments, T: BlockItem>(
         (next - following) next (T.as_words block.old) (T.as_words block.new) result }
     ensures len { length (T.as_words block.new) ≡ length (T.as_words block.old) }
 {
-    if is_null(segment, place.word) {
-        return Copied { pointer: 0, next };
+    if let Some(pointer) = bare_pointer(segment, place.word, nesting) {
+        return Copied { pointer, next };
     }
     if let Some(found) = near_struct(segment, place, nesting) {
         let left = match begin_struct(&found, canonical, block, following, next) {

@@ -4,7 +4,7 @@ ghost use Rattle.capnp_wire.specs.Pointer.{words_of};
 ghost use Rattle.capnp_wire.specs.Object.{places};
 ghost use Rattle.capnp_wire.specs.Landing.{IsObject};
 ghost use Rattle.capnp_wire.specs.Rows.{places_in};
-ghost use Rattle.capnp_wire.specs.Near.{AreNull, object_of, near_struct_of};
+ghost use Rattle.capnp_wire.specs.Near.{AreNull, IsBare, object_of, near_struct_of};
 ghost use Rattle.capnp_wire.specs.Copy.{formed_body, IsNarrower};
 ghost use Rattle.capnp_wire.specs.declared.layout.object.Body.{Body};
 
@@ -21,15 +21,22 @@ use crate::layout::rows::PointerRows;
 // pointers. So a walk over many of them asks here first, of the segment that it has in hand: it then
 // needs no call for a pointer, and nothing that tells all kinds of objects apart.
 
-/// Whether a null pointer stands at a word of a segment.
+// The pointer to a struct of no words, with the offset -1: the struct begins where its pointer does.
+const EMPTY_STRUCT: u64 = 0xffff_fffc;
+
+/// The pointer at a word of a segment, where it is null, or `EMPTY_STRUCT` and that struct may be
+/// entered at this nesting depth left. Other words may lead to structs of no words, too:
+/// `near_struct` finds them.
 #[inline(always)]
-pub(crate) fn is_null(segment: &[u8], index: usize) -> bool
-    ensures { IsTrue result → slice_get (words_of segment.now) index ≡ Some 0 }
+pub(crate) fn bare_pointer(segment: &[u8], index: usize, nesting: u32) -> Option<u64>
+    ensures { IfSome result (λ pointer. (slice_get (words_of segment.now) index ≡ Some pointer)
+        × IsBare pointer nesting) }
 {
-    match word(segment, index) {
-        Some(pointer) => pointer == 0,
-        None => false,
+    let pointer = word(segment, index)?;
+    if pointer == 0 || (pointer == EMPTY_STRUCT && nesting > 0) {
+        return Some(pointer);
     }
+    None
 }
 
 /// The list of numbers that the pointer at a place of this segment leads to without a landing pad,

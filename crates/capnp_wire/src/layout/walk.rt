@@ -10,7 +10,7 @@ ghost use Rattle.capnp_wire.specs.Copy.{formed_body};
 ghost use Rattle.capnp_wire.specs.Rows.{places_in};
 
 use crate::layout::formed::formed_as;
-use crate::layout::near::{NearStruct, is_null, near_list, near_struct};
+use crate::layout::near::{NearStruct, bare_pointer, near_list, near_struct};
 use crate::layout::object::Object;
 use crate::layout::place::Place;
 use crate::layout::rows::PointerRows;
@@ -206,7 +206,7 @@ impl Walk {
         'pointers: while !pointers.is_empty() {
             let place = pointers.take();
             // What most pointers lead to needs no call.
-            if is_null(segment, place.word) {
+            if let Some(_) = bare_pointer(segment, place.word, nesting) {
                 continue 'pointers;
             }
             if let Some(found) = near_struct(segment, place, nesting) {

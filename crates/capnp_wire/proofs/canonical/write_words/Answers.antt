@@ -1,6 +1,5 @@
 -- The pointer and the body after it are the canonical form.
-use Rattle.std.proofs.Common.{◌≡◌, ℕ, ◌+◌, ◌-◌, true, length, take, drop, arith, length-take, length-drop}
-use Rattle.capnp_wire.specs.Block.{numbers_of}
+use Rattle.std.proofs.Common.{◌-◌, true, length, take, drop, arith, length-take, length-drop}
 use Rattle.capnp_wire.specs.Readers.{pointer_of}
 use Rattle.capnp_wire.specs.Values.{LeadsToTree}
 use Rattle.capnp_wire.proofs.words.PutLemmas.{length-numbers_of}

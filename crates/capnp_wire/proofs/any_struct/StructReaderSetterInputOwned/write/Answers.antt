@@ -1,5 +1,5 @@
 -- What is written of a struct that is read is the body of its tree.
-use Rattle.std.proofs.Common.{◌≡◌, ◌≢◌, ◌-◌, ◌^◌, ◌<◌, None, length, sym, ◌∙◌, subst, refl, arith}
+use Rattle.std.proofs.Common.{◌≢◌, ◌^◌, ◌<◌, None, length, sym, ◌∙◌, subst, refl, arith}
 use Rattle.capnp_wire.specs.Pointer.{words_of}
 use Rattle.capnp_wire.specs.Object.{message_of}
 use Rattle.capnp_wire.specs.Readers.{struct_of, limit_of}

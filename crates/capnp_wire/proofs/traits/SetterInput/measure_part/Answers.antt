@@ -1,5 +1,5 @@
 -- A part is measured as it stands, and where the canonical form is made, in that, too.
-use Rattle.std.proofs.Common.{◌≡◌, Ok, ap}
+use Rattle.std.proofs.Common.{Ok, ap}
 use Rattle.capnp_wire.specs.declared.traits.PartWords.{PartWords}
 use Rattle.capnp_wire.proofs.views.PartWordLemmas.{standing_words, standing_found, both_returned, both_found}
 use Rattle.capnp_wire.proofs.traits.SetterInput.measure_part.Goals as goal

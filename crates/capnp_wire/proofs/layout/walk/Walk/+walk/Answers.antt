@@ -1,12 +1,11 @@
 -- A walk meets an object, and then goes over its pointers.
 use Rattle.std.proofs.Common.{◌∙◌, arith}
-use Rattle.capnp_wire.specs.Object.{is_null as null_there}
 use Rattle.capnp_wire.specs.Rows.{places_in}
 use Rattle.capnp_wire.specs.Traversed.{counted}
-use Rattle.capnp_wire.proofs.pointers.NearLemmas.{word_there}
+use Rattle.capnp_wire.proofs.pointers.EmptyStructLemmas.{bare_walked}
 use Rattle.capnp_frame.proofs.AskLemmas.{passed_on}
 use Rattle.capnp_wire.proofs.walks.ParentLemmas.{struct_met, struct_stops, held_by, going_below}
-use Rattle.capnp_wire.proofs.walks.ProgressLemmas.{going_begins, going_there, going_on, going_done, progress_done, progress_stops, progress_stopped, walked_null, entered, walk_goes_on, walk_stops}
+use Rattle.capnp_wire.proofs.walks.ProgressLemmas.{going_begins, going_there, going_on, going_done, progress_done, progress_stops, progress_stopped, entered, walk_goes_on, walk_stops}
 use Rattle.capnp_wire.proofs.layout.walk.Walk.+walk.Goals as goal
 
 pub walk-returns-in_err-object-clause-refused : goal.walk-returns-in_err-object-clause-refused
@@ -43,29 +42,28 @@ next_parent-pointers-init g t c = going_begins c.requires.content
 pub next_parent-returns-clause-found : goal.next_parent-returns-clause-found
 next_parent-returns-clause-found g t c = progress_done (c.is_empty.ensures.0 c.pointers-test.false) c.pointers.invariant.progress
 
-pub next_parent-pointers-preserved-then-is_null : goal.next_parent-pointers-preserved-then-is_null
-next_parent-pointers-preserved-then-is_null g t c =
+pub next_parent-pointers-preserved-in-Some : goal.next_parent-pointers-preserved-in-Some
+next_parent-pointers-preserved-in-Some g t c =
     let takes = c.take-place.ensures in
     let content = going_there c.pointers.invariant takes.taken takes.segment in
-    going_on c.pointers.invariant takes.taken takes.same_segment
-    (walked_null _ c.args.canonical c.take-place.result c.args.nesting _ _ (null_there (word_there _ c.take-place.result _ 0 content (c.is_null.ensures c.if-is_null.true))))
+    going_on c.pointers.invariant takes.taken takes.same_segment (bare_walked c.args.canonical content c.in-Some.ensures.0 c.in-Some.ensures.1)
 
 pub next_parent-returns-in_err-alone-clause-refused : goal.next_parent-returns-in_err-alone-clause-refused
 next_parent-returns-in_err-alone-clause-refused g t c =
     let takes = c.take-place.ensures in
-    let near = c.in-Some.ensures _ (going_there c.pointers.invariant takes.taken takes.segment) in
+    let near = c.in-Some-near_struct.ensures _ (going_there c.pointers.invariant takes.taken takes.segment) in
     passed_on _ _ c.from_residual.ensures.1 (progress_stops takes.taken.places_are c.pointers.invariant.progress (c.in_err-alone.ensures.refused _ _ _ near.0 near.1))
 
 pub next_parent-returns-then-not-alone-clause-found : goal.next_parent-returns-then-not-alone-clause-found
 next_parent-returns-then-not-alone-clause-found g t c =
     let takes = c.take-place.ensures in
-    let near = c.in-Some.ensures _ (going_there c.pointers.invariant takes.taken takes.segment) in
+    let near = c.in-Some-near_struct.ensures _ (going_there c.pointers.invariant takes.taken takes.segment) in
     (struct_met takes.taken.places_are c.pointers.invariant.progress (c.in_ok-alone.ensures.found _ _ _ near.0 near.1).0, takes.same_segment ∙ c.pointers.invariant.same_segment)
 
 pub next_parent-pointers-preserved-else-not-alone : goal.next_parent-pointers-preserved-else-not-alone
 next_parent-pointers-preserved-else-not-alone g t c =
     let takes = c.take-place.ensures in
-    let near = c.in-Some.ensures _ (going_there c.pointers.invariant takes.taken takes.segment) in
+    let near = c.in-Some-near_struct.ensures _ (going_there c.pointers.invariant takes.taken takes.segment) in
     going_on c.pointers.invariant takes.taken takes.same_segment ((c.in_ok-alone.ensures.found _ _ _ near.0 near.1).1 c.if-not-alone.false)
 
 pub next_parent-returns-in_err-pass_list-clause-refused : goal.next_parent-returns-in_err-pass_list-clause-refused
