@@ -7,7 +7,7 @@ use Rattle.capnp_values.specs.StructLists.{AreRows}
 use Rattle.capnp_values.proofs.ItemLemmas.{from_here, none_left}
 use Rattle.capnp_values.proofs.StructListLemmas.{pointers_front}
 
--- The first i of some structs need so many data words and so many pointers, and all of them what these or those after them do.
+-- The first i of some structs need a number of data words and of pointers, and all of them what these or those after them do.
 pub record NeededSoFar {V : Type 0} (w : V → List ℕ) (h : V → Trees → Type 0) (p : ℕ) (items : List V) (i data_words pointers : ℕ) : Type 0 where
   pub least_is : least_data (map w items) ≡ max data_words (least_data (map w (drop i items)))
   pub left : (held : Trees) → AreRows h items held

@@ -80,7 +80,7 @@ fn least_reach(data_words: usize, pointers: u32, canonical: bool) -> Reach
     }
 }
 
-// How far they reach with one more, of which so many data words are kept.
+// How far they reach with one more, of which a given number of data words are kept.
 fn with_row(reach: Reach, data_words: usize, extent: Extent) -> Reach
     requires words { reach.words + extent.words < 2 ^ 64 }
     requires standing { reach.standing + extent.standing < 2 ^ 64 }

@@ -68,7 +68,7 @@ pub record HasPart (has_tree : Trees → Type 0) (canonical : Bool) (words : Par
   pub formed_is : words.formed ≡ total_words (formed canonical trees)
   pub few : words.standing < 2 ^ 29
 
--- its tree has room in a block of so many words, from a word on
+-- its tree has room in a block of a given number of words, from a word on
 pub record HasRoomAt (has_tree : Trees → Type 0) (canonical : Bool) (next room : ℕ) : Type 0 where
   pub trees : Trees
   pub tree_is : has_tree trees

@@ -118,7 +118,7 @@ fn front<T, V: SetterInput<T>>(value: &V, canonical: bool, own: PartWords, rest:
     }
 }
 
-// Whether a value is left out of a row that keeps so many pointers after it.
+// Whether a value is left out of a row that keeps a given number of pointers after it.
 fn is_left_out<T, V: SetterInput<T>>(value: &V, canonical: bool, after: u32) -> bool
     ensures { (form : Form) (held : Trees) → IsPart (V.has_tree value.now) form held →
         result ≡ is_left_out canonical after form }
