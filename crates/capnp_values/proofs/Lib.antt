@@ -13,6 +13,7 @@ pub mod NullLemmas
 pub mod ItemLemmas
 pub mod ItemRowLemmas
 pub mod PointerListLemmas
+pub mod FullWordLemmas
 pub mod NumberListLemmas
 pub mod MeasuredLemmas
 pub mod FilledLemmas
