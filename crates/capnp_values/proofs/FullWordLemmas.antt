@@ -9,7 +9,7 @@ use Rattle.capnp_wire.proofs.words.DigitLemmas.{length-digits}
 use Rattle.capnp_values.proofs.NumberListLemmas.{digit_at}
 use Rattle.capnp_values.proofs.SectionLemmas.{next_put, all_put}
 
--- so many words are full, and at most one is not
+-- a number of words are full, and at most one more is not
 pub record IsParted (w each n : ℕ) : Type 0 where
   pub full : n / each ≤ words_for n w
   pub words : words_for n w ≤ n / each + 1
