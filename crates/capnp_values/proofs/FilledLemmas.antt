@@ -1,7 +1,7 @@
 -- Objects whose own words are put into a block, and whose pointers are filled in, are laid out there.
-use Rattle.std.proofs.Common.{◌≡◌, ℕ, ◌+◌, ◌*◌, ◌≤◌, List, [], ◌∷◌, ◌++◌, length, take, drop, refl, sym, ◌∙◌, ap, arith, length-take, length-drop}
-use Rattle.capnp_wire.specs.Tree.{Form, struct, pointers, structs, Trees, none, tree, count, own_words, total_words}
-use Rattle.capnp_wire.specs.Layout.{run, row_run, slots, own, woven, body, struct_pointer, HasRoom, AllHaveRoom}
+use Rattle.std.proofs.Common.{◌≡◌, ℕ, ◌+◌, ◌*◌, ◌≤◌, List, [], ◌∷◌, length, take, drop, sym, ◌∙◌, ap, arith, length-take, length-drop}
+use Rattle.capnp_wire.specs.Tree.{struct, pointers, structs, Trees, none, tree, count, total_words}
+use Rattle.capnp_wire.specs.Layout.{run, row_run, woven, body, struct_pointer, HasRoom, AllHaveRoom}
 use Rattle.capnp_wire.specs.Block.{put, put_rows, fill, moved}
 use Rattle.capnp_wire.specs.Rows.{row_slots}
 use Rattle.capnp_wire.proofs.layouts.SizeLemmas.{length-woven, rows_even}

@@ -1,5 +1,5 @@
 -- Values of one type, one after the other: what is written of them.
-use Rattle.std.proofs.Common.{◌≡◌, ℕ, zero, suc, ◌+◌, ◌-◌, ◌*◌, ◌/◌, ◌<◌, ◌≤◌, Bool, true, false, List, [], ◌∷◌, length, drop, refl, sym, ◌∙◌, ap, subst, arith, get_or}
+use Rattle.std.proofs.Common.{◌≡◌, ℕ, suc, ◌+◌, ◌-◌, ◌/◌, ◌<◌, ◌≤◌, Bool, List, [], ◌∷◌, length, drop, refl, sym, ◌∙◌, ap, subst, arith, get_or}
 use Rattle.capnp_wire.specs.Pointer.{words_of}
 use Rattle.capnp_wire.specs.Tree.{Form, Trees, none, tree, total_words}
 use Rattle.capnp_wire.specs.Layout.{pointer_to, run, body, formed}
@@ -12,7 +12,6 @@ use Rattle.capnp_wire.proofs.layouts.BlockLemmas.{length-put}
 use Rattle.capnp_wire.proofs.layouts.CopyLemmas.{fill_step, none_formed}
 use Rattle.capnp_wire.proofs.layouts.FreeLemmas.{free_after, free_copied}
 use Rattle.capnp_wire.proofs.layouts.OpenLemmas.{room_formed}
-use Rattle.capnp_values.specs.Fields.{IsPart}
 use Rattle.capnp_values.specs.Lists.{AreItems, HasRoomForItems, AreItemsWritten}
 use Rattle.capnp_values.proofs.PartLemmas.{part_total, more_total}
 use Rattle.capnp_values.proofs.ItemLemmas.{from_here, none_left}

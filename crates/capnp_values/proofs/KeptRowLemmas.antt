@@ -1,5 +1,5 @@
 -- Lists of structs: what each element keeps in canonical form.
-use Rattle.std.proofs.Common.{◌≡◌, ℕ, ◌+◌, ◌<◌, ◌≤◌, true, max, List, [], ◌∷◌, length, map, drop, ◌∙◌, sym, ap, subst, arith, get_or}
+use Rattle.std.proofs.Common.{◌≡◌, ℕ, ◌+◌, ◌<◌, ◌≤◌, true, max, List, ◌∷◌, length, map, drop, ◌∙◌, ap, subst, arith, get_or}
 use Rattle.capnp_wire.specs.Tree.{Trees, count}
 use Rattle.capnp_wire.specs.Trim.{cut_zeros, least_data, least_pointers, trim}
 use Rattle.capnp_values.specs.Fields.{IsSettled, kept_row}

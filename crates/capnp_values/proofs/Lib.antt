@@ -11,8 +11,10 @@ pub mod StructListCopyLemmas
 pub mod SectionLemmas
 pub mod NullLemmas
 pub mod ItemLemmas
+pub mod StandingLemmas
 pub mod ItemRowLemmas
 pub mod PointerListLemmas
+pub mod FullWordLemmas
 pub mod NumberListLemmas
 pub mod MeasuredLemmas
 pub mod FilledLemmas

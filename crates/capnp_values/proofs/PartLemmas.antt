@@ -1,6 +1,6 @@
 -- Values as parts of rows: their trees as they stand or in canonical form, and their words.
-use Rattle.std.proofs.Common.{◌≡◌, ℕ, ◌+◌, ◌<◌, ◌≤◌, ◌^◌, Bool, true, false, refl, sym, ◌∙◌, ap, subst, arith}
-use Rattle.capnp_wire.specs.Tree.{Form, Trees, none, tree, count, own_words, total_words}
+use Rattle.std.proofs.Common.{◌≡◌, ℕ, ◌+◌, ◌≤◌, Bool, true, false, refl, ◌∙◌, ap, subst, arith}
+use Rattle.capnp_wire.specs.Tree.{Form, Trees, none, tree, count, total_words}
 use Rattle.capnp_wire.specs.Trim.{trim, trim_form, trim_held}
 use Rattle.capnp_wire.specs.Layout.{formed, AllHaveRoom}
 use Rattle.capnp_wire.specs.Values.{HasPart}

@@ -12,7 +12,7 @@ use Rattle.capnp_wire.specs.Values.{HasRoomAt}
 use Rattle.capnp_wire.proofs.trees.TrimLemmas.{count-trim}
 use Rattle.capnp_wire.proofs.layouts.OpenLemmas.{room_formed}
 use Rattle.capnp_values.specs.Measured.{tree_words, Measures}
-use Rattle.capnp_values.specs.Lists.{AreItems, RefusesItems, HasRoomForItems, IsPointerList, RefusesPointerList}
+use Rattle.capnp_values.specs.Lists.{AreItems, HasRoomForItems, IsPointerList, RefusesPointerList}
 use Rattle.capnp_values.specs.declared.measured.TreeWords.{TreeWords}
 use Rattle.capnp_values.proofs.ItemLemmas.{items_settled, same_tree_words, MeasuresItems}
 use Rattle.capnp_values.proofs.FilledLemmas.{list_filled}

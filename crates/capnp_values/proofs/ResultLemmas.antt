@@ -1,5 +1,5 @@
 -- What a measure returns.
-use Rattle.std.proofs.Common.{◌≡◌, Bool, false, Result, Ok, Err, inl, inr, ap, subst}
+use Rattle.std.proofs.Common.{◌≡◌, Bool, false, Result, Ok, Err, inl, inr, subst}
 use Rattle.std.specs.Result.{IsErrAnd}
 use Rattle.capnp_frame.specs.declared.error.Error.{Error}
 use Rattle.capnp_frame.specs.declared.error.ErrorKind.{ErrorKind}

@@ -14,7 +14,7 @@ use Rattle.capnp_values.specs.Fields.{IsSettled, kept_row, extent_of, HasExtent}
 use Rattle.capnp_values.specs.declared.fields.Extent.{Extent}
 use Rattle.capnp_values.specs.declared.rows.Reach.{Reach}
 use Rattle.capnp_values.specs.Structs.{kept_words}
-use Rattle.capnp_values.specs.StructLists.{AreRows, element_data, element_pointers, reach_of, reached, ReachesRows}
+use Rattle.capnp_values.specs.StructLists.{element_data, element_pointers, reach_of, reached, ReachesRows}
 use Rattle.capnp_values.proofs.ItemLemmas.{from_here, formed_small, none_left}
 use Rattle.capnp_values.proofs.ReachLemmas.{kept_total}
 use Rattle.capnp_values.proofs.ResultLemmas.{ok_not_err, err_kind}

@@ -21,20 +21,27 @@ same_there [] k e within = absurd (omega arith)
 same_there (x ∷ xs) zero e within = refl
 same_there (x ∷ xs) (suc k) e within = same_there xs k e (omega arith)
 
+pub next_put : (i x : ℕ) (block new old words : List ℕ) → slice_get words i ≡ Some x → i < length words → length old ≡ length words → new ≡ put i (x ∷ []) block → block ≡ put 0 (take i words) old
+    → new ≡ put 0 (take (i + 1) words) old
+next_put i x block new old words there within old_long is so_far =
+    let front : length (take i words) ≡ i = omega (arith, length-take i words) in
+    let next : suc i ≡ i + 1 = omega arith in
+    is
+    ∙ ap (λ (l : List ℕ). put i (x ∷ []) l) so_far
+    ∙ ap (λ (n : ℕ). put n (x ∷ []) (put 0 (take i words) old)) (omega arith)
+    ∙ put_both 0 (take i words) (x ∷ []) old (omega arith)
+    ∙ ap (λ (l : List ℕ). put 0 l old) (sym (take_more i words x there) ∙ ap (λ (n : ℕ). take n words) next)
+
 pub word_put : (i k : ℕ) (block w old words : List ℕ) (x : ℕ) → k ≡ 8 → w ≡ to_le_bytes w64 x → length w ≡ 8 → x < 2 ^ 64 → slice_get words i ≡ Some x → i < length words
     → length block ≡ 8 * length words → length old ≡ length words → words_of block ≡ put 0 (take i words) old
     → words_of (take (8 * i) block ++ (w ++ drop k (drop (8 * i) block))) ≡ put 0 (take (i + 1) words) old
 word_put i k block w old words x k_is w_is eight small there within long old_long so_far =
     let one : words_of w ≡ x ∷ [] = one_word w x small w_is in
-    let front : length (take i words) ≡ i = omega (arith, length-take i words) in
-    let next : suc i ≡ i + 1 = omega arith in
+    let is : words_of (take (8 * i) block ++ (w ++ drop k (drop (8 * i) block))) ≡ put i (x ∷ []) (words_of block) =
     ap (λ (n : ℕ). words_of (take (8 * i) block ++ (w ++ drop n (drop (8 * i) block)))) (k_is ∙ sym eight)
     ∙ put_mid_words i block w (omega arith) (omega arith)
-    ∙ ap (λ (l : List ℕ). put i l (words_of block)) one
-    ∙ ap (λ (l : List ℕ). put i (x ∷ []) l) so_far
-    ∙ ap (λ (n : ℕ). put n (x ∷ []) (put 0 (take i words) old)) (omega arith)
-    ∙ put_both 0 (take i words) (x ∷ []) old (omega arith)
-    ∙ ap (λ (l : List ℕ). put 0 l old) (sym (take_more i words x there) ∙ ap (λ (n : ℕ). take n words) next)
+    ∙ ap (λ (l : List ℕ). put i l (words_of block)) one in
+    next_put i x (words_of block) _ old words there within old_long is so_far
 
 pub there_is : (xs : List ℕ) (k e x : ℕ) → k < length xs → x ≡ slice_index_or xs k e → slice_get xs k ≡ Some x
 there_is xs k e x within is = same_there xs k e within ∙ ap (λ (n : ℕ). Some n) (sym is)

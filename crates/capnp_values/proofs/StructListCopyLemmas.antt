@@ -1,6 +1,5 @@
 -- Lists of structs as values: what is written of them.
 use Rattle.std.proofs.Common.{◌≡◌, ℕ, ◌+◌, ◌*◌, ◌≤◌, Bool, List, [], ◌∷◌, length, map, take, sym, ◌∙◌, ap, subst, arith}
-use Rattle.std.specs.Prelude.{◌-◌}
 use Rattle.std.proofs.lemmas.List.{length-map}
 use Rattle.capnp_wire.specs.Tree.{structs, Trees, none, tree, count, total_words}
 use Rattle.capnp_wire.specs.Layout.{list_pointer, struct_pointer, formed, AllHaveRoom}

@@ -1,8 +1,8 @@
 -- Lists of structs: the rows of trees of their elements, as they stand or in canonical form, and how far these reach.
-use Rattle.std.proofs.Common.{◌≡◌, ℕ, zero, suc, ◌+◌, ◌*◌, ◌<◌, ◌≤◌, ◌^◌, Bool, true, false, max, List, [], ◌∷◌, length, map, take, drop, refl, sym, ◌∙◌, ap, subst, arith}
+use Rattle.std.proofs.Common.{◌≡◌, ℕ, suc, ◌+◌, ◌*◌, ◌<◌, ◌^◌, Bool, true, false, max, List, [], ◌∷◌, length, map, take, refl, sym, ◌∙◌, ap, subst, arith}
 use Rattle.std.specs.Prelude.{All}
 use Rattle.std.proofs.lemmas.List.{take_all, length-map}
-use Rattle.std.proofs.lemmas.List.Elements.{All-nil, All-cons, All-head, All-tail}
+use Rattle.std.proofs.lemmas.List.Elements.{All-head, All-tail}
 use Rattle.capnp_wire.specs.Tree.{structs, Trees, none, tree, count, total_words}
 use Rattle.capnp_wire.specs.Trim.{first, following, before, cut_nulls, least_pointers, narrowed, trim}
 use Rattle.capnp_wire.specs.Layout.{formed, AllHaveRoom}

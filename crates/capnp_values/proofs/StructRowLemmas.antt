@@ -1,11 +1,10 @@
 -- Lists of structs: what is written of their elements.
-use Rattle.std.proofs.Common.{◌≡◌, ℕ, zero, suc, ◌+◌, ◌-◌, ◌*◌, ◌<◌, ◌≤◌, Bool, true, false, List, [], ◌∷◌, length, map, take, drop, refl, sym, ◌∙◌, ap, subst, arith, get_or, length-take}
+use Rattle.std.proofs.Common.{◌≡◌, ℕ, ◌+◌, ◌*◌, ◌<◌, ◌≤◌, Bool, true, false, List, ◌∷◌, length, map, take, drop, refl, sym, ◌∙◌, ap, subst, arith, get_or, length-take}
 use Rattle.std.proofs.Math.Nat.{mul-le-mul_left}
-use Rattle.std.proofs.lemmas.List.{length-map}
 use Rattle.capnp_wire.specs.Pointer.{words_of}
-use Rattle.capnp_wire.specs.Tree.{Trees, none, count, total_words}
+use Rattle.capnp_wire.specs.Tree.{Trees, count, total_words}
 use Rattle.capnp_wire.specs.Trim.{first, following, before, trim}
-use Rattle.capnp_wire.specs.Layout.{run, formed, AllHaveRoom}
+use Rattle.capnp_wire.specs.Layout.{run, formed}
 use Rattle.capnp_wire.specs.Block.{put, fill}
 use Rattle.capnp_wire.specs.Values.{IsFreeFrom}
 use Rattle.capnp_wire.proofs.trees.ChunkLemmas.{count-first, total-before, least_pointers_within}

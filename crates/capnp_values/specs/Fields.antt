@@ -57,6 +57,10 @@ extent_of canonical trees = record {
 abbrev pub HasExtent : (Trees → Type 0) → Bool → Extent → Type 0
 HasExtent has_trees canonical extent = (trees : Trees) × has_trees trees × (extent ≡ extent_of canonical trees)
 
+-- the trees of a row, and their words
+abbrev pub HasTotal : (Trees → Type 0) → ℕ → Type 0
+HasTotal has_trees words = (trees : Trees) × has_trees trees × (words ≡ total_words trees)
+
 -- the first n pointers of a row can be written, and what they lead to from a word of a block on
 pub record CanWriteRow (has_trees : Trees → Type 0) (canonical : Bool) (n next room : ℕ) : Type 0 where
   pub trees : Trees

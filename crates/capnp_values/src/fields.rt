@@ -3,9 +3,9 @@ ghost use Rattle.std.specs.Prelude.{◌≡◌, ◌+◌, ◌<◌, ◌≤◌, ◌^
 ghost use Rattle.std.specs.Result.{IsErrAnd};
 ghost use Rattle.capnp_frame.specs.declared.error.ErrorKind.{ErrorKind};
 ghost use Rattle.capnp_wire.specs.Pointer.{words_of};
-ghost use Rattle.capnp_wire.specs.Tree.{Trees, count};
+ghost use Rattle.capnp_wire.specs.Tree.{Trees, count, total_words};
 ghost use Rattle.capnp_wire.specs.Values.{IsFreeFrom};
-ghost use Rattle.capnp_values.specs.Fields.{IsSettled, HasExtent, kept_row, extent_of, CanWriteRow, IsRowWritten};
+ghost use Rattle.capnp_values.specs.Fields.{IsSettled, HasExtent, HasTotal, kept_row, extent_of, CanWriteRow, IsRowWritten};
 
 mod field;
 mod no_fields;
@@ -52,6 +52,20 @@ pub trait Fields {
             result ≡ Ok (extent_of canonical trees) }
         ensures exact { (kind : ErrorKind) → refuses self.now kind →
             IsErrAnd result (λ error. error.kind ≡ kind) };
+
+    /// The words of all that the row's pointers lead to, as they stand.
+    fn standing(&self) -> Result<u64>
+        requires { size < 2 ^ 16 }
+        ensures returned { MatchResult result (λ words. HasTotal (has_trees self.now) words)
+            (λ error. refuses self.now error.kind) }
+        ensures found { (trees : Trees) → has_trees self.now trees →
+            result ≡ Ok (total_words trees) }
+        ensures exact { (kind : ErrorKind) → refuses self.now kind →
+            IsErrAnd result (λ error. error.kind ≡ kind) }
+    {
+        let extent = self.measure(false)?;
+        Ok(extent.standing)
+    }
 
     /// How many pointers the row keeps, as it stands or in canonical form.
     fn kept(&self, canonical: bool) -> u32

@@ -1,5 +1,5 @@
 //! Values of one type, one after the other: what their trees take, and what is written of them.
-ghost use Rattle.std.specs.Prelude.{◌≡◌, ◌+◌, ◌<◌, ◌≤◌, ◌^◌, length};
+ghost use Rattle.std.specs.Prelude.{◌≡◌, ◌+◌, ◌<◌, ◌≤◌, ◌^◌, false, length};
 ghost use Rattle.capnp_wire.specs.Pointer.{words_of};
 ghost use Rattle.capnp_wire.specs.Values.{IsFreeFrom};
 ghost use Rattle.capnp_values.specs.Measured.{Measures};
@@ -18,6 +18,9 @@ pub(crate) fn measure_items<T, V: SetterInput<T>>(items: &[V], canonical: bool) 
     ensures { Measures (AreItems V.has_tree items.now)
         (RefusesItems V.has_tree V.refuses items.now) canonical result }
 {
+    if !canonical {
+        return standing_items::<T, V>(items);
+    }
     let mut words = TreeWords {
         standing: 0,
         formed: 0,
@@ -29,6 +32,23 @@ pub(crate) fn measure_items<T, V: SetterInput<T>>(items: &[V], canonical: bool) 
         words = TreeWords { standing, formed };
     }
     Ok(words)
+}
+
+// The words of all that they are as they stand, which are those of the form that is made, too: one sum.
+fn standing_items<T, V: SetterInput<T>>(items: &[V]) -> Result<TreeWords>
+    requires { length items.now < 2 ^ 29 }
+    ensures { Measures (AreItems V.has_tree items.now)
+        (RefusesItems V.has_tree V.refuses items.now) false result }
+{
+    let mut words = 0;
+    for index in 0..items.len() {
+        let own = items[index].measure(false)?;
+        words += own as u64;
+    }
+    Ok(TreeWords {
+        standing: words,
+        formed: words,
+    })
 }
 
 /// Writes the pointers to some values into a block, from a word of it on, and the values after the last of

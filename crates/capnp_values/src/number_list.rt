@@ -5,7 +5,7 @@ ghost use Rattle.capnp_wire.specs.Element.{width, words_for};
 
 use crate::measured::too_many;
 use capnp_frame::Result;
-use capnp_wire::pointer_word::list_word;
+use capnp_wire::pointer_word::{list_word, put_word};
 use capnp_wire::primitive_element::PrimitiveElement;
 use capnp_wire::primitive_list::Owned;
 use capnp_wire::traits::{Copied, SetterInput};
@@ -96,12 +96,15 @@ fn put_numbers<N: PrimitiveElement + Copy>(items: &[N], block: &mut [u8])
         return;
     }
     let each = 64 / size.bits() as usize;
-    for index in 0..block.len() / 8 {
+    let full = items.len() / each;
+    for index in 0..full {
         let first = index * each;
-        let last = (first + each).min(items.len());
-        let word = word_of_numbers(&items[first..last]);
-        let at = 8 * index;
-        block[at..at + 8].copy_from_slice(&word.to_le_bytes());
+        let word = word_of_numbers(&items[first..first + each]);
+        put_word(block, index, word);
+    }
+    if full < block.len() / 8 {
+        let last = word_of_numbers(&items[full * each..]);
+        put_word(block, full, last);
     }
 }
 

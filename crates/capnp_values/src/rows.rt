@@ -1,5 +1,5 @@
 //! The elements of lists of structs: how far they reach, and what is written of them.
-ghost use Rattle.std.specs.Prelude.{◌≡◌, ℕ, ◌+◌, ◌*◌, ◌<◌, ◌≤◌, ◌^◌, [], map, length, take};
+ghost use Rattle.std.specs.Prelude.{◌≡◌, ℕ, ◌+◌, ◌*◌, ◌<◌, ◌≤◌, ◌^◌, [], false, map, length, take};
 ghost use Rattle.capnp_wire.specs.Pointer.{words_of};
 ghost use Rattle.capnp_wire.specs.Tree.{Trees, none};
 ghost use Rattle.capnp_wire.specs.Block.{put};
@@ -50,6 +50,9 @@ pub(crate) fn measure_rows<E: Fields + Element>(items: &[E], canonical: bool) ->
     ensures { ReachesRows E.words E.has_trees E.refuses
         canonical E.data_words E.size items.now result }
 {
+    if !canonical {
+        return standing_rows(items);
+    }
     let mut reach = least_reach(E::data_words(), E::count(), canonical);
     for index in 0..items.len() {
         let item = &items[index];
@@ -58,6 +61,29 @@ pub(crate) fn measure_rows<E: Fields + Element>(items: &[E], canonical: bool) ->
         reach = with_row(reach, data_words, extent);
     }
     Ok(reach)
+}
+
+// How far some structs reach as they stand, where each keeps all: one sum.
+fn standing_rows<E: Fields + Element>(items: &[E]) -> Result<Reach>
+    requires words { E.data_words < 2 ^ 16 }
+    requires pointers { E.size < 2 ^ 16 }
+    requires few { length items.now * (E.data_words + E.size) < 2 ^ 29 }
+    ensures { ReachesRows E.words E.has_trees E.refuses
+        false E.data_words E.size items.now result }
+{
+    let mut words = 0;
+    for index in 0..items.len() {
+        let item = &items[index];
+        let own = item.standing()?;
+        let _data_words = item.words();
+        words += own;
+    }
+    Ok(Reach {
+        data_words: E::data_words(),
+        pointers: E::count(),
+        words,
+        standing: words,
+    })
 }
 
 // What the elements of a list keep in any case: as they stand all, and in canonical form nothing.

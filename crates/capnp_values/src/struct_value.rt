@@ -109,6 +109,10 @@ impl<const D: usize, F: Fields> Fields for StructValue<D, F> {
         self.fields.measure(canonical)
     }
 
+    fn standing(&self) -> Result<u64> {
+        self.fields.standing()
+    }
+
     fn kept(&self, canonical: bool) -> u32 {
         self.fields.kept(canonical)
     }

@@ -64,6 +64,12 @@ impl<T, V: SetterInput<T>, F: Fields> Fields for Field<T, V, F> {
         Ok(front(&self.value, canonical, own, rest))
     }
 
+    fn standing(&self) -> Result<u64> {
+        let own = self.value.measure(false)?;
+        let rest = self.rest.standing()?;
+        Ok(own as u64 + rest)
+    }
+
     fn kept(&self, canonical: bool) -> u32 {
         let rest = self.rest.kept(canonical);
         if is_left_out(&self.value, canonical, rest) {

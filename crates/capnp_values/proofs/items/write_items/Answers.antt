@@ -1,5 +1,5 @@
 -- Each value is written after those before it.
-use Rattle.std.proofs.Common.{◌≡◌, ◌+◌, ℕ, length, arith}
+use Rattle.std.proofs.Common.{arith}
 use Rattle.capnp_wire.proofs.words.WordLemmas.{length-words_of}
 use Rattle.capnp_values.proofs.ItemRowLemmas.{writing_begins, item_room, writing_goes_on, writing_ends}
 use Rattle.capnp_values.proofs.items.write_items.Goals as goal

@@ -1,5 +1,5 @@
 -- As they stand all is kept, and in canonical form what one of them needs.
-use Rattle.std.proofs.Common.{◌≡◌, ◌∙◌, Bool, List, ℕ, length, map, ap, sym, arith}
+use Rattle.std.proofs.Common.{◌∙◌, Bool, List, ℕ, length, map, ap, sym, arith}
 use Rattle.capnp_wire.specs.Trim.{cut_zeros}
 use Rattle.capnp_values.specs.StructLists.{element_data, element_pointers}
 use Rattle.capnp_values.proofs.KeptRowLemmas.{needing_begins, needing_goes_on, needing_ends}

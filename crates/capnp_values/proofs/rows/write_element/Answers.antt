@@ -1,5 +1,5 @@
 -- A struct's data words, and the pointers that are kept of it.
-use Rattle.std.proofs.Common.{◌≡◌, ◌+◌, ◌≤◌, ◌∙◌, ℕ, List, length, take, subst, sym, ap, arith, length-take}
+use Rattle.std.proofs.Common.{◌≡◌, ◌+◌, ◌≤◌, ℕ, List, length, take, subst, ap, arith, length-take}
 use Rattle.capnp_wire.specs.Pointer.{words_of}
 use Rattle.capnp_wire.specs.Block.{put}
 use Rattle.capnp_values.specs.Fields.{IsRowWritten}

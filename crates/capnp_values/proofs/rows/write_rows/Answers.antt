@@ -1,5 +1,5 @@
 -- Each struct is written after those before it.
-use Rattle.std.proofs.Common.{◌≡◌, ◌+◌, ◌*◌, ◌≤◌, ℕ, length, map, refl, arith}
+use Rattle.std.proofs.Common.{◌≤◌, ℕ, map, refl, arith}
 use Rattle.capnp_wire.proofs.words.WordLemmas.{length-words_of}
 use Rattle.capnp_values.proofs.StructRowLemmas.{pointers_within, writing_begins, row_room, writing_goes_on, writing_ends}
 use Rattle.capnp_values.proofs.rows.write_rows.Goals as goal

@@ -1,5 +1,5 @@
 -- A struct has the words that are kept of it, a word for each pointer, and those of its row.
-use Rattle.std.proofs.Common.{rules, ◌≡◌, ◌+◌, ◌∙◌, false, Err, IsTrue, Result, length, subst, sym, ap, arith}
+use Rattle.std.proofs.Common.{rules, ◌≡◌, false, Err, IsTrue, Result, length, subst, sym, arith}
 use Rattle.capnp_frame.specs.declared.error.Error.{Error}
 use Rattle.capnp_values.specs.Measured.{Measures}
 use Rattle.capnp_values.specs.Structs.{IsStruct, RefusesStruct}

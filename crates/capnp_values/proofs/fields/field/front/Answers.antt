@@ -1,6 +1,5 @@
 -- A value is in front of a row, or is left out with it.
-use Rattle.std.proofs.Common.{◌≡◌, ◌+◌, ◌∙◌, sym, ap, arith}
-use Rattle.capnp_wire.specs.Tree.{is_null}
+use Rattle.std.proofs.Common.{◌+◌, ◌∙◌, sym, ap}
 use Rattle.capnp_values.proofs.ReachLemmas.{left_out, left_in, front_null, front_kept}
 use Rattle.capnp_values.proofs.fields.field.front.Goals as goal
 

@@ -1,11 +1,10 @@
 -- The numbers, in just their words.
-use Rattle.std.proofs.Common.{◌≡◌, ◌+◌, ◌-◌, ◌*◌, ◌∙◌, ℕ, List, map, length, take, drop, ap, sym, arith, length-take, length-drop}
+use Rattle.std.proofs.Common.{◌≡◌, ◌+◌, ◌-◌, ◌*◌, ◌∙◌, ℕ, List, map, length, drop, ap, sym, arith, length-take, length-drop}
 use Rattle.std.proofs.lemmas.List.{length-map}
-use Rattle.capnp_wire.specs.Pointer.{words_of}
 use Rattle.capnp_wire.specs.Element.{width, words_for}
 use Rattle.capnp_wire.specs.Layout.{list_pointer}
 use Rattle.capnp_wire.proofs.words.WordLemmas.{length-words_of}
-use Rattle.capnp_wire.proofs.layouts.FreeLemmas.{numbers_copied, numbers_total, as_formed, body_long}
+use Rattle.capnp_wire.proofs.layouts.FreeLemmas.{numbers_copied, as_formed, body_long}
 use Rattle.capnp_values.specs.NumberLists.{IsNumberList}
 use Rattle.capnp_values.proofs.NumberListLemmas.{list_fits, list_room, numbers_put}
 use Rattle.capnp_values.proofs.number_list.NumberListSetterInputOwned.write.Goals as goal

@@ -1,5 +1,5 @@
 -- The pointers, and then what they lead to.
-use Rattle.std.proofs.Common.{◌≡◌, ◌+◌, ◌-◌, length, ◌∙◌, sym, arith}
+use Rattle.std.proofs.Common.{◌+◌, ◌-◌, length, sym, arith}
 use Rattle.capnp_wire.specs.Pointer.{words_of}
 use Rattle.capnp_wire.proofs.layouts.FreeLemmas.{free_later}
 use Rattle.capnp_wire.proofs.layouts.SizeLemmas.{length-body}

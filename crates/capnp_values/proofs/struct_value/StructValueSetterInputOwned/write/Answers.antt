@@ -1,5 +1,5 @@
 -- A struct is its own words, and what its pointers lead to.
-use Rattle.std.proofs.Common.{◌≡◌, ◌+◌, ◌-◌, ◌∙◌, ℕ, length, length-take, take, sym, arith}
+use Rattle.std.proofs.Common.{◌+◌, ◌-◌, length-take, arith}
 use Rattle.capnp_wire.specs.Pointer.{words_of}
 use Rattle.capnp_wire.proofs.layouts.FreeLemmas.{free_later}
 use Rattle.capnp_wire.proofs.layouts.SizeLemmas.{length-body}

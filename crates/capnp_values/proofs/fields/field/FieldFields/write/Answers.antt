@@ -1,5 +1,5 @@
 -- The first value is written, and its pointer put, and then those after it.
-use Rattle.std.proofs.Common.{◌≡◌, ℕ, suc, ◌-◌, arith}
+use Rattle.std.proofs.Common.{◌≡◌, suc, ◌-◌, arith}
 use Rattle.capnp_values.proofs.RowLemmas.{first_room, row_step, row_written, none_row_written}
 use Rattle.capnp_values.proofs.fields.field.FieldFields.write.Goals as goal
 
