@@ -1,0 +1,161 @@
+//! A schema, as a request to generate code has it (`schema.capnp` of Cap'n Proto): what the compiler
+//! needs of it.
+
+/// A declaration.
+#[derive(Drop)]
+pub struct Node<'a> {
+    pub id: u64,
+    /// The node in which it is declared; 0 for a file.
+    pub scope: u64,
+    /// The name within that node.
+    pub name: &'a str,
+    /// The comment that stands at it; empty where there is none.
+    pub comment: &'a str,
+    /// The comments of its fields or enumerants, in the order of these.
+    pub member_comments: Vec<&'a str>,
+    /// The nodes that are declared in it.
+    pub nested: Vec<u64>,
+    pub body: Body<'a>,
+}
+
+/// What a node declares.
+#[derive(Drop)]
+pub enum Body<'a> {
+    File,
+    Struct(Struct<'a>),
+    /// The names of the enumerants, by their numbers.
+    Enum(Vec<&'a str>),
+    Interface,
+    Constant(Type, Value<'a>),
+    /// An annotation, or what this compiler doesn't know.
+    Other,
+}
+
+/// A struct, or a group of one.
+#[derive(Drop)]
+pub struct Struct<'a> {
+    /// The words of the data section.
+    pub data_words: u16,
+    /// The pointers of the pointer section.
+    pub pointers: u16,
+    pub is_group: bool,
+    /// Where the number stands that says which member of the union is there, in units of two bytes; none
+    /// where there is no union.
+    pub discriminant: Option<u32>,
+    pub fields: Vec<Field<'a>>,
+}
+
+/// A field of a struct.
+#[derive(Drop)]
+pub struct Field<'a> {
+    pub name: &'a str,
+    /// Its number among the members of the union, where it is one.
+    pub member: Option<u16>,
+    pub slot: Slot<'a>,
+}
+
+/// Where a field stands.
+#[derive(Clone, Copy)]
+pub enum Slot<'a> {
+    /// At an offset in units of its own width, or at a pointer.
+    At(u32, Type, Value<'a>),
+    /// In a group, which is a node.
+    Group(u64),
+    /// What this compiler doesn't know.
+    Unknown,
+}
+
+/// A type: what the elements are of lists of lists, so many deep.
+#[derive(Clone, Copy)]
+pub struct Type {
+    /// How many lists there are around the base; 0 for the base itself.
+    pub lists: u32,
+    pub base: Base,
+}
+
+/// A type that is no list.
+#[derive(Clone, Copy, PartialEq, Eq)]
+pub enum Base {
+    Void,
+    Bool,
+    Int8,
+    Int16,
+    Int32,
+    Int64,
+    Uint8,
+    Uint16,
+    Uint32,
+    Uint64,
+    Float32,
+    Float64,
+    Text,
+    Data,
+    /// An enum, by its node.
+    Enum(u64),
+    /// A struct, by its node.
+    Struct(u64),
+    /// An interface, or what this compiler doesn't know.
+    Interface,
+    AnyPointer,
+}
+
+/// A value of a constant or of a default.
+#[derive(Clone, Copy)]
+pub enum Value<'a> {
+    /// The bits of a number, a bool or an enum; 0 for nothing.
+    Bits(u64),
+    Text(&'a str),
+    Data(&'a [u8]),
+    /// A null pointer.
+    Null,
+    /// A list, a struct or any pointer that is not null.
+    Object,
+}
+
+/// A file that code is asked for.
+#[derive(Clone, Copy)]
+pub struct RequestedFile<'a> {
+    pub id: u64,
+    pub name: &'a str,
+}
+
+/// A request to generate code.
+#[derive(Drop)]
+pub struct Request<'a> {
+    pub nodes: Vec<Node<'a>>,
+    pub files: Vec<RequestedFile<'a>>,
+}
+
+impl<'a> Request<'a> {
+    /// The node of this number.
+    pub fn find(&self, id: u64) -> Option<&Node<'a>> {
+        for node in self.nodes.as_slice() {
+            if node.id == id {
+                return Some(node);
+            }
+        }
+        None
+    }
+
+    /// The struct that a node declares, with the node.
+    pub fn find_struct(&self, id: u64) -> Option<(&Node<'a>, &Struct<'a>)> {
+        let node = self.find(id)?;
+        match &node.body {
+            Body::Struct(body) => Some((node, body)),
+            _ => None,
+        }
+    }
+
+    /// The name of a file, as it was asked for or as it was declared.
+    pub fn file_name(&self, id: u64) -> Option<&'a str> {
+        for file in self.files.as_slice() {
+            if file.id == id {
+                return Some(file.name);
+            }
+        }
+        match self.find(id) {
+            Some(node) => Some(node.name),
+            None => None,
+        }
+    }
+}

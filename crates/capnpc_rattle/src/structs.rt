@@ -1,0 +1,82 @@
+//! Structs and groups.
+use crate::code::Code;
+use crate::fields::{Getter, push_field};
+use crate::names::{Site, module};
+use crate::schema::{Node, Request, Struct};
+use crate::templates::{FROM_POINTER, GROUP, STRUCT};
+use crate::unions::{Members, push_members, push_which};
+use std::alloc::{AllocError, Global};
+
+/// Opens the module of a struct, or of a group, and adds all of it but the modules in it.
+pub fn push_struct(
+    alloc: Global,
+    code: &mut Code,
+    request: &Request<'_>,
+    file: u64,
+    node: &Node<'_>,
+    body: &Struct<'_>,
+) -> Result<(), AllocError> {
+    code.add("\n", &[])?;
+    code.add_comment(node.comment)?;
+    let name = module(alloc, node.name)?;
+    code.add(
+        if body.is_group { GROUP } else { STRUCT },
+        &[("module", name.as_str())],
+    )?;
+    code.depth = code.depth.saturating_add(1);
+    let site = Site {
+        file,
+        depth: code.depth,
+    };
+    let members = push_getters(alloc, code, request, site, node, body)?;
+    code.add("}", &[])?;
+    if body.discriminant.is_some() {
+        push_members(alloc, code, &members)?;
+    }
+    code.depth = code.depth.saturating_sub(1);
+    if !body.is_group {
+        code.add(FROM_POINTER, &[])?;
+    }
+    code.depth = code.depth.saturating_add(1);
+    Ok(())
+}
+
+// Adds the getters, and returns the members of the union, where there is one.
+fn push_getters(
+    alloc: Global,
+    code: &mut Code,
+    request: &Request<'_>,
+    site: Site,
+    node: &Node<'_>,
+    body: &Struct<'_>,
+) -> Result<Members, AllocError> {
+    code.depth = code.depth.saturating_add(1);
+    let mut members = Members::new(alloc);
+    let mut index = 0;
+    for field in body.fields.as_slice() {
+        let comment = match node.member_comments.get(index) {
+            Some(comment) => *comment,
+            None => "",
+        };
+        let getter = Getter {
+            request,
+            site,
+            is_group: body.is_group,
+            field,
+            comment,
+        };
+        if index > 0 {
+            code.add("\n", &[])?;
+        }
+        push_field(alloc, code, &getter)?;
+        if let Some(number) = field.member {
+            members.push(alloc, &getter, number)?;
+        }
+        index += 1;
+    }
+    if let Some(offset) = body.discriminant {
+        push_which(alloc, code, body.is_group, offset, &members)?;
+    }
+    code.depth = code.depth.saturating_sub(1);
+    Ok(members)
+}

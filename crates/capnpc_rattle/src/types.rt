@@ -1,0 +1,89 @@
+//! Types and values of a request.
+use crate::request::read_text;
+use crate::schema::{Base, Type, Value};
+use anyhow::Result;
+use capnp_frame::message::ReaderSegments;
+use capnp_wire::any_struct::StructReader;
+
+/// How many lists of lists a type may have; the schema compiler takes no deeper ones.
+const MAX_LISTS: u32 = 64;
+
+/// A type. The element type of a list is read in place of the list, which is counted.
+pub fn read_type<'a, S: ReaderSegments>(fields: &StructReader<'a, S>) -> Result<Type> {
+    let mut lists = 0;
+    let mut element = element_type(fields)?;
+    if element.is_none() {
+        return Ok(Type {
+            lists,
+            base: read_base(fields),
+        });
+    }
+    for depth in 0..MAX_LISTS {
+        let Some(inner) = element else {
+            break;
+        };
+        lists = depth + 1;
+        let next = element_type(&inner)?;
+        if next.is_none() {
+            return Ok(Type {
+                lists,
+                base: read_base(&inner),
+            });
+        }
+        element = next;
+    }
+    Ok(Type {
+        lists,
+        base: Base::Interface,
+    })
+}
+
+// The type of the elements of a list; none for a type that is no list.
+fn element_type<'a, S: ReaderSegments>(
+    fields: &StructReader<'a, S>,
+) -> Result<Option<StructReader<'a, S>>> {
+    if fields.get_data_field::<u16>(0) != 14 {
+        return Ok(None);
+    }
+    Ok(Some(fields.get_pointer(0).get_as()?))
+}
+
+// A type that is no list.
+fn read_base<'a, S: ReaderSegments>(fields: &StructReader<'a, S>) -> Base {
+    match fields.get_data_field::<u16>(0) {
+        0 => Base::Void,
+        1 => Base::Bool,
+        2 => Base::Int8,
+        3 => Base::Int16,
+        4 => Base::Int32,
+        5 => Base::Int64,
+        6 => Base::Uint8,
+        7 => Base::Uint16,
+        8 => Base::Uint32,
+        9 => Base::Uint64,
+        10 => Base::Float32,
+        11 => Base::Float64,
+        12 => Base::Text,
+        13 => Base::Data,
+        15 => Base::Enum(fields.get_data_field(1)),
+        16 => Base::Struct(fields.get_data_field(1)),
+        18 => Base::AnyPointer,
+        _ => Base::Interface,
+    }
+}
+
+/// A value.
+pub fn read_value<'a, S: ReaderSegments>(fields: &StructReader<'a, S>) -> Result<Value<'a>> {
+    Ok(match fields.get_data_field::<u16>(0) {
+        0 => Value::Bits(0),
+        1 => Value::Bits(fields.get_data_field::<bool>(16) as u64),
+        2 | 6 => Value::Bits(fields.get_data_field::<u8>(2) as u64),
+        3 | 7 | 15 => Value::Bits(fields.get_data_field::<u16>(1) as u64),
+        4 | 8 | 10 => Value::Bits(fields.get_data_field::<u32>(1) as u64),
+        5 | 9 | 11 => Value::Bits(fields.get_data_field(1)),
+        12 if fields.has_pointer(0) => Value::Text(read_text(fields, 0)?),
+        13 if fields.has_pointer(0) => Value::Data(fields.get_pointer(0).get_as()?),
+        14 | 16 | 18 if fields.has_pointer(0) => Value::Object,
+        _ => Value::Null,
+    })
+}

@@ -1,0 +1,348 @@
+//! Types of `sample.capnp`, made by `capnpc-rattle`. Don't change them here.
+ghost use Rattle.std.specs.Prelude.{◌≡◌, ◌≤◌, ◌<◌, ◌==◌, bit_xor, length, MatchResult};
+ghost use Rattle.std.specs.Int.{w32, cast_signed};
+ghost use Rattle.capnp_wire.specs.Fields.{field};
+ghost use Rattle.capnp_wire.specs.ListViews.{element_of};
+ghost use Rattle.capnp_wire.specs.Readers.{struct_of, pointer_of};
+ghost use Rattle.capnp_wire.specs.UpgradedReaders.{upgraded_structs_of, upgraded_numbers_of};
+ghost use Rattle.capnp_wire.specs.UpgradedViews.{IsUpgradedStructs, TakesRows, DeclinesRows, ReadsAsNumbers, TakesFields, DeclinesFields};
+ghost use Rattle.capnp_wire.specs.Views.{IsViewOf, IsStruct, IsText, IsData, Accepts, Refuses, Declines, Reads, TakesStruct, DeclinesStruct, TakesText, DeclinesText, TakesNumbers, DeclinesNumbers, pointer_in};
+
+/// A point of a plane.
+pub mod point {
+
+    use capnp_frame::Result;
+    use capnp_frame::message::ReaderSegments;
+    use capnp_wire::any_pointer;
+    use capnp_wire::any_struct::StructReader;
+    use capnp_wire::traits::{self, FromPointerReader};
+    use capnp_wire::upgraded;
+
+    /// The type of the schema.
+    pub struct Owned;
+
+    impl<'a, S: ReaderSegments + 'a> traits::Owned<'a, S> for Owned {
+        type Reader = Reader<'a, S>;
+    }
+
+    /// A struct of this type in a message.
+    #[derive(Drop)]
+    pub struct Reader<'a, S: ReaderSegments> {
+        /// The struct whose fields these are.
+        pub fields: StructReader<'a, S>,
+    }
+
+    impl<'a, S: ReaderSegments> Reader<'a, S> {
+        /// The field `x`, bits 0 to 32 of the data section.
+        pub fn get_x(&self) -> i32
+            ensures { result ≡ cast_signed w32 (field (struct_of S.segments self.now.fields).words 32 0) }
+        {
+            self.fields.get_data_field(0)
+        }
+
+        /// The field `y`.
+        pub fn get_y(&self) -> i32
+            ensures { result ≡ cast_signed w32 (field (struct_of S.segments self.now.fields).words 32 1) }
+        {
+            self.fields.get_data_field(1)
+        }
+    }
+
+    impl<'a, S: ReaderSegments> FromPointerReader<'a, S> for Reader<'a, S> {
+        ghost shows = { λ pointer view. IsStruct pointer (struct_of S.segments view.fields) };
+
+        ghost accepts = { λ pointer. Accepts pointer TakesStruct };
+
+        ghost refuses = { λ pointer kind. Refuses pointer DeclinesStruct kind };
+
+        ghost declines = { λ pointer kind. Declines pointer DeclinesStruct kind };
+
+        fn get_from_pointer(reader: any_pointer::Reader<'a, S>) -> Result<Self>
+            ensures { let pointer = pointer_of S.segments reader.entry in IsViewOf pointer
+                (λ view. IsStruct pointer (struct_of S.segments view.fields))
+                (Accepts pointer TakesStruct) (Refuses pointer DeclinesStruct)
+                (Declines pointer DeclinesStruct) result }
+        {
+            match StructReader::get_from_pointer(reader) {
+                Ok(fields) => Ok(Reader { fields }),
+                Err(error) => Err(error),
+            }
+        }
+    }
+
+    /// A list of them in a message, read by [`upgraded::StructList`].
+    #[derive(Drop)]
+    pub struct ListReader<'a, S: ReaderSegments> {
+        /// The list whose elements these are.
+        pub elements: upgraded::StructList<'a, S>,
+    }
+
+    impl<'a, S: ReaderSegments> ListReader<'a, S> {
+        /// The number of elements.
+        pub fn len(&self) -> u32
+            ensures { result ≡ length (upgraded_structs_of S.segments self.now.elements).rows }
+        {
+            self.elements.len()
+        }
+
+        /// The element of this index.
+        pub fn get(&self, index: u32) -> Reader<'a, S>
+            requires { index < length (upgraded_structs_of S.segments self.now.elements).rows }
+            ensures { struct_of S.segments result.fields
+                ≡ element_of (upgraded_structs_of S.segments self.now.elements) index }
+        {
+            Reader {
+                fields: self.elements.get(index),
+            }
+        }
+    }
+
+    impl<'a, S: ReaderSegments> FromPointerReader<'a, S> for ListReader<'a, S> {
+        ghost shows = { λ pointer view.
+            IsUpgradedStructs pointer (upgraded_structs_of S.segments view.elements) };
+
+        ghost accepts = { λ pointer. Accepts pointer TakesRows };
+
+        ghost refuses = { λ pointer kind. Refuses pointer DeclinesRows kind };
+
+        ghost declines = { λ pointer kind. Declines pointer DeclinesRows kind };
+
+        fn get_from_pointer(reader: any_pointer::Reader<'a, S>) -> Result<Self>
+            ensures { let pointer = pointer_of S.segments reader.entry in IsViewOf pointer
+                (λ view. IsUpgradedStructs pointer (upgraded_structs_of S.segments view.elements))
+                (Accepts pointer TakesRows) (Refuses pointer DeclinesRows)
+                (Declines pointer DeclinesRows) result }
+        {
+            match upgraded::StructList::get_from_pointer(reader) {
+                Ok(elements) => Ok(ListReader { elements }),
+                Err(error) => Err(error),
+            }
+        }
+    }
+}
+
+/// Colors of a lamp.
+#[derive(Clone, Copy, PartialEq, Eq, Debug)]
+pub enum Color {
+    Red,
+    Green,
+    DeepBlue,
+    /// A number that the schema doesn't name.
+    NotInSchema(u16),
+}
+
+/// A struct with a field of each kind.
+pub mod sample {
+
+    use super::{Color, point};
+    use capnp_frame::Result;
+    use capnp_frame::message::ReaderSegments;
+    use capnp_wire::any_pointer;
+    use capnp_wire::any_struct::StructReader;
+    use capnp_wire::traits::{self, FromPointerReader};
+    use capnp_wire::{text, upgraded};
+
+    /// The type of the schema.
+    pub struct Owned;
+
+    impl<'a, S: ReaderSegments + 'a> traits::Owned<'a, S> for Owned {
+        type Reader = Reader<'a, S>;
+    }
+
+    /// A struct of this type in a message.
+    #[derive(Drop)]
+    pub struct Reader<'a, S: ReaderSegments> {
+        /// The struct whose fields these are.
+        pub fields: StructReader<'a, S>,
+    }
+
+    impl<'a, S: ReaderSegments> Reader<'a, S> {
+        /// How many there are.
+        pub fn get_count(&self) -> u16
+            ensures { result ≡ field (struct_of S.segments self.now.fields).words 16 0 }
+        {
+            self.fields.get_data_field(0)
+        }
+
+        /// The field `balance`, by default -5.
+        pub fn get_balance(&self) -> i32
+            ensures { result ≡ cast_signed w32 (bit_xor
+                (field (struct_of S.segments self.now.fields).words 32 1) 4294967291) }
+        {
+            self.fields.get_data_field_mask(1, -5)
+        }
+
+        /// The field `isReady`.
+        pub fn get_is_ready(&self) -> bool
+            ensures { result ≡ (field (struct_of S.segments self.now.fields).words 1 16 == 1) }
+        {
+            self.fields.get_data_field(16)
+        }
+
+        /// The field `title`.
+        pub fn get_title(&self) -> Result<text::Reader<'a>>
+            ensures { let pointer = pointer_in (struct_of S.segments self.now.fields) 0 in
+                IsViewOf pointer (λ view. Reads pointer (λ form. IsText form view.bytes.now))
+                (Accepts pointer TakesText) (Refuses pointer DeclinesText)
+                (Declines pointer DeclinesText) result }
+        {
+            text::Reader::get_from_pointer(self.fields.get_pointer(0))
+        }
+
+        /// The field `payload`.
+        pub fn get_payload(&self) -> Result<&'a [u8]>
+            ensures { let pointer = pointer_in (struct_of S.segments self.now.fields) 1 in
+                IsViewOf pointer (λ view. Reads pointer (λ form. IsData form view.now))
+                (Accepts pointer (TakesNumbers 2)) (Refuses pointer (DeclinesNumbers 2))
+                (Declines pointer (DeclinesNumbers 2)) result }
+        {
+            FromPointerReader::get_from_pointer(self.fields.get_pointer(1))
+        }
+
+        /// The field `points`.
+        pub fn get_points(&self) -> Result<point::ListReader<'a, S>>
+            ensures { let pointer = pointer_in (struct_of S.segments self.now.fields) 2 in
+                IsViewOf pointer (λ view. IsUpgradedStructs pointer (upgraded_structs_of S.segments view.elements))
+                (Accepts pointer TakesRows) (Refuses pointer DeclinesRows)
+                (Declines pointer DeclinesRows) result }
+        {
+            point::ListReader::get_from_pointer(self.fields.get_pointer(2))
+        }
+
+        /// The field `numbers`.
+        pub fn get_numbers(&self) -> Result<upgraded::NumberList<'a, u32>>
+            ensures { let pointer = pointer_in (struct_of S.segments self.now.fields) 3 in
+                IsViewOf pointer (λ view. Reads pointer (λ form. ReadsAsNumbers 4 form (upgraded_numbers_of 4 view)))
+                (Accepts pointer (TakesFields 4)) (Refuses pointer (DeclinesFields 4))
+                (Declines pointer (DeclinesFields 4)) result }
+        {
+            upgraded::NumberList::get_from_pointer(self.fields.get_pointer(3))
+        }
+
+        /// The field `origin`.
+        pub fn get_origin(&self) -> Result<point::Reader<'a, S>>
+            ensures { let pointer = pointer_in (struct_of S.segments self.now.fields) 4 in
+                IsViewOf pointer (λ view. IsStruct pointer (struct_of S.segments view.fields))
+                (Accepts pointer TakesStruct) (Refuses pointer DeclinesStruct)
+                (Declines pointer DeclinesStruct) result }
+        {
+            point::Reader::get_from_pointer(self.fields.get_pointer(4))
+        }
+
+        /// The field `color`.
+        pub fn get_color(&self) -> Color
+            ensures { let number = field (struct_of S.segments self.now.fields).words 16 4 in
+                elim result [ Red ↦ number ≡ 0 | Green ↦ number ≡ 1 | DeepBlue ↦ number ≡ 2
+                | NotInSchema unknown ↦ (unknown ≡ number) × (3 ≤ number) ] }
+        {
+            Color::from_number(self.fields.get_data_field(4))
+        }
+
+        /// The group `window`.
+        pub fn get_window(&self) -> window::Reader<'_, 'a, S>
+            ensures { struct_of S.segments result.fields.now ≡ struct_of S.segments self.now.fields }
+        {
+            window::Reader {
+                fields: &self.fields,
+            }
+        }
+
+        /// Which member of the union is there.
+        pub fn which(&self) -> Which<'a>
+            ensures { let fields = struct_of S.segments self.now.fields in
+                let number = field fields.words 16 7 in
+                let label_pointer = pointer_in fields 5 in
+                elim result [ Nothing ↦ number ≡ 0
+                | Size size ↦ (number ≡ 1) × (size ≡ field fields.words 32 4)
+                | Label label ↦ (number ≡ 2) × MatchResult label
+                (λ view. Reads label_pointer (λ form. IsText form view.bytes.now))
+                (λ error. Refuses label_pointer DeclinesText error.kind)
+                | NotInSchema unknown ↦ (unknown ≡ number) × (3 ≤ number) ] }
+        {
+            match self.fields.get_data_field::<u16>(7) {
+                0 => Which::Nothing,
+                1 => Which::Size(self.fields.get_data_field(4)),
+                2 => Which::Label(self.fields.get_pointer(5).get_as()),
+                unknown => Which::NotInSchema(unknown),
+            }
+        }
+    }
+
+    /// The members of the union.
+    #[derive(Drop)]
+    pub enum Which<'a> {
+        Nothing,
+        Size(u32),
+        Label(Result<text::Reader<'a>>),
+        /// A number that the schema doesn't name.
+        NotInSchema(u16),
+    }
+
+    impl<'a, S: ReaderSegments> FromPointerReader<'a, S> for Reader<'a, S> {
+        ghost shows = { λ pointer view. IsStruct pointer (struct_of S.segments view.fields) };
+
+        ghost accepts = { λ pointer. Accepts pointer TakesStruct };
+
+        ghost refuses = { λ pointer kind. Refuses pointer DeclinesStruct kind };
+
+        ghost declines = { λ pointer kind. Declines pointer DeclinesStruct kind };
+
+        fn get_from_pointer(reader: any_pointer::Reader<'a, S>) -> Result<Self>
+            ensures { let pointer = pointer_of S.segments reader.entry in IsViewOf pointer
+                (λ view. IsStruct pointer (struct_of S.segments view.fields))
+                (Accepts pointer TakesStruct) (Refuses pointer DeclinesStruct)
+                (Declines pointer DeclinesStruct) result }
+        {
+            match StructReader::get_from_pointer(reader) {
+                Ok(fields) => Ok(Reader { fields }),
+                Err(error) => Err(error),
+            }
+        }
+    }
+
+    /// What is seen of it.
+    pub mod window {
+
+        use capnp_frame::message::ReaderSegments;
+        use capnp_wire::any_struct::StructReader;
+
+        /// The group in a struct that is read.
+        #[derive(Clone, Copy)]
+        pub struct Reader<'b, 'a, S: ReaderSegments> {
+            /// The struct whose fields these are.
+            pub fields: &'b StructReader<'a, S>,
+        }
+
+        impl<'b, 'a, S: ReaderSegments> Reader<'b, 'a, S> {
+            /// The field `width`.
+            pub fn get_width(&self) -> u16
+                ensures { result ≡ field (struct_of S.segments self.now.fields.now).words 16 5 }
+            {
+                self.fields.get_data_field(5)
+            }
+
+            /// The field `height`.
+            pub fn get_height(&self) -> u16
+                ensures { result ≡ field (struct_of S.segments self.now.fields.now).words 16 6 }
+            {
+                self.fields.get_data_field(6)
+            }
+        }
+    }
+}
+
+impl Color {
+
+    /// The enumerant of this number.
+    pub fn from_number(number: u16) -> Color
+        ensures { elim result [ Red ↦ number ≡ 0 | Green ↦ number ≡ 1 | DeepBlue ↦ number ≡ 2
+            | NotInSchema unknown ↦ (unknown ≡ number) × (3 ≤ number) ] }
+    {
+        match number {
+            0 => Color::Red,
+            1 => Color::Green,
+            2 => Color::DeepBlue,
+            unknown => Color::NotInSchema(unknown),
+        }
+    }
+}
