@@ -1,6 +1,6 @@
 //! Enums.
 use crate::code::Code;
-use crate::names::{camel, quoted};
+use crate::names::camel;
 use crate::schema::{Body, Node, Request};
 use crate::templates::{ENUM_END, ENUM_HEAD};
 use std::alloc::{AllocError, Global};
@@ -9,19 +9,21 @@ use std::fmt::Write;
 /// The cases of a clause over an enum: which number each enumerant has, and that any other is kept.
 pub fn cases_of(alloc: Global, request: &Request<'_>, id: u64) -> Result<String, AllocError> {
     let mut text = String::new(alloc);
+    let mut type_name = String::new(alloc);
     let mut count: u32 = 0;
     if let Some(node) = request.find(id) {
+        type_name = camel(alloc, node.name)?;
         if let Body::Enum(names) = &node.body {
             for name in names.as_slice() {
-                let pattern = quoted(alloc, camel(alloc, name)?.as_str())?;
-                write!(text, "{pattern} ↦ number ≡ {count} | ")?;
+                let variant = camel(alloc, name)?;
+                write!(text, "{type_name}.{variant} ↦ number ≡ {count} | ")?;
                 count = count.saturating_add(1);
             }
         }
     }
     write!(
         text,
-        "NotInSchema unknown ↦ (unknown ≡ number) × ({count} ≤ number)"
+        "{type_name}.NotInSchema unknown ↦ (unknown ≡ number) × ({count} ≤ number)"
     )?;
     Ok(text)
 }

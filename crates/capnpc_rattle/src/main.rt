@@ -19,17 +19,18 @@ mod unions;
 mod views;
 
 use anyhow::{Context, Result};
-use capnp::devices::Input;
-use capnp::message::ReaderOptions;
-use capnp::serialize;
+use capnp_frame::message::ReaderOptions;
+use capnp_frame::serialize::{OwnedSegments, try_read_segments};
 use capnp_wire::any_struct::StructReader;
+use capnp_wire::arena::ReaderArena;
 use std::alloc::Global;
 use std::env;
 use std::fs;
+use std::io::Read;
 
-/// As much as the schema compiler sends: 64 MiB of words, nested as deep as its own limit.
+/// As much as the schema compiler sends: 64 MiB, and objects nested as deep as its own limit.
 const OPTIONS: ReaderOptions = ReaderOptions {
-    traversal_limit_in_words: Some(8 * 1024 * 1024),
+    traversal_limit_in_words: Some(8388608),
     nesting_limit: 64,
 };
 
@@ -40,9 +41,8 @@ fn main(rt: HostRuntime) -> Result<()> {
         Some(folder) => folder.as_str(),
         None => ".",
     };
-    let mut source = Input::new(alloc, rt.stdin())?;
-    let message = serialize::read_message(alloc, &mut source, OPTIONS)?;
-    let root: StructReader<'_, serialize::OwnedSegments> = message.get_root()?;
+    let message = read_message(rt)?;
+    let root: StructReader<'_, OwnedSegments> = message.get_root()?.get_as()?;
     let request = request::read_request(alloc, &root)?;
     for requested in request.files.as_slice() {
         let code = file::code_of(alloc, &request, requested.id)?;
@@ -50,6 +50,16 @@ fn main(rt: HostRuntime) -> Result<()> {
         fs::write(&rt, name.as_str(), code.as_str()).context("a file can't be written")?;
     }
     Ok(())
+}
+
+// The message on standard input.
+fn read_message(rt: HostRuntime) -> Result<ReaderArena<OwnedSegments>> {
+    let mut bytes = Vec::new(rt.alloc());
+    rt.stdin().read_to_end(&mut bytes)?;
+    let mut source = bytes.as_slice();
+    let segments = try_read_segments(rt.alloc(), &mut source, OPTIONS)?;
+    let segments = segments.context("there is no request on standard input")?;
+    Ok(ReaderArena::new(segments, OPTIONS))
 }
 
 // The name of the file that is written for a file of a schema.

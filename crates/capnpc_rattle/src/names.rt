@@ -71,17 +71,6 @@ pub fn capitals(alloc: Global, name: &str) -> Result<String, AllocError> {
     Ok(text)
 }
 
-/// A name as a pattern of a clause, where a word of clauses stands within marks.
-pub fn quoted(alloc: Global, name: &str) -> Result<String, AllocError> {
-    let mut text = String::new(alloc);
-    if name == "Type" {
-        text.push_str("«Type»")?;
-    } else {
-        text.push_str(name)?;
-    }
-    Ok(text)
-}
-
 /// The module of a file: `address_book_capnp` of `dir/address-book.capnp`.
 pub fn file_module(alloc: Global, name: &str) -> Result<String, AllocError> {
     let last = match name.rsplit_once('/') {

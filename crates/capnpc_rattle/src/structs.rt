@@ -1,9 +1,9 @@
 //! Structs and groups.
 use crate::code::Code;
 use crate::fields::{Getter, push_field};
-use crate::names::{Site, module};
-use crate::schema::{Node, Request, Struct};
-use crate::templates::{FROM_POINTER, GROUP, STRUCT};
+use crate::names::{Site, module, path};
+use crate::schema::{Base, Field, Node, Request, Slot, Struct};
+use crate::templates::{FROM_POINTER, GROUP_READER, MODULE, READER};
 use crate::unions::{Members, push_members, push_which};
 use std::alloc::{AllocError, Global};
 
@@ -19,15 +19,14 @@ pub fn push_struct(
     code.add("\n", &[])?;
     code.add_comment(node.comment)?;
     let name = module(alloc, node.name)?;
-    code.add(
-        if body.is_group { GROUP } else { STRUCT },
-        &[("module", name.as_str())],
-    )?;
-    code.depth = code.depth.saturating_add(1);
     let site = Site {
         file,
-        depth: code.depth,
+        depth: code.depth.saturating_add(1),
     };
+    code.add(MODULE, &[("module", name.as_str())])?;
+    push_uses(alloc, code, request, site, node, body)?;
+    code.add(if body.is_group { GROUP_READER } else { READER }, &[])?;
+    code.depth = site.depth;
     let members = push_getters(alloc, code, request, site, node, body)?;
     code.add("}", &[])?;
     if body.discriminant.is_some() {
@@ -39,6 +38,45 @@ pub fn push_struct(
     }
     code.depth = code.depth.saturating_add(1);
     Ok(())
+}
+
+// Adds the enums of fields to the names of the module, so that clauses may name their variants.
+fn push_uses(
+    alloc: Global,
+    code: &mut Code,
+    request: &Request<'_>,
+    site: Site,
+    node: &Node<'_>,
+    body: &Struct<'_>,
+) -> Result<(), AllocError> {
+    let mut used: Vec<u64> = Vec::new(alloc);
+    for field in body.fields.as_slice() {
+        let Some(id) = enum_of(field) else {
+            continue;
+        };
+        let is_here = match request.find(id) {
+            Some(found) => found.scope == node.id,
+            None => true,
+        };
+        if is_here || used.contains(&id) {
+            continue;
+        }
+        used.push(id)?;
+        let path = path(alloc, request, site, id)?;
+        code.add("    use @path@;", &[("path", path.as_str())])?;
+    }
+    Ok(())
+}
+
+// The enum that a field holds, where it holds one.
+fn enum_of(field: &Field<'_>) -> Option<u64> {
+    match field.slot {
+        Slot::At(_, of, _) if of.lists == 0 => match of.base {
+            Base::Enum(id) => Some(id),
+            _ => None,
+        },
+        _ => None,
+    }
 }
 
 // Adds the getters, and returns the members of the union, where there is one.

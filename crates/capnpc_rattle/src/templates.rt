@@ -15,12 +15,15 @@ ghost use Rattle.capnp_wire.specs.UpgradedViews.{IsUpgradedStructs, IsUpgradedPo
 ghost use Rattle.capnp_wire.specs.Views.{IsViewOf, IsStruct, IsText, IsData, Accepts, Refuses, Declines, Denotes, Reads, TakesStruct, TakesText, TakesNumbers, DeclinesStruct, DeclinesText, DeclinesNumbers, pointer_in};
 ";
 
-/// What stands before the fields of a struct.
-pub const STRUCT: &str = "pub mod @module@ {
+/// What stands at the head of a module.
+pub const MODULE: &str = "pub mod @module@ {
     use capnp_frame::message::ReaderSegments;
     use capnp_wire::any_struct::StructReader;
     use capnp_wire::traits::FromPointerReader;
+";
 
+/// The types and the reader of a struct, before its fields.
+pub const READER: &str = "
     /// The type of the schema.
     pub struct Owned;
 
@@ -38,12 +41,8 @@ pub const STRUCT: &str = "pub mod @module@ {
     impl<'a, S: ReaderSegments> Reader<'a, S> {
 ";
 
-/// What stands before the fields of a group.
-pub const GROUP: &str = "pub mod @module@ {
-    use capnp_frame::message::ReaderSegments;
-    use capnp_wire::any_struct::StructReader;
-    use capnp_wire::traits::FromPointerReader;
-
+/// The reader of a group, before its fields.
+pub const GROUP_READER: &str = "
     /// The group, in a struct in a message.
     #[derive(Drop)]
     pub struct Reader<'b, 'a, S: ReaderSegments> {

@@ -2,8 +2,8 @@
 use crate::code::Code;
 use crate::enums::cases_of;
 use crate::fields::{Getter, Stored, clause_value, default_bits};
-use crate::names::{camel, path, quoted, snake};
-use crate::schema::{Base, Slot, Type, Value};
+use crate::names::{camel, path, snake};
+use crate::schema::{Base, Slot, Type};
 use crate::templates::{MEMBERS, MEMBERS_END, WHICH, WHICH_END};
 use crate::views::{number_of, view_of};
 use std::alloc::{AllocError, Global};
@@ -48,11 +48,10 @@ impl Members {
         number: u16,
     ) -> Result<(), AllocError> {
         let variant = camel(alloc, getter.field.name)?;
-        let pattern = quoted(alloc, variant.as_str())?;
         let name = snake(alloc, getter.field.name)?;
         match payload(alloc, getter)? {
             None => {
-                write!(self.cases, "{pattern} ↦ number ≡ {number} | ")?;
+                write!(self.cases, "Which.{variant} ↦ number ≡ {number} | ")?;
                 write!(self.arms, "        {number} => Which::{variant},\n")?;
                 write!(self.variants, "    {variant},\n")?;
             }
@@ -61,7 +60,7 @@ impl Members {
                 let fact = payload.fact.as_str();
                 write!(
                     self.cases,
-                    "{pattern} value ↦ (number ≡ {number}) × ({fact}) | "
+                    "Which.{variant} value ↦ (number ≡ {number}) × ({fact}) | "
                 )?;
                 write!(
                     self.arms,
@@ -108,7 +107,7 @@ pub fn push_which(
     let mut cases = members.cases.clone()?;
     write!(
         cases,
-        "NotInSchema unknown ↦ (unknown ≡ number) × ({count} ≤ number)"
+        "Which.NotInSchema unknown ↦ (unknown ≡ number) × ({count} ≤ number)"
     )?;
     let offset = format!(in alloc; "{offset}")?;
     let arguments = members.parameters(alloc, if is_group { "'b" } else { "'_" }, "S")?;

@@ -1,12 +1,14 @@
 //! Types of `sample.capnp`, made by `capnpc-rattle`. Don't change them here.
-ghost use Rattle.std.specs.Prelude.{◌≡◌, ◌≤◌, ◌<◌, ◌==◌, bit_xor, length, MatchResult};
-ghost use Rattle.std.specs.Int.{w32, cast_signed};
+ghost use Rattle.std.specs.Prelude.{◌≡◌, ◌≤◌, ◌<◌, ◌==◌, bit_xor, ◌↔◌, IsTrue, length, from_bits};
+ghost use Rattle.std.specs.Float.{binary32, binary64};
+ghost use Rattle.std.specs.Int.{w8, w16, w32, w64, cast_signed};
+ghost use Rattle.capnp_wire.specs.Object.{nothing};
 ghost use Rattle.capnp_wire.specs.Fields.{field};
 ghost use Rattle.capnp_wire.specs.ListViews.{element_of};
 ghost use Rattle.capnp_wire.specs.Readers.{struct_of, pointer_of};
 ghost use Rattle.capnp_wire.specs.UpgradedReaders.{upgraded_structs_of, upgraded_numbers_of};
 ghost use Rattle.capnp_wire.specs.UpgradedViews.{IsUpgradedStructs, TakesRows, DeclinesRows, ReadsAsNumbers, TakesFields, DeclinesFields};
-ghost use Rattle.capnp_wire.specs.Views.{IsViewOf, IsStruct, IsText, IsData, Accepts, Refuses, Declines, Reads, TakesStruct, DeclinesStruct, TakesText, DeclinesText, TakesNumbers, DeclinesNumbers, pointer_in};
+ghost use Rattle.capnp_wire.specs.Views.{IsViewOf, IsStruct, IsText, IsData, Accepts, Refuses, Declines, Denotes, Reads, TakesStruct, DeclinesStruct, TakesText, DeclinesText, TakesNumbers, DeclinesNumbers, pointer_in};
 
 /// A point of a plane.
 pub mod point {
@@ -189,6 +191,13 @@ pub mod sample {
             text::Reader::get_from_pointer(self.fields.get_pointer(0))
         }
 
+        /// Whether `title` is there, and is not null.
+        pub fn has_title(&self) -> bool
+            ensures { IsTrue result ↔ (Denotes (pointer_in (struct_of S.segments self.now.fields) 0) nothing → ⊥) }
+        {
+            self.fields.has_pointer(0)
+        }
+
         /// The field `payload`.
         pub fn get_payload(&self) -> Result<&'a [u8]>
             ensures { let pointer = pointer_in (struct_of S.segments self.now.fields) 1 in
@@ -232,8 +241,8 @@ pub mod sample {
         /// The field `color`.
         pub fn get_color(&self) -> Color
             ensures { let number = field (struct_of S.segments self.now.fields).words 16 4 in
-                elim result [ Red ↦ number ≡ 0 | Green ↦ number ≡ 1 | DeepBlue ↦ number ≡ 2
-                | NotInSchema unknown ↦ (unknown ≡ number) × (3 ≤ number) ] }
+                elim result [ Color.Red ↦ number ≡ 0 | Color.Green ↦ number ≡ 1 | Color.DeepBlue ↦ number ≡ 2
+                | Color.NotInSchema unknown ↦ (unknown ≡ number) × (3 ≤ number) ] }
         {
             Color::from_number(self.fields.get_data_field(4))
         }
@@ -252,17 +261,18 @@ pub mod sample {
             ensures { let fields = struct_of S.segments self.now.fields in
                 let number = field fields.words 16 7 in
                 let label_pointer = pointer_in fields 5 in
-                elim result [ Nothing ↦ number ≡ 0
-                | Size size ↦ (number ≡ 1) × (size ≡ field fields.words 32 4)
-                | Label label ↦ (number ≡ 2) × MatchResult label
+                elim result [ Which.Nothing ↦ number ≡ 0
+                | Which.Size size ↦ (number ≡ 1) × (size ≡ field fields.words 32 4)
+                | Which.Label label ↦ (number ≡ 2) × IsViewOf label_pointer
                 (λ view. Reads label_pointer (λ form. IsText form view.bytes.now))
-                (λ error. Refuses label_pointer DeclinesText error.kind)
-                | NotInSchema unknown ↦ (unknown ≡ number) × (3 ≤ number) ] }
+                (Accepts label_pointer TakesText) (Refuses label_pointer DeclinesText)
+                (Declines label_pointer DeclinesText) label
+                | Which.NotInSchema unknown ↦ (unknown ≡ number) × (3 ≤ number) ] }
         {
             match self.fields.get_data_field::<u16>(7) {
                 0 => Which::Nothing,
                 1 => Which::Size(self.fields.get_data_field(4)),
-                2 => Which::Label(self.fields.get_pointer(5).get_as()),
+                2 => Which::Label(FromPointerReader::get_from_pointer(self.fields.get_pointer(5))),
                 unknown => Which::NotInSchema(unknown),
             }
         }
@@ -335,8 +345,8 @@ impl Color {
 
     /// The enumerant of this number.
     pub fn from_number(number: u16) -> Color
-        ensures { elim result [ Red ↦ number ≡ 0 | Green ↦ number ≡ 1 | DeepBlue ↦ number ≡ 2
-            | NotInSchema unknown ↦ (unknown ≡ number) × (3 ≤ number) ] }
+        ensures { elim result [ Color.Red ↦ number ≡ 0 | Color.Green ↦ number ≡ 1 | Color.DeepBlue ↦ number ≡ 2
+            | Color.NotInSchema unknown ↦ (unknown ≡ number) × (3 ≤ number) ] }
     {
         match number {
             0 => Color::Red,
