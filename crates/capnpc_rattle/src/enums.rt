@@ -41,13 +41,14 @@ pub fn push_enum(
     code.add_comment(node.comment)?;
     code.add(ENUM_HEAD, &[("type", type_name.as_str())])?;
     code.depth = code.depth.saturating_add(1);
-    let mut index = 0;
+    let mut index: usize = 0;
     for name in names {
         if let Some(comment) = node.member_comments.get(index) {
             code.add_comment(comment)?;
         }
-        code.add("@name@,", &[("name", camel(alloc, name)?.as_str())])?;
-        index += 1;
+        let variant = camel(alloc, name)?;
+        code.add("@name@,", &[("name", variant.as_str())])?;
+        index = index.saturating_add(1);
     }
     code.depth = code.depth.saturating_sub(1);
     let cases = cases_of(alloc, request, node.id)?;

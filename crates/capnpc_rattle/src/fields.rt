@@ -1,10 +1,10 @@
 //! The getters of fields.
 use crate::code::Code;
 use crate::enums::cases_of;
-use crate::names::{Site, path, snake};
+use crate::names::{Site, path_to, snake};
 use crate::schema::{Base, Field, Request, Slot, Type, Value};
 use crate::templates::{
-    ANY_POINTER, ENUM, GROUP_FIELD, HAS, LEFT_OUT, NUMBER, NUMBER_OR, VIEW, VOID,
+    ANY_POINTER, ENUM, GROUP_FIELD, HAS, LEFT_OUT, NUMBER, VIEW, VOID,
 };
 use crate::views::{Number, NumberKind, number_of, view_of};
 use std::alloc::{AllocError, Global};
@@ -82,6 +82,13 @@ pub struct Stored {
     pub default: u64,
 }
 
+impl Stored {
+    /// Whether its field has no getter, as a float that has a default.
+    pub fn is_left_out(&self) -> bool {
+        self.number.kind == NumberKind::Float && self.default != 0
+    }
+}
+
 /// The bits of a default that is a number; 0 for any other.
 pub fn default_bits(default: Value<'_>) -> u64 {
     match default {
@@ -99,7 +106,7 @@ fn push_group(
 ) -> Result<(), AllocError> {
     getter.push_comment(alloc, code)?;
     let name = snake(alloc, getter.field.name)?;
-    let path = path(alloc, getter.request, getter.site, id)?;
+    let path = path_to(alloc, getter.request, getter.site, id)?;
     let (borrow, reference) = if getter.is_group {
         ("b", "self.fields")
     } else {
@@ -125,18 +132,19 @@ fn push_number(
     stored: &Stored,
     base: Base,
 ) -> Result<(), AllocError> {
+    if stored.is_left_out() {
+        return code.add(LEFT_OUT, &[("field", getter.field.name)]);
+    }
     getter.push_comment(alloc, code)?;
     let name = snake(alloc, getter.field.name)?;
     let value = clause_value(alloc, getter.fields(), stored)?;
-    let number = stored.offset;
-    let offset = format!(in alloc; "{number}")?;
-    let default = literal(alloc, stored.number, stored.default)?;
-    let mut template = if stored.default == 0 { NUMBER } else { NUMBER_OR };
+    let call = call_of(alloc, stored)?;
+    let mut template = NUMBER;
     let mut type_name = String::from_str(alloc, stored.number.type_name)?;
     let mut cases = String::new(alloc);
     if let Base::Enum(id) = base {
         template = ENUM;
-        type_name = path(alloc, getter.request, getter.site, id)?;
+        type_name = path_to(alloc, getter.request, getter.site, id)?;
         cases = cases_of(alloc, getter.request, id)?;
     }
     code.add(
@@ -146,10 +154,20 @@ fn push_number(
             ("type", type_name.as_str()),
             ("value", value.as_str()),
             ("cases", cases.as_str()),
-            ("offset", offset.as_str()),
-            ("default", default.as_str()),
+            ("call", call.as_str()),
         ],
     )
+}
+
+// The call of the struct that reads a number.
+fn call_of(alloc: Global, stored: &Stored) -> Result<String, AllocError> {
+    let offset = stored.offset;
+    if stored.default == 0 {
+        return format!(in alloc; "get_data_field({offset})");
+    }
+    let default = literal(alloc, stored.number, stored.default)?;
+    let default = default.as_str();
+    format!(in alloc; "get_data_field_mask({offset}, {default})")
 }
 
 /// What a clause says of the value of a number: what its bits say, each changed where the default has a

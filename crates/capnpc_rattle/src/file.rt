@@ -6,7 +6,7 @@ use crate::names::capitals;
 use crate::schema::{Body, Node, Request, Slot, Struct, Type, Value};
 use crate::structs::push_struct;
 use crate::templates::FILE;
-use crate::views::number_of;
+use crate::views::{NumberKind, number_of};
 use std::alloc::{AllocError, Global};
 use std::fmt::Write;
 
@@ -103,14 +103,14 @@ fn push_constant(
     let name = name.as_str();
     let mut line = String::new(alloc);
     match (value, number_of(of.base)) {
-        (Value::Bits(bits), Some(number)) if of.lists == 0 => {
+        (Value::Bits(bits), Some(number)) if of.lists == 0 && number.kind != NumberKind::Float => {
             let type_name = number.type_name;
             let value = literal(alloc, number, bits)?;
             write!(line, "pub const {name}: {type_name} = {value};")?;
         }
         (Value::Text(text), _) => write!(line, "pub const {name}: &str = {text:?};")?,
         (Value::Data(bytes), _) => write!(line, "pub const {name}: &[u8] = &{bytes:?};")?,
-        _ => write!(line, "// The constant `{name}`, a list or a struct, is left out.")?,
+        _ => write!(line, "// The constant `{name}`, which is a list, a struct or a float, is left out.")?,
     }
     code.add("\n", &[])?;
     code.add_comment(node.comment)?;

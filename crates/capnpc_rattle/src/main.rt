@@ -2,7 +2,8 @@
 //! contract at each getter that is proved when their user checks his crate.
 //!
 //! It reads a `CodeGeneratorRequest` from standard input, and writes `NAME_capnp.rt` for each file that is
-//! asked for, in the folder in which it runs, or in that of its first argument.
+//! asked for, in the folder in which it runs, or in that of its first argument; to standard output where
+//! that is `-`.
 #![tactic(auto)]
 
 mod code;
@@ -46,6 +47,11 @@ fn main(rt: HostRuntime) -> Result<()> {
     let request = request::read_request(alloc, &root)?;
     for requested in request.files.as_slice() {
         let code = file::code_of(alloc, &request, requested.id)?;
+        if folder == "-" {
+            let text = code.as_str();
+            print!(rt; "{text}")?;
+            continue;
+        }
         let name = file_name(alloc, folder, requested.name)?;
         fs::write(&rt, name.as_str(), code.as_str()).context("a file can't be written")?;
     }
@@ -55,7 +61,8 @@ fn main(rt: HostRuntime) -> Result<()> {
 // The message on standard input.
 fn read_message(rt: HostRuntime) -> Result<ReaderArena<OwnedSegments>> {
     let mut bytes = Vec::new(rt.alloc());
-    rt.stdin().read_to_end(&mut bytes)?;
+    let mut input = rt.stdin();
+    input.read_to_end(&mut bytes)?;
     let mut source = bytes.as_slice();
     let segments = try_read_segments(rt.alloc(), &mut source, OPTIONS)?;
     let segments = segments.context("there is no request on standard input")?;

@@ -92,7 +92,7 @@ pub fn file_module(alloc: Global, name: &str) -> Result<String, AllocError> {
 
 /// The path to the module of a struct, or to the enum, that a node declares, as it is written at a site.
 /// Files stand beside one another.
-pub fn path(alloc: Global, request: &Request<'_>, site: Site, id: u64) -> Result<String, AllocError> {
+pub fn path_to(alloc: Global, request: &Request<'_>, site: Site, id: u64) -> Result<String, AllocError> {
     let mut names: Vec<String> = Vec::new(alloc);
     let mut next = id;
     let mut file = site.file;

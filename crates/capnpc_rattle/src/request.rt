@@ -9,7 +9,7 @@ use capnp_wire::{struct_list, text};
 use std::alloc::Global;
 use std::str::from_utf8;
 
-/// Which of its members a union of `schema.capnp` has, where a number past them stands for none.
+/// What stands in place of a field's number among the members of a union where it is none.
 const NO_DISCRIMINANT: u16 = 65535;
 
 /// The request at the root of a message.

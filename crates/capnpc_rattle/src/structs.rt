@@ -1,7 +1,7 @@
 //! Structs and groups.
 use crate::code::Code;
 use crate::fields::{Getter, push_field};
-use crate::names::{Site, module, path};
+use crate::names::{Site, module, path_to};
 use crate::schema::{Base, Field, Node, Request, Slot, Struct};
 use crate::templates::{FROM_POINTER, GROUP_READER, MODULE, READER};
 use crate::unions::{Members, push_members, push_which};
@@ -62,7 +62,7 @@ fn push_uses(
             continue;
         }
         used.push(id)?;
-        let path = path(alloc, request, site, id)?;
+        let path = path_to(alloc, request, site, id)?;
         code.add("    use @path@;", &[("path", path.as_str())])?;
     }
     Ok(())
@@ -90,7 +90,7 @@ fn push_getters(
 ) -> Result<Members, AllocError> {
     code.depth = code.depth.saturating_add(1);
     let mut members = Members::new(alloc);
-    let mut index = 0;
+    let mut index: usize = 0;
     for field in body.fields.as_slice() {
         let comment = match node.member_comments.get(index) {
             Some(comment) => *comment,
@@ -110,7 +110,7 @@ fn push_getters(
         if let Some(number) = field.member {
             members.push(alloc, &getter, number)?;
         }
-        index += 1;
+        index = index.saturating_add(1);
     }
     if let Some(offset) = body.discriminant {
         push_which(alloc, code, body.is_group, offset, &members)?;

@@ -2,7 +2,6 @@
 
 /// What stands at the head of each file.
 pub const FILE: &str = "//! Types of `@file@`, made by `capnpc-rattle`: change the schema in their place.
-#![allow(unused_imports)]
 ghost use Rattle.std.specs.Prelude.{◌≡◌, ◌≤◌, ◌<◌, ◌==◌, ◌↔◌, IsTrue, bit_xor, length, from_bits};
 ghost use Rattle.std.specs.Float.{binary32, binary64};
 ghost use Rattle.std.specs.Int.{w8, w16, w32, w64, cast_signed};
@@ -19,11 +18,11 @@ ghost use Rattle.capnp_wire.specs.Views.{IsViewOf, IsStruct, IsText, IsData, Acc
 pub const MODULE: &str = "pub mod @module@ {
     use capnp_frame::message::ReaderSegments;
     use capnp_wire::any_struct::StructReader;
-    use capnp_wire::traits::FromPointerReader;
 ";
 
 /// The types and the reader of a struct, before its fields.
-pub const READER: &str = "
+pub const READER: &str = "    use capnp_wire::traits::FromPointerReader;
+
     /// The type of the schema.
     pub struct Owned;
 
@@ -132,15 +131,7 @@ pub const FROM_POINTER: &str = "
 pub const NUMBER: &str = "pub fn get_@name@(&self) -> @type@
     ensures { result ≡ @value@ }
 {
-    self.fields.get_data_field(@offset@)
-}
-";
-
-/// A number or a bool that has a default.
-pub const NUMBER_OR: &str = "pub fn get_@name@(&self) -> @type@
-    ensures { result ≡ @value@ }
-{
-    self.fields.get_data_field_mask(@offset@, @default@)
+    self.fields.@call@
 }
 ";
 
@@ -149,7 +140,7 @@ pub const ENUM: &str = "pub fn get_@name@(&self) -> @type@
     ensures { let number = @value@ in
         elim result [ @cases@ ] }
 {
-    @type@::from_number(self.fields.get_data_field_mask(@offset@, @default@))
+    @type@::from_number(self.fields.@call@)
 }
 ";
 
@@ -163,7 +154,7 @@ pub const VIEW: &str = "pub fn get_@name@(&self) -> capnp_frame::Result<@type@>
         IsViewOf pointer (λ view. @shows@)
         (Accepts pointer @takes@) (Refuses pointer @declines@) (Declines pointer @declines@) result }
 {
-    FromPointerReader::get_from_pointer(self.fields.get_pointer(@offset@))
+    capnp_wire::traits::FromPointerReader::get_from_pointer(self.fields.get_pointer(@offset@))
 }
 ";
 
@@ -215,7 +206,7 @@ impl @type@ {
 
 /// What is said of a field that has no getter.
 pub const LEFT_OUT: &str = "
-// The field `@field@` is left out: it is an interface, or a list of interfaces.
+// The field `@field@` is left out: it is an interface, a list of them, or a float with a default.
 ";
 
 /// Which member of a union is there.

@@ -8,44 +8,41 @@ use capnp_wire::any_struct::StructReader;
 /// How many lists of lists a type may have; the schema compiler takes no deeper ones.
 const MAX_LISTS: u32 = 64;
 
-/// A type. The element type of a list is read in place of the list, which is counted.
+/// A type. Of a list the type of its elements is read, and the list is counted.
 pub fn read_type<'a, S: ReaderSegments>(fields: &StructReader<'a, S>) -> Result<Type> {
-    let mut lists = 0;
-    let mut element = element_type(fields)?;
-    if element.is_none() {
+    if !is_list(fields) {
         return Ok(Type {
-            lists,
+            lists: 0,
             base: read_base(fields),
         });
     }
-    for depth in 0..MAX_LISTS {
-        let Some(inner) = element else {
-            break;
-        };
-        lists = depth + 1;
-        let next = element_type(&inner)?;
-        if next.is_none() {
+    let mut element = element_type(fields)?;
+    for depth in 1..MAX_LISTS {
+        if !is_list(&element) {
             return Ok(Type {
-                lists,
-                base: read_base(&inner),
+                lists: depth,
+                base: read_base(&element),
             });
         }
-        element = next;
+        let inner = element_type(&element)?;
+        element = inner;
     }
     Ok(Type {
-        lists,
+        lists: MAX_LISTS,
         base: Base::Interface,
     })
 }
 
-// The type of the elements of a list; none for a type that is no list.
+// Whether a type is a list.
+fn is_list<'a, S: ReaderSegments>(fields: &StructReader<'a, S>) -> bool {
+    fields.get_data_field::<u16>(0) == 14
+}
+
+// The type of the elements of a list.
 fn element_type<'a, S: ReaderSegments>(
     fields: &StructReader<'a, S>,
-) -> Result<Option<StructReader<'a, S>>> {
-    if fields.get_data_field::<u16>(0) != 14 {
-        return Ok(None);
-    }
-    Ok(Some(fields.get_pointer(0).get_as()?))
+) -> Result<StructReader<'a, S>> {
+    Ok(fields.get_pointer(0).get_as()?)
 }
 
 // A type that is no list.

@@ -2,7 +2,7 @@
 use crate::code::Code;
 use crate::enums::cases_of;
 use crate::fields::{Getter, Stored, clause_value, default_bits};
-use crate::names::{camel, path, snake};
+use crate::names::{camel, path_to, snake};
 use crate::schema::{Base, Slot, Type};
 use crate::templates::{MEMBERS, MEMBERS_END, WHICH, WHICH_END};
 use crate::views::{number_of, view_of};
@@ -49,7 +49,7 @@ impl Members {
     ) -> Result<(), AllocError> {
         let variant = camel(alloc, getter.field.name)?;
         let name = snake(alloc, getter.field.name)?;
-        match payload(alloc, getter)? {
+        match payload_of(alloc, getter)? {
             None => {
                 write!(self.cases, "Which.{variant} ↦ number ≡ {number} | ")?;
                 write!(self.arms, "        {number} => Which::{variant},\n")?;
@@ -79,7 +79,8 @@ impl Members {
         let variants = self.variants.as_str();
         for (name, written) in [("'b", borrow), ("'a", "'a"), ("S>", segments), ("S,", segments)] {
             if variants.contains(name) && !text.as_str().contains(written) {
-                text.push_str(if text.is_empty() { "<" } else { ", " })?;
+                let before = if text.is_empty() { "<" } else { ", " };
+                text.push_str(before)?;
                 text.push_str(written)?;
             }
         }
@@ -133,11 +134,11 @@ pub fn push_members(alloc: Global, code: &mut Code, members: &Members) -> Result
 }
 
 // What a member has; `None` for nothing, and for what has no getter.
-fn payload(alloc: Global, getter: &Getter<'_, '_>) -> Result<Option<Payload>, AllocError> {
+fn payload_of(alloc: Global, getter: &Getter<'_, '_>) -> Result<Option<Payload>, AllocError> {
     let fields = getter.fields();
     match getter.field.slot {
         Slot::Group(id) => {
-            let path = path(alloc, getter.request, getter.site, id)?;
+            let path = path_to(alloc, getter.request, getter.site, id)?;
             Ok(Some(Payload {
                 type_name: format!(in alloc; "{path}::Reader<'b, 'a, S>")?,
                 fact: format!(in alloc; "struct_of S.segments value.fields.now ≡ {fields}")?,
@@ -165,11 +166,14 @@ fn number_payload(
     stored: &Stored,
     base: Base,
 ) -> Result<Option<Payload>, AllocError> {
+    if stored.is_left_out() {
+        return Ok(None);
+    }
     let value = clause_value(alloc, getter.fields(), stored)?;
     if let Base::Enum(id) = base {
         let cases = cases_of(alloc, getter.request, id)?;
         return Ok(Some(Payload {
-            type_name: path(alloc, getter.request, getter.site, id)?,
+            type_name: path_to(alloc, getter.request, getter.site, id)?,
             fact: format!(in alloc; "let number = {value} in elim value [ {cases} ]")?,
         }));
     }

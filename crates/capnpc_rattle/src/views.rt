@@ -1,5 +1,5 @@
 //! What is read for each type: numbers of the data section, and views of what pointers lead to.
-use crate::names::{Site, path};
+use crate::names::{Site, path_to};
 use crate::schema::{Base, Request, Type};
 use std::alloc::{AllocError, Global};
 
@@ -78,7 +78,7 @@ pub fn view_of(
 }
 
 // A view by its parts.
-fn view(
+fn view_from(
     alloc: Global,
     type_name: &str,
     shows: &str,
@@ -101,14 +101,14 @@ fn single(
     base: Base,
 ) -> Result<Option<View>, AllocError> {
     match base {
-        Base::Text => view(
+        Base::Text => view_from(
             alloc,
             "capnp_wire::text::Reader<'a>",
             "Reads pointer (λ form. IsText form view.bytes.now)",
             "TakesText",
             "DeclinesText",
         ),
-        Base::Data => view(
+        Base::Data => view_from(
             alloc,
             "&'a [u8]",
             "Reads pointer (λ form. IsData form view.now)",
@@ -116,9 +116,9 @@ fn single(
             "(DeclinesNumbers 2)",
         ),
         Base::Struct(id) => {
-            let path = path(alloc, request, site, id)?;
+            let path = path_to(alloc, request, site, id)?;
             let name = format!(in alloc; "{path}::Reader<'a, S>")?;
-            view(
+            view_from(
                 alloc,
                 name.as_str(),
                 "IsStruct pointer (struct_of S.segments view.fields)",
@@ -140,9 +140,9 @@ fn list(
     match base {
         Base::Void => list_of_numbers(alloc, "()", 0),
         Base::Struct(id) => {
-            let path = path(alloc, request, site, id)?;
+            let path = path_to(alloc, request, site, id)?;
             let name = format!(in alloc; "{path}::ListReader<'a, S>")?;
-            view(
+            view_from(
                 alloc,
                 name.as_str(),
                 "IsUpgradedStructs pointer (upgraded_structs_of S.segments view.elements)",
@@ -184,7 +184,7 @@ fn list_of_numbers(alloc: Global, element: &str, code: u32) -> Result<Option<Vie
         "Reads pointer (λ form. ReadsAsNumbers {code} form (upgraded_numbers_of {code} view))")?;
     let takes = format!(in alloc; "(TakesFields {code})")?;
     let declines = format!(in alloc; "(DeclinesFields {code})")?;
-    view(
+    view_from(
         alloc,
         name.as_str(),
         shows.as_str(),
@@ -196,7 +196,7 @@ fn list_of_numbers(alloc: Global, element: &str, code: u32) -> Result<Option<Vie
 // The view of a list of pointers.
 fn list_of_pointers(alloc: Global, element: &str) -> Result<Option<View>, AllocError> {
     let name = format!(in alloc; "capnp_wire::upgraded::ListList<'a, S, {element}>")?;
-    view(
+    view_from(
         alloc,
         name.as_str(),
         "IsUpgradedPointers pointer (upgraded_pointers_of S.segments view.pointers)",
