@@ -38,7 +38,7 @@ pub fn code_of(alloc: Global, request: &Request<'_>, file: u64) -> Result<String
             }
             Step::Node(id) => {
                 if let Some(node) = request.find(id) {
-                    push_node(alloc, &mut code, &mut steps, request, file, node)?;
+                    push_node(alloc, &mut code, &mut steps, request, node)?;
                 }
             }
         }
@@ -70,12 +70,11 @@ fn push_node(
     code: &mut Code,
     steps: &mut Vec<Step>,
     request: &Request<'_>,
-    file: u64,
     node: &Node<'_>,
 ) -> Result<(), AllocError> {
     match &node.body {
         Body::Struct(body) => {
-            push_struct(alloc, code, request, file, node, body)?;
+            push_struct(alloc, code, request, node, body)?;
             steps.push(Step::End)?;
             push_nested(steps, node)?;
             push_groups(steps, body)

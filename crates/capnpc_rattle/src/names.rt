@@ -12,11 +12,10 @@ const TAKEN: [&str; 56] = [
     "which", "while", "yield",
 ];
 
-/// Where code stands: in a file, with so many modules open.
+/// Where code stands: in the module of a node.
 #[derive(Clone, Copy)]
 pub struct Site {
-    pub file: u64,
-    pub depth: usize,
+    pub node: u64,
 }
 
 /// A name with small letters, and `_` before what were capital ones: `deep_blue` of `deepBlue`.
@@ -92,41 +91,85 @@ pub fn file_module(alloc: Global, name: &str) -> Result<String, AllocError> {
 
 /// The path to the module of a struct, or to the enum, that a node declares, as it is written at a site.
 /// Files stand beside one another.
-pub fn path_to(alloc: Global, request: &Request<'_>, site: Site, id: u64) -> Result<String, AllocError> {
+pub fn path_to(
+    alloc: Global,
+    request: &Request<'_>,
+    site: Site,
+    id: u64,
+) -> Result<String, AllocError> {
+    let from = chain_of(alloc, request, site.node)?;
+    let to = chain_of(alloc, request, id)?;
+    let mut text = String::new(alloc);
+    if from.file != to.file {
+        push_supers(&mut text, from.names.len().saturating_add(1))?;
+        let file = file_module(alloc, request.file_name(to.file).unwrap_or(""))?;
+        text.push_str(file.as_str())?;
+        text.push_str("::")?;
+        push_names(&mut text, to.names.as_slice())?;
+        return Ok(text);
+    }
+    let shared = shared_len(from.names.as_slice(), to.names.as_slice());
+    push_supers(&mut text, from.names.len().saturating_sub(shared))?;
+    push_names(&mut text, to.names.get(shared..).unwrap_or(&[]))?;
+    Ok(text)
+}
+
+/// Where a node is declared.
+#[derive(Drop)]
+struct Chain {
+    file: u64,
+    /// The modules from the file on, the node's own name last.
+    names: Vec<String>,
+}
+
+// Where a node is declared.
+fn chain_of(alloc: Global, request: &Request<'_>, id: u64) -> Result<Chain, AllocError> {
     let mut names: Vec<String> = Vec::new(alloc);
     let mut next = id;
-    let mut file = site.file;
+    let mut file = 0;
     for _ in 0..64 {
         let Some(node) = request.find(next) else {
             break;
         };
-        match &node.body {
+        let name = match &node.body {
             Body::File => {
                 file = node.id;
                 break;
             }
-            Body::Enum(_) => names.push(camel(alloc, node.name)?)?,
-            _ => names.push(module(alloc, node.name)?)?,
-        }
+            Body::Enum(_) => camel(alloc, node.name)?,
+            _ => module(alloc, node.name)?,
+        };
+        names.push(name)?;
         next = node.scope;
     }
-    let mut text = String::new(alloc);
-    for _ in 0..site.depth {
-        text.push_str("super::")?;
-    }
-    if file != site.file {
-        text.push_str("super::")?;
-        text.push_str(file_module(alloc, request.file_name(file).unwrap_or(""))?.as_str())?;
-        text.push_str("::")?;
-    }
-    push_reversed(&mut text, names.as_slice())?;
-    Ok(text)
+    names.reverse();
+    Ok(Chain { file, names })
 }
 
-// Adds the names from the last to the first.
-fn push_reversed(text: &mut String, names: &[String]) -> Result<(), AllocError> {
+// How many names two chains share in front, but for the last one of the second.
+fn shared_len(from: &[String], to: &[String]) -> usize {
+    let mut shared: usize = 0;
+    for (one, other) in from.iter().zip(to) {
+        if shared.saturating_add(1) == to.len() || one.as_str() != other.as_str() {
+            break;
+        }
+        shared = shared.saturating_add(1);
+    }
+    shared
+}
+
+// Adds the way out of so many modules.
+fn push_supers(text: &mut String, count: usize) -> Result<(), AllocError> {
+    for _ in 0..count {
+        text.push_str("super::")?;
+    }
+    Ok(())
+}
+
+// Adds names, one after the other.
+fn push_names(text: &mut String, names: &[String]) -> Result<(), AllocError> {
     let mut is_first = true;
-    for name in names.iter().rev() {
+    for name in names {
         if !is_first {
             text.push_str("::")?;
         }

@@ -1,6 +1,6 @@
 //! The request that the schema compiler hands to its plugins: a `CodeGeneratorRequest` of
 //! `schema.capnp`, read by the views of this library.
-use crate::schema::{Body, Field, Node, Request, RequestedFile, Slot, Struct, Type};
+use crate::schema::{Body, Field, Node, Request, RequestedFile, Slot, Struct};
 use crate::types::{read_type, read_value};
 use anyhow::{Context, Result};
 use capnp_frame::message::ReaderSegments;

@@ -12,21 +12,17 @@ pub fn push_struct(
     alloc: Global,
     code: &mut Code,
     request: &Request<'_>,
-    file: u64,
     node: &Node<'_>,
     body: &Struct<'_>,
 ) -> Result<(), AllocError> {
     code.add("\n", &[])?;
     code.add_comment(node.comment)?;
     let name = module(alloc, node.name)?;
-    let site = Site {
-        file,
-        depth: code.depth.saturating_add(1),
-    };
+    let site = Site { node: node.id };
     code.add(MODULE, &[("module", name.as_str())])?;
     push_uses(alloc, code, request, site, node, body)?;
     code.add(if body.is_group { GROUP_READER } else { READER }, &[])?;
-    code.depth = site.depth;
+    code.depth = code.depth.saturating_add(1);
     let members = push_getters(alloc, code, request, site, node, body)?;
     code.add("}", &[])?;
     if body.discriminant.is_some() {
