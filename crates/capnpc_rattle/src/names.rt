@@ -158,7 +158,7 @@ fn shared_len(from: &[String], to: &[String]) -> usize {
     shared
 }
 
-// Adds the way out of so many modules.
+// Adds the way out of a given number of modules.
 fn push_supers(text: &mut String, count: usize) -> Result<(), AllocError> {
     for _ in 0..count {
         text.push_str("super::")?;

@@ -65,7 +65,7 @@ pub enum Slot<'a> {
     Unknown,
 }
 
-/// A type: what the elements are of lists of lists, so many deep.
+/// A type: what the elements are of lists of lists, to a given depth.
 #[derive(Clone, Copy)]
 pub struct Type {
     /// How many lists there are around the base; 0 for the base itself.
