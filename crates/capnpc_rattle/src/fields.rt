@@ -3,9 +3,7 @@ use crate::code::Code;
 use crate::enums::cases_of;
 use crate::names::{Site, path_to, snake};
 use crate::schema::{Base, Field, Request, Slot, Type, Value};
-use crate::templates::{
-    ANY_POINTER, ENUM, GROUP_FIELD, HAS, LEFT_OUT, NUMBER, VIEW, VOID,
-};
+use crate::templates::{ANY_POINTER, ENUM, GROUP_FIELD, HAS, LEFT_OUT, NUMBER, VIEW, VOID};
 use crate::views::{Number, NumberKind, number_of, view_of};
 use std::alloc::{AllocError, Global};
 

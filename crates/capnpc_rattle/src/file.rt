@@ -109,7 +109,10 @@ fn push_constant(
         }
         (Value::Text(text), _) => write!(line, "pub const {name}: &str = {text:?};")?,
         (Value::Data(bytes), _) => write!(line, "pub const {name}: &[u8] = &{bytes:?};")?,
-        _ => write!(line, "// The constant `{name}`, which is a list, a struct or a float, is left out.")?,
+        _ => write!(
+            line,
+            "// The constant `{name}`, which is a list, a struct or a float, is left out."
+        )?,
     }
     code.add("\n", &[])?;
     code.add_comment(node.comment)?;

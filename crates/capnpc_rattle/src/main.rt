@@ -25,9 +25,8 @@ use capnp_frame::serialize::{OwnedSegments, try_read_segments};
 use capnp_wire::any_struct::StructReader;
 use capnp_wire::arena::ReaderArena;
 use std::alloc::Global;
-use std::env;
-use std::fs;
 use std::io::Read;
+use std::{env, fs};
 
 /// As much as the schema compiler sends: 64 MiB, and objects nested as deep as its own limit.
 const OPTIONS: ReaderOptions = ReaderOptions {

@@ -37,7 +37,10 @@ pub fn read_request<'a, S: ReaderSegments>(
 }
 
 /// The text of a pointer of a struct.
-pub fn read_text<'a, S: ReaderSegments>(fields: &StructReader<'a, S>, index: u16) -> Result<&'a str> {
+pub fn read_text<'a, S: ReaderSegments>(
+    fields: &StructReader<'a, S>,
+    index: u16,
+) -> Result<&'a str> {
     let text: text::Reader<'a> = fields.get_pointer(index).get_as()?;
     from_utf8(text.as_bytes()).context("a name or a comment is no UTF-8")
 }
@@ -51,7 +54,10 @@ fn structs<'a, S: ReaderSegments>(
 }
 
 // A node, without the comments, which stand elsewhere in the request.
-fn read_node<'a, S: ReaderSegments>(alloc: Global, fields: &StructReader<'a, S>) -> Result<Node<'a>> {
+fn read_node<'a, S: ReaderSegments>(
+    alloc: Global,
+    fields: &StructReader<'a, S>,
+) -> Result<Node<'a>> {
     let shown = read_text(fields, 0)?;
     let prefix = fields.get_data_field::<u32>(2) as usize;
     let mut nested = Vec::new(alloc);

@@ -1,7 +1,8 @@
 //! The code that is written, with `@name@` for what differs.
 
 /// What stands at the head of each file.
-pub const FILE: &str = "//! Types of `@file@`, made by `capnpc-rattle`: change the schema in their place.
+pub const FILE: &str =
+    "//! Types of `@file@`, made by `capnpc-rattle`: change the schema in their place.
 ghost use Rattle.std.specs.Prelude.{◌≡◌, ◌≤◌, ◌<◌, ◌==◌, ◌↔◌, IsTrue, bit_xor, length, from_bits};
 ghost use Rattle.std.specs.Float.{binary32, binary64};
 ghost use Rattle.std.specs.Int.{w8, w16, w32, w64, cast_signed};

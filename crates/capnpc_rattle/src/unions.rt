@@ -74,10 +74,20 @@ impl Members {
     }
 
     /// The parameters of the enum, of those that its members name, each as it is declared or given.
-    fn parameters(&self, alloc: Global, borrow: &str, segments: &str) -> Result<String, AllocError> {
+    fn parameters(
+        &self,
+        alloc: Global,
+        borrow: &str,
+        segments: &str,
+    ) -> Result<String, AllocError> {
         let mut text = String::new(alloc);
         let variants = self.variants.as_str();
-        for (name, written) in [("'b", borrow), ("'a", "'a"), ("S>", segments), ("S,", segments)] {
+        for (name, written) in [
+            ("'b", borrow),
+            ("'a", "'a"),
+            ("S>", segments),
+            ("S,", segments),
+        ] {
             if variants.contains(name) && !text.as_str().contains(written) {
                 let before = if text.is_empty() { "<" } else { ", " };
                 text.push_str(before)?;
@@ -207,6 +217,7 @@ fn view_payload(
     Ok(Some(Payload {
         type_name: format!(in alloc; "capnp_frame::Result<{type_name}>")?,
         fact: format!(in alloc;
-            "let pointer = pointer_in {fields} {offset} in IsViewOf pointer (λ view. {shows}) (Accepts pointer {takes}) (Refuses pointer {declines}) (Declines pointer {declines}) value")?,
+            "let pointer = pointer_in {fields} {offset} in IsViewOf pointer (λ view. {shows}) (Accepts pointer {takes}) (Refuses pointer {declines}) (Declines pointer {declines}) value"
+        )?,
     }))
 }

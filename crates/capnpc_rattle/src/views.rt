@@ -181,7 +181,8 @@ fn list_of_lists(
 fn list_of_numbers(alloc: Global, element: &str, code: u32) -> Result<Option<View>, AllocError> {
     let name = format!(in alloc; "capnp_wire::upgraded::NumberList<'a, {element}>")?;
     let shows = format!(in alloc;
-        "Reads pointer (λ form. ReadsAsNumbers {code} form (upgraded_numbers_of {code} view))")?;
+        "Reads pointer (λ form. ReadsAsNumbers {code} form (upgraded_numbers_of {code} view))"
+    )?;
     let takes = format!(in alloc; "(TakesFields {code})")?;
     let declines = format!(in alloc; "(DeclinesFields {code})")?;
     view_from(

@@ -12,13 +12,11 @@ ghost use Rattle.capnp_wire.specs.Views.{IsViewOf, IsStruct, IsText, IsData, Acc
 
 /// A point of a plane.
 pub mod point {
-
     use capnp_frame::Result;
     use capnp_frame::message::ReaderSegments;
-    use capnp_wire::any_pointer;
     use capnp_wire::any_struct::StructReader;
     use capnp_wire::traits::{self, FromPointerReader};
-    use capnp_wire::upgraded;
+    use capnp_wire::{any_pointer, upgraded};
 
     /// The type of the schema.
     pub struct Owned;
@@ -135,14 +133,12 @@ pub enum Color {
 
 /// A struct with a field of each kind.
 pub mod sample {
-
     use super::{Color, point};
     use capnp_frame::Result;
     use capnp_frame::message::ReaderSegments;
-    use capnp_wire::any_pointer;
     use capnp_wire::any_struct::StructReader;
     use capnp_wire::traits::{self, FromPointerReader};
-    use capnp_wire::{text, upgraded};
+    use capnp_wire::{any_pointer, text, upgraded};
 
     /// The type of the schema.
     pub struct Owned;
@@ -241,8 +237,12 @@ pub mod sample {
         /// The field `color`.
         pub fn get_color(&self) -> Color
             ensures { let number = field (struct_of S.segments self.now.fields).words 16 4 in
-                elim result [ Color.Red ↦ number ≡ 0 | Color.Green ↦ number ≡ 1 | Color.DeepBlue ↦ number ≡ 2
-                | Color.NotInSchema unknown ↦ (unknown ≡ number) × (3 ≤ number) ] }
+                elim result [
+                  | Color.Red ↦ number ≡ 0
+                  | Color.Green ↦ number ≡ 1
+                  | Color.DeepBlue ↦ number ≡ 2
+                  | Color.NotInSchema unknown ↦ (unknown ≡ number) × (3 ≤ number)
+                ] }
         {
             Color::from_number(self.fields.get_data_field(4))
         }
@@ -261,13 +261,15 @@ pub mod sample {
             ensures { let fields = struct_of S.segments self.now.fields in
                 let number = field fields.words 16 7 in
                 let label_pointer = pointer_in fields 5 in
-                elim result [ Which.Nothing ↦ number ≡ 0
-                | Which.Size size ↦ (number ≡ 1) × (size ≡ field fields.words 32 4)
-                | Which.Label label ↦ (number ≡ 2) × IsViewOf label_pointer
-                (λ view. Reads label_pointer (λ form. IsText form view.bytes.now))
-                (Accepts label_pointer TakesText) (Refuses label_pointer DeclinesText)
-                (Declines label_pointer DeclinesText) label
-                | Which.NotInSchema unknown ↦ (unknown ≡ number) × (3 ≤ number) ] }
+                elim result [
+                  | Which.Nothing ↦ number ≡ 0
+                  | Which.Size size ↦ (number ≡ 1) × (size ≡ field fields.words 32 4)
+                  | Which.Label label ↦ (number ≡ 2) × IsViewOf label_pointer
+                      (λ view. Reads label_pointer (λ form. IsText form view.bytes.now))
+                      (Accepts label_pointer TakesText) (Refuses label_pointer DeclinesText)
+                      (Declines label_pointer DeclinesText) label
+                  | Which.NotInSchema unknown ↦ (unknown ≡ number) × (3 ≤ number)
+                ] }
         {
             match self.fields.get_data_field::<u16>(7) {
                 0 => Which::Nothing,
@@ -312,7 +314,6 @@ pub mod sample {
 
     /// What is seen of it.
     pub mod window {
-
         use capnp_frame::message::ReaderSegments;
         use capnp_wire::any_struct::StructReader;
 
@@ -342,11 +343,14 @@ pub mod sample {
 }
 
 impl Color {
-
     /// The enumerant of this number.
     pub fn from_number(number: u16) -> Color
-        ensures { elim result [ Color.Red ↦ number ≡ 0 | Color.Green ↦ number ≡ 1 | Color.DeepBlue ↦ number ≡ 2
-            | Color.NotInSchema unknown ↦ (unknown ≡ number) × (3 ≤ number) ] }
+        ensures { elim result [
+          | Color.Red ↦ number ≡ 0
+          | Color.Green ↦ number ≡ 1
+          | Color.DeepBlue ↦ number ≡ 2
+          | Color.NotInSchema unknown ↦ (unknown ≡ number) × (3 ≤ number)
+        ] }
     {
         match number {
             0 => Color::Red,
