@@ -2,7 +2,7 @@
 //! "Lists").
 use crate::calls::objects::HELLO;
 use capnp_frame::Result;
-use capnp_frame::message::{ReaderOptions, SegmentArray};
+use capnp_frame::message::{ReaderOptions, ReaderSegments, SegmentArray};
 use capnp_rows::refusals::refusal;
 use capnp_wire::arena::ReaderArena;
 use capnp_wire::text;
@@ -91,8 +91,8 @@ fn arena_of<'a>(
     ReaderArena::new(SegmentArray::new(segments), options)
 }
 
-fn root_as<'a, 'b, T: FromPointerReader<'b, SegmentArray<'a>>>(
-    arena: &'b ReaderArena<SegmentArray<'a>>,
+fn root_as<'a, S: ReaderSegments, T: FromPointerReader<'a, S>>(
+    arena: &'a ReaderArena<S>,
 ) -> Result<T> {
     arena.get_root()?.get_as()
 }
@@ -103,14 +103,14 @@ fn lists_as_what_they_became(rt: HostRuntime) {
         let segments = [segment];
         let arena = arena_of(&segments, 1000, 64);
         let refusals = [
-            refusal(root_as::<StructList<'_, SegmentArray<'_>>>(&arena)),
-            refusal(root_as::<PointerList<'_, SegmentArray<'_>>>(&arena)),
-            refusal(root_as::<NumberList<'_, ()>>(&arena)),
-            refusal(root_as::<NumberList<'_, bool>>(&arena)),
-            refusal(root_as::<NumberList<'_, u8>>(&arena)),
-            refusal(root_as::<NumberList<'_, i16>>(&arena)),
-            refusal(root_as::<NumberList<'_, f32>>(&arena)),
-            refusal(root_as::<NumberList<'_, u64>>(&arena)),
+            refusal(root_as::<SegmentArray<'_>, StructList<'_, SegmentArray<'_>>>(&arena)),
+            refusal(root_as::<SegmentArray<'_>, PointerList<'_, SegmentArray<'_>>>(&arena)),
+            refusal(root_as::<SegmentArray<'_>, NumberList<'_, ()>>(&arena)),
+            refusal(root_as::<SegmentArray<'_>, NumberList<'_, bool>>(&arena)),
+            refusal(root_as::<SegmentArray<'_>, NumberList<'_, u8>>(&arena)),
+            refusal(root_as::<SegmentArray<'_>, NumberList<'_, i16>>(&arena)),
+            refusal(root_as::<SegmentArray<'_>, NumberList<'_, f32>>(&arena)),
+            refusal(root_as::<SegmentArray<'_>, NumberList<'_, u64>>(&arena)),
         ];
         assert_eq!(rt; refusals, wanted, "at {segment:?}");
     }
@@ -122,7 +122,7 @@ fn elements_as_structs(rt: HostRuntime) -> std::result::Result<(), Fail> {
     for (segment, sizes, words) in ROWS {
         let segments = [segment];
         let arena = arena_of(&segments, 1000, 64);
-        let list = root_as::<StructList<'_, SegmentArray<'_>>>(&arena)?;
+        let list = root_as::<SegmentArray<'_>, StructList<'_, SegmentArray<'_>>>(&arena)?;
         assert_eq!(rt; list.len(), 3);
         for index in 0..3 {
             let element = list.get(index);
@@ -147,28 +147,26 @@ fn elements_as_structs(rt: HostRuntime) -> std::result::Result<(), Fail> {
 fn first_fields_of_structs(rt: HostRuntime) -> std::result::Result<(), Fail> {
     let segments = [DATA];
     let arena = arena_of(&segments, 1000, 64);
-    let bytes = root_as::<NumberList<'_, u8>>(&arena)?;
-    assert_eq!(rt;
-        (bytes.len(), bytes.get(0), bytes.get(1), bytes.get(2)),
-        (3, 1, 0xf1, 0)
-    );
-    let pairs = root_as::<NumberList<'_, i16>>(&arena)?;
+    let bytes = root_as::<SegmentArray<'_>, NumberList<'_, u8>>(&arena)?;
+    assert_eq!(rt; bytes.len(), 3);
+    assert_eq!(rt; (bytes.get(0), bytes.get(1), bytes.get(2)), (1, 0xf1, 0));
+    let pairs = root_as::<SegmentArray<'_>, NumberList<'_, i16>>(&arena)?;
+    assert_eq!(rt; pairs.len(), 3);
     assert_eq!(rt;
         (pairs.get(0), pairs.get(1), pairs.get(2)),
         (0x0201, -0x0d0f, 0)
     );
-    let words = root_as::<NumberList<'_, u64>>(&arena)?;
+    let words = root_as::<SegmentArray<'_>, NumberList<'_, u64>>(&arena)?;
+    assert_eq!(rt; words.len(), 3);
     assert_eq!(rt;
         (words.get(0), words.get(2)),
         (0x0807_0605_0403_0201, 1 << 56)
     );
     let segments = [HELLO];
     let arena = arena_of(&segments, 1000, 64);
-    let letters = root_as::<NumberList<'_, u8>>(&arena)?;
-    assert_eq!(rt;
-        (letters.len(), letters.get(4), letters.get(13)),
-        (14, b'o', 0)
-    );
+    let letters = root_as::<SegmentArray<'_>, NumberList<'_, u8>>(&arena)?;
+    assert_eq!(rt; letters.len(), 14);
+    assert_eq!(rt; (letters.get(4), letters.get(13)), (b'o', 0));
     Ok(())
 }
 
@@ -178,7 +176,9 @@ fn first_pointers_of_structs(rt: HostRuntime) -> std::result::Result<(), Fail> {
     for (segment, letter, words) in [(POINTERS, b"a", 3), (BOTH, b"b", 10)] {
         let segments = [segment];
         let arena = arena_of(&segments, words + 1, 2);
-        let texts = root_as::<ListList<'_, SegmentArray<'_>, text::Reader<'_>>>(&arena)?;
+        let texts = root_as::<SegmentArray<'_>, ListList<'_, SegmentArray<'_>, text::Reader<'_>>>(
+            &arena,
+        )?;
         assert_eq!(rt; texts.len(), 3);
         assert_eq!(rt; texts.get(0)?.len(), 0);
         assert_eq!(rt; texts.get(1)?.as_bytes(), letter.as_slice());
@@ -187,7 +187,8 @@ fn first_pointers_of_structs(rt: HostRuntime) -> std::result::Result<(), Fail> {
     }
     let segments = [POINTERS];
     let arena = arena_of(&segments, 1000, 1);
-    let structs = root_as::<StructList<'_, SegmentArray<'_>>>(&arena)?;
+    let structs = root_as::<SegmentArray<'_>, StructList<'_, SegmentArray<'_>>>(&arena)?;
+    assert_eq!(rt; structs.len(), 3);
     let below = structs.get(1).get_pointer(0);
     assert_eq!(rt; refusal(below.get_as::<text::Reader<'_>>()), 19);
     Ok(())
