@@ -1,31 +1,155 @@
 //! Enums.
 use crate::code::Code;
-use crate::names::camel;
-use crate::schema::{Body, Node, Request};
+use crate::names::{camel, enum_type, variant};
+use crate::paths::path_to;
+use crate::schema::{Base, Body, Field, Node, Request, Slot};
+use crate::shown::Site;
 use crate::templates::{ENUM_END, ENUM_HEAD};
 use std::alloc::{AllocError, Global};
 use std::fmt::Write;
 
-/// The cases of a clause over an enum: which number each enumerant has, and that any other is kept.
-pub fn cases_of(alloc: Global, request: &Request<'_>, id: u64) -> Result<String, AllocError> {
+/// The cases of a clause over an enum of this name: which number each enumerant has, and that any other
+/// is kept.
+pub fn cases_of(
+    alloc: Global,
+    request: &Request<'_>,
+    id: u64,
+    type_name: &str,
+) -> Result<String, AllocError> {
     let mut text = String::new(alloc);
-    let mut type_name = String::new(alloc);
     let mut count: u32 = 0;
-    if let Some(node) = request.find(id) {
-        type_name = camel(alloc, node.name)?;
-        if let Body::Enum(names) = &node.body {
-            for name in names.as_slice() {
-                let variant = camel(alloc, name)?;
-                write!(text, "{type_name}.{variant} ↦ number ≡ {count} | ")?;
-                count = count.saturating_add(1);
-            }
-        }
+    for name in enumerants_of(request, id) {
+        let variant = variant(alloc, name)?;
+        write!(text, "  | {type_name}.{variant} ↦ number ≡ {count}\n")?;
+        count = count.saturating_add(1);
     }
     write!(
         text,
-        "{type_name}.NotInSchema unknown ↦ (unknown ≡ number) × ({count} ≤ number)"
+        "  | {type_name}.NotInSchema unknown ↦ (unknown ≡ number) × ({count} ≤ number)"
     )?;
     Ok(text)
+}
+
+// The names of the enumerants of a node.
+fn enumerants_of<'r, 'a>(request: &'r Request<'a>, id: u64) -> &'r [&'a str] {
+    match request.find(id) {
+        Some(node) => match &node.body {
+            Body::Enum(names) => names.as_slice(),
+            _ => &[],
+        },
+        None => &[],
+    }
+}
+
+/// The name of an enum in the module of a struct that has a field of it: its own, or with the name of what
+/// it is declared in before it, where an enum of its name is in the module already.
+pub fn enum_name(alloc: Global, site: Site<'_, '_>, id: u64) -> Result<String, AllocError> {
+    let Some(node) = site.request.find(id) else {
+        return String::from_str(alloc, "u16");
+    };
+    let name = enum_type(alloc, node.name)?;
+    if !is_other(alloc, site, node, name.as_str())? {
+        return Ok(name);
+    }
+    let mut longer = match site.request.find(node.scope) {
+        Some(scope) => camel(alloc, scope.name)?,
+        None => String::new(alloc),
+    };
+    longer.push_str(name.as_str())?;
+    Ok(longer)
+}
+
+// Whether another enum has this name in the module: one that is declared there, or that of a field before.
+fn is_other(
+    alloc: Global,
+    site: Site<'_, '_>,
+    node: &Node<'_>,
+    name: &str,
+) -> Result<bool, AllocError> {
+    if node.scope == site.node.id {
+        return Ok(false);
+    }
+    for nested in site.node.nested.as_slice() {
+        if is_named(alloc, site.request, *nested, name)? {
+            return Ok(true);
+        }
+    }
+    for id in enums_of(alloc, site.node)?.as_slice() {
+        if *id == node.id {
+            return Ok(false);
+        }
+        if is_named(alloc, site.request, *id, name)? {
+            return Ok(true);
+        }
+    }
+    Ok(false)
+}
+
+// Whether a node is an enum of this name.
+fn is_named(
+    alloc: Global,
+    request: &Request<'_>,
+    id: u64,
+    name: &str,
+) -> Result<bool, AllocError> {
+    let Some(node) = request.find(id) else {
+        return Ok(false);
+    };
+    match &node.body {
+        Body::Enum(_) => Ok(enum_type(alloc, node.name)?.as_str() == name),
+        _ => Ok(false),
+    }
+}
+
+// The enums that the fields of a struct hold, each once.
+fn enums_of(alloc: Global, node: &Node<'_>) -> Result<Vec<u64>, AllocError> {
+    let mut found: Vec<u64> = Vec::new(alloc);
+    let Body::Struct(body) = &node.body else {
+        return Ok(found);
+    };
+    for field in body.fields.as_slice() {
+        if let Some(id) = enum_of(field)
+            && !found.contains(&id)
+        {
+            found.push(id)?;
+        }
+    }
+    Ok(found)
+}
+
+// The enum that a field holds, where it holds one.
+fn enum_of(field: &Field<'_>) -> Option<u64> {
+    match &field.slot {
+        Slot::At(place) if place.of.lists == 0 => match place.of.base {
+            Base::Enum(id) => Some(id),
+            _ => None,
+        },
+        _ => None,
+    }
+}
+
+/// The lines that bring the enums of a struct's fields into its module, so that clauses may name their
+/// variants.
+pub fn enum_uses(alloc: Global, site: Site<'_, '_>) -> Result<Vec<String>, AllocError> {
+    let mut lines = Vec::new(alloc);
+    for id in enums_of(alloc, site.node)?.as_slice() {
+        let Some(node) = site.request.find(*id) else {
+            continue;
+        };
+        if node.scope == site.node.id {
+            continue;
+        }
+        let path = path_to(alloc, site.request, site.node.id, *id)?;
+        let name = enum_name(alloc, site, *id)?;
+        let (path, name) = (path.as_str(), name.as_str());
+        lines.push(if enum_type(alloc, node.name)?.as_str() == name {
+            format!(in alloc; "use {path};")?
+        } else {
+            format!(in alloc; "use {path} as {name};")?
+        })?;
+    }
+    lines.sort()?;
+    Ok(lines)
 }
 
 /// Adds an enum.
@@ -36,45 +160,32 @@ pub fn push_enum(
     node: &Node<'_>,
     names: &[&str],
 ) -> Result<(), AllocError> {
-    let type_name = camel(alloc, node.name)?;
-    code.add("\n", &[])?;
+    let type_name = enum_type(alloc, node.name)?;
+    let type_name = type_name.as_str();
     code.add_comment(node.comment)?;
-    code.add(ENUM_HEAD, &[("type", type_name.as_str())])?;
+    code.add(ENUM_HEAD, &[("type", type_name)])?;
     code.depth = code.depth.saturating_add(1);
+    let mut arms = String::new(alloc);
     let mut index: usize = 0;
     for name in names {
         if let Some(comment) = node.member_comments.get(index) {
             code.add_comment(comment)?;
         }
-        let variant = camel(alloc, name)?;
-        code.add("@name@,", &[("name", variant.as_str())])?;
+        let variant = variant(alloc, name)?;
+        let variant = variant.as_str();
+        code.add("@name@,", &[("name", variant)])?;
+        write!(arms, "{index} => {type_name}::{variant},\n")?;
         index = index.saturating_add(1);
     }
+    write!(arms, "unknown => {type_name}::NotInSchema(unknown),")?;
     code.depth = code.depth.saturating_sub(1);
-    let cases = cases_of(alloc, request, node.id)?;
+    let cases = cases_of(alloc, request, node.id, type_name)?;
     code.add(
         ENUM_END,
-        &[("type", type_name.as_str()), ("cases", cases.as_str())],
-    )?;
-    push_arms(alloc, code, type_name.as_str(), names)
-}
-
-// Adds the arms that say which enumerant a number is, and what follows them.
-fn push_arms(
-    alloc: Global,
-    code: &mut Code,
-    type_name: &str,
-    names: &[&str],
-) -> Result<(), AllocError> {
-    let mut count: u32 = 0;
-    for name in names {
-        let variant = camel(alloc, name)?;
-        let line = format!(in alloc; "            {count} => {type_name}::{variant},")?;
-        code.add(line.as_str(), &[])?;
-        count = count.saturating_add(1);
-    }
-    code.add(
-        "            unknown => @type@::NotInSchema(unknown),\n        }\n    }\n}",
-        &[("type", type_name)],
+        &[
+            ("type", type_name),
+            ("cases", cases.as_str()),
+            ("arms", arms.as_str()),
+        ],
     )
 }

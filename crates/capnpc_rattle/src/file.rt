@@ -1,14 +1,13 @@
 //! The code of a file: its nodes, each in the module of the node that it is declared in.
 use crate::code::Code;
+use crate::constants::push_constant;
 use crate::enums::push_enum;
-use crate::fields::literal;
-use crate::names::capitals;
-use crate::schema::{Body, Node, Request, Slot, Struct, Type, Value};
-use crate::structs::push_struct;
+use crate::imports::push_definitions;
+use crate::names::base_name;
+use crate::schema::{Body, Node, Request, Slot, Struct};
+use crate::structs::{close_module, open_module, push_struct};
 use crate::templates::FILE;
-use crate::views::{NumberKind, number_of};
 use std::alloc::{AllocError, Global};
-use std::fmt::Write;
 
 // What is still to be written.
 #[derive(Clone, Copy)]
@@ -21,8 +20,7 @@ enum Step {
 
 /// The code of a file.
 pub fn code_of(alloc: Global, request: &Request<'_>, file: u64) -> Result<String, AllocError> {
-    let mut code = Code::new(alloc);
-    code.add(FILE, &[("file", request.file_name(file).unwrap_or(""))])?;
+    let mut body = Code::new(alloc, 0);
     let mut steps = Vec::new(alloc);
     if let Some(node) = request.find(file) {
         push_nested(&mut steps, node)?;
@@ -32,17 +30,19 @@ pub fn code_of(alloc: Global, request: &Request<'_>, file: u64) -> Result<String
             break;
         };
         match step {
-            Step::End => {
-                code.depth = code.depth.saturating_sub(1);
-                code.add("}", &[])?;
-            }
+            Step::End => close_module(&mut body)?,
             Step::Node(id) => {
                 if let Some(node) = request.find(id) {
-                    push_node(alloc, &mut code, &mut steps, request, node)?;
+                    push_node(alloc, &mut body, &mut steps, request, node)?;
                 }
             }
         }
     }
+    let mut code = Code::new(alloc, 0);
+    let name = base_name(request.file_name(file).unwrap_or(""));
+    code.add(FILE, &[("file", name)])?;
+    push_definitions(alloc, &mut code, body.text.as_str())?;
+    code.text.push_str(body.text.as_str())?;
     Ok(code.text)
 }
 
@@ -74,47 +74,42 @@ fn push_node(
 ) -> Result<(), AllocError> {
     match &node.body {
         Body::Struct(body) => {
+            code.add_gap()?;
             push_struct(alloc, code, request, node, body)?;
             steps.push(Step::End)?;
             push_nested(steps, node)?;
             push_groups(steps, body)
         }
-        Body::Enum(names) => push_enum(alloc, code, request, node, names.as_slice()),
-        Body::Constant(of, value) => push_constant(alloc, code, node, *of, *value),
+        Body::Enum(names) => {
+            code.add_gap()?;
+            push_enum(alloc, code, request, node, names.as_slice())
+        }
+        Body::Constant(of, value) => {
+            code.add_gap()?;
+            push_constant(alloc, code, request, node, *of, value)
+        }
         Body::Interface => {
-            let name = node.name;
-            let line = format!(in alloc; "\n// The interface `{name}` is left out.")?;
-            code.add(line.as_str(), &[])
+            code.add_gap()?;
+            push_interface(alloc, code, steps, node)
         }
         Body::File | Body::Other => Ok(()),
     }
 }
 
-// Adds a constant; one that is a list or a struct is left out.
-fn push_constant(
+// Says that an interface is left out, and opens its module where something is declared in it.
+fn push_interface(
     alloc: Global,
     code: &mut Code,
+    steps: &mut Vec<Step>,
     node: &Node<'_>,
-    of: Type,
-    value: Value<'_>,
 ) -> Result<(), AllocError> {
-    let name = capitals(alloc, node.name)?;
-    let name = name.as_str();
-    let mut line = String::new(alloc);
-    match (value, number_of(of.base)) {
-        (Value::Bits(bits), Some(number)) if of.lists == 0 && number.kind != NumberKind::Float => {
-            let type_name = number.type_name;
-            let value = literal(alloc, number, bits)?;
-            write!(line, "pub const {name}: {type_name} = {value};")?;
-        }
-        (Value::Text(text), _) => write!(line, "pub const {name}: &str = {text:?};")?,
-        (Value::Data(bytes), _) => write!(line, "pub const {name}: &[u8] = &{bytes:?};")?,
-        _ => write!(
-            line,
-            "// The constant `{name}`, which is a list, a struct or a float, is left out."
-        )?,
+    let holes = [("name", node.name)];
+    if node.nested.is_empty() {
+        return code.add("// The interface `@name@` is left out.", &holes);
     }
-    code.add("\n", &[])?;
-    code.add_comment(node.comment)?;
-    code.add(line.as_str(), &[])
+    code.add("// Of the interface `@name@` there is only what is declared in it.", &holes)?;
+    open_module(alloc, code, node)?;
+    code.add("//! What is declared in the interface `@name@`.", &holes)?;
+    steps.push(Step::End)?;
+    push_nested(steps, node)
 }

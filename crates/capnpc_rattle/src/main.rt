@@ -7,17 +7,26 @@
 #![tactic(auto)]
 
 mod code;
+mod constants;
+mod defaults;
 mod enums;
 mod fields;
 mod file;
+mod imports;
 mod names;
+mod numbers;
+mod paths;
 mod request;
 mod schema;
+mod shown;
+mod signatures;
 mod structs;
+mod taken;
 mod templates;
 mod types;
 mod unions;
 mod views;
+mod words;
 
 use anyhow::{Context, Result};
 use capnp_frame::message::ReaderOptions;

@@ -1,6 +1,6 @@
 //! The request that the schema compiler hands to its plugins: a `CodeGeneratorRequest` of
 //! `schema.capnp`, read by the views of this library.
-use crate::schema::{Body, Field, Node, Request, RequestedFile, Slot, Struct};
+use crate::schema::{Body, Field, Node, Place, Request, RequestedFile, Slot, Struct};
 use crate::types::{read_type, read_value};
 use anyhow::{Context, Result};
 use capnp_frame::message::ReaderSegments;
@@ -73,7 +73,7 @@ fn read_node<'a, S: ReaderSegments>(
         4 => {
             let type_fields: StructReader<'a, S> = fields.get_pointer(3).get_as()?;
             let value: StructReader<'a, S> = fields.get_pointer(4).get_as()?;
-            Body::Constant(read_type(&type_fields)?, read_value(&value)?)
+            Body::Constant(read_type(&type_fields)?, read_value(alloc, &value)?)
         }
         _ => Body::Other,
     };
@@ -97,11 +97,9 @@ fn read_struct<'a, S: ReaderSegments>(
     let mut read = Vec::new(alloc);
     let list = structs(fields, 3)?;
     for index in 0..list.len() {
-        read.push(read_field(&list.get(index))?)?;
+        read.push(read_field(alloc, &list.get(index))?)?;
     }
     Ok(Struct {
-        data_words: fields.get_data_field(7),
-        pointers: fields.get_data_field(12),
         is_group: fields.get_data_field(224),
         discriminant: if members == 0 {
             None
@@ -113,7 +111,10 @@ fn read_struct<'a, S: ReaderSegments>(
 }
 
 // A field.
-fn read_field<'a, S: ReaderSegments>(fields: &StructReader<'a, S>) -> Result<Field<'a>> {
+fn read_field<'a, S: ReaderSegments>(
+    alloc: Global,
+    fields: &StructReader<'a, S>,
+) -> Result<Field<'a>> {
     let member: u16 = fields.get_data_field_mask(1, NO_DISCRIMINANT);
     Ok(Field {
         name: read_text(fields, 0)?,
@@ -122,21 +123,24 @@ fn read_field<'a, S: ReaderSegments>(fields: &StructReader<'a, S>) -> Result<Fie
         } else {
             Some(member)
         },
-        slot: read_slot(fields)?,
+        slot: read_slot(alloc, fields)?,
     })
 }
 
 // Where a field stands.
-fn read_slot<'a, S: ReaderSegments>(fields: &StructReader<'a, S>) -> Result<Slot<'a>> {
+fn read_slot<'a, S: ReaderSegments>(
+    alloc: Global,
+    fields: &StructReader<'a, S>,
+) -> Result<Slot<'a>> {
     match fields.get_data_field::<u16>(4) {
         0 => {
             let type_fields: StructReader<'a, S> = fields.get_pointer(2).get_as()?;
             let value: StructReader<'a, S> = fields.get_pointer(3).get_as()?;
-            Ok(Slot::At(
-                fields.get_data_field(1),
-                read_type(&type_fields)?,
-                read_value(&value)?,
-            ))
+            Ok(Slot::At(Place {
+                offset: fields.get_data_field(1),
+                of: read_type(&type_fields)?,
+                default: read_value(alloc, &value)?,
+            }))
         }
         1 => Ok(Slot::Group(fields.get_data_field(2))),
         _ => Ok(Slot::Unknown),

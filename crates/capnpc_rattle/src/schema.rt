@@ -34,10 +34,6 @@ pub enum Body<'a> {
 /// A struct, or a group of one.
 #[derive(Drop)]
 pub struct Struct<'a> {
-    /// The words of the data section.
-    pub data_words: u16,
-    /// The pointers of the pointer section.
-    pub pointers: u16,
     pub is_group: bool,
     /// Where the number stands that says which member of the union is there, in units of two bytes; none
     /// where there is no union.
@@ -55,14 +51,22 @@ pub struct Field<'a> {
 }
 
 /// Where a field stands.
-#[derive(Clone, Copy)]
+#[derive(Drop)]
 pub enum Slot<'a> {
-    /// At an offset in units of its own width, or at a pointer.
-    At(u32, Type, Value<'a>),
+    At(Place<'a>),
     /// In a group, which is a node.
     Group(u64),
     /// What this compiler doesn't know.
     Unknown,
+}
+
+/// Where a field of the data section or a pointer stands.
+#[derive(Drop)]
+pub struct Place<'a> {
+    /// In units of the field's own width, or among the pointers.
+    pub offset: u32,
+    pub of: Type,
+    pub default: Value<'a>,
 }
 
 /// A type: what the elements are of lists of lists, to a given depth.
@@ -100,7 +104,7 @@ pub enum Base {
 }
 
 /// A value of a constant or of a default.
-#[derive(Clone, Copy)]
+#[derive(Drop)]
 pub enum Value<'a> {
     /// The bits of a number, a bool or an enum; 0 for nothing.
     Bits(u64),
@@ -108,8 +112,9 @@ pub enum Value<'a> {
     Data(&'a [u8]),
     /// A null pointer.
     Null,
-    /// A list, a struct or any pointer that is not null.
-    Object,
+    /// A list, a struct or any pointer that is not null: the words of a message of one segment with it as
+    /// the root.
+    Object(Vec<u8>),
 }
 
 /// A file that code is asked for.
@@ -135,15 +140,6 @@ impl<'a> Request<'a> {
             }
         }
         None
-    }
-
-    /// The struct that a node declares, with the node.
-    pub fn find_struct(&self, id: u64) -> Option<(&Node<'a>, &Struct<'a>)> {
-        let node = self.find(id)?;
-        match &node.body {
-            Body::Struct(body) => Some((node, body)),
-            _ => None,
-        }
     }
 
     /// The name of a file, as it was asked for or as it was declared.

@@ -3,7 +3,10 @@ use crate::request::read_text;
 use crate::schema::{Base, Type, Value};
 use anyhow::Result;
 use capnp_frame::message::ReaderSegments;
+use capnp_wire::any_pointer;
 use capnp_wire::any_struct::StructReader;
+use capnp_wire::traits::SetterInput;
+use std::alloc::Global;
 
 /// How many lists of lists a type may have; the schema compiler takes no deeper ones.
 const MAX_LISTS: u32 = 64;
@@ -70,7 +73,10 @@ fn read_base<'a, S: ReaderSegments>(fields: &StructReader<'a, S>) -> Base {
 }
 
 /// A value.
-pub fn read_value<'a, S: ReaderSegments>(fields: &StructReader<'a, S>) -> Result<Value<'a>> {
+pub fn read_value<'a, S: ReaderSegments>(
+    alloc: Global,
+    fields: &StructReader<'a, S>,
+) -> Result<Value<'a>> {
     Ok(match fields.get_data_field::<u16>(0) {
         0 => Value::Bits(0),
         1 => Value::Bits(fields.get_data_field::<bool>(16) as u64),
@@ -80,7 +86,22 @@ pub fn read_value<'a, S: ReaderSegments>(fields: &StructReader<'a, S>) -> Result
         5 | 9 | 11 => Value::Bits(fields.get_data_field(1)),
         12 if fields.has_pointer(0) => Value::Text(read_text(fields, 0)?),
         13 if fields.has_pointer(0) => Value::Data(fields.get_pointer(0).get_as()?),
-        14 | 16 | 18 if fields.has_pointer(0) => Value::Object,
+        14 | 16 | 18 if fields.has_pointer(0) => {
+            Value::Object(words_of(alloc, &fields.get_pointer(0))?)
+        }
         _ => Value::Null,
     })
+}
+
+// The bytes of a message of one segment whose root is what a pointer leads to.
+fn words_of<'a, S: ReaderSegments>(
+    alloc: Global,
+    pointer: &any_pointer::Reader<'a, S>,
+) -> Result<Vec<u8>> {
+    let words = pointer.measure(false)?;
+    let mut block = vec![in alloc; 0u8; 8 * words as usize]?;
+    let root = pointer.write(false, &mut block);
+    let mut bytes = Vec::from_slice(alloc, &root.bytes())?;
+    bytes.extend_from_slice(block.as_slice())?;
+    Ok(bytes)
 }

@@ -1,28 +1,34 @@
-//! What is read for each type: numbers of the data section, and views of what pointers lead to.
-use crate::names::{Site, path_to};
+//! The views of what pointers lead to, for each type.
+use crate::code::fill;
+use crate::numbers::number_of;
+use crate::paths::path_to;
 use crate::schema::{Base, Request, Type};
+use crate::templates::VIEW_FACT;
 use std::alloc::{AllocError, Global};
 
-/// A number or a bool of the data section.
+/// What a view borrows from, as a type and a clause name it.
 #[derive(Clone, Copy)]
-pub struct Number {
-    /// Its type in Rattle.
-    pub type_name: &'static str,
-    /// The number of its bits.
-    pub width: u32,
-    /// The code of lists of it (encoding document, "Lists").
-    pub code: u32,
-    pub kind: NumberKind,
+pub struct Lender {
+    pub lifetime: &'static str,
+    /// The type of the segments.
+    pub segments: &'static str,
+    /// What they are, in a clause.
+    pub segments_of: &'static str,
 }
 
-/// What the bits of a number say.
-#[derive(Clone, Copy, PartialEq, Eq)]
-pub enum NumberKind {
-    Bool,
-    Unsigned,
-    Signed,
-    Float,
-}
+/// The message of a reader.
+pub const MESSAGE: Lender = Lender {
+    lifetime: "'a",
+    segments: "S",
+    segments_of: "S.segments",
+};
+
+/// A constant or a default.
+pub const CONSTANT: Lender = Lender {
+    lifetime: "'static",
+    segments: "Words",
+    segments_of: "segments_of",
+};
 
 /// A view of what a pointer leads to, as a getter and its contract name it.
 #[derive(Drop)]
@@ -37,43 +43,58 @@ pub struct View {
     pub declines: String,
 }
 
-/// The number that a type is; an enum is a `u16`, and `None` stands for what is no number.
-pub fn number_of(base: Base) -> Option<Number> {
-    let (type_name, width, code, kind) = match base {
-        Base::Bool => ("bool", 1, 1, NumberKind::Bool),
-        Base::Int8 => ("i8", 8, 2, NumberKind::Signed),
-        Base::Int16 => ("i16", 16, 3, NumberKind::Signed),
-        Base::Int32 => ("i32", 32, 4, NumberKind::Signed),
-        Base::Int64 => ("i64", 64, 5, NumberKind::Signed),
-        Base::Uint8 => ("u8", 8, 2, NumberKind::Unsigned),
-        Base::Uint16 => ("u16", 16, 3, NumberKind::Unsigned),
-        Base::Enum(_) => ("u16", 16, 3, NumberKind::Unsigned),
-        Base::Uint32 => ("u32", 32, 4, NumberKind::Unsigned),
-        Base::Uint64 => ("u64", 64, 5, NumberKind::Unsigned),
-        Base::Float32 => ("f32", 32, 4, NumberKind::Float),
-        Base::Float64 => ("f64", 64, 5, NumberKind::Float),
-        _ => return None,
-    };
-    Some(Number {
-        type_name,
-        width,
-        code,
-        kind,
-    })
+impl View {
+    /// What a clause says of a view: `result`, of what the pointer `pointer` leads to.
+    pub fn fact(&self, alloc: Global, result: &str) -> Result<String, AllocError> {
+        fill(
+            alloc,
+            VIEW_FACT,
+            &[
+                ("shows", self.shows.as_str()),
+                ("takes", self.takes.as_str()),
+                ("declines", self.declines.as_str()),
+                ("result", result),
+            ],
+        )
+    }
 }
 
-/// The view of a type at a site; `None` for what has no view: numbers by themselves, interfaces, and any
-/// pointer by itself, whose getter never fails.
+/// The view of a type at a site, of what a lender has; `None` for what has no view: numbers by themselves,
+/// interfaces, and any pointer by itself, whose getter never fails.
 pub fn view_of(
     alloc: Global,
     request: &Request<'_>,
-    site: Site,
+    site: u64,
     of: Type,
+    lender: Lender,
 ) -> Result<Option<View>, AllocError> {
+    let found = match of.lists {
+        0 => single(alloc, request, site, of.base)?,
+        1 => list(alloc, request, site, of.base)?,
+        _ => list_of_lists(alloc, request, site, of)?,
+    };
+    let Some(view) = found else {
+        return Ok(None);
+    };
+    let holes = [
+        ("lifetime", lender.lifetime),
+        ("segments", lender.segments),
+        ("segments_of", lender.segments_of),
+    ];
+    Ok(Some(View {
+        type_name: fill(alloc, view.type_name.as_str(), &holes)?,
+        shows: fill(alloc, view.shows.as_str(), &holes)?,
+        takes: view.takes,
+        declines: view.declines,
+    }))
+}
+
+/// Whether the views of a type are of one type, whatever segments they read.
+pub fn is_plain(of: Type) -> bool {
     match of.lists {
-        0 => single(alloc, request, site, of.base),
-        1 => list(alloc, request, site, of.base),
-        _ => list_of_lists(alloc, request, site, of),
+        0 => matches!(of.base, Base::Text | Base::Data),
+        1 => of.base == Base::Void || number_of(of.base).is_some(),
+        _ => false,
     }
 }
 
@@ -97,31 +118,31 @@ fn view_from(
 fn single(
     alloc: Global,
     request: &Request<'_>,
-    site: Site,
+    site: u64,
     base: Base,
 ) -> Result<Option<View>, AllocError> {
     match base {
         Base::Text => view_from(
             alloc,
-            "capnp_wire::text::Reader<'a>",
+            "text::Reader<@lifetime@>",
             "Reads pointer (λ form. IsText form view.bytes.now)",
             "TakesText",
             "DeclinesText",
         ),
         Base::Data => view_from(
             alloc,
-            "&'a [u8]",
+            "&@lifetime@ [u8]",
             "Reads pointer (λ form. IsData form view.now)",
             "(TakesNumbers 2)",
             "(DeclinesNumbers 2)",
         ),
         Base::Struct(id) => {
             let path = path_to(alloc, request, site, id)?;
-            let name = format!(in alloc; "{path}::Reader<'a, S>")?;
+            let name = format!(in alloc; "{path}::Reader<@lifetime@, @segments@>")?;
             view_from(
                 alloc,
                 name.as_str(),
-                "IsStruct pointer (struct_of S.segments view.fields)",
+                "IsStruct pointer (struct_of @segments_of@ view.fields)",
                 "TakesStruct",
                 "DeclinesStruct",
             )
@@ -134,25 +155,25 @@ fn single(
 fn list(
     alloc: Global,
     request: &Request<'_>,
-    site: Site,
+    site: u64,
     base: Base,
 ) -> Result<Option<View>, AllocError> {
     match base {
         Base::Void => list_of_numbers(alloc, "()", 0),
         Base::Struct(id) => {
             let path = path_to(alloc, request, site, id)?;
-            let name = format!(in alloc; "{path}::ListReader<'a, S>")?;
+            let name = format!(in alloc; "{path}::ListReader<@lifetime@, @segments@>")?;
             view_from(
                 alloc,
                 name.as_str(),
-                "IsUpgradedStructs pointer (upgraded_structs_of S.segments view.elements)",
+                "IsUpgradedStructs pointer (upgraded_structs_of @segments_of@ view.elements)",
                 "TakesRows",
                 "DeclinesRows",
             )
         }
-        Base::AnyPointer => list_of_pointers(alloc, "capnp_wire::any_pointer::Reader<'a, S>"),
-        Base::Text => list_of_pointers(alloc, "capnp_wire::text::Reader<'a>"),
-        Base::Data => list_of_pointers(alloc, "&'a [u8]"),
+        Base::AnyPointer => list_of_pointers(alloc, "any_pointer::Reader<@lifetime@, @segments@>"),
+        Base::Text => list_of_pointers(alloc, "text::Reader<@lifetime@>"),
+        Base::Data => list_of_pointers(alloc, "&@lifetime@ [u8]"),
         _ => match number_of(base) {
             Some(number) => list_of_numbers(alloc, number.type_name, number.code),
             None => Ok(None),
@@ -164,7 +185,7 @@ fn list(
 fn list_of_lists(
     alloc: Global,
     request: &Request<'_>,
-    site: Site,
+    site: u64,
     of: Type,
 ) -> Result<Option<View>, AllocError> {
     let mut found = list(alloc, request, site, of.base)?;
@@ -179,7 +200,7 @@ fn list_of_lists(
 
 // The view of a list of numbers.
 fn list_of_numbers(alloc: Global, element: &str, code: u32) -> Result<Option<View>, AllocError> {
-    let name = format!(in alloc; "capnp_wire::upgraded::NumberList<'a, {element}>")?;
+    let name = format!(in alloc; "upgraded::NumberList<@lifetime@, {element}>")?;
     let shows = format!(in alloc;
         "Reads pointer (λ form. ReadsAsNumbers {code} form (upgraded_numbers_of {code} view))"
     )?;
@@ -196,11 +217,11 @@ fn list_of_numbers(alloc: Global, element: &str, code: u32) -> Result<Option<Vie
 
 // The view of a list of pointers.
 fn list_of_pointers(alloc: Global, element: &str) -> Result<Option<View>, AllocError> {
-    let name = format!(in alloc; "capnp_wire::upgraded::ListList<'a, S, {element}>")?;
+    let name = format!(in alloc; "upgraded::ListList<@lifetime@, @segments@, {element}>")?;
     view_from(
         alloc,
         name.as_str(),
-        "IsUpgradedPointers pointer (upgraded_pointers_of S.segments view.pointers)",
+        "IsUpgradedPointers pointer (upgraded_pointers_of @segments_of@ view.pointers)",
         "TakesFirstPointers",
         "DeclinesFirstPointers",
     )

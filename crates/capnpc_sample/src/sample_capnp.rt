@@ -1,14 +1,13 @@
-//! Types of `sample.capnp`, made by `capnpc-rattle`. Don't change them here.
-ghost use Rattle.std.specs.Prelude.{◌≡◌, ◌≤◌, ◌<◌, ◌==◌, bit_xor, ◌↔◌, IsTrue, length, from_bits};
-ghost use Rattle.std.specs.Float.{binary32, binary64};
-ghost use Rattle.std.specs.Int.{w8, w16, w32, w64, cast_signed};
-ghost use Rattle.capnp_wire.specs.Object.{nothing};
+//! Types of `sample.capnp`, made by `capnpc-rattle`: change that file, and make them again.
+ghost use Rattle.std.specs.Prelude.{◌≡◌, ◌≤◌, ◌<◌, ◌==◌, ◌↔◌, IsTrue, bit_xor, length};
+ghost use Rattle.std.specs.Int.{w32, cast_signed};
 ghost use Rattle.capnp_wire.specs.Fields.{field};
 ghost use Rattle.capnp_wire.specs.ListViews.{element_of};
+ghost use Rattle.capnp_wire.specs.Object.{nothing};
 ghost use Rattle.capnp_wire.specs.Readers.{struct_of, pointer_of};
 ghost use Rattle.capnp_wire.specs.UpgradedReaders.{upgraded_structs_of, upgraded_numbers_of};
-ghost use Rattle.capnp_wire.specs.UpgradedViews.{IsUpgradedStructs, TakesRows, DeclinesRows, ReadsAsNumbers, TakesFields, DeclinesFields};
-ghost use Rattle.capnp_wire.specs.Views.{IsViewOf, IsStruct, IsText, IsData, Accepts, Refuses, Declines, Denotes, Reads, TakesStruct, DeclinesStruct, TakesText, DeclinesText, TakesNumbers, DeclinesNumbers, pointer_in};
+ghost use Rattle.capnp_wire.specs.UpgradedViews.{IsUpgradedStructs, ReadsAsNumbers, TakesRows, TakesFields, DeclinesRows, DeclinesFields};
+ghost use Rattle.capnp_wire.specs.Views.{IsViewOf, IsStruct, IsText, IsData, Accepts, Refuses, Declines, Denotes, Reads, TakesStruct, TakesText, TakesNumbers, DeclinesStruct, DeclinesText, DeclinesNumbers, pointer_in};
 
 /// A point of a plane.
 pub mod point {
@@ -25,7 +24,7 @@ pub mod point {
         type Reader = Reader<'a, S>;
     }
 
-    /// A struct of this type in a message.
+    /// A struct of this type in a message. What its writer left out reads as the default.
     #[derive(Drop)]
     pub struct Reader<'a, S: ReaderSegments> {
         /// The struct whose fields these are.
@@ -33,16 +32,18 @@ pub mod point {
     }
 
     impl<'a, S: ReaderSegments> Reader<'a, S> {
-        /// The field `x`, bits 0 to 32 of the data section.
+        /// The field `x`.
         pub fn get_x(&self) -> i32
-            ensures { result ≡ cast_signed w32 (field (struct_of S.segments self.now.fields).words 32 0) }
+            ensures { let fields = struct_of S.segments self.now.fields in
+                result ≡ cast_signed w32 (field fields.words 32 0) }
         {
             self.fields.get_data_field(0)
         }
 
         /// The field `y`.
         pub fn get_y(&self) -> i32
-            ensures { result ≡ cast_signed w32 (field (struct_of S.segments self.now.fields).words 32 1) }
+            ensures { let fields = struct_of S.segments self.now.fields in
+                result ≡ cast_signed w32 (field fields.words 32 1) }
         {
             self.fields.get_data_field(1)
         }
@@ -70,7 +71,7 @@ pub mod point {
         }
     }
 
-    /// A list of them in a message, read by [`upgraded::StructList`].
+    /// A list of such structs in a message; their first fields alone, where an older writer had these.
     #[derive(Drop)]
     pub struct ListReader<'a, S: ReaderSegments> {
         /// The list whose elements these are.
@@ -131,9 +132,28 @@ pub enum Color {
     NotInSchema(u16),
 }
 
+impl Color {
+    /// The enumerant of this number.
+    pub fn from_number(number: u16) -> Color
+        ensures { elim result [
+          | Color.Red ↦ number ≡ 0
+          | Color.Green ↦ number ≡ 1
+          | Color.DeepBlue ↦ number ≡ 2
+          | Color.NotInSchema unknown ↦ (unknown ≡ number) × (3 ≤ number)
+        ] }
+    {
+        match number {
+            0 => Color::Red,
+            1 => Color::Green,
+            2 => Color::DeepBlue,
+            unknown => Color::NotInSchema(unknown),
+        }
+    }
+}
+
 /// A struct with a field of each kind.
 pub mod sample {
-    use super::{Color, point};
+    use super::Color;
     use capnp_frame::Result;
     use capnp_frame::message::ReaderSegments;
     use capnp_wire::any_struct::StructReader;
@@ -147,7 +167,7 @@ pub mod sample {
         type Reader = Reader<'a, S>;
     }
 
-    /// A struct of this type in a message.
+    /// A struct of this type in a message. What its writer left out reads as the default.
     #[derive(Drop)]
     pub struct Reader<'a, S: ReaderSegments> {
         /// The struct whose fields these are.
@@ -157,86 +177,132 @@ pub mod sample {
     impl<'a, S: ReaderSegments> Reader<'a, S> {
         /// How many there are.
         pub fn get_count(&self) -> u16
-            ensures { result ≡ field (struct_of S.segments self.now.fields).words 16 0 }
+            ensures { let fields = struct_of S.segments self.now.fields in
+                result ≡ field fields.words 16 0 }
         {
             self.fields.get_data_field(0)
         }
 
-        /// The field `balance`, by default -5.
+        /// The field `balance`.
         pub fn get_balance(&self) -> i32
-            ensures { result ≡ cast_signed w32 (bit_xor
-                (field (struct_of S.segments self.now.fields).words 32 1) 4294967291) }
+            ensures { let fields = struct_of S.segments self.now.fields in
+                result ≡ cast_signed w32 (bit_xor (field fields.words 32 1) 4294967291) }
         {
             self.fields.get_data_field_mask(1, -5)
         }
 
         /// The field `isReady`.
         pub fn get_is_ready(&self) -> bool
-            ensures { result ≡ (field (struct_of S.segments self.now.fields).words 1 16 == 1) }
+            ensures { let fields = struct_of S.segments self.now.fields in
+                result ≡ ((field fields.words 1 16) == 1) }
         {
             self.fields.get_data_field(16)
         }
 
         /// The field `title`.
         pub fn get_title(&self) -> Result<text::Reader<'a>>
-            ensures { let pointer = pointer_in (struct_of S.segments self.now.fields) 0 in
-                IsViewOf pointer (λ view. Reads pointer (λ form. IsText form view.bytes.now))
+            ensures { let fields = struct_of S.segments self.now.fields in
+                let pointer = pointer_in fields 0 in
+                IsViewOf pointer
+                (λ view. Reads pointer (λ form. IsText form view.bytes.now))
                 (Accepts pointer TakesText) (Refuses pointer DeclinesText)
                 (Declines pointer DeclinesText) result }
         {
-            text::Reader::get_from_pointer(self.fields.get_pointer(0))
+            FromPointerReader::get_from_pointer(self.fields.get_pointer(0))
         }
 
         /// Whether `title` is there, and is not null.
         pub fn has_title(&self) -> bool
-            ensures { IsTrue result ↔ (Denotes (pointer_in (struct_of S.segments self.now.fields) 0) nothing → ⊥) }
+            ensures { let fields = struct_of S.segments self.now.fields in
+                IsTrue result ↔ (Denotes (pointer_in fields 0) nothing → ⊥) }
         {
             self.fields.has_pointer(0)
         }
 
         /// The field `payload`.
         pub fn get_payload(&self) -> Result<&'a [u8]>
-            ensures { let pointer = pointer_in (struct_of S.segments self.now.fields) 1 in
-                IsViewOf pointer (λ view. Reads pointer (λ form. IsData form view.now))
+            ensures { let fields = struct_of S.segments self.now.fields in
+                let pointer = pointer_in fields 1 in
+                IsViewOf pointer
+                (λ view. Reads pointer (λ form. IsData form view.now))
                 (Accepts pointer (TakesNumbers 2)) (Refuses pointer (DeclinesNumbers 2))
                 (Declines pointer (DeclinesNumbers 2)) result }
         {
             FromPointerReader::get_from_pointer(self.fields.get_pointer(1))
         }
 
+        /// Whether `payload` is there, and is not null.
+        pub fn has_payload(&self) -> bool
+            ensures { let fields = struct_of S.segments self.now.fields in
+                IsTrue result ↔ (Denotes (pointer_in fields 1) nothing → ⊥) }
+        {
+            self.fields.has_pointer(1)
+        }
+
         /// The field `points`.
-        pub fn get_points(&self) -> Result<point::ListReader<'a, S>>
-            ensures { let pointer = pointer_in (struct_of S.segments self.now.fields) 2 in
-                IsViewOf pointer (λ view. IsUpgradedStructs pointer (upgraded_structs_of S.segments view.elements))
+        pub fn get_points(&self) -> Result<super::point::ListReader<'a, S>>
+            ensures { let fields = struct_of S.segments self.now.fields in
+                let pointer = pointer_in fields 2 in
+                IsViewOf pointer
+                (λ view. IsUpgradedStructs pointer (upgraded_structs_of S.segments view.elements))
                 (Accepts pointer TakesRows) (Refuses pointer DeclinesRows)
                 (Declines pointer DeclinesRows) result }
         {
-            point::ListReader::get_from_pointer(self.fields.get_pointer(2))
+            FromPointerReader::get_from_pointer(self.fields.get_pointer(2))
+        }
+
+        /// Whether `points` is there, and is not null.
+        pub fn has_points(&self) -> bool
+            ensures { let fields = struct_of S.segments self.now.fields in
+                IsTrue result ↔ (Denotes (pointer_in fields 2) nothing → ⊥) }
+        {
+            self.fields.has_pointer(2)
         }
 
         /// The field `numbers`.
         pub fn get_numbers(&self) -> Result<upgraded::NumberList<'a, u32>>
-            ensures { let pointer = pointer_in (struct_of S.segments self.now.fields) 3 in
-                IsViewOf pointer (λ view. Reads pointer (λ form. ReadsAsNumbers 4 form (upgraded_numbers_of 4 view)))
+            ensures { let fields = struct_of S.segments self.now.fields in
+                let pointer = pointer_in fields 3 in
+                IsViewOf pointer
+                (λ view. Reads pointer (λ form. ReadsAsNumbers 4 form (upgraded_numbers_of 4 view)))
                 (Accepts pointer (TakesFields 4)) (Refuses pointer (DeclinesFields 4))
                 (Declines pointer (DeclinesFields 4)) result }
         {
-            upgraded::NumberList::get_from_pointer(self.fields.get_pointer(3))
+            FromPointerReader::get_from_pointer(self.fields.get_pointer(3))
+        }
+
+        /// Whether `numbers` is there, and is not null.
+        pub fn has_numbers(&self) -> bool
+            ensures { let fields = struct_of S.segments self.now.fields in
+                IsTrue result ↔ (Denotes (pointer_in fields 3) nothing → ⊥) }
+        {
+            self.fields.has_pointer(3)
         }
 
         /// The field `origin`.
-        pub fn get_origin(&self) -> Result<point::Reader<'a, S>>
-            ensures { let pointer = pointer_in (struct_of S.segments self.now.fields) 4 in
-                IsViewOf pointer (λ view. IsStruct pointer (struct_of S.segments view.fields))
+        pub fn get_origin(&self) -> Result<super::point::Reader<'a, S>>
+            ensures { let fields = struct_of S.segments self.now.fields in
+                let pointer = pointer_in fields 4 in
+                IsViewOf pointer
+                (λ view. IsStruct pointer (struct_of S.segments view.fields))
                 (Accepts pointer TakesStruct) (Refuses pointer DeclinesStruct)
                 (Declines pointer DeclinesStruct) result }
         {
-            point::Reader::get_from_pointer(self.fields.get_pointer(4))
+            FromPointerReader::get_from_pointer(self.fields.get_pointer(4))
+        }
+
+        /// Whether `origin` is there, and is not null.
+        pub fn has_origin(&self) -> bool
+            ensures { let fields = struct_of S.segments self.now.fields in
+                IsTrue result ↔ (Denotes (pointer_in fields 4) nothing → ⊥) }
+        {
+            self.fields.has_pointer(4)
         }
 
         /// The field `color`.
         pub fn get_color(&self) -> Color
-            ensures { let number = field (struct_of S.segments self.now.fields).words 16 4 in
+            ensures { let fields = struct_of S.segments self.now.fields in
+                let number = field fields.words 16 4 in
                 elim result [
                   | Color.Red ↦ number ≡ 0
                   | Color.Green ↦ number ≡ 1
@@ -247,34 +313,67 @@ pub mod sample {
             Color::from_number(self.fields.get_data_field(4))
         }
 
-        /// The group `window`.
+        /// What is seen of it.
         pub fn get_window(&self) -> window::Reader<'_, 'a, S>
-            ensures { struct_of S.segments result.fields.now ≡ struct_of S.segments self.now.fields }
+            ensures { let fields = struct_of S.segments self.now.fields in
+                struct_of S.segments result.fields.now ≡ fields }
         {
             window::Reader {
                 fields: &self.fields,
             }
         }
 
-        /// Which member of the union is there.
+        /// The field `nothing`.
+        pub fn get_nothing(&self) {}
+
+        /// The field `size`.
+        pub fn get_size(&self) -> u32
+            ensures { let fields = struct_of S.segments self.now.fields in
+                result ≡ field fields.words 32 4 }
+        {
+            self.fields.get_data_field(4)
+        }
+
+        /// The field `label`.
+        pub fn get_label(&self) -> Result<text::Reader<'a>>
+            ensures { let fields = struct_of S.segments self.now.fields in
+                let pointer = pointer_in fields 5 in
+                IsViewOf pointer
+                (λ view. Reads pointer (λ form. IsText form view.bytes.now))
+                (Accepts pointer TakesText) (Refuses pointer DeclinesText)
+                (Declines pointer DeclinesText) result }
+        {
+            FromPointerReader::get_from_pointer(self.fields.get_pointer(5))
+        }
+
+        /// Whether `label` is there, and is not null.
+        pub fn has_label(&self) -> bool
+            ensures { let fields = struct_of S.segments self.now.fields in
+                IsTrue result ↔ (Denotes (pointer_in fields 5) nothing → ⊥) }
+        {
+            self.fields.has_pointer(5)
+        }
+
+        /// Which member of the union is there, and its value.
         pub fn which(&self) -> Which<'a>
             ensures { let fields = struct_of S.segments self.now.fields in
                 let number = field fields.words 16 7 in
-                let label_pointer = pointer_in fields 5 in
                 elim result [
                   | Which.Nothing ↦ number ≡ 0
-                  | Which.Size size ↦ (number ≡ 1) × (size ≡ field fields.words 32 4)
-                  | Which.Label label ↦ (number ≡ 2) × IsViewOf label_pointer
-                      (λ view. Reads label_pointer (λ form. IsText form view.bytes.now))
-                      (Accepts label_pointer TakesText) (Refuses label_pointer DeclinesText)
-                      (Declines label_pointer DeclinesText) label
+                  | Which.Size value ↦ (number ≡ 1) × (value ≡ field fields.words 32 4)
+                  | Which.Label value ↦ (number ≡ 2) ×
+                      (let pointer = pointer_in fields 5 in
+                      IsViewOf pointer
+                      (λ view. Reads pointer (λ form. IsText form view.bytes.now))
+                      (Accepts pointer TakesText) (Refuses pointer DeclinesText)
+                      (Declines pointer DeclinesText) value)
                   | Which.NotInSchema unknown ↦ (unknown ≡ number) × (3 ≤ number)
                 ] }
         {
             match self.fields.get_data_field::<u16>(7) {
                 0 => Which::Nothing,
-                1 => Which::Size(self.fields.get_data_field(4)),
-                2 => Which::Label(FromPointerReader::get_from_pointer(self.fields.get_pointer(5))),
+                1 => Which::Size(self.get_size()),
+                2 => Which::Label(self.get_label()),
                 unknown => Which::NotInSchema(unknown),
             }
         }
@@ -312,13 +411,63 @@ pub mod sample {
         }
     }
 
+    /// A list of such structs in a message; their first fields alone, where an older writer had these.
+    #[derive(Drop)]
+    pub struct ListReader<'a, S: ReaderSegments> {
+        /// The list whose elements these are.
+        pub elements: upgraded::StructList<'a, S>,
+    }
+
+    impl<'a, S: ReaderSegments> ListReader<'a, S> {
+        /// The number of elements.
+        pub fn len(&self) -> u32
+            ensures { result ≡ length (upgraded_structs_of S.segments self.now.elements).rows }
+        {
+            self.elements.len()
+        }
+
+        /// The element of this index.
+        pub fn get(&self, index: u32) -> Reader<'a, S>
+            requires { index < length (upgraded_structs_of S.segments self.now.elements).rows }
+            ensures { struct_of S.segments result.fields
+                ≡ element_of (upgraded_structs_of S.segments self.now.elements) index }
+        {
+            Reader {
+                fields: self.elements.get(index),
+            }
+        }
+    }
+
+    impl<'a, S: ReaderSegments> FromPointerReader<'a, S> for ListReader<'a, S> {
+        ghost shows = { λ pointer view.
+            IsUpgradedStructs pointer (upgraded_structs_of S.segments view.elements) };
+
+        ghost accepts = { λ pointer. Accepts pointer TakesRows };
+
+        ghost refuses = { λ pointer kind. Refuses pointer DeclinesRows kind };
+
+        ghost declines = { λ pointer kind. Declines pointer DeclinesRows kind };
+
+        fn get_from_pointer(reader: any_pointer::Reader<'a, S>) -> Result<Self>
+            ensures { let pointer = pointer_of S.segments reader.entry in IsViewOf pointer
+                (λ view. IsUpgradedStructs pointer (upgraded_structs_of S.segments view.elements))
+                (Accepts pointer TakesRows) (Refuses pointer DeclinesRows)
+                (Declines pointer DeclinesRows) result }
+        {
+            match upgraded::StructList::get_from_pointer(reader) {
+                Ok(elements) => Ok(ListReader { elements }),
+                Err(error) => Err(error),
+            }
+        }
+    }
+
     /// What is seen of it.
     pub mod window {
         use capnp_frame::message::ReaderSegments;
         use capnp_wire::any_struct::StructReader;
 
-        /// The group in a struct that is read.
-        #[derive(Clone, Copy)]
+        /// The group, in a struct in a message.
+        #[derive(Drop)]
         pub struct Reader<'b, 'a, S: ReaderSegments> {
             /// The struct whose fields these are.
             pub fields: &'b StructReader<'a, S>,
@@ -327,36 +476,19 @@ pub mod sample {
         impl<'b, 'a, S: ReaderSegments> Reader<'b, 'a, S> {
             /// The field `width`.
             pub fn get_width(&self) -> u16
-                ensures { result ≡ field (struct_of S.segments self.now.fields.now).words 16 5 }
+                ensures { let fields = struct_of S.segments self.now.fields.now in
+                    result ≡ field fields.words 16 5 }
             {
                 self.fields.get_data_field(5)
             }
 
             /// The field `height`.
             pub fn get_height(&self) -> u16
-                ensures { result ≡ field (struct_of S.segments self.now.fields.now).words 16 6 }
+                ensures { let fields = struct_of S.segments self.now.fields.now in
+                    result ≡ field fields.words 16 6 }
             {
                 self.fields.get_data_field(6)
             }
-        }
-    }
-}
-
-impl Color {
-    /// The enumerant of this number.
-    pub fn from_number(number: u16) -> Color
-        ensures { elim result [
-          | Color.Red ↦ number ≡ 0
-          | Color.Green ↦ number ≡ 1
-          | Color.DeepBlue ↦ number ≡ 2
-          | Color.NotInSchema unknown ↦ (unknown ≡ number) × (3 ≤ number)
-        ] }
-    {
-        match number {
-            0 => Color::Red,
-            1 => Color::Green,
-            2 => Color::DeepBlue,
-            unknown => Color::NotInSchema(unknown),
         }
     }
 }

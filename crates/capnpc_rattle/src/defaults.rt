@@ -1,0 +1,93 @@
+//! Defaults of pointers.
+use crate::code::{Code, fill};
+use crate::names::constant;
+use crate::schema::{Base, Field, Place, Slot, Struct, Value};
+use crate::shown::{Shown, Site};
+use crate::templates::{
+    DEFAULT_BODY, DEFAULT_FACT, OR_DEFAULT_BODY, OR_DEFAULT_FACT, WORDS,
+};
+use crate::views::{CONSTANT, MESSAGE, is_plain, view_of};
+use crate::words::{rows_of, words_of};
+use std::alloc::{AllocError, Global};
+
+/// Whether a pointer has a default that is not null.
+pub fn has_default(place: &Place<'_>) -> bool {
+    if place.of.lists == 0 && place.of.base == Base::AnyPointer {
+        return false;
+    }
+    matches!(&place.default, Value::Text(_) | Value::Data(_) | Value::Object(_))
+}
+
+// The name of the words of a default.
+fn default_name(alloc: Global, field: &Field<'_>) -> Result<String, AllocError> {
+    let mut name = constant(alloc, field.name)?;
+    name.push_str("_DEFAULT")?;
+    Ok(name)
+}
+
+/// What the getter of a pointer returns that has a default.
+pub fn shown_default(
+    alloc: Global,
+    site: Site<'_, '_>,
+    field: &Field<'_>,
+    place: &Place<'_>,
+) -> Result<Option<Shown>, AllocError> {
+    let (request, id) = (site.request, site.node.id);
+    let (Some(stored), Some(default)) = (
+        view_of(alloc, request, id, place.of, MESSAGE)?,
+        view_of(alloc, request, id, place.of, CONSTANT)?,
+    ) else {
+        return Ok(None);
+    };
+    let is_plain = is_plain(place.of);
+    let result = if is_plain { "@value@" } else { "view" };
+    let offset = format!(in alloc; "{}", place.offset)?;
+    let name = default_name(alloc, field)?;
+    let stored_fact = stored.fact(alloc, result)?;
+    let default_fact = default.fact(alloc, result)?;
+    let holes = [
+        ("offset", offset.as_str()),
+        ("default", name.as_str()),
+        ("stored", stored_fact.as_str()),
+        ("fact", default_fact.as_str()),
+    ];
+    let (stored, default) = (stored.type_name.as_str(), default.type_name.as_str());
+    Ok(Some(if is_plain {
+        Shown {
+            type_name: format!(in alloc; "Result<{stored}>")?,
+            fact: fill(alloc, DEFAULT_FACT, &holes)?,
+            body: fill(alloc, DEFAULT_BODY, &holes)?,
+        }
+    } else {
+        Shown {
+            type_name: format!(in alloc; "OrDefault<{stored}, {default}>")?,
+            fact: fill(alloc, OR_DEFAULT_FACT, &holes)?,
+            body: fill(alloc, OR_DEFAULT_BODY, &holes)?,
+        }
+    }))
+}
+
+/// Adds the words of the defaults of a struct's pointers.
+pub fn push_defaults(
+    alloc: Global,
+    code: &mut Code,
+    body: &Struct<'_>,
+) -> Result<(), AllocError> {
+    for field in body.fields.as_slice() {
+        let Slot::At(place) = &field.slot else {
+            continue;
+        };
+        if !has_default(place) {
+            continue;
+        }
+        let name = default_name(alloc, field)?;
+        let words = words_of(alloc, &place.default)?;
+        let rows = rows_of(alloc, words.as_slice())?;
+        code.add(
+            "\n/// The default of the field `@field@`, as the words of a message.",
+            &[("field", field.name)],
+        )?;
+        code.add(WORDS, &[("name", name.as_str()), ("rows", rows.as_str())])?;
+    }
+    Ok(())
+}

@@ -1,0 +1,245 @@
+//! What code imports: just the names that it has.
+use crate::code::Code;
+use std::alloc::{AllocError, Global};
+
+/// What clauses cite: a module of definitions, and names of it.
+const DEFINITIONS: &[(&str, &[&str])] = &[
+    (
+        "std.specs.Prelude",
+        &[
+            "◌≡◌",
+            "◌≤◌",
+            "◌<◌",
+            "◌==◌",
+            "◌↔◌",
+            "IsTrue",
+            "bit_xor",
+            "from_bits",
+            "length",
+        ],
+    ),
+    (
+        "std.specs.Float",
+        &[
+            "binary32",
+            "binary64",
+        ],
+    ),
+    (
+        "std.specs.Int",
+        &[
+            "w8",
+            "w16",
+            "w32",
+            "w64",
+            "cast_signed",
+        ],
+    ),
+    (
+        "capnp_constant.specs.Constants",
+        &[
+            "segments_of",
+            "root_of",
+        ],
+    ),
+    ("capnp_wire.specs.Fields", &["field"]),
+    ("capnp_wire.specs.ListViews", &["element_of"]),
+    ("capnp_wire.specs.Object", &["nothing"]),
+    (
+        "capnp_wire.specs.Readers",
+        &[
+            "struct_of",
+            "pointer_of",
+        ],
+    ),
+    (
+        "capnp_wire.specs.UpgradedReaders",
+        &[
+            "upgraded_structs_of",
+            "upgraded_numbers_of",
+            "upgraded_pointers_of",
+        ],
+    ),
+    (
+        "capnp_wire.specs.UpgradedViews",
+        &[
+            "IsUpgradedStructs",
+            "IsUpgradedPointers",
+            "ReadsAsNumbers",
+            "TakesRows",
+            "TakesFields",
+            "TakesFirstPointers",
+            "DeclinesRows",
+            "DeclinesFields",
+            "DeclinesFirstPointers",
+        ],
+    ),
+    (
+        "capnp_wire.specs.Views",
+        &[
+            "IsViewOf",
+            "IsStruct",
+            "IsText",
+            "IsData",
+            "Accepts",
+            "Refuses",
+            "Declines",
+            "Denotes",
+            "Reads",
+            "TakesStruct",
+            "TakesText",
+            "TakesNumbers",
+            "DeclinesStruct",
+            "DeclinesText",
+            "DeclinesNumbers",
+            "pointer_in",
+        ],
+    ),
+];
+
+/// The modules of views, of which a module of a struct imports those that it names.
+const VIEWS: &[&str] = &["any_pointer", "text", "upgraded"];
+
+/// Adds the lines that import what the clauses of some code cite.
+pub fn push_definitions(alloc: Global, code: &mut Code, text: &str) -> Result<(), AllocError> {
+    let words = words_of(alloc, text)?;
+    for (module, names) in DEFINITIONS {
+        let mut found = String::new(alloc);
+        for name in *names {
+            if words.contains(&name.trim_matches('◌')) {
+                push_name(&mut found, name)?;
+            }
+        }
+        if !found.is_empty() {
+            code.add(
+                "ghost use Rattle.@module@.{@names@};",
+                &[("module", *module), ("names", found.as_str())],
+            )?;
+        }
+    }
+    Ok(())
+}
+
+// The words of code, without its comments.
+fn words_of<'a>(alloc: Global, text: &'a str) -> Result<Vec<&'a str>, AllocError> {
+    let mut words = Vec::new(alloc);
+    for line in text.lines() {
+        if line.trim_start().starts_with("//") {
+            continue;
+        }
+        for word in line.split(is_between) {
+            if !word.is_empty() && !words.contains(&word) {
+                words.push(word)?;
+            }
+        }
+    }
+    Ok(words)
+}
+
+// Whether a letter stands between words.
+fn is_between(letter: char) -> bool {
+    matches!(letter, ' ' | '.' | ',' | ';' | ':' | '(' | ')' | '[' | ']' | '{' | '}')
+}
+
+// Adds a name to a list of them.
+fn push_name(list: &mut String, name: &str) -> Result<(), AllocError> {
+    if !list.is_empty() {
+        list.push_str(", ")?;
+    }
+    list.push_str(name)
+}
+
+/// Adds the lines that import what the module of a struct has: these, and what is named in its text.
+pub fn push_imports(
+    alloc: Global,
+    code: &mut Code,
+    enums: &[String],
+    text: &str,
+) -> Result<(), AllocError> {
+    for line in enums {
+        code.add(line.as_str(), &[])?;
+    }
+    let mut lines: Vec<String> = Vec::new(alloc);
+    if text.contains(" Result<") {
+        push_line(alloc, &mut lines, "capnp_frame::Result")?;
+    }
+    push_constants(alloc, &mut lines, text)?;
+    push_line(alloc, &mut lines, "capnp_frame::message::ReaderSegments")?;
+    push_line(alloc, &mut lines, "capnp_wire::any_struct::StructReader")?;
+    if text.contains("PrimitiveElement::") {
+        push_line(alloc, &mut lines, "capnp_wire::primitive_element::PrimitiveElement")?;
+    }
+    if text.contains(" traits::") {
+        push_line(alloc, &mut lines, "capnp_wire::traits::{self, FromPointerReader}")?;
+    } else if text.contains("FromPointerReader") {
+        push_line(alloc, &mut lines, "capnp_wire::traits::FromPointerReader")?;
+    }
+    push_views(alloc, &mut lines, text)?;
+    lines.sort()?;
+    for line in lines.as_slice() {
+        code.add(line.as_str(), &[])?;
+    }
+    code.add_gap()
+}
+
+// Adds a line that imports something.
+fn push_line(alloc: Global, lines: &mut Vec<String>, name: &str) -> Result<(), AllocError> {
+    lines.push(format!(in alloc; "use {name};")?)?;
+    Ok(())
+}
+
+// Adds the line that imports what constants and defaults are made of.
+pub fn push_constants(
+    alloc: Global,
+    lines: &mut Vec<String>,
+    text: &str,
+) -> Result<(), AllocError> {
+    if text.contains("OrDefault<") {
+        return push_line(alloc, lines, "capnp_constant::{OrDefault, Words}");
+    }
+    if text.contains(": Words = ") {
+        return push_line(alloc, lines, "capnp_constant::Words");
+    }
+    Ok(())
+}
+
+// Adds the line that imports the modules of views.
+fn push_views(alloc: Global, lines: &mut Vec<String>, text: &str) -> Result<(), AllocError> {
+    let mut found = String::new(alloc);
+    let mut count = 0u8;
+    for name in VIEWS {
+        let path = format!(in alloc; "{name}::")?;
+        if is_named(text, path.as_str()) {
+            push_name(&mut found, name)?;
+            count = count.saturating_add(1);
+        }
+    }
+    let found = found.as_str();
+    match count {
+        0 => Ok(()),
+        1 => push_line(alloc, lines, format!(in alloc; "capnp_wire::{found}")?.as_str()),
+        _ => push_line(alloc, lines, format!(in alloc; "capnp_wire::{{{found}}}")?.as_str()),
+    }
+}
+
+// Whether a path begins in the text that is no part of a longer one.
+fn is_named(text: &str, path: &str) -> bool {
+    let mut before: Option<&str> = None;
+    for piece in text.split(path) {
+        if let Some(before) = before
+            && !is_part(before)
+        {
+            return true;
+        }
+        before = Some(piece);
+    }
+    false
+}
+
+// Whether what follows a text is a part of the path at its end.
+fn is_part(text: &str) -> bool {
+    match text.chars().next_back() {
+        Some(letter) => letter == ':' || letter == '_' || letter.is_ascii_alphanumeric(),
+        None => false,
+    }
+}
