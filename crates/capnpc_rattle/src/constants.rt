@@ -10,8 +10,26 @@ use crate::views::{CONSTANT, view_of};
 use crate::words::rows_of;
 use std::alloc::{AllocError, Global};
 
-/// Adds a constant.
-pub fn push_constant(
+/// Adds the constants that are declared in a node.
+pub fn push_constants(
+    alloc: Global,
+    code: &mut Code,
+    request: &Request<'_>,
+    scope: &Node<'_>,
+) -> Result<(), AllocError> {
+    for id in scope.nested.as_slice() {
+        if let Some(node) = request.find(*id)
+            && let Body::Constant(of, value) = &node.body
+        {
+            code.add_gap()?;
+            push_constant(alloc, code, request, node, *of, value)?;
+        }
+    }
+    Ok(())
+}
+
+// Adds a constant.
+fn push_constant(
     alloc: Global,
     code: &mut Code,
     request: &Request<'_>,

@@ -1,8 +1,8 @@
 //! The code of a file: its nodes, each in the module of the node that it is declared in.
 use crate::code::Code;
-use crate::constants::push_constant;
+use crate::constants::push_constants;
 use crate::enums::push_enum;
-use crate::imports::push_definitions;
+use crate::imports::{push_definitions, push_imports};
 use crate::names::base_name;
 use crate::schema::{Body, Node, Request, Slot, Struct};
 use crate::structs::{close_module, open_module, push_struct};
@@ -23,7 +23,7 @@ pub fn code_of(alloc: Global, request: &Request<'_>, file: u64) -> Result<String
     let mut body = Code::new(alloc, 0);
     let mut steps = Vec::new(alloc);
     if let Some(node) = request.find(file) {
-        push_nested(&mut steps, node)?;
+        push_declared(alloc, &mut body, &mut steps, request, node)?;
     }
     for _ in 0..u64::MAX {
         let Some(step) = steps.pop() else {
@@ -46,6 +46,27 @@ pub fn code_of(alloc: Global, request: &Request<'_>, file: u64) -> Result<String
     Ok(code.text)
 }
 
+// Adds the constants of a file or an interface, with what they import; what else is declared there is still
+// to be written.
+fn push_declared(
+    alloc: Global,
+    code: &mut Code,
+    steps: &mut Vec<Step>,
+    request: &Request<'_>,
+    node: &Node<'_>,
+) -> Result<(), AllocError> {
+    let mut constants = Code::new(alloc, code.depth);
+    push_constants(alloc, &mut constants, request, node)?;
+    let mut imports = Code::new(alloc, code.depth);
+    push_imports(alloc, &mut imports, &[], constants.text.as_str())?;
+    if !imports.text.is_empty() {
+        code.add_gap()?;
+    }
+    code.text.push_str(imports.text.as_str())?;
+    code.text.push_str(constants.text.as_str())?;
+    push_nested(steps, node)
+}
+
 // Adds the nodes that are declared in a node to what is still to be written, the first on top.
 fn push_nested(steps: &mut Vec<Step>, node: &Node<'_>) -> Result<(), AllocError> {
     for id in node.nested.iter().rev() {
@@ -64,7 +85,8 @@ fn push_groups(steps: &mut Vec<Step>, body: &Struct<'_>) -> Result<(), AllocErro
     Ok(())
 }
 
-// Adds a node; what is declared in it is still to be written.
+// Adds a node; what is declared in it is still to be written. Constants are with the node that declares
+// them.
 fn push_node(
     alloc: Global,
     code: &mut Code,
@@ -84,15 +106,8 @@ fn push_node(
             code.add_gap()?;
             push_enum(alloc, code, request, node, names.as_slice())
         }
-        Body::Constant(of, value) => {
-            code.add_gap()?;
-            push_constant(alloc, code, request, node, *of, value)
-        }
-        Body::Interface => {
-            code.add_gap()?;
-            push_interface(alloc, code, steps, node)
-        }
-        Body::File | Body::Other => Ok(()),
+        Body::Interface => push_interface(alloc, code, steps, request, node),
+        Body::Constant(_, _) | Body::File | Body::Other => Ok(()),
     }
 }
 
@@ -101,15 +116,16 @@ fn push_interface(
     alloc: Global,
     code: &mut Code,
     steps: &mut Vec<Step>,
+    request: &Request<'_>,
     node: &Node<'_>,
 ) -> Result<(), AllocError> {
     let holes = [("name", node.name)];
+    code.add_gap()?;
     if node.nested.is_empty() {
         return code.add("// The interface `@name@` is left out.", &holes);
     }
-    code.add("// Of the interface `@name@` there is only what is declared in it.", &holes)?;
     open_module(alloc, code, node)?;
-    code.add("//! What is declared in the interface `@name@`.", &holes)?;
+    code.add("//! What is declared in the interface `@name@`, which itself is left out.", &holes)?;
     steps.push(Step::End)?;
-    push_nested(steps, node)
+    push_declared(alloc, code, steps, request, node)
 }

@@ -149,7 +149,7 @@ fn push_name(list: &mut String, name: &str) -> Result<(), AllocError> {
     list.push_str(name)
 }
 
-/// Adds the lines that import what the module of a struct has: these, and what is named in its text.
+/// Adds the lines that import what a module has: enums by these lines, and what is named in its text.
 pub fn push_imports(
     alloc: Global,
     code: &mut Code,
@@ -163,9 +163,13 @@ pub fn push_imports(
     if text.contains(" Result<") {
         push_line(alloc, &mut lines, "capnp_frame::Result")?;
     }
-    push_constants(alloc, &mut lines, text)?;
-    push_line(alloc, &mut lines, "capnp_frame::message::ReaderSegments")?;
-    push_line(alloc, &mut lines, "capnp_wire::any_struct::StructReader")?;
+    push_words(alloc, &mut lines, text)?;
+    if text.contains("ReaderSegments") {
+        push_line(alloc, &mut lines, "capnp_frame::message::ReaderSegments")?;
+    }
+    if text.contains("StructReader") {
+        push_line(alloc, &mut lines, "capnp_wire::any_struct::StructReader")?;
+    }
     if text.contains("PrimitiveElement::") {
         push_line(alloc, &mut lines, "capnp_wire::primitive_element::PrimitiveElement")?;
     }
@@ -179,7 +183,7 @@ pub fn push_imports(
     for line in lines.as_slice() {
         code.add(line.as_str(), &[])?;
     }
-    code.add_gap()
+    Ok(())
 }
 
 // Adds a line that imports something.
@@ -189,7 +193,7 @@ fn push_line(alloc: Global, lines: &mut Vec<String>, name: &str) -> Result<(), A
 }
 
 // Adds the line that imports what constants and defaults are made of.
-pub fn push_constants(
+fn push_words(
     alloc: Global,
     lines: &mut Vec<String>,
     text: &str,

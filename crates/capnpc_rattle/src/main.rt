@@ -3,9 +3,10 @@
 //!
 //! It reads a `CodeGeneratorRequest` from standard input, and writes `NAME_capnp.rt` for each file that is
 //! asked for, in the folder in which it runs, or in that of its first argument; to standard output where
-//! that is `-`.
+//! that is `-`. Nothing is written before all of it is made.
 #![tactic(auto)]
 
+mod checked;
 mod code;
 mod constants;
 mod defaults;
@@ -13,8 +14,10 @@ mod enums;
 mod fields;
 mod file;
 mod imports;
+mod input;
 mod names;
 mod numbers;
+mod output;
 mod paths;
 mod request;
 mod schema;
@@ -28,58 +31,45 @@ mod unions;
 mod views;
 mod words;
 
+use crate::output::{outputs_of, write_outputs};
 use anyhow::{Context, Result};
-use capnp_frame::message::ReaderOptions;
-use capnp_frame::serialize::{OwnedSegments, try_read_segments};
+use capnp_frame::serialize::OwnedSegments;
 use capnp_wire::any_struct::StructReader;
-use capnp_wire::arena::ReaderArena;
-use std::alloc::Global;
-use std::io::Read;
-use std::{env, fs};
+use std::env;
+use std::process::ExitCode;
 
-/// As much as the schema compiler sends: 64 MiB, and objects nested as deep as its own limit.
-const OPTIONS: ReaderOptions = ReaderOptions {
-    traversal_limit_in_words: Some(8388608),
-    nesting_limit: 64,
-};
+fn main(rt: HostRuntime) -> ExitCode {
+    match run(rt) {
+        Ok(()) => ExitCode::SUCCESS,
+        Err(error) => {
+            let _ = eprintln!(rt; "capnpc-rattle: {error:#}");
+            ExitCode::FAILURE
+        }
+    }
+}
 
-fn main(rt: HostRuntime) -> Result<()> {
+// Reads the request, and writes what it asks for.
+fn run(rt: HostRuntime) -> Result<()> {
     let alloc = rt.alloc();
     let words: Vec<String> = env::args(&rt)?.collect(alloc)?;
     let folder = match words.get(1) {
         Some(folder) => folder.as_str(),
         None => ".",
     };
-    let message = read_message(rt)?;
-    let root: StructReader<'_, OwnedSegments> = message.get_root()?.get_as()?;
-    let request = request::read_request(alloc, &root)?;
-    for requested in request.files.as_slice() {
-        let code = file::code_of(alloc, &request, requested.id)?;
-        if folder == "-" {
-            let text = code.as_str();
-            print!(rt; "{text}")?;
-            continue;
-        }
-        let name = file_name(alloc, folder, requested.name)?;
-        fs::write(&rt, name.as_str(), code.as_str()).context("a file can't be written")?;
+    let message = input::read_message(alloc, &mut rt.stdin())?;
+    let root: StructReader<'_, OwnedSegments> = message
+        .get_root()
+        .and_then(|root| root.get_as())
+        .context("standard input is no request of the schema compiler")?;
+    let request = request::read_request(alloc, &root)
+        .context("standard input is no request of the schema compiler")?;
+    let outputs = outputs_of(alloc, &request)?;
+    if folder != "-" {
+        return write_outputs(alloc, &rt, folder, outputs.as_slice());
+    }
+    for output in outputs.as_slice() {
+        let code = output.code.as_str();
+        print!(rt; "{code}")?;
     }
     Ok(())
-}
-
-// The message on standard input.
-fn read_message(rt: HostRuntime) -> Result<ReaderArena<OwnedSegments>> {
-    let mut bytes = Vec::new(rt.alloc());
-    let mut input = rt.stdin();
-    input.read_to_end(&mut bytes)?;
-    let mut source = bytes.as_slice();
-    let segments = try_read_segments(rt.alloc(), &mut source, OPTIONS)?;
-    let segments = segments.context("there is no request on standard input")?;
-    Ok(ReaderArena::new(segments, OPTIONS))
-}
-
-// The name of the file that is written for a file of a schema.
-fn file_name(alloc: Global, folder: &str, name: &str) -> Result<String> {
-    let module = names::file_module(alloc, name)?;
-    let module = module.as_str();
-    Ok(format!(in alloc; "{folder}/{module}.rt")?)
 }

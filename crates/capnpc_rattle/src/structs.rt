@@ -1,5 +1,6 @@
 //! Structs and groups.
 use crate::code::Code;
+use crate::constants::push_constants;
 use crate::defaults::push_defaults;
 use crate::enums::enum_uses;
 use crate::fields::push_field;
@@ -24,8 +25,10 @@ pub fn push_struct(
     open_module(alloc, code, node)?;
     let mut inner = Code::new(alloc, code.depth);
     push_reader(alloc, &mut inner, site, body)?;
+    push_constants(alloc, &mut inner, request, node)?;
     let enums = enum_uses(alloc, site)?;
     push_imports(alloc, code, enums.as_slice(), inner.text.as_str())?;
+    code.add_gap()?;
     code.text.push_str(inner.text.as_str())
 }
 

@@ -44,8 +44,8 @@ pub struct View {
 }
 
 impl View {
-    /// What a clause says of a view: `result`, of what the pointer `pointer` leads to.
-    pub fn fact(&self, alloc: Global, result: &str) -> Result<String, AllocError> {
+    /// What a clause says of a view by this name, of what the pointer `pointer` leads to.
+    pub fn fact(&self, alloc: Global, name: &str) -> Result<String, AllocError> {
         fill(
             alloc,
             VIEW_FACT,
@@ -53,7 +53,7 @@ impl View {
                 ("shows", self.shows.as_str()),
                 ("takes", self.takes.as_str()),
                 ("declines", self.declines.as_str()),
-                ("result", result),
+                ("result", name),
             ],
         )
     }

@@ -194,7 +194,7 @@ pub mod sample {
         /// The field `isReady`.
         pub fn get_is_ready(&self) -> bool
             ensures { let fields = struct_of S.segments self.now.fields in
-                result ≡ ((field fields.words 1 16) == 1) }
+                result ≡ (field fields.words 1 16 == 1) }
         {
             self.fields.get_data_field(16)
         }
