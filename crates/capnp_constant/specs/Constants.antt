@@ -5,9 +5,9 @@ use Rattle.capnp_wire.specs.Views.{Pointer}
 use Rattle.capnp_constant.specs.declared.Words.{Words}
 
 -- the one segment
-abbrev pub segments_of : Words → List (List ℕ)
-segments_of words = words.bytes.now ∷ []
+abbrev pub segments_of : {size : ℕ} → Words size → List (List ℕ)
+segments_of words = words.bytes ∷ []
 
 -- the root pointer, which is read without limits
-abbrev pub root_of : Words → Pointer
+abbrev pub root_of : {size : ℕ} → Words size → Pointer
 root_of words = unlimited_root (segments_of words)

@@ -11,30 +11,30 @@ use capnp_frame::Result;
 use capnp_frame::message::ReaderSegments;
 use capnp_wire::any_pointer;
 
-/// The words of a message of one segment.
+/// The words of a message of one segment, which stand in a `static`.
 #[derive(Clone, Copy)]
-pub struct Words {
+pub struct Words<const N: usize> {
     /// Each word by its bytes.
-    pub bytes: &'static [u8],
+    pub bytes: [u8; N],
 }
 
-impl ReaderSegments for Words {
-    ghost segments = { λ words. words.bytes.now ∷ [] };
+impl<const N: usize> ReaderSegments for Words<N> {
+    ghost segments = { λ words. words.bytes ∷ [] };
 
     fn get_segment(&self, id: u32) -> Option<&[u8]> {
         match id {
-            0 => Some(self.bytes),
+            0 => Some(&self.bytes),
             _ => None,
         }
     }
 }
 
-impl Words {
+impl<const N: usize> Words<N> {
     ghost use Rattle.capnp_constant.specs.Constants.{segments_of, root_of};
 
     /// The root pointer, which is read without limits: what stands in a program is read once for each
     /// view, and no deeper than it was written.
-    pub fn get_root(&self) -> any_pointer::Reader<'_, Words>
+    pub fn get_root(&self) -> any_pointer::Reader<'_, Words<N>>
         ensures { pointer_of segments_of result ≡ root_of self.now }
     {
         any_pointer::Reader::root_of(self)

@@ -1,13 +1,13 @@
 //! Constants.
-use crate::code::Code;
+use crate::code::{Code, fill};
 use crate::names::{constant, snake, variant};
 use crate::numbers::{literal, number_of};
 use crate::paths::path_to;
 use crate::schema::{Base, Body, Node, Request, Type, Value};
 use crate::signatures::{WIDTH, signature};
-use crate::templates::{GET_CONSTANT, WORDS};
+use crate::templates::GET_CONSTANT;
 use crate::views::{CONSTANT, view_of};
-use crate::words::rows_of;
+use crate::words::push_words;
 use std::alloc::{AllocError, Global};
 
 /// Adds the constants that are declared in a node.
@@ -79,10 +79,11 @@ fn push_object(
     let getter = snake(alloc, node.name)?;
     let type_name = view.type_name.as_str();
     let type_name = format!(in alloc; "Result<{type_name}>")?;
+    let size = format!(in alloc; "{}", words.len())?;
+    let type_name = fill(alloc, type_name.as_str(), &[("size", size.as_str())])?;
     let signature = signature(alloc, code.depth, getter.as_str(), "", type_name.as_str())?;
     let fact = view.fact(alloc, "result")?;
-    let rows = rows_of(alloc, words)?;
-    code.add(WORDS, &[("name", name), ("rows", rows.as_str())])?;
+    push_words(alloc, code, name, words)?;
     code.add(
         GET_CONSTANT,
         &[

@@ -3,19 +3,22 @@ use crate::code::{Code, fill};
 use crate::names::constant;
 use crate::schema::{Base, Field, Place, Slot, Struct, Value};
 use crate::shown::{Shown, Site};
-use crate::templates::{
-    DEFAULT_BODY, DEFAULT_FACT, OR_DEFAULT_BODY, OR_DEFAULT_FACT, WORDS,
-};
+use crate::templates::{DEFAULT_BODY, DEFAULT_FACT, OR_DEFAULT_BODY, OR_DEFAULT_FACT};
 use crate::views::{CONSTANT, MESSAGE, is_plain, view_of};
-use crate::words::{rows_of, words_of};
+use crate::words::{push_words, words_of};
 use std::alloc::{AllocError, Global};
 
-/// Whether a pointer has a default that is not null.
+/// Whether a pointer has a default that reads otherwise than null does.
 pub fn has_default(place: &Place<'_>) -> bool {
     if place.of.lists == 0 && place.of.base == Base::AnyPointer {
         return false;
     }
-    matches!(&place.default, Value::Text(_) | Value::Data(_) | Value::Object(_))
+    match &place.default {
+        Value::Text(text) => !text.is_empty(),
+        Value::Data(bytes) => !bytes.is_empty(),
+        Value::Object(_) => true,
+        Value::Bits(_) | Value::Null => false,
+    }
 }
 
 // The name of the words of a default.
@@ -51,7 +54,13 @@ pub fn shown_default(
         ("stored", stored_fact.as_str()),
         ("fact", default_fact.as_str()),
     ];
-    let (stored, default) = (stored.type_name.as_str(), default.type_name.as_str());
+    let size = size_of(alloc, &place.default)?;
+    let default = fill(
+        alloc,
+        default.type_name.as_str(),
+        &[("size", size.as_str())],
+    )?;
+    let (stored, default) = (stored.type_name.as_str(), default.as_str());
     Ok(Some(if is_plain {
         Shown {
             type_name: format!(in alloc; "Result<{stored}>")?,
@@ -65,6 +74,13 @@ pub fn shown_default(
             body: fill(alloc, OR_DEFAULT_BODY, &holes)?,
         }
     }))
+}
+
+// The number of the bytes of a default's words.
+fn size_of(alloc: Global, default: &Value<'_>) -> Result<String, AllocError> {
+    let words = words_of(alloc, default)?;
+    let size = words.len();
+    format!(in alloc; "{size}")
 }
 
 /// Adds the words of the defaults of a struct's pointers.
@@ -81,13 +97,12 @@ pub fn push_defaults(
             continue;
         }
         let name = default_name(alloc, field)?;
-        let words = words_of(alloc, &place.default)?;
-        let rows = rows_of(alloc, words.as_slice())?;
         code.add(
             "\n/// The default of the field `@field@`, as the words of a message.",
             &[("field", field.name)],
         )?;
-        code.add(WORDS, &[("name", name.as_str()), ("rows", rows.as_str())])?;
+        let words = words_of(alloc, &place.default)?;
+        push_words(alloc, code, name.as_str(), words.as_slice())?;
     }
     Ok(())
 }

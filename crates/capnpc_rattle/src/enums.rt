@@ -1,6 +1,6 @@
 //! Enums.
 use crate::code::Code;
-use crate::names::{camel, enum_type, variant};
+use crate::names::{enum_type, scope_name, variant};
 use crate::paths::path_to;
 use crate::schema::{Base, Body, Field, Node, Request, Slot};
 use crate::shown::Site;
@@ -52,7 +52,7 @@ pub fn enum_name(alloc: Global, site: Site<'_, '_>, id: u64) -> Result<String, A
         return Ok(name);
     }
     let mut longer = match site.request.find(node.scope) {
-        Some(scope) => camel(alloc, scope.name)?,
+        Some(scope) => scope_name(alloc, scope.name)?,
         None => String::new(alloc),
     };
     longer.push_str(name.as_str())?;

@@ -102,11 +102,10 @@ const VIEWS: &[&str] = &["any_pointer", "text", "upgraded"];
 
 /// Adds the lines that import what the clauses of some code cite.
 pub fn push_definitions(alloc: Global, code: &mut Code, text: &str) -> Result<(), AllocError> {
-    let words = words_of(alloc, text)?;
     for (module, names) in DEFINITIONS {
         let mut found = String::new(alloc);
         for name in *names {
-            if words.contains(&name.trim_matches('◌')) {
+            if cites(text, name.trim_matches('◌')) {
                 push_name(&mut found, name)?;
             }
         }
@@ -120,20 +119,17 @@ pub fn push_definitions(alloc: Global, code: &mut Code, text: &str) -> Result<()
     Ok(())
 }
 
-// The words of code, without its comments.
-fn words_of<'a>(alloc: Global, text: &'a str) -> Result<Vec<&'a str>, AllocError> {
-    let mut words = Vec::new(alloc);
+// Whether a word stands in code, outside of its comments.
+fn cites(text: &str, word: &str) -> bool {
     for line in text.lines() {
-        if line.trim_start().starts_with("//") {
-            continue;
-        }
-        for word in line.split(is_between) {
-            if !word.is_empty() && !words.contains(&word) {
-                words.push(word)?;
-            }
+        if line.contains(word)
+            && !line.trim_start().starts_with("//")
+            && line.split(is_between).any(|part| part == word)
+        {
+            return true;
         }
     }
-    Ok(words)
+    false
 }
 
 // Whether a letter stands between words.
@@ -201,7 +197,7 @@ fn push_words(
     if text.contains("OrDefault<") {
         return push_line(alloc, lines, "capnp_constant::{OrDefault, Words}");
     }
-    if text.contains(": Words = ") {
+    if text.contains(": Words<") {
         return push_line(alloc, lines, "capnp_constant::Words");
     }
     Ok(())

@@ -34,7 +34,7 @@ mod words;
 use crate::output::{outputs_of, write_outputs};
 use anyhow::{Context, Result};
 use capnp_frame::serialize::OwnedSegments;
-use capnp_wire::any_struct::StructReader;
+use capnp_schema::schema_capnp::code_generator_request;
 use std::env;
 use std::process::ExitCode;
 
@@ -57,7 +57,7 @@ fn run(rt: HostRuntime) -> Result<()> {
         None => ".",
     };
     let message = input::read_message(alloc, &mut rt.stdin())?;
-    let root: StructReader<'_, OwnedSegments> = message
+    let root: code_generator_request::Reader<'_, OwnedSegments> = message
         .get_root()
         .and_then(|root| root.get_as())
         .context("standard input is no request of the schema compiler")?;

@@ -66,6 +66,30 @@ pub fn constant(alloc: Global, name: &str) -> Result<String, AllocError> {
     Ok(text)
 }
 
+/// The name of a struct, or of a file, as a part of a longer name: `AddressBook` of `dir/address-book.capnp`.
+pub fn scope_name(alloc: Global, name: &str) -> Result<String, AllocError> {
+    let last = base_name(name);
+    let stem = last.strip_suffix(".capnp").unwrap_or(last);
+    let mut text = String::new(alloc);
+    let mut is_first = true;
+    for letter in stem.chars() {
+        if !letter.is_ascii_alphanumeric() {
+            is_first = true;
+            continue;
+        }
+        if text.is_empty() && letter.is_ascii_digit() {
+            text.push('_')?;
+        }
+        text.push(if is_first {
+            letter.to_ascii_uppercase()
+        } else {
+            letter
+        })?;
+        is_first = false;
+    }
+    Ok(text)
+}
+
 /// The last part of the name of a file: `address-book.capnp` of `dir/address-book.capnp`.
 pub fn base_name<'a>(name: &'a str) -> &'a str {
     match name.rsplit_once('/') {

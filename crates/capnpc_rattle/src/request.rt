@@ -1,34 +1,31 @@
-//! The request that the schema compiler hands to its plugins: a `CodeGeneratorRequest` of
-//! `schema.capnp`, read by the views of this library.
+//! The request that the schema compiler hands to its plugins, read by the types that this compiler has made
+//! of `schema.capnp`.
 use crate::schema::{Body, Field, Node, Place, Request, RequestedFile, Slot, Struct};
 use crate::types::{read_type, read_value};
 use anyhow::{Context, Result};
 use capnp_frame::message::ReaderSegments;
-use capnp_wire::any_struct::StructReader;
-use capnp_wire::{struct_list, text};
+use capnp_schema::schema_capnp::{code_generator_request, field, node};
+use capnp_wire::text;
 use std::alloc::Global;
 use std::str::from_utf8;
-
-/// What stands in place of a field's number among the members of a union where it is none.
-const NO_DISCRIMINANT: u16 = 65535;
 
 /// The request at the root of a message.
 pub fn read_request<'a, S: ReaderSegments>(
     alloc: Global,
-    root: &StructReader<'a, S>,
+    root: &code_generator_request::Reader<'a, S>,
 ) -> Result<Request<'a>> {
     let mut nodes = Vec::new(alloc);
-    let list = structs(root, 0)?;
+    let list = root.get_nodes()?;
     for index in 0..list.len() {
         nodes.push(read_node(alloc, &list.get(index))?)?;
     }
     let mut files = Vec::new(alloc);
-    let list = structs(root, 1)?;
+    let list = root.get_requested_files()?;
     for index in 0..list.len() {
         let file = list.get(index);
         files.push(RequestedFile {
-            id: file.get_data_field(0),
-            name: read_text(&file, 0)?,
+            id: file.get_id(),
+            name: read_text(file.get_filename()?)?,
         })?;
     }
     let mut request = Request { nodes, files };
@@ -36,147 +33,134 @@ pub fn read_request<'a, S: ReaderSegments>(
     Ok(request)
 }
 
-/// The text of a pointer of a struct.
-pub fn read_text<'a, S: ReaderSegments>(
-    fields: &StructReader<'a, S>,
-    index: u16,
-) -> Result<&'a str> {
-    let text: text::Reader<'a> = fields.get_pointer(index).get_as()?;
-    from_utf8(text.as_bytes()).context("a name or a comment is no UTF-8")
-}
-
-// The list of structs of a pointer of a struct.
-fn structs<'a, S: ReaderSegments>(
-    fields: &StructReader<'a, S>,
-    index: u16,
-) -> Result<struct_list::Reader<'a, S>> {
-    Ok(fields.get_pointer(index).get_as()?)
+/// A text that is UTF-8.
+pub fn read_text<'a>(text: text::Reader<'a>) -> Result<&'a str> {
+    from_utf8(text.as_bytes()).context("a text of the request is no UTF-8")
 }
 
 // A node, without the comments, which stand elsewhere in the request.
 fn read_node<'a, S: ReaderSegments>(
     alloc: Global,
-    fields: &StructReader<'a, S>,
+    read: &node::Reader<'a, S>,
 ) -> Result<Node<'a>> {
-    let shown = read_text(fields, 0)?;
-    let prefix = fields.get_data_field::<u32>(2) as usize;
+    let shown = read_text(read.get_display_name()?)?;
+    let prefix = read.get_display_name_prefix_length() as usize;
     let mut nested = Vec::new(alloc);
-    let list = structs(fields, 1)?;
+    let list = read.get_nested_nodes()?;
     for index in 0..list.len() {
-        nested.push(list.get(index).get_data_field(0))?;
+        nested.push(list.get(index).get_id())?;
     }
-    let body = match fields.get_data_field::<u16>(6) {
-        0 => Body::File,
-        1 => Body::Struct(read_struct(alloc, fields)?),
-        2 => Body::Enum(read_names(alloc, fields, 3)?),
-        3 => Body::Interface,
-        4 => {
-            let type_fields: StructReader<'a, S> = fields.get_pointer(3).get_as()?;
-            let value: StructReader<'a, S> = fields.get_pointer(4).get_as()?;
-            Body::Constant(read_type(&type_fields)?, read_value(alloc, &value)?)
-        }
-        _ => Body::Other,
-    };
     Ok(Node {
-        id: fields.get_data_field(0),
-        scope: fields.get_data_field(2),
+        id: read.get_id(),
+        scope: read.get_scope_id(),
         name: shown.get(prefix..).unwrap_or(shown),
         comment: "",
         member_comments: Vec::new(alloc),
         nested,
-        body,
+        body: read_body(alloc, read)?,
     })
+}
+
+// What a node declares.
+fn read_body<'a, S: ReaderSegments>(
+    alloc: Global,
+    read: &node::Reader<'a, S>,
+) -> Result<Body<'a>> {
+    match read.which() {
+        node::Which::File => Ok(Body::File),
+        node::Which::Struct(group) => Ok(Body::Struct(read_struct(alloc, &group)?)),
+        node::Which::Enum(group) => {
+            let mut names = Vec::new(alloc);
+            let list = group.get_enumerants()?;
+            for index in 0..list.len() {
+                names.push(read_text(list.get(index).get_name()?)?)?;
+            }
+            Ok(Body::Enum(names))
+        }
+        node::Which::Interface(_) => Ok(Body::Interface),
+        node::Which::Const(group) => Ok(Body::Constant(
+            read_type(&group.get_type()?)?,
+            read_value(alloc, &group.get_value()?)?,
+        )),
+        node::Which::Annotation(_) | node::Which::NotInSchema(_) => Ok(Body::Other),
+    }
 }
 
 // What a node says of a struct.
 fn read_struct<'a, S: ReaderSegments>(
     alloc: Global,
-    fields: &StructReader<'a, S>,
+    group: &node::struct_::Reader<'_, 'a, S>,
 ) -> Result<Struct<'a>> {
-    let members: u16 = fields.get_data_field(15);
-    let mut read = Vec::new(alloc);
-    let list = structs(fields, 3)?;
+    let mut fields = Vec::new(alloc);
+    let list = group.get_fields()?;
     for index in 0..list.len() {
-        read.push(read_field(alloc, &list.get(index))?)?;
+        fields.push(read_field(alloc, &list.get(index))?)?;
     }
     Ok(Struct {
-        is_group: fields.get_data_field(224),
-        discriminant: if members == 0 {
+        is_group: group.get_is_group(),
+        discriminant: if group.get_discriminant_count() == 0 {
             None
         } else {
-            Some(fields.get_data_field(8))
+            Some(group.get_discriminant_offset())
         },
-        fields: read,
+        fields,
     })
 }
 
 // A field.
 fn read_field<'a, S: ReaderSegments>(
     alloc: Global,
-    fields: &StructReader<'a, S>,
+    read: &field::Reader<'a, S>,
 ) -> Result<Field<'a>> {
-    let member: u16 = fields.get_data_field_mask(1, NO_DISCRIMINANT);
+    let member = read.get_discriminant_value();
     Ok(Field {
-        name: read_text(fields, 0)?,
-        member: if member == NO_DISCRIMINANT {
+        name: read_text(read.get_name()?)?,
+        member: if member == field::NO_DISCRIMINANT {
             None
         } else {
             Some(member)
         },
-        slot: read_slot(alloc, fields)?,
+        slot: match read.which() {
+            field::Which::Slot(slot) => Slot::At(Place {
+                offset: slot.get_offset(),
+                of: read_type(&slot.get_type()?)?,
+                default: read_value(alloc, &slot.get_default_value()?)?,
+            }),
+            field::Which::Group(group) => Slot::Group(group.get_type_id()),
+            field::Which::NotInSchema(_) => Slot::Unknown,
+        },
     })
-}
-
-// Where a field stands.
-fn read_slot<'a, S: ReaderSegments>(
-    alloc: Global,
-    fields: &StructReader<'a, S>,
-) -> Result<Slot<'a>> {
-    match fields.get_data_field::<u16>(4) {
-        0 => {
-            let type_fields: StructReader<'a, S> = fields.get_pointer(2).get_as()?;
-            let value: StructReader<'a, S> = fields.get_pointer(3).get_as()?;
-            Ok(Slot::At(Place {
-                offset: fields.get_data_field(1),
-                of: read_type(&type_fields)?,
-                default: read_value(alloc, &value)?,
-            }))
-        }
-        1 => Ok(Slot::Group(fields.get_data_field(2))),
-        _ => Ok(Slot::Unknown),
-    }
-}
-
-// The names that are the first pointers of the structs of a list.
-fn read_names<'a, S: ReaderSegments>(
-    alloc: Global,
-    fields: &StructReader<'a, S>,
-    index: u16,
-) -> Result<Vec<&'a str>> {
-    let mut names = Vec::new(alloc);
-    let list = structs(fields, index)?;
-    for index in 0..list.len() {
-        names.push(read_text(&list.get(index), 0)?)?;
-    }
-    Ok(names)
 }
 
 // Adds the comments to the nodes that they stand at.
 fn add_comments<'a, S: ReaderSegments>(
     alloc: Global,
-    root: &StructReader<'a, S>,
+    root: &code_generator_request::Reader<'a, S>,
     request: &mut Request<'a>,
 ) -> Result<()> {
-    let list = structs(root, 3)?;
+    let list = root.get_source_info()?;
     for index in 0..list.len() {
         let info = list.get(index);
-        let id: u64 = info.get_data_field(0);
+        let id = info.get_id();
         for node in request.nodes.as_mut_slice() {
             if node.id == id {
-                node.comment = read_text(&info, 0)?;
-                node.member_comments = read_names(alloc, &info, 1)?;
+                node.comment = read_text(info.get_doc_comment()?)?;
+                node.member_comments = read_member_comments(alloc, &info)?;
             }
         }
     }
     Ok(())
+}
+
+// The comments of the members of a node.
+fn read_member_comments<'a, S: ReaderSegments>(
+    alloc: Global,
+    info: &node::source_info::Reader<'a, S>,
+) -> Result<Vec<&'a str>> {
+    let mut comments = Vec::new(alloc);
+    let list = info.get_members()?;
+    for index in 0..list.len() {
+        comments.push(read_text(list.get(index).get_doc_comment()?)?)?;
+    }
+    Ok(comments)
 }

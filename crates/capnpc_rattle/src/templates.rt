@@ -180,7 +180,7 @@ pub const OR_DEFAULT_BODY: &str = "if self.fields.has_pointer(@offset@) {
 
 /// A constant or a default, as the words of a message.
 pub const WORDS: &str = "#[rattlefmt::skip]
-pub static @name@: Words = Words { bytes: &[
+pub static @name@: Words<@size@> = Words { bytes: [
     @rows@
 ] };
 ";

@@ -23,10 +23,10 @@ pub const MESSAGE: Lender = Lender {
     segments_of: "S.segments",
 };
 
-/// A constant or a default.
+/// A constant or a default, where `@size@` stands for the number of its bytes.
 pub const CONSTANT: Lender = Lender {
     lifetime: "'static",
-    segments: "Words",
+    segments: "Words<@size@>",
     segments_of: "segments_of",
 };
 

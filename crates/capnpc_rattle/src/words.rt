@@ -1,5 +1,7 @@
 //! The words of constants and of defaults that pointers lead to.
+use crate::code::Code;
 use crate::schema::Value;
+use crate::templates::WORDS;
 use std::alloc::{AllocError, Global};
 use std::fmt::Write;
 
@@ -31,8 +33,27 @@ fn list_of_bytes(alloc: Global, bytes: &[u8], is_text: bool) -> Result<Vec<u8>, 
     Ok(words)
 }
 
-/// The bytes of words as code has them, a row for each word.
-pub fn rows_of(alloc: Global, bytes: &[u8]) -> Result<String, AllocError> {
+/// Adds words as a `static` of this name.
+pub fn push_words(
+    alloc: Global,
+    code: &mut Code,
+    name: &str,
+    words: &[u8],
+) -> Result<(), AllocError> {
+    let rows = rows_of(alloc, words)?;
+    let size = format!(in alloc; "{}", words.len())?;
+    code.add(
+        WORDS,
+        &[
+            ("name", name),
+            ("size", size.as_str()),
+            ("rows", rows.as_str()),
+        ],
+    )
+}
+
+// The bytes of words as code has them, a row for each word.
+fn rows_of(alloc: Global, bytes: &[u8]) -> Result<String, AllocError> {
     let mut rows = String::new(alloc);
     for word in bytes.chunks(8) {
         if !rows.is_empty() {
