@@ -14,6 +14,9 @@ enum Color {
   deepBlue @2;
 }
 
+const limit :UInt32 = 1000;
+const corner :Point = (x = 640, y = 480);
+
 struct Sample {
   # A struct with a field of each kind.
   count @0 :UInt16;
@@ -36,4 +39,8 @@ struct Sample {
     size @12 :UInt32;
     label @13 :Text;
   }
+  ratio @14 :Float64 = 0.5;
+  note @15 :Text = "none";
+  target @16 :Point = (x = 3, y = 4);
+  anything @17 :AnyPointer;
 }

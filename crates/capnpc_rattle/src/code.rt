@@ -13,7 +13,7 @@ pub struct Code {
 }
 
 impl Code {
-    /// No code, in so many modules.
+    /// No code, at a depth of modules.
     pub fn new(alloc: Global, depth: usize) -> Code {
         Code {
             text: String::new(alloc),

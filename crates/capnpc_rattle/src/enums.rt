@@ -131,7 +131,7 @@ fn enum_of(field: &Field<'_>) -> Option<u64> {
 /// The lines that bring the enums of a struct's fields into its module, so that clauses may name their
 /// variants.
 pub fn enum_uses(alloc: Global, site: Site<'_, '_>) -> Result<Vec<String>, AllocError> {
-    let mut lines = Vec::new(alloc);
+    let mut lines: Vec<(String, String)> = Vec::new(alloc);
     for id in enums_of(alloc, site.node)?.as_slice() {
         let Some(node) = site.request.find(*id) else {
             continue;
@@ -142,14 +142,29 @@ pub fn enum_uses(alloc: Global, site: Site<'_, '_>) -> Result<Vec<String>, Alloc
         let path = path_to(alloc, site.request, site.node.id, *id)?;
         let name = enum_name(alloc, site, *id)?;
         let (path, name) = (path.as_str(), name.as_str());
-        lines.push(if enum_type(alloc, node.name)?.as_str() == name {
+        let line = if enum_type(alloc, node.name)?.as_str() == name {
             format!(in alloc; "use {path};")?
         } else {
             format!(in alloc; "use {path} as {name};")?
-        })?;
+        };
+        lines.push((order_of(alloc, path)?, line))?;
     }
     lines.sort()?;
-    Ok(lines)
+    let mut sorted = Vec::new(alloc);
+    for (_, line) in lines {
+        sorted.push(line)?;
+    }
+    Ok(sorted)
+}
+
+// A text by which paths are in the order of `rt fmt`: those that lead further out stand first.
+fn order_of(alloc: Global, path: &str) -> Result<String, AllocError> {
+    let mut text = String::new(alloc);
+    for part in path.split("::") {
+        text.push_str(if part == "super" { " " } else { part })?;
+        text.push(' ')?;
+    }
+    Ok(text)
 }
 
 /// Adds an enum.

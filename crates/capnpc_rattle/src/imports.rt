@@ -225,13 +225,13 @@ fn push_views(alloc: Global, lines: &mut Vec<String>, text: &str) -> Result<(), 
 // Whether a path begins in the text that is no part of a longer one.
 fn is_named(text: &str, path: &str) -> bool {
     let mut before: Option<&str> = None;
-    for piece in text.split(path) {
+    for part in text.split(path) {
         if let Some(before) = before
             && !is_part(before)
         {
             return true;
         }
-        before = Some(piece);
+        before = Some(part);
     }
     false
 }

@@ -15,7 +15,8 @@ pub fn words_of(alloc: Global, value: &Value<'_>) -> Result<Vec<u8>, AllocError>
     }
 }
 
-// The same of a list of bytes (encoding document, "Lists"), with a zero byte after them where it is a text.
+// A message whose root is a list of bytes (encoding document, "Lists"), with a zero byte after them where it
+// is a text.
 fn list_of_bytes(alloc: Global, bytes: &[u8], is_text: bool) -> Result<Vec<u8>, AllocError> {
     let count = (bytes.len() as u64).saturating_add(is_text as u64);
     let root = 1u64.wrapping_add(2 << 32).wrapping_add(count.wrapping_shl(35));

@@ -2,3 +2,5 @@
 #![tactic(auto)]
 
 pub mod sample_capnp;
+#[cfg(test)]
+mod tests;
