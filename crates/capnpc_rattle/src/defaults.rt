@@ -4,7 +4,7 @@ use crate::names::constant;
 use crate::schema::{Base, Field, Place, Slot, Struct, Value};
 use crate::shown::{Shown, Site};
 use crate::templates::{DEFAULT_BODY, DEFAULT_FACT, OR_DEFAULT_BODY, OR_DEFAULT_FACT};
-use crate::views::{CONSTANT, MESSAGE, is_plain, view_of};
+use crate::views::{CONSTANT, MESSAGE, View, is_plain, view_of};
 use crate::words::{push_words, words_of};
 use std::alloc::{AllocError, Global};
 
@@ -54,12 +54,7 @@ pub fn shown_default(
         ("stored", stored_fact.as_str()),
         ("fact", default_fact.as_str()),
     ];
-    let size = size_of(alloc, &place.default)?;
-    let default = fill(
-        alloc,
-        default.type_name.as_str(),
-        &[("size", size.as_str())],
-    )?;
+    let default = sized_type(alloc, &default, place)?;
     let (stored, default) = (stored.type_name.as_str(), default.as_str());
     Ok(Some(if is_plain {
         Shown {
@@ -76,11 +71,11 @@ pub fn shown_default(
     }))
 }
 
-// The number of the bytes of a default's words.
-fn size_of(alloc: Global, default: &Value<'_>) -> Result<String, AllocError> {
-    let words = words_of(alloc, default)?;
-    let size = words.len();
-    format!(in alloc; "{size}")
+// The type of a view of a default, with the number of the bytes of its words.
+fn sized_type(alloc: Global, view: &View, place: &Place<'_>) -> Result<String, AllocError> {
+    let words = words_of(alloc, &place.default)?;
+    let size = format!(in alloc; "{}", words.len())?;
+    fill(alloc, view.type_name.as_str(), &[("size", size.as_str())])
 }
 
 /// Adds the words of the defaults of a struct's pointers.

@@ -100,6 +100,16 @@ const DEFINITIONS: &[(&str, &[&str])] = &[
 /// The modules of views, of which a module of a struct imports those that it names.
 const VIEWS: &[&str] = &["any_pointer", "text", "upgraded"];
 
+/// Whether clauses cite something by this name.
+pub fn is_definition(name: &str) -> bool {
+    for (_, names) in DEFINITIONS {
+        if names.contains(&name) {
+            return true;
+        }
+    }
+    false
+}
+
 /// Adds the lines that import what the clauses of some code cite.
 pub fn push_definitions(alloc: Global, code: &mut Code, text: &str) -> Result<(), AllocError> {
     for (module, names) in DEFINITIONS {

@@ -1,4 +1,5 @@
 //! Names that a schema may have, and that its code can't: a `_` is added to these.
+use crate::imports::is_definition;
 
 /// Words that are no names of modules: those of the language, crates that the code names, and what the
 /// module of a struct has beside the modules of groups and of what is declared in it.
@@ -72,8 +73,8 @@ const MODULES: &[&str] = &[
     "yield",
 ];
 
-/// Words that are no names of enums: what the module of a struct has, and what the code calls by its name
-/// alone.
+/// Words that are no names of enums: what the module of a struct has, what the code calls by its name alone,
+/// and words of clauses.
 const ENUMS: &[&str] = &[
     "Clone",
     "Copy",
@@ -97,7 +98,10 @@ const ENUMS: &[&str] = &[
     "Self",
     "Some",
     "StructReader",
+    "Type",
+    "Unit",
     "Which",
+    "Words",
 ];
 
 /// Words that are no names of variants.
@@ -110,7 +114,7 @@ pub fn is_taken_module(name: &str) -> bool {
 
 /// Whether an enum can't have this name.
 pub fn is_taken_enum(name: &str) -> bool {
-    ENUMS.contains(&name) || name.starts_with("The")
+    ENUMS.contains(&name) || name.starts_with("The") || is_definition(name)
 }
 
 /// Whether a variant can't have this name.
