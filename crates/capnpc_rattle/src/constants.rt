@@ -14,8 +14,8 @@ use std::alloc::{AllocError, Global};
 pub fn push_constants(
     alloc: Global,
     code: &mut Code,
-    request: &Request<'_>,
-    scope: &Node<'_>,
+    request: &Request,
+    scope: &Node,
 ) -> Result<(), AllocError> {
     for id in scope.nested.as_slice() {
         if let Some(node) = request.find(*id)
@@ -32,14 +32,14 @@ pub fn push_constants(
 fn push_constant(
     alloc: Global,
     code: &mut Code,
-    request: &Request<'_>,
-    node: &Node<'_>,
+    request: &Request,
+    node: &Node,
     of: Type,
-    value: &Value<'_>,
+    value: &Value,
 ) -> Result<(), AllocError> {
-    let name = constant(alloc, node.name)?;
+    let name = constant(alloc, node.name.as_str())?;
     let name = name.as_str();
-    code.add_comment(node.comment)?;
+    code.add_comment(node.comment.as_str())?;
     match value {
         Value::Bits(bits) if of.lists == 0 => match (of.base, number_of(of.base)) {
             (Base::Enum(id), _) => push_enumerant(alloc, code, request, node, id, *bits),
@@ -54,7 +54,7 @@ fn push_constant(
             push_line(alloc, code, name, "&str", value.as_str())
         }
         Value::Data(bytes) => {
-            let value = byte_string(alloc, bytes)?;
+            let value = byte_string(alloc, bytes.as_slice())?;
             push_line(alloc, code, name, "&[u8]", value.as_str())
         }
         Value::Object(words) => push_object(alloc, code, request, node, of, words.as_slice()),
@@ -66,17 +66,17 @@ fn push_constant(
 fn push_object(
     alloc: Global,
     code: &mut Code,
-    request: &Request<'_>,
-    node: &Node<'_>,
+    request: &Request,
+    node: &Node,
     of: Type,
     words: &[u8],
 ) -> Result<(), AllocError> {
-    let name = constant(alloc, node.name)?;
+    let name = constant(alloc, node.name.as_str())?;
     let name = name.as_str();
     let Some(view) = view_of(alloc, request, node.scope, of, CONSTANT)? else {
         return code.add("// The constant `@name@` is left out.", &[("name", name)]);
     };
-    let getter = snake(alloc, node.name)?;
+    let getter = snake(alloc, node.name.as_str())?;
     let type_name = view.type_name.as_str();
     let type_name = format!(in alloc; "Result<{type_name}>")?;
     let size = format!(in alloc; "{}", words.len())?;
@@ -87,7 +87,7 @@ fn push_object(
     code.add(
         GET_CONSTANT,
         &[
-            ("field", node.name),
+            ("field", node.name.as_str()),
             ("name", name),
             ("signature", signature.as_str()),
             ("fact", fact.as_str()),
@@ -117,12 +117,12 @@ fn push_line(
 fn push_enumerant(
     alloc: Global,
     code: &mut Code,
-    request: &Request<'_>,
-    node: &Node<'_>,
+    request: &Request,
+    node: &Node,
     id: u64,
     bits: u64,
 ) -> Result<(), AllocError> {
-    let name = constant(alloc, node.name)?;
+    let name = constant(alloc, node.name.as_str())?;
     let path = path_to(alloc, request, node.scope, id)?;
     let value = match enumerant_of(request, id, bits) {
         Some(enumerant) => {
@@ -135,9 +135,12 @@ fn push_enumerant(
 }
 
 // The name of the enumerant of this number.
-fn enumerant_of<'a>(request: &Request<'a>, id: u64, number: u64) -> Option<&'a str> {
+fn enumerant_of(request: &Request, id: u64, number: u64) -> Option<&str> {
     match &request.find(id)?.body {
-        Body::Enum(names) => names.get((number % 65536) as usize).copied(),
+        Body::Enum(names) => match names.get((number % 65536) as usize) {
+            Some(name) => Some(name.as_str()),
+            None => None,
+        },
         _ => None,
     }
 }

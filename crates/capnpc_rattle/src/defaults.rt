@@ -1,6 +1,6 @@
 //! Defaults of pointers.
 use crate::code::{Code, fill};
-use crate::names::constant;
+use crate::names::default_name;
 use crate::schema::{Base, Field, Place, Slot, Struct, Value};
 use crate::shown::{Shown, Site};
 use crate::templates::{DEFAULT_BODY, DEFAULT_FACT, OR_DEFAULT_BODY, OR_DEFAULT_FACT};
@@ -9,7 +9,7 @@ use crate::words::{push_words, words_of};
 use std::alloc::{AllocError, Global};
 
 /// Whether a pointer has a default that reads otherwise than null does.
-pub fn has_default(place: &Place<'_>) -> bool {
+pub fn has_default(place: &Place) -> bool {
     if place.of.lists == 0 && place.of.base == Base::AnyPointer {
         return false;
     }
@@ -21,19 +21,12 @@ pub fn has_default(place: &Place<'_>) -> bool {
     }
 }
 
-// The name of the words of a default.
-fn default_name(alloc: Global, field: &Field<'_>) -> Result<String, AllocError> {
-    let mut name = constant(alloc, field.name)?;
-    name.push_str("_DEFAULT")?;
-    Ok(name)
-}
-
 /// What the getter of a pointer returns that has a default.
 pub fn shown_default(
     alloc: Global,
-    site: Site<'_, '_>,
-    field: &Field<'_>,
-    place: &Place<'_>,
+    site: Site<'_>,
+    field: &Field,
+    place: &Place,
 ) -> Result<Option<Shown>, AllocError> {
     let (request, id) = (site.request, site.node.id);
     let (Some(stored), Some(default)) = (
@@ -45,7 +38,7 @@ pub fn shown_default(
     let is_plain = is_plain(place.of);
     let result = if is_plain { "@value@" } else { "view" };
     let offset = format!(in alloc; "{}", place.offset)?;
-    let name = default_name(alloc, field)?;
+    let name = default_name(alloc, field.name.as_str())?;
     let stored_fact = stored.fact(alloc, result)?;
     let default_fact = default.fact(alloc, result)?;
     let holes = [
@@ -72,18 +65,14 @@ pub fn shown_default(
 }
 
 // The type of a view of a default, with the number of the bytes of its words.
-fn sized_type(alloc: Global, view: &View, place: &Place<'_>) -> Result<String, AllocError> {
+fn sized_type(alloc: Global, view: &View, place: &Place) -> Result<String, AllocError> {
     let words = words_of(alloc, &place.default)?;
     let size = format!(in alloc; "{}", words.len())?;
     fill(alloc, view.type_name.as_str(), &[("size", size.as_str())])
 }
 
 /// Adds the words of the defaults of a struct's pointers.
-pub fn push_defaults(
-    alloc: Global,
-    code: &mut Code,
-    body: &Struct<'_>,
-) -> Result<(), AllocError> {
+pub fn push_defaults(alloc: Global, code: &mut Code, body: &Struct) -> Result<(), AllocError> {
     for field in body.fields.as_slice() {
         let Slot::At(place) = &field.slot else {
             continue;
@@ -91,10 +80,10 @@ pub fn push_defaults(
         if !has_default(place) {
             continue;
         }
-        let name = default_name(alloc, field)?;
+        let name = default_name(alloc, field.name.as_str())?;
         code.add(
             "\n/// The default of the field `@field@`, as the words of a message.",
-            &[("field", field.name)],
+            &[("field", field.name.as_str())],
         )?;
         let words = words_of(alloc, &place.default)?;
         push_words(alloc, code, name.as_str(), words.as_slice())?;

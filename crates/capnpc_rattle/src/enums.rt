@@ -12,14 +12,14 @@ use std::fmt::Write;
 /// is kept.
 pub fn cases_of(
     alloc: Global,
-    request: &Request<'_>,
+    request: &Request,
     id: u64,
     type_name: &str,
 ) -> Result<String, AllocError> {
     let mut text = String::new(alloc);
     let mut count: u32 = 0;
     for name in enumerants_of(request, id) {
-        let variant = variant(alloc, name)?;
+        let variant = variant(alloc, name.as_str())?;
         write!(text, "  | {type_name}.{variant} ↦ number ≡ {count}\n")?;
         count = count.saturating_add(1);
     }
@@ -31,7 +31,7 @@ pub fn cases_of(
 }
 
 // The names of the enumerants of a node.
-fn enumerants_of<'r, 'a>(request: &'r Request<'a>, id: u64) -> &'r [&'a str] {
+fn enumerants_of(request: &Request, id: u64) -> &[String] {
     match request.find(id) {
         Some(node) => match &node.body {
             Body::Enum(names) => names.as_slice(),
@@ -43,16 +43,16 @@ fn enumerants_of<'r, 'a>(request: &'r Request<'a>, id: u64) -> &'r [&'a str] {
 
 /// The name of an enum in the module of a struct that has a field of it: its own, or with the name of what
 /// it is declared in before it, where an enum of its name is in the module already.
-pub fn enum_name(alloc: Global, site: Site<'_, '_>, id: u64) -> Result<String, AllocError> {
+pub fn enum_name(alloc: Global, site: Site<'_>, id: u64) -> Result<String, AllocError> {
     let Some(node) = site.request.find(id) else {
         return String::from_str(alloc, "u16");
     };
-    let name = enum_type(alloc, node.name)?;
+    let name = enum_type(alloc, node.name.as_str())?;
     if !is_other(alloc, site, node, name.as_str())? {
         return Ok(name);
     }
     let mut longer = match site.request.find(node.scope) {
-        Some(scope) => scope_name(alloc, scope.name)?,
+        Some(scope) => scope_name(alloc, scope.name.as_str())?,
         None => String::new(alloc),
     };
     longer.push_str(name.as_str())?;
@@ -60,12 +60,7 @@ pub fn enum_name(alloc: Global, site: Site<'_, '_>, id: u64) -> Result<String, A
 }
 
 // Whether another enum has this name in the module: one that is declared there, or that of a field before.
-fn is_other(
-    alloc: Global,
-    site: Site<'_, '_>,
-    node: &Node<'_>,
-    name: &str,
-) -> Result<bool, AllocError> {
+fn is_other(alloc: Global, site: Site<'_>, node: &Node, name: &str) -> Result<bool, AllocError> {
     if node.scope == site.node.id {
         return Ok(false);
     }
@@ -86,23 +81,18 @@ fn is_other(
 }
 
 // Whether a node is an enum of this name.
-fn is_named(
-    alloc: Global,
-    request: &Request<'_>,
-    id: u64,
-    name: &str,
-) -> Result<bool, AllocError> {
+fn is_named(alloc: Global, request: &Request, id: u64, name: &str) -> Result<bool, AllocError> {
     let Some(node) = request.find(id) else {
         return Ok(false);
     };
     match &node.body {
-        Body::Enum(_) => Ok(enum_type(alloc, node.name)?.as_str() == name),
+        Body::Enum(_) => Ok(enum_type(alloc, node.name.as_str())?.as_str() == name),
         _ => Ok(false),
     }
 }
 
 // The enums that the fields of a struct hold, each once.
-fn enums_of(alloc: Global, node: &Node<'_>) -> Result<Vec<u64>, AllocError> {
+fn enums_of(alloc: Global, node: &Node) -> Result<Vec<u64>, AllocError> {
     let mut found: Vec<u64> = Vec::new(alloc);
     let Body::Struct(body) = &node.body else {
         return Ok(found);
@@ -118,7 +108,7 @@ fn enums_of(alloc: Global, node: &Node<'_>) -> Result<Vec<u64>, AllocError> {
 }
 
 // The enum that a field holds, where it holds one.
-fn enum_of(field: &Field<'_>) -> Option<u64> {
+fn enum_of(field: &Field) -> Option<u64> {
     match &field.slot {
         Slot::At(place) if place.of.lists == 0 => match place.of.base {
             Base::Enum(id) => Some(id),
@@ -130,7 +120,7 @@ fn enum_of(field: &Field<'_>) -> Option<u64> {
 
 /// The lines that bring the enums of a struct's fields into its module, so that clauses may name their
 /// variants.
-pub fn enum_uses(alloc: Global, site: Site<'_, '_>) -> Result<Vec<String>, AllocError> {
+pub fn enum_uses(alloc: Global, site: Site<'_>) -> Result<Vec<String>, AllocError> {
     let mut lines: Vec<(String, String)> = Vec::new(alloc);
     for id in enums_of(alloc, site.node)?.as_slice() {
         let Some(node) = site.request.find(*id) else {
@@ -142,7 +132,7 @@ pub fn enum_uses(alloc: Global, site: Site<'_, '_>) -> Result<Vec<String>, Alloc
         let path = path_to(alloc, site.request, site.node.id, *id)?;
         let name = enum_name(alloc, site, *id)?;
         let (path, name) = (path.as_str(), name.as_str());
-        let line = if enum_type(alloc, node.name)?.as_str() == name {
+        let line = if enum_type(alloc, node.name.as_str())?.as_str() == name {
             format!(in alloc; "use {path};")?
         } else {
             format!(in alloc; "use {path} as {name};")?
@@ -171,22 +161,22 @@ fn order_of(alloc: Global, path: &str) -> Result<String, AllocError> {
 pub fn push_enum(
     alloc: Global,
     code: &mut Code,
-    request: &Request<'_>,
-    node: &Node<'_>,
-    names: &[&str],
+    request: &Request,
+    node: &Node,
+    names: &[String],
 ) -> Result<(), AllocError> {
-    let type_name = enum_type(alloc, node.name)?;
+    let type_name = enum_type(alloc, node.name.as_str())?;
     let type_name = type_name.as_str();
-    code.add_comment(node.comment)?;
+    code.add_comment(node.comment.as_str())?;
     code.add(ENUM_HEAD, &[("type", type_name)])?;
     code.depth = code.depth.saturating_add(1);
     let mut arms = String::new(alloc);
     let mut index: usize = 0;
     for name in names {
         if let Some(comment) = node.member_comments.get(index) {
-            code.add_comment(comment)?;
+            code.add_comment(comment.as_str())?;
         }
-        let variant = variant(alloc, name)?;
+        let variant = variant(alloc, name.as_str())?;
         let variant = variant.as_str();
         code.add("@name@,", &[("name", variant)])?;
         write!(arms, "{index} => {type_name}::{variant},\n")?;

@@ -12,16 +12,16 @@ use std::alloc::{AllocError, Global};
 pub fn push_field(
     alloc: Global,
     code: &mut Code,
-    site: Site<'_, '_>,
-    field: &Field<'_>,
+    site: Site<'_>,
+    field: &Field,
     comment: &str,
     shown: Option<&Shown>,
 ) -> Result<(), AllocError> {
-    let name = snake(alloc, field.name)?;
+    let name = snake(alloc, field.name.as_str())?;
     let name = name.as_str();
     let Some(shown) = shown else {
         if !is_nothing(field) {
-            return code.add(LEFT_OUT, &[("field", field.name)]);
+            return code.add(LEFT_OUT, &[("field", field.name.as_str())]);
         }
         push_comment(code, field, comment)?;
         return code.add(VOID, &[("name", name)]);
@@ -47,9 +47,9 @@ pub fn push_field(
 }
 
 // Adds what the schema says of a field; where it says nothing, its name.
-fn push_comment(code: &mut Code, field: &Field<'_>, comment: &str) -> Result<(), AllocError> {
+fn push_comment(code: &mut Code, field: &Field, comment: &str) -> Result<(), AllocError> {
     if comment.is_empty() {
-        code.add("/// The field `@name@`.", &[("name", field.name)])
+        code.add("/// The field `@name@`.", &[("name", field.name.as_str())])
     } else {
         code.add_comment(comment)
     }
@@ -59,8 +59,8 @@ fn push_comment(code: &mut Code, field: &Field<'_>, comment: &str) -> Result<(),
 fn push_has(
     alloc: Global,
     code: &mut Code,
-    site: Site<'_, '_>,
-    field: &Field<'_>,
+    site: Site<'_>,
+    field: &Field,
     name: &str,
 ) -> Result<(), AllocError> {
     let Slot::At(place) = &field.slot else {
@@ -74,7 +74,7 @@ fn push_has(
         HAS,
         &[
             ("name", name),
-            ("field", field.name),
+            ("field", field.name.as_str()),
             ("fields", site.fields()),
             ("offset", offset.as_str()),
         ],
@@ -82,7 +82,7 @@ fn push_has(
 }
 
 // Whether a field is nothing.
-fn is_nothing(field: &Field<'_>) -> bool {
+fn is_nothing(field: &Field) -> bool {
     match &field.slot {
         Slot::At(place) => place.of.lists == 0 && place.of.base == Base::Void,
         _ => false,
@@ -90,6 +90,6 @@ fn is_nothing(field: &Field<'_>) -> bool {
 }
 
 // Whether a pointer stands at a place.
-fn is_pointer(place: &Place<'_>) -> bool {
+fn is_pointer(place: &Place) -> bool {
     place.of.lists > 0 || (number_of(place.of.base).is_none() && place.of.base != Base::Void)
 }

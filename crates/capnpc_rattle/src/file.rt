@@ -19,7 +19,7 @@ enum Step {
 }
 
 /// The code of a file.
-pub fn code_of(alloc: Global, request: &Request<'_>, file: u64) -> Result<String, AllocError> {
+pub fn code_of(alloc: Global, request: &Request, file: u64) -> Result<String, AllocError> {
     let mut body = Code::new(alloc, 0);
     let mut steps = Vec::new(alloc);
     if let Some(node) = request.find(file) {
@@ -52,8 +52,8 @@ fn push_declared(
     alloc: Global,
     code: &mut Code,
     steps: &mut Vec<Step>,
-    request: &Request<'_>,
-    node: &Node<'_>,
+    request: &Request,
+    node: &Node,
 ) -> Result<(), AllocError> {
     let mut constants = Code::new(alloc, code.depth);
     push_constants(alloc, &mut constants, request, node)?;
@@ -68,7 +68,7 @@ fn push_declared(
 }
 
 // Adds the nodes that are declared in a node to what is still to be written, the first on top.
-fn push_nested(steps: &mut Vec<Step>, node: &Node<'_>) -> Result<(), AllocError> {
+fn push_nested(steps: &mut Vec<Step>, node: &Node) -> Result<(), AllocError> {
     for id in node.nested.iter().rev() {
         steps.push(Step::Node(*id))?;
     }
@@ -76,7 +76,7 @@ fn push_nested(steps: &mut Vec<Step>, node: &Node<'_>) -> Result<(), AllocError>
 }
 
 // Adds the groups of a struct so.
-fn push_groups(steps: &mut Vec<Step>, body: &Struct<'_>) -> Result<(), AllocError> {
+fn push_groups(steps: &mut Vec<Step>, body: &Struct) -> Result<(), AllocError> {
     for field in body.fields.iter().rev() {
         if let Slot::Group(id) = field.slot {
             steps.push(Step::Node(id))?;
@@ -91,8 +91,8 @@ fn push_node(
     alloc: Global,
     code: &mut Code,
     steps: &mut Vec<Step>,
-    request: &Request<'_>,
-    node: &Node<'_>,
+    request: &Request,
+    node: &Node,
 ) -> Result<(), AllocError> {
     match &node.body {
         Body::Struct(body) => {
@@ -116,16 +116,19 @@ fn push_interface(
     alloc: Global,
     code: &mut Code,
     steps: &mut Vec<Step>,
-    request: &Request<'_>,
-    node: &Node<'_>,
+    request: &Request,
+    node: &Node,
 ) -> Result<(), AllocError> {
-    let holes = [("name", node.name)];
+    let holes = [("name", node.name.as_str())];
     code.add_gap()?;
     if node.nested.is_empty() {
         return code.add("// The interface `@name@` is left out.", &holes);
     }
     open_module(alloc, code, node)?;
-    code.add("//! What is declared in the interface `@name@`, which itself is left out.", &holes)?;
+    code.add(
+        "//! What is declared in the interface `@name@`, which itself is left out.",
+        &holes,
+    )?;
     steps.push(Step::End)?;
     push_declared(alloc, code, steps, request, node)
 }

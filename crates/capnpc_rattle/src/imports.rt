@@ -18,40 +18,16 @@ const DEFINITIONS: &[(&str, &[&str])] = &[
             "length",
         ],
     ),
-    (
-        "std.specs.Float",
-        &[
-            "binary32",
-            "binary64",
-        ],
-    ),
-    (
-        "std.specs.Int",
-        &[
-            "w8",
-            "w16",
-            "w32",
-            "w64",
-            "cast_signed",
-        ],
-    ),
+    ("std.specs.Float", &["binary32", "binary64"]),
+    ("std.specs.Int", &["w8", "w16", "w32", "w64", "cast_signed"]),
     (
         "capnp_constant.specs.Constants",
-        &[
-            "segments_of",
-            "root_of",
-        ],
+        &["segments_of", "root_of"],
     ),
     ("capnp_wire.specs.Fields", &["field"]),
     ("capnp_wire.specs.ListViews", &["element_of"]),
     ("capnp_wire.specs.Object", &["nothing"]),
-    (
-        "capnp_wire.specs.Readers",
-        &[
-            "struct_of",
-            "pointer_of",
-        ],
-    ),
+    ("capnp_wire.specs.Readers", &["struct_of", "pointer_of"]),
     (
         "capnp_wire.specs.UpgradedReaders",
         &[
@@ -144,7 +120,10 @@ fn cites(text: &str, word: &str) -> bool {
 
 // Whether a letter stands between words.
 fn is_between(letter: char) -> bool {
-    matches!(letter, ' ' | '.' | ',' | ';' | ':' | '(' | ')' | '[' | ']' | '{' | '}')
+    matches!(
+        letter,
+        ' ' | '.' | ',' | ';' | ':' | '(' | ')' | '[' | ']' | '{' | '}'
+    )
 }
 
 // Adds a name to a list of them.
@@ -177,10 +156,18 @@ pub fn push_imports(
         push_line(alloc, &mut lines, "capnp_wire::any_struct::StructReader")?;
     }
     if text.contains("PrimitiveElement::") {
-        push_line(alloc, &mut lines, "capnp_wire::primitive_element::PrimitiveElement")?;
+        push_line(
+            alloc,
+            &mut lines,
+            "capnp_wire::primitive_element::PrimitiveElement",
+        )?;
     }
     if text.contains(" traits::") {
-        push_line(alloc, &mut lines, "capnp_wire::traits::{self, FromPointerReader}")?;
+        push_line(
+            alloc,
+            &mut lines,
+            "capnp_wire::traits::{self, FromPointerReader}",
+        )?;
     } else if text.contains("FromPointerReader") {
         push_line(alloc, &mut lines, "capnp_wire::traits::FromPointerReader")?;
     }
@@ -199,11 +186,7 @@ fn push_line(alloc: Global, lines: &mut Vec<String>, name: &str) -> Result<(), A
 }
 
 // Adds the line that imports what constants and defaults are made of.
-fn push_words(
-    alloc: Global,
-    lines: &mut Vec<String>,
-    text: &str,
-) -> Result<(), AllocError> {
+fn push_words(alloc: Global, lines: &mut Vec<String>, text: &str) -> Result<(), AllocError> {
     if text.contains("OrDefault<") {
         return push_line(alloc, lines, "capnp_constant::{OrDefault, Words}");
     }
@@ -227,8 +210,16 @@ fn push_views(alloc: Global, lines: &mut Vec<String>, text: &str) -> Result<(), 
     let found = found.as_str();
     match count {
         0 => Ok(()),
-        1 => push_line(alloc, lines, format!(in alloc; "capnp_wire::{found}")?.as_str()),
-        _ => push_line(alloc, lines, format!(in alloc; "capnp_wire::{{{found}}}")?.as_str()),
+        1 => push_line(
+            alloc,
+            lines,
+            format!(in alloc; "capnp_wire::{found}")?.as_str(),
+        ),
+        _ => push_line(
+            alloc,
+            lines,
+            format!(in alloc; "capnp_wire::{{{found}}}")?.as_str(),
+        ),
     }
 }
 

@@ -61,8 +61,9 @@ fn run(rt: HostRuntime) -> Result<()> {
         .get_root()
         .and_then(|root| root.get_as())
         .context("standard input is no request of the schema compiler")?;
-    let request = request::read_request(alloc, &root)
-        .context("standard input is no request of the schema compiler")?;
+    let request = request::read_request(alloc, &root).context(
+        "standard input is no request of the schema compiler",
+    )?;
     let outputs = outputs_of(alloc, &request)?;
     if folder != "-" {
         return write_outputs(alloc, &rt, folder, outputs.as_slice());

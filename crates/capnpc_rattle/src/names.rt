@@ -66,6 +66,13 @@ pub fn constant(alloc: Global, name: &str) -> Result<String, AllocError> {
     Ok(text)
 }
 
+/// The name of the words of a field's default: `DEEP_BLUE_DEFAULT` of `deepBlue`.
+pub fn default_name(alloc: Global, name: &str) -> Result<String, AllocError> {
+    let mut text = constant(alloc, name)?;
+    text.push_str("_DEFAULT")?;
+    Ok(text)
+}
+
 /// The name of a struct, or of a file, as a part of a longer name: `AddressBook` of `dir/address-book.capnp`.
 pub fn scope_name(alloc: Global, name: &str) -> Result<String, AllocError> {
     let last = base_name(name);

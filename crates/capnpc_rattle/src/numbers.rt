@@ -114,7 +114,7 @@ PrimitiveElement::from_bits(@all@)",
 }
 
 /// The bits of a default that is a number; 0 for any other.
-pub fn default_bits(default: &Value<'_>) -> u64 {
+pub fn default_bits(default: &Value) -> u64 {
     match default {
         Value::Bits(bits) => *bits,
         _ => 0,

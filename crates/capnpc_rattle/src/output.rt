@@ -16,13 +16,13 @@ pub struct Output {
 }
 
 /// The files of a request, in its order.
-pub fn outputs_of(alloc: Global, request: &Request<'_>) -> Result<Vec<Output>> {
+pub fn outputs_of(alloc: Global, request: &Request) -> Result<Vec<Output>> {
     let mut outputs: Vec<Output> = Vec::new(alloc);
     if request.files.is_empty() {
         bail!("standard input asks for no file");
     }
     for file in request.files.as_slice() {
-        let schema = file.name;
+        let schema = file.name.as_str();
         check_file(alloc, request, file.id).context(format_args!("{}", base_name(schema)))?;
         let module = file_module(alloc, schema)?;
         let module = module.as_str();
@@ -48,8 +48,9 @@ pub fn write_outputs(
     for output in outputs {
         let name = output.name.as_str();
         let path = format!(in alloc; "{folder}/{name}")?;
-        fs::write(rt, path.as_str(), output.code.as_str())
-            .context(format_args!("`{name}` can't be written into `{folder}`"))?;
+        fs::write(rt, path.as_str(), output.code.as_str()).context(format_args!(
+            "`{name}` can't be written into `{folder}`"
+        ))?;
     }
     Ok(())
 }

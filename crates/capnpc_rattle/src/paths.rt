@@ -8,12 +8,7 @@ const MAX_DEPTH: u32 = 64;
 
 /// The path to the module of a struct, or to the enum, that a node declares, as it is written in the
 /// module of another.
-pub fn path_to(
-    alloc: Global,
-    request: &Request<'_>,
-    site: u64,
-    id: u64,
-) -> Result<String, AllocError> {
+pub fn path_to(alloc: Global, request: &Request, site: u64, id: u64) -> Result<String, AllocError> {
     let from = chain_of(alloc, request, site)?;
     let to = chain_of(alloc, request, id)?;
     let mut text = String::new(alloc);
@@ -40,7 +35,7 @@ struct Chain {
 }
 
 // Where a node is declared.
-fn chain_of(alloc: Global, request: &Request<'_>, id: u64) -> Result<Chain, AllocError> {
+fn chain_of(alloc: Global, request: &Request, id: u64) -> Result<Chain, AllocError> {
     let mut names: Vec<String> = Vec::new(alloc);
     let mut next = id;
     let mut file = 0;
@@ -53,8 +48,8 @@ fn chain_of(alloc: Global, request: &Request<'_>, id: u64) -> Result<Chain, Allo
                 file = node.id;
                 break;
             }
-            Body::Enum(_) => enum_type(alloc, node.name)?,
-            _ => module(alloc, node.name)?,
+            Body::Enum(_) => enum_type(alloc, node.name.as_str())?,
+            _ => module(alloc, node.name.as_str())?,
         };
         names.push(name)?;
         next = node.scope;

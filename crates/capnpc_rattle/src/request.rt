@@ -2,7 +2,7 @@
 //! of `schema.capnp`.
 use crate::schema::{Body, Field, Node, Place, Request, RequestedFile, Slot, Struct};
 use crate::types::{read_type, read_value};
-use anyhow::{Context, Result};
+use anyhow::{Result, bail};
 use capnp_frame::message::ReaderSegments;
 use capnp_schema::schema_capnp::{code_generator_request, field, node};
 use capnp_wire::text;
@@ -10,10 +10,10 @@ use std::alloc::Global;
 use std::str::from_utf8;
 
 /// The request at the root of a message.
-pub fn read_request<'a, S: ReaderSegments>(
+pub fn read_request<S: ReaderSegments>(
     alloc: Global,
-    root: &code_generator_request::Reader<'a, S>,
-) -> Result<Request<'a>> {
+    root: &code_generator_request::Reader<'_, S>,
+) -> Result<Request> {
     let mut nodes = Vec::new(alloc);
     let list = root.get_nodes()?;
     for index in 0..list.len() {
@@ -25,7 +25,7 @@ pub fn read_request<'a, S: ReaderSegments>(
         let file = list.get(index);
         files.push(RequestedFile {
             id: file.get_id(),
-            name: read_text(file.get_filename()?)?,
+            name: read_text(alloc, file.get_filename()?)?,
         })?;
     }
     let mut request = Request { nodes, files };
@@ -34,16 +34,17 @@ pub fn read_request<'a, S: ReaderSegments>(
 }
 
 /// A text that is UTF-8.
-pub fn read_text<'a>(text: text::Reader<'a>) -> Result<&'a str> {
-    from_utf8(text.as_bytes()).context("a text of the request is no UTF-8")
+pub fn read_text(alloc: Global, text: text::Reader<'_>) -> Result<String> {
+    match from_utf8(text.as_bytes()) {
+        Ok(text) => Ok(String::from_str(alloc, text)?),
+        Err(_) => bail!("a text of the request is no UTF-8"),
+    }
 }
 
 // A node, without the comments, which stand elsewhere in the request.
-fn read_node<'a, S: ReaderSegments>(
-    alloc: Global,
-    read: &node::Reader<'a, S>,
-) -> Result<Node<'a>> {
-    let shown = read_text(read.get_display_name()?)?;
+fn read_node<S: ReaderSegments>(alloc: Global, read: &node::Reader<'_, S>) -> Result<Node> {
+    let shown = read_text(alloc, read.get_display_name()?)?;
+    let shown = shown.as_str();
     let prefix = read.get_display_name_prefix_length() as usize;
     let mut nested = Vec::new(alloc);
     let list = read.get_nested_nodes()?;
@@ -53,8 +54,8 @@ fn read_node<'a, S: ReaderSegments>(
     Ok(Node {
         id: read.get_id(),
         scope: read.get_scope_id(),
-        name: shown.get(prefix..).unwrap_or(shown),
-        comment: "",
+        name: String::from_str(alloc, shown.get(prefix..).unwrap_or(shown))?,
+        comment: String::new(alloc),
         member_comments: Vec::new(alloc),
         nested,
         body: read_body(alloc, read)?,
@@ -62,10 +63,7 @@ fn read_node<'a, S: ReaderSegments>(
 }
 
 // What a node declares.
-fn read_body<'a, S: ReaderSegments>(
-    alloc: Global,
-    read: &node::Reader<'a, S>,
-) -> Result<Body<'a>> {
+fn read_body<S: ReaderSegments>(alloc: Global, read: &node::Reader<'_, S>) -> Result<Body> {
     match read.which() {
         node::Which::File => Ok(Body::File),
         node::Which::Struct(group) => Ok(Body::Struct(read_struct(alloc, &group)?)),
@@ -73,7 +71,7 @@ fn read_body<'a, S: ReaderSegments>(
             let mut names = Vec::new(alloc);
             let list = group.get_enumerants()?;
             for index in 0..list.len() {
-                names.push(read_text(list.get(index).get_name()?)?)?;
+                names.push(read_text(alloc, list.get(index).get_name()?)?)?;
             }
             Ok(Body::Enum(names))
         }
@@ -87,10 +85,10 @@ fn read_body<'a, S: ReaderSegments>(
 }
 
 // What a node says of a struct.
-fn read_struct<'a, S: ReaderSegments>(
+fn read_struct<S: ReaderSegments>(
     alloc: Global,
-    group: &node::struct_::Reader<'_, 'a, S>,
-) -> Result<Struct<'a>> {
+    group: &node::struct_::Reader<'_, '_, S>,
+) -> Result<Struct> {
     let mut fields = Vec::new(alloc);
     let list = group.get_fields()?;
     for index in 0..list.len() {
@@ -108,13 +106,10 @@ fn read_struct<'a, S: ReaderSegments>(
 }
 
 // A field.
-fn read_field<'a, S: ReaderSegments>(
-    alloc: Global,
-    read: &field::Reader<'a, S>,
-) -> Result<Field<'a>> {
+fn read_field<S: ReaderSegments>(alloc: Global, read: &field::Reader<'_, S>) -> Result<Field> {
     let member = read.get_discriminant_value();
     Ok(Field {
-        name: read_text(read.get_name()?)?,
+        name: read_text(alloc, read.get_name()?)?,
         member: if member == field::NO_DISCRIMINANT {
             None
         } else {
@@ -133,10 +128,10 @@ fn read_field<'a, S: ReaderSegments>(
 }
 
 // Adds the comments to the nodes that they stand at.
-fn add_comments<'a, S: ReaderSegments>(
+fn add_comments<S: ReaderSegments>(
     alloc: Global,
-    root: &code_generator_request::Reader<'a, S>,
-    request: &mut Request<'a>,
+    root: &code_generator_request::Reader<'_, S>,
+    request: &mut Request,
 ) -> Result<()> {
     let list = root.get_source_info()?;
     for index in 0..list.len() {
@@ -144,7 +139,7 @@ fn add_comments<'a, S: ReaderSegments>(
         let id = info.get_id();
         for node in request.nodes.as_mut_slice() {
             if node.id == id {
-                node.comment = read_text(info.get_doc_comment()?)?;
+                node.comment = read_text(alloc, info.get_doc_comment()?)?;
                 node.member_comments = read_member_comments(alloc, &info)?;
             }
         }
@@ -153,14 +148,14 @@ fn add_comments<'a, S: ReaderSegments>(
 }
 
 // The comments of the members of a node.
-fn read_member_comments<'a, S: ReaderSegments>(
+fn read_member_comments<S: ReaderSegments>(
     alloc: Global,
-    info: &node::source_info::Reader<'a, S>,
-) -> Result<Vec<&'a str>> {
+    info: &node::source_info::Reader<'_, S>,
+) -> Result<Vec<String>> {
     let mut comments = Vec::new(alloc);
     let list = info.get_members()?;
     for index in 0..list.len() {
-        comments.push(read_text(list.get(index).get_doc_comment()?)?)?;
+        comments.push(read_text(alloc, list.get(index).get_doc_comment()?)?)?;
     }
     Ok(comments)
 }

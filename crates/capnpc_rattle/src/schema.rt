@@ -3,57 +3,57 @@
 
 /// A declaration.
 #[derive(Drop)]
-pub struct Node<'a> {
+pub struct Node {
     pub id: u64,
     /// The node in which it is declared; 0 for a file.
     pub scope: u64,
     /// The name within that node.
-    pub name: &'a str,
+    pub name: String,
     /// The comment that stands at it; empty where there is none.
-    pub comment: &'a str,
+    pub comment: String,
     /// The comments of its fields or enumerants, in the order of these.
-    pub member_comments: Vec<&'a str>,
+    pub member_comments: Vec<String>,
     /// The nodes that are declared in it.
     pub nested: Vec<u64>,
-    pub body: Body<'a>,
+    pub body: Body,
 }
 
 /// What a node declares.
 #[derive(Drop)]
-pub enum Body<'a> {
+pub enum Body {
     File,
-    Struct(Struct<'a>),
+    Struct(Struct),
     /// The names of the enumerants, by their numbers.
-    Enum(Vec<&'a str>),
+    Enum(Vec<String>),
     Interface,
-    Constant(Type, Value<'a>),
+    Constant(Type, Value),
     /// An annotation, or what this compiler doesn't know.
     Other,
 }
 
 /// A struct, or a group of one.
 #[derive(Drop)]
-pub struct Struct<'a> {
+pub struct Struct {
     pub is_group: bool,
     /// Where the number stands that says which member of the union is there, in units of two bytes; none
     /// where there is no union.
     pub discriminant: Option<u32>,
-    pub fields: Vec<Field<'a>>,
+    pub fields: Vec<Field>,
 }
 
 /// A field of a struct.
 #[derive(Drop)]
-pub struct Field<'a> {
-    pub name: &'a str,
+pub struct Field {
+    pub name: String,
     /// Its number among the members of the union, where it is one.
     pub member: Option<u16>,
-    pub slot: Slot<'a>,
+    pub slot: Slot,
 }
 
 /// Where a field stands.
 #[derive(Drop)]
-pub enum Slot<'a> {
-    At(Place<'a>),
+pub enum Slot {
+    At(Place),
     /// In a group, which is a node.
     Group(u64),
     /// What this compiler doesn't know.
@@ -62,11 +62,11 @@ pub enum Slot<'a> {
 
 /// Where a field of the data section or a pointer stands.
 #[derive(Drop)]
-pub struct Place<'a> {
+pub struct Place {
     /// In units of the field's own width, or among the pointers.
     pub offset: u32,
     pub of: Type,
-    pub default: Value<'a>,
+    pub default: Value,
 }
 
 /// A type: what the elements are of lists of lists, to a given depth.
@@ -105,11 +105,11 @@ pub enum Base {
 
 /// A value of a constant or of a default.
 #[derive(Drop)]
-pub enum Value<'a> {
+pub enum Value {
     /// The bits of a number, a bool or an enum; 0 for nothing.
     Bits(u64),
-    Text(&'a str),
-    Data(&'a [u8]),
+    Text(String),
+    Data(Vec<u8>),
     /// A null pointer.
     Null,
     /// A list, a struct or any pointer that is not null: the words of a message of one segment with it as
@@ -118,22 +118,22 @@ pub enum Value<'a> {
 }
 
 /// A file that code is asked for.
-#[derive(Clone, Copy)]
-pub struct RequestedFile<'a> {
+#[derive(Drop)]
+pub struct RequestedFile {
     pub id: u64,
-    pub name: &'a str,
+    pub name: String,
 }
 
 /// A request to generate code.
 #[derive(Drop)]
-pub struct Request<'a> {
-    pub nodes: Vec<Node<'a>>,
-    pub files: Vec<RequestedFile<'a>>,
+pub struct Request {
+    pub nodes: Vec<Node>,
+    pub files: Vec<RequestedFile>,
 }
 
-impl<'a> Request<'a> {
+impl Request {
     /// The node of this number.
-    pub fn find(&self, id: u64) -> Option<&Node<'a>> {
+    pub fn find(&self, id: u64) -> Option<&Node> {
         for node in self.nodes.as_slice() {
             if node.id == id {
                 return Some(node);
@@ -143,14 +143,14 @@ impl<'a> Request<'a> {
     }
 
     /// The name of a file, as it was asked for or as it was declared.
-    pub fn file_name(&self, id: u64) -> Option<&'a str> {
+    pub fn file_name(&self, id: u64) -> Option<&str> {
         for file in self.files.as_slice() {
             if file.id == id {
-                return Some(file.name);
+                return Some(file.name.as_str());
             }
         }
         match self.find(id) {
-            Some(node) => Some(node.name),
+            Some(node) => Some(node.name.as_str()),
             None => None,
         }
     }

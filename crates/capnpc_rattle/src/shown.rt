@@ -11,12 +11,12 @@ use std::alloc::{AllocError, Global};
 
 /// The struct or group whose fields are written.
 #[derive(Clone, Copy)]
-pub struct Site<'r, 'a> {
-    pub request: &'r Request<'a>,
-    pub node: &'r Node<'a>,
+pub struct Site<'r> {
+    pub request: &'r Request,
+    pub node: &'r Node,
 }
 
-impl<'r, 'a> Site<'r, 'a> {
+impl<'r> Site<'r> {
     /// Whether it is a group.
     pub fn is_group(&self) -> bool {
         match &self.node.body {
@@ -52,11 +52,7 @@ pub struct Shown {
 }
 
 /// What the getter of a field returns; `None` for nothing, and for what is left out.
-pub fn shown_of(
-    alloc: Global,
-    site: Site<'_, '_>,
-    field: &Field<'_>,
-) -> Result<Option<Shown>, AllocError> {
+pub fn shown_of(alloc: Global, site: Site<'_>, field: &Field) -> Result<Option<Shown>, AllocError> {
     match &field.slot {
         Slot::Group(id) => match site.request.find(*id) {
             Some(group) => Ok(Some(shown_group(alloc, site, group)?)),
@@ -78,12 +74,8 @@ pub fn shown_of(
 }
 
 // A group, whose reader borrows the struct.
-fn shown_group(
-    alloc: Global,
-    site: Site<'_, '_>,
-    group: &Node<'_>,
-) -> Result<Shown, AllocError> {
-    let name = module(alloc, group.name)?;
+fn shown_group(alloc: Global, site: Site<'_>, group: &Node) -> Result<Shown, AllocError> {
+    let name = module(alloc, group.name.as_str())?;
     let name = name.as_str();
     let fields = if site.is_group() {
         "self.fields"
@@ -100,7 +92,7 @@ fn shown_group(
 // A number, a bool or an enum.
 fn shown_number(
     alloc: Global,
-    site: Site<'_, '_>,
+    site: Site<'_>,
     stored: &Stored,
     base: Base,
 ) -> Result<Shown, AllocError> {
@@ -131,9 +123,9 @@ fn shown_number(
 // A pointer.
 fn shown_pointer(
     alloc: Global,
-    site: Site<'_, '_>,
-    field: &Field<'_>,
-    place: &Place<'_>,
+    site: Site<'_>,
+    field: &Field,
+    place: &Place,
 ) -> Result<Option<Shown>, AllocError> {
     let offset = format!(in alloc; "{}", place.offset)?;
     let offset = offset.as_str();
@@ -141,7 +133,11 @@ fn shown_pointer(
         return Ok(Some(Shown {
             type_name: String::from_str(alloc, "any_pointer::Reader<'a, S>")?,
             fact: fill(alloc, ANY_POINTER_FACT, &[("offset", offset)])?,
-            body: fill(alloc, "self.fields.get_pointer(@offset@)", &[("offset", offset)])?,
+            body: fill(
+                alloc,
+                "self.fields.get_pointer(@offset@)",
+                &[("offset", offset)],
+            )?,
         }));
     }
     if has_default(place) {

@@ -16,12 +16,12 @@ use std::alloc::{AllocError, Global};
 pub fn push_struct(
     alloc: Global,
     code: &mut Code,
-    request: &Request<'_>,
-    node: &Node<'_>,
-    body: &Struct<'_>,
+    request: &Request,
+    node: &Node,
+    body: &Struct,
 ) -> Result<(), AllocError> {
     let site = Site { request, node };
-    code.add_comment(node.comment)?;
+    code.add_comment(node.comment.as_str())?;
     open_module(alloc, code, node)?;
     let mut inner = Code::new(alloc, code.depth);
     push_reader(alloc, &mut inner, site, body)?;
@@ -33,8 +33,8 @@ pub fn push_struct(
 }
 
 /// Opens the module of a node.
-pub fn open_module(alloc: Global, code: &mut Code, node: &Node<'_>) -> Result<(), AllocError> {
-    let name = module(alloc, node.name)?;
+pub fn open_module(alloc: Global, code: &mut Code, node: &Node) -> Result<(), AllocError> {
+    let name = module(alloc, node.name.as_str())?;
     code.add("pub mod @name@ {", &[("name", name.as_str())])?;
     code.depth = code.depth.saturating_add(1);
     Ok(())
@@ -50,12 +50,19 @@ pub fn close_module(code: &mut Code) -> Result<(), AllocError> {
 fn push_reader(
     alloc: Global,
     code: &mut Code,
-    site: Site<'_, '_>,
-    body: &Struct<'_>,
+    site: Site<'_>,
+    body: &Struct,
 ) -> Result<(), AllocError> {
     code.add(if body.is_group { GROUP_READER } else { READER }, &[])?;
     if !body.fields.is_empty() {
-        code.add(if body.is_group { GROUP_IMPL } else { READER_IMPL }, &[])?;
+        code.add(
+            if body.is_group {
+                GROUP_IMPL
+            } else {
+                READER_IMPL
+            },
+            &[],
+        )?;
         code.depth = code.depth.saturating_add(1);
         let members = push_getters(alloc, code, site, body)?;
         close_module(code)?;
@@ -73,14 +80,14 @@ fn push_reader(
 fn push_getters(
     alloc: Global,
     code: &mut Code,
-    site: Site<'_, '_>,
-    body: &Struct<'_>,
+    site: Site<'_>,
+    body: &Struct,
 ) -> Result<Members, AllocError> {
     let mut members = Members::new(alloc);
     let mut index: usize = 0;
     for field in body.fields.as_slice() {
         let comment = match site.node.member_comments.get(index) {
-            Some(comment) => *comment,
+            Some(comment) => comment.as_str(),
             None => "",
         };
         if index > 0 {

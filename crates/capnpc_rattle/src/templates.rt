@@ -1,7 +1,8 @@
 //! The code that is written of structs, groups and enums, with `@name@` for what differs.
 
 /// What stands at the head of each file.
-pub const FILE: &str = "//! Types of `@file@`, made by `capnpc-rattle`: change that file, and make them again.
+pub const FILE: &str =
+    "//! Types of `@file@`, made by `capnpc-rattle`: change that file, and make them again.
 ";
 
 /// The types and the reader of a struct, before its fields.
@@ -160,7 +161,8 @@ elim @value@ [
 ]";
 
 /// How a view is read.
-pub const VIEW_BODY: &str = "FromPointerReader::get_from_pointer(self.fields.get_pointer(@offset@))";
+pub const VIEW_BODY: &str =
+    "FromPointerReader::get_from_pointer(self.fields.get_pointer(@offset@))";
 
 /// How a view is read that has a default.
 pub const DEFAULT_BODY: &str = "if self.fields.has_pointer(@offset@) {
@@ -216,7 +218,8 @@ pub const GROUP_BODY: &str = "@name@::Reader {
 }";
 
 /// What is said of a field that has no getter.
-pub const LEFT_OUT: &str = "// The field `@field@` is left out: it is an interface, or a list of them.
+pub const LEFT_OUT: &str =
+    "// The field `@field@` is left out: it is an interface, or a list of them.
 ";
 
 /// An enum, before its enumerants.

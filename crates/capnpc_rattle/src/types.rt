@@ -13,7 +13,7 @@ use std::num::{f32_to_bits_with_nan, f64_to_bits_with_nan};
 const MAX_LISTS: u32 = 64;
 
 /// A type. Of a list the type of its elements is read, and the list is counted.
-pub fn read_type<'a, S: ReaderSegments>(read: &type_::Reader<'a, S>) -> Result<Type> {
+pub fn read_type<S: ReaderSegments>(read: &type_::Reader<'_, S>) -> Result<Type> {
     let Some(mut element) = element_of(read)? else {
         return Ok(Type {
             lists: 0,
@@ -43,7 +43,7 @@ fn element_of<'a, S: ReaderSegments>(
 }
 
 // A type that is no list.
-fn read_base<'a, S: ReaderSegments>(read: &type_::Reader<'a, S>) -> Base {
+fn read_base<S: ReaderSegments>(read: &type_::Reader<'_, S>) -> Base {
     match read.which() {
         type_::Which::Void => Base::Void,
         type_::Which::Bool => Base::Bool,
@@ -75,10 +75,7 @@ fn read_base<'a, S: ReaderSegments>(read: &type_::Reader<'a, S>) -> Base {
 }
 
 /// A value.
-pub fn read_value<'a, S: ReaderSegments>(
-    alloc: Global,
-    read: &value::Reader<'a, S>,
-) -> Result<Value<'a>> {
+pub fn read_value<S: ReaderSegments>(alloc: Global, read: &value::Reader<'_, S>) -> Result<Value> {
     Ok(match read.which() {
         value::Which::Bool(is) => Value::Bits(is as u64),
         value::Which::Int8(number) => Value::Bits(number.cast_unsigned() as u64),
@@ -91,8 +88,10 @@ pub fn read_value<'a, S: ReaderSegments>(
         value::Which::Uint64(number) => Value::Bits(number),
         value::Which::Float32(number) => Value::Bits(f32_to_bits_with_nan(number) as u64),
         value::Which::Float64(number) => Value::Bits(f64_to_bits_with_nan(number)),
-        value::Which::Text(text) if read.has_text() => Value::Text(read_text(text?)?),
-        value::Which::Data(bytes) if read.has_data() => Value::Data(bytes?),
+        value::Which::Text(text) if read.has_text() => Value::Text(read_text(alloc, text?)?),
+        value::Which::Data(bytes) if read.has_data() => {
+            Value::Data(Vec::from_slice(alloc, bytes?)?)
+        }
         value::Which::List(pointer)
         | value::Which::Struct(pointer)
         | value::Which::AnyPointer(pointer) => read_object(alloc, &pointer)?,
@@ -102,10 +101,10 @@ pub fn read_value<'a, S: ReaderSegments>(
 }
 
 // What a pointer leads to: the bytes of a message of one segment with it as the root.
-fn read_object<'a, S: ReaderSegments>(
+fn read_object<S: ReaderSegments>(
     alloc: Global,
-    pointer: &any_pointer::Reader<'a, S>,
-) -> Result<Value<'a>> {
+    pointer: &any_pointer::Reader<'_, S>,
+) -> Result<Value> {
     if pointer.is_null() {
         return Ok(Value::Null);
     }

@@ -35,11 +35,11 @@ impl Members {
     pub fn push(
         &mut self,
         alloc: Global,
-        field: &Field<'_>,
+        field: &Field,
         number: u16,
         shown: Option<&Shown>,
     ) -> Result<(), AllocError> {
-        let variant = variant(alloc, field.name)?;
+        let variant = variant(alloc, field.name.as_str())?;
         self.count = self.count.saturating_add(1);
         match shown {
             None => {
@@ -48,9 +48,12 @@ impl Members {
                 write!(self.variants, "{variant},\n")
             }
             Some(shown) => {
-                let name = snake(alloc, field.name)?;
+                let name = snake(alloc, field.name.as_str())?;
                 self.push_case(alloc, variant.as_str(), number, shown)?;
-                write!(self.arms, "{number} => Which::{variant}(self.get_{name}()),\n")?;
+                write!(
+                    self.arms,
+                    "{number} => Which::{variant}(self.get_{name}()),\n"
+                )?;
                 let payload = fill(alloc, shown.type_name.as_str(), &[("borrow", "'b")])?;
                 write!(self.variants, "{variant}({payload}),\n")
             }
@@ -113,7 +116,7 @@ impl Members {
 pub fn push_which(
     alloc: Global,
     code: &mut Code,
-    site: Site<'_, '_>,
+    site: Site<'_>,
     offset: u32,
     members: &Members,
 ) -> Result<(), AllocError> {

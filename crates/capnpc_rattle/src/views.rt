@@ -63,7 +63,7 @@ impl View {
 /// interfaces, and any pointer by itself, whose getter never fails.
 pub fn view_of(
     alloc: Global,
-    request: &Request<'_>,
+    request: &Request,
     site: u64,
     of: Type,
     lender: Lender,
@@ -117,7 +117,7 @@ fn view_from(
 // The view of a type that is no list.
 fn single(
     alloc: Global,
-    request: &Request<'_>,
+    request: &Request,
     site: u64,
     base: Base,
 ) -> Result<Option<View>, AllocError> {
@@ -154,7 +154,7 @@ fn single(
 // The view of a list of a type that is no list.
 fn list(
     alloc: Global,
-    request: &Request<'_>,
+    request: &Request,
     site: u64,
     base: Base,
 ) -> Result<Option<View>, AllocError> {
@@ -184,7 +184,7 @@ fn list(
 // The view of a list of lists, from that of the innermost list outwards.
 fn list_of_lists(
     alloc: Global,
-    request: &Request<'_>,
+    request: &Request,
     site: u64,
     of: Type,
 ) -> Result<Option<View>, AllocError> {

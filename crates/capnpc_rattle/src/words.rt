@@ -6,10 +6,10 @@ use std::alloc::{AllocError, Global};
 use std::fmt::Write;
 
 /// The bytes of a message of one segment whose root is a value that a pointer leads to.
-pub fn words_of(alloc: Global, value: &Value<'_>) -> Result<Vec<u8>, AllocError> {
+pub fn words_of(alloc: Global, value: &Value) -> Result<Vec<u8>, AllocError> {
     match value {
         Value::Text(text) => list_of_bytes(alloc, text.as_bytes(), true),
-        Value::Data(bytes) => list_of_bytes(alloc, bytes, false),
+        Value::Data(bytes) => list_of_bytes(alloc, bytes.as_slice(), false),
         Value::Object(words) => Vec::from_slice(alloc, words.as_slice()),
         Value::Bits(_) | Value::Null => Vec::from_slice(alloc, &[0; 8]),
     }
@@ -19,7 +19,9 @@ pub fn words_of(alloc: Global, value: &Value<'_>) -> Result<Vec<u8>, AllocError>
 // is a text.
 fn list_of_bytes(alloc: Global, bytes: &[u8], is_text: bool) -> Result<Vec<u8>, AllocError> {
     let count = (bytes.len() as u64).saturating_add(is_text as u64);
-    let root = 1u64.wrapping_add(2 << 32).wrapping_add(count.wrapping_shl(35));
+    let root = 1u64
+        .wrapping_add(2 << 32)
+        .wrapping_add(count.wrapping_shl(35));
     let mut words = Vec::from_slice(alloc, &root.to_le_bytes())?;
     words.extend_from_slice(bytes)?;
     if is_text {

@@ -1,6 +1,8 @@
 //! Types of `sample.capnp`, made by `capnpc-rattle`: change that file, and make them again.
-ghost use Rattle.std.specs.Prelude.{◌≡◌, ◌≤◌, ◌<◌, ◌==◌, ◌↔◌, IsTrue, bit_xor, length};
+ghost use Rattle.std.specs.Prelude.{◌≡◌, ◌≤◌, ◌<◌, ◌==◌, ◌↔◌, IsTrue, bit_xor, from_bits, length};
+ghost use Rattle.std.specs.Float.{binary64};
 ghost use Rattle.std.specs.Int.{w32, cast_signed};
+ghost use Rattle.capnp_constant.specs.Constants.{segments_of, root_of};
 ghost use Rattle.capnp_wire.specs.Fields.{field};
 ghost use Rattle.capnp_wire.specs.ListViews.{element_of};
 ghost use Rattle.capnp_wire.specs.Object.{nothing};
@@ -8,6 +10,29 @@ ghost use Rattle.capnp_wire.specs.Readers.{struct_of, pointer_of};
 ghost use Rattle.capnp_wire.specs.UpgradedReaders.{upgraded_structs_of, upgraded_numbers_of};
 ghost use Rattle.capnp_wire.specs.UpgradedViews.{IsUpgradedStructs, ReadsAsNumbers, TakesRows, TakesFields, DeclinesRows, DeclinesFields};
 ghost use Rattle.capnp_wire.specs.Views.{IsViewOf, IsStruct, IsText, IsData, Accepts, Refuses, Declines, Denotes, Reads, TakesStruct, TakesText, TakesNumbers, DeclinesStruct, DeclinesText, DeclinesNumbers, pointer_in};
+
+use capnp_constant::Words;
+use capnp_frame::Result;
+use capnp_wire::traits::FromPointerReader;
+
+pub const LIMIT: u32 = 1000;
+
+#[rattlefmt::skip]
+pub static CORNER: Words<16> = Words { bytes: [
+    0, 0, 0, 0, 1, 0, 0, 0,
+    128, 2, 0, 0, 224, 1, 0, 0,
+] };
+
+/// The constant `corner`.
+pub fn get_corner() -> Result<point::Reader<'static, Words<16>>>
+    ensures { let pointer = root_of CORNER in
+        IsViewOf pointer
+        (λ view. IsStruct pointer (struct_of segments_of view.fields))
+        (Accepts pointer TakesStruct) (Refuses pointer DeclinesStruct)
+        (Declines pointer DeclinesStruct) result }
+{
+    FromPointerReader::get_from_pointer(CORNER.get_root())
+}
 
 /// A point of a plane.
 pub mod point {
@@ -154,9 +179,11 @@ impl Color {
 /// A struct with a field of each kind.
 pub mod sample {
     use super::Color;
+    use capnp_constant::{OrDefault, Words};
     use capnp_frame::Result;
     use capnp_frame::message::ReaderSegments;
     use capnp_wire::any_struct::StructReader;
+    use capnp_wire::primitive_element::PrimitiveElement;
     use capnp_wire::traits::{self, FromPointerReader};
     use capnp_wire::{any_pointer, text, upgraded};
 
@@ -354,6 +381,97 @@ pub mod sample {
             self.fields.has_pointer(5)
         }
 
+        /// The field `ratio`.
+        pub fn get_ratio(&self) -> f64
+            ensures { let fields = struct_of S.segments self.now.fields in
+                result ≡ from_bits binary64 (bit_xor (field fields.words 64 3) 4602678819172646912) }
+        {
+            let bits: u64 = self.fields.get_data_field_mask(3, 4602678819172646912);
+            PrimitiveElement::from_bits(bits)
+        }
+
+        /// The field `note`.
+        pub fn get_note(&self) -> Result<text::Reader<'a>>
+            ensures { let fields = struct_of S.segments self.now.fields in
+                let pointer = pointer_in fields 6 in
+                ((Denotes pointer nothing → ⊥) → IsViewOf pointer
+                (λ view. Reads pointer (λ form. IsText form view.bytes.now))
+                (Accepts pointer TakesText) (Refuses pointer DeclinesText)
+                (Declines pointer DeclinesText) result)
+                × (Denotes pointer nothing → (let pointer = root_of NOTE_DEFAULT in
+                IsViewOf pointer
+                (λ view. Reads pointer (λ form. IsText form view.bytes.now))
+                (Accepts pointer TakesText) (Refuses pointer DeclinesText)
+                (Declines pointer DeclinesText) result)) }
+        {
+            if self.fields.has_pointer(6) {
+                FromPointerReader::get_from_pointer(self.fields.get_pointer(6))
+            } else {
+                FromPointerReader::get_from_pointer(NOTE_DEFAULT.get_root())
+            }
+        }
+
+        /// Whether `note` is there, and is not null.
+        pub fn has_note(&self) -> bool
+            ensures { let fields = struct_of S.segments self.now.fields in
+                IsTrue result ↔ (Denotes (pointer_in fields 6) nothing → ⊥) }
+        {
+            self.fields.has_pointer(6)
+        }
+
+        /// The field `target`.
+        pub fn get_target(
+            &self,
+        ) -> OrDefault<super::point::Reader<'a, S>, super::point::Reader<'static, Words<16>>>
+            ensures { let fields = struct_of S.segments self.now.fields in
+                let pointer = pointer_in fields 7 in
+                elim result [
+                  | OrDefault.Stored view ↦ (Denotes pointer nothing → ⊥) ×
+                      (IsViewOf pointer
+                      (λ view. IsStruct pointer (struct_of S.segments view.fields))
+                      (Accepts pointer TakesStruct) (Refuses pointer DeclinesStruct)
+                      (Declines pointer DeclinesStruct) view)
+                  | OrDefault.Default view ↦ Denotes pointer nothing ×
+                      (let pointer = root_of TARGET_DEFAULT in
+                      IsViewOf pointer
+                      (λ view. IsStruct pointer (struct_of segments_of view.fields))
+                      (Accepts pointer TakesStruct) (Refuses pointer DeclinesStruct)
+                      (Declines pointer DeclinesStruct) view)
+                ] }
+        {
+            if self.fields.has_pointer(7) {
+                let view = FromPointerReader::get_from_pointer(self.fields.get_pointer(7));
+                OrDefault::Stored(view)
+            } else {
+                let view = FromPointerReader::get_from_pointer(TARGET_DEFAULT.get_root());
+                OrDefault::Default(view)
+            }
+        }
+
+        /// Whether `target` is there, and is not null.
+        pub fn has_target(&self) -> bool
+            ensures { let fields = struct_of S.segments self.now.fields in
+                IsTrue result ↔ (Denotes (pointer_in fields 7) nothing → ⊥) }
+        {
+            self.fields.has_pointer(7)
+        }
+
+        /// The field `anything`.
+        pub fn get_anything(&self) -> any_pointer::Reader<'a, S>
+            ensures { let fields = struct_of S.segments self.now.fields in
+                pointer_of S.segments result ≡ pointer_in fields 8 }
+        {
+            self.fields.get_pointer(8)
+        }
+
+        /// Whether `anything` is there, and is not null.
+        pub fn has_anything(&self) -> bool
+            ensures { let fields = struct_of S.segments self.now.fields in
+                IsTrue result ↔ (Denotes (pointer_in fields 8) nothing → ⊥) }
+        {
+            self.fields.has_pointer(8)
+        }
+
         /// Which member of the union is there, and its value.
         pub fn which(&self) -> Which<'a>
             ensures { let fields = struct_of S.segments self.now.fields in
@@ -460,6 +578,20 @@ pub mod sample {
             }
         }
     }
+
+    /// The default of the field `note`, as the words of a message.
+    #[rattlefmt::skip]
+    pub static NOTE_DEFAULT: Words<16> = Words { bytes: [
+        1, 0, 0, 0, 42, 0, 0, 0,
+        110, 111, 110, 101, 0, 0, 0, 0,
+    ] };
+
+    /// The default of the field `target`, as the words of a message.
+    #[rattlefmt::skip]
+    pub static TARGET_DEFAULT: Words<16> = Words { bytes: [
+        0, 0, 0, 0, 1, 0, 0, 0,
+        3, 0, 0, 0, 4, 0, 0, 0,
+    ] };
 
     /// What is seen of it.
     pub mod window {
