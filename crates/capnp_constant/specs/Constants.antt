@@ -8,6 +8,6 @@ use Rattle.capnp_constant.specs.declared.Words.{Words}
 abbrev pub segments_of : {size : ℕ} → Words size → List (List ℕ)
 segments_of words = words.bytes ∷ []
 
--- the root pointer, which is read without limits
-abbrev pub root_of : {size : ℕ} → Words size → Pointer
+-- the root pointer, which is read without limits; a proof that needs its place unfolds it, and no other one reads its words
+unfoldable pub root_of : {size : ℕ} → Words size → Pointer
 root_of words = unlimited_root (segments_of words)

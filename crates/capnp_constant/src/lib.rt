@@ -32,8 +32,9 @@ impl<const N: usize> ReaderSegments for Words<N> {
 impl<const N: usize> Words<N> {
     ghost use Rattle.capnp_constant.specs.Constants.{segments_of, root_of};
 
-    /// The root pointer, which is read without limits: what stands in a program is read once for each
-    /// view, and no deeper than it was written.
+    /// The root pointer, which is read without limits: what stands in a program is as large and as deep as it
+    /// was written.
+    #[tactic(auto, unfolding(crate::specs::Constants::root_of))]
     pub fn get_root(&self) -> any_pointer::Reader<'_, Words<N>>
         ensures { pointer_of segments_of result ≡ root_of self.now }
     {

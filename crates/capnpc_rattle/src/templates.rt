@@ -150,7 +150,7 @@ pub const DEFAULT_FACT: &str = "let pointer = pointer_in fields @offset@ in
 × (Denotes pointer nothing → (let pointer = root_of @default@ in
 @fact@))";
 
-/// The same, where a view is bound to the segments that it reads.
+/// What it says where a view is bound to the segments that it reads.
 pub const OR_DEFAULT_FACT: &str = "let pointer = pointer_in fields @offset@ in
 elim @value@ [
   | OrDefault.Stored view ↦ (Denotes pointer nothing → ⊥) ×
@@ -165,19 +165,20 @@ pub const VIEW_BODY: &str =
     "FromPointerReader::get_from_pointer(self.fields.get_pointer(@offset@))";
 
 /// How a view is read that has a default.
-pub const DEFAULT_BODY: &str = "if self.fields.has_pointer(@offset@) {
-    FromPointerReader::get_from_pointer(self.fields.get_pointer(@offset@))
-} else {
+pub const DEFAULT_BODY: &str = "let pointer = self.fields.get_pointer(@offset@);
+if pointer.is_null() {
     FromPointerReader::get_from_pointer(@default@.get_root())
+} else {
+    FromPointerReader::get_from_pointer(pointer)
 }";
 
-/// The same, where a view is bound to the segments that it reads.
-pub const OR_DEFAULT_BODY: &str = "if self.fields.has_pointer(@offset@) {
-    let view = FromPointerReader::get_from_pointer(self.fields.get_pointer(@offset@));
-    OrDefault::Stored(view)
-} else {
+/// How it is read where a view is bound to the segments that it reads.
+pub const OR_DEFAULT_BODY: &str = "let pointer = self.fields.get_pointer(@offset@);
+if pointer.is_null() {
     let view = FromPointerReader::get_from_pointer(@default@.get_root());
     OrDefault::Default(view)
+} else {
+    OrDefault::Stored(FromPointerReader::get_from_pointer(pointer))
 }";
 
 /// A constant or a default, as the words of a message.
@@ -266,7 +267,7 @@ pub fn which(&self) -> Which@arguments@
 pub const CASE: &str = "  | Which.@variant@ value ↦ (number ≡ @number@) × (@fact@)
 ";
 
-/// The same, where the fact has some lines.
+/// That case where the fact has some lines.
 pub const LONG_CASE: &str = "  | Which.@variant@ value ↦ (number ≡ @number@) ×
       (@fact@)
 ";

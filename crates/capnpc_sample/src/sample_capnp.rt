@@ -404,10 +404,11 @@ pub mod sample {
                 (Accepts pointer TakesText) (Refuses pointer DeclinesText)
                 (Declines pointer DeclinesText) result)) }
         {
-            if self.fields.has_pointer(6) {
-                FromPointerReader::get_from_pointer(self.fields.get_pointer(6))
-            } else {
+            let pointer = self.fields.get_pointer(6);
+            if pointer.is_null() {
                 FromPointerReader::get_from_pointer(NOTE_DEFAULT.get_root())
+            } else {
+                FromPointerReader::get_from_pointer(pointer)
             }
         }
 
@@ -439,12 +440,12 @@ pub mod sample {
                       (Declines pointer DeclinesStruct) view)
                 ] }
         {
-            if self.fields.has_pointer(7) {
-                let view = FromPointerReader::get_from_pointer(self.fields.get_pointer(7));
-                OrDefault::Stored(view)
-            } else {
+            let pointer = self.fields.get_pointer(7);
+            if pointer.is_null() {
                 let view = FromPointerReader::get_from_pointer(TARGET_DEFAULT.get_root());
                 OrDefault::Default(view)
+            } else {
+                OrDefault::Stored(FromPointerReader::get_from_pointer(pointer))
             }
         }
 
