@@ -40,7 +40,5 @@ struct Sample {
     label @13 :Text;
   }
   ratio @14 :Float64 = 0.5;
-  note @15 :Text = "none";
-  target @16 :Point = (x = 3, y = 4);
-  anything @17 :AnyPointer;
+  anything @15 :AnyPointer;
 }
