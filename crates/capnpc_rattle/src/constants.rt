@@ -5,8 +5,8 @@ use crate::numbers::{literal, number_of};
 use crate::paths::path_to;
 use crate::schema::{Base, Body, Node, Request, Type, Value};
 use crate::signatures::{WIDTH, signature};
-use crate::templates::GET_CONSTANT;
-use crate::views::{CONSTANT, view_of};
+use crate::templates::GET_WORDS;
+use crate::views::{CONSTANT, View, view_of};
 use crate::words::push_words;
 use std::alloc::{AllocError, Global};
 
@@ -62,7 +62,7 @@ fn push_constant(
     }
 }
 
-// Adds a constant that is a struct or a list: its words, and what reads them.
+// Adds a constant that is a struct or a list.
 fn push_object(
     alloc: Global,
     code: &mut Code,
@@ -72,22 +72,46 @@ fn push_object(
     words: &[u8],
 ) -> Result<(), AllocError> {
     let name = constant(alloc, node.name.as_str())?;
-    let name = name.as_str();
     let Some(view) = view_of(alloc, request, node.scope, of, CONSTANT)? else {
-        return code.add("// The constant `@name@` is left out.", &[("name", name)]);
+        return code.add(
+            "// The constant `@name@` is left out.",
+            &[("name", name.as_str())],
+        );
     };
+    let title = format!(in alloc; "The constant `{}`.", node.name)?;
     let getter = snake(alloc, node.name.as_str())?;
+    push_view(
+        alloc,
+        code,
+        title.as_str(),
+        name.as_str(),
+        getter.as_str(),
+        &view,
+        words,
+    )
+}
+
+/// Adds words as a `static` of this name, and the getter that returns a view of them.
+pub fn push_view(
+    alloc: Global,
+    code: &mut Code,
+    title: &str,
+    name: &str,
+    getter: &str,
+    view: &View,
+    words: &[u8],
+) -> Result<(), AllocError> {
     let type_name = view.type_name.as_str();
     let type_name = format!(in alloc; "Result<{type_name}>")?;
     let size = format!(in alloc; "{}", words.len())?;
     let type_name = fill(alloc, type_name.as_str(), &[("size", size.as_str())])?;
-    let signature = signature(alloc, code.depth, getter.as_str(), "", type_name.as_str())?;
+    let signature = signature(alloc, code.depth, getter, "", type_name.as_str())?;
     let fact = view.fact(alloc, "result")?;
     push_words(alloc, code, name, words)?;
     code.add(
-        GET_CONSTANT,
+        GET_WORDS,
         &[
-            ("field", node.name.as_str()),
+            ("title", title),
             ("name", name),
             ("signature", signature.as_str()),
             ("fact", fact.as_str()),

@@ -1,11 +1,12 @@
 //! Defaults of pointers.
 use crate::code::{Code, fill};
-use crate::names::default_name;
+use crate::constants::push_view;
+use crate::names::{default_name, snake};
 use crate::schema::{Base, Field, Place, Slot, Struct, Value};
 use crate::shown::{Shown, Site};
 use crate::templates::{DEFAULT_BODY, DEFAULT_FACT, OR_DEFAULT_BODY, OR_DEFAULT_FACT};
 use crate::views::{CONSTANT, MESSAGE, View, is_plain, view_of};
-use crate::words::{push_words, words_of};
+use crate::words::words_of;
 use std::alloc::{AllocError, Global};
 
 /// Whether a pointer has a default that reads otherwise than null does.
@@ -38,12 +39,14 @@ pub fn shown_default(
     let is_plain = is_plain(place.of);
     let result = if is_plain { "@value@" } else { "view" };
     let offset = format!(in alloc; "{}", place.offset)?;
-    let name = default_name(alloc, field.name.as_str())?;
+    let words = default_name(alloc, field.name.as_str())?;
+    let name = snake(alloc, field.name.as_str())?;
     let stored_fact = stored.fact(alloc, result)?;
     let default_fact = default.fact(alloc, result)?;
     let holes = [
         ("offset", offset.as_str()),
-        ("default", name.as_str()),
+        ("default", words.as_str()),
+        ("name", name.as_str()),
         ("stored", stored_fact.as_str()),
         ("fact", default_fact.as_str()),
     ];
@@ -71,22 +74,47 @@ fn sized_type(alloc: Global, view: &View, place: &Place) -> Result<String, Alloc
     fill(alloc, view.type_name.as_str(), &[("size", size.as_str())])
 }
 
-/// Adds the words of the defaults of a struct's pointers.
-pub fn push_defaults(alloc: Global, code: &mut Code, body: &Struct) -> Result<(), AllocError> {
+/// Adds the defaults of a struct's pointers.
+pub fn push_defaults(
+    alloc: Global,
+    code: &mut Code,
+    site: Site<'_>,
+    body: &Struct,
+) -> Result<(), AllocError> {
     for field in body.fields.as_slice() {
-        let Slot::At(place) = &field.slot else {
-            continue;
-        };
-        if !has_default(place) {
-            continue;
+        if let Slot::At(place) = &field.slot
+            && has_default(place)
+        {
+            push_default(alloc, code, site, field, place)?;
         }
-        let name = default_name(alloc, field.name.as_str())?;
-        code.add(
-            "\n/// The default of the field `@field@`, as the words of a message.",
-            &[("field", field.name.as_str())],
-        )?;
-        let words = words_of(alloc, &place.default)?;
-        push_words(alloc, code, name.as_str(), words.as_slice())?;
     }
     Ok(())
+}
+
+// Adds the default of a pointer: its words, and the getter that returns a view of them.
+fn push_default(
+    alloc: Global,
+    code: &mut Code,
+    site: Site<'_>,
+    field: &Field,
+    place: &Place,
+) -> Result<(), AllocError> {
+    let Some(view) = view_of(alloc, site.request, site.node.id, place.of, CONSTANT)? else {
+        return Ok(());
+    };
+    let title = format!(in alloc; "The default of the field `{}`.", field.name)?;
+    let name = default_name(alloc, field.name.as_str())?;
+    let mut getter = snake(alloc, field.name.as_str())?;
+    getter.push_str("_default")?;
+    let words = words_of(alloc, &place.default)?;
+    code.add_gap()?;
+    push_view(
+        alloc,
+        code,
+        title.as_str(),
+        name.as_str(),
+        getter.as_str(),
+        &view,
+        words.as_slice(),
+    )
 }

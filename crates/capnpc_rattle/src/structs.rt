@@ -73,7 +73,7 @@ fn push_reader(
     if !body.is_group {
         code.add(FROM_POINTER, &[])?;
     }
-    push_defaults(alloc, code, body)
+    push_defaults(alloc, code, site, body)
 }
 
 // Adds the getters, and returns the members of the union, where there is one.

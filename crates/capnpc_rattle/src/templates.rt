@@ -167,7 +167,7 @@ pub const VIEW_BODY: &str =
 /// How a view is read that has a default.
 pub const DEFAULT_BODY: &str = "let pointer = self.fields.get_pointer(@offset@);
 if pointer.is_null() {
-    FromPointerReader::get_from_pointer(@default@.get_root())
+    get_@name@_default()
 } else {
     FromPointerReader::get_from_pointer(pointer)
 }";
@@ -175,8 +175,7 @@ if pointer.is_null() {
 /// How it is read where a view is bound to the segments that it reads.
 pub const OR_DEFAULT_BODY: &str = "let pointer = self.fields.get_pointer(@offset@);
 if pointer.is_null() {
-    let view = FromPointerReader::get_from_pointer(@default@.get_root());
-    OrDefault::Default(view)
+    OrDefault::Default(get_@name@_default())
 } else {
     OrDefault::Stored(FromPointerReader::get_from_pointer(pointer))
 }";
@@ -188,9 +187,9 @@ pub static @name@: Words<@size@> = Words { bytes: [
 ] };
 ";
 
-/// What reads a constant.
-pub const GET_CONSTANT: &str = "
-/// The constant `@field@`.
+/// What reads a constant or a default.
+pub const GET_WORDS: &str = "
+/// @title@
 @signature@
     ensures { let pointer = root_of @name@ in
         @fact@ }
