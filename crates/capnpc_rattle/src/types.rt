@@ -110,8 +110,8 @@ fn read_object<S: ReaderSegments>(
     }
     let words = pointer.measure(false)?;
     let mut block = vec![in alloc; 0u8; 8 * words as usize]?;
-    let root = pointer.write(false, &mut block);
-    let mut bytes = Vec::from_slice(alloc, &root.bytes())?;
+    let copied = pointer.write(false, &mut block, 0, 0);
+    let mut bytes = Vec::from_slice(alloc, &copied.pointer.to_le_bytes())?;
     bytes.extend_from_slice(block.as_slice())?;
     Ok(Value::Object(bytes))
 }
