@@ -1,12 +1,52 @@
 //! Code that is written, line by line, at some depth of modules.
 use std::alloc::{AllocError, Global};
 
-/// What stands for a name in a template.
-pub type Hole<'a> = (&'a str, &'a str);
+/// A name in a template, and the text that stands for it.
+#[derive(Drop)]
+struct Hole {
+    name: String,
+    text: String,
+}
+
+/// The texts that stand for names in a template.
+#[derive(Drop)]
+pub struct Holes {
+    alloc: Global,
+    holes: Vec<Hole>,
+}
+
+impl Holes {
+    /// No texts.
+    pub fn new(alloc: Global) -> Holes {
+        Holes {
+            alloc,
+            holes: Vec::new(alloc),
+        }
+    }
+
+    /// With one more text, which stands for this name.
+    pub fn with(mut self, name: &str, text: &str) -> Result<Holes, AllocError> {
+        let name = String::from_str(self.alloc, name)?;
+        let text = String::from_str(self.alloc, text)?;
+        self.holes.push(Hole { name, text })?;
+        Ok(self)
+    }
+
+    // What stands for a name.
+    fn text_of(&self, name: &str) -> Option<&str> {
+        for hole in self.holes.as_slice() {
+            if hole.name.as_str() == name {
+                return Some(hole.text.as_str());
+            }
+        }
+        None
+    }
+}
 
 /// Code that is written.
 #[derive(Drop)]
 pub struct Code {
+    alloc: Global,
     pub text: String,
     /// How many modules, and blocks of them, are open.
     pub depth: usize,
@@ -16,6 +56,7 @@ impl Code {
     /// No code, at a depth of modules.
     pub fn new(alloc: Global, depth: usize) -> Code {
         Code {
+            alloc,
             text: String::new(alloc),
             depth,
         }
@@ -23,11 +64,23 @@ impl Code {
 
     /// Adds the lines of a template, in which `@name@` stands for the text of that hole. Where this text
     /// has some lines, each begins where the line of the hole does.
-    pub fn add(&mut self, template: &str, holes: &[Hole<'_>]) -> Result<(), AllocError> {
+    pub fn add(&mut self, template: &str, holes: &Holes) -> Result<(), AllocError> {
         for line in template.lines() {
             self.add_line(line, holes)?;
         }
         Ok(())
+    }
+
+    /// Adds the lines of a template with one name, for which this text stands.
+    pub fn add_with(&mut self, template: &str, name: &str, text: &str) -> Result<(), AllocError> {
+        let holes = Holes::new(self.alloc).with(name, text)?;
+        self.add(template, &holes)
+    }
+
+    /// Adds lines as they are.
+    pub fn add_lines(&mut self, lines: &str) -> Result<(), AllocError> {
+        let holes = Holes::new(self.alloc);
+        self.add(lines, &holes)
     }
 
     /// Adds an empty line.
@@ -40,16 +93,16 @@ impl Code {
         for line in comment.lines() {
             let line = line.trim_end();
             if line.is_empty() {
-                self.add("///", &[])?;
+                self.add_lines("///")?;
             } else {
-                self.add("/// @line@", &[("line", line)])?;
+                self.add_with("/// @line@", "line", line)?;
             }
         }
         Ok(())
     }
 
     // Adds one line.
-    fn add_line(&mut self, line: &str, holes: &[Hole<'_>]) -> Result<(), AllocError> {
+    fn add_line(&mut self, line: &str, holes: &Holes) -> Result<(), AllocError> {
         let spaces = line.len().saturating_sub(line.trim_start().len());
         if !line.is_empty() {
             self.indent(0)?;
@@ -67,13 +120,8 @@ impl Code {
     }
 
     // Adds the text of a hole, of a line that begins with some spaces. One that has no text stays.
-    fn add_hole(
-        &mut self,
-        name: &str,
-        holes: &[Hole<'_>],
-        spaces: usize,
-    ) -> Result<(), AllocError> {
-        let Some(text) = text_of(name, holes) else {
+    fn add_hole(&mut self, name: &str, holes: &Holes, spaces: usize) -> Result<(), AllocError> {
+        let Some(text) = holes.text_of(name) else {
             self.text.push('@')?;
             self.text.push_str(name)?;
             return self.text.push('@');
@@ -102,20 +150,20 @@ impl Code {
     }
 }
 
-// What stands for a name.
-fn text_of<'a>(name: &str, holes: &[Hole<'a>]) -> Option<&'a str> {
-    for hole in holes {
-        if hole.0 == name {
-            return Some(hole.1);
-        }
-    }
-    None
-}
-
 /// A template whose holes are filled, with no end of a line after it. A hole that has no text stays.
-pub fn fill(alloc: Global, template: &str, holes: &[Hole<'_>]) -> Result<String, AllocError> {
+pub fn fill(alloc: Global, template: &str, holes: &Holes) -> Result<String, AllocError> {
     let mut code = Code::new(alloc, 0);
     code.add(template, holes)?;
     let _ = code.text.pop();
     Ok(code.text)
+}
+
+/// A template so filled that has one name, for which this text stands.
+pub fn fill_with(
+    alloc: Global,
+    template: &str,
+    name: &str,
+    text: &str,
+) -> Result<String, AllocError> {
+    fill(alloc, template, &Holes::new(alloc).with(name, text)?)
 }

@@ -1,5 +1,5 @@
 //! Constants.
-use crate::code::{Code, fill};
+use crate::code::{Code, Holes, fill_with};
 use crate::names::{constant, snake, variant};
 use crate::numbers::{literal, number_of};
 use crate::paths::path_to;
@@ -9,6 +9,9 @@ use crate::templates::GET_WORDS;
 use crate::views::{CONSTANT, View, view_of};
 use crate::words::push_words;
 use std::alloc::{AllocError, Global};
+
+// What is said of a constant that is not written.
+const LEFT_OUT: &str = "// The constant `@name@` is left out.";
 
 /// Adds the constants that are declared in a node.
 pub fn push_constants(
@@ -58,7 +61,7 @@ fn push_constant(
             push_line(alloc, code, name, "&[u8]", value.as_str())
         }
         Value::Object(words) => push_object(alloc, code, request, node, of, words.as_slice()),
-        _ => code.add("// The constant `@name@` is left out.", &[("name", name)]),
+        _ => code.add_with(LEFT_OUT, "name", name),
     }
 }
 
@@ -73,10 +76,7 @@ fn push_object(
 ) -> Result<(), AllocError> {
     let name = constant(alloc, node.name.as_str())?;
     let Some(view) = view_of(alloc, request, node.scope, of, CONSTANT)? else {
-        return code.add(
-            "// The constant `@name@` is left out.",
-            &[("name", name.as_str())],
-        );
+        return code.add_with(LEFT_OUT, "name", name.as_str());
     };
     let title = format!(in alloc; "The constant `{}`.", node.name)?;
     let getter = snake(alloc, node.name.as_str())?;
@@ -104,19 +104,16 @@ pub fn push_view(
     let type_name = view.type_name.as_str();
     let type_name = format!(in alloc; "Result<{type_name}>")?;
     let size = format!(in alloc; "{}", words.len())?;
-    let type_name = fill(alloc, type_name.as_str(), &[("size", size.as_str())])?;
+    let type_name = fill_with(alloc, type_name.as_str(), "size", size.as_str())?;
     let signature = signature(alloc, code.depth, getter, "", type_name.as_str())?;
     let fact = view.fact(alloc, "result")?;
     push_words(alloc, code, name, words)?;
-    code.add(
-        GET_WORDS,
-        &[
-            ("title", title),
-            ("name", name),
-            ("signature", signature.as_str()),
-            ("fact", fact.as_str()),
-        ],
-    )
+    let holes = Holes::new(alloc)
+        .with("title", title)?
+        .with("name", name)?
+        .with("signature", signature.as_str())?
+        .with("fact", fact.as_str())?;
+    code.add(GET_WORDS, &holes)
 }
 
 // Adds the line of a constant; its value on one of its own where it is too wide.
@@ -129,12 +126,13 @@ fn push_line(
 ) -> Result<(), AllocError> {
     let line = format!(in alloc; "pub const {name}: {type_name} = {value};")?;
     if code.depth.saturating_mul(4).saturating_add(line.len()) <= WIDTH {
-        return code.add("@line@", &[("line", line.as_str())]);
+        return code.add_with("@line@", "line", line.as_str());
     }
-    code.add(
-        "pub const @name@: @type@ =\n    @value@;",
-        &[("name", name), ("type", type_name), ("value", value)],
-    )
+    let holes = Holes::new(alloc)
+        .with("name", name)?
+        .with("type", type_name)?
+        .with("value", value)?;
+    code.add("pub const @name@: @type@ =\n    @value@;", &holes)
 }
 
 // Adds a constant that is an enumerant.

@@ -1,5 +1,5 @@
 //! Defaults of pointers.
-use crate::code::{Code, fill};
+use crate::code::{Code, Holes, fill, fill_with};
 use crate::constants::push_view;
 use crate::names::{default_name, snake};
 use crate::schema::{Base, Field, Place, Slot, Struct, Value};
@@ -43,13 +43,12 @@ pub fn shown_default(
     let name = snake(alloc, field.name.as_str())?;
     let stored_fact = stored.fact(alloc, result)?;
     let default_fact = default.fact(alloc, result)?;
-    let holes = [
-        ("offset", offset.as_str()),
-        ("default", words.as_str()),
-        ("name", name.as_str()),
-        ("stored", stored_fact.as_str()),
-        ("fact", default_fact.as_str()),
-    ];
+    let holes = Holes::new(alloc)
+        .with("offset", offset.as_str())?
+        .with("default", words.as_str())?
+        .with("name", name.as_str())?
+        .with("stored", stored_fact.as_str())?
+        .with("fact", default_fact.as_str())?;
     let default = sized_type(alloc, &default, place)?;
     let (stored, default) = (stored.type_name.as_str(), default.as_str());
     Ok(Some(if is_plain {
@@ -71,7 +70,7 @@ pub fn shown_default(
 fn sized_type(alloc: Global, view: &View, place: &Place) -> Result<String, AllocError> {
     let words = words_of(alloc, &place.default)?;
     let size = format!(in alloc; "{}", words.len())?;
-    fill(alloc, view.type_name.as_str(), &[("size", size.as_str())])
+    fill_with(alloc, view.type_name.as_str(), "size", size.as_str())
 }
 
 /// Adds the defaults of a struct's pointers.

@@ -1,5 +1,5 @@
 //! Enums.
-use crate::code::Code;
+use crate::code::{Code, Holes};
 use crate::names::{enum_type, scope_name, variant};
 use crate::paths::path_to;
 use crate::schema::{Base, Body, Field, Node, Request, Slot};
@@ -168,7 +168,7 @@ pub fn push_enum(
     let type_name = enum_type(alloc, node.name.as_str())?;
     let type_name = type_name.as_str();
     code.add_comment(node.comment.as_str())?;
-    code.add(ENUM_HEAD, &[("type", type_name)])?;
+    code.add_with(ENUM_HEAD, "type", type_name)?;
     code.depth = code.depth.saturating_add(1);
     let mut arms = String::new(alloc);
     let mut index: usize = 0;
@@ -178,19 +178,16 @@ pub fn push_enum(
         }
         let variant = variant(alloc, name.as_str())?;
         let variant = variant.as_str();
-        code.add("@name@,", &[("name", variant)])?;
+        code.add_with("@name@,", "name", variant)?;
         write!(arms, "{index} => {type_name}::{variant},\n")?;
         index = index.saturating_add(1);
     }
     write!(arms, "unknown => {type_name}::NotInSchema(unknown),")?;
     code.depth = code.depth.saturating_sub(1);
     let cases = cases_of(alloc, request, node.id, type_name)?;
-    code.add(
-        ENUM_END,
-        &[
-            ("type", type_name),
-            ("cases", cases.as_str()),
-            ("arms", arms.as_str()),
-        ],
-    )
+    let holes = Holes::new(alloc)
+        .with("type", type_name)?
+        .with("cases", cases.as_str())?
+        .with("arms", arms.as_str())?;
+    code.add(ENUM_END, &holes)
 }

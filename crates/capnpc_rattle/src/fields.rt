@@ -1,5 +1,5 @@
 //! The getters of fields.
-use crate::code::{Code, fill};
+use crate::code::{Code, Holes, fill_with};
 use crate::names::snake;
 use crate::numbers::number_of;
 use crate::schema::{Base, Field, Place, Slot};
@@ -21,35 +21,28 @@ pub fn push_field(
     let name = name.as_str();
     let Some(shown) = shown else {
         if !is_nothing(field) {
-            return code.add(LEFT_OUT, &[("field", field.name.as_str())]);
+            return code.add_with(LEFT_OUT, "field", field.name.as_str());
         }
         push_comment(code, field, comment)?;
-        return code.add(VOID, &[("name", name)]);
+        return code.add_with(VOID, "name", name);
     };
     push_comment(code, field, comment)?;
-    let type_name = fill(
-        alloc,
-        shown.type_name.as_str(),
-        &[("borrow", site.borrow())],
-    )?;
+    let type_name = fill_with(alloc, shown.type_name.as_str(), "borrow", site.borrow())?;
     let signature = signature(alloc, code.depth, name, "&self", type_name.as_str())?;
-    let fact = fill(alloc, shown.fact.as_str(), &[("value", "result")])?;
-    code.add(
-        GETTER,
-        &[
-            ("signature", signature.as_str()),
-            ("fields", site.fields()),
-            ("fact", fact.as_str()),
-            ("body", shown.body.as_str()),
-        ],
-    )?;
+    let fact = fill_with(alloc, shown.fact.as_str(), "value", "result")?;
+    let holes = Holes::new(alloc)
+        .with("signature", signature.as_str())?
+        .with("fields", site.fields())?
+        .with("fact", fact.as_str())?
+        .with("body", shown.body.as_str())?;
+    code.add(GETTER, &holes)?;
     push_has(alloc, code, site, field, name)
 }
 
 // Adds what the schema says of a field; where it says nothing, its name.
 fn push_comment(code: &mut Code, field: &Field, comment: &str) -> Result<(), AllocError> {
     if comment.is_empty() {
-        code.add("/// The field `@name@`.", &[("name", field.name.as_str())])
+        code.add_with("/// The field `@name@`.", "name", field.name.as_str())
     } else {
         code.add_comment(comment)
     }
@@ -70,15 +63,12 @@ fn push_has(
         return Ok(());
     }
     let offset = format!(in alloc; "{}", place.offset)?;
-    code.add(
-        HAS,
-        &[
-            ("name", name),
-            ("field", field.name.as_str()),
-            ("fields", site.fields()),
-            ("offset", offset.as_str()),
-        ],
-    )
+    let holes = Holes::new(alloc)
+        .with("name", name)?
+        .with("field", field.name.as_str())?
+        .with("fields", site.fields())?
+        .with("offset", offset.as_str())?;
+    code.add(HAS, &holes)
 }
 
 // Whether a field is nothing.

@@ -40,7 +40,7 @@ pub fn code_of(alloc: Global, request: &Request, file: u64) -> Result<String, Al
     }
     let mut code = Code::new(alloc, 0);
     let name = base_name(request.file_name(file).unwrap_or(""));
-    code.add(FILE, &[("file", name)])?;
+    code.add_with(FILE, "file", name)?;
     push_definitions(alloc, &mut code, body.text.as_str())?;
     code.text.push_str(body.text.as_str())?;
     Ok(code.text)
@@ -119,15 +119,16 @@ fn push_interface(
     request: &Request,
     node: &Node,
 ) -> Result<(), AllocError> {
-    let holes = [("name", node.name.as_str())];
+    let name = node.name.as_str();
     code.add_gap()?;
     if node.nested.is_empty() {
-        return code.add("// The interface `@name@` is left out.", &holes);
+        return code.add_with("// The interface `@name@` is left out.", "name", name);
     }
     open_module(alloc, code, node)?;
-    code.add(
+    code.add_with(
         "//! What is declared in the interface `@name@`, which itself is left out.",
-        &holes,
+        "name",
+        name,
     )?;
     steps.push(Step::End)?;
     push_declared(alloc, code, steps, request, node)

@@ -1,5 +1,5 @@
 //! What code imports: just the names that it has.
-use crate::code::Code;
+use crate::code::{Code, Holes};
 use std::alloc::{AllocError, Global};
 
 /// What clauses cite: a module of definitions, and names of it.
@@ -96,10 +96,10 @@ pub fn push_definitions(alloc: Global, code: &mut Code, text: &str) -> Result<()
             }
         }
         if !found.is_empty() {
-            code.add(
-                "ghost use Rattle.@module@.{@names@};",
-                &[("module", *module), ("names", found.as_str())],
-            )?;
+            let holes = Holes::new(alloc)
+                .with("module", module)?
+                .with("names", found.as_str())?;
+            code.add("ghost use Rattle.@module@.{@names@};", &holes)?;
         }
     }
     Ok(())
@@ -142,7 +142,7 @@ pub fn push_imports(
     text: &str,
 ) -> Result<(), AllocError> {
     for line in enums {
-        code.add(line.as_str(), &[])?;
+        code.add_lines(line.as_str())?;
     }
     let mut lines: Vec<String> = Vec::new(alloc);
     if text.contains(" Result<") {
@@ -174,7 +174,7 @@ pub fn push_imports(
     push_views(alloc, &mut lines, text)?;
     lines.sort()?;
     for line in lines.as_slice() {
-        code.add(line.as_str(), &[])?;
+        code.add_lines(line.as_str())?;
     }
     Ok(())
 }

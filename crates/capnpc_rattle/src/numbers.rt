@@ -1,6 +1,7 @@
 //! Numbers, bools and enums of the data section.
-use crate::code::fill;
+use crate::code::{Holes, fill};
 use crate::schema::{Base, Value};
+use crate::templates::FLOAT_BODY;
 use std::alloc::{AllocError, Global};
 use std::num::{f32_from_bits_with_nan, f64_from_bits_with_nan};
 
@@ -98,18 +99,17 @@ impl Stored {
     fn float_call(&self, alloc: Global) -> Result<String, AllocError> {
         let offset = format!(in alloc; "{}", self.offset)?;
         let default = format!(in alloc; "{}", self.default)?;
-        let is_short = self.number.width == 32;
-        fill(
-            alloc,
-            "let bits: @bits@ = self.fields.get_data_field_mask(@offset@, @default@);
-PrimitiveElement::from_bits(@all@)",
-            &[
-                ("bits", if is_short { "u32" } else { "u64" }),
-                ("offset", offset.as_str()),
-                ("default", default.as_str()),
-                ("all", if is_short { "bits as u64" } else { "bits" }),
-            ],
-        )
+        let (bits, all) = if self.number.width == 32 {
+            ("u32", "bits as u64")
+        } else {
+            ("u64", "bits")
+        };
+        let holes = Holes::new(alloc)
+            .with("bits", bits)?
+            .with("offset", offset.as_str())?
+            .with("default", default.as_str())?
+            .with("all", all)?;
+        fill(alloc, FLOAT_BODY, &holes)
     }
 }
 

@@ -1,5 +1,5 @@
 //! What getters return, and what clauses say of it.
-use crate::code::fill;
+use crate::code::{Holes, fill, fill_with};
 use crate::defaults::{has_default, shown_default};
 use crate::enums::{cases_of, enum_name};
 use crate::names::module;
@@ -82,10 +82,13 @@ fn shown_group(alloc: Global, site: Site<'_>, group: &Node) -> Result<Shown, All
     } else {
         "&self.fields"
     };
+    let holes = Holes::new(alloc)
+        .with("name", name)?
+        .with("fields", fields)?;
     Ok(Shown {
-        type_name: fill(alloc, "@name@::Reader<@borrow@, 'a, S>", &[("name", name)])?,
+        type_name: fill_with(alloc, "@name@::Reader<@borrow@, 'a, S>", "name", name)?,
         fact: String::from_str(alloc, "struct_of S.segments @value@.fields.now ≡ fields")?,
-        body: fill(alloc, GROUP_BODY, &[("name", name), ("fields", fields)])?,
+        body: fill(alloc, GROUP_BODY, &holes)?,
     })
 }
 
@@ -102,19 +105,18 @@ fn shown_number(
     let Base::Enum(id) = base else {
         return Ok(Shown {
             type_name: String::from_str(alloc, stored.number.type_name)?,
-            fact: fill(alloc, "@value@ ≡ @bits@", &[("bits", value)])?,
+            fact: fill_with(alloc, "@value@ ≡ @bits@", "bits", value)?,
             body: call,
         });
     };
     let name = enum_name(alloc, site, id)?;
     let cases = cases_of(alloc, site.request, id, name.as_str())?;
     let call = call.as_str();
+    let holes = Holes::new(alloc)
+        .with("bits", value)?
+        .with("cases", cases.as_str())?;
     Ok(Shown {
-        fact: fill(
-            alloc,
-            ENUM_FACT,
-            &[("bits", value), ("cases", cases.as_str())],
-        )?,
+        fact: fill(alloc, ENUM_FACT, &holes)?,
         body: format!(in alloc; "{name}::from_number({call})")?,
         type_name: name,
     })
@@ -132,12 +134,8 @@ fn shown_pointer(
     if place.of.lists == 0 && place.of.base == Base::AnyPointer {
         return Ok(Some(Shown {
             type_name: String::from_str(alloc, "any_pointer::Reader<'a, S>")?,
-            fact: fill(alloc, ANY_POINTER_FACT, &[("offset", offset)])?,
-            body: fill(
-                alloc,
-                "self.fields.get_pointer(@offset@)",
-                &[("offset", offset)],
-            )?,
+            fact: fill_with(alloc, ANY_POINTER_FACT, "offset", offset)?,
+            body: format!(in alloc; "self.fields.get_pointer({offset})")?,
         }));
     }
     if has_default(place) {
@@ -148,13 +146,12 @@ fn shown_pointer(
     };
     let type_name = view.type_name.as_str();
     let fact = view.fact(alloc, "@value@")?;
+    let holes = Holes::new(alloc)
+        .with("offset", offset)?
+        .with("fact", fact.as_str())?;
     Ok(Some(Shown {
         type_name: format!(in alloc; "Result<{type_name}>")?,
-        fact: fill(
-            alloc,
-            POINTER_FACT,
-            &[("offset", offset), ("fact", fact.as_str())],
-        )?,
-        body: fill(alloc, VIEW_BODY, &[("offset", offset)])?,
+        fact: fill(alloc, POINTER_FACT, &holes)?,
+        body: fill_with(alloc, VIEW_BODY, "offset", offset)?,
     }))
 }

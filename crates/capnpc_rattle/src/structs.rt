@@ -35,7 +35,7 @@ pub fn push_struct(
 /// Opens the module of a node.
 pub fn open_module(alloc: Global, code: &mut Code, node: &Node) -> Result<(), AllocError> {
     let name = module(alloc, node.name.as_str())?;
-    code.add("pub mod @name@ {", &[("name", name.as_str())])?;
+    code.add_with("pub mod @name@ {", "name", name.as_str())?;
     code.depth = code.depth.saturating_add(1);
     Ok(())
 }
@@ -43,7 +43,7 @@ pub fn open_module(alloc: Global, code: &mut Code, node: &Node) -> Result<(), Al
 /// Closes a module.
 pub fn close_module(code: &mut Code) -> Result<(), AllocError> {
     code.depth = code.depth.saturating_sub(1);
-    code.add("}", &[])
+    code.add_lines("}")
 }
 
 // Adds the reader, the members of the union where there is one, and how it is read where it is no group.
@@ -53,16 +53,13 @@ fn push_reader(
     site: Site<'_>,
     body: &Struct,
 ) -> Result<(), AllocError> {
-    code.add(if body.is_group { GROUP_READER } else { READER }, &[])?;
+    code.add_lines(if body.is_group { GROUP_READER } else { READER })?;
     if !body.fields.is_empty() {
-        code.add(
-            if body.is_group {
-                GROUP_IMPL
-            } else {
-                READER_IMPL
-            },
-            &[],
-        )?;
+        code.add_lines(if body.is_group {
+            GROUP_IMPL
+        } else {
+            READER_IMPL
+        })?;
         code.depth = code.depth.saturating_add(1);
         let members = push_getters(alloc, code, site, body)?;
         close_module(code)?;
@@ -71,7 +68,7 @@ fn push_reader(
         }
     }
     if !body.is_group {
-        code.add(FROM_POINTER, &[])?;
+        code.add_lines(FROM_POINTER)?;
     }
     push_defaults(alloc, code, site, body)
 }

@@ -1,4 +1,11 @@
 //! Types and values of a request.
+ghost use Rattle.std.specs.Prelude.{◌≡◌, ℕ, ◌*◌, ◌∷◌, false, length, replicate};
+ghost use Rattle.capnp_wire.specs.Layout.{layout};
+ghost use Rattle.capnp_wire.specs.Pointer.{words_of};
+ghost use Rattle.capnp_wire.specs.Readers.{pointer_of};
+ghost use Rattle.capnp_wire.specs.Tree.{Trees};
+ghost use Rattle.capnp_wire.specs.Values.{HasWords, LeadsToTree};
+
 use crate::request::read_text;
 use crate::schema::{Base, Type, Value};
 use anyhow::{Result, bail};
@@ -108,10 +115,23 @@ fn read_object<S: ReaderSegments>(
     if pointer.is_null() {
         return Ok(Value::Null);
     }
-    let words = pointer.measure(false)?;
-    let mut block = vec![in alloc; 0u8; 8 * words as usize]?;
-    let copied = pointer.write(false, &mut block, 0, 0);
-    let mut bytes = Vec::from_slice(alloc, &copied.pointer.to_le_bytes())?;
+    let words = pointer.measure(false)? as usize;
+    let mut block = vec![in alloc; 0u8; 8 * words]?;
+    let root = write_object(pointer, &mut block);
+    let mut bytes = Vec::from_slice(alloc, &root.to_le_bytes())?;
     bytes.extend_from_slice(block.as_slice())?;
     Ok(Value::Object(bytes))
+}
+
+// Writes what a pointer leads to into zeros of just its words, and returns the pointer to it, which stands
+// just before these.
+fn write_object<S: ReaderSegments>(pointer: &any_pointer::Reader<'_, S>, block: &mut [u8]) -> u64
+    requires words { (words : ℕ)
+        × HasWords (LeadsToTree (pointer_of S.segments pointer.now)) false words
+        × (length block.old ≡ 8 * words) }
+    requires zero { block.old ≡ replicate (length block.old) 0 }
+    ensures { (trees : Trees) → LeadsToTree (pointer_of S.segments pointer.now) trees →
+        result ∷ words_of block.new ≡ layout trees }
+{
+    pointer.write(false, block, 0, 0).pointer
 }

@@ -1,5 +1,5 @@
 //! Unions: which member is there, as an enum.
-use crate::code::{Code, fill};
+use crate::code::{Code, Holes, fill_with};
 use crate::names::{snake, variant};
 use crate::schema::Field;
 use crate::shown::{Shown, Site};
@@ -54,7 +54,7 @@ impl Members {
                     self.arms,
                     "{number} => Which::{variant}(self.get_{name}()),\n"
                 )?;
-                let payload = fill(alloc, shown.type_name.as_str(), &[("borrow", "'b")])?;
+                let payload = fill_with(alloc, shown.type_name.as_str(), "borrow", "'b")?;
                 write!(self.variants, "{variant}({payload}),\n")
             }
         }
@@ -69,17 +69,14 @@ impl Members {
         shown: &Shown,
     ) -> Result<(), AllocError> {
         let number = format!(in alloc; "{number}")?;
-        let fact = fill(alloc, shown.fact.as_str(), &[("value", "value")])?;
+        let fact = fill_with(alloc, shown.fact.as_str(), "value", "value")?;
         let is_long = fact.as_str().contains("\n");
+        let holes = Holes::new(alloc)
+            .with("variant", variant)?
+            .with("number", number.as_str())?
+            .with("fact", fact.as_str())?;
         let mut case = Code::new(alloc, 0);
-        case.add(
-            if is_long { LONG_CASE } else { CASE },
-            &[
-                ("variant", variant),
-                ("number", number.as_str()),
-                ("fact", fact.as_str()),
-            ],
-        )?;
+        case.add(if is_long { LONG_CASE } else { CASE }, &holes)?;
         self.cases.push_str(case.text.as_str())
     }
 
@@ -92,24 +89,26 @@ impl Members {
     ) -> Result<String, AllocError> {
         let variants = self.variants.as_str();
         let mut text = String::new(alloc);
-        for (is_named, parameter) in [
-            (variants.contains("'b"), borrow),
-            (variants.contains("'a"), "'a"),
-            (
-                variants.contains(" S>") || variants.contains(" S,"),
-                segments,
-            ),
-        ] {
-            if is_named {
-                text.push_str(if text.is_empty() { "<" } else { ", " })?;
-                text.push_str(parameter)?;
-            }
+        if variants.contains("'b") {
+            push_parameter(&mut text, borrow)?;
+        }
+        if variants.contains("'a") {
+            push_parameter(&mut text, "'a")?;
+        }
+        if variants.contains(" S>") || variants.contains(" S,") {
+            push_parameter(&mut text, segments)?;
         }
         if !text.is_empty() {
             text.push('>')?;
         }
         Ok(text)
     }
+}
+
+// Adds a parameter to a list of them, which is open yet.
+fn push_parameter(text: &mut String, parameter: &str) -> Result<(), AllocError> {
+    text.push_str(if text.is_empty() { "<" } else { ", " })?;
+    text.push_str(parameter)
 }
 
 /// Adds the method that says which member is there, of the union whose number stands at this offset.
@@ -129,26 +128,20 @@ pub fn push_which(
     let arms = format!(in alloc; "{before}unknown => Which::NotInSchema(unknown),")?;
     let offset = format!(in alloc; "{offset}")?;
     let arguments = members.parameters(alloc, site.borrow(), "S")?;
-    code.add(
-        WHICH,
-        &[
-            ("arguments", arguments.as_str()),
-            ("fields", site.fields()),
-            ("offset", offset.as_str()),
-            ("cases", cases.as_str()),
-            ("arms", arms.as_str()),
-        ],
-    )
+    let holes = Holes::new(alloc)
+        .with("arguments", arguments.as_str())?
+        .with("fields", site.fields())?
+        .with("offset", offset.as_str())?
+        .with("cases", cases.as_str())?
+        .with("arms", arms.as_str())?;
+    code.add(WHICH, &holes)
 }
 
 /// Adds the enum of the members.
 pub fn push_members(alloc: Global, code: &mut Code, members: &Members) -> Result<(), AllocError> {
     let parameters = members.parameters(alloc, "'b", "S: ReaderSegments")?;
-    code.add(
-        MEMBERS,
-        &[
-            ("parameters", parameters.as_str()),
-            ("variants", members.variants.as_str().trim_end()),
-        ],
-    )
+    let holes = Holes::new(alloc)
+        .with("parameters", parameters.as_str())?
+        .with("variants", members.variants.as_str().trim_end())?;
+    code.add(MEMBERS, &holes)
 }

@@ -1,5 +1,5 @@
 //! The views of what pointers lead to, for each type.
-use crate::code::fill;
+use crate::code::{Holes, fill};
 use crate::numbers::number_of;
 use crate::paths::path_to;
 use crate::schema::{Base, Request, Type};
@@ -46,16 +46,12 @@ pub struct View {
 impl View {
     /// What a clause says of a view by this name, of what the pointer `pointer` leads to.
     pub fn fact(&self, alloc: Global, name: &str) -> Result<String, AllocError> {
-        fill(
-            alloc,
-            VIEW_FACT,
-            &[
-                ("shows", self.shows.as_str()),
-                ("takes", self.takes.as_str()),
-                ("declines", self.declines.as_str()),
-                ("result", name),
-            ],
-        )
+        let holes = Holes::new(alloc)
+            .with("shows", self.shows.as_str())?
+            .with("takes", self.takes.as_str())?
+            .with("declines", self.declines.as_str())?
+            .with("result", name)?;
+        fill(alloc, VIEW_FACT, &holes)
     }
 }
 
@@ -76,11 +72,10 @@ pub fn view_of(
     let Some(view) = found else {
         return Ok(None);
     };
-    let holes = [
-        ("lifetime", lender.lifetime),
-        ("segments", lender.segments),
-        ("segments_of", lender.segments_of),
-    ];
+    let holes = Holes::new(alloc)
+        .with("lifetime", lender.lifetime)?
+        .with("segments", lender.segments)?
+        .with("segments_of", lender.segments_of)?;
     Ok(Some(View {
         type_name: fill(alloc, view.type_name.as_str(), &holes)?,
         shows: fill(alloc, view.shows.as_str(), &holes)?,

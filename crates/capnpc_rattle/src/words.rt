@@ -1,5 +1,5 @@
 //! The words of constants and of defaults that pointers lead to.
-use crate::code::Code;
+use crate::code::{Code, Holes};
 use crate::schema::Value;
 use crate::templates::WORDS;
 use std::alloc::{AllocError, Global};
@@ -45,14 +45,11 @@ pub fn push_words(
 ) -> Result<(), AllocError> {
     let rows = rows_of(alloc, words)?;
     let size = format!(in alloc; "{}", words.len())?;
-    code.add(
-        WORDS,
-        &[
-            ("name", name),
-            ("size", size.as_str()),
-            ("rows", rows.as_str()),
-        ],
-    )
+    let holes = Holes::new(alloc)
+        .with("name", name)?
+        .with("size", size.as_str())?
+        .with("rows", rows.as_str())?;
+    code.add(WORDS, &holes)
 }
 
 // The bytes of words as code has them, a row for each word.
