@@ -25,9 +25,14 @@ impl Holes {
     }
 
     /// With one more text, which stands for this name.
-    pub fn with(mut self, name: &str, text: &str) -> Result<Holes, AllocError> {
-        let name = String::from_str(self.alloc, name)?;
+    pub fn with(self, name: &str, text: &str) -> Result<Holes, AllocError> {
         let text = String::from_str(self.alloc, text)?;
+        self.holding(name, text)
+    }
+
+    /// With one more text, which it keeps.
+    pub fn holding(mut self, name: &str, text: String) -> Result<Holes, AllocError> {
+        let name = String::from_str(self.alloc, name)?;
         self.holes.push(Hole { name, text })?;
         Ok(self)
     }

@@ -111,8 +111,8 @@ pub fn push_view(
     let holes = Holes::new(alloc)
         .with("title", title)?
         .with("name", name)?
-        .with("signature", signature.as_str())?
-        .with("fact", fact.as_str())?;
+        .holding("signature", signature)?
+        .holding("fact", fact)?;
     code.add(GET_WORDS, &holes)
 }
 

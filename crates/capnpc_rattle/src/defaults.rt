@@ -36,34 +36,54 @@ pub fn shown_default(
     ) else {
         return Ok(None);
     };
-    let is_plain = is_plain(place.of);
-    let result = if is_plain { "@value@" } else { "view" };
-    let offset = format!(in alloc; "{}", place.offset)?;
-    let words = default_name(alloc, field.name.as_str())?;
-    let name = snake(alloc, field.name.as_str())?;
-    let stored_fact = stored.fact(alloc, result)?;
-    let default_fact = default.fact(alloc, result)?;
-    let holes = Holes::new(alloc)
-        .with("offset", offset.as_str())?
-        .with("default", words.as_str())?
-        .with("name", name.as_str())?
-        .with("stored", stored_fact.as_str())?
-        .with("fact", default_fact.as_str())?;
-    let default = sized_type(alloc, &default, place)?;
-    let (stored, default) = (stored.type_name.as_str(), default.as_str());
-    Ok(Some(if is_plain {
+    Ok(Some(if is_plain(place.of) {
+        let holes = holes_of(alloc, field, place, "@value@", &stored, &default)?;
         Shown {
-            type_name: format!(in alloc; "Result<{stored}>")?,
+            type_name: fill_with(alloc, "Result<@view@>", "view", stored.type_name.as_str())?,
             fact: fill(alloc, DEFAULT_FACT, &holes)?,
             body: fill(alloc, DEFAULT_BODY, &holes)?,
         }
     } else {
+        let holes = holes_of(alloc, field, place, "view", &stored, &default)?;
         Shown {
-            type_name: format!(in alloc; "OrDefault<{stored}, {default}>")?,
+            type_name: either_type(alloc, place, &stored, &default)?,
             fact: fill(alloc, OR_DEFAULT_FACT, &holes)?,
             body: fill(alloc, OR_DEFAULT_BODY, &holes)?,
         }
     }))
+}
+
+// What stands in the clause and the code of the getter, which returns a view by this name.
+fn holes_of(
+    alloc: Global,
+    field: &Field,
+    place: &Place,
+    view: &str,
+    stored: &View,
+    default: &View,
+) -> Result<Holes, AllocError> {
+    let offset = format!(in alloc; "{}", place.offset)?;
+    let holes = Holes::new(alloc).holding("offset", offset)?;
+    let words = default_name(alloc, field.name.as_str())?;
+    let holes = holes.holding("default", words)?;
+    let name = snake(alloc, field.name.as_str())?;
+    let holes = holes.holding("name", name)?;
+    let fact = stored.fact(alloc, view)?;
+    let holes = holes.holding("stored", fact)?;
+    let fact = default.fact(alloc, view)?;
+    holes.holding("fact", fact)
+}
+
+// The type of what is a view of the message, or of the default.
+fn either_type(
+    alloc: Global,
+    place: &Place,
+    stored: &View,
+    default: &View,
+) -> Result<String, AllocError> {
+    let default = sized_type(alloc, default, place)?;
+    let (stored, default) = (stored.type_name.as_str(), default.as_str());
+    format!(in alloc; "OrDefault<{stored}, {default}>")
 }
 
 // The type of a view of a default, with the number of the bytes of its words.

@@ -187,7 +187,7 @@ pub fn push_enum(
     let cases = cases_of(alloc, request, node.id, type_name)?;
     let holes = Holes::new(alloc)
         .with("type", type_name)?
-        .with("cases", cases.as_str())?
-        .with("arms", arms.as_str())?;
+        .holding("cases", cases)?
+        .holding("arms", arms)?;
     code.add(ENUM_END, &holes)
 }

@@ -29,11 +29,11 @@ pub fn push_field(
     push_comment(code, field, comment)?;
     let type_name = fill_with(alloc, shown.type_name.as_str(), "borrow", site.borrow())?;
     let signature = signature(alloc, code.depth, name, "&self", type_name.as_str())?;
+    let holes = Holes::new(alloc).holding("signature", signature)?;
     let fact = fill_with(alloc, shown.fact.as_str(), "value", "result")?;
-    let holes = Holes::new(alloc)
-        .with("signature", signature.as_str())?
+    let holes = holes
+        .holding("fact", fact)?
         .with("fields", site.fields())?
-        .with("fact", fact.as_str())?
         .with("body", shown.body.as_str())?;
     code.add(GETTER, &holes)?;
     push_has(alloc, code, site, field, name)
@@ -67,7 +67,7 @@ fn push_has(
         .with("name", name)?
         .with("field", field.name.as_str())?
         .with("fields", site.fields())?
-        .with("offset", offset.as_str())?;
+        .holding("offset", offset)?;
     code.add(HAS, &holes)
 }
 

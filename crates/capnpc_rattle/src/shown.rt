@@ -5,8 +5,10 @@ use crate::enums::{cases_of, enum_name};
 use crate::names::module;
 use crate::numbers::{Stored, default_bits, number_of};
 use crate::schema::{Base, Body, Field, Node, Place, Request, Slot};
-use crate::templates::{ANY_POINTER_FACT, ENUM_FACT, GROUP_BODY, POINTER_FACT, VIEW_BODY};
-use crate::views::{MESSAGE, view_of};
+use crate::templates::{
+    ANY_POINTER_BODY, ANY_POINTER_FACT, ENUM_FACT, GROUP_BODY, POINTER_FACT, VIEW_BODY,
+};
+use crate::views::{MESSAGE, View, view_of};
 use std::alloc::{AllocError, Global};
 
 /// The struct or group whose fields are written.
@@ -114,7 +116,7 @@ fn shown_number(
     let call = call.as_str();
     let holes = Holes::new(alloc)
         .with("bits", value)?
-        .with("cases", cases.as_str())?;
+        .holding("cases", cases)?;
     Ok(Shown {
         fact: fill(alloc, ENUM_FACT, &holes)?,
         body: format!(in alloc; "{name}::from_number({call})")?,
@@ -129,29 +131,39 @@ fn shown_pointer(
     field: &Field,
     place: &Place,
 ) -> Result<Option<Shown>, AllocError> {
-    let offset = format!(in alloc; "{}", place.offset)?;
-    let offset = offset.as_str();
     if place.of.lists == 0 && place.of.base == Base::AnyPointer {
-        return Ok(Some(Shown {
-            type_name: String::from_str(alloc, "any_pointer::Reader<'a, S>")?,
-            fact: fill_with(alloc, ANY_POINTER_FACT, "offset", offset)?,
-            body: format!(in alloc; "self.fields.get_pointer({offset})")?,
-        }));
+        return Ok(Some(shown_any_pointer(alloc, place.offset)?));
     }
     if has_default(place) {
         return shown_default(alloc, site, field, place);
     }
-    let Some(view) = view_of(alloc, site.request, site.node.id, place.of, MESSAGE)? else {
-        return Ok(None);
-    };
-    let type_name = view.type_name.as_str();
+    match view_of(alloc, site.request, site.node.id, place.of, MESSAGE)? {
+        Some(view) => Ok(Some(shown_view(alloc, place.offset, &view)?)),
+        None => Ok(None),
+    }
+}
+
+// A pointer that may lead to anything, by its number among the pointers.
+fn shown_any_pointer(alloc: Global, offset: u32) -> Result<Shown, AllocError> {
+    let offset = format!(in alloc; "{offset}")?;
+    let offset = offset.as_str();
+    Ok(Shown {
+        type_name: String::from_str(alloc, "any_pointer::Reader<'a, S>")?,
+        fact: fill_with(alloc, ANY_POINTER_FACT, "offset", offset)?,
+        body: fill_with(alloc, ANY_POINTER_BODY, "offset", offset)?,
+    })
+}
+
+// A view of what a pointer leads to.
+fn shown_view(alloc: Global, offset: u32, view: &View) -> Result<Shown, AllocError> {
+    let offset = format!(in alloc; "{offset}")?;
     let fact = view.fact(alloc, "@value@")?;
     let holes = Holes::new(alloc)
-        .with("offset", offset)?
-        .with("fact", fact.as_str())?;
-    Ok(Some(Shown {
-        type_name: format!(in alloc; "Result<{type_name}>")?,
+        .holding("offset", offset)?
+        .holding("fact", fact)?;
+    Ok(Shown {
+        type_name: fill_with(alloc, "Result<@view@>", "view", view.type_name.as_str())?,
         fact: fill(alloc, POINTER_FACT, &holes)?,
-        body: fill_with(alloc, VIEW_BODY, "offset", offset)?,
-    }))
+        body: fill(alloc, VIEW_BODY, &holes)?,
+    })
 }

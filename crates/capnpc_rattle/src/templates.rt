@@ -201,6 +201,9 @@ pub const GET_WORDS: &str = "
 /// What a clause says of a pointer, whatever it leads to.
 pub const ANY_POINTER_FACT: &str = "pointer_of S.segments @value@ ≡ pointer_in fields @offset@";
 
+/// How a pointer is read that may lead to anything.
+pub const ANY_POINTER_BODY: &str = "self.fields.get_pointer(@offset@)";
+
 /// How a float is read that has a default, by its bits, since a default may be no number.
 pub const FLOAT_BODY: &str =
     "let bits: @bits@ = self.fields.get_data_field_mask(@offset@, @default@);

@@ -69,14 +69,17 @@ impl Members {
         shown: &Shown,
     ) -> Result<(), AllocError> {
         let number = format!(in alloc; "{number}")?;
-        let fact = fill_with(alloc, shown.fact.as_str(), "value", "value")?;
-        let is_long = fact.as_str().contains("\n");
         let holes = Holes::new(alloc)
             .with("variant", variant)?
-            .with("number", number.as_str())?
-            .with("fact", fact.as_str())?;
+            .holding("number", number)?;
+        let fact = fill_with(alloc, shown.fact.as_str(), "value", "value")?;
+        let template = if fact.as_str().contains("\n") {
+            LONG_CASE
+        } else {
+            CASE
+        };
         let mut case = Code::new(alloc, 0);
-        case.add(if is_long { LONG_CASE } else { CASE }, &holes)?;
+        case.add(template, &holes.holding("fact", fact)?)?;
         self.cases.push_str(case.text.as_str())
     }
 
@@ -124,16 +127,16 @@ pub fn push_which(
     let cases = format!(in alloc;
         "{before}  | Which.NotInSchema unknown ↦ (unknown ≡ number) × ({count} ≤ number)"
     )?;
+    let holes = Holes::new(alloc).holding("cases", cases)?;
     let before = members.arms.as_str();
     let arms = format!(in alloc; "{before}unknown => Which::NotInSchema(unknown),")?;
+    let holes = holes.holding("arms", arms)?;
     let offset = format!(in alloc; "{offset}")?;
+    let holes = holes.holding("offset", offset)?;
     let arguments = members.parameters(alloc, site.borrow(), "S")?;
-    let holes = Holes::new(alloc)
-        .with("arguments", arguments.as_str())?
-        .with("fields", site.fields())?
-        .with("offset", offset.as_str())?
-        .with("cases", cases.as_str())?
-        .with("arms", arms.as_str())?;
+    let holes = holes
+        .holding("arguments", arguments)?
+        .with("fields", site.fields())?;
     code.add(WHICH, &holes)
 }
 

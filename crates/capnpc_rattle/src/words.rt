@@ -47,8 +47,8 @@ pub fn push_words(
     let size = format!(in alloc; "{}", words.len())?;
     let holes = Holes::new(alloc)
         .with("name", name)?
-        .with("size", size.as_str())?
-        .with("rows", rows.as_str())?;
+        .holding("size", size)?
+        .holding("rows", rows)?;
     code.add(WORDS, &holes)
 }
 
