@@ -1,5 +1,5 @@
 -- What is measured has room in a block of just its words, which is zero, and with the pointer to it is its layout.
-use Rattle.std.proofs.Common.{◌≡◌, ◌∙◌, ◌*◌, ◌/◌, ℕ, List, false, length, ap, arith}
+use Rattle.std.proofs.Common.{◌≡◌, ◌∙◌, false, ap, arith}
 use Rattle.capnp_wire.specs.Pointer.{words_of}
 use Rattle.capnp_wire.specs.Readers.{pointer_of}
 use Rattle.capnp_wire.specs.Tree.{Trees, total_words}
