@@ -40,5 +40,7 @@ struct Sample {
     label @13 :Text;
   }
   ratio @14 :Float64 = 0.5;
-  anything @15 :AnyPointer;
+  note @15 :Text = "none";
+  target @16 :Point = (x = 3, y = 4);
+  anything @17 :AnyPointer;
 }

@@ -6,10 +6,12 @@
 
 ghost use Rattle.std.specs.Prelude.{◌≡◌, ◌∷◌, []};
 ghost use Rattle.capnp_wire.specs.Readers.{pointer_of};
+ghost use Rattle.capnp_wire.specs.Views.{Pointer, IsViewOf};
 
 use capnp_frame::Result;
 use capnp_frame::message::ReaderSegments;
 use capnp_wire::any_pointer;
+use capnp_wire::traits::FromPointerReader;
 
 /// The words of a message of one segment, which stand in a `static`.
 #[derive(Clone, Copy)]
@@ -26,6 +28,35 @@ impl<const N: usize> ReaderSegments for Words<N> {
             0 => Some(&self.bytes),
             _ => None,
         }
+    }
+}
+
+/// A message that stands in a program.
+pub trait Constant: ReaderSegments {
+    /// Its root pointer.
+    ghost root: { Self → Pointer };
+
+    /// The root pointer, which is read without limits.
+    fn constant_root(&self) -> any_pointer::Reader<'_, Self>
+        ensures { pointer_of Self.segments result ≡ root self.now };
+}
+
+/// A view of what the root pointer of a constant leads to.
+pub fn view_of<'a, C: Constant, T: FromPointerReader<'a, C>>(constant: &'a C) -> Result<T>
+    ensures { let pointer = C.root constant.now in
+        IsViewOf pointer (T.shows pointer) (T.accepts pointer) (T.refuses pointer)
+        (T.declines pointer) result }
+{
+    T::get_from_pointer(constant.constant_root())
+}
+
+impl<const N: usize> Constant for Words<N> {
+    ghost use Rattle.capnp_constant.specs.Constants.{root_of};
+
+    ghost root = { λ words. root_of words };
+
+    fn constant_root(&self) -> any_pointer::Reader<'_, Words<N>> {
+        self.get_root()
     }
 }
 

@@ -194,7 +194,7 @@ pub const GET_WORDS: &str = "
     ensures { let pointer = root_of @name@ in
         @fact@ }
 {
-    FromPointerReader::get_from_pointer(@name@.get_root())
+    capnp_constant::view_of(&@name@)
 }
 ";
 

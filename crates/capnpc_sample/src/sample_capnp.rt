@@ -13,7 +13,6 @@ ghost use Rattle.capnp_wire.specs.Views.{IsViewOf, IsStruct, IsText, IsData, Acc
 
 use capnp_constant::Words;
 use capnp_frame::Result;
-use capnp_wire::traits::FromPointerReader;
 
 pub const LIMIT: u32 = 1000;
 
@@ -31,7 +30,7 @@ pub fn get_corner() -> Result<point::Reader<'static, Words<16>>>
         (Accepts pointer TakesStruct) (Refuses pointer DeclinesStruct)
         (Declines pointer DeclinesStruct) result }
 {
-    FromPointerReader::get_from_pointer(CORNER.get_root())
+    capnp_constant::view_of(&CORNER)
 }
 
 /// A point of a plane.
@@ -179,6 +178,7 @@ impl Color {
 /// A struct with a field of each kind.
 pub mod sample {
     use super::Color;
+    use capnp_constant::{OrDefault, Words};
     use capnp_frame::Result;
     use capnp_frame::message::ReaderSegments;
     use capnp_wire::any_struct::StructReader;
@@ -389,20 +389,86 @@ pub mod sample {
             PrimitiveElement::from_bits(bits)
         }
 
+        /// The field `note`.
+        pub fn get_note(&self) -> Result<text::Reader<'a>>
+            ensures { let fields = struct_of S.segments self.now.fields in
+                let pointer = pointer_in fields 6 in
+                ((Denotes pointer nothing → ⊥) → IsViewOf pointer
+                (λ view. Reads pointer (λ form. IsText form view.bytes.now))
+                (Accepts pointer TakesText) (Refuses pointer DeclinesText)
+                (Declines pointer DeclinesText) result)
+                × (Denotes pointer nothing → (let pointer = root_of NOTE_DEFAULT in
+                IsViewOf pointer
+                (λ view. Reads pointer (λ form. IsText form view.bytes.now))
+                (Accepts pointer TakesText) (Refuses pointer DeclinesText)
+                (Declines pointer DeclinesText) result)) }
+        {
+            let pointer = self.fields.get_pointer(6);
+            if pointer.is_null() {
+                get_note_default()
+            } else {
+                FromPointerReader::get_from_pointer(pointer)
+            }
+        }
+
+        /// Whether `note` is there, and is not null.
+        pub fn has_note(&self) -> bool
+            ensures { let fields = struct_of S.segments self.now.fields in
+                IsTrue result ↔ (Denotes (pointer_in fields 6) nothing → ⊥) }
+        {
+            self.fields.has_pointer(6)
+        }
+
+        /// The field `target`.
+        pub fn get_target(
+            &self,
+        ) -> OrDefault<super::point::Reader<'a, S>, super::point::Reader<'static, Words<16>>>
+            ensures { let fields = struct_of S.segments self.now.fields in
+                let pointer = pointer_in fields 7 in
+                elim result [
+                  | OrDefault.Stored view ↦ (Denotes pointer nothing → ⊥) ×
+                      (IsViewOf pointer
+                      (λ view. IsStruct pointer (struct_of S.segments view.fields))
+                      (Accepts pointer TakesStruct) (Refuses pointer DeclinesStruct)
+                      (Declines pointer DeclinesStruct) view)
+                  | OrDefault.Default view ↦ Denotes pointer nothing ×
+                      (let pointer = root_of TARGET_DEFAULT in
+                      IsViewOf pointer
+                      (λ view. IsStruct pointer (struct_of segments_of view.fields))
+                      (Accepts pointer TakesStruct) (Refuses pointer DeclinesStruct)
+                      (Declines pointer DeclinesStruct) view)
+                ] }
+        {
+            let pointer = self.fields.get_pointer(7);
+            if pointer.is_null() {
+                OrDefault::Default(get_target_default())
+            } else {
+                OrDefault::Stored(FromPointerReader::get_from_pointer(pointer))
+            }
+        }
+
+        /// Whether `target` is there, and is not null.
+        pub fn has_target(&self) -> bool
+            ensures { let fields = struct_of S.segments self.now.fields in
+                IsTrue result ↔ (Denotes (pointer_in fields 7) nothing → ⊥) }
+        {
+            self.fields.has_pointer(7)
+        }
+
         /// The field `anything`.
         pub fn get_anything(&self) -> any_pointer::Reader<'a, S>
             ensures { let fields = struct_of S.segments self.now.fields in
-                pointer_of S.segments result ≡ pointer_in fields 6 }
+                pointer_of S.segments result ≡ pointer_in fields 8 }
         {
-            self.fields.get_pointer(6)
+            self.fields.get_pointer(8)
         }
 
         /// Whether `anything` is there, and is not null.
         pub fn has_anything(&self) -> bool
             ensures { let fields = struct_of S.segments self.now.fields in
-                IsTrue result ↔ (Denotes (pointer_in fields 6) nothing → ⊥) }
+                IsTrue result ↔ (Denotes (pointer_in fields 8) nothing → ⊥) }
         {
-            self.fields.has_pointer(6)
+            self.fields.has_pointer(8)
         }
 
         /// Which member of the union is there, and its value.
@@ -510,6 +576,40 @@ pub mod sample {
                 Err(error) => Err(error),
             }
         }
+    }
+
+    #[rattlefmt::skip]
+    pub static NOTE_DEFAULT: Words<16> = Words { bytes: [
+        1, 0, 0, 0, 42, 0, 0, 0,
+        110, 111, 110, 101, 0, 0, 0, 0,
+    ] };
+
+    /// The default of the field `note`.
+    pub fn get_note_default() -> Result<text::Reader<'static>>
+        ensures { let pointer = root_of NOTE_DEFAULT in
+            IsViewOf pointer
+            (λ view. Reads pointer (λ form. IsText form view.bytes.now))
+            (Accepts pointer TakesText) (Refuses pointer DeclinesText)
+            (Declines pointer DeclinesText) result }
+    {
+        capnp_constant::view_of(&NOTE_DEFAULT)
+    }
+
+    #[rattlefmt::skip]
+    pub static TARGET_DEFAULT: Words<16> = Words { bytes: [
+        0, 0, 0, 0, 1, 0, 0, 0,
+        3, 0, 0, 0, 4, 0, 0, 0,
+    ] };
+
+    /// The default of the field `target`.
+    pub fn get_target_default() -> Result<super::point::Reader<'static, Words<16>>>
+        ensures { let pointer = root_of TARGET_DEFAULT in
+            IsViewOf pointer
+            (λ view. IsStruct pointer (struct_of segments_of view.fields))
+            (Accepts pointer TakesStruct) (Refuses pointer DeclinesStruct)
+            (Declines pointer DeclinesStruct) result }
+    {
+        capnp_constant::view_of(&TARGET_DEFAULT)
     }
 
     /// What is seen of it.
