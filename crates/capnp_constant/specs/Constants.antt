@@ -1,0 +1,13 @@
+-- Constants and defaults, as messages of one segment (src/lib.rt).
+use Rattle.std.specs.Prelude.{ℕ, List, [], ◌∷◌}
+use Rattle.capnp_wire.specs.Readers.{unlimited_root}
+use Rattle.capnp_wire.specs.Views.{Pointer}
+use Rattle.capnp_constant.specs.declared.Words.{Words}
+
+-- the one segment
+abbrev pub segments_of : {size : ℕ} → Words size → List (List ℕ)
+segments_of words = words.bytes ∷ []
+
+-- the root pointer, which is read without limits; a proof that needs its place unfolds it, and no other one reads its words
+unfoldable pub root_of : {size : ℕ} → Words size → Pointer
+root_of words = unlimited_root (segments_of words)

@@ -1,0 +1,82 @@
+//! Constants of a schema that are structs or lists, and defaults of pointers: messages that stand in a
+//! program.
+//!
+//! Code that `capnpc-rattle` writes stands on this crate where its schema has them.
+#![tactic(auto)]
+
+ghost use Rattle.std.specs.Prelude.{◌≡◌, ◌∷◌, []};
+ghost use Rattle.capnp_wire.specs.Readers.{pointer_of};
+ghost use Rattle.capnp_wire.specs.Views.{Pointer, IsViewOf};
+
+use capnp_frame::Result;
+use capnp_frame::message::ReaderSegments;
+use capnp_wire::any_pointer;
+use capnp_wire::traits::FromPointerReader;
+
+/// The words of a message of one segment, which stand in a `static`.
+#[derive(Clone, Copy)]
+pub struct Words<const N: usize> {
+    /// Each word by its bytes.
+    pub bytes: [u8; N],
+}
+
+impl<const N: usize> ReaderSegments for Words<N> {
+    ghost segments = { λ words. words.bytes ∷ [] };
+
+    fn get_segment(&self, id: u32) -> Option<&[u8]> {
+        match id {
+            0 => Some(&self.bytes),
+            _ => None,
+        }
+    }
+}
+
+/// A message that stands in a program.
+pub trait Constant: ReaderSegments {
+    /// Its root pointer.
+    ghost root: { Self → Pointer };
+
+    /// The root pointer, which is read without limits.
+    fn constant_root(&self) -> any_pointer::Reader<'_, Self>
+        ensures { pointer_of Self.segments result ≡ root self.now };
+}
+
+/// A view of what the root pointer of a constant leads to.
+pub fn view_of<'a, C: Constant, T: FromPointerReader<'a, C>>(constant: &'a C) -> Result<T>
+    ensures { let pointer = C.root constant.now in
+        IsViewOf pointer (T.shows pointer) (T.accepts pointer) (T.refuses pointer)
+        (T.declines pointer) result }
+{
+    T::get_from_pointer(constant.constant_root())
+}
+
+impl<const N: usize> Constant for Words<N> {
+    ghost use Rattle.capnp_constant.specs.Constants.{root_of};
+
+    ghost root = { λ words. root_of words };
+
+    fn constant_root(&self) -> any_pointer::Reader<'_, Words<N>> {
+        self.get_root()
+    }
+}
+
+impl<const N: usize> Words<N> {
+    ghost use Rattle.capnp_constant.specs.Constants.{segments_of, root_of};
+
+    /// The root pointer, which is read without limits: what stands in a program is as large and as deep as it
+    /// was written.
+    #[tactic(auto, unfolding(crate::specs::Constants::root_of))]
+    pub fn get_root(&self) -> any_pointer::Reader<'_, Words<N>>
+        ensures { pointer_of segments_of result ≡ root_of self.now }
+    {
+        any_pointer::Reader::root_of(self)
+    }
+}
+
+/// What the getter of a pointer with a default returns, where a view is bound to the segments that it
+/// reads: the view of what the message holds, or of the default where its pointer is null.
+#[derive(Drop)]
+pub enum OrDefault<M, D> {
+    Stored(Result<M>),
+    Default(Result<D>),
+}

@@ -1,0 +1,143 @@
+//! What is asked of a schema before code is written of it: the nodes that its types name are there, and no
+//! two names of one scope become one.
+use crate::names::{constant, default_name, enum_type, module, snake, variant};
+use crate::schema::{Base, Body, Node, Place, Request, Slot, Struct};
+use anyhow::{Result, bail};
+use std::alloc::Global;
+
+/// Says what is wrong with a file of a request, where something is.
+pub fn check_file(alloc: Global, request: &Request, file: u64) -> Result<()> {
+    let mut left: Vec<u64> = Vec::new(alloc);
+    left.push(file)?;
+    for _ in 0..u64::MAX {
+        let Some(id) = left.pop() else {
+            break;
+        };
+        let Some(node) = request.find(id) else {
+            bail!("the request has no node {id:#x}");
+        };
+        left.extend_from_slice(node.nested.as_slice())?;
+        if let Body::Struct(body) = &node.body {
+            check_fields(request, node, body)?;
+            for field in body.fields.as_slice() {
+                if let Slot::Group(group) = field.slot {
+                    left.push(group)?;
+                }
+            }
+        }
+        check_scope(alloc, request, node)?;
+        check_variants(alloc, node)?;
+    }
+    Ok(())
+}
+
+// Says which field of a struct has a type that the request doesn't declare, or one that is not known.
+fn check_fields(request: &Request, node: &Node, body: &Struct) -> Result<()> {
+    for field in body.fields.as_slice() {
+        let is_known = match &field.slot {
+            Slot::At(place) => is_declared(request, place),
+            Slot::Group(_) => true,
+            Slot::Unknown => false,
+        };
+        if !is_known {
+            let (name, field) = (node.name.as_str(), field.name.as_str());
+            bail!("the type of `{field}` of `{name}` is not in the request");
+        }
+    }
+    Ok(())
+}
+
+// Whether the node of a field's type is in the request, and is what the type says.
+fn is_declared(request: &Request, place: &Place) -> bool {
+    match place.of.base {
+        Base::Enum(id) => match request.find(id) {
+            Some(node) => matches!(&node.body, Body::Enum(_)),
+            None => false,
+        },
+        Base::Struct(id) => match request.find(id) {
+            Some(node) => matches!(&node.body, Body::Struct(_)),
+            None => false,
+        },
+        _ => true,
+    }
+}
+
+/// Names that code has in one scope, each with what has it in the schema.
+#[derive(Drop)]
+struct Names {
+    taken: Vec<(String, String)>,
+}
+
+impl Names {
+    // No names.
+    fn new(alloc: Global) -> Names {
+        Names {
+            taken: Vec::new(alloc),
+        }
+    }
+
+    // Adds a name of what has another in the schema; names that differ only in capitals are one.
+    fn add(&mut self, alloc: Global, name: String, of: &str) -> Result<()> {
+        for (other, one) in self.taken.as_slice() {
+            if other.as_str().eq_ignore_ascii_case(name.as_str()) {
+                bail!("`{one}` and `{of}` would both be named `{name}`");
+            }
+        }
+        let of = String::from_str(alloc, of)?;
+        self.taken.push((name, of))?;
+        Ok(())
+    }
+}
+
+// Says which two declarations of a node would have one name.
+fn check_scope(alloc: Global, request: &Request, node: &Node) -> Result<()> {
+    let mut items = Names::new(alloc);
+    let mut constants = Names::new(alloc);
+    for id in node.nested.as_slice() {
+        let Some(nested) = request.find(*id) else {
+            continue;
+        };
+        let name = nested.name.as_str();
+        match &nested.body {
+            Body::Struct(_) => items.add(alloc, module(alloc, name)?, name)?,
+            Body::Interface if !nested.nested.is_empty() => {
+                items.add(alloc, module(alloc, name)?, name)?
+            }
+            Body::Enum(_) => items.add(alloc, enum_type(alloc, name)?, name)?,
+            Body::Constant(_, _) => constants.add(alloc, constant(alloc, name)?, name)?,
+            _ => {}
+        }
+    }
+    let Body::Struct(body) = &node.body else {
+        return Ok(());
+    };
+    for field in body.fields.as_slice() {
+        let name = field.name.as_str();
+        match field.slot {
+            Slot::Group(_) => items.add(alloc, module(alloc, name)?, name)?,
+            _ => constants.add(alloc, default_name(alloc, name)?, name)?,
+        }
+    }
+    Ok(())
+}
+
+// Says which two enumerants, or fields, would have one name.
+fn check_variants(alloc: Global, node: &Node) -> Result<()> {
+    let mut names = Names::new(alloc);
+    match &node.body {
+        Body::Enum(enumerants) => {
+            for name in enumerants.as_slice() {
+                let name = name.as_str();
+                names.add(alloc, variant(alloc, name)?, name)?;
+            }
+        }
+        Body::Struct(body) => {
+            for field in body.fields.as_slice() {
+                let name = field.name.as_str();
+                names.add(alloc, snake(alloc, name)?, name)?;
+            }
+        }
+        _ => {}
+    }
+    Ok(())
+}

@@ -1,0 +1,174 @@
+//! Code that is written, line by line, at some depth of modules.
+use std::alloc::{AllocError, Global};
+
+/// A name in a template, and the text that stands for it.
+#[derive(Drop)]
+struct Hole {
+    name: String,
+    text: String,
+}
+
+/// The texts that stand for names in a template.
+#[derive(Drop)]
+pub struct Holes {
+    alloc: Global,
+    holes: Vec<Hole>,
+}
+
+impl Holes {
+    /// No texts.
+    pub fn new(alloc: Global) -> Holes {
+        Holes {
+            alloc,
+            holes: Vec::new(alloc),
+        }
+    }
+
+    /// With one more text, which stands for this name.
+    pub fn with(self, name: &str, text: &str) -> Result<Holes, AllocError> {
+        let text = String::from_str(self.alloc, text)?;
+        self.holding(name, text)
+    }
+
+    /// With one more text, which it keeps.
+    pub fn holding(mut self, name: &str, text: String) -> Result<Holes, AllocError> {
+        let name = String::from_str(self.alloc, name)?;
+        self.holes.push(Hole { name, text })?;
+        Ok(self)
+    }
+
+    // What stands for a name.
+    fn text_of(&self, name: &str) -> Option<&str> {
+        for hole in self.holes.as_slice() {
+            if hole.name.as_str() == name {
+                return Some(hole.text.as_str());
+            }
+        }
+        None
+    }
+}
+
+/// Code that is written.
+#[derive(Drop)]
+pub struct Code {
+    alloc: Global,
+    pub text: String,
+    /// How many modules, and blocks of them, are open.
+    pub depth: usize,
+}
+
+impl Code {
+    /// No code, at a depth of modules.
+    pub fn new(alloc: Global, depth: usize) -> Code {
+        Code {
+            alloc,
+            text: String::new(alloc),
+            depth,
+        }
+    }
+
+    /// Adds the lines of a template, in which `@name@` stands for the text of that hole. Where this text
+    /// has some lines, each begins where the line of the hole does.
+    pub fn add(&mut self, template: &str, holes: &Holes) -> Result<(), AllocError> {
+        for line in template.lines() {
+            self.add_line(line, holes)?;
+        }
+        Ok(())
+    }
+
+    /// Adds the lines of a template with one name, for which this text stands.
+    pub fn add_with(&mut self, template: &str, name: &str, text: &str) -> Result<(), AllocError> {
+        let holes = Holes::new(self.alloc).with(name, text)?;
+        self.add(template, &holes)
+    }
+
+    /// Adds lines as they are.
+    pub fn add_lines(&mut self, lines: &str) -> Result<(), AllocError> {
+        let holes = Holes::new(self.alloc);
+        self.add(lines, &holes)
+    }
+
+    /// Adds an empty line.
+    pub fn add_gap(&mut self) -> Result<(), AllocError> {
+        self.text.push('\n')
+    }
+
+    /// Adds a docstring of some lines.
+    pub fn add_comment(&mut self, comment: &str) -> Result<(), AllocError> {
+        for line in comment.lines() {
+            let line = line.trim_end();
+            if line.is_empty() {
+                self.add_lines("///")?;
+            } else {
+                self.add_with("/// @line@", "line", line)?;
+            }
+        }
+        Ok(())
+    }
+
+    // Adds one line.
+    fn add_line(&mut self, line: &str, holes: &Holes) -> Result<(), AllocError> {
+        let spaces = line.len().saturating_sub(line.trim_start().len());
+        if !line.is_empty() {
+            self.indent(0)?;
+        }
+        let mut is_hole = false;
+        for part in line.split('@') {
+            if is_hole {
+                self.add_hole(part, holes, spaces)?;
+            } else {
+                self.text.push_str(part)?;
+            }
+            is_hole = !is_hole;
+        }
+        self.text.push('\n')
+    }
+
+    // Adds the text of a hole, of a line that begins with some spaces. One that has no text stays.
+    fn add_hole(&mut self, name: &str, holes: &Holes, spaces: usize) -> Result<(), AllocError> {
+        let Some(text) = holes.text_of(name) else {
+            self.text.push('@')?;
+            self.text.push_str(name)?;
+            return self.text.push('@');
+        };
+        let mut is_first = true;
+        for line in text.split('\n') {
+            if !is_first {
+                self.text.push('\n')?;
+                self.indent(spaces)?;
+            }
+            is_first = false;
+            self.text.push_str(line)?;
+        }
+        Ok(())
+    }
+
+    // Adds the spaces before a line, and some more.
+    fn indent(&mut self, spaces: usize) -> Result<(), AllocError> {
+        for _ in 0..self.depth {
+            self.text.push_str("    ")?;
+        }
+        for _ in 0..spaces {
+            self.text.push(' ')?;
+        }
+        Ok(())
+    }
+}
+
+/// A template whose holes are filled, with no end of a line after it. A hole that has no text stays.
+pub fn fill(alloc: Global, template: &str, holes: &Holes) -> Result<String, AllocError> {
+    let mut code = Code::new(alloc, 0);
+    code.add(template, holes)?;
+    let _ = code.text.pop();
+    Ok(code.text)
+}
+
+/// A template so filled that has one name, for which this text stands.
+pub fn fill_with(
+    alloc: Global,
+    template: &str,
+    name: &str,
+    text: &str,
+) -> Result<String, AllocError> {
+    fill(alloc, template, &Holes::new(alloc).with(name, text)?)
+}

@@ -1,0 +1,179 @@
+//! Constants.
+use crate::code::{Code, Holes, fill_with};
+use crate::names::{constant, snake, variant};
+use crate::numbers::{literal, number_of};
+use crate::paths::path_to;
+use crate::schema::{Base, Body, Node, Request, Type, Value};
+use crate::signatures::{WIDTH, signature};
+use crate::templates::GET_WORDS;
+use crate::views::{CONSTANT, View, view_of};
+use crate::words::push_words;
+use std::alloc::{AllocError, Global};
+
+// What is said of a constant that is not written.
+const LEFT_OUT: &str = "// The constant `@name@` is left out.";
+
+/// Adds the constants that are declared in a node.
+pub fn push_constants(
+    alloc: Global,
+    code: &mut Code,
+    request: &Request,
+    scope: &Node,
+) -> Result<(), AllocError> {
+    for id in scope.nested.as_slice() {
+        if let Some(node) = request.find(*id)
+            && let Body::Constant(of, value) = &node.body
+        {
+            code.add_gap()?;
+            push_constant(alloc, code, request, node, *of, value)?;
+        }
+    }
+    Ok(())
+}
+
+// Adds a constant.
+fn push_constant(
+    alloc: Global,
+    code: &mut Code,
+    request: &Request,
+    node: &Node,
+    of: Type,
+    value: &Value,
+) -> Result<(), AllocError> {
+    let name = constant(alloc, node.name.as_str())?;
+    let name = name.as_str();
+    code.add_comment(node.comment.as_str())?;
+    match value {
+        Value::Bits(bits) if of.lists == 0 => match (of.base, number_of(of.base)) {
+            (Base::Enum(id), _) => push_enumerant(alloc, code, request, node, id, *bits),
+            (_, Some(number)) => {
+                let value = literal(alloc, number, *bits)?;
+                push_line(alloc, code, name, number.type_name, value.as_str())
+            }
+            _ => push_line(alloc, code, name, "()", "()"),
+        },
+        Value::Text(text) => {
+            let value = format!(in alloc; "{text:?}")?;
+            push_line(alloc, code, name, "&str", value.as_str())
+        }
+        Value::Data(bytes) => {
+            let value = byte_string(alloc, bytes.as_slice())?;
+            push_line(alloc, code, name, "&[u8]", value.as_str())
+        }
+        Value::Object(words) => push_object(alloc, code, request, node, of, words.as_slice()),
+        _ => code.add_with(LEFT_OUT, "name", name),
+    }
+}
+
+// Adds a constant that is a struct or a list.
+fn push_object(
+    alloc: Global,
+    code: &mut Code,
+    request: &Request,
+    node: &Node,
+    of: Type,
+    words: &[u8],
+) -> Result<(), AllocError> {
+    let name = constant(alloc, node.name.as_str())?;
+    let Some(view) = view_of(alloc, request, node.scope, of, CONSTANT)? else {
+        return code.add_with(LEFT_OUT, "name", name.as_str());
+    };
+    let title = format!(in alloc; "The constant `{}`.", node.name)?;
+    let getter = snake(alloc, node.name.as_str())?;
+    push_view(
+        alloc,
+        code,
+        title.as_str(),
+        name.as_str(),
+        getter.as_str(),
+        &view,
+        words,
+    )
+}
+
+/// Adds words as a `static` of this name, and the getter that returns a view of them.
+pub fn push_view(
+    alloc: Global,
+    code: &mut Code,
+    title: &str,
+    name: &str,
+    getter: &str,
+    view: &View,
+    words: &[u8],
+) -> Result<(), AllocError> {
+    let type_name = view.type_name.as_str();
+    let type_name = format!(in alloc; "Result<{type_name}>")?;
+    let size = format!(in alloc; "{}", words.len())?;
+    let type_name = fill_with(alloc, type_name.as_str(), "size", size.as_str())?;
+    let signature = signature(alloc, code.depth, getter, "", type_name.as_str())?;
+    let fact = view.fact(alloc, "result")?;
+    push_words(alloc, code, name, words)?;
+    let holes = Holes::new(alloc)
+        .with("title", title)?
+        .with("name", name)?
+        .holding("signature", signature)?
+        .holding("fact", fact)?;
+    code.add(GET_WORDS, &holes)
+}
+
+// Adds the line of a constant; its value on one of its own where it is too wide.
+fn push_line(
+    alloc: Global,
+    code: &mut Code,
+    name: &str,
+    type_name: &str,
+    value: &str,
+) -> Result<(), AllocError> {
+    let line = format!(in alloc; "pub const {name}: {type_name} = {value};")?;
+    if code.depth.saturating_mul(4).saturating_add(line.len()) <= WIDTH {
+        return code.add_with("@line@", "line", line.as_str());
+    }
+    let holes = Holes::new(alloc)
+        .with("name", name)?
+        .with("type", type_name)?
+        .with("value", value)?;
+    code.add("pub const @name@: @type@ =\n    @value@;", &holes)
+}
+
+// Adds a constant that is an enumerant.
+fn push_enumerant(
+    alloc: Global,
+    code: &mut Code,
+    request: &Request,
+    node: &Node,
+    id: u64,
+    bits: u64,
+) -> Result<(), AllocError> {
+    let name = constant(alloc, node.name.as_str())?;
+    let path = path_to(alloc, request, node.scope, id)?;
+    let value = match enumerant_of(request, id, bits) {
+        Some(enumerant) => {
+            let variant = variant(alloc, enumerant)?;
+            format!(in alloc; "{path}::{variant}")?
+        }
+        None => format!(in alloc; "{path}::NotInSchema({bits})")?,
+    };
+    push_line(alloc, code, name.as_str(), path.as_str(), value.as_str())
+}
+
+// The name of the enumerant of this number.
+fn enumerant_of(request: &Request, id: u64, number: u64) -> Option<&str> {
+    match &request.find(id)?.body {
+        Body::Enum(names) => match names.get((number % 65536) as usize) {
+            Some(name) => Some(name.as_str()),
+            None => None,
+        },
+        _ => None,
+    }
+}
+
+// Bytes as they are written in code.
+fn byte_string(alloc: Global, bytes: &[u8]) -> Result<String, AllocError> {
+    let mut text = String::from_str(alloc, "b\"")?;
+    for byte in bytes {
+        let escaped = byte.escape_ascii().to_string(alloc)?;
+        text.push_str(escaped.as_str())?;
+    }
+    text.push('"')?;
+    Ok(text)
+}

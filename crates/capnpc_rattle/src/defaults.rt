@@ -1,0 +1,139 @@
+//! Defaults of pointers.
+use crate::code::{Code, Holes, fill, fill_with};
+use crate::constants::push_view;
+use crate::names::{default_name, snake};
+use crate::schema::{Base, Field, Place, Slot, Struct, Value};
+use crate::shown::{Shown, Site};
+use crate::templates::{DEFAULT_BODY, DEFAULT_FACT, OR_DEFAULT_BODY, OR_DEFAULT_FACT};
+use crate::views::{CONSTANT, MESSAGE, View, is_plain, view_of};
+use crate::words::words_of;
+use std::alloc::{AllocError, Global};
+
+/// Whether a pointer has a default that reads otherwise than null does.
+pub fn has_default(place: &Place) -> bool {
+    if place.of.lists == 0 && place.of.base == Base::AnyPointer {
+        return false;
+    }
+    match &place.default {
+        Value::Text(text) => !text.is_empty(),
+        Value::Data(bytes) => !bytes.is_empty(),
+        Value::Object(_) => true,
+        Value::Bits(_) | Value::Null => false,
+    }
+}
+
+/// What the getter of a pointer returns that has a default.
+pub fn shown_default(
+    alloc: Global,
+    site: Site<'_>,
+    field: &Field,
+    place: &Place,
+) -> Result<Option<Shown>, AllocError> {
+    let (request, id) = (site.request, site.node.id);
+    let (Some(stored), Some(default)) = (
+        view_of(alloc, request, id, place.of, MESSAGE)?,
+        view_of(alloc, request, id, place.of, CONSTANT)?,
+    ) else {
+        return Ok(None);
+    };
+    Ok(Some(if is_plain(place.of) {
+        let holes = holes_of(alloc, field, place, "@value@", &stored, &default)?;
+        Shown {
+            type_name: fill_with(alloc, "Result<@view@>", "view", stored.type_name.as_str())?,
+            fact: fill(alloc, DEFAULT_FACT, &holes)?,
+            body: fill(alloc, DEFAULT_BODY, &holes)?,
+        }
+    } else {
+        let holes = holes_of(alloc, field, place, "view", &stored, &default)?;
+        Shown {
+            type_name: either_type(alloc, place, &stored, &default)?,
+            fact: fill(alloc, OR_DEFAULT_FACT, &holes)?,
+            body: fill(alloc, OR_DEFAULT_BODY, &holes)?,
+        }
+    }))
+}
+
+// What stands in the clause and the code of the getter, which returns a view by this name.
+fn holes_of(
+    alloc: Global,
+    field: &Field,
+    place: &Place,
+    view: &str,
+    stored: &View,
+    default: &View,
+) -> Result<Holes, AllocError> {
+    let offset = format!(in alloc; "{}", place.offset)?;
+    let holes = Holes::new(alloc).holding("offset", offset)?;
+    let words = default_name(alloc, field.name.as_str())?;
+    let holes = holes.holding("default", words)?;
+    let name = snake(alloc, field.name.as_str())?;
+    let holes = holes.holding("name", name)?;
+    let fact = stored.fact(alloc, view)?;
+    let holes = holes.holding("stored", fact)?;
+    let fact = default.fact(alloc, view)?;
+    holes.holding("fact", fact)
+}
+
+// The type of what is a view of the message, or of the default.
+fn either_type(
+    alloc: Global,
+    place: &Place,
+    stored: &View,
+    default: &View,
+) -> Result<String, AllocError> {
+    let default = sized_type(alloc, default, place)?;
+    let (stored, default) = (stored.type_name.as_str(), default.as_str());
+    format!(in alloc; "OrDefault<{stored}, {default}>")
+}
+
+// The type of a view of a default, with the number of the bytes of its words.
+fn sized_type(alloc: Global, view: &View, place: &Place) -> Result<String, AllocError> {
+    let words = words_of(alloc, &place.default)?;
+    let size = format!(in alloc; "{}", words.len())?;
+    fill_with(alloc, view.type_name.as_str(), "size", size.as_str())
+}
+
+/// Adds the defaults of a struct's pointers.
+pub fn push_defaults(
+    alloc: Global,
+    code: &mut Code,
+    site: Site<'_>,
+    body: &Struct,
+) -> Result<(), AllocError> {
+    for field in body.fields.as_slice() {
+        if let Slot::At(place) = &field.slot
+            && has_default(place)
+        {
+            push_default(alloc, code, site, field, place)?;
+        }
+    }
+    Ok(())
+}
+
+// Adds the default of a pointer: its words, and the getter that returns a view of them.
+fn push_default(
+    alloc: Global,
+    code: &mut Code,
+    site: Site<'_>,
+    field: &Field,
+    place: &Place,
+) -> Result<(), AllocError> {
+    let Some(view) = view_of(alloc, site.request, site.node.id, place.of, CONSTANT)? else {
+        return Ok(());
+    };
+    let title = format!(in alloc; "The default of the field `{}`.", field.name)?;
+    let name = default_name(alloc, field.name.as_str())?;
+    let mut getter = snake(alloc, field.name.as_str())?;
+    getter.push_str("_default")?;
+    let words = words_of(alloc, &place.default)?;
+    code.add_gap()?;
+    push_view(
+        alloc,
+        code,
+        title.as_str(),
+        name.as_str(),
+        getter.as_str(),
+        &view,
+        words.as_slice(),
+    )
+}

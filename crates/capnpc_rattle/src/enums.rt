@@ -1,0 +1,193 @@
+//! Enums.
+use crate::code::{Code, Holes};
+use crate::names::{enum_type, scope_name, variant};
+use crate::paths::path_to;
+use crate::schema::{Base, Body, Field, Node, Request, Slot};
+use crate::shown::Site;
+use crate::templates::{ENUM_END, ENUM_HEAD};
+use std::alloc::{AllocError, Global};
+use std::fmt::Write;
+
+/// The cases of a clause over an enum of this name: which number each enumerant has, and that any other
+/// is kept.
+pub fn cases_of(
+    alloc: Global,
+    request: &Request,
+    id: u64,
+    type_name: &str,
+) -> Result<String, AllocError> {
+    let mut text = String::new(alloc);
+    let mut count: u32 = 0;
+    for name in enumerants_of(request, id) {
+        let variant = variant(alloc, name.as_str())?;
+        write!(text, "  | {type_name}.{variant} ↦ number ≡ {count}\n")?;
+        count = count.saturating_add(1);
+    }
+    write!(
+        text,
+        "  | {type_name}.NotInSchema unknown ↦ (unknown ≡ number) × ({count} ≤ number)"
+    )?;
+    Ok(text)
+}
+
+// The names of the enumerants of a node.
+fn enumerants_of(request: &Request, id: u64) -> &[String] {
+    match request.find(id) {
+        Some(node) => match &node.body {
+            Body::Enum(names) => names.as_slice(),
+            _ => &[],
+        },
+        None => &[],
+    }
+}
+
+/// The name of an enum in the module of a struct that has a field of it: its own, or with the name of what
+/// it is declared in before it, where an enum of its name is in the module already.
+pub fn enum_name(alloc: Global, site: Site<'_>, id: u64) -> Result<String, AllocError> {
+    let Some(node) = site.request.find(id) else {
+        return String::from_str(alloc, "u16");
+    };
+    let name = enum_type(alloc, node.name.as_str())?;
+    if !is_other(alloc, site, node, name.as_str())? {
+        return Ok(name);
+    }
+    let mut longer = match site.request.find(node.scope) {
+        Some(scope) => scope_name(alloc, scope.name.as_str())?,
+        None => String::new(alloc),
+    };
+    longer.push_str(name.as_str())?;
+    Ok(longer)
+}
+
+// Whether another enum has this name in the module: one that is declared there, or that of a field before.
+fn is_other(alloc: Global, site: Site<'_>, node: &Node, name: &str) -> Result<bool, AllocError> {
+    if node.scope == site.node.id {
+        return Ok(false);
+    }
+    for nested in site.node.nested.as_slice() {
+        if is_named(alloc, site.request, *nested, name)? {
+            return Ok(true);
+        }
+    }
+    for id in enums_of(alloc, site.node)?.as_slice() {
+        if *id == node.id {
+            return Ok(false);
+        }
+        if is_named(alloc, site.request, *id, name)? {
+            return Ok(true);
+        }
+    }
+    Ok(false)
+}
+
+// Whether a node is an enum of this name.
+fn is_named(alloc: Global, request: &Request, id: u64, name: &str) -> Result<bool, AllocError> {
+    let Some(node) = request.find(id) else {
+        return Ok(false);
+    };
+    match &node.body {
+        Body::Enum(_) => Ok(enum_type(alloc, node.name.as_str())?.as_str() == name),
+        _ => Ok(false),
+    }
+}
+
+// The enums that the fields of a struct hold, each once.
+fn enums_of(alloc: Global, node: &Node) -> Result<Vec<u64>, AllocError> {
+    let mut found: Vec<u64> = Vec::new(alloc);
+    let Body::Struct(body) = &node.body else {
+        return Ok(found);
+    };
+    for field in body.fields.as_slice() {
+        if let Some(id) = enum_of(field)
+            && !found.contains(&id)
+        {
+            found.push(id)?;
+        }
+    }
+    Ok(found)
+}
+
+// The enum that a field holds, where it holds one.
+fn enum_of(field: &Field) -> Option<u64> {
+    match &field.slot {
+        Slot::At(place) if place.of.lists == 0 => match place.of.base {
+            Base::Enum(id) => Some(id),
+            _ => None,
+        },
+        _ => None,
+    }
+}
+
+/// The lines that bring the enums of a struct's fields into its module, so that clauses may name their
+/// variants.
+pub fn enum_uses(alloc: Global, site: Site<'_>) -> Result<Vec<String>, AllocError> {
+    let mut lines: Vec<(String, String)> = Vec::new(alloc);
+    for id in enums_of(alloc, site.node)?.as_slice() {
+        let Some(node) = site.request.find(*id) else {
+            continue;
+        };
+        if node.scope == site.node.id {
+            continue;
+        }
+        let path = path_to(alloc, site.request, site.node.id, *id)?;
+        let name = enum_name(alloc, site, *id)?;
+        let (path, name) = (path.as_str(), name.as_str());
+        let line = if enum_type(alloc, node.name.as_str())?.as_str() == name {
+            format!(in alloc; "use {path};")?
+        } else {
+            format!(in alloc; "use {path} as {name};")?
+        };
+        lines.push((order_of(alloc, path)?, line))?;
+    }
+    lines.sort()?;
+    let mut sorted = Vec::new(alloc);
+    for (_, line) in lines {
+        sorted.push(line)?;
+    }
+    Ok(sorted)
+}
+
+// A text by which paths are in the order of `rt fmt`: those that lead further out stand first.
+fn order_of(alloc: Global, path: &str) -> Result<String, AllocError> {
+    let mut text = String::new(alloc);
+    for part in path.split("::") {
+        text.push_str(if part == "super" { " " } else { part })?;
+        text.push(' ')?;
+    }
+    Ok(text)
+}
+
+/// Adds an enum.
+pub fn push_enum(
+    alloc: Global,
+    code: &mut Code,
+    request: &Request,
+    node: &Node,
+    names: &[String],
+) -> Result<(), AllocError> {
+    let type_name = enum_type(alloc, node.name.as_str())?;
+    let type_name = type_name.as_str();
+    code.add_comment(node.comment.as_str())?;
+    code.add_with(ENUM_HEAD, "type", type_name)?;
+    code.depth = code.depth.saturating_add(1);
+    let mut arms = String::new(alloc);
+    let mut index: usize = 0;
+    for name in names {
+        if let Some(comment) = node.member_comments.get(index) {
+            code.add_comment(comment.as_str())?;
+        }
+        let variant = variant(alloc, name.as_str())?;
+        let variant = variant.as_str();
+        code.add_with("@name@,", "name", variant)?;
+        write!(arms, "{index} => {type_name}::{variant},\n")?;
+        index = index.saturating_add(1);
+    }
+    write!(arms, "unknown => {type_name}::NotInSchema(unknown),")?;
+    code.depth = code.depth.saturating_sub(1);
+    let cases = cases_of(alloc, request, node.id, type_name)?;
+    let holes = Holes::new(alloc)
+        .with("type", type_name)?
+        .holding("cases", cases)?
+        .holding("arms", arms)?;
+    code.add(ENUM_END, &holes)
+}

@@ -1,0 +1,85 @@
+//! The getters of fields.
+use crate::code::{Code, Holes, fill_with};
+use crate::names::snake;
+use crate::numbers::number_of;
+use crate::schema::{Base, Field, Place, Slot};
+use crate::shown::{Shown, Site};
+use crate::signatures::signature;
+use crate::templates::{GETTER, HAS, LEFT_OUT, VOID};
+use std::alloc::{AllocError, Global};
+
+/// Adds the getter of a field, of which the schema says this, and whether it is there where it is a pointer.
+pub fn push_field(
+    alloc: Global,
+    code: &mut Code,
+    site: Site<'_>,
+    field: &Field,
+    comment: &str,
+    shown: Option<&Shown>,
+) -> Result<(), AllocError> {
+    let name = snake(alloc, field.name.as_str())?;
+    let name = name.as_str();
+    let Some(shown) = shown else {
+        if !is_nothing(field) {
+            return code.add_with(LEFT_OUT, "field", field.name.as_str());
+        }
+        push_comment(code, field, comment)?;
+        return code.add_with(VOID, "name", name);
+    };
+    push_comment(code, field, comment)?;
+    let type_name = fill_with(alloc, shown.type_name.as_str(), "borrow", site.borrow())?;
+    let signature = signature(alloc, code.depth, name, "&self", type_name.as_str())?;
+    let holes = Holes::new(alloc).holding("signature", signature)?;
+    let fact = fill_with(alloc, shown.fact.as_str(), "value", "result")?;
+    let holes = holes
+        .holding("fact", fact)?
+        .with("fields", site.fields())?
+        .with("body", shown.body.as_str())?;
+    code.add(GETTER, &holes)?;
+    push_has(alloc, code, site, field, name)
+}
+
+// Adds what the schema says of a field; where it says nothing, its name.
+fn push_comment(code: &mut Code, field: &Field, comment: &str) -> Result<(), AllocError> {
+    if comment.is_empty() {
+        code.add_with("/// The field `@name@`.", "name", field.name.as_str())
+    } else {
+        code.add_comment(comment)
+    }
+}
+
+// Adds whether a field is there, where it is a pointer.
+fn push_has(
+    alloc: Global,
+    code: &mut Code,
+    site: Site<'_>,
+    field: &Field,
+    name: &str,
+) -> Result<(), AllocError> {
+    let Slot::At(place) = &field.slot else {
+        return Ok(());
+    };
+    if !is_pointer(place) {
+        return Ok(());
+    }
+    let offset = format!(in alloc; "{}", place.offset)?;
+    let holes = Holes::new(alloc)
+        .with("name", name)?
+        .with("field", field.name.as_str())?
+        .with("fields", site.fields())?
+        .holding("offset", offset)?;
+    code.add(HAS, &holes)
+}
+
+// Whether a field is nothing.
+fn is_nothing(field: &Field) -> bool {
+    match &field.slot {
+        Slot::At(place) => place.of.lists == 0 && place.of.base == Base::Void,
+        _ => false,
+    }
+}
+
+// Whether a pointer stands at a place.
+fn is_pointer(place: &Place) -> bool {
+    place.of.lists > 0 || (number_of(place.of.base).is_none() && place.of.base != Base::Void)
+}

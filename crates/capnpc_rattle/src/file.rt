@@ -1,0 +1,135 @@
+//! The code of a file: its nodes, each in the module of the node that it is declared in.
+use crate::code::Code;
+use crate::constants::push_constants;
+use crate::enums::push_enum;
+use crate::imports::{push_definitions, push_imports};
+use crate::names::base_name;
+use crate::schema::{Body, Node, Request, Slot, Struct};
+use crate::structs::{close_module, open_module, push_struct};
+use crate::templates::FILE;
+use std::alloc::{AllocError, Global};
+
+// What is still to be written.
+#[derive(Clone, Copy)]
+enum Step {
+    // A node with all in it.
+    Node(u64),
+    // The end of a module.
+    End,
+}
+
+/// The code of a file.
+pub fn code_of(alloc: Global, request: &Request, file: u64) -> Result<String, AllocError> {
+    let mut body = Code::new(alloc, 0);
+    let mut steps = Vec::new(alloc);
+    if let Some(node) = request.find(file) {
+        push_declared(alloc, &mut body, &mut steps, request, node)?;
+    }
+    for _ in 0..u64::MAX {
+        let Some(step) = steps.pop() else {
+            break;
+        };
+        match step {
+            Step::End => close_module(&mut body)?,
+            Step::Node(id) => {
+                if let Some(node) = request.find(id) {
+                    push_node(alloc, &mut body, &mut steps, request, node)?;
+                }
+            }
+        }
+    }
+    let mut code = Code::new(alloc, 0);
+    let name = base_name(request.file_name(file).unwrap_or(""));
+    code.add_with(FILE, "file", name)?;
+    push_definitions(alloc, &mut code, body.text.as_str())?;
+    code.text.push_str(body.text.as_str())?;
+    Ok(code.text)
+}
+
+// Adds the constants of a file or an interface, with what they import; what else is declared there is still
+// to be written.
+fn push_declared(
+    alloc: Global,
+    code: &mut Code,
+    steps: &mut Vec<Step>,
+    request: &Request,
+    node: &Node,
+) -> Result<(), AllocError> {
+    let mut constants = Code::new(alloc, code.depth);
+    push_constants(alloc, &mut constants, request, node)?;
+    let mut imports = Code::new(alloc, code.depth);
+    push_imports(alloc, &mut imports, &[], constants.text.as_str())?;
+    if !imports.text.is_empty() {
+        code.add_gap()?;
+    }
+    code.text.push_str(imports.text.as_str())?;
+    code.text.push_str(constants.text.as_str())?;
+    push_nested(steps, node)
+}
+
+// Adds the nodes that are declared in a node to what is still to be written, the first on top.
+fn push_nested(steps: &mut Vec<Step>, node: &Node) -> Result<(), AllocError> {
+    for id in node.nested.iter().rev() {
+        steps.push(Step::Node(*id))?;
+    }
+    Ok(())
+}
+
+// Adds the groups of a struct so.
+fn push_groups(steps: &mut Vec<Step>, body: &Struct) -> Result<(), AllocError> {
+    for field in body.fields.iter().rev() {
+        if let Slot::Group(id) = field.slot {
+            steps.push(Step::Node(id))?;
+        }
+    }
+    Ok(())
+}
+
+// Adds a node; what is declared in it is still to be written. Constants are with the node that declares
+// them.
+fn push_node(
+    alloc: Global,
+    code: &mut Code,
+    steps: &mut Vec<Step>,
+    request: &Request,
+    node: &Node,
+) -> Result<(), AllocError> {
+    match &node.body {
+        Body::Struct(body) => {
+            code.add_gap()?;
+            push_struct(alloc, code, request, node, body)?;
+            steps.push(Step::End)?;
+            push_nested(steps, node)?;
+            push_groups(steps, body)
+        }
+        Body::Enum(names) => {
+            code.add_gap()?;
+            push_enum(alloc, code, request, node, names.as_slice())
+        }
+        Body::Interface => push_interface(alloc, code, steps, request, node),
+        Body::Constant(_, _) | Body::File | Body::Other => Ok(()),
+    }
+}
+
+// Says that an interface is left out, and opens its module where something is declared in it.
+fn push_interface(
+    alloc: Global,
+    code: &mut Code,
+    steps: &mut Vec<Step>,
+    request: &Request,
+    node: &Node,
+) -> Result<(), AllocError> {
+    let name = node.name.as_str();
+    code.add_gap()?;
+    if node.nested.is_empty() {
+        return code.add_with("// The interface `@name@` is left out.", "name", name);
+    }
+    open_module(alloc, code, node)?;
+    code.add_with(
+        "//! What is declared in the interface `@name@`, which itself is left out.",
+        "name",
+        name,
+    )?;
+    steps.push(Step::End)?;
+    push_declared(alloc, code, steps, request, node)
+}

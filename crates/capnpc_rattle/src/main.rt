@@ -1,0 +1,76 @@
+//! A plugin of the schema compiler: `capnp compile -o rattle` writes by it the types of a schema, with a
+//! contract at each getter that is proved when their user checks his crate.
+//!
+//! It reads a `CodeGeneratorRequest` from standard input, and writes `NAME_capnp.rt` for each file that is
+//! asked for, in the folder in which it runs, or in that of its first argument; to standard output where
+//! that is `-`. Nothing is written before all of it is made.
+#![tactic(auto)]
+
+mod checked;
+mod code;
+mod constants;
+mod defaults;
+mod enums;
+mod fields;
+mod file;
+mod imports;
+mod input;
+mod names;
+mod numbers;
+mod output;
+mod paths;
+mod request;
+mod schema;
+mod shown;
+mod signatures;
+mod structs;
+mod taken;
+mod templates;
+mod types;
+mod unions;
+mod views;
+mod words;
+
+use crate::output::{outputs_of, write_outputs};
+use anyhow::{Context, Result};
+use capnp_frame::serialize::OwnedSegments;
+use capnp_schema::schema_capnp::code_generator_request;
+use std::env;
+use std::process::ExitCode;
+
+fn main(rt: HostRuntime) -> ExitCode {
+    match run(rt) {
+        Ok(()) => ExitCode::SUCCESS,
+        Err(error) => {
+            let _ = eprintln!(rt; "capnpc-rattle: {error:#}");
+            ExitCode::FAILURE
+        }
+    }
+}
+
+// Reads the request, and writes what it asks for.
+fn run(rt: HostRuntime) -> Result<()> {
+    let alloc = rt.alloc();
+    let words: Vec<String> = env::args(&rt)?.collect(alloc)?;
+    let folder = match words.get(1) {
+        Some(folder) => folder.as_str(),
+        None => ".",
+    };
+    let message = input::read_message(alloc, &mut rt.stdin())?;
+    let root: code_generator_request::Reader<'_, OwnedSegments> = message
+        .get_root()
+        .and_then(|root| root.get_as())
+        .context("standard input is no request of the schema compiler")?;
+    let request = request::read_request(alloc, &root).context(
+        "standard input is no request of the schema compiler",
+    )?;
+    let outputs = outputs_of(alloc, &request)?;
+    if folder != "-" {
+        return write_outputs(alloc, &rt, folder, outputs.as_slice());
+    }
+    for output in outputs.as_slice() {
+        let code = output.code.as_str();
+        print!(rt; "{code}")?;
+    }
+    Ok(())
+}

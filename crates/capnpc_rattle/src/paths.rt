@@ -1,0 +1,92 @@
+//! Paths from the module of one node to what another declares. Files stand beside one another.
+use crate::names::{enum_type, file_module, module};
+use crate::schema::{Body, Request};
+use std::alloc::{AllocError, Global};
+
+/// As deep as declarations may be nested; the schema compiler takes no deeper ones.
+const MAX_DEPTH: u32 = 64;
+
+/// The path to the module of a struct, or to the enum, that a node declares, as it is written in the
+/// module of another.
+pub fn path_to(alloc: Global, request: &Request, site: u64, id: u64) -> Result<String, AllocError> {
+    let from = chain_of(alloc, request, site)?;
+    let to = chain_of(alloc, request, id)?;
+    let mut text = String::new(alloc);
+    if from.file != to.file {
+        push_supers(&mut text, from.names.len().saturating_add(1))?;
+        let file = file_module(alloc, request.file_name(to.file).unwrap_or(""))?;
+        text.push_str(file.as_str())?;
+        text.push_str("::")?;
+        push_names(&mut text, to.names.as_slice())?;
+        return Ok(text);
+    }
+    let shared = shared_len(from.names.as_slice(), to.names.as_slice());
+    push_supers(&mut text, from.names.len().saturating_sub(shared))?;
+    push_names(&mut text, to.names.get(shared..).unwrap_or(&[]))?;
+    Ok(text)
+}
+
+/// Where a node is declared.
+#[derive(Drop)]
+struct Chain {
+    file: u64,
+    /// The modules from the file on, the node's own name last.
+    names: Vec<String>,
+}
+
+// Where a node is declared.
+fn chain_of(alloc: Global, request: &Request, id: u64) -> Result<Chain, AllocError> {
+    let mut names: Vec<String> = Vec::new(alloc);
+    let mut next = id;
+    let mut file = 0;
+    for _ in 0..MAX_DEPTH {
+        let Some(node) = request.find(next) else {
+            break;
+        };
+        let name = match &node.body {
+            Body::File => {
+                file = node.id;
+                break;
+            }
+            Body::Enum(_) => enum_type(alloc, node.name.as_str())?,
+            _ => module(alloc, node.name.as_str())?,
+        };
+        names.push(name)?;
+        next = node.scope;
+    }
+    names.reverse();
+    Ok(Chain { file, names })
+}
+
+// How many names two chains share in front, but for the last one of the second.
+fn shared_len(from: &[String], to: &[String]) -> usize {
+    let mut shared: usize = 0;
+    for (one, other) in from.iter().zip(to) {
+        if shared.saturating_add(1) == to.len() || one.as_str() != other.as_str() {
+            break;
+        }
+        shared = shared.saturating_add(1);
+    }
+    shared
+}
+
+// Adds the way out of a given number of modules.
+fn push_supers(text: &mut String, count: usize) -> Result<(), AllocError> {
+    for _ in 0..count {
+        text.push_str("super::")?;
+    }
+    Ok(())
+}
+
+// Adds names, one after the other.
+fn push_names(text: &mut String, names: &[String]) -> Result<(), AllocError> {
+    let mut is_first = true;
+    for name in names {
+        if !is_first {
+            text.push_str("::")?;
+        }
+        is_first = false;
+        text.push_str(name.as_str())?;
+    }
+    Ok(())
+}

@@ -1,0 +1,161 @@
+//! The request that the schema compiler hands to its plugins, read by the types that this compiler has made
+//! of `schema.capnp`.
+use crate::schema::{Body, Field, Node, Place, Request, RequestedFile, Slot, Struct};
+use crate::types::{read_type, read_value};
+use anyhow::{Result, bail};
+use capnp_frame::message::ReaderSegments;
+use capnp_schema::schema_capnp::{code_generator_request, field, node};
+use capnp_wire::text;
+use std::alloc::Global;
+use std::str::from_utf8;
+
+/// The request at the root of a message.
+pub fn read_request<S: ReaderSegments>(
+    alloc: Global,
+    root: &code_generator_request::Reader<'_, S>,
+) -> Result<Request> {
+    let mut nodes = Vec::new(alloc);
+    let list = root.get_nodes()?;
+    for index in 0..list.len() {
+        nodes.push(read_node(alloc, &list.get(index))?)?;
+    }
+    let mut files = Vec::new(alloc);
+    let list = root.get_requested_files()?;
+    for index in 0..list.len() {
+        let file = list.get(index);
+        files.push(RequestedFile {
+            id: file.get_id(),
+            name: read_text(alloc, file.get_filename()?)?,
+        })?;
+    }
+    let mut request = Request { nodes, files };
+    add_comments(alloc, root, &mut request)?;
+    Ok(request)
+}
+
+/// A text that is UTF-8.
+pub fn read_text(alloc: Global, text: text::Reader<'_>) -> Result<String> {
+    match from_utf8(text.as_bytes()) {
+        Ok(text) => Ok(String::from_str(alloc, text)?),
+        Err(_) => bail!("a text of the request is no UTF-8"),
+    }
+}
+
+// A node, without the comments, which stand elsewhere in the request.
+fn read_node<S: ReaderSegments>(alloc: Global, read: &node::Reader<'_, S>) -> Result<Node> {
+    let shown = read_text(alloc, read.get_display_name()?)?;
+    let shown = shown.as_str();
+    let prefix = read.get_display_name_prefix_length() as usize;
+    let mut nested = Vec::new(alloc);
+    let list = read.get_nested_nodes()?;
+    for index in 0..list.len() {
+        nested.push(list.get(index).get_id())?;
+    }
+    Ok(Node {
+        id: read.get_id(),
+        scope: read.get_scope_id(),
+        name: String::from_str(alloc, shown.get(prefix..).unwrap_or(shown))?,
+        comment: String::new(alloc),
+        member_comments: Vec::new(alloc),
+        nested,
+        body: read_body(alloc, read)?,
+    })
+}
+
+// What a node declares.
+fn read_body<S: ReaderSegments>(alloc: Global, read: &node::Reader<'_, S>) -> Result<Body> {
+    match read.which() {
+        node::Which::File => Ok(Body::File),
+        node::Which::Struct(group) => Ok(Body::Struct(read_struct(alloc, &group)?)),
+        node::Which::Enum(group) => {
+            let mut names = Vec::new(alloc);
+            let list = group.get_enumerants()?;
+            for index in 0..list.len() {
+                names.push(read_text(alloc, list.get(index).get_name()?)?)?;
+            }
+            Ok(Body::Enum(names))
+        }
+        node::Which::Interface(_) => Ok(Body::Interface),
+        node::Which::Const(group) => Ok(Body::Constant(
+            read_type(&group.get_type()?)?,
+            read_value(alloc, &group.get_value()?)?,
+        )),
+        node::Which::Annotation(_) | node::Which::NotInSchema(_) => Ok(Body::Other),
+    }
+}
+
+// What a node says of a struct.
+fn read_struct<S: ReaderSegments>(
+    alloc: Global,
+    group: &node::struct_::Reader<'_, '_, S>,
+) -> Result<Struct> {
+    let mut fields = Vec::new(alloc);
+    let list = group.get_fields()?;
+    for index in 0..list.len() {
+        fields.push(read_field(alloc, &list.get(index))?)?;
+    }
+    Ok(Struct {
+        is_group: group.get_is_group(),
+        discriminant: if group.get_discriminant_count() == 0 {
+            None
+        } else {
+            Some(group.get_discriminant_offset())
+        },
+        fields,
+    })
+}
+
+// A field.
+fn read_field<S: ReaderSegments>(alloc: Global, read: &field::Reader<'_, S>) -> Result<Field> {
+    let member = read.get_discriminant_value();
+    Ok(Field {
+        name: read_text(alloc, read.get_name()?)?,
+        member: if member == field::NO_DISCRIMINANT {
+            None
+        } else {
+            Some(member)
+        },
+        slot: match read.which() {
+            field::Which::Slot(slot) => Slot::At(Place {
+                offset: slot.get_offset(),
+                of: read_type(&slot.get_type()?)?,
+                default: read_value(alloc, &slot.get_default_value()?)?,
+            }),
+            field::Which::Group(group) => Slot::Group(group.get_type_id()),
+            field::Which::NotInSchema(_) => Slot::Unknown,
+        },
+    })
+}
+
+// Adds the comments to the nodes that they stand at.
+fn add_comments<S: ReaderSegments>(
+    alloc: Global,
+    root: &code_generator_request::Reader<'_, S>,
+    request: &mut Request,
+) -> Result<()> {
+    let list = root.get_source_info()?;
+    for index in 0..list.len() {
+        let info = list.get(index);
+        let id = info.get_id();
+        for node in request.nodes.as_mut_slice() {
+            if node.id == id {
+                node.comment = read_text(alloc, info.get_doc_comment()?)?;
+                node.member_comments = read_member_comments(alloc, &info)?;
+            }
+        }
+    }
+    Ok(())
+}
+
+// The comments of the members of a node.
+fn read_member_comments<S: ReaderSegments>(
+    alloc: Global,
+    info: &node::source_info::Reader<'_, S>,
+) -> Result<Vec<String>> {
+    let mut comments = Vec::new(alloc);
+    let list = info.get_members()?;
+    for index in 0..list.len() {
+        comments.push(read_text(alloc, list.get(index).get_doc_comment()?)?)?;
+    }
+    Ok(comments)
+}

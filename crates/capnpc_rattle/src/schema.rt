@@ -1,0 +1,157 @@
+//! A schema, as a request to generate code has it (`schema.capnp` of Cap'n Proto): what the compiler
+//! needs of it.
+
+/// A declaration.
+#[derive(Drop)]
+pub struct Node {
+    pub id: u64,
+    /// The node in which it is declared; 0 for a file.
+    pub scope: u64,
+    /// The name within that node.
+    pub name: String,
+    /// The comment that stands at it; empty where there is none.
+    pub comment: String,
+    /// The comments of its fields or enumerants, in the order of these.
+    pub member_comments: Vec<String>,
+    /// The nodes that are declared in it.
+    pub nested: Vec<u64>,
+    pub body: Body,
+}
+
+/// What a node declares.
+#[derive(Drop)]
+pub enum Body {
+    File,
+    Struct(Struct),
+    /// The names of the enumerants, by their numbers.
+    Enum(Vec<String>),
+    Interface,
+    Constant(Type, Value),
+    /// An annotation, or what this compiler doesn't know.
+    Other,
+}
+
+/// A struct, or a group of one.
+#[derive(Drop)]
+pub struct Struct {
+    pub is_group: bool,
+    /// Where the number stands that says which member of the union is there, in units of two bytes; none
+    /// where there is no union.
+    pub discriminant: Option<u32>,
+    pub fields: Vec<Field>,
+}
+
+/// A field of a struct.
+#[derive(Drop)]
+pub struct Field {
+    pub name: String,
+    /// Its number among the members of the union, where it is one.
+    pub member: Option<u16>,
+    pub slot: Slot,
+}
+
+/// Where a field stands.
+#[derive(Drop)]
+pub enum Slot {
+    At(Place),
+    /// In a group, which is a node.
+    Group(u64),
+    /// What this compiler doesn't know.
+    Unknown,
+}
+
+/// Where a field of the data section or a pointer stands.
+#[derive(Drop)]
+pub struct Place {
+    /// In units of the field's own width, or among the pointers.
+    pub offset: u32,
+    pub of: Type,
+    pub default: Value,
+}
+
+/// A type: what the elements are of lists of lists, to a given depth.
+#[derive(Clone, Copy)]
+pub struct Type {
+    /// How many lists there are around the base; 0 for the base itself.
+    pub lists: u32,
+    pub base: Base,
+}
+
+/// A type that is no list.
+#[derive(Clone, Copy, PartialEq, Eq)]
+pub enum Base {
+    Void,
+    Bool,
+    Int8,
+    Int16,
+    Int32,
+    Int64,
+    Uint8,
+    Uint16,
+    Uint32,
+    Uint64,
+    Float32,
+    Float64,
+    Text,
+    Data,
+    /// An enum, by its node.
+    Enum(u64),
+    /// A struct, by its node.
+    Struct(u64),
+    /// An interface, or what this compiler doesn't know.
+    Interface,
+    AnyPointer,
+}
+
+/// A value of a constant or of a default.
+#[derive(Drop)]
+pub enum Value {
+    /// The bits of a number, a bool or an enum; 0 for nothing.
+    Bits(u64),
+    Text(String),
+    Data(Vec<u8>),
+    /// A null pointer.
+    Null,
+    /// A list, a struct or any pointer that is not null: the words of a message of one segment with it as
+    /// the root.
+    Object(Vec<u8>),
+}
+
+/// A file that code is asked for.
+#[derive(Drop)]
+pub struct RequestedFile {
+    pub id: u64,
+    pub name: String,
+}
+
+/// A request to generate code.
+#[derive(Drop)]
+pub struct Request {
+    pub nodes: Vec<Node>,
+    pub files: Vec<RequestedFile>,
+}
+
+impl Request {
+    /// The node of this number.
+    pub fn find(&self, id: u64) -> Option<&Node> {
+        for node in self.nodes.as_slice() {
+            if node.id == id {
+                return Some(node);
+            }
+        }
+        None
+    }
+
+    /// The name of a file, as it was asked for or as it was declared.
+    pub fn file_name(&self, id: u64) -> Option<&str> {
+        for file in self.files.as_slice() {
+            if file.id == id {
+                return Some(file.name.as_str());
+            }
+        }
+        match self.find(id) {
+            Some(node) => Some(node.name.as_str()),
+            None => None,
+        }
+    }
+}

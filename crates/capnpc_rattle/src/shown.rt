@@ -1,0 +1,169 @@
+//! What getters return, and what clauses say of it.
+use crate::code::{Holes, fill, fill_with};
+use crate::defaults::{has_default, shown_default};
+use crate::enums::{cases_of, enum_name};
+use crate::names::module;
+use crate::numbers::{Stored, default_bits, number_of};
+use crate::schema::{Base, Body, Field, Node, Place, Request, Slot};
+use crate::templates::{
+    ANY_POINTER_BODY, ANY_POINTER_FACT, ENUM_FACT, GROUP_BODY, POINTER_FACT, VIEW_BODY,
+};
+use crate::views::{MESSAGE, View, view_of};
+use std::alloc::{AllocError, Global};
+
+/// The struct or group whose fields are written.
+#[derive(Clone, Copy)]
+pub struct Site<'r> {
+    pub request: &'r Request,
+    pub node: &'r Node,
+}
+
+impl<'r> Site<'r> {
+    /// Whether it is a group.
+    pub fn is_group(&self) -> bool {
+        match &self.node.body {
+            Body::Struct(body) => body.is_group,
+            _ => false,
+        }
+    }
+
+    /// The struct of the fields, as a clause names it.
+    pub fn fields(&self) -> &'static str {
+        if self.is_group() {
+            "struct_of S.segments self.now.fields.now"
+        } else {
+            "struct_of S.segments self.now.fields"
+        }
+    }
+
+    /// How long the reader of a group in it may be used.
+    pub fn borrow(&self) -> &'static str {
+        if self.is_group() { "'b" } else { "'_" }
+    }
+}
+
+/// What a getter returns.
+#[derive(Drop)]
+pub struct Shown {
+    /// The type, where `@borrow@` stands for the lifetime of a borrow of the reader.
+    pub type_name: String,
+    /// What a clause says of it, where `@value@` stands for what is returned, and `fields` is the struct.
+    pub fact: String,
+    /// The code that returns it.
+    pub body: String,
+}
+
+/// What the getter of a field returns; `None` for nothing, and for what is left out.
+pub fn shown_of(alloc: Global, site: Site<'_>, field: &Field) -> Result<Option<Shown>, AllocError> {
+    match &field.slot {
+        Slot::Group(id) => match site.request.find(*id) {
+            Some(group) => Ok(Some(shown_group(alloc, site, group)?)),
+            None => Ok(None),
+        },
+        Slot::At(place) => match number_of(place.of.base) {
+            Some(number) if place.of.lists == 0 => {
+                let stored = Stored {
+                    number,
+                    offset: place.offset,
+                    default: default_bits(&place.default),
+                };
+                Ok(Some(shown_number(alloc, site, &stored, place.of.base)?))
+            }
+            _ => shown_pointer(alloc, site, field, place),
+        },
+        Slot::Unknown => Ok(None),
+    }
+}
+
+// A group, whose reader borrows the struct.
+fn shown_group(alloc: Global, site: Site<'_>, group: &Node) -> Result<Shown, AllocError> {
+    let name = module(alloc, group.name.as_str())?;
+    let name = name.as_str();
+    let fields = if site.is_group() {
+        "self.fields"
+    } else {
+        "&self.fields"
+    };
+    let holes = Holes::new(alloc)
+        .with("name", name)?
+        .with("fields", fields)?;
+    Ok(Shown {
+        type_name: fill_with(alloc, "@name@::Reader<@borrow@, 'a, S>", "name", name)?,
+        fact: String::from_str(alloc, "struct_of S.segments @value@.fields.now ≡ fields")?,
+        body: fill(alloc, GROUP_BODY, &holes)?,
+    })
+}
+
+// A number, a bool or an enum.
+fn shown_number(
+    alloc: Global,
+    site: Site<'_>,
+    stored: &Stored,
+    base: Base,
+) -> Result<Shown, AllocError> {
+    let value = stored.clause(alloc)?;
+    let value = value.as_str();
+    let call = stored.call(alloc)?;
+    let Base::Enum(id) = base else {
+        return Ok(Shown {
+            type_name: String::from_str(alloc, stored.number.type_name)?,
+            fact: fill_with(alloc, "@value@ ≡ @bits@", "bits", value)?,
+            body: call,
+        });
+    };
+    let name = enum_name(alloc, site, id)?;
+    let cases = cases_of(alloc, site.request, id, name.as_str())?;
+    let call = call.as_str();
+    let holes = Holes::new(alloc)
+        .with("bits", value)?
+        .holding("cases", cases)?;
+    Ok(Shown {
+        fact: fill(alloc, ENUM_FACT, &holes)?,
+        body: format!(in alloc; "{name}::from_number({call})")?,
+        type_name: name,
+    })
+}
+
+// A pointer.
+fn shown_pointer(
+    alloc: Global,
+    site: Site<'_>,
+    field: &Field,
+    place: &Place,
+) -> Result<Option<Shown>, AllocError> {
+    if place.of.lists == 0 && place.of.base == Base::AnyPointer {
+        return Ok(Some(shown_any_pointer(alloc, place.offset)?));
+    }
+    if has_default(place) {
+        return shown_default(alloc, site, field, place);
+    }
+    match view_of(alloc, site.request, site.node.id, place.of, MESSAGE)? {
+        Some(view) => Ok(Some(shown_view(alloc, place.offset, &view)?)),
+        None => Ok(None),
+    }
+}
+
+// A pointer that may lead to anything, by its number among the pointers.
+fn shown_any_pointer(alloc: Global, offset: u32) -> Result<Shown, AllocError> {
+    let offset = format!(in alloc; "{offset}")?;
+    let offset = offset.as_str();
+    Ok(Shown {
+        type_name: String::from_str(alloc, "any_pointer::Reader<'a, S>")?,
+        fact: fill_with(alloc, ANY_POINTER_FACT, "offset", offset)?,
+        body: fill_with(alloc, ANY_POINTER_BODY, "offset", offset)?,
+    })
+}
+
+// A view of what a pointer leads to.
+fn shown_view(alloc: Global, offset: u32, view: &View) -> Result<Shown, AllocError> {
+    let offset = format!(in alloc; "{offset}")?;
+    let fact = view.fact(alloc, "@value@")?;
+    let holes = Holes::new(alloc)
+        .holding("offset", offset)?
+        .holding("fact", fact)?;
+    Ok(Shown {
+        type_name: fill_with(alloc, "Result<@view@>", "view", view.type_name.as_str())?,
+        fact: fill(alloc, POINTER_FACT, &holes)?,
+        body: fill(alloc, VIEW_BODY, &holes)?,
+    })
+}

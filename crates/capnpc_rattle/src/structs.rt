@@ -1,0 +1,104 @@
+//! Structs and groups.
+use crate::code::Code;
+use crate::constants::push_constants;
+use crate::defaults::push_defaults;
+use crate::enums::enum_uses;
+use crate::fields::push_field;
+use crate::imports::push_imports;
+use crate::names::module;
+use crate::schema::{Node, Request, Struct};
+use crate::shown::{Site, shown_of};
+use crate::templates::{FROM_POINTER, GROUP_IMPL, GROUP_READER, READER, READER_IMPL};
+use crate::unions::{Members, push_members, push_which};
+use std::alloc::{AllocError, Global};
+
+/// Opens the module of a struct, or of a group, and adds all of it but the modules in it.
+pub fn push_struct(
+    alloc: Global,
+    code: &mut Code,
+    request: &Request,
+    node: &Node,
+    body: &Struct,
+) -> Result<(), AllocError> {
+    let site = Site { request, node };
+    code.add_comment(node.comment.as_str())?;
+    open_module(alloc, code, node)?;
+    let mut inner = Code::new(alloc, code.depth);
+    push_reader(alloc, &mut inner, site, body)?;
+    push_constants(alloc, &mut inner, request, node)?;
+    let enums = enum_uses(alloc, site)?;
+    push_imports(alloc, code, enums.as_slice(), inner.text.as_str())?;
+    code.add_gap()?;
+    code.text.push_str(inner.text.as_str())
+}
+
+/// Opens the module of a node.
+pub fn open_module(alloc: Global, code: &mut Code, node: &Node) -> Result<(), AllocError> {
+    let name = module(alloc, node.name.as_str())?;
+    code.add_with("pub mod @name@ {", "name", name.as_str())?;
+    code.depth = code.depth.saturating_add(1);
+    Ok(())
+}
+
+/// Closes a module.
+pub fn close_module(code: &mut Code) -> Result<(), AllocError> {
+    code.depth = code.depth.saturating_sub(1);
+    code.add_lines("}")
+}
+
+// Adds the reader, the members of the union where there is one, and how it is read where it is no group.
+fn push_reader(
+    alloc: Global,
+    code: &mut Code,
+    site: Site<'_>,
+    body: &Struct,
+) -> Result<(), AllocError> {
+    code.add_lines(if body.is_group { GROUP_READER } else { READER })?;
+    if !body.fields.is_empty() {
+        code.add_lines(if body.is_group {
+            GROUP_IMPL
+        } else {
+            READER_IMPL
+        })?;
+        code.depth = code.depth.saturating_add(1);
+        let members = push_getters(alloc, code, site, body)?;
+        close_module(code)?;
+        if body.discriminant.is_some() {
+            push_members(alloc, code, &members)?;
+        }
+    }
+    if !body.is_group {
+        code.add_lines(FROM_POINTER)?;
+    }
+    push_defaults(alloc, code, site, body)
+}
+
+// Adds the getters, and returns the members of the union, where there is one.
+fn push_getters(
+    alloc: Global,
+    code: &mut Code,
+    site: Site<'_>,
+    body: &Struct,
+) -> Result<Members, AllocError> {
+    let mut members = Members::new(alloc);
+    let mut index: usize = 0;
+    for field in body.fields.as_slice() {
+        let comment = match site.node.member_comments.get(index) {
+            Some(comment) => comment.as_str(),
+            None => "",
+        };
+        if index > 0 {
+            code.add_gap()?;
+        }
+        index = index.saturating_add(1);
+        let shown = shown_of(alloc, site, field)?;
+        push_field(alloc, code, site, field, comment, shown.as_ref())?;
+        if let Some(number) = field.member {
+            members.push(alloc, field, number, shown.as_ref())?;
+        }
+    }
+    if let Some(offset) = body.discriminant {
+        push_which(alloc, code, site, offset, &members)?;
+    }
+    Ok(members)
+}

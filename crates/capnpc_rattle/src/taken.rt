@@ -1,0 +1,128 @@
+//! Names that a schema may have, and that its code can't: a `_` is added to these.
+use crate::imports::is_definition;
+
+/// Words that are no names of modules: those of the language, crates that the code names, and what the
+/// module of a struct has beside the modules of groups and of what is declared in it.
+const MODULES: &[&str] = &[
+    "abstract",
+    "any_pointer",
+    "anyhow",
+    "as",
+    "async",
+    "await",
+    "become",
+    "box",
+    "break",
+    "capnp_constant",
+    "capnp_frame",
+    "capnp_wire",
+    "const",
+    "continue",
+    "core",
+    "crate",
+    "deriving",
+    "do",
+    "dyn",
+    "else",
+    "ensures",
+    "enum",
+    "extern",
+    "false",
+    "final",
+    "fn",
+    "for",
+    "gen",
+    "ghost",
+    "if",
+    "impl",
+    "in",
+    "let",
+    "lib",
+    "list_reader",
+    "loop",
+    "macro",
+    "match",
+    "mod",
+    "move",
+    "mut",
+    "override",
+    "owned",
+    "prim",
+    "priv",
+    "pub",
+    "reader",
+    "ref",
+    "requires",
+    "return",
+    "self",
+    "static",
+    "std",
+    "struct",
+    "super",
+    "text",
+    "trait",
+    "true",
+    "try",
+    "type",
+    "unsafe",
+    "upgraded",
+    "use",
+    "where",
+    "which",
+    "while",
+    "yield",
+];
+
+/// Words that are no names of enums: what the module of a struct has, what the code calls by its name alone,
+/// and words of clauses.
+const ENUMS: &[&str] = &[
+    "Clone",
+    "Copy",
+    "Debug",
+    "Drop",
+    "Eq",
+    "Err",
+    "FromPointerReader",
+    "ListReader",
+    "None",
+    "Ok",
+    "Option",
+    "OrDefault",
+    "Owned",
+    "PartialEq",
+    "PrimitiveElement",
+    "Reader",
+    "ReaderSegments",
+    "Result",
+    "S",
+    "Self",
+    "Some",
+    "StructReader",
+    "Type",
+    "Unit",
+    "Which",
+    "Words",
+];
+
+/// Words that are no names of variants.
+const VARIANTS: &[&str] = &["Below", "NotInSchema", "Self"];
+
+/// Whether a module can't have this name, in small letters.
+pub fn is_taken_module(name: &str) -> bool {
+    MODULES.contains(&name) || name.starts_with("the_")
+}
+
+/// Whether an enum can't have this name.
+pub fn is_taken_enum(name: &str) -> bool {
+    ENUMS.contains(&name) || name.starts_with("The") || is_definition(name)
+}
+
+/// Whether a variant can't have this name.
+pub fn is_taken_variant(name: &str) -> bool {
+    VARIANTS.contains(&name) || name.starts_with("The")
+}
+
+/// Whether a constant can't have this name, in capital letters.
+pub fn is_taken_constant(name: &str) -> bool {
+    name == "S"
+}

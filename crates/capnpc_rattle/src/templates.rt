@@ -1,0 +1,291 @@
+//! The code that is written of structs, groups and enums, with `@name@` for what differs.
+
+/// What stands at the head of each file.
+pub const FILE: &str =
+    "//! Types of `@file@`, made by `capnpc-rattle`: change that file, and make them again.
+";
+
+/// The types and the reader of a struct, before its fields.
+pub const READER: &str = "/// The type of the schema.
+pub struct Owned;
+
+impl<'a, S: ReaderSegments + 'a> traits::Owned<'a, S> for Owned {
+    type Reader = Reader<'a, S>;
+}
+
+/// A struct of this type in a message. What its writer left out reads as the default.
+#[derive(Drop)]
+pub struct Reader<'a, S: ReaderSegments> {
+    /// The struct whose fields these are.
+    pub fields: StructReader<'a, S>,
+}
+";
+
+/// What stands before the getters of a struct.
+pub const READER_IMPL: &str = "
+impl<'a, S: ReaderSegments> Reader<'a, S> {
+";
+
+/// The reader of a group.
+pub const GROUP_READER: &str = "/// The group, in a struct in a message.
+#[derive(Drop)]
+pub struct Reader<'b, 'a, S: ReaderSegments> {
+    /// The struct whose fields these are.
+    pub fields: &'b StructReader<'a, S>,
+}
+";
+
+/// What stands before the getters of a group.
+pub const GROUP_IMPL: &str = "
+impl<'b, 'a, S: ReaderSegments> Reader<'b, 'a, S> {
+";
+
+/// How a struct is read from a pointer, and a list of such structs.
+pub const FROM_POINTER: &str = "
+impl<'a, S: ReaderSegments> FromPointerReader<'a, S> for Reader<'a, S> {
+    ghost shows = { λ pointer view. IsStruct pointer (struct_of S.segments view.fields) };
+
+    ghost accepts = { λ pointer. Accepts pointer TakesStruct };
+
+    ghost refuses = { λ pointer kind. Refuses pointer DeclinesStruct kind };
+
+    ghost declines = { λ pointer kind. Declines pointer DeclinesStruct kind };
+
+    fn get_from_pointer(reader: any_pointer::Reader<'a, S>) -> Result<Self>
+        ensures { let pointer = pointer_of S.segments reader.entry in IsViewOf pointer
+            (λ view. IsStruct pointer (struct_of S.segments view.fields))
+            (Accepts pointer TakesStruct) (Refuses pointer DeclinesStruct)
+            (Declines pointer DeclinesStruct) result }
+    {
+        match StructReader::get_from_pointer(reader) {
+            Ok(fields) => Ok(Reader { fields }),
+            Err(error) => Err(error),
+        }
+    }
+}
+
+/// A list of such structs in a message; their first fields alone, where an older writer had these.
+#[derive(Drop)]
+pub struct ListReader<'a, S: ReaderSegments> {
+    /// The list whose elements these are.
+    pub elements: upgraded::StructList<'a, S>,
+}
+
+impl<'a, S: ReaderSegments> ListReader<'a, S> {
+    /// The number of elements.
+    pub fn len(&self) -> u32
+        ensures { result ≡ length (upgraded_structs_of S.segments self.now.elements).rows }
+    {
+        self.elements.len()
+    }
+
+    /// The element of this index.
+    pub fn get(&self, index: u32) -> Reader<'a, S>
+        requires { index < length (upgraded_structs_of S.segments self.now.elements).rows }
+        ensures { struct_of S.segments result.fields
+            ≡ element_of (upgraded_structs_of S.segments self.now.elements) index }
+    {
+        Reader {
+            fields: self.elements.get(index),
+        }
+    }
+}
+
+impl<'a, S: ReaderSegments> FromPointerReader<'a, S> for ListReader<'a, S> {
+    ghost shows = { λ pointer view.
+        IsUpgradedStructs pointer (upgraded_structs_of S.segments view.elements) };
+
+    ghost accepts = { λ pointer. Accepts pointer TakesRows };
+
+    ghost refuses = { λ pointer kind. Refuses pointer DeclinesRows kind };
+
+    ghost declines = { λ pointer kind. Declines pointer DeclinesRows kind };
+
+    fn get_from_pointer(reader: any_pointer::Reader<'a, S>) -> Result<Self>
+        ensures { let pointer = pointer_of S.segments reader.entry in IsViewOf pointer
+            (λ view. IsUpgradedStructs pointer (upgraded_structs_of S.segments view.elements))
+            (Accepts pointer TakesRows) (Refuses pointer DeclinesRows)
+            (Declines pointer DeclinesRows) result }
+    {
+        match upgraded::StructList::get_from_pointer(reader) {
+            Ok(elements) => Ok(ListReader { elements }),
+            Err(error) => Err(error),
+        }
+    }
+}
+";
+
+/// The getter of a field.
+pub const GETTER: &str = "@signature@
+    ensures { let fields = @fields@ in
+        @fact@ }
+{
+    @body@
+}
+";
+
+/// The getter of nothing.
+pub const VOID: &str = "pub fn get_@name@(&self) {}
+";
+
+/// What a clause says of an enum.
+pub const ENUM_FACT: &str = "let number = @bits@ in
+elim @value@ [
+@cases@
+]";
+
+/// What a clause says of a view of what a pointer leads to.
+pub const VIEW_FACT: &str = "IsViewOf pointer
+(λ view. @shows@)
+(Accepts pointer @takes@) (Refuses pointer @declines@)
+(Declines pointer @declines@) @result@";
+
+/// What a clause says of a view of what a pointer of a struct leads to.
+pub const POINTER_FACT: &str = "let pointer = pointer_in fields @offset@ in
+@fact@";
+
+/// What a clause says of a pointer that has a default.
+pub const DEFAULT_FACT: &str = "let pointer = pointer_in fields @offset@ in
+((Denotes pointer nothing → ⊥) → @stored@)
+× (Denotes pointer nothing → (let pointer = root_of @default@ in
+@fact@))";
+
+/// What it says where a view is bound to the segments that it reads.
+pub const OR_DEFAULT_FACT: &str = "let pointer = pointer_in fields @offset@ in
+elim @value@ [
+  | OrDefault.Stored view ↦ (Denotes pointer nothing → ⊥) ×
+      (@stored@)
+  | OrDefault.Default view ↦ Denotes pointer nothing ×
+      (let pointer = root_of @default@ in
+      @fact@)
+]";
+
+/// How a view is read.
+pub const VIEW_BODY: &str =
+    "FromPointerReader::get_from_pointer(self.fields.get_pointer(@offset@))";
+
+/// How a view is read that has a default.
+pub const DEFAULT_BODY: &str = "let pointer = self.fields.get_pointer(@offset@);
+if pointer.is_null() {
+    get_@name@_default()
+} else {
+    FromPointerReader::get_from_pointer(pointer)
+}";
+
+/// How it is read where a view is bound to the segments that it reads.
+pub const OR_DEFAULT_BODY: &str = "let pointer = self.fields.get_pointer(@offset@);
+if pointer.is_null() {
+    OrDefault::Default(get_@name@_default())
+} else {
+    OrDefault::Stored(FromPointerReader::get_from_pointer(pointer))
+}";
+
+/// A constant or a default, as the words of a message.
+pub const WORDS: &str = "#[rattlefmt::skip]
+pub static @name@: Words<@size@> = Words { bytes: [
+    @rows@
+] };
+";
+
+/// What reads a constant or a default.
+pub const GET_WORDS: &str = "
+/// @title@
+@signature@
+    ensures { let pointer = root_of @name@ in
+        @fact@ }
+{
+    capnp_constant::view_of(&@name@)
+}
+";
+
+/// What a clause says of a pointer, whatever it leads to.
+pub const ANY_POINTER_FACT: &str = "pointer_of S.segments @value@ ≡ pointer_in fields @offset@";
+
+/// How a pointer is read that may lead to anything.
+pub const ANY_POINTER_BODY: &str = "self.fields.get_pointer(@offset@)";
+
+/// How a float is read that has a default, by its bits, since a default may be no number.
+pub const FLOAT_BODY: &str =
+    "let bits: @bits@ = self.fields.get_data_field_mask(@offset@, @default@);
+PrimitiveElement::from_bits(@all@)";
+
+/// Whether a pointer is there.
+pub const HAS: &str = "
+/// Whether `@field@` is there, and is not null.
+pub fn has_@name@(&self) -> bool
+    ensures { let fields = @fields@ in
+        IsTrue result ↔ (Denotes (pointer_in fields @offset@) nothing → ⊥) }
+{
+    self.fields.has_pointer(@offset@)
+}
+";
+
+/// How the reader of a group is made.
+pub const GROUP_BODY: &str = "@name@::Reader {
+    fields: @fields@,
+}";
+
+/// What is said of a field that has no getter.
+pub const LEFT_OUT: &str =
+    "// The field `@field@` is left out: it is an interface, or a list of them.
+";
+
+/// An enum, before its enumerants.
+pub const ENUM_HEAD: &str = "#[derive(Clone, Copy, PartialEq, Eq, Debug)]
+pub enum @type@ {
+";
+
+/// What follows the enumerants of an enum.
+pub const ENUM_END: &str = "    /// A number that the schema doesn't name.
+    NotInSchema(u16),
+}
+
+impl @type@ {
+    /// The enumerant of this number.
+    pub fn from_number(number: u16) -> @type@
+        ensures { elim result [
+        @cases@
+        ] }
+    {
+        match number {
+            @arms@
+        }
+    }
+}
+";
+
+/// Which member of a union is there.
+pub const WHICH: &str = "
+/// Which member of the union is there, and its value.
+pub fn which(&self) -> Which@arguments@
+    ensures { let fields = @fields@ in
+        let number = field fields.words 16 @offset@ in
+        elim result [
+        @cases@
+        ] }
+{
+    match self.fields.get_data_field::<u16>(@offset@) {
+        @arms@
+    }
+}
+";
+
+/// The case of a member that has a value, in a clause over the union.
+pub const CASE: &str = "  | Which.@variant@ value ↦ (number ≡ @number@) × (@fact@)
+";
+
+/// That case where the fact has some lines.
+pub const LONG_CASE: &str = "  | Which.@variant@ value ↦ (number ≡ @number@) ×
+      (@fact@)
+";
+
+/// The members of a union.
+pub const MEMBERS: &str = "
+/// The members of the union.
+#[derive(Drop)]
+pub enum Which@parameters@ {
+    @variants@
+    /// A number that the schema doesn't name.
+    NotInSchema(u16),
+}
+";

@@ -1,0 +1,150 @@
+//! Unions: which member is there, as an enum.
+use crate::code::{Code, Holes, fill_with};
+use crate::names::{snake, variant};
+use crate::schema::Field;
+use crate::shown::{Shown, Site};
+use crate::templates::{CASE, LONG_CASE, MEMBERS, WHICH};
+use std::alloc::{AllocError, Global};
+use std::fmt::Write;
+
+/// The members of a union, as they are written.
+#[derive(Drop)]
+pub struct Members {
+    /// The cases of the clause.
+    cases: String,
+    /// The arms of the match.
+    arms: String,
+    /// The variants of the enum.
+    variants: String,
+    /// How many there are.
+    count: u32,
+}
+
+impl Members {
+    /// No members.
+    pub fn new(alloc: Global) -> Members {
+        Members {
+            cases: String::new(alloc),
+            arms: String::new(alloc),
+            variants: String::new(alloc),
+            count: 0,
+        }
+    }
+
+    /// Adds a member, which has this number, with what its getter returns.
+    pub fn push(
+        &mut self,
+        alloc: Global,
+        field: &Field,
+        number: u16,
+        shown: Option<&Shown>,
+    ) -> Result<(), AllocError> {
+        let variant = variant(alloc, field.name.as_str())?;
+        self.count = self.count.saturating_add(1);
+        match shown {
+            None => {
+                write!(self.cases, "  | Which.{variant} ↦ number ≡ {number}\n")?;
+                write!(self.arms, "{number} => Which::{variant},\n")?;
+                write!(self.variants, "{variant},\n")
+            }
+            Some(shown) => {
+                let name = snake(alloc, field.name.as_str())?;
+                self.push_case(alloc, variant.as_str(), number, shown)?;
+                write!(
+                    self.arms,
+                    "{number} => Which::{variant}(self.get_{name}()),\n"
+                )?;
+                let payload = fill_with(alloc, shown.type_name.as_str(), "borrow", "'b")?;
+                write!(self.variants, "{variant}({payload}),\n")
+            }
+        }
+    }
+
+    // Adds the case of a member that has a value.
+    fn push_case(
+        &mut self,
+        alloc: Global,
+        variant: &str,
+        number: u16,
+        shown: &Shown,
+    ) -> Result<(), AllocError> {
+        let number = format!(in alloc; "{number}")?;
+        let holes = Holes::new(alloc)
+            .with("variant", variant)?
+            .holding("number", number)?;
+        let fact = fill_with(alloc, shown.fact.as_str(), "value", "value")?;
+        let template = if fact.as_str().contains("\n") {
+            LONG_CASE
+        } else {
+            CASE
+        };
+        let mut case = Code::new(alloc, 0);
+        case.add(template, &holes.holding("fact", fact)?)?;
+        self.cases.push_str(case.text.as_str())
+    }
+
+    // The parameters of the enum, of those that its variants name.
+    fn parameters(
+        &self,
+        alloc: Global,
+        borrow: &str,
+        segments: &str,
+    ) -> Result<String, AllocError> {
+        let variants = self.variants.as_str();
+        let mut text = String::new(alloc);
+        if variants.contains("'b") {
+            push_parameter(&mut text, borrow)?;
+        }
+        if variants.contains("'a") {
+            push_parameter(&mut text, "'a")?;
+        }
+        if variants.contains(" S>") || variants.contains(" S,") {
+            push_parameter(&mut text, segments)?;
+        }
+        if !text.is_empty() {
+            text.push('>')?;
+        }
+        Ok(text)
+    }
+}
+
+// Adds a parameter to a list of them, which is open yet.
+fn push_parameter(text: &mut String, parameter: &str) -> Result<(), AllocError> {
+    text.push_str(if text.is_empty() { "<" } else { ", " })?;
+    text.push_str(parameter)
+}
+
+/// Adds the method that says which member is there, of the union whose number stands at this offset.
+pub fn push_which(
+    alloc: Global,
+    code: &mut Code,
+    site: Site<'_>,
+    offset: u32,
+    members: &Members,
+) -> Result<(), AllocError> {
+    let count = members.count;
+    let before = members.cases.as_str();
+    let cases = format!(in alloc;
+        "{before}  | Which.NotInSchema unknown ↦ (unknown ≡ number) × ({count} ≤ number)"
+    )?;
+    let holes = Holes::new(alloc).holding("cases", cases)?;
+    let before = members.arms.as_str();
+    let arms = format!(in alloc; "{before}unknown => Which::NotInSchema(unknown),")?;
+    let holes = holes.holding("arms", arms)?;
+    let offset = format!(in alloc; "{offset}")?;
+    let holes = holes.holding("offset", offset)?;
+    let arguments = members.parameters(alloc, site.borrow(), "S")?;
+    let holes = holes
+        .holding("arguments", arguments)?
+        .with("fields", site.fields())?;
+    code.add(WHICH, &holes)
+}
+
+/// Adds the enum of the members.
+pub fn push_members(alloc: Global, code: &mut Code, members: &Members) -> Result<(), AllocError> {
+    let parameters = members.parameters(alloc, "'b", "S: ReaderSegments")?;
+    let holes = Holes::new(alloc)
+        .with("parameters", parameters.as_str())?
+        .with("variants", members.variants.as_str().trim_end())?;
+    code.add(MEMBERS, &holes)
+}

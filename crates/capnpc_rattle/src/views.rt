@@ -1,0 +1,223 @@
+//! The views of what pointers lead to, for each type.
+use crate::code::{Holes, fill};
+use crate::numbers::number_of;
+use crate::paths::path_to;
+use crate::schema::{Base, Request, Type};
+use crate::templates::VIEW_FACT;
+use std::alloc::{AllocError, Global};
+
+/// What a view borrows from, as a type and a clause name it.
+#[derive(Clone, Copy)]
+pub struct Lender {
+    pub lifetime: &'static str,
+    /// The type of the segments.
+    pub segments: &'static str,
+    /// What they are, in a clause.
+    pub segments_of: &'static str,
+}
+
+/// The message of a reader.
+pub const MESSAGE: Lender = Lender {
+    lifetime: "'a",
+    segments: "S",
+    segments_of: "S.segments",
+};
+
+/// A constant or a default, where `@size@` stands for the number of its bytes.
+pub const CONSTANT: Lender = Lender {
+    lifetime: "'static",
+    segments: "Words<@size@>",
+    segments_of: "segments_of",
+};
+
+/// A view of what a pointer leads to, as a getter and its contract name it.
+#[derive(Drop)]
+pub struct View {
+    /// Its type.
+    pub type_name: String,
+    /// What it shows of a pointer.
+    pub shows: String,
+    /// Which forms it takes.
+    pub takes: String,
+    /// How it declines the others.
+    pub declines: String,
+}
+
+impl View {
+    /// What a clause says of a view by this name, of what the pointer `pointer` leads to.
+    pub fn fact(&self, alloc: Global, name: &str) -> Result<String, AllocError> {
+        let holes = Holes::new(alloc)
+            .with("shows", self.shows.as_str())?
+            .with("takes", self.takes.as_str())?
+            .with("declines", self.declines.as_str())?
+            .with("result", name)?;
+        fill(alloc, VIEW_FACT, &holes)
+    }
+}
+
+/// The view of a type at a site, of what a lender has; `None` for what has no view: numbers by themselves,
+/// interfaces, and any pointer by itself, whose getter never fails.
+pub fn view_of(
+    alloc: Global,
+    request: &Request,
+    site: u64,
+    of: Type,
+    lender: Lender,
+) -> Result<Option<View>, AllocError> {
+    let found = match of.lists {
+        0 => single(alloc, request, site, of.base)?,
+        1 => list(alloc, request, site, of.base)?,
+        _ => list_of_lists(alloc, request, site, of)?,
+    };
+    let Some(view) = found else {
+        return Ok(None);
+    };
+    let holes = Holes::new(alloc)
+        .with("lifetime", lender.lifetime)?
+        .with("segments", lender.segments)?
+        .with("segments_of", lender.segments_of)?;
+    Ok(Some(View {
+        type_name: fill(alloc, view.type_name.as_str(), &holes)?,
+        shows: fill(alloc, view.shows.as_str(), &holes)?,
+        takes: view.takes,
+        declines: view.declines,
+    }))
+}
+
+/// Whether the views of a type are of one type, whatever segments they read.
+pub fn is_plain(of: Type) -> bool {
+    match of.lists {
+        0 => matches!(of.base, Base::Text | Base::Data),
+        1 => of.base == Base::Void || number_of(of.base).is_some(),
+        _ => false,
+    }
+}
+
+// A view by its parts.
+fn view_from(
+    alloc: Global,
+    type_name: &str,
+    shows: &str,
+    takes: &str,
+    declines: &str,
+) -> Result<Option<View>, AllocError> {
+    Ok(Some(View {
+        type_name: String::from_str(alloc, type_name)?,
+        shows: String::from_str(alloc, shows)?,
+        takes: String::from_str(alloc, takes)?,
+        declines: String::from_str(alloc, declines)?,
+    }))
+}
+
+// The view of a type that is no list.
+fn single(
+    alloc: Global,
+    request: &Request,
+    site: u64,
+    base: Base,
+) -> Result<Option<View>, AllocError> {
+    match base {
+        Base::Text => view_from(
+            alloc,
+            "text::Reader<@lifetime@>",
+            "Reads pointer (λ form. IsText form view.bytes.now)",
+            "TakesText",
+            "DeclinesText",
+        ),
+        Base::Data => view_from(
+            alloc,
+            "&@lifetime@ [u8]",
+            "Reads pointer (λ form. IsData form view.now)",
+            "(TakesNumbers 2)",
+            "(DeclinesNumbers 2)",
+        ),
+        Base::Struct(id) => {
+            let path = path_to(alloc, request, site, id)?;
+            let name = format!(in alloc; "{path}::Reader<@lifetime@, @segments@>")?;
+            view_from(
+                alloc,
+                name.as_str(),
+                "IsStruct pointer (struct_of @segments_of@ view.fields)",
+                "TakesStruct",
+                "DeclinesStruct",
+            )
+        }
+        _ => Ok(None),
+    }
+}
+
+// The view of a list of a type that is no list.
+fn list(
+    alloc: Global,
+    request: &Request,
+    site: u64,
+    base: Base,
+) -> Result<Option<View>, AllocError> {
+    match base {
+        Base::Void => list_of_numbers(alloc, "()", 0),
+        Base::Struct(id) => {
+            let path = path_to(alloc, request, site, id)?;
+            let name = format!(in alloc; "{path}::ListReader<@lifetime@, @segments@>")?;
+            view_from(
+                alloc,
+                name.as_str(),
+                "IsUpgradedStructs pointer (upgraded_structs_of @segments_of@ view.elements)",
+                "TakesRows",
+                "DeclinesRows",
+            )
+        }
+        Base::AnyPointer => list_of_pointers(alloc, "any_pointer::Reader<@lifetime@, @segments@>"),
+        Base::Text => list_of_pointers(alloc, "text::Reader<@lifetime@>"),
+        Base::Data => list_of_pointers(alloc, "&@lifetime@ [u8]"),
+        _ => match number_of(base) {
+            Some(number) => list_of_numbers(alloc, number.type_name, number.code),
+            None => Ok(None),
+        },
+    }
+}
+
+// The view of a list of lists, from that of the innermost list outwards.
+fn list_of_lists(
+    alloc: Global,
+    request: &Request,
+    site: u64,
+    of: Type,
+) -> Result<Option<View>, AllocError> {
+    let mut found = list(alloc, request, site, of.base)?;
+    for _ in 1..of.lists {
+        let Some(inner) = found else {
+            return Ok(None);
+        };
+        found = list_of_pointers(alloc, inner.type_name.as_str())?;
+    }
+    Ok(found)
+}
+
+// The view of a list of numbers.
+fn list_of_numbers(alloc: Global, element: &str, code: u32) -> Result<Option<View>, AllocError> {
+    let name = format!(in alloc; "upgraded::NumberList<@lifetime@, {element}>")?;
+    let shows = format!(in alloc;
+        "Reads pointer (λ form. ReadsAsNumbers {code} form (upgraded_numbers_of {code} view))"
+    )?;
+    let takes = format!(in alloc; "(TakesFields {code})")?;
+    let declines = format!(in alloc; "(DeclinesFields {code})")?;
+    view_from(
+        alloc,
+        name.as_str(),
+        shows.as_str(),
+        takes.as_str(),
+        declines.as_str(),
+    )
+}
+
+// The view of a list of pointers.
+fn list_of_pointers(alloc: Global, element: &str) -> Result<Option<View>, AllocError> {
+    let name = format!(in alloc; "upgraded::ListList<@lifetime@, @segments@, {element}>")?;
+    view_from(
+        alloc,
+        name.as_str(),
+        "IsUpgradedPointers pointer (upgraded_pointers_of @segments_of@ view.pointers)",
+        "TakesFirstPointers",
+        "DeclinesFirstPointers",
+    )
+}

@@ -1,0 +1,69 @@
+//! The words of constants and of defaults that pointers lead to.
+use crate::code::{Code, Holes};
+use crate::schema::Value;
+use crate::templates::WORDS;
+use std::alloc::{AllocError, Global};
+use std::fmt::Write;
+
+/// The bytes of a message of one segment whose root is a value that a pointer leads to.
+pub fn words_of(alloc: Global, value: &Value) -> Result<Vec<u8>, AllocError> {
+    match value {
+        Value::Text(text) => list_of_bytes(alloc, text.as_bytes(), true),
+        Value::Data(bytes) => list_of_bytes(alloc, bytes.as_slice(), false),
+        Value::Object(words) => Vec::from_slice(alloc, words.as_slice()),
+        Value::Bits(_) | Value::Null => Vec::from_slice(alloc, &[0; 8]),
+    }
+}
+
+// A message whose root is a list of bytes (encoding document, "Lists"), with a zero byte after them where it
+// is a text.
+fn list_of_bytes(alloc: Global, bytes: &[u8], is_text: bool) -> Result<Vec<u8>, AllocError> {
+    let count = (bytes.len() as u64).saturating_add(is_text as u64);
+    let root = 1u64
+        .wrapping_add(2 << 32)
+        .wrapping_add(count.wrapping_shl(35));
+    let mut words = Vec::from_slice(alloc, &root.to_le_bytes())?;
+    words.extend_from_slice(bytes)?;
+    if is_text {
+        words.push(0)?;
+    }
+    for _ in 0..8 {
+        if words.len() % 8 == 0 {
+            break;
+        }
+        words.push(0)?;
+    }
+    Ok(words)
+}
+
+/// Adds words as a `static` of this name.
+pub fn push_words(
+    alloc: Global,
+    code: &mut Code,
+    name: &str,
+    words: &[u8],
+) -> Result<(), AllocError> {
+    let rows = rows_of(alloc, words)?;
+    let size = format!(in alloc; "{}", words.len())?;
+    let holes = Holes::new(alloc)
+        .with("name", name)?
+        .holding("size", size)?
+        .holding("rows", rows)?;
+    code.add(WORDS, &holes)
+}
+
+// The bytes of words as code has them, a row for each word.
+fn rows_of(alloc: Global, bytes: &[u8]) -> Result<String, AllocError> {
+    let mut rows = String::new(alloc);
+    for word in bytes.chunks(8) {
+        if !rows.is_empty() {
+            rows.push('\n')?;
+        }
+        let mut before = "";
+        for byte in word {
+            write!(rows, "{before}{byte},")?;
+            before = " ";
+        }
+    }
+    Ok(rows)
+}

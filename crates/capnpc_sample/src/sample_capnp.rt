@@ -1,0 +1,645 @@
+//! Types of `sample.capnp`, made by `capnpc-rattle`: change that file, and make them again.
+ghost use Rattle.std.specs.Prelude.{◌≡◌, ◌≤◌, ◌<◌, ◌==◌, ◌↔◌, IsTrue, bit_xor, from_bits, length};
+ghost use Rattle.std.specs.Float.{binary64};
+ghost use Rattle.std.specs.Int.{w32, cast_signed};
+ghost use Rattle.capnp_constant.specs.Constants.{segments_of, root_of};
+ghost use Rattle.capnp_wire.specs.Fields.{field};
+ghost use Rattle.capnp_wire.specs.ListViews.{element_of};
+ghost use Rattle.capnp_wire.specs.Object.{nothing};
+ghost use Rattle.capnp_wire.specs.Readers.{struct_of, pointer_of};
+ghost use Rattle.capnp_wire.specs.UpgradedReaders.{upgraded_structs_of, upgraded_numbers_of};
+ghost use Rattle.capnp_wire.specs.UpgradedViews.{IsUpgradedStructs, ReadsAsNumbers, TakesRows, TakesFields, DeclinesRows, DeclinesFields};
+ghost use Rattle.capnp_wire.specs.Views.{IsViewOf, IsStruct, IsText, IsData, Accepts, Refuses, Declines, Denotes, Reads, TakesStruct, TakesText, TakesNumbers, DeclinesStruct, DeclinesText, DeclinesNumbers, pointer_in};
+
+use capnp_constant::Words;
+use capnp_frame::Result;
+
+pub const LIMIT: u32 = 1000;
+
+#[rattlefmt::skip]
+pub static CORNER: Words<16> = Words { bytes: [
+    0, 0, 0, 0, 1, 0, 0, 0,
+    128, 2, 0, 0, 224, 1, 0, 0,
+] };
+
+/// The constant `corner`.
+pub fn get_corner() -> Result<point::Reader<'static, Words<16>>>
+    ensures { let pointer = root_of CORNER in
+        IsViewOf pointer
+        (λ view. IsStruct pointer (struct_of segments_of view.fields))
+        (Accepts pointer TakesStruct) (Refuses pointer DeclinesStruct)
+        (Declines pointer DeclinesStruct) result }
+{
+    capnp_constant::view_of(&CORNER)
+}
+
+/// A point of a plane.
+pub mod point {
+    use capnp_frame::Result;
+    use capnp_frame::message::ReaderSegments;
+    use capnp_wire::any_struct::StructReader;
+    use capnp_wire::traits::{self, FromPointerReader};
+    use capnp_wire::{any_pointer, upgraded};
+
+    /// The type of the schema.
+    pub struct Owned;
+
+    impl<'a, S: ReaderSegments + 'a> traits::Owned<'a, S> for Owned {
+        type Reader = Reader<'a, S>;
+    }
+
+    /// A struct of this type in a message. What its writer left out reads as the default.
+    #[derive(Drop)]
+    pub struct Reader<'a, S: ReaderSegments> {
+        /// The struct whose fields these are.
+        pub fields: StructReader<'a, S>,
+    }
+
+    impl<'a, S: ReaderSegments> Reader<'a, S> {
+        /// The field `x`.
+        pub fn get_x(&self) -> i32
+            ensures { let fields = struct_of S.segments self.now.fields in
+                result ≡ cast_signed w32 (field fields.words 32 0) }
+        {
+            self.fields.get_data_field(0)
+        }
+
+        /// The field `y`.
+        pub fn get_y(&self) -> i32
+            ensures { let fields = struct_of S.segments self.now.fields in
+                result ≡ cast_signed w32 (field fields.words 32 1) }
+        {
+            self.fields.get_data_field(1)
+        }
+    }
+
+    impl<'a, S: ReaderSegments> FromPointerReader<'a, S> for Reader<'a, S> {
+        ghost shows = { λ pointer view. IsStruct pointer (struct_of S.segments view.fields) };
+
+        ghost accepts = { λ pointer. Accepts pointer TakesStruct };
+
+        ghost refuses = { λ pointer kind. Refuses pointer DeclinesStruct kind };
+
+        ghost declines = { λ pointer kind. Declines pointer DeclinesStruct kind };
+
+        fn get_from_pointer(reader: any_pointer::Reader<'a, S>) -> Result<Self>
+            ensures { let pointer = pointer_of S.segments reader.entry in IsViewOf pointer
+                (λ view. IsStruct pointer (struct_of S.segments view.fields))
+                (Accepts pointer TakesStruct) (Refuses pointer DeclinesStruct)
+                (Declines pointer DeclinesStruct) result }
+        {
+            match StructReader::get_from_pointer(reader) {
+                Ok(fields) => Ok(Reader { fields }),
+                Err(error) => Err(error),
+            }
+        }
+    }
+
+    /// A list of such structs in a message; their first fields alone, where an older writer had these.
+    #[derive(Drop)]
+    pub struct ListReader<'a, S: ReaderSegments> {
+        /// The list whose elements these are.
+        pub elements: upgraded::StructList<'a, S>,
+    }
+
+    impl<'a, S: ReaderSegments> ListReader<'a, S> {
+        /// The number of elements.
+        pub fn len(&self) -> u32
+            ensures { result ≡ length (upgraded_structs_of S.segments self.now.elements).rows }
+        {
+            self.elements.len()
+        }
+
+        /// The element of this index.
+        pub fn get(&self, index: u32) -> Reader<'a, S>
+            requires { index < length (upgraded_structs_of S.segments self.now.elements).rows }
+            ensures { struct_of S.segments result.fields
+                ≡ element_of (upgraded_structs_of S.segments self.now.elements) index }
+        {
+            Reader {
+                fields: self.elements.get(index),
+            }
+        }
+    }
+
+    impl<'a, S: ReaderSegments> FromPointerReader<'a, S> for ListReader<'a, S> {
+        ghost shows = { λ pointer view.
+            IsUpgradedStructs pointer (upgraded_structs_of S.segments view.elements) };
+
+        ghost accepts = { λ pointer. Accepts pointer TakesRows };
+
+        ghost refuses = { λ pointer kind. Refuses pointer DeclinesRows kind };
+
+        ghost declines = { λ pointer kind. Declines pointer DeclinesRows kind };
+
+        fn get_from_pointer(reader: any_pointer::Reader<'a, S>) -> Result<Self>
+            ensures { let pointer = pointer_of S.segments reader.entry in IsViewOf pointer
+                (λ view. IsUpgradedStructs pointer (upgraded_structs_of S.segments view.elements))
+                (Accepts pointer TakesRows) (Refuses pointer DeclinesRows)
+                (Declines pointer DeclinesRows) result }
+        {
+            match upgraded::StructList::get_from_pointer(reader) {
+                Ok(elements) => Ok(ListReader { elements }),
+                Err(error) => Err(error),
+            }
+        }
+    }
+}
+
+/// Colors of a lamp.
+#[derive(Clone, Copy, PartialEq, Eq, Debug)]
+pub enum Color {
+    Red,
+    Green,
+    DeepBlue,
+    /// A number that the schema doesn't name.
+    NotInSchema(u16),
+}
+
+impl Color {
+    /// The enumerant of this number.
+    pub fn from_number(number: u16) -> Color
+        ensures { elim result [
+          | Color.Red ↦ number ≡ 0
+          | Color.Green ↦ number ≡ 1
+          | Color.DeepBlue ↦ number ≡ 2
+          | Color.NotInSchema unknown ↦ (unknown ≡ number) × (3 ≤ number)
+        ] }
+    {
+        match number {
+            0 => Color::Red,
+            1 => Color::Green,
+            2 => Color::DeepBlue,
+            unknown => Color::NotInSchema(unknown),
+        }
+    }
+}
+
+/// A struct with a field of each kind.
+pub mod sample {
+    use super::Color;
+    use capnp_constant::{OrDefault, Words};
+    use capnp_frame::Result;
+    use capnp_frame::message::ReaderSegments;
+    use capnp_wire::any_struct::StructReader;
+    use capnp_wire::primitive_element::PrimitiveElement;
+    use capnp_wire::traits::{self, FromPointerReader};
+    use capnp_wire::{any_pointer, text, upgraded};
+
+    /// The type of the schema.
+    pub struct Owned;
+
+    impl<'a, S: ReaderSegments + 'a> traits::Owned<'a, S> for Owned {
+        type Reader = Reader<'a, S>;
+    }
+
+    /// A struct of this type in a message. What its writer left out reads as the default.
+    #[derive(Drop)]
+    pub struct Reader<'a, S: ReaderSegments> {
+        /// The struct whose fields these are.
+        pub fields: StructReader<'a, S>,
+    }
+
+    impl<'a, S: ReaderSegments> Reader<'a, S> {
+        /// How many there are.
+        pub fn get_count(&self) -> u16
+            ensures { let fields = struct_of S.segments self.now.fields in
+                result ≡ field fields.words 16 0 }
+        {
+            self.fields.get_data_field(0)
+        }
+
+        /// The field `balance`.
+        pub fn get_balance(&self) -> i32
+            ensures { let fields = struct_of S.segments self.now.fields in
+                result ≡ cast_signed w32 (bit_xor (field fields.words 32 1) 4294967291) }
+        {
+            self.fields.get_data_field_mask(1, -5)
+        }
+
+        /// The field `isReady`.
+        pub fn get_is_ready(&self) -> bool
+            ensures { let fields = struct_of S.segments self.now.fields in
+                result ≡ (field fields.words 1 16 == 1) }
+        {
+            self.fields.get_data_field(16)
+        }
+
+        /// The field `title`.
+        pub fn get_title(&self) -> Result<text::Reader<'a>>
+            ensures { let fields = struct_of S.segments self.now.fields in
+                let pointer = pointer_in fields 0 in
+                IsViewOf pointer
+                (λ view. Reads pointer (λ form. IsText form view.bytes.now))
+                (Accepts pointer TakesText) (Refuses pointer DeclinesText)
+                (Declines pointer DeclinesText) result }
+        {
+            FromPointerReader::get_from_pointer(self.fields.get_pointer(0))
+        }
+
+        /// Whether `title` is there, and is not null.
+        pub fn has_title(&self) -> bool
+            ensures { let fields = struct_of S.segments self.now.fields in
+                IsTrue result ↔ (Denotes (pointer_in fields 0) nothing → ⊥) }
+        {
+            self.fields.has_pointer(0)
+        }
+
+        /// The field `payload`.
+        pub fn get_payload(&self) -> Result<&'a [u8]>
+            ensures { let fields = struct_of S.segments self.now.fields in
+                let pointer = pointer_in fields 1 in
+                IsViewOf pointer
+                (λ view. Reads pointer (λ form. IsData form view.now))
+                (Accepts pointer (TakesNumbers 2)) (Refuses pointer (DeclinesNumbers 2))
+                (Declines pointer (DeclinesNumbers 2)) result }
+        {
+            FromPointerReader::get_from_pointer(self.fields.get_pointer(1))
+        }
+
+        /// Whether `payload` is there, and is not null.
+        pub fn has_payload(&self) -> bool
+            ensures { let fields = struct_of S.segments self.now.fields in
+                IsTrue result ↔ (Denotes (pointer_in fields 1) nothing → ⊥) }
+        {
+            self.fields.has_pointer(1)
+        }
+
+        /// The field `points`.
+        pub fn get_points(&self) -> Result<super::point::ListReader<'a, S>>
+            ensures { let fields = struct_of S.segments self.now.fields in
+                let pointer = pointer_in fields 2 in
+                IsViewOf pointer
+                (λ view. IsUpgradedStructs pointer (upgraded_structs_of S.segments view.elements))
+                (Accepts pointer TakesRows) (Refuses pointer DeclinesRows)
+                (Declines pointer DeclinesRows) result }
+        {
+            FromPointerReader::get_from_pointer(self.fields.get_pointer(2))
+        }
+
+        /// Whether `points` is there, and is not null.
+        pub fn has_points(&self) -> bool
+            ensures { let fields = struct_of S.segments self.now.fields in
+                IsTrue result ↔ (Denotes (pointer_in fields 2) nothing → ⊥) }
+        {
+            self.fields.has_pointer(2)
+        }
+
+        /// The field `numbers`.
+        pub fn get_numbers(&self) -> Result<upgraded::NumberList<'a, u32>>
+            ensures { let fields = struct_of S.segments self.now.fields in
+                let pointer = pointer_in fields 3 in
+                IsViewOf pointer
+                (λ view. Reads pointer (λ form. ReadsAsNumbers 4 form (upgraded_numbers_of 4 view)))
+                (Accepts pointer (TakesFields 4)) (Refuses pointer (DeclinesFields 4))
+                (Declines pointer (DeclinesFields 4)) result }
+        {
+            FromPointerReader::get_from_pointer(self.fields.get_pointer(3))
+        }
+
+        /// Whether `numbers` is there, and is not null.
+        pub fn has_numbers(&self) -> bool
+            ensures { let fields = struct_of S.segments self.now.fields in
+                IsTrue result ↔ (Denotes (pointer_in fields 3) nothing → ⊥) }
+        {
+            self.fields.has_pointer(3)
+        }
+
+        /// The field `origin`.
+        pub fn get_origin(&self) -> Result<super::point::Reader<'a, S>>
+            ensures { let fields = struct_of S.segments self.now.fields in
+                let pointer = pointer_in fields 4 in
+                IsViewOf pointer
+                (λ view. IsStruct pointer (struct_of S.segments view.fields))
+                (Accepts pointer TakesStruct) (Refuses pointer DeclinesStruct)
+                (Declines pointer DeclinesStruct) result }
+        {
+            FromPointerReader::get_from_pointer(self.fields.get_pointer(4))
+        }
+
+        /// Whether `origin` is there, and is not null.
+        pub fn has_origin(&self) -> bool
+            ensures { let fields = struct_of S.segments self.now.fields in
+                IsTrue result ↔ (Denotes (pointer_in fields 4) nothing → ⊥) }
+        {
+            self.fields.has_pointer(4)
+        }
+
+        /// The field `color`.
+        pub fn get_color(&self) -> Color
+            ensures { let fields = struct_of S.segments self.now.fields in
+                let number = field fields.words 16 4 in
+                elim result [
+                  | Color.Red ↦ number ≡ 0
+                  | Color.Green ↦ number ≡ 1
+                  | Color.DeepBlue ↦ number ≡ 2
+                  | Color.NotInSchema unknown ↦ (unknown ≡ number) × (3 ≤ number)
+                ] }
+        {
+            Color::from_number(self.fields.get_data_field(4))
+        }
+
+        /// What is seen of it.
+        pub fn get_window(&self) -> window::Reader<'_, 'a, S>
+            ensures { let fields = struct_of S.segments self.now.fields in
+                struct_of S.segments result.fields.now ≡ fields }
+        {
+            window::Reader {
+                fields: &self.fields,
+            }
+        }
+
+        /// The field `nothing`.
+        pub fn get_nothing(&self) {}
+
+        /// The field `size`.
+        pub fn get_size(&self) -> u32
+            ensures { let fields = struct_of S.segments self.now.fields in
+                result ≡ field fields.words 32 4 }
+        {
+            self.fields.get_data_field(4)
+        }
+
+        /// The field `label`.
+        pub fn get_label(&self) -> Result<text::Reader<'a>>
+            ensures { let fields = struct_of S.segments self.now.fields in
+                let pointer = pointer_in fields 5 in
+                IsViewOf pointer
+                (λ view. Reads pointer (λ form. IsText form view.bytes.now))
+                (Accepts pointer TakesText) (Refuses pointer DeclinesText)
+                (Declines pointer DeclinesText) result }
+        {
+            FromPointerReader::get_from_pointer(self.fields.get_pointer(5))
+        }
+
+        /// Whether `label` is there, and is not null.
+        pub fn has_label(&self) -> bool
+            ensures { let fields = struct_of S.segments self.now.fields in
+                IsTrue result ↔ (Denotes (pointer_in fields 5) nothing → ⊥) }
+        {
+            self.fields.has_pointer(5)
+        }
+
+        /// The field `ratio`.
+        pub fn get_ratio(&self) -> f64
+            ensures { let fields = struct_of S.segments self.now.fields in
+                result ≡ from_bits binary64 (bit_xor (field fields.words 64 3) 4602678819172646912) }
+        {
+            let bits: u64 = self.fields.get_data_field_mask(3, 4602678819172646912);
+            PrimitiveElement::from_bits(bits)
+        }
+
+        /// The field `note`.
+        pub fn get_note(&self) -> Result<text::Reader<'a>>
+            ensures { let fields = struct_of S.segments self.now.fields in
+                let pointer = pointer_in fields 6 in
+                ((Denotes pointer nothing → ⊥) → IsViewOf pointer
+                (λ view. Reads pointer (λ form. IsText form view.bytes.now))
+                (Accepts pointer TakesText) (Refuses pointer DeclinesText)
+                (Declines pointer DeclinesText) result)
+                × (Denotes pointer nothing → (let pointer = root_of NOTE_DEFAULT in
+                IsViewOf pointer
+                (λ view. Reads pointer (λ form. IsText form view.bytes.now))
+                (Accepts pointer TakesText) (Refuses pointer DeclinesText)
+                (Declines pointer DeclinesText) result)) }
+        {
+            let pointer = self.fields.get_pointer(6);
+            if pointer.is_null() {
+                get_note_default()
+            } else {
+                FromPointerReader::get_from_pointer(pointer)
+            }
+        }
+
+        /// Whether `note` is there, and is not null.
+        pub fn has_note(&self) -> bool
+            ensures { let fields = struct_of S.segments self.now.fields in
+                IsTrue result ↔ (Denotes (pointer_in fields 6) nothing → ⊥) }
+        {
+            self.fields.has_pointer(6)
+        }
+
+        /// The field `target`.
+        pub fn get_target(
+            &self,
+        ) -> OrDefault<super::point::Reader<'a, S>, super::point::Reader<'static, Words<16>>>
+            ensures { let fields = struct_of S.segments self.now.fields in
+                let pointer = pointer_in fields 7 in
+                elim result [
+                  | OrDefault.Stored view ↦ (Denotes pointer nothing → ⊥) ×
+                      (IsViewOf pointer
+                      (λ view. IsStruct pointer (struct_of S.segments view.fields))
+                      (Accepts pointer TakesStruct) (Refuses pointer DeclinesStruct)
+                      (Declines pointer DeclinesStruct) view)
+                  | OrDefault.Default view ↦ Denotes pointer nothing ×
+                      (let pointer = root_of TARGET_DEFAULT in
+                      IsViewOf pointer
+                      (λ view. IsStruct pointer (struct_of segments_of view.fields))
+                      (Accepts pointer TakesStruct) (Refuses pointer DeclinesStruct)
+                      (Declines pointer DeclinesStruct) view)
+                ] }
+        {
+            let pointer = self.fields.get_pointer(7);
+            if pointer.is_null() {
+                OrDefault::Default(get_target_default())
+            } else {
+                OrDefault::Stored(FromPointerReader::get_from_pointer(pointer))
+            }
+        }
+
+        /// Whether `target` is there, and is not null.
+        pub fn has_target(&self) -> bool
+            ensures { let fields = struct_of S.segments self.now.fields in
+                IsTrue result ↔ (Denotes (pointer_in fields 7) nothing → ⊥) }
+        {
+            self.fields.has_pointer(7)
+        }
+
+        /// The field `anything`.
+        pub fn get_anything(&self) -> any_pointer::Reader<'a, S>
+            ensures { let fields = struct_of S.segments self.now.fields in
+                pointer_of S.segments result ≡ pointer_in fields 8 }
+        {
+            self.fields.get_pointer(8)
+        }
+
+        /// Whether `anything` is there, and is not null.
+        pub fn has_anything(&self) -> bool
+            ensures { let fields = struct_of S.segments self.now.fields in
+                IsTrue result ↔ (Denotes (pointer_in fields 8) nothing → ⊥) }
+        {
+            self.fields.has_pointer(8)
+        }
+
+        /// Which member of the union is there, and its value.
+        pub fn which(&self) -> Which<'a>
+            ensures { let fields = struct_of S.segments self.now.fields in
+                let number = field fields.words 16 7 in
+                elim result [
+                  | Which.Nothing ↦ number ≡ 0
+                  | Which.Size value ↦ (number ≡ 1) × (value ≡ field fields.words 32 4)
+                  | Which.Label value ↦ (number ≡ 2) ×
+                      (let pointer = pointer_in fields 5 in
+                      IsViewOf pointer
+                      (λ view. Reads pointer (λ form. IsText form view.bytes.now))
+                      (Accepts pointer TakesText) (Refuses pointer DeclinesText)
+                      (Declines pointer DeclinesText) value)
+                  | Which.NotInSchema unknown ↦ (unknown ≡ number) × (3 ≤ number)
+                ] }
+        {
+            match self.fields.get_data_field::<u16>(7) {
+                0 => Which::Nothing,
+                1 => Which::Size(self.get_size()),
+                2 => Which::Label(self.get_label()),
+                unknown => Which::NotInSchema(unknown),
+            }
+        }
+    }
+
+    /// The members of the union.
+    #[derive(Drop)]
+    pub enum Which<'a> {
+        Nothing,
+        Size(u32),
+        Label(Result<text::Reader<'a>>),
+        /// A number that the schema doesn't name.
+        NotInSchema(u16),
+    }
+
+    impl<'a, S: ReaderSegments> FromPointerReader<'a, S> for Reader<'a, S> {
+        ghost shows = { λ pointer view. IsStruct pointer (struct_of S.segments view.fields) };
+
+        ghost accepts = { λ pointer. Accepts pointer TakesStruct };
+
+        ghost refuses = { λ pointer kind. Refuses pointer DeclinesStruct kind };
+
+        ghost declines = { λ pointer kind. Declines pointer DeclinesStruct kind };
+
+        fn get_from_pointer(reader: any_pointer::Reader<'a, S>) -> Result<Self>
+            ensures { let pointer = pointer_of S.segments reader.entry in IsViewOf pointer
+                (λ view. IsStruct pointer (struct_of S.segments view.fields))
+                (Accepts pointer TakesStruct) (Refuses pointer DeclinesStruct)
+                (Declines pointer DeclinesStruct) result }
+        {
+            match StructReader::get_from_pointer(reader) {
+                Ok(fields) => Ok(Reader { fields }),
+                Err(error) => Err(error),
+            }
+        }
+    }
+
+    /// A list of such structs in a message; their first fields alone, where an older writer had these.
+    #[derive(Drop)]
+    pub struct ListReader<'a, S: ReaderSegments> {
+        /// The list whose elements these are.
+        pub elements: upgraded::StructList<'a, S>,
+    }
+
+    impl<'a, S: ReaderSegments> ListReader<'a, S> {
+        /// The number of elements.
+        pub fn len(&self) -> u32
+            ensures { result ≡ length (upgraded_structs_of S.segments self.now.elements).rows }
+        {
+            self.elements.len()
+        }
+
+        /// The element of this index.
+        pub fn get(&self, index: u32) -> Reader<'a, S>
+            requires { index < length (upgraded_structs_of S.segments self.now.elements).rows }
+            ensures { struct_of S.segments result.fields
+                ≡ element_of (upgraded_structs_of S.segments self.now.elements) index }
+        {
+            Reader {
+                fields: self.elements.get(index),
+            }
+        }
+    }
+
+    impl<'a, S: ReaderSegments> FromPointerReader<'a, S> for ListReader<'a, S> {
+        ghost shows = { λ pointer view.
+            IsUpgradedStructs pointer (upgraded_structs_of S.segments view.elements) };
+
+        ghost accepts = { λ pointer. Accepts pointer TakesRows };
+
+        ghost refuses = { λ pointer kind. Refuses pointer DeclinesRows kind };
+
+        ghost declines = { λ pointer kind. Declines pointer DeclinesRows kind };
+
+        fn get_from_pointer(reader: any_pointer::Reader<'a, S>) -> Result<Self>
+            ensures { let pointer = pointer_of S.segments reader.entry in IsViewOf pointer
+                (λ view. IsUpgradedStructs pointer (upgraded_structs_of S.segments view.elements))
+                (Accepts pointer TakesRows) (Refuses pointer DeclinesRows)
+                (Declines pointer DeclinesRows) result }
+        {
+            match upgraded::StructList::get_from_pointer(reader) {
+                Ok(elements) => Ok(ListReader { elements }),
+                Err(error) => Err(error),
+            }
+        }
+    }
+
+    #[rattlefmt::skip]
+    pub static NOTE_DEFAULT: Words<16> = Words { bytes: [
+        1, 0, 0, 0, 42, 0, 0, 0,
+        110, 111, 110, 101, 0, 0, 0, 0,
+    ] };
+
+    /// The default of the field `note`.
+    pub fn get_note_default() -> Result<text::Reader<'static>>
+        ensures { let pointer = root_of NOTE_DEFAULT in
+            IsViewOf pointer
+            (λ view. Reads pointer (λ form. IsText form view.bytes.now))
+            (Accepts pointer TakesText) (Refuses pointer DeclinesText)
+            (Declines pointer DeclinesText) result }
+    {
+        capnp_constant::view_of(&NOTE_DEFAULT)
+    }
+
+    #[rattlefmt::skip]
+    pub static TARGET_DEFAULT: Words<16> = Words { bytes: [
+        0, 0, 0, 0, 1, 0, 0, 0,
+        3, 0, 0, 0, 4, 0, 0, 0,
+    ] };
+
+    /// The default of the field `target`.
+    pub fn get_target_default() -> Result<super::point::Reader<'static, Words<16>>>
+        ensures { let pointer = root_of TARGET_DEFAULT in
+            IsViewOf pointer
+            (λ view. IsStruct pointer (struct_of segments_of view.fields))
+            (Accepts pointer TakesStruct) (Refuses pointer DeclinesStruct)
+            (Declines pointer DeclinesStruct) result }
+    {
+        capnp_constant::view_of(&TARGET_DEFAULT)
+    }
+
+    /// What is seen of it.
+    pub mod window {
+        use capnp_frame::message::ReaderSegments;
+        use capnp_wire::any_struct::StructReader;
+
+        /// The group, in a struct in a message.
+        #[derive(Drop)]
+        pub struct Reader<'b, 'a, S: ReaderSegments> {
+            /// The struct whose fields these are.
+            pub fields: &'b StructReader<'a, S>,
+        }
+
+        impl<'b, 'a, S: ReaderSegments> Reader<'b, 'a, S> {
+            /// The field `width`.
+            pub fn get_width(&self) -> u16
+                ensures { let fields = struct_of S.segments self.now.fields.now in
+                    result ≡ field fields.words 16 5 }
+            {
+                self.fields.get_data_field(5)
+            }
+
+            /// The field `height`.
+            pub fn get_height(&self) -> u16
+                ensures { let fields = struct_of S.segments self.now.fields.now in
+                    result ≡ field fields.words 16 6 }
+            {
+                self.fields.get_data_field(6)
+            }
+        }
+    }
+}
