@@ -14,4 +14,4 @@ pub returns-in_err-write_message-clause-refused : goal.returns-in_err-write_mess
 returns-in_err-write_message-clause-refused g c =
     let p = err_from_is_err_and c.from_residual-in_err-write_message.result c.from_residual-in_err-write_message.ensures.1 in
     rw (p.1, p.2) (inr (not_written (output_of c.set_root.new.self) c.in_err-write_message.field-0.0
-        c.in_err-write_message.ensures.refused c.in_err-write_message.ensures.failed))
+    c.in_err-write_message.ensures.refused c.in_err-write_message.ensures.failed))
