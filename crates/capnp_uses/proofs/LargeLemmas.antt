@@ -51,7 +51,7 @@ list_large has refuses d p values large kind (inl (inr (inl many))) = (_, many.3
 list_large has refuses d p values large kind (inl (inr (inr many))) = (_, many.4)
 list_large has refuses d p values large kind (inr refused) = rows_large has refuses values large kind refused.4
 
--- one text in a struct, behind other trees or none
+-- one text in a struct, in front of other trees or none
 text_row : (bytes : List ℕ) (others : ErrorKind → Type 0) → AllLarge others → AllLarge (λ kind. RefusesRow (λ t. IsTextTree bytes t) (λ k. LongText bytes k) others kind)
 text_row bytes others rest = row_large (λ t. IsTextTree bytes t) (λ k. LongText bytes k) others (text_large bytes) rest
 
