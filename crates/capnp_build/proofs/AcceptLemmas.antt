@@ -1,5 +1,5 @@
 -- What a type makes of the root's object.
-use Rattle.std.proofs.Common.{◌<◌, ℕ, List, [], ◌∷◌, length, Result, Ok, Err, IfErr, refl, arith}
+use Rattle.std.proofs.Common.{◌≡◌, ◌<◌, ℕ, List, [], ◌∷◌, length, Result, Ok, Err, IfErr, refl, ap, sym, subst, arith}
 use Rattle.capnp_frame.specs.declared.error.Error.{Error}
 use Rattle.capnp_frame.specs.declared.error.ErrorKind.{ErrorKind}
 use Rattle.capnp_wire.specs.Tree.{Form, null, struct, numbers, Trees, none, tree}
@@ -7,6 +7,7 @@ use Rattle.capnp_wire.specs.Reached.{Root, root}
 use Rattle.capnp_build.specs.Bytes.{Space}
 use Rattle.capnp_build.specs.Built.{message, ForRoot, IsRootKind}
 use Rattle.capnp_build.specs.Placed.{DeclinesRoot}
+use Rattle.capnp_build.specs.Written.{HasField, HasNumber}
 use Rattle.capnp_build.specs.RootKind.{ShowsRoot, HoldsForm}
 use Rattle.capnp_build.specs.declared.root_kind.RootKind.{RootKind}
 use Rattle.capnp_build.specs.declared.root_kind.RootKind.TheVariants.{Null, Bytes, Words, Struct, Other}
@@ -16,12 +17,29 @@ use Rattle.capnp_build.proofs.NullLemmas.{root_there}
 no_root : (form : Form) (held : Trees) (traversed : ℕ) → Root (message []) form held traversed → ⊥
 no_root form held traversed there = let some : 0 < length {A = Space} [] = root_there [] (root ∷ []) (tree form held none) traversed refl there in absurd (omega (arith, some))
 
+pub null_kind : (shown : RootKind) → IsRootKind shown [] → shown ≡ Null
+null_kind Null stands = refl
+null_kind (Bytes n) stands = absurd (no_root (numbers 2 stands.0) none stands.1 stands.2)
+null_kind (Words n) stands = absurd (no_root (numbers 5 stands.0) none stands.1 stands.2)
+null_kind (Struct n) stands = absurd (no_root (struct stands.0) stands.1 stands.2 stands.3)
+null_kind Other stands = absurd (no_root stands.0 stands.1 stands.2 stands.3)
+
 null_shown : (shown : RootKind) → IsRootKind shown [] → ShowsRoot shown null
-null_shown Null stands = refl
-null_shown (Bytes n) stands = absurd (no_root (numbers 2 stands.0) none stands.1 stands.2)
-null_shown (Words n) stands = absurd (no_root (numbers 5 stands.0) none stands.1 stands.2)
-null_shown (Struct n) stands = absurd (no_root (struct stands.0) stands.1 stands.2 stands.3)
-null_shown Other stands = absurd (no_root stands.0 stands.1 stands.2 stands.3)
+null_shown shown stands = subst (λ kind. ShowsRoot kind null) (sym (null_kind shown stands)) refl
+
+-- so what has stood there has a segment
+pub no_bytes : (n : ℕ) (spaces : List Space) → IsRootKind (Bytes n) spaces → spaces ≡ [] → ⊥
+no_bytes n spaces stands empty = let none : Bytes n ≡ Null = null_kind (Bytes n) (subst (λ s. IsRootKind (Bytes n) s) empty stands) in cc
+
+pub no_field : (spaces : List Space) (index : ℕ) → HasField spaces index → spaces ≡ [] → ⊥
+no_field spaces index field empty =
+    let some = root_there spaces (root ∷ []) (tree (struct field.words) field.held none) field.traversed refl field.stands in
+    absurd (omega (arith, some, ap length empty))
+
+pub no_number : (spaces : List Space) (index : ℕ) → HasNumber spaces index → spaces ≡ [] → ⊥
+no_number spaces index number empty =
+    let some = root_there spaces (root ∷ []) (tree (numbers 5 number.values) none none) number.traversed refl number.stands in
+    absurd (omega (arith, some, ap length empty))
 
 -- what is refused declines the root, null where there is no segment
 pub declined_there : (spaces : List Space) (declines : Form → ErrorKind → Type 0) (shown : RootKind) (bytes : List ℕ) (r : Result (Unit {0}) Error)

@@ -1,5 +1,5 @@
 //! The root of a message that is built.
-ghost use Rattle.std.specs.Prelude.{◌≡◌, ◌↔◌, ⊤, ◌<◌, false, length, IsTrue, IfOk, IfErr};
+ghost use Rattle.std.specs.Prelude.{◌≡◌, ◌↔◌, ⊤, ◌<◌, [], false, length, IsTrue, IfOk, IfErr};
 ghost use Rattle.capnp_wire.specs.Tree.{null};
 ghost use Rattle.capnp_build.specs.Built.{message, ForRoot};
 ghost use Rattle.capnp_build.specs.Placed.{DeclinesRoot};
@@ -39,7 +39,9 @@ impl OwnedBuilder for Owned {
 impl<'a, M: Building> View<'a, M, Owned> {
     /// Whether the root is null.
     pub fn is_null(&self) -> bool
-        ensures { ForRoot (M.built self.now.message.now).spaces (λ form. IsTrue result ↔ (form ≡ null)) }
+        ensures root { ForRoot (M.built self.now.message.now).spaces (λ form. IsTrue result ↔ (form ≡ null)) }
+        // So is the root of a message of no segments.
+        ensures none { (M.built self.now.message.now).spaces ≡ [] → IsTrue result }
     {
         match self.message.root_kind() {
             RootKind::Null => true,

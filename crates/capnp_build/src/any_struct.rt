@@ -1,5 +1,5 @@
 //! Structs that are built.
-ghost use Rattle.std.specs.Prelude.{◌≡◌, ℕ, ◌+◌, ◌-◌, ◌*◌, ◌^◌, ◌/◌, ◌<◌, ◌≤◌, List, length, replicate, slice_index_or};
+ghost use Rattle.std.specs.Prelude.{◌≡◌, ℕ, ◌+◌, ◌-◌, ◌*◌, ◌^◌, ◌/◌, ◌<◌, ◌≤◌, List, [], length, replicate, slice_index_or};
 ghost use Rattle.capnp_frame.specs.declared.error.ErrorKind.TheVariants.{AllocationTooLarge};
 ghost use Rattle.capnp_wire.specs.Tree.{struct};
 ghost use Rattle.capnp_wire.specs.Views.{HasData, TakesStruct, DeclinesStruct};
@@ -53,7 +53,8 @@ impl<'a, M: Building> View<'a, M, Owned> {
 
     /// A data word; 0 past the end.
     pub fn get_word(&self, index: u16) -> u64
-        ensures { ForRoot (M.built self.now.message.now).spaces (λ form. (words : List ℕ) → HasData form words → result ≡ slice_index_or words index 0) }
+        ensures root { ForRoot (M.built self.now.message.now).spaces (λ form. (words : List ℕ) → HasData form words → result ≡ slice_index_or words index 0) }
+        ensures none { (M.built self.now.message.now).spaces ≡ [] → result ≡ 0 }
     {
         if index >= self.data_words() {
             return 0;

@@ -63,7 +63,8 @@ impl<'a, M: Building> View<'a, M, Owned> {
 
     /// The bytes.
     pub fn as_bytes(&self) -> &[u8]
-        ensures { ForRoot (M.built self.now.message.now).spaces (λ form. (bytes : List ℕ) → IsData form bytes → result.now ≡ bytes) }
+        ensures root { ForRoot (M.built self.now.message.now).spaces (λ form. (bytes : List ℕ) → IsData form bytes → result.now ≡ bytes) }
+        ensures none { (M.built self.now.message.now).spaces ≡ [] → result.now ≡ [] }
     {
         match self.message.root_kind() {
             RootKind::Bytes(n) => first_of(self.message.root_bytes(), n),

@@ -1,5 +1,5 @@
 //! Lists of numbers that are built.
-ghost use Rattle.std.specs.Prelude.{◌≡◌, ℕ, ◌+◌, ◌-◌, ◌*◌, ◌^◌, ◌/◌, ◌<◌, ◌≤◌, List, length, replicate, slice_index_or};
+ghost use Rattle.std.specs.Prelude.{◌≡◌, ℕ, ◌+◌, ◌-◌, ◌*◌, ◌^◌, ◌/◌, ◌<◌, ◌≤◌, List, [], length, replicate, slice_index_or};
 ghost use Rattle.capnp_frame.specs.declared.error.ErrorKind.TheVariants.{AllocationTooLarge};
 ghost use Rattle.capnp_wire.specs.Tree.{numbers};
 ghost use Rattle.capnp_wire.specs.Views.{IsWords, TakesNumbers, DeclinesNumbers};
@@ -53,7 +53,8 @@ impl<'a, M: Building> View<'a, M, Owned<u64>> {
 
     /// A number; 0 past the end.
     pub fn get(&self, index: u32) -> u64
-        ensures { ForRoot (M.built self.now.message.now).spaces (λ form. (words : List ℕ) → IsWords form words → result ≡ slice_index_or words index 0) }
+        ensures root { ForRoot (M.built self.now.message.now).spaces (λ form. (words : List ℕ) → IsWords form words → result ≡ slice_index_or words index 0) }
+        ensures none { (M.built self.now.message.now).spaces ≡ [] → result ≡ 0 }
     {
         if index >= self.len() {
             return 0;

@@ -69,7 +69,8 @@ impl<'a, M: Building> View<'a, M, Owned> {
 
     /// The bytes before the last zero byte.
     pub fn as_bytes(&self) -> &[u8]
-        ensures { ForRoot (M.built self.now.message.now).spaces (λ form. (bytes : List ℕ) → IsText form bytes → result.now ≡ bytes) }
+        ensures root { ForRoot (M.built self.now.message.now).spaces (λ form. (bytes : List ℕ) → IsText form bytes → result.now ≡ bytes) }
+        ensures none { (M.built self.now.message.now).spaces ≡ [] → result.now ≡ [] }
     {
         match self.message.root_kind() {
             RootKind::Bytes(n) => before_the_last(self.message.root_bytes(), n),

@@ -6,3 +6,4 @@ pub mod Objects
 pub mod Rows
 pub mod Words
 pub mod Arguments
+pub mod Refusals

@@ -1,4 +1,7 @@
 //! What is said of refusals.
+ghost use Rattle.std.specs.Prelude.{◌≡◌};
+ghost use Rattle.capnp_show.specs.Refusals.{sentence_of};
+
 use crate::text::push_escaped;
 use capnp::{Error, ErrorKind};
 use std::alloc::{AllocError, Global};
@@ -6,7 +9,9 @@ use std::fmt::Write;
 use std::io;
 
 /// What is said of a refusal of this kind, in one sentence.
-pub fn sentence(kind: ErrorKind) -> &'static str {
+pub fn sentence(kind: ErrorKind) -> &'static str
+    ensures { result.now ≡ sentence_of kind }
+{
     match kind {
         ErrorKind::FailedToFillTheWholeBuffer => "the input ends within a message",
         ErrorKind::BufferNotLargeEnough => "a buffer is too short for what was to be put there",

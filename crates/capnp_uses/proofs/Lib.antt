@@ -2,6 +2,7 @@
 pub mod AnyNumberLemmas
 pub mod BackLemmas
 pub mod ContactLemmas
+pub mod LargeLemmas
 pub mod LogLemmas
 pub mod PackedStructLemmas
 pub mod PackingLemmas

@@ -1,17 +1,24 @@
 -- A message that is written packed is read back.
-use Rattle.std.proofs.Common.{◌≡◌, ℕ, Option, List, [], ◌++◌, sym, ap, ◌∙◌, subst}
+use Rattle.std.proofs.Common.{◌≡◌, ◌⊎◌, inl, inr, ℕ, Result, Ok, Err, IfErr, Option, List, [], ◌++◌, sym, ap, ◌∙◌, subst}
 use Rattle.std.proofs.lemmas.List.{append-nil}
+use Rattle.capnp_frame.specs.declared.error.Error.{Error}
+use Rattle.capnp_frame.specs.declared.error.ErrorKind.{ErrorKind}
+use Rattle.capnp_frame.specs.declared.error.ErrorKind.TheVariants.{DeviceFailed, OutOfMemory}
+use Rattle.capnp_frame.specs.Source.{Fails}
 use Rattle.capnp_frame.specs.declared.serialize.segment_table.Padding.TheVariants.{Zero}
 use Rattle.capnp_frame.specs.Sink.{Adds}
-use Rattle.capnp_frame.specs.Limits.{KeepsLimit}
+use Rattle.capnp_frame.specs.Limits.{KeepsLimit, default_limit}
 use Rattle.capnp_frame.specs.Message.{lengths}
 use Rattle.capnp_frame.specs.Writing.{IsWritable, HasFew}
 use Rattle.capnp_frame.proofs.SizeLemmas.{HasTable-writable}
 use Rattle.capnp_frame.proofs.TextLemmas.{texts_part}
 use Rattle.capnp_pack.specs.RefusingLaws.{unpacking}
 use Rattle.capnp_pack.proofs.PackedFrameLemmas.{packed_requests, packed_text_is}
-use Rattle.capnp.specs.Streams.{BeginsPacked}
+use Rattle.capnp.specs.declared.streams.Format.TheVariants.{Packed}
+use Rattle.capnp.specs.Streams.{BeginsPacked, RefusesNext}
 use Rattle.capnp.specs.Written.{IsPackedTextOf}
+use Rattle.capnp_uses.specs.Roots.{RefusesPackedStruct}
+use Rattle.capnp_uses.proofs.StreamLemmas.{slice_refused}
 use Rattle.capnp.proofs.WriterLemmas.{IsWithin-written}
 
 pub packed_read : (limit : Option ℕ) (read message : List (List ℕ)) (text left : List ℕ) → BeginsPacked Zero limit read text left → IsWritable message → IsPackedTextOf message text → read ≡ message
@@ -25,6 +32,18 @@ added_text message old new none (text, packed, spelled) = subst (λ l. IsPackedT
 
 pub shown_text : (message : List (List ℕ)) (text shown : List ℕ) → shown ≡ text → IsPackedTextOf message text → IsPackedTextOf message shown
 shown_text message text shown same packed = subst (λ l. IsPackedTextOf message l) (sym same) packed
+
+-- why a reader of a packed text stops
+pub packed_stops : (kind : ErrorKind) (old new : List ℕ) (T : Type 0) → (kind ≡ DeviceFailed → Fails 0 0)
+    → (kind ≡ DeviceFailed) ⊎ ((kind ≡ OutOfMemory) × T) ⊎ RefusesNext Zero Packed default_limit kind old new → RefusesPackedStruct old kind
+packed_stops kind old new T failed refused = elim (slice_refused Packed default_limit kind old new T failed refused) [ inl memory ↦ inl memory | inr ends ↦ inr (inl ends) ]
+
+-- why no struct is read from a text
+pub packed_refused : {X : Type 0} (A B C : ErrorKind → Type 0) (message : List (List ℕ)) (text : List ℕ) (r : Result X Error) → IsPackedTextOf message text
+    → IfErr r (λ e. RefusesPackedStruct text e.kind)
+    → IfErr r (λ e. A e.kind ⊎ B e.kind ⊎ C e.kind ⊎ ((spelled : List ℕ) × IsPackedTextOf message spelled × RefusesPackedStruct spelled e.kind))
+packed_refused A B C message text (Ok x) is refused = tt
+packed_refused A B C message text (Err e) is refused = inr (inr (inr (text, is, refused)))
 
 -- and stands at the front of its text
 pub begins_packed : (limit : Option ℕ) (message : List (List ℕ)) (text : List ℕ) → IsWritable message → HasFew message → KeepsLimit (lengths message) limit

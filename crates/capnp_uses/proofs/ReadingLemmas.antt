@@ -1,19 +1,22 @@
 -- Readers of bytes at hand return the one message that stands there.
-use Rattle.std.proofs.Common.{◌≡◌, ◌<◌, ℕ, List, [], Option, Some, None, Result, Ok, Err, IsOk, IfOk, IfErr, MatchResult, sym, ap, subst, arith}
+use Rattle.std.proofs.Common.{◌≡◌, ◌⊎◌, inl, inr, ◌<◌, ℕ, List, [], Option, Some, None, Result, Ok, Err, IsOk, IfOk, IfErr, MatchResult, sym, ap, subst, arith}
 use Rattle.std.specs.Prelude.{IfNone, IsSomeAnd, IsOkAnd}
 use Rattle.capnp_frame.specs.declared.serialize.segment_table.Padding.TheVariants.{Zero}
 use Rattle.capnp_frame.specs.declared.error.Error.{Error}
+use Rattle.capnp_frame.specs.declared.error.ErrorKind.{ErrorKind}
 use Rattle.capnp_frame.specs.declared.error.ErrorKind.TheVariants.{DeviceFailed, OutOfMemory}
+use Rattle.capnp_frame.specs.Limits.{default_limit}
 use Rattle.capnp_frame.specs.declared.message.options.ReaderOptions.{ReaderOptions}
 use Rattle.capnp_frame.specs.declared.message.options.TheConstants.{DEFAULT_READER_OPTIONS}
 use Rattle.capnp_wire.specs.Readers.{nesting_of, default_root}
 use Rattle.capnp_wire.specs.Views.{Pointer}
 use Rattle.capnp_wire.specs.Values.{IsCanonicalForm}
 use Rattle.capnp_message.specs.Seen.{root_of}
+use Rattle.capnp_message.specs.Canonical.{LacksForm}
 use Rattle.capnp_frame.specs.Source.{Fails, Splits, RunsShort}
 use Rattle.capnp.specs.declared.streams.Format.{Format}
 use Rattle.capnp_frame.specs.Streams.{next_in}
-use Rattle.capnp.specs.Streams.{grammar_of, StandsNext, IsPlainSource}
+use Rattle.capnp.specs.Streams.{grammar_of, BeginsFramed, StandsNext, IsPlainSource}
 use Rattle.capnp.specs.Headline.{ReturnsTexts}
 use Rattle.capnp.proofs.RunLemmas.{format_lawful, format_requested, format_parts}
 use Rattle.capnp.proofs.ReaderLemmas.{nothing_begins}
@@ -58,6 +61,17 @@ pub form_of_root : {X : Type 0} (numbers_of : X → List ℕ) (Q : Error → Typ
     → MatchResult r (λ x. IsCanonicalForm pointer (numbers_of x)) Q → IfOk r (λ x. IsCanonicalForm other (numbers_of x))
 form_of_root numbers_of Q (Ok x) pointer other same returned = subst (λ p. IsCanonicalForm p (numbers_of x)) same returned
 form_of_root numbers_of Q (Err e) pointer other same returned = tt
+
+-- why it has none
+pub form_refused : {X : Type 0} (is_form : X → Type 0) (pointer : Pointer) (m : List (List ℕ)) (bytes : List ℕ) (Q : ErrorKind → Type 0) (r : Result X Error)
+    → pointer ≡ default_root m → (rest : List ℕ) × BeginsFramed Zero default_limit m bytes rest
+    → MatchResult r is_form (λ e. LacksForm pointer e.kind ⊎ (e.kind ≡ OutOfMemory))
+    → IfErr r (λ e. (e.kind ≡ OutOfMemory) ⊎ Q e.kind
+    ⊎ ((message : List (List ℕ)) × (rest : List ℕ) × BeginsFramed Zero default_limit message bytes rest × LacksForm (default_root message) e.kind))
+form_refused is_form pointer m bytes Q (Ok x) same begins returned = tt
+form_refused is_form pointer m bytes Q (Err e) same begins (inl lacks) =
+    inr (inr (m, begins.0, begins.1, subst (λ p. LacksForm p e.kind) same lacks))
+form_refused is_form pointer m bytes Q (Err e) same begins (inr memory) = inl memory
 
 -- an object may stand at that root
 pub default_depth : (options : ReaderOptions) → options ≡ DEFAULT_READER_OPTIONS → 0 < nesting_of options.nesting_limit

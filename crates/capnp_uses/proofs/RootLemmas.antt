@@ -7,7 +7,7 @@ use Rattle.capnp_wire.specs.Tree.{Form, null, struct, numbers, none}
 use Rattle.capnp_wire.specs.Object.{Shape, PointsTo, nothing, word_at}
 use Rattle.capnp_wire.specs.Reached.{at, root, Root}
 use Rattle.capnp_wire.specs.Faults.{NoWord, Fault}
-use Rattle.capnp_wire.specs.Views.{Pointer, Denotes, nowhere, at_place, Shows, Reads, Refuses, MeetsLimit, IsText, DeclinesText, DeclinesStruct}
+use Rattle.capnp_wire.specs.Views.{Pointer, Denotes, nowhere, at_place, Shows, Accepts, Reads, Refuses, MeetsLimit, IsText, DeclinesText, DeclinesStruct}
 use Rattle.capnp_wire.specs.Traversed.{Within}
 use Rattle.capnp_wire.specs.Readers.{unlimited_root}
 use Rattle.capnp_wire.proofs.objects.ObjectLemmas.{one_object}
@@ -24,6 +24,10 @@ use Rattle.capnp_uses.specs.Roots.{HasRootForm}
 pub root_denotes : (spaces : List Space) (shape : Shape) → PointsTo (message spaces) root shape → Denotes (unlimited_root (map used_of spaces)) shape
 root_denotes [] shape points = absurd (word_of_object [] root shape refl points)
 root_denotes (space ∷ spaces) shape points = at_place refl points (λ some. omega arith)
+
+-- and a view is had of it that takes it
+pub root_accepts : (spaces : List Space) (form : Form) (takes : Form → Type 0) → HasRootForm spaces form → takes form → Accepts (unlimited_root (map used_of spaces)) takes
+root_accepts spaces form takes (traversed, at {shape = shape} points inside others) taken = (shape, root_denotes spaces shape points, taken)
 
 pub root_is_shown : (spaces : List Space) (form : Form) (fact : Shape → Type 0) → HasRootForm spaces form → Shows (unlimited_root (map used_of spaces)) fact
     → (shape : Shape) × (shape.form ≡ form) × fact shape
@@ -94,3 +98,8 @@ text_meets_limit shows pointer bytes (Err e) is stands deep returned =
 
 pub struct_is_taken : (words : List ℕ) (kind : ErrorKind) → DeclinesStruct (struct words) kind → ⊥
 struct_is_taken words kind (other, is) = other tt
+
+-- What is said of a failure is said of it alone.
+pub refused_root : {X : Type 0} (shows : X → Type 0) (refuses : Error → Type 0) (r : Result X Error) → MatchResult r shows refuses → IfErr r refuses
+refused_root shows refuses (Ok x) returned = tt
+refused_root shows refuses (Err e) returned = returned

@@ -1,16 +1,25 @@
 -- A pointer leads to one tree.
-use Rattle.std.proofs.Common.{◌≡◌, ℕ, List, [], ◌∷◌, ◌++◌, false, true, refl, ◌∙◌, ap, subst, ◌<◌, length, arith}
+use Rattle.std.proofs.Common.{◌≡◌, ◌⊎◌, inl, inr, Err, ℕ, List, [], ◌∷◌, ◌++◌, false, true, refl, ◌∙◌, ap, subst, ◌<◌, length, arith}
+use Rattle.capnp_frame.specs.declared.error.Error.{Error}
+use Rattle.capnp_frame.specs.declared.error.ErrorKind.{ErrorKind}
+use Rattle.capnp_frame.specs.declared.error.ErrorKind.TheVariants.{DeviceFailed, OutOfMemory}
+use Rattle.capnp_frame.specs.Source.{Fails}
+use Rattle.capnp_frame.specs.Writing.{RefusesMany}
 use Rattle.capnp_wire.specs.Tree.{Form, Trees, none, tree}
-use Rattle.capnp_wire.specs.Reached.{At, at, root, Root}
+use Rattle.capnp_wire.specs.Reached.{At, at, nowhere, root, Root}
 use Rattle.capnp_wire.specs.Layout.{canon}
-use Rattle.capnp_wire.specs.Views.{Pointer}
+use Rattle.capnp_wire.specs.Views.{Pointer, DeclinesStruct}
 use Rattle.capnp_wire.specs.Values.{LeadsToTree}
 use Rattle.capnp_wire.proofs.pointers.FaultLemmas.{word_of_object}
 use Rattle.capnp_wire.proofs.views.OneValueLemmas.{one_there}
-use Rattle.capnp_frame.specs.Sink.{Adds}
+use Rattle.capnp_frame.specs.Sink.{Adds, ByKind}
 use Rattle.capnp_build.specs.Bytes.{Space}
 use Rattle.capnp_build.specs.Built.{message, IsSet, IsWhole}
-use Rattle.capnp.specs.Written.{IsFrameText}
+use Rattle.capnp_build.specs.Placed.{DeclinesRoot}
+use Rattle.capnp_build.specs.Outcomes.{LacksFirst}
+use Rattle.capnp.proofs.AppendedLemmas.{appending_memory}
+use Rattle.capnp.proofs.ChunkLemmas.{framed_appending}
+use Rattle.capnp.specs.Written.{IsFrameText, RefusesWriter}
 
 leads_one : (p : Pointer) (a b : Trees) → LeadsToTree p a → LeadsToTree p b → a ≡ b
 leads_one p a b x y = one_there p.place p.message p.nesting p.limit a b x y
@@ -28,6 +37,23 @@ canonical_as p spaces trees is s = s.words_are ∙ ap (λ (t : Trees). canon t �
 pub root_has_segment : (spaces : List Space) (form : Form) (held : Trees) (traversed : ℕ) → Root (message spaces) form held traversed → 0 < length spaces
 root_has_segment [] form held traversed (at {shape = shape} points inside others) = absurd (word_of_object [] root shape refl points)
 root_has_segment (space ∷ spaces) form held traversed stands = omega arith
+
+-- a type that declines the root declines the tree that was set
+declined_at : (p : Pointer) (spaces : List Space) (kind : ErrorKind) (trees : Trees) (traversed : ℕ) → LeadsToTree p trees → At (message spaces) (root ∷ []) trees traversed
+    → LacksFirst spaces kind ⊎ DeclinesRoot DeclinesStruct spaces kind → (form : Form) × (held : Trees) × LeadsToTree p (tree form held none) × DeclinesStruct form kind
+declined_at p [] kind trees traversed leads (at {shape = shape} points inside others) declined = absurd (word_of_object [] root shape refl points)
+declined_at p (space ∷ spaces) kind trees traversed leads (at points inside nowhere) (inl lacks) = absurd (omega (arith, lacks.0))
+declined_at p (space ∷ spaces) kind trees traversed leads (at points inside nowhere) (inr declined) = (_, _, leads, declined _ _ _ (at points inside nowhere))
+
+pub declined_tree : (p : Pointer) (spaces : List Space) (kind : ErrorKind) → IsSet (LeadsToTree p) false spaces → LacksFirst spaces kind ⊎ DeclinesRoot DeclinesStruct spaces kind
+    → (form : Form) × (held : Trees) × LeadsToTree p (tree form held none) × DeclinesStruct form kind
+declined_tree p spaces kind set declined = declined_at p spaces kind set.trees set.traversed set.tree_is set.stands declined
+
+-- why what was set is not written to memory
+pub not_written : (message : List (List ℕ)) (error : Error) → RefusesWriter (ByKind OutOfMemory) message error.kind → (error.kind ≡ DeviceFailed → Fails 0 0)
+    → RefusesMany message error.kind ⊎ (error.kind ≡ OutOfMemory)
+not_written message error refused failed =
+    appending_memory error.kind (framed_appending {X = Unit} (ByKind OutOfMemory) message (Err error) refused) failed
 
 -- what is added to nothing
 pub added_frame : (segments : List (List ℕ)) (old new : List ℕ) → old ≡ [] → Adds (IsFrameText segments) old new → IsFrameText segments new

@@ -1,9 +1,23 @@
--- What stands at the root of a message.
-use Rattle.std.specs.Prelude.{ℕ, List, map}
-use Rattle.capnp_wire.specs.Tree.{Form, none}
+-- What stands at the root of a message, and why a root is not set.
+use Rattle.std.specs.Prelude.{◌≡◌, ◌⊎◌, ℕ, List, [], map, false, Some}
+use Rattle.capnp_frame.specs.declared.error.ErrorKind.{ErrorKind}
+use Rattle.capnp_frame.specs.declared.error.ErrorKind.TheVariants.{OutOfMemory, PrematureEndOfFile}
+use Rattle.capnp_frame.specs.declared.serialize.segment_table.Padding.TheVariants.{Zero}
+use Rattle.capnp_frame.specs.Limits.{default_limit}
+use Rattle.capnp_wire.specs.Tree.{Form, Trees, none}
 use Rattle.capnp_wire.specs.Object.{message_of}
-use Rattle.capnp_wire.specs.Reached.{Root}
+use Rattle.capnp_wire.specs.Reached.{root, Root}
+use Rattle.capnp_wire.specs.Faults.{NoWord}
+use Rattle.capnp_wire.specs.Readers.{default_root}
+use Rattle.capnp_wire.specs.Views.{Refuses, DeclinesStruct}
+use Rattle.capnp_wire.specs.Values.{HasWords, LacksWords}
+use Rattle.capnp_build.specs.declared.allocator.Allocator.{Ghosts}
 use Rattle.capnp_build.specs.Bytes.{Space}
+use Rattle.capnp_build.specs.Built.{Built}
+use Rattle.capnp_build.specs.Placed.{FindsNoRoom, FoundNoRoom, InitWords}
+use Rattle.capnp_build.specs.Outcomes.{LacksFirst, RefusesCanonical}
+use Rattle.capnp.specs.declared.streams.Format.TheVariants.{Packed}
+use Rattle.capnp.specs.Streams.{StandsNext, EndsBy}
 use Rattle.capnp_build.specs.Held.{used_of}
 
 -- an object without pointers stands at the root of these segments
@@ -13,3 +27,24 @@ HasPlainRoot segments form = (traversed : ℕ) × Root (message_of segments) for
 -- and at the root of a message that is built
 abbrev pub HasRootForm : List Space → Form → Type 0
 HasRootForm spaces form = HasPlainRoot (map used_of spaces) form
+
+-- An object of this form is not made the root: the first segment is not handed out, or none has room once the old root is cleared.
+abbrev pub LacksRoom : {A S : Type 0} → Ghosts A S → Form → Built A → ErrorKind → Type 0
+LacksRoom alloc form old kind = LacksFirst old.spaces kind ⊎ FoundNoRoom alloc (InitWords (λ n made. made ≡ form) 0) old kind
+
+-- The root is not set to a value: measuring it fails, the first segment is not handed out, or none has room.
+abbrev pub RefusesRoot : {A : Type 0} → (Trees → Type 0) → (ErrorKind → Type 0) → Built A → Built A → ErrorKind → Type 0
+RefusesRoot has_tree refuses old new kind =
+    LacksWords has_tree refuses false kind ⊎ LacksFirst old.spaces kind ⊎ FindsNoRoom (HasWords has_tree false) new.spaces kind
+
+-- nor to its canonical form
+abbrev pub RefusesForm : {A : Type 0} → (Trees → Type 0) → (ErrorKind → Type 0) → Built A → Built A → ErrorKind → Type 0
+RefusesForm has_tree refuses old new kind =
+    ((new.spaces ≡ []) × LacksFirst old.spaces kind) ⊎ RefusesCanonical has_tree refuses new.spaces kind
+
+-- No struct is read at the root of a packed message: memory is wanting, no message stands there, or its root is refused.
+abbrev pub RefusesPackedStruct : List ℕ → ErrorKind → Type 0
+RefusesPackedStruct text kind = (kind ≡ OutOfMemory) ⊎ EndsBy Zero Packed default_limit (Some kind) text
+    ⊎ ((text ≡ []) × (kind ≡ PrematureEndOfFile))
+    ⊎ ((segments : List (List ℕ)) × (rest : List ℕ) × StandsNext Zero Packed default_limit segments text rest
+    × (NoWord (message_of segments) root kind ⊎ Refuses (default_root segments) DeclinesStruct kind))

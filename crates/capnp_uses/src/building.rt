@@ -1,7 +1,8 @@
 //! Messages that are built, and read once the view that wrote them is gone.
-ghost use Rattle.std.specs.Prelude.{◌≡◌, ◌<◌, ◌^◌, ◌++◌, ◌∷◌, [], length, true, IfOk, OnOk};
+ghost use Rattle.std.specs.Prelude.{◌≡◌, ◌⊎◌, ◌+◌, ◌-◌, ◌/◌, ◌<◌, ◌^◌, ◌++◌, ◌∷◌, [], length, replicate, true, IfOk, IfErr, OnOk};
+ghost use Rattle.capnp_frame.specs.declared.error.ErrorKind.{ErrorKind};
 ghost use Rattle.capnp_wire.specs.Tree.{null, struct, numbers};
-ghost use Rattle.capnp_uses.specs.Roots.{HasRootForm};
+ghost use Rattle.capnp_uses.specs.Roots.{HasRootForm, LacksRoom};
 
 use capnp_build::allocator::Allocator;
 use capnp_build::any_struct::{self, StructBuilder};
@@ -16,6 +17,10 @@ use std::alloc::Global;
 pub fn write_text<A: Allocator>(message: &mut Builder<A>, bytes: &[u8]) -> Result<()>
     requires { length bytes.now < 2 ^ 29 }
     ensures stands { OnOk result (HasRootForm message.new.spaces (numbers 2 (bytes.now ++ 0 ∷ []))) }
+    ensures refused { IfErr result (λ error. ((2 ^ 29 - 2 < length bytes.now)
+        × (error.kind ≡ ErrorKind.AllocationTooLarge (length bytes.now / 8 + 1)))
+        ⊎ LacksRoom A.Allocator (numbers 2 (replicate (length bytes.now + 1) 0)) message.old
+        error.kind) }
 {
     let mut view: text::Builder<'_, Builder<A>> = message.initn_root::<text::Owned>(
         bytes.len() as u32,
@@ -33,6 +38,11 @@ pub fn text_is_read_back<A: Allocator>(
     requires { length bytes.now < 2 ^ 29 }
     ensures stands { OnOk result (HasRootForm message.new.spaces (numbers 2 (bytes.now ++ 0 ∷ []))) }
     ensures back { IfOk result (λ read. read.items ≡ bytes.now) }
+    ensures refused { IfErr result (λ error. (error.kind ≡ ErrorKind.OutOfMemory)
+        ⊎ ((2 ^ 29 - 2 < length bytes.now)
+        × (error.kind ≡ ErrorKind.AllocationTooLarge (length bytes.now / 8 + 1)))
+        ⊎ LacksRoom A.Allocator (numbers 2 (replicate (length bytes.now + 1) 0)) message.old
+        error.kind) }
 {
     write_text(message, bytes)?;
     let text: capnp_wire::text::Reader<'_> = message.get_root_as_reader()?;
@@ -43,6 +53,8 @@ pub fn text_is_read_back<A: Allocator>(
 pub fn write_data<A: Allocator>(message: &mut Builder<A>, bytes: &[u8]) -> Result<()>
     requires { length bytes.now < 2 ^ 29 }
     ensures stands { OnOk result (HasRootForm message.new.spaces (numbers 2 bytes.now)) }
+    ensures refused { IfErr result (λ error. LacksRoom A.Allocator
+        (numbers 2 (replicate (length bytes.now) 0)) message.old error.kind) }
 {
     let mut view: data::Builder<'_, Builder<A>> = message.initn_root::<data::Owned>(
         bytes.len() as u32,
@@ -60,6 +72,9 @@ pub fn data_is_read_back<A: Allocator>(
     requires { length bytes.now < 2 ^ 29 }
     ensures stands { OnOk result (HasRootForm message.new.spaces (numbers 2 bytes.now)) }
     ensures back { IfOk result (λ read. read.items ≡ bytes.now) }
+    ensures refused { IfErr result (λ error. (error.kind ≡ ErrorKind.OutOfMemory)
+        ⊎ LacksRoom A.Allocator
+        (numbers 2 (replicate (length bytes.now) 0)) message.old error.kind) }
 {
     write_data(message, bytes)?;
     let data: capnp_wire::data::Reader<'_> = message.get_root_as_reader()?;
@@ -70,6 +85,8 @@ pub fn data_is_read_back<A: Allocator>(
 pub fn write_numbers<A: Allocator>(message: &mut Builder<A>, first: u64, second: u64) -> Result<()>
     ensures stands { OnOk result (HasRootForm message.new.spaces
         (numbers 5 (first ∷ second ∷ []))) }
+    ensures refused { IfErr result (λ error. LacksRoom A.Allocator
+        (numbers 5 (0 ∷ 0 ∷ [])) message.old error.kind) }
 {
     let mut view: primitive_list::Builder<'_, Builder<A>, u64> = message.initn_root::<
         primitive_list::Owned<u64>,
@@ -89,6 +106,9 @@ pub fn numbers_are_read_back<A: Allocator>(
     ensures stands { OnOk result (HasRootForm message.new.spaces
         (numbers 5 (first ∷ second ∷ []))) }
     ensures back { IfOk result (λ read. read.items ≡ first ∷ second ∷ []) }
+    ensures refused { IfErr result (λ error. (error.kind ≡ ErrorKind.OutOfMemory)
+        ⊎ LacksRoom A.Allocator
+        (numbers 5 (0 ∷ 0 ∷ [])) message.old error.kind) }
 {
     write_numbers(message, first, second)?;
     let list: capnp_wire::primitive_list::Reader<'_, u64> = message.get_root_as_reader()?;
@@ -102,6 +122,8 @@ pub fn numbers_are_read_back<A: Allocator>(
 /// Makes a struct of two words the root.
 pub fn write_struct<A: Allocator>(message: &mut Builder<A>, first: u64, second: u64) -> Result<()>
     ensures stands { OnOk result (HasRootForm message.new.spaces (struct (first ∷ second ∷ []))) }
+    ensures refused { IfErr result (λ error. LacksRoom A.Allocator
+        (struct (0 ∷ 0 ∷ [])) message.old error.kind) }
 {
     let mut view: StructBuilder<'_, Builder<A>> = message.initn_root::<any_struct::Owned>(2)?;
     view.set_word(0, first);
@@ -117,6 +139,8 @@ pub fn a_struct_is_read_back<A: Allocator>(
 ) -> Result<(u64, u64)>
     ensures stands { OnOk result (HasRootForm message.new.spaces (struct (first ∷ second ∷ []))) }
     ensures back { IfOk result (λ read. read ≡ (first, second)) }
+    ensures refused { IfErr result (λ error. LacksRoom A.Allocator
+        (struct (0 ∷ 0 ∷ [])) message.old error.kind) }
 {
     write_struct(message, first, second)?;
     let fields: StructReader<'_, BuilderArena<A>> = message.get_root_as_reader()?;
@@ -126,6 +150,8 @@ pub fn a_struct_is_read_back<A: Allocator>(
 /// Makes the root null.
 pub fn write_null<A: Allocator>(message: &mut Builder<A>) -> Result<()>
     ensures stands { OnOk result (HasRootForm message.new.spaces null) }
+    ensures refused { IfErr result (λ error. LacksRoom A.Allocator
+        null message.old error.kind) }
 {
     message.init_root::<any_pointer::Owned>()?;
     Ok(())
@@ -135,6 +161,8 @@ pub fn write_null<A: Allocator>(message: &mut Builder<A>) -> Result<()>
 pub fn null_is_read_back<A: Allocator>(message: &mut Builder<A>) -> Result<bool>
     ensures stands { OnOk result (HasRootForm message.new.spaces null) }
     ensures back { IfOk result (λ is_null. is_null ≡ true) }
+    ensures refused { IfErr result (λ error. LacksRoom A.Allocator
+        null message.old error.kind) }
 {
     write_null(message)?;
     let root: capnp_wire::any_pointer::Reader<'_, BuilderArena<A>> = message.get_root_as_reader()?;

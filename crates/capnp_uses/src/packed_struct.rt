@@ -3,10 +3,10 @@ ghost use Rattle.std.specs.Prelude.{◌≡◌, ◌⊎◌, ◌<◌, ◌∷◌, []
 ghost use Rattle.capnp_frame.specs.declared.error.ErrorKind.{ErrorKind};
 ghost use Rattle.capnp_frame.specs.Limits.{KeepsLimit, default_limit};
 ghost use Rattle.capnp_frame.specs.Message.{lengths};
-ghost use Rattle.capnp_frame.specs.Writing.{IsWritable, HasFew};
+ghost use Rattle.capnp_frame.specs.Writing.{IsWritable, HasFew, RefusesMany};
 ghost use Rattle.capnp_wire.specs.Tree.{struct};
 ghost use Rattle.capnp.specs.Written.{IsPackedTextOf, output_of};
-ghost use Rattle.capnp_uses.specs.Roots.{HasPlainRoot, HasRootForm};
+ghost use Rattle.capnp_uses.specs.Roots.{HasPlainRoot, HasRootForm, LacksRoom, RefusesPackedStruct};
 
 use crate::building::write_struct;
 use capnp::message::DEFAULT_READER_OPTIONS;
@@ -27,6 +27,11 @@ pub fn a_struct_is_read_packed<A: Allocator>(
 ) -> Result<(u64, u64)>
     ensures stands { OnOk result (HasRootForm message.new.spaces (struct (first ∷ second ∷ []))) }
     ensures back { IfOk result (λ read. read ≡ (first, second)) }
+    ensures refused { IfErr result (λ error. RefusesMany (output_of message.new) error.kind
+        ⊎ (error.kind ≡ ErrorKind.OutOfMemory)
+        ⊎ LacksRoom A.Allocator (struct (0 ∷ 0 ∷ [])) message.old error.kind
+        ⊎ ((text : List ℕ) × IsPackedTextOf (output_of message.new) text
+        × RefusesPackedStruct text error.kind)) }
 {
     write_struct(message, first, second)?;
     let text = packed_text(alloc, message)?;
@@ -37,9 +42,11 @@ pub fn a_struct_is_read_packed<A: Allocator>(
 /// accepts, so that `read_packed_words` finds it within the limit of words.
 pub fn packed_text<A: Allocator>(alloc: Global, message: &Builder<A>) -> Result<Vec<u8>>
     requires { 0 < length message.now.spaces }
-    ensures { IfOk result (λ text. IsWritable (output_of message.now)
+    ensures packed { IfOk result (λ text. IsWritable (output_of message.now)
         × HasFew (output_of message.now)
         × IsPackedTextOf (output_of message.now) text.items) }
+    ensures refused { IfErr result (λ error. RefusesMany (output_of message.now) error.kind
+        ⊎ (error.kind ≡ ErrorKind.OutOfMemory)) }
 {
     let output = message.get_segments_for_output();
     let mut text = Vec::new(alloc);
@@ -58,6 +65,7 @@ pub fn read_packed_words(alloc: Global, text: &[u8]) -> Result<(u64, u64)>
         IsPackedTextOf message text.now → HasPlainRoot message (struct (first ∷ second ∷ [])) →
         IfErr result (λ error. (error.kind ≡ ErrorKind.OutOfMemory)
         ⊎ (error.kind ≡ ErrorKind.ReadLimitExceeded)) }
+    ensures refused { IfErr result (λ error. RefusesPackedStruct text.now error.kind) }
 {
     let mut source = text;
     let message = serialize_packed::read_message(alloc, &mut source, DEFAULT_READER_OPTIONS)?;

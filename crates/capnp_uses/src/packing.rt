@@ -6,7 +6,7 @@ ghost use Rattle.capnp_frame.specs.Source.{IfKnown, Fails};
 ghost use Rattle.capnp_frame.specs.Sink.{Adds};
 ghost use Rattle.capnp_pack.specs.Packed.{Packs};
 ghost use Rattle.capnp_pack.specs.PackedSink.{AppendsPacked, DeclinesPacked};
-ghost use Rattle.capnp_pack.specs.PackedSource.{Unpacks};
+ghost use Rattle.capnp_pack.specs.PackedSource.{Unpacks, RefusesChunk};
 
 use capnp::Result;
 use capnp::io::{Read, Write};
@@ -45,6 +45,8 @@ pub fn unpack_words(text: &[u8], words: &mut [u8]) -> Result<()>
         × Unpacks text.now (length words.new) words.new rest) }
     ensures found { (bytes rest : List ℕ) → Unpacks text.now (length words.new) bytes rest →
         IsOk result }
+    ensures refused { IfErr result (λ error.
+        RefusesChunk text.now (length words.new) error.kind) }
 {
     let mut source = text;
     let mut packed = PackedRead::new(&mut source);

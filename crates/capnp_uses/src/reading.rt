@@ -1,12 +1,16 @@
 //! Messages that are read from bytes at hand.
-ghost use Rattle.std.specs.Prelude.{◌≡◌, ◌<◌, ◌++◌, ◌∷◌, [], ℕ, List, IfOk, IfErr, IfSome, IfNone, MatchResult, IsSomeAnd, IsOkAnd};
+ghost use Rattle.std.specs.Prelude.{◌≡◌, ◌⊎◌, ◌<◌, ◌++◌, ◌∷◌, [], ℕ, List, Some, IfOk, IfErr, IfSome, IfNone, MatchResult, IsSomeAnd, IsOkAnd};
 ghost use Rattle.capnp_frame.specs.declared.serialize.segment_table.Padding.TheVariants.{Zero};
 ghost use Rattle.capnp_frame.specs.declared.error.ErrorKind.{ErrorKind};
 ghost use Rattle.capnp_frame.specs.declared.message.options.TheConstants.{DEFAULT_READER_OPTIONS};
 ghost use Rattle.capnp_wire.specs.Tree.{numbers};
-ghost use Rattle.capnp_wire.specs.Views.{MeetsLimit};
+ghost use Rattle.capnp_wire.specs.Reached.{root};
+ghost use Rattle.capnp_wire.specs.Faults.{NoWord};
+ghost use Rattle.capnp_wire.specs.Views.{MeetsLimit, Refuses, DeclinesText};
 ghost use Rattle.capnp_message.specs.Seen.{root_of};
-ghost use Rattle.capnp.specs.Streams.{BeginsFramed};
+ghost use Rattle.capnp_frame.specs.FlatReaders.{RefusesBy, no_alloc_rules};
+ghost use Rattle.capnp.specs.declared.streams.Format.{Format};
+ghost use Rattle.capnp.specs.Streams.{BeginsFramed, EndsBy};
 ghost use Rattle.capnp_frame.specs.Limits.{default_limit};
 ghost use Rattle.capnp_uses.specs.Roots.{HasPlainRoot};
 
@@ -25,6 +29,10 @@ pub fn first_message(alloc: Global, bytes: &[u8]) -> Result<Option<Reader<OwnedS
         BeginsFramed Zero default_limit message bytes.now rest → MatchResult result
         (λ found. IsSomeAnd found (λ reader. reader.segments ≡ message))
         (λ error. error.kind ≡ ErrorKind.OutOfMemory) }
+    ensures refused { IfErr result (λ error. (error.kind ≡ ErrorKind.OutOfMemory)
+        ⊎ EndsBy Zero Format.Framed default_limit (Some error.kind) bytes.now) }
+    ensures options { IfOk result (λ found. IfSome found (λ reader.
+        reader.options ≡ DEFAULT_READER_OPTIONS)) }
 {
     let mut source = bytes;
     serialize::try_read_message(alloc, &mut source, DEFAULT_READER_OPTIONS)
@@ -37,6 +45,8 @@ pub fn borrowed_message<'a>(bytes: &'a [u8]) -> Result<Reader<NoAllocSliceSegmen
     ensures exact { (message : List (List ℕ)) (rest : List ℕ) →
         BeginsFramed Zero default_limit message bytes.now rest →
         IsOkAnd result (λ reader. reader.segments.segments ≡ message) }
+    ensures refused { IfErr result (λ error.
+        RefusesBy (no_alloc_rules Zero default_limit) error.kind bytes.now) }
     ensures options { IfOk result (λ reader. reader.options ≡ DEFAULT_READER_OPTIONS) }
 {
     let mut source = bytes;
@@ -52,6 +62,8 @@ pub fn root_text<'a, S: ReaderSegments>(message: &'a Reader<S>) -> Result<text::
     ensures found { let pointer = root_of S.segments message.now in (bytes : List ℕ) →
         HasPlainRoot (S.segments message.now.segments) (numbers 2 (bytes ++ 0 ∷ [])) →
         0 < pointer.nesting → IfErr result (λ error. MeetsLimit pointer error.kind) }
+    ensures refused { let pointer = root_of S.segments message.now in IfErr result (λ error.
+        NoWord pointer.message root error.kind ⊎ Refuses pointer DeclinesText error.kind) }
 {
     message.get_root()
 }

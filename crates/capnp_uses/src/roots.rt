@@ -1,9 +1,12 @@
 //! Roots that are copied from a message that is read, and texts that are set and read back.
-ghost use Rattle.std.specs.Prelude.{◌≡◌, false, true, IfOk, OnOk, OnErr};
-ghost use Rattle.capnp_wire.specs.Values.{LeadsToTree, IsTextTree};
+ghost use Rattle.std.specs.Prelude.{◌≡◌, ◌⊎◌, false, true, IfOk, IfErr, OnOk, OnErr};
+ghost use Rattle.capnp_wire.specs.Reached.{root};
+ghost use Rattle.capnp_wire.specs.Faults.{NoWord};
+ghost use Rattle.capnp_wire.specs.Values.{LeadsToTree, StopsWalkFrom, IsTextTree, LongText};
 ghost use Rattle.capnp_build.specs.Built.{IsSet};
 ghost use Rattle.capnp_build.specs.Placed.{IsCleared};
 ghost use Rattle.capnp_message.specs.Seen.{root_of};
+ghost use Rattle.capnp_uses.specs.Roots.{RefusesRoot};
 
 use capnp_build::allocator::Allocator;
 use capnp_frame::Result;
@@ -16,8 +19,12 @@ pub fn copy_root<S: ReaderSegments, A: Allocator>(
     message: &mut Builder<A>,
     reader: &Reader<S>,
 ) -> Result<()>
-    ensures { OnOk result
+    ensures set { OnOk result
         (IsSet (LeadsToTree (root_of S.segments reader.now)) false message.new.spaces) }
+    ensures refused { let pointer = root_of S.segments reader.now in IfErr result (λ error.
+        NoWord pointer.message root error.kind
+        ⊎ RefusesRoot (LeadsToTree pointer) (StopsWalkFrom pointer)
+        message.old message.new error.kind) }
 {
     let root: any_pointer::Reader<'_, S> = reader.get_root()?;
     message.set_root::<any_pointer::Owned, any_pointer::Reader<'_, S>>(root)
@@ -28,6 +35,8 @@ pub fn set_text_is_read_back<A: Allocator>(message: &mut Builder<A>, text: &str)
     ensures back { IfOk result (λ same. same ≡ true) }
     ensures set { OnOk result (IsSet (λ trees. IsTextTree text.now trees) false message.new.spaces) }
     ensures cleared { OnErr result (IsCleared A.Allocator message.old message.new) }
+    ensures refused { IfErr result (λ error. RefusesRoot (IsTextTree text.now) (LongText text.now)
+        message.old message.new error.kind) }
 {
     message.set_root::<text::Owned, &str>(text)?;
     let view: text::Reader<'_> = message.get_root_as_reader()?;

@@ -1,13 +1,17 @@
 //! Roots that are set to what another message holds, and messages that are written right after.
-ghost use Rattle.std.specs.Prelude.{◌≡◌, ◌<◌, ◌∷◌, [], ℕ, List, length, map, slice_set, false, true, OnOk, IfOk};
+ghost use Rattle.std.specs.Prelude.{◌≡◌, ◌⊎◌, ◌<◌, ◌∷◌, [], ℕ, List, length, map, slice_set, false, true, OnOk, IfOk, IfErr};
+ghost use Rattle.capnp_frame.specs.declared.error.ErrorKind.{ErrorKind};
+ghost use Rattle.capnp_frame.specs.Writing.{RefusesMany};
 ghost use Rattle.capnp_wire.specs.Tree.{Form, Trees, none, tree, struct};
 ghost use Rattle.capnp_wire.specs.Object.{message_of};
 ghost use Rattle.capnp_wire.specs.Reached.{Root};
 ghost use Rattle.capnp_wire.specs.Layout.{canon};
 ghost use Rattle.capnp_wire.specs.Readers.{pointer_of};
-ghost use Rattle.capnp_wire.specs.Values.{LeadsToTree};
-ghost use Rattle.capnp_build.specs.Built.{message, IsSet};
+ghost use Rattle.capnp_wire.specs.Views.{DeclinesStruct};
+ghost use Rattle.capnp_wire.specs.Values.{LeadsToTree, StopsWalkFrom};
+ghost use Rattle.capnp_build.specs.Built.{Built, message, IsSet};
 ghost use Rattle.capnp.specs.Written.{IsFrameText, output_of};
+ghost use Rattle.capnp_uses.specs.Roots.{RefusesRoot, RefusesForm};
 
 use capnp::serialize;
 use capnp_build::allocator::Allocator;
@@ -27,6 +31,10 @@ pub fn set_tree<A: Allocator, S: ReaderSegments>(
     ensures set { (form : Form) (held : Trees) →
         LeadsToTree (pointer_of S.segments source.entry) (tree form held none) →
         OnOk result ((traversed : ℕ) × Root (message built.new.spaces) form held traversed) }
+    ensures stands { OnOk result
+        (IsSet (LeadsToTree (pointer_of S.segments source.entry)) false built.new.spaces) }
+    ensures refused { let pointer = pointer_of S.segments source.entry in IfErr result (λ error.
+        RefusesRoot (LeadsToTree pointer) (StopsWalkFrom pointer) built.old built.new error.kind) }
 {
     built.set_root::<any_pointer::Owned, any_pointer::Reader<'_, S>>(source)
 }
@@ -41,6 +49,12 @@ pub fn set_tree_and_word<A: Allocator, S: ReaderSegments>(
         LeadsToTree (pointer_of S.segments source.entry) (tree (struct words) held none) →
         OnOk result ((traversed : ℕ)
         × Root (message built.new.spaces) (struct (slice_set words 0 word)) held traversed) }
+    // It fails as setting the root does, or where what is set is no struct.
+    ensures refused { let pointer = pointer_of S.segments source.entry in IfErr result (λ error.
+        ((last : Built A) × RefusesRoot (LeadsToTree pointer) (StopsWalkFrom pointer)
+        built.old last error.kind)
+        ⊎ ((form : Form) × (held : Trees) × LeadsToTree pointer (tree form held none)
+        × DeclinesStruct form error.kind)) }
 {
     set_tree(built, source)?;
     let mut fields: StructBuilder<'_, Builder<A>> = built.get_root::<any_struct::Owned>()?;
@@ -58,6 +72,8 @@ pub fn set_canonical<A: Allocator, S: ReaderSegments>(
     requires { built.old.spaces ≡ [] }
     ensures set { (trees : Trees) → LeadsToTree (pointer_of S.segments source.entry) trees →
         OnOk result (message built.new.spaces ≡ canon trees ∷ []) }
+    ensures refused { let pointer = pointer_of S.segments source.entry in IfErr result (λ error.
+        RefusesForm (LeadsToTree pointer) (StopsWalkFrom pointer) built.old built.new error.kind) }
 {
     built.set_root_canonical::<any_pointer::Owned, any_pointer::Reader<'_, S>>(source)
 }
@@ -70,6 +86,9 @@ pub fn set_and_write<T, V: SetterInput<T> + Drop, A: Allocator>(
 ) -> Result<Vec<u8>>
     ensures set { OnOk result (IsSet (V.has_tree value) false built.new.spaces) }
     ensures written { IfOk result (λ text. IsFrameText (output_of built.new) text.items) }
+    ensures refused { IfErr result (λ error.
+        RefusesRoot (V.has_tree value) (V.refuses value) built.old built.new error.kind
+        ⊎ RefusesMany (output_of built.new) error.kind ⊎ (error.kind ≡ ErrorKind.OutOfMemory)) }
 {
     built.set_root::<T, V>(value)?;
     let mut text = Vec::new(alloc);
@@ -85,6 +104,9 @@ pub fn set_canonical_and_write<T, V: SetterInput<T> + Drop, A: Allocator>(
 ) -> Result<Vec<u8>>
     ensures set { OnOk result (IsSet (V.has_tree value) true built.new.spaces) }
     ensures written { IfOk result (λ text. IsFrameText (output_of built.new) text.items) }
+    ensures refused { IfErr result (λ error.
+        RefusesForm (V.has_tree value) (V.refuses value) built.old built.new error.kind
+        ⊎ RefusesMany (output_of built.new) error.kind ⊎ (error.kind ≡ ErrorKind.OutOfMemory)) }
 {
     built.set_root_canonical::<T, V>(value)?;
     let mut text = Vec::new(alloc);

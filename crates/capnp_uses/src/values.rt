@@ -1,9 +1,10 @@
 //! Values that are composed: a person is set as the root of a message, written and read back.
-ghost use Rattle.std.specs.Prelude.{◌≡◌, ◌∷◌, [], map, IfOk, OnOk};
+ghost use Rattle.std.specs.Prelude.{◌≡◌, ◌∷◌, [], map, IfOk, IfErr, OnOk};
 ghost use Rattle.capnp_wire.specs.Layout.{canon};
 ghost use Rattle.capnp_build.specs.Built.{message};
 ghost use Rattle.capnp.specs.Roots.{HasRootTree};
-ghost use Rattle.capnp_uses.specs.People.{contact_tree, person_tree};
+ghost use Rattle.capnp.specs.Written.{output_of};
+ghost use Rattle.capnp_uses.specs.People.{contact_tree, person_tree, RefusesAlone, RefusesBack};
 
 use capnp::roots::set_and_read_back;
 use capnp::streams::Format;
@@ -50,6 +51,8 @@ pub fn person_is_read_back<A: Allocator>(
     ensures back { IfOk result (λ reader. HasRootTree reader.segments
         (person_tree id name.now city.now)) }
     ensures options { IfOk result (λ reader. reader.options ≡ options) }
+    ensures refused { IfErr result (λ error.
+        RefusesBack (output_of message.new) options.traversal_limit_in_words error.kind) }
 {
     let value = person(id, name, city);
     set_and_read_back::<any_struct::Owned, Person<'_>, A>(alloc, format, message, value, options)
@@ -65,6 +68,7 @@ pub fn person_is_canonical<A: Allocator>(
     requires { built.old.spaces ≡ [] }
     ensures form { OnOk result (message built.new.spaces
         ≡ canon (person_tree id name.now city.now) ∷ []) }
+    ensures refused { IfErr result (λ error. RefusesAlone error.kind) }
 {
     let value = person(id, name, city);
     built.set_root_canonical::<any_struct::Owned, Person<'_>>(value)
@@ -117,6 +121,8 @@ pub fn contact_is_read_back<'a, A: Allocator>(
         (contact_tree id name.now mail.now (map (λ phone. phone.words) phones.now)
         (map (λ phone. phone.fields.value.now) phones.now))) }
     ensures options { IfOk result (λ reader. reader.options ≡ options) }
+    ensures refused { IfErr result (λ error.
+        RefusesBack (output_of message.new) options.traversal_limit_in_words error.kind) }
 {
     let value = contact(id, name, mail, phones);
     set_and_read_back::<any_struct::Owned, Contact<'a>, A>(alloc, format, message, value, options)

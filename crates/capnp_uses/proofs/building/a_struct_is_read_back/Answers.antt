@@ -1,9 +1,16 @@
 -- The fields that are read stand at the root.
-use Rattle.std.proofs.Common.{rules}
-use Rattle.capnp_uses.proofs.RootLemmas.{root_is_shown}
+use Rattle.std.proofs.Common.{rules, refl, [], ◌∷◌}
+use Rattle.capnp_wire.specs.Tree.{struct}
+use Rattle.capnp_wire.specs.Views.{TakesStruct}
+use Rattle.capnp_uses.proofs.RootLemmas.{root_is_shown, root_accepts}
 use Rattle.capnp_uses.proofs.building.a_struct_is_read_back.Goals as goal
 
 pub returns : goal.returns
 returns g c =
     let there = root_is_shown _ _ _ c.in_ok-write_struct.ensures.stands c.in_ok-fields.ensures.returned.shown in
-    record { stands = c.in_ok-write_struct.ensures.stands; back = search rules }
+    record { stands = c.in_ok-write_struct.ensures.stands; back = search rules; refused = tt }
+
+pub returns-in_err-fields-clause-refused : goal.returns-in_err-fields-clause-refused
+returns-in_err-fields-clause-refused g c =
+    let never = c.in_err-fields.ensures.found refl (root_accepts _ (struct (c.args.first ∷ c.args.second ∷ [])) TakesStruct c.in_ok-write_struct.ensures.stands tt) in
+    absurd (cc)

@@ -1,12 +1,17 @@
 -- The data that is read stands at the root.
-use Rattle.std.proofs.Common.{rules}
+use Rattle.std.proofs.Common.{rules, refl}
 use Rattle.capnp_wire.specs.Tree.{numbers}
-use Rattle.capnp_wire.specs.Views.{IsData}
-use Rattle.capnp_uses.proofs.RootLemmas.{root_is_read}
+use Rattle.capnp_wire.specs.Views.{IsData, TakesNumbers}
+use Rattle.capnp_uses.proofs.RootLemmas.{root_is_read, root_accepts}
 use Rattle.capnp_uses.proofs.building.data_is_read_back.Goals as goal
 
 pub returns : goal.returns
 returns g c =
     let there = root_is_read _ (numbers 2 c.args.bytes.now) (λ form. IsData form c.in_ok-data.data.now)
     c.in_ok-write_data.ensures.stands c.in_ok-data.ensures.returned in
-    record { stands = c.in_ok-write_data.ensures.stands; back = search rules }
+    record { stands = c.in_ok-write_data.ensures.stands; back = search rules; refused = tt }
+
+pub returns-in_err-data-clause-refused : goal.returns-in_err-data-clause-refused
+returns-in_err-data-clause-refused g c =
+    let never = c.in_err-data.ensures.found refl (root_accepts _ (numbers 2 c.args.bytes.now) (TakesNumbers 2) c.in_ok-write_data.ensures.stands refl) in
+    absurd (cc)

@@ -1,9 +1,10 @@
 -- The numbers that are read stand at the root.
-use Rattle.std.proofs.Common.{◌≡◌, ◌∙◌, ◌∷◌, [], take, arith}
+use Rattle.std.proofs.Common.{◌≡◌, ◌∙◌, ◌∷◌, [], take, arith, refl}
 use Rattle.std.proofs.lemmas.List.{take_all}
 use Rattle.capnp_wire.specs.Tree.{numbers}
 use Rattle.capnp_wire.specs.NumberViews.{IsNumbers, numbers_of}
-use Rattle.capnp_uses.proofs.RootLemmas.{root_is_read}
+use Rattle.capnp_wire.specs.Views.{TakesNumbers}
+use Rattle.capnp_uses.proofs.RootLemmas.{root_is_read, root_accepts}
 use Rattle.capnp_uses.proofs.building.numbers_are_read_back.Goals as goal
 
 pub returns : goal.returns
@@ -12,4 +13,9 @@ returns g c =
     let there = root_is_read _ (numbers 5 (c.args.first ∷ c.args.second ∷ [])) (λ form. IsNumbers 5 form words)
     c.in_ok-write_numbers.ensures.stands c.in_ok-list.ensures.returned in
     let all : take c.loop-index.index words ≡ words = take_all c.loop-index.index words (omega arith) in
-    record { stands = c.in_ok-write_numbers.ensures.stands; back = c.loop-index.invariant ∙ all ∙ there.1 }
+    record { stands = c.in_ok-write_numbers.ensures.stands; back = c.loop-index.invariant ∙ all ∙ there.1; refused = tt }
+
+pub returns-in_err-list-clause-refused : goal.returns-in_err-list-clause-refused
+returns-in_err-list-clause-refused g c =
+    let never = c.in_err-list.ensures.found refl (root_accepts _ (numbers 5 (c.args.first ∷ c.args.second ∷ [])) (TakesNumbers 5) c.in_ok-write_numbers.ensures.stands refl) in
+    absurd (cc)

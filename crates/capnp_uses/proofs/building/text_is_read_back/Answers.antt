@@ -1,8 +1,8 @@
 -- The text that is read is the one that stands at the root.
-use Rattle.std.proofs.Common.{rules, ◌++◌, ◌∷◌, []}
+use Rattle.std.proofs.Common.{rules, ◌++◌, ◌∷◌, [], refl}
 use Rattle.capnp_wire.specs.Tree.{numbers}
-use Rattle.capnp_wire.specs.Views.{IsText}
-use Rattle.capnp_uses.proofs.RootLemmas.{root_is_read}
+use Rattle.capnp_wire.specs.Views.{IsText, TakesText}
+use Rattle.capnp_uses.proofs.RootLemmas.{root_is_read, root_accepts}
 use Rattle.std.proofs.lemmas.List.{append_cancel_right}
 use Rattle.capnp_uses.proofs.building.text_is_read_back.Goals as goal
 
@@ -11,4 +11,9 @@ returns g c =
     let there = root_is_read _ (numbers 2 (c.args.bytes.now ++ 0 ∷ [])) (λ form. IsText form c.in_ok-text.text.bytes.now)
     c.in_ok-write_text.ensures.stands c.in_ok-text.ensures.returned in
     let same = append_cancel_right c.args.bytes.now c.in_ok-text.text.bytes.now (0 ∷ []) there.1 in
-    record { stands = c.in_ok-write_text.ensures.stands; back = search rules }
+    record { stands = c.in_ok-write_text.ensures.stands; back = search rules; refused = tt }
+
+pub returns-in_err-text-clause-refused : goal.returns-in_err-text-clause-refused
+returns-in_err-text-clause-refused g c =
+    let never = c.in_err-text.ensures.found refl (root_accepts _ (numbers 2 (c.args.bytes.now ++ 0 ∷ [])) TakesText c.in_ok-write_text.ensures.stands (refl, (c.args.bytes.now, refl))) in
+    absurd (cc)

@@ -1,13 +1,19 @@
 -- The message that is canonicalized is the one that stands there.
-use Rattle.std.proofs.Common.{subst, IfErr, ◌≡◌}
+use Rattle.std.proofs.Common.{inl, inr, refl, subst, IfErr, ◌≡◌}
+use Rattle.std.proofs.lemmas.Result.{err_from_is_err_and}
 use Rattle.capnp_frame.specs.declared.error.ErrorKind.TheVariants.{OutOfMemory}
 use Rattle.capnp_wire.specs.Block.{numbers_of}
 use Rattle.capnp_message.specs.Canonical.{HasForm}
-use Rattle.capnp_uses.proofs.ReadingLemmas.{root_is_default, form_of_root}
+use Rattle.capnp_uses.proofs.ReadingLemmas.{root_is_default, form_of_root, form_refused}
 use Rattle.capnp_uses.proofs.canonical.canonical_words.Goals as goal
 
 pub returns-in_err-message-clause-found : goal.returns-in_err-message-clause-found
 returns-in_err-message-clause-found c = λ message rest begins. absurd (c.in_err-message.ensures.exact message rest begins)
+
+pub returns-in_err-message-clause-refused : goal.returns-in_err-message-clause-refused
+returns-in_err-message-clause-refused c =
+    let p = err_from_is_err_and c.from_residual.result c.from_residual.ensures.1 in
+    rw (p.1, p.2) (inr (inl c.in_err-message.ensures.refused))
 
 pub returns : goal.returns
 returns c =
@@ -20,4 +26,7 @@ returns c =
           subst (λ pointer. HasForm pointer → IfErr c.canonicalize.result (λ error. error.kind ≡ OutOfMemory))
           (root_is_default reader.segments.segments message reader.options (c.in_ok-message.ensures.exact message rest begins) c.in_ok-message.ensures.options)
           c.canonicalize.ensures.found;
+      refused = form_refused _ _ reader.segments.segments c.args.bytes.now _ c.canonicalize.result
+          (root_is_default reader.segments.segments reader.segments.segments reader.options refl c.in_ok-message.ensures.options)
+          c.in_ok-message.ensures.found c.canonicalize.ensures.returned;
     }

@@ -1,16 +1,34 @@
 -- The text is that of the used words.
-use Rattle.std.proofs.Common.{subst}
-use Rattle.capnp_frame.specs.Writing.{IsWritable, HasFew}
+use Rattle.std.proofs.Common.{◌≡◌, ◌⊎◌, Err, subst}
+use Rattle.std.proofs.lemmas.Result.{err_from_is_err_and}
+use Rattle.capnp_frame.specs.declared.error.ErrorKind.TheVariants.{OutOfMemory}
+use Rattle.capnp_frame.specs.Sink.{ByKind}
+use Rattle.capnp_frame.specs.Writing.{IsWritable, HasFew, RefusesMany}
 use Rattle.capnp.specs.Written.{IsPackedTextOf}
+use Rattle.capnp.proofs.AppendedLemmas.{appending_memory}
+use Rattle.capnp.proofs.ChunkLemmas.{packed_appending}
 use Rattle.capnp_uses.proofs.PackedStructLemmas.{added_text}
 use Rattle.capnp_uses.proofs.packed_struct.packed_text.Goals as goal
 
 pub returns : goal.returns
 returns g c =
-    let output = c.get_segments_for_output-output in (
-      subst IsWritable output.ensures.segments (output.ensures.writable c.requires),
-      subst HasFew output.ensures.segments c.in_ok-write_message_segments.ensures.count.few,
-      subst (λ m. IsPackedTextOf m c.write_message_segments.new.sink.items) output.ensures.segments
-          (added_text output.result c.new-text.result.items c.write_message_segments.new.sink.items c.new-text.ensures.items
-          (c.in_ok-write_message_segments.ensures.text (λ chunk text same. same))),
-    )
+    let output = c.get_segments_for_output-output in
+    record {
+      refused = tt;
+      packed = (
+        subst IsWritable output.ensures.segments (output.ensures.writable c.requires),
+        subst HasFew output.ensures.segments c.in_ok-write_message_segments.ensures.count.few,
+        subst (λ m. IsPackedTextOf m c.write_message_segments.new.sink.items) output.ensures.segments
+            (added_text output.result c.new-text.result.items c.write_message_segments.new.sink.items c.new-text.ensures.items
+            (c.in_ok-write_message_segments.ensures.text (λ chunk text same. same))),
+      );
+    }
+
+pub returns-in_err-write_message_segments-clause-refused : goal.returns-in_err-write_message_segments-clause-refused
+returns-in_err-write_message_segments-clause-refused g c =
+    let p = err_from_is_err_and c.from_residual.result c.from_residual.ensures.1 in
+    let output = c.get_segments_for_output-output in
+    let error = c.in_err-write_message_segments.field-0.0 in
+    let refused = appending_memory error.kind (packed_appending {X = Unit} (ByKind OutOfMemory) output.result (Err error) (output.ensures.writable c.requires)
+    c.in_err-write_message_segments.ensures.refused) c.in_err-write_message_segments.ensures.failed in
+    rw (p.1, p.2) (subst (λ m. RefusesMany m error.kind ⊎ (error.kind ≡ OutOfMemory)) output.ensures.segments refused)

@@ -1,17 +1,19 @@
 -- The message that is read is the one that was written, and the fields stand at its root.
-use Rattle.std.proofs.Common.{◌≡◌, rules, refl, sym, subst, [], ◌∷◌, inl, inr}
+use Rattle.std.proofs.Common.{◌≡◌, ◌⊎◌, rules, refl, sym, subst, [], ◌∷◌, inl, inr}
 use Rattle.std.proofs.lemmas.Result.{err_from_is_err_and}
 use Rattle.capnp_frame.specs.declared.error.ErrorKind.TheVariants.{DeviceFailed}
 use Rattle.capnp_frame.specs.Source.{Fails}
 use Rattle.capnp_wire.specs.Tree.{struct}
-use Rattle.capnp_wire.specs.Views.{DeclinesStruct}
+use Rattle.capnp_wire.specs.Reached.{root}
+use Rattle.capnp_wire.specs.Faults.{NoWord}
+use Rattle.capnp_wire.specs.Views.{Pointer, Refuses, DeclinesStruct}
 use Rattle.capnp_message.specs.Seen.{root_of}
 use Rattle.capnp.proofs.AppendedLemmas.{memory_only}
 use Rattle.capnp_frame.specs.Limits.{default_limit}
 use Rattle.capnp_uses.specs.Roots.{HasPlainRoot}
-use Rattle.capnp_uses.proofs.ReadingLemmas.{default_depth}
+use Rattle.capnp_uses.proofs.ReadingLemmas.{default_depth, root_is_default}
 use Rattle.capnp_uses.proofs.RootLemmas.{read_at_root, root_meets_limit, struct_is_taken}
-use Rattle.capnp_uses.proofs.PackedStructLemmas.{packed_read, begins_packed}
+use Rattle.capnp_uses.proofs.PackedStructLemmas.{packed_read, begins_packed, packed_stops}
 use Rattle.capnp_uses.proofs.packed_struct.read_packed_words.Goals as goal
 
 pub returns-in_err-message-clause-found : goal.returns-in_err-message-clause-found
@@ -19,6 +21,14 @@ returns-in_err-message-clause-found c message first second writable few size pac
     let p = err_from_is_err_and c.from_residual.result c.from_residual.ensures.1 in
     let failed = elim (c.in_err-message.ensures.reads) as (λ reads. c.in_err-message.field-0.0.kind ≡ DeviceFailed → Fails 0 0) [ inl reads ↦ reads.failed | inr (end, reads) ↦ λ device. cc ] in
     rw (p.1, p.2) (inl (memory_only _ (c.in_err-message.ensures.texts.accepted message [] (begins_packed default_limit message _ writable few size packed)) failed))
+
+pub returns-in_err-message-clause-refused : goal.returns-in_err-message-clause-refused
+returns-in_err-message-clause-refused c =
+    let p = err_from_is_err_and c.from_residual.result c.from_residual.ensures.1 in
+    rw (p.1, p.2) (elim (c.in_err-message.ensures.reads) [
+      | inl reads ↦ packed_stops c.in_err-message.field-0.0.kind _ _ _ reads.failed reads.refused
+      | inr (end, reads) ↦ inr (inr (inl (reads.none, end)))
+    ])
 
 pub returns-in_err-fields-clause-found : goal.returns-in_err-fields-clause-found
 returns-in_err-fields-clause-found c message first second writable few size packed stands =
@@ -28,6 +38,15 @@ returns-in_err-fields-clause-found c message first second writable few size pack
     let p = err_from_is_err_and c.from_residual-in_err-fields.result c.from_residual-in_err-fields.ensures.1 in
     rw (p.1, p.2) (inr (root_meets_limit (root_of (λ segments. segments) reader) (struct (first ∷ second ∷ [])) DeclinesStruct c.in_err-fields.field-0.0.kind refl here (default_depth reader.options c.in_ok-message.ensures.options)
     (struct_is_taken (first ∷ second ∷ []) c.in_err-fields.field-0.0.kind) c.in_err-fields.ensures.returned).2)
+
+pub returns-in_err-fields-clause-refused : goal.returns-in_err-fields-clause-refused
+returns-in_err-fields-clause-refused c =
+    let reader = c.in_ok-message.message in
+    let error = c.in_err-fields.field-0.0 in
+    let p = err_from_is_err_and c.from_residual-in_err-fields.result c.from_residual-in_err-fields.ensures.1 in
+    let same = root_is_default reader.segments reader.segments reader.options refl c.in_ok-message.ensures.options in
+    let told = subst (λ (root_pointer : Pointer). NoWord root_pointer.message root error.kind ⊎ Refuses root_pointer DeclinesStruct error.kind) same c.in_err-fields.ensures.returned in
+    rw (p.1, p.2) (inr (inr (inr (reader.segments, _, c.in_ok-message.ensures.texts.found, told))))
 
 pub returns-clause-words : goal.returns-clause-words
 returns-clause-words c message first second writable packed stands =

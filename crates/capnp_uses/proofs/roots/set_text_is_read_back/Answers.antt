@@ -12,3 +12,8 @@ pub returns-clause-back : goal.returns-clause-back
 returns-clause-back g c =
     let same = text_read _ _ _ c.in_ok-set_root.ensures.set c.in_ok-view.ensures.returned in
     bytes_same _ _ _ c.eq.ensures (c.as_bytes.ensures ∙ same ∙ sym c.as_bytes-2.ensures.value)
+
+pub returns-in_err-view-clause-refused : goal.returns-in_err-view-clause-refused
+returns-in_err-view-clause-refused g c =
+    let never = c.in_err-view.ensures.found refl (text_accepted _ _ c.in_ok-set_root.ensures.set) in
+    absurd (cc)

@@ -1,9 +1,17 @@
 -- The text is that of the used words.
+use Rattle.std.proofs.Common.{inr}
+use Rattle.std.proofs.lemmas.Result.{err_from_is_err_and}
 use Rattle.capnp.specs.Written.{output_of}
-use Rattle.capnp_uses.proofs.SetLemmas.{added_frame}
+use Rattle.capnp_uses.proofs.SetLemmas.{added_frame, not_written}
 use Rattle.capnp_uses.proofs.setting.set_canonical_and_write.Goals as goal
 
 pub returns-clause-written : goal.returns-clause-written
 returns-clause-written g c =
     added_frame (output_of c.set_root_canonical.new.self) c.new-text.result.items c.write_message.new.sink.items c.new-text.ensures.items
     (c.in_ok-write_message.ensures.text (λ chunk text same. same))
+
+pub returns-in_err-write_message-clause-refused : goal.returns-in_err-write_message-clause-refused
+returns-in_err-write_message-clause-refused g c =
+    let p = err_from_is_err_and c.from_residual-in_err-write_message.result c.from_residual-in_err-write_message.ensures.1 in
+    rw (p.1, p.2) (inr (not_written (output_of c.set_root_canonical.new.self) c.in_err-write_message.field-0.0
+    c.in_err-write_message.ensures.refused c.in_err-write_message.ensures.failed))
