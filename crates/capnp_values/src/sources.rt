@@ -37,7 +37,7 @@ pub trait ValueSource<T> {
         requires { index < length (items self.now) }
         ensures { (item : Self.Item) × (item ≡ get_or (items self.now) index item)
             × IsAsTold (Self.Value.has_tree result) (has_tree self.now item)
-                (Self.Value.refuses result) (refuses self.now item) };
+            (Self.Value.refuses result) (refuses self.now item) };
 }
 
 /// Structs of one size in order, each made when it is asked for: it is asked for once where it is
@@ -71,7 +71,7 @@ pub trait StructSource {
         ensures { (item : Self.Item) × (item ≡ get_or (items self.now) index item)
             × (Self.Value.words result ≡ words self.now item)
             × IsAsTold (Self.Value.has_trees result) (has_trees self.now item)
-                (Self.Value.refuses result) (refuses self.now item) };
+            (Self.Value.refuses result) (refuses self.now item) };
 
     /// The trees have room, and each has fewer than 2^29 words.
     ghost settled: { (source : Self) (item : Self.Item) (trees : Trees) →

@@ -76,9 +76,9 @@ impl<'a, E: Fields + Element> SetterInput<Owned> for StructList<'a, E> {
 /// The words of a list of some structs.
 pub(crate) fn measure_list<S: StructSource>(items: &S, canonical: bool) -> Result<TreeWords>
     ensures { Measures (IsStructList (S.words items.now) (S.has_trees items.now)
-            S.Value.data_words S.Value.size (S.items items.now))
+        S.Value.data_words S.Value.size (S.items items.now))
         (RefusesStructList (S.has_trees items.now) (S.refuses items.now)
-            S.Value.data_words S.Value.size (S.items items.now)) canonical result }
+        S.Value.data_words S.Value.size (S.items items.now)) canonical result }
 {
     let count = items.len();
     elements_fit(count, S::Value::data_words(), S::Value::count())?;

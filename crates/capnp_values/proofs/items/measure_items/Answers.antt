@@ -19,7 +19,8 @@ overflow_add-formed g c = record {
     arith,
     c.loop-index.invariant.formed_few,
     (formed_words (g.S.Value.SetterInput.has_tree c.get-item.result) c.args.canonical c.in_ok-own.own c.in_ok-own.ensures.returned).few,
-    c.loop-index-test.true, c.len-count.ensures,
+    c.loop-index-test.true,
+    c.len-count.ensures,
     c.requires,
   );
 }

@@ -1,5 +1,5 @@
 -- A list of structs has a tag, its elements and what these lead to.
-use Rattle.std.proofs.Common.{rules, ◌≡◌, ◌+◌, ◌*◌, ◌∙◌, ℕ, Err, Result, length, map, subst, sym, ap, arith}
+use Rattle.std.proofs.Common.{rules, ◌≡◌, ◌+◌, ◌*◌, ◌∙◌, ℕ, Err, Result, map, subst, sym, ap, arith}
 use Rattle.capnp_frame.specs.declared.error.Error.{Error}
 use Rattle.capnp_values.specs.Measured.{Measures}
 use Rattle.capnp_values.specs.StructLists.{IsStructList, RefusesStructList, TooManyStructs}
