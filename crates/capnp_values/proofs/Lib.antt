@@ -21,3 +21,4 @@ pub mod FilledLemmas
 pub mod FillRowLemmas
 pub mod RowMeasureLemmas
 pub mod KeptRowLemmas
+pub mod SourceLemmas

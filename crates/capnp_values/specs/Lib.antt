@@ -6,3 +6,4 @@ pub mod Structs
 pub mod Lists
 pub mod StructLists
 pub mod NumberLists
+pub mod Sources

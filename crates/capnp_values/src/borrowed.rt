@@ -1,6 +1,8 @@
 //! Values that are borrowed.
 ghost use Rattle.std.specs.Prelude.{◌≡◌};
 
+mod row;
+
 use capnp_frame::Result;
 use capnp_wire::traits::{Copied, PartWords, SetterInput};
 

@@ -6,6 +6,7 @@ ghost use Rattle.capnp_values.specs.Measured.{Measures};
 ghost use Rattle.capnp_values.specs.Lists.{AreItems, RefusesItems, HasRoomForItems, AreItemsWritten};
 
 use crate::measured::TreeWords;
+use crate::sources::ValueSource;
 use capnp_frame::Result;
 use capnp_wire::pointer_word::put_word;
 use capnp_wire::traits::SetterInput;
@@ -13,20 +14,22 @@ use capnp_wire::traits::SetterInput;
 /// The words of all that some values are, as they stand, and in that form or in canonical form.
 ///
 /// The first of them that is refused as it stands is refused.
-pub(crate) fn measure_items<T, V: SetterInput<T>>(items: &[V], canonical: bool) -> Result<TreeWords>
-    requires { length items.now < 2 ^ 29 }
-    ensures { Measures (AreItems V.has_tree items.now)
-        (RefusesItems V.has_tree V.refuses items.now) canonical result }
+pub(crate) fn measure_items<T, S: ValueSource<T>>(items: &S, canonical: bool) -> Result<TreeWords>
+    requires { length (S.items items.now) < 2 ^ 29 }
+    ensures { Measures (AreItems (S.has_tree items.now) (S.items items.now))
+        (RefusesItems (S.has_tree items.now) (S.refuses items.now) (S.items items.now)) canonical result }
 {
     if !canonical {
-        return standing_items::<T, V>(items);
+        return standing_items::<T, S>(items);
     }
     let mut words = TreeWords {
         standing: 0,
         formed: 0,
     };
-    for index in 0..items.len() {
-        let own = items[index].measure_part(canonical)?;
+    let count = items.len();
+    for index in 0..count {
+        let item = items.get(index);
+        let own = item.measure_part(canonical)?;
         let standing = words.standing + own.standing as u64;
         let formed = words.formed + own.formed as u64;
         words = TreeWords { standing, formed };
@@ -35,14 +38,16 @@ pub(crate) fn measure_items<T, V: SetterInput<T>>(items: &[V], canonical: bool) 
 }
 
 // The words of all that they are as they stand, which are those of the form that is made, too: one sum.
-fn standing_items<T, V: SetterInput<T>>(items: &[V]) -> Result<TreeWords>
-    requires { length items.now < 2 ^ 29 }
-    ensures { Measures (AreItems V.has_tree items.now)
-        (RefusesItems V.has_tree V.refuses items.now) false result }
+fn standing_items<T, S: ValueSource<T>>(items: &S) -> Result<TreeWords>
+    requires { length (S.items items.now) < 2 ^ 29 }
+    ensures { Measures (AreItems (S.has_tree items.now) (S.items items.now))
+        (RefusesItems (S.has_tree items.now) (S.refuses items.now) (S.items items.now)) false result }
 {
     let mut words = 0;
-    for index in 0..items.len() {
-        let own = items[index].measure(false)?;
+    let count = items.len();
+    for index in 0..count {
+        let item = items.get(index);
+        let own = item.measure(false)?;
         words += own as u64;
     }
     Ok(TreeWords {
@@ -53,23 +58,25 @@ fn standing_items<T, V: SetterInput<T>>(items: &[V]) -> Result<TreeWords>
 
 /// Writes the pointers to some values into a block, from a word of it on, and the values after the last of
 /// these pointers, where it is zero. Returns the first word after them.
-pub(crate) fn write_items<T, V: SetterInput<T>>(
-    items: &[V],
+pub(crate) fn write_items<T, S: ValueSource<T>>(
+    items: &S,
     canonical: bool,
     block: &mut [u8],
     first: usize,
 ) -> usize
-    requires room { HasRoomForItems (AreItems V.has_tree items.now) canonical
-        (first + length items.now) (length (words_of block.old)) }
-    requires free { IsFreeFrom (first + length items.now) block.old }
-    ensures written { AreItemsWritten (AreItems V.has_tree items.now) canonical
-        first (length items.now) (words_of block.old) (words_of block.new) result }
+    requires room { HasRoomForItems (AreItems (S.has_tree items.now) (S.items items.now)) canonical
+        (first + length (S.items items.now)) (length (words_of block.old)) }
+    requires free { IsFreeFrom (first + length (S.items items.now)) block.old }
+    ensures written { AreItemsWritten (AreItems (S.has_tree items.now) (S.items items.now)) canonical
+        first (length (S.items items.now)) (words_of block.old) (words_of block.new) result }
     ensures len { length block.new ≡ length block.old }
 {
-    let mut next = first + items.len();
-    for index in 0..items.len() {
+    let count = items.len();
+    let mut next = first + count;
+    for index in 0..count {
         let slot = first + index;
-        let copied = items[index].write(canonical, block, slot + 1, next);
+        let item = items.get(index);
+        let copied = item.write(canonical, block, slot + 1, next);
         put_word(block, slot, copied.pointer);
         next = copied.next;
     }

@@ -5,6 +5,7 @@ ghost use Rattle.capnp_values.specs.Lists.{IsPointerList, RefusesPointerList};
 
 use crate::items::{measure_items, write_items};
 use crate::measured::{TreeWords, fitting, fitting_part, too_many};
+use crate::sources::ValueSource;
 use capnp_frame::Result;
 use capnp_wire::list_list::Owned;
 use capnp_wire::pointer_word::list_word;
@@ -48,12 +49,12 @@ impl<'a, T, V: SetterInput<T>> SetterInput<Owned<T>> for PointerList<'a, T, V> {
     ghost one = { λ value trees is. ap count is.whole };
 
     fn measure(&self, canonical: bool) -> Result<u32> {
-        let words = measure_list::<T, V>(self.items, canonical)?;
+        let words = measure_list::<T, &'a [V]>(&self.items, canonical)?;
         fitting(words.formed, canonical)
     }
 
     fn measure_part(&self, canonical: bool) -> Result<PartWords> {
-        let words = measure_list::<T, V>(self.items, canonical)?;
+        let words = measure_list::<T, &'a [V]>(&self.items, canonical)?;
         fitting_part(words)
     }
 
@@ -65,21 +66,22 @@ impl<'a, T, V: SetterInput<T>> SetterInput<Owned<T>> for PointerList<'a, T, V> {
         let count = self.items.len();
         Copied {
             pointer: list_word((next - following) as u64, 6, count as u64),
-            next: write_items::<T, V>(self.items, canonical, block, next),
+            next: write_items::<T, &'a [V]>(&self.items, canonical, block, next),
         }
     }
 }
 
-// The words of a list of pointers to some values.
-fn measure_list<T, V: SetterInput<T>>(items: &[V], canonical: bool) -> Result<TreeWords>
-    ensures { Measures (IsPointerList V.has_tree items.now)
-        (RefusesPointerList V.has_tree V.refuses items.now) canonical result }
+/// The words of a list of pointers to some values.
+pub(crate) fn measure_list<T, S: ValueSource<T>>(items: &S, canonical: bool) -> Result<TreeWords>
+    ensures { Measures (IsPointerList (S.has_tree items.now) (S.items items.now))
+        (RefusesPointerList (S.has_tree items.now) (S.refuses items.now) (S.items items.now))
+        canonical result }
 {
     let count = items.len() as u64;
     if count >= 1 << 29 {
         return Err(too_many(count));
     }
-    let words = measure_items::<T, V>(items, canonical)?;
+    let words = measure_items::<T, S>(items, canonical)?;
     let standing = count + words.standing;
     let formed = count + words.formed;
     Ok(TreeWords { standing, formed })

@@ -10,6 +10,7 @@ ghost use Rattle.capnp_values.specs.StructLists.{AreRows, ReachesRows, HasRoomFo
 use crate::element::Element;
 use crate::fields::{Extent, Fields};
 use crate::sections::{kept_data, used, write_sections};
+use crate::sources::StructSource;
 use capnp_frame::Result;
 
 /// How far the elements of a list reach: the data words and the pointers that each keeps, and the
@@ -43,19 +44,20 @@ pub struct KeptWords {
 /// How far some structs reach, as they stand or in canonical form.
 ///
 /// The first of them that is refused as it stands is refused.
-pub(crate) fn measure_rows<E: Fields + Element>(items: &[E], canonical: bool) -> Result<Reach>
-    requires words { E.data_words < 2 ^ 16 }
-    requires pointers { E.size < 2 ^ 16 }
-    requires few { length items.now * (E.data_words + E.size) < 2 ^ 29 }
-    ensures { ReachesRows E.words E.has_trees E.refuses
-        canonical E.data_words E.size items.now result }
+pub(crate) fn measure_rows<S: StructSource>(items: &S, canonical: bool) -> Result<Reach>
+    requires words { S.Value.data_words < 2 ^ 16 }
+    requires pointers { S.Value.size < 2 ^ 16 }
+    requires few { length (S.items items.now) * (S.Value.data_words + S.Value.size) < 2 ^ 29 }
+    ensures { ReachesRows (S.words items.now) (S.has_trees items.now) (S.refuses items.now)
+        canonical S.Value.data_words S.Value.size (S.items items.now) result }
 {
     if !canonical {
         return standing_rows(items);
     }
-    let mut reach = least_reach(E::data_words(), E::count(), canonical);
-    for index in 0..items.len() {
-        let item = &items[index];
+    let mut reach = least_reach(S::Value::data_words(), S::Value::count(), canonical);
+    let count = items.len();
+    for index in 0..count {
+        let item = items.get(index);
         let extent = item.measure(canonical)?;
         let data_words = kept_data(item.words(), canonical);
         reach = with_row(reach, data_words, extent);
@@ -64,23 +66,24 @@ pub(crate) fn measure_rows<E: Fields + Element>(items: &[E], canonical: bool) ->
 }
 
 // How far some structs reach as they stand, where each keeps all: one sum.
-fn standing_rows<E: Fields + Element>(items: &[E]) -> Result<Reach>
-    requires words { E.data_words < 2 ^ 16 }
-    requires pointers { E.size < 2 ^ 16 }
-    requires few { length items.now * (E.data_words + E.size) < 2 ^ 29 }
-    ensures { ReachesRows E.words E.has_trees E.refuses
-        false E.data_words E.size items.now result }
+fn standing_rows<S: StructSource>(items: &S) -> Result<Reach>
+    requires words { S.Value.data_words < 2 ^ 16 }
+    requires pointers { S.Value.size < 2 ^ 16 }
+    requires few { length (S.items items.now) * (S.Value.data_words + S.Value.size) < 2 ^ 29 }
+    ensures { ReachesRows (S.words items.now) (S.has_trees items.now) (S.refuses items.now)
+        false S.Value.data_words S.Value.size (S.items items.now) result }
 {
     let mut words = 0;
-    for index in 0..items.len() {
-        let item = &items[index];
+    let count = items.len();
+    for index in 0..count {
+        let item = items.get(index);
         let own = item.standing()?;
         let _data_words = item.words();
         words += own;
     }
     Ok(Reach {
-        data_words: E::data_words(),
-        pointers: E::count(),
+        data_words: S::Value::data_words(),
+        pointers: S::Value::count(),
         words,
         standing: words,
     })
@@ -123,25 +126,26 @@ fn with_row(reach: Reach, data_words: usize, extent: Extent) -> Reach
 }
 
 /// What each of some structs keeps.
-pub(crate) fn kept_by_each<E: Fields + Element>(items: &[E], canonical: bool) -> KeptWords
-    requires { E.size < 2 ^ 16 }
-    ensures words { (held : Trees) → AreRows E.has_trees items.now held →
-        result.data_words ≡ element_data canonical E.data_words (map E.words items.now) }
-    ensures pointers { (held : Trees) → AreRows E.has_trees items.now held →
-        result.pointers ≡ element_pointers canonical E.size (map E.words items.now) held }
+pub(crate) fn kept_by_each<S: StructSource>(items: &S, canonical: bool) -> KeptWords
+    requires { S.Value.size < 2 ^ 16 }
+    ensures words { (held : Trees) → AreRows (S.has_trees items.now) (S.items items.now) held →
+        result.data_words ≡ element_data canonical S.Value.data_words (map (S.words items.now) (S.items items.now)) }
+    ensures pointers { (held : Trees) → AreRows (S.has_trees items.now) (S.items items.now) held →
+        result.pointers ≡ element_pointers canonical S.Value.size (map (S.words items.now) (S.items items.now)) held }
 {
     if !canonical {
         return KeptWords {
-            data_words: E::data_words(),
-            pointers: E::count(),
+            data_words: S::Value::data_words(),
+            pointers: S::Value::count(),
         };
     }
     let mut kept = KeptWords {
         data_words: 0,
         pointers: 0,
     };
-    for index in 0..items.len() {
-        let item = &items[index];
+    let count = items.len();
+    for index in 0..count {
+        let item = items.get(index);
         kept = KeptWords {
             data_words: kept.data_words.max(used(item.words())),
             pointers: kept.pointers.max(item.kept(true)),
@@ -153,29 +157,31 @@ pub(crate) fn kept_by_each<E: Fields + Element>(items: &[E], canonical: bool) ->
 /// Writes some structs into a block from the word `first` on: the data words and the pointers that each
 /// keeps, one struct after the other, and after the last of them what they lead to, where the block is
 /// zero. Returns the first word after that.
-pub(crate) fn write_rows<E: Fields + Element>(
-    items: &[E],
+pub(crate) fn write_rows<S: StructSource>(
+    items: &S,
     canonical: bool,
     kept: KeptWords,
     block: &mut [u8],
     first: usize,
 ) -> usize
-    requires room { HasRoomForRows E.words E.has_trees canonical
-        kept.data_words kept.pointers E.data_words E.size items.now
-        (first + length items.now * (kept.data_words + kept.pointers))
+    requires room { HasRoomForRows (S.words items.now) (S.has_trees items.now) canonical
+        kept.data_words kept.pointers S.Value.data_words S.Value.size (S.items items.now)
+        (first + length (S.items items.now) * (kept.data_words + kept.pointers))
         (length (words_of block.old)) }
-    requires free { IsFreeFrom (first + length items.now * (kept.data_words + kept.pointers)) block.old }
-    ensures written { AreRowsWritten E.words E.has_trees canonical
-        kept.data_words kept.pointers E.size items.now
-        first (first + length items.now * (kept.data_words + kept.pointers))
+    requires free { IsFreeFrom (first + length (S.items items.now) * (kept.data_words + kept.pointers)) block.old }
+    ensures written { AreRowsWritten (S.words items.now) (S.has_trees items.now) canonical
+        kept.data_words kept.pointers S.Value.size (S.items items.now)
+        first (first + length (S.items items.now) * (kept.data_words + kept.pointers))
         (words_of block.old) (words_of block.new) result }
     ensures len { length block.new ≡ length block.old }
 {
+    let count = items.len();
     let width = kept.data_words + kept.pointers as usize;
     let mut at = first;
-    let mut next = first + items.len() * width;
-    for index in 0..items.len() {
-        next = write_element(&items[index], canonical, kept, block, at, next);
+    let mut next = first + count * width;
+    for index in 0..count {
+        let item = items.get(index);
+        next = write_element(&item, canonical, kept, block, at, next);
         at += width;
     }
     next

@@ -7,6 +7,7 @@ use crate::element::Element;
 use crate::fields::Fields;
 use crate::measured::{TreeWords, fitting, fitting_part, too_many};
 use crate::rows::{kept_by_each, measure_rows, write_rows};
+use crate::sources::StructSource;
 use capnp_frame::{Error, ErrorKind, Result};
 use capnp_wire::pointer_word::{list_word, put_word, struct_word};
 use capnp_wire::struct_list::Owned;
@@ -46,12 +47,12 @@ impl<'a, E: Fields + Element> SetterInput<Owned> for StructList<'a, E> {
     ghost one = { λ value trees is. ap count is.whole };
 
     fn measure(&self, canonical: bool) -> Result<u32> {
-        let words = measure_list(self.items, canonical)?;
+        let words = measure_list(&self.items, canonical)?;
         fitting(words.formed, canonical)
     }
 
     fn measure_part(&self, canonical: bool) -> Result<PartWords> {
-        let words = measure_list(self.items, canonical)?;
+        let words = measure_list(&self.items, canonical)?;
         fitting_part(words)
     }
 
@@ -61,26 +62,28 @@ impl<'a, E: Fields + Element> SetterInput<Owned> for StructList<'a, E> {
 
     fn write(&self, canonical: bool, block: &mut [u8], following: usize, next: usize) -> Copied {
         let count = self.items.len();
-        let kept = kept_by_each(self.items, canonical);
+        let kept = kept_by_each(&self.items, canonical);
         let words = count * (kept.data_words + kept.pointers as usize);
         let tag = struct_word(count as u64, kept.data_words as u16, kept.pointers as u16);
         put_word(block, next, tag);
         Copied {
             pointer: list_word((next - following) as u64, 7, words as u64),
-            next: write_rows(self.items, canonical, kept, block, next + 1),
+            next: write_rows(&self.items, canonical, kept, block, next + 1),
         }
     }
 }
 
-// The words of a list of some structs.
-fn measure_list<E: Fields + Element>(items: &[E], canonical: bool) -> Result<TreeWords>
-    ensures { Measures (IsStructList E.words E.has_trees E.data_words E.size items.now)
-        (RefusesStructList E.has_trees E.refuses E.data_words E.size items.now) canonical result }
+/// The words of a list of some structs.
+pub(crate) fn measure_list<S: StructSource>(items: &S, canonical: bool) -> Result<TreeWords>
+    ensures { Measures (IsStructList (S.words items.now) (S.has_trees items.now)
+        S.Value.data_words S.Value.size (S.items items.now))
+        (RefusesStructList (S.has_trees items.now) (S.refuses items.now)
+        S.Value.data_words S.Value.size (S.items items.now)) canonical result }
 {
     let count = items.len();
-    elements_fit(count, E::data_words(), E::count())?;
+    elements_fit(count, S::Value::data_words(), S::Value::count())?;
     let reach = measure_rows(items, canonical)?;
-    let all = count * (E::data_words() + E::count() as usize);
+    let all = count * (S::Value::data_words() + S::Value::count() as usize);
     let kept = count * (reach.data_words + reach.pointers as usize);
     let standing = 1 + all as u64 + reach.standing;
     let formed = 1 + kept as u64 + reach.words;

@@ -3,4 +3,4 @@ use Rattle.capnp_values.proofs.ItemLemmas.{ItemsMeasured}
 use Rattle.capnp_values.proofs.items.measure_items.Given as goal
 
 abbrev pub invariant-loop-index : goal.invariant-loop-index
-invariant-loop-index g l = ItemsMeasured g.V.SetterInput.has_tree g.V.SetterInput.refuses l.canonical l.items l.index l.words
+invariant-loop-index g l = ItemsMeasured (g.S.ValueSource.has_tree l.items) (g.S.ValueSource.refuses l.items) l.canonical (g.S.ValueSource.items l.items) l.index l.words

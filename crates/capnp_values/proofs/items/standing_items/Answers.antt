@@ -4,30 +4,31 @@ use Rattle.capnp_frame.specs.declared.error.Error.{Error}
 use Rattle.capnp_values.specs.declared.measured.TreeWords.{TreeWords}
 use Rattle.capnp_values.proofs.ItemLemmas.{MeasuresItems, measuring_begins, measuring_goes_on, measuring_stops, measuring_ends}
 use Rattle.capnp_values.proofs.StandingLemmas.{as_part, as_parts, standing_part, part_found, part_refused}
+use Rattle.capnp_values.proofs.SourceLemmas.{part_told, part_made, lacks_told, lacks_made}
 use Rattle.capnp_values.proofs.items.standing_items.Goals as goal
 
 pub loop-index-init : goal.loop-index-init
-loop-index-init g c = measuring_begins g.V.SetterInput.has_tree g.V.SetterInput.refuses false c.args.items.now
+loop-index-init g c = measuring_begins (g.S.ValueSource.has_tree c.args.items.now) (g.S.ValueSource.refuses c.args.items.now) false (g.S.ValueSource.items c.args.items.now)
 
 pub overflow_add-words : goal.overflow_add-words
-overflow_add-words g c = record { fits = omega (arith, c.loop-index.invariant.standing_few, c.in_ok-own.ensures.returned.few, c.loop-index-test.true, c.requires) }
+overflow_add-words g c = record { fits = omega (arith, c.loop-index.invariant.standing_few, c.in_ok-own.ensures.returned.few, c.loop-index-test.true, c.len-count.ensures, c.requires) }
 
 pub loop-index-preserved : goal.loop-index-preserved
 loop-index-preserved g c =
-    let h = g.V.SetterInput.has_tree c.index-items-index.result in
-    measuring_goes_on g.V.SetterInput.has_tree g.V.SetterInput.refuses false c.args.items.now c.loop-index.index _ c.index-items-index.result (as_parts c.measure.result) (as_part c.in_ok-own.own)
-    c.loop-index-test.true c.index-items-index.is (ap as_parts c.in_ok-own.was) (standing_part h c.in_ok-own.own c.in_ok-own.ensures.returned) (g.met.V.SetterInput.one c.index-items-index.result)
-    (part_found h c.measure.result c.measure.ensures.found) (λ k lacks. part_refused c.measure.result k (c.measure.ensures.exact k lacks)) c.loop-index.invariant
+    let h = g.S.Value.SetterInput.has_tree c.get-item.result in
+    measuring_goes_on (g.S.ValueSource.has_tree c.args.items.now) (g.S.ValueSource.refuses c.args.items.now) false (g.S.ValueSource.items c.args.items.now) c.loop-index.index _ c.get-item.ensures.0 (as_parts c.measure.result) (as_part c.in_ok-own.own)
+    (omega (arith, c.loop-index-test.true, c.len-count.ensures)) c.get-item.ensures.1 (ap as_parts c.in_ok-own.was) (part_told c.get-item.ensures.2 false (as_part c.in_ok-own.own) (standing_part h c.in_ok-own.own c.in_ok-own.ensures.returned)) (λ t is. g.met.S.Value.SetterInput.one c.get-item.result t (c.get-item.ensures.2.trees_are t is))
+    (λ words has. part_found h c.measure.result c.measure.ensures.found words (part_made c.get-item.ensures.2 false words has)) (λ k lacks. part_refused c.measure.result k (c.measure.ensures.exact k (lacks_made c.get-item.ensures.2 false k lacks))) c.loop-index.invariant
 
 pub returns-in_err-own : goal.returns-in_err-own
 returns-in_err-own g c =
-    let h = g.V.SetterInput.has_tree in
-    let r = g.V.SetterInput.refuses in
+    let h = (g.S.ValueSource.has_tree c.args.items.now) in
+    let r = (g.S.ValueSource.refuses c.args.items.now) in
     let was : c.from_residual.result ≡ Err c.in_err-own.field-0.0 = search rules in
-    subst (λ (x : Result TreeWords Error). MeasuresItems h r c.args.items.now false x) (sym was)
-    (measuring_stops h r false c.args.items.now c.loop-index.index _ c.index-items-index.result (as_parts c.measure.result) c.in_err-own.field-0.0 c.loop-index-test.true c.index-items-index.is
-    (ap as_parts c.in_err-own.was) c.in_err-own.ensures.returned (part_found (h c.index-items-index.result) c.measure.result c.measure.ensures.found)
-    (λ k lacks. part_refused c.measure.result k (c.measure.ensures.exact k lacks)) c.loop-index.invariant)
+    subst (λ (x : Result TreeWords Error). MeasuresItems h r (g.S.ValueSource.items c.args.items.now) false x) (sym was)
+    (measuring_stops h r false (g.S.ValueSource.items c.args.items.now) c.loop-index.index _ c.get-item.ensures.0 (as_parts c.measure.result) c.in_err-own.field-0.0 (omega (arith, c.loop-index-test.true, c.len-count.ensures)) c.get-item.ensures.1
+    (ap as_parts c.in_err-own.was) (lacks_told c.get-item.ensures.2 false c.in_err-own.field-0.0.kind c.in_err-own.ensures.returned) (λ words has. part_found (g.S.Value.SetterInput.has_tree c.get-item.result) c.measure.result c.measure.ensures.found words (part_made c.get-item.ensures.2 false words has))
+    (λ k lacks. part_refused c.measure.result k (c.measure.ensures.exact k (lacks_made c.get-item.ensures.2 false k lacks))) c.loop-index.invariant)
 
 pub returns : goal.returns
-returns g c = measuring_ends g.V.SetterInput.has_tree g.V.SetterInput.refuses false c.args.items.now c.loop-index.index _ (omega arith) c.loop-index.invariant
+returns g c = measuring_ends (g.S.ValueSource.has_tree c.args.items.now) (g.S.ValueSource.refuses c.args.items.now) false (g.S.ValueSource.items c.args.items.now) c.loop-index.index _ (omega arith) c.loop-index.invariant

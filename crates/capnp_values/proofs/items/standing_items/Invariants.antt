@@ -4,4 +4,4 @@ use Rattle.capnp_values.proofs.ItemLemmas.{ItemsMeasured}
 use Rattle.capnp_values.proofs.items.standing_items.Given as goal
 
 abbrev pub invariant-loop-index : goal.invariant-loop-index
-invariant-loop-index g l = ItemsMeasured g.V.SetterInput.has_tree g.V.SetterInput.refuses false l.items l.index (record { standing = l.words; formed = l.words })
+invariant-loop-index g l = ItemsMeasured (g.S.ValueSource.has_tree l.items) (g.S.ValueSource.refuses l.items) false (g.S.ValueSource.items l.items) l.index (record { standing = l.words; formed = l.words })

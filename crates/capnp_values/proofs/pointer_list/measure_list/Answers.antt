@@ -1,6 +1,7 @@
 -- A list of pointers has a word for each, and those of the values.
-use Rattle.std.proofs.Common.{rules, ◌≡◌, Err, Result, subst, sym, arith}
+use Rattle.std.proofs.Common.{rules, ◌≡◌, ◌+◌, ◌-◌, ◌^◌, ◌∙◌, ℕ, min, Ok, Err, Result, subst, sym, ap, arith}
 use Rattle.capnp_frame.specs.declared.error.Error.{Error}
+use Rattle.capnp_frame.specs.declared.error.ErrorKind.TheVariants.{AllocationTooLarge}
 use Rattle.capnp_values.specs.Measured.{Measures}
 use Rattle.capnp_values.specs.Lists.{IsPointerList, RefusesPointerList}
 use Rattle.capnp_values.specs.declared.measured.TreeWords.{TreeWords}
@@ -9,27 +10,31 @@ use Rattle.capnp_values.proofs.PointerListLemmas.{list_measured, list_too_long, 
 use Rattle.capnp_values.proofs.pointer_list.measure_list.Goals as goal
 
 pub returns-then-count : goal.returns-then-count
-returns-then-count g c = list_too_long g.V.SetterInput.has_tree g.V.SetterInput.refuses c.args.items.now c.args.canonical c.too_many.result (omega arith) c.too_many.ensures
+returns-then-count g c = list_too_long (g.S.ValueSource.has_tree c.args.items.now) (g.S.ValueSource.refuses c.args.items.now) (g.S.ValueSource.items c.args.items.now) c.args.canonical c.too_many.result (omega arith) (c.too_many.ensures ∙ ap (λ (k : ℕ). AllocationTooLarge (min k (2 ^ 32 - 1))) c.len-count.ensures)
 
 pub returns-in_err-words : goal.returns-in_err-words
 returns-in_err-words g c =
-    let h = g.V.SetterInput.has_tree in
-    let r = g.V.SetterInput.refuses in
+    let h = (g.S.ValueSource.has_tree c.args.items.now) in
+    let r = (g.S.ValueSource.refuses c.args.items.now) in
     let was : c.from_residual.result ≡ Err c.in_err-words.field-0.0 = search rules in
-    subst (λ (x : Result TreeWords Error). Measures (λ t. IsPointerList h c.args.items.now t) (λ k. RefusesPointerList h r c.args.items.now k) c.args.canonical x) (sym was)
-    (list_refused h r c.args.items.now c.args.canonical c.measure_items.result c.in_err-words.field-0.0 (omega arith) c.in_err-words.was c.measure_items.ensures)
+    subst (λ (x : Result TreeWords Error). Measures (λ t. IsPointerList h (g.S.ValueSource.items c.args.items.now) t) (λ k. RefusesPointerList h r (g.S.ValueSource.items c.args.items.now) k) c.args.canonical x) (sym was)
+    (list_refused h r (g.S.ValueSource.items c.args.items.now) c.args.canonical c.measure_items.result c.in_err-words.field-0.0 (omega arith) c.in_err-words.was c.measure_items.ensures)
 
 pub overflow_add-standing : goal.overflow_add-standing
 overflow_add-standing g c =
-    let few = items_few g.V.SetterInput.has_tree g.V.SetterInput.refuses c.args.items.now c.args.canonical c.measure_items.result c.in_ok-words.words c.in_ok-words.was c.measure_items.ensures in
+    let few = items_few (g.S.ValueSource.has_tree c.args.items.now) (g.S.ValueSource.refuses c.args.items.now) (g.S.ValueSource.items c.args.items.now) c.args.canonical c.measure_items.result c.in_ok-words.words c.in_ok-words.was c.measure_items.ensures in
     record { fits = omega (arith, few.0, c.if-count.false) }
 
 pub overflow_add-formed : goal.overflow_add-formed
 overflow_add-formed g c =
-    let few = items_few g.V.SetterInput.has_tree g.V.SetterInput.refuses c.args.items.now c.args.canonical c.measure_items.result c.in_ok-words.words c.in_ok-words.was c.measure_items.ensures in
+    let few = items_few (g.S.ValueSource.has_tree c.args.items.now) (g.S.ValueSource.refuses c.args.items.now) (g.S.ValueSource.items c.args.items.now) c.args.canonical c.measure_items.result c.in_ok-words.words c.in_ok-words.was c.measure_items.ensures in
     record { fits = omega (arith, few.1, c.if-count.false) }
 
 pub returns : goal.returns
 returns g c =
-    list_measured g.V.SetterInput.has_tree g.V.SetterInput.refuses c.args.items.now c.args.canonical c.measure_items.result c.in_ok-words.words (omega (arith, c.if-count.false)) c.in_ok-words.was
-    c.measure_items.ensures
+    let h = g.S.ValueSource.has_tree c.args.items.now in
+    let r = g.S.ValueSource.refuses c.args.items.now in
+    let values = g.S.ValueSource.items c.args.items.now in
+    let own = c.in_ok-words.words in
+    subst (λ (k : ℕ). Measures (λ t. IsPointerList h values t) (λ e. RefusesPointerList h r values e) c.args.canonical (Ok (record { standing = k + own.standing; formed = k + own.formed }))) (sym c.len-count.ensures)
+    (list_measured h r values c.args.canonical c.measure_items.result own (omega (arith, c.if-count.false, c.len-count.ensures)) c.in_ok-words.was c.measure_items.ensures)

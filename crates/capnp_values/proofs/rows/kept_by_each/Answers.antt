@@ -6,22 +6,22 @@ use Rattle.capnp_values.proofs.KeptRowLemmas.{needing_begins, needing_goes_on, n
 use Rattle.capnp_values.proofs.rows.kept_by_each.Goals as goal
 
 pub loop-index-init : goal.loop-index-init
-loop-index-init g c = needing_begins g.E.Element.words g.E.Fields.has_trees g.E.Fields.size c.args.items.now
+loop-index-init g c = needing_begins (g.S.StructSource.words c.args.items.now) (g.S.StructSource.has_trees c.args.items.now) g.S.Value.Fields.size (g.S.StructSource.items c.args.items.now)
 
 pub loop-index-preserved : goal.loop-index-preserved
 loop-index-preserved g c =
-    needing_goes_on g.E.Element.words g.E.Fields.has_trees g.E.Fields.size g.met.E.Fields.settled c.args.items.now c.loop-index.index c.loop-index.kept.data_words c.loop-index.kept.pointers c.max.result c.max-in-loop-index.result c.used.result
-    c.kept.result c.index-items-index.result c.loop-index-test.true c.index-items-index.is (c.used.ensures ∙ ap (λ (l : List ℕ). length (cut_zeros l)) c.words.ensures.value) c.kept.ensures.kept c.max.ensures c.max-in-loop-index.ensures
+    needing_goes_on (g.S.StructSource.words c.args.items.now) (g.S.StructSource.has_trees c.args.items.now) g.S.Value.Fields.size (g.met.S.StructSource.settled c.args.items.now) (g.S.StructSource.items c.args.items.now) c.loop-index.index c.loop-index.kept.data_words c.loop-index.kept.pointers c.max.result c.max-in-loop-index.result c.used.result
+    c.kept.result c.get-item.ensures.0 (omega (arith, c.loop-index-test.true, c.len-count.ensures)) c.get-item.ensures.1 (c.used.ensures ∙ ap (λ (l : List ℕ). length (cut_zeros l)) (c.words.ensures.value ∙ c.get-item.ensures.2)) (λ t is. c.kept.ensures.kept t (c.get-item.ensures.3.trees_are t is)) c.max.ensures c.max-in-loop-index.ensures
     c.loop-index.invariant
 
 pub returns-clause-words : goal.returns-clause-words
 returns-clause-words g c held is =
-    let w = g.E.Element.words in
-    let n = needing_ends w g.E.Fields.has_trees g.E.Fields.size c.args.items.now c.loop-index.index c.loop-index.kept.data_words c.loop-index.kept.pointers (omega arith) c.loop-index.invariant held is in
-    n.0 ∙ ap (λ (k : Bool). element_data k g.E.Element.data_words (map w c.args.items.now)) (sym c.if-not-canonical.false)
+    let w = (g.S.StructSource.words c.args.items.now) in
+    let n = needing_ends w (g.S.StructSource.has_trees c.args.items.now) g.S.Value.Fields.size (g.S.StructSource.items c.args.items.now) c.loop-index.index c.loop-index.kept.data_words c.loop-index.kept.pointers (omega arith) c.loop-index.invariant held is in
+    n.0 ∙ ap (λ (k : Bool). element_data k g.S.Value.Element.data_words (map w (g.S.StructSource.items c.args.items.now))) (sym c.if-not-canonical.false)
 
 pub returns-clause-pointers : goal.returns-clause-pointers
 returns-clause-pointers g c held is =
-    let w = g.E.Element.words in
-    let n = needing_ends w g.E.Fields.has_trees g.E.Fields.size c.args.items.now c.loop-index.index c.loop-index.kept.data_words c.loop-index.kept.pointers (omega arith) c.loop-index.invariant held is in
-    n.1 ∙ ap (λ (k : Bool). element_pointers k g.E.Fields.size (map w c.args.items.now) held) (sym c.if-not-canonical.false)
+    let w = (g.S.StructSource.words c.args.items.now) in
+    let n = needing_ends w (g.S.StructSource.has_trees c.args.items.now) g.S.Value.Fields.size (g.S.StructSource.items c.args.items.now) c.loop-index.index c.loop-index.kept.data_words c.loop-index.kept.pointers (omega arith) c.loop-index.invariant held is in
+    n.1 ∙ ap (λ (k : Bool). element_pointers k g.S.Value.Fields.size (map w (g.S.StructSource.items c.args.items.now)) held) (sym c.if-not-canonical.false)

@@ -7,5 +7,5 @@ use Rattle.capnp_values.proofs.rows.measure_rows.Given as goal
 
 abbrev pub invariant-loop-index : goal.invariant-loop-index
 invariant-loop-index g l =
-    RowsMeasured g.E.Element.words g.E.Fields.has_trees g.E.Fields.refuses l.canonical g.E.Element.data_words g.E.Fields.size l.items l.index
-    (reach_of l.canonical g.E.Element.data_words g.E.Fields.size [] none) l.reach
+    RowsMeasured (g.S.StructSource.words l.items) (g.S.StructSource.has_trees l.items) (g.S.StructSource.refuses l.items) l.canonical g.S.Value.Element.data_words g.S.Value.Fields.size (g.S.StructSource.items l.items) l.index
+    (reach_of l.canonical g.S.Value.Element.data_words g.S.Value.Fields.size [] none) l.reach

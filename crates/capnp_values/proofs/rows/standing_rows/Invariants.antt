@@ -7,5 +7,5 @@ use Rattle.capnp_values.proofs.rows.standing_rows.Given as goal
 
 abbrev pub invariant-loop-index : goal.invariant-loop-index
 invariant-loop-index g l =
-    RowsMeasured g.E.Element.words g.E.Fields.has_trees g.E.Fields.refuses false g.E.Element.data_words g.E.Fields.size l.items l.index
-    (reach_of false g.E.Element.data_words g.E.Fields.size [] none) (record { data_words = g.E.Element.data_words; pointers = g.E.Fields.size; words = l.words; standing = l.words })
+    RowsMeasured (g.S.StructSource.words l.items) (g.S.StructSource.has_trees l.items) (g.S.StructSource.refuses l.items) false g.S.Value.Element.data_words g.S.Value.Fields.size (g.S.StructSource.items l.items) l.index
+    (reach_of false g.S.Value.Element.data_words g.S.Value.Fields.size [] none) (record { data_words = g.S.Value.Element.data_words; pointers = g.S.Value.Fields.size; words = l.words; standing = l.words })

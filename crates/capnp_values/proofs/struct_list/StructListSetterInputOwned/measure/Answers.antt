@@ -1,4 +1,10 @@
 -- The words of a list are those of its tree.
+use Rattle.std.specs.Prelude.{MatchResult}
+use Rattle.std.proofs.Common.{rules, ◌≡◌, ℕ, Err, Result, inl, sym, subst}
+use Rattle.capnp_frame.specs.declared.error.Error.{Error}
+use Rattle.capnp_frame.specs.declared.error.ErrorKind.{ErrorKind}
+use Rattle.capnp_wire.specs.Tree.{Trees}
+use Rattle.capnp_wire.specs.Values.{HasWords, LacksWords}
 use Rattle.capnp_values.specs.StructLists.{IsStructList, RefusesStructList}
 use Rattle.capnp_values.proofs.MeasuredLemmas.{whole_returned, whole_found, whole_exact}
 use Rattle.capnp_values.proofs.struct_list.StructListSetterInputOwned.measure.Goals as goal
@@ -14,3 +20,10 @@ returns-clause-found g c =
 pub returns-clause-exact : goal.returns-clause-exact
 returns-clause-exact g c =
     whole_exact (λ t. IsStructList g.E.Element.words g.E.Fields.has_trees g.E.Element.data_words g.E.Fields.size c.args.self.now.items.now t) (λ k. RefusesStructList g.E.Fields.has_trees g.E.Fields.refuses g.E.Element.data_words g.E.Fields.size c.args.self.now.items.now k) c.args.canonical c.in_ok-words.words c.measure_list.result c.fitting.result c.in_ok-words.was c.measure_list.ensures c.fitting.ensures
+
+pub returns-in_err-words-clause-returned : goal.returns-in_err-words-clause-returned
+returns-in_err-words-clause-returned g c =
+    let h = λ (t : Trees). IsStructList g.E.Element.words g.E.Fields.has_trees g.E.Element.data_words g.E.Fields.size c.args.self.now.items.now t in
+    let r = λ (k : ErrorKind). RefusesStructList g.E.Fields.has_trees g.E.Fields.refuses g.E.Element.data_words g.E.Fields.size c.args.self.now.items.now k in
+    let was : c.from_residual.result ≡ Err c.in_err-words.field-0.0 = search rules in
+    subst (λ (x : Result ℕ Error). MatchResult x (λ words. HasWords h c.args.canonical words) (λ error. LacksWords h r c.args.canonical error.kind)) (sym was) (inl c.in_err-words.ensures.returned)

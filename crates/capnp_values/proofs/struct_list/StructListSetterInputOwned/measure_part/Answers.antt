@@ -1,4 +1,11 @@
 -- The words of a list are those of its tree.
+use Rattle.std.specs.Prelude.{MatchResult}
+use Rattle.std.proofs.Common.{rules, ◌≡◌, Err, Result, false, inl, sym, subst}
+use Rattle.capnp_frame.specs.declared.error.Error.{Error}
+use Rattle.capnp_frame.specs.declared.error.ErrorKind.{ErrorKind}
+use Rattle.capnp_wire.specs.Tree.{Trees}
+use Rattle.capnp_wire.specs.Values.{HasPart, LacksWords}
+use Rattle.capnp_wire.specs.declared.traits.PartWords.{PartWords}
 use Rattle.capnp_values.specs.StructLists.{IsStructList, RefusesStructList}
 use Rattle.capnp_values.proofs.MeasuredLemmas.{measured_less, part_returned, part_found, part_exact}
 use Rattle.capnp_values.proofs.struct_list.StructListSetterInputOwned.measure_part.Goals as goal
@@ -17,3 +24,10 @@ returns-clause-found g c =
 pub returns-clause-exact : goal.returns-clause-exact
 returns-clause-exact g c =
     part_exact (λ t. IsStructList g.E.Element.words g.E.Fields.has_trees g.E.Element.data_words g.E.Fields.size c.args.self.now.items.now t) (λ k. RefusesStructList g.E.Fields.has_trees g.E.Fields.refuses g.E.Element.data_words g.E.Fields.size c.args.self.now.items.now k) c.args.canonical c.in_ok-words.words c.measure_list.result c.fitting_part.result c.in_ok-words.was c.measure_list.ensures c.fitting_part.ensures
+
+pub returns-in_err-words-clause-returned : goal.returns-in_err-words-clause-returned
+returns-in_err-words-clause-returned g c =
+    let h = λ (t : Trees). IsStructList g.E.Element.words g.E.Fields.has_trees g.E.Element.data_words g.E.Fields.size c.args.self.now.items.now t in
+    let r = λ (k : ErrorKind). RefusesStructList g.E.Fields.has_trees g.E.Fields.refuses g.E.Element.data_words g.E.Fields.size c.args.self.now.items.now k in
+    let was : c.from_residual.result ≡ Err c.in_err-words.field-0.0 = search rules in
+    subst (λ (x : Result PartWords Error). MatchResult x (λ words. HasPart h c.args.canonical words) (λ error. LacksWords h r false error.kind)) (sym was) (inl c.in_err-words.ensures.returned)

@@ -1,0 +1,31 @@
+-- The pointers, and then what they lead to.
+use Rattle.std.proofs.Common.{◌+◌, ◌-◌, ◌∙◌, ℕ, length, sym, ap, arith}
+use Rattle.capnp_wire.specs.Pointer.{words_of}
+use Rattle.capnp_wire.specs.Layout.{list_pointer}
+use Rattle.capnp_wire.proofs.layouts.FreeLemmas.{free_later}
+use Rattle.capnp_wire.proofs.layouts.SizeLemmas.{length-body}
+use Rattle.capnp_wire.proofs.layouts.OpenLemmas.{room_formed}
+use Rattle.capnp_values.proofs.ItemLemmas.{items_settled}
+use Rattle.capnp_values.proofs.PointerListLemmas.{values_total, values_rooms, values_begin, list_copied}
+use Rattle.capnp_values.proofs.made_pointer_list.MadePointerListSetterInputOwned.write.Goals as goal
+
+pub write_items-requires-clause-room : goal.write_items-requires-clause-room
+write_items-requires-clause-room g c = values_begin (g.S.ValueSource.has_tree c.args.self.now.source) (g.S.ValueSource.items c.args.self.now.source) c.args.canonical c.args.next _ c.requires.value
+
+pub write_items-requires-clause-free : goal.write_items-requires-clause-free
+write_items-requires-clause-free g c = free_later c.args.next (c.args.next + length (g.S.ValueSource.items c.args.self.now.source)) c.args.block.now (omega arith) c.requires.free
+
+pub returns-clause-written : goal.returns-clause-written
+returns-clause-written g c trees is =
+    let h = (g.S.ValueSource.has_tree c.args.self.now.source) in
+    let items = (g.S.ValueSource.items c.args.self.now.source) in
+    let w = c.requires.value in
+    let end = c.write_items.ensures.written.next_is w.tree_is.held w.tree_is.held_is in
+    list_copied c.args.canonical is.held trees (c.args.next - c.args.following) c.args.next (length items) c.write_items.result c.list_word.result (words_of c.args.block.now) (words_of c.write_items.new.block)
+    is.whole (sym (items_settled h items is.held is.held_is).many) (values_rooms h items trees is) (c.list_word.ensures ∙ ap (λ (k : ℕ). list_pointer (c.args.next - c.args.following) 6 k) c.len-count.ensures)
+    (omega (arith, end, w.fits, values_total h items c.args.canonical w.trees w.tree_is))
+    (c.write_items.ensures.written.words_are is.held is.held_is) (c.write_items.ensures.written.next_is is.held is.held_is)
+
+pub returns-clause-long : goal.returns-clause-long
+returns-clause-long g c trees is =
+    length-body _ (room_formed c.args.canonical trees (values_rooms (g.S.ValueSource.has_tree c.args.self.now.source) (g.S.ValueSource.items c.args.self.now.source) trees is))

@@ -1,0 +1,72 @@
+//! Lists of structs whose elements are made when they are asked for.
+ghost use Rattle.std.specs.Prelude.{◌≡◌};
+
+use crate::element::Element;
+use crate::fields::Fields;
+use crate::measured::{fitting, fitting_part};
+use crate::rows::{kept_by_each, write_rows};
+use crate::sources::StructSource;
+use crate::struct_list::measure_list;
+use capnp_frame::Result;
+use capnp_wire::pointer_word::{list_word, put_word, struct_word};
+use capnp_wire::struct_list::Owned;
+use capnp_wire::traits::{Copied, PartWords, SetterInput};
+
+/// A list whose elements are structs of one size, each made when it is asked for (encoding document,
+/// "Lists"): no two of them have to stand in memory at a time.
+#[derive(Drop)]
+pub struct MadeStructList<S> {
+    /// What makes the structs.
+    pub source: S,
+}
+
+impl<S> MadeStructList<S> {
+    /// A list of the structs of a source.
+    pub fn new(source: S) -> MadeStructList<S>
+        ensures { result.source ≡ source }
+    {
+        MadeStructList { source }
+    }
+}
+
+// The data words that the source tells of each struct, with the trees of its fields, row by row. It
+// is refused as a list of these structs in memory is.
+impl<S: StructSource> SetterInput<Owned> for MadeStructList<S> {
+    ghost use Rattle.capnp_wire.specs.Tree.{count};
+    ghost use Rattle.capnp_values.specs.StructLists.{IsStructList, RefusesStructList};
+    ghost use Rattle.std.proofs.Common.{ap};
+
+    ghost has_tree = { λ value trees. IsStructList (S.words value.source)
+        (S.has_trees value.source) S.Value.data_words S.Value.size (S.items value.source) trees };
+
+    ghost refuses = { λ value kind. RefusesStructList (S.has_trees value.source)
+        (S.refuses value.source) S.Value.data_words S.Value.size (S.items value.source) kind };
+
+    ghost one = { λ value trees is. ap count is.whole };
+
+    fn measure(&self, canonical: bool) -> Result<u32> {
+        let words = measure_list(&self.source, canonical)?;
+        fitting(words.formed, canonical)
+    }
+
+    fn measure_part(&self, canonical: bool) -> Result<PartWords> {
+        let words = measure_list(&self.source, canonical)?;
+        fitting_part(words)
+    }
+
+    fn is_null(&self) -> bool {
+        false
+    }
+
+    fn write(&self, canonical: bool, block: &mut [u8], following: usize, next: usize) -> Copied {
+        let count = self.source.len();
+        let kept = kept_by_each(&self.source, canonical);
+        let words = count * (kept.data_words + kept.pointers as usize);
+        let tag = struct_word(count as u64, kept.data_words as u16, kept.pointers as u16);
+        put_word(block, next, tag);
+        Copied {
+            pointer: list_word((next - following) as u64, 7, words as u64),
+            next: write_rows(&self.source, canonical, kept, block, next + 1),
+        }
+    }
+}

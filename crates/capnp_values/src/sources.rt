@@ -1,0 +1,127 @@
+//! Where the elements of lists come from, each made when it is asked for.
+ghost use Rattle.std.specs.Prelude.{◌≡◌, ℕ, ◌<◌, List, length, get_or};
+ghost use Rattle.capnp_frame.specs.declared.error.ErrorKind.{ErrorKind};
+ghost use Rattle.capnp_wire.specs.Tree.{Trees};
+ghost use Rattle.capnp_values.specs.Fields.{IsSettled};
+ghost use Rattle.capnp_values.specs.Sources.{IsAsTold};
+
+use crate::borrowed::Borrowed;
+use crate::element::Element;
+use crate::fields::Fields;
+use capnp_wire::traits::SetterInput;
+
+/// Values in order, each made when it is asked for: it is asked for once where it is measured, and
+/// once more where it is written.
+pub trait ValueSource<T> {
+    /// What tells a value from the others: its index, or what it is made of.
+    type Item;
+
+    /// The type of the values.
+    type Value: SetterInput<T> + Drop;
+
+    /// What tells each of the values, in order.
+    ghost items: { Self → List Self.Item };
+
+    /// The value of an item is this tree.
+    ghost has_tree: { Self → Self.Item → Trees → Type 0 };
+
+    /// The value of an item is refused, and this says why.
+    ghost refuses: { Self → Self.Item → ErrorKind → Type 0 };
+
+    /// How many values there are.
+    fn len(&self) -> usize
+        ensures { result ≡ length (items self.now) };
+
+    /// The value at an index.
+    fn get(&self, index: usize) -> Self::Value
+        requires { index < length (items self.now) }
+        ensures { (item : Self.Item) × (item ≡ get_or (items self.now) index item)
+            × IsAsTold (Self.Value.has_tree result) (has_tree self.now item)
+            (Self.Value.refuses result) (refuses self.now item) };
+}
+
+/// Structs of one size in order, each made when it is asked for: it is asked for once where it is
+/// measured, and once more where it is written.
+pub trait StructSource {
+    /// What tells a struct from the others: its index, or what it is made of.
+    type Item;
+
+    /// The type of the structs.
+    type Value: Fields + Element + Drop;
+
+    /// What tells each of the structs, in order.
+    ghost items: { Self → List Self.Item };
+
+    /// The words of the data section of an item's struct.
+    ghost words: { Self → Self.Item → List ℕ };
+
+    /// The fields of an item's struct are these trees, in order.
+    ghost has_trees: { Self → Self.Item → Trees → Type 0 };
+
+    /// A field of an item's struct is refused, and this says why.
+    ghost refuses: { Self → Self.Item → ErrorKind → Type 0 };
+
+    /// How many structs there are.
+    fn len(&self) -> usize
+        ensures { result ≡ length (items self.now) };
+
+    /// The struct at an index.
+    fn get(&self, index: usize) -> Self::Value
+        requires { index < length (items self.now) }
+        ensures { (item : Self.Item) × (item ≡ get_or (items self.now) index item)
+            × (Self.Value.words result ≡ words self.now item)
+            × IsAsTold (Self.Value.has_trees result) (has_trees self.now item)
+            (Self.Value.refuses result) (refuses self.now item) };
+
+    /// The trees have room, and each has fewer than 2^29 words.
+    ghost settled: { (source : Self) (item : Self.Item) (trees : Trees) →
+        has_trees source item trees → IsSettled Self.Value.size trees };
+}
+
+// The values of a slice tell themselves.
+impl<'a, T, V: SetterInput<T>> ValueSource<T> for &'a [V] {
+    type Item = V;
+
+    type Value = Borrowed<'a, V>;
+
+    ghost items = { λ source. source.now };
+
+    ghost has_tree = { λ source item trees. V.has_tree item trees };
+
+    ghost refuses = { λ source item kind. V.refuses item kind };
+
+    fn len(&self) -> usize {
+        <[V]>::len(*self)
+    }
+
+    fn get(&self, index: usize) -> Borrowed<'a, V> {
+        let values: &'a [V] = *self;
+        Borrowed::new(&values[index])
+    }
+}
+
+// The structs of a slice tell themselves.
+impl<'a, E: Fields + Element> StructSource for &'a [E] {
+    type Item = E;
+
+    type Value = Borrowed<'a, E>;
+
+    ghost items = { λ source. source.now };
+
+    ghost words = { λ source item. E.words item };
+
+    ghost has_trees = { λ source item trees. E.has_trees item trees };
+
+    ghost refuses = { λ source item kind. E.refuses item kind };
+
+    ghost settled = { λ source item trees is. E.settled item trees is };
+
+    fn len(&self) -> usize {
+        <[E]>::len(*self)
+    }
+
+    fn get(&self, index: usize) -> Borrowed<'a, E> {
+        let structs: &'a [E] = *self;
+        Borrowed::new(&structs[index])
+    }
+}
