@@ -1,19 +1,22 @@
 //! Composes values, and sets a message's root to them, again and again, to be timed.
 //!
 //! Its words are the message's shape, as `tools/reading/shapes.capnp` has them, what is done, and how
-//! many times: `compose` composes the values anew each time, `set` once, and `write` writes the
+//! many times: `compose` composes the value anew each time, `set` once, and `write` writes the
 //! message's words to standard output. The message stands in one region that is used again, and the
-//! values in memory that is.
+//! elements of its list are made when they are asked for.
 #![tactic(auto)]
+
+mod sources;
 
 use anyhow::Result;
 use capnp_frame::message::ReaderSegments;
 use capnp_message::{Builder, SingleSegmentAllocator};
 use capnp_values::{
-    Borrowed, Field, NoFields, NumberList, PointerList, StructList, StructValue,
+    Borrowed, Field, MadePointerList, MadeStructList, NoFields, StructSource, StructValue,
 };
 use capnp_wire::traits::SetterInput;
-use capnp_wire::{any_struct, list_list, primitive_list, struct_list, text};
+use capnp_wire::{any_struct, list_list, struct_list, text};
+use sources::{Accounts, Names, Records};
 use std::alloc::Global;
 use std::env;
 use std::io::Write;
@@ -40,18 +43,7 @@ enum Shape {
     Names,
 }
 
-type TextField<Rest> = Field<text::Owned, &'static str, Rest>;
-
-type Structs<'a, E> = Field<struct_list::Owned, StructList<'a, E>, NoFields>;
-
-type Account = StructValue<2, TextField<NoFields>>;
-
-type Samples<'a> = NumberList<'a, u32>;
-
-type Record<'a> = StructValue<
-    1,
-    Field<primitive_list::Owned<u32>, Samples<'a>, TextField<NoFields>>,
->;
+type Structs<S> = Field<struct_list::Owned, MadeStructList<S>, NoFields>;
 
 fn main(rt: HostRuntime) -> Result<()> {
     let alloc = rt.alloc();
@@ -135,68 +127,43 @@ fn compose(setting: &mut Setting<'_>, shape: Shape) -> capnp_frame::Result<()> {
     }
 }
 
-fn name(index: u32) -> &'static str {
-    NAMES[index as usize % 8]
-}
-
-fn structs<'a, E>(items: &'a [E]) -> Structs<'a, E> {
-    Field::new(StructList::new(items), NoFields)
-}
-
-fn account(index: u32) -> Account {
-    let number = index as u64;
-    StructValue::new(
-        [number, number.wrapping_mul(7919)],
-        Field::new(name(index), NoFields),
-    )
+fn structs<S: StructSource>(source: S) -> Structs<S> {
+    Field::new(MadeStructList::new(source), NoFields)
 }
 
 fn compose_accounts(setting: &mut Setting<'_>) -> capnp_frame::Result<()> {
-    let mut accounts: Vec<Account> = Vec::with_capacity(setting.alloc, 190000)?;
     for _ in 0..setting.rounds {
-        accounts.clear();
-        for index in 0..190000u32 {
-            accounts.push(account(index))?;
-        }
-        setting.set(&StructValue::new([], structs(accounts.as_slice())))?;
+        let accounts = Accounts {
+            names: &NAMES,
+            count: 190000,
+        };
+        setting.set(&StructValue::new([], structs(accounts)))?;
     }
     Ok(())
-}
-
-fn record<'a>(samples: &'a [u32], index: u32) -> Record<'a> {
-    let first = index as usize % 64;
-    let own = samples.get(first..first + 10).unwrap_or(&[]);
-    let fields = Field::new(NumberList::new(own), Field::new(name(index), NoFields));
-    StructValue::new([index as u64], fields)
 }
 
 fn compose_records(setting: &mut Setting<'_>) -> capnp_frame::Result<()> {
     let samples: Vec<u32> = (0..73u32)
         .map(|index| index.wrapping_mul(40503))
         .collect(setting.alloc)?;
-    set_records(setting, samples.as_slice())
-}
-
-fn set_records(setting: &mut Setting<'_>, samples: &[u32]) -> capnp_frame::Result<()> {
-    let mut records: Vec<Record<'_>> = Vec::with_capacity(setting.alloc, 97500)?;
     for _ in 0..setting.rounds {
-        records.clear();
-        for index in 0..97500u32 {
-            records.push(record(samples, index))?;
-        }
-        setting.set(&StructValue::new([], structs(records.as_slice())))?;
+        let records = Records {
+            names: &NAMES,
+            samples: samples.as_slice(),
+            count: 97500,
+        };
+        setting.set(&StructValue::new([], structs(records)))?;
     }
     Ok(())
 }
 
 fn compose_names(setting: &mut Setting<'_>) -> capnp_frame::Result<()> {
-    let mut names: Vec<&str> = Vec::with_capacity(setting.alloc, 307000)?;
     for _ in 0..setting.rounds {
-        names.clear();
-        for index in 0..307000u32 {
-            names.push(name(index))?;
-        }
-        let list: PointerList<'_, text::Owned, &str> = PointerList::new(names.as_slice());
+        let names = Names {
+            names: &NAMES,
+            count: 307000,
+        };
+        let list: MadePointerList<text::Owned, Names> = MadePointerList::new(names);
         let field: Field<list_list::Owned<text::Owned>, _, _> = Field::new(list, NoFields);
         setting.set(&StructValue::new([], field))?;
     }

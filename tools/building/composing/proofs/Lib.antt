@@ -1,0 +1,2 @@
+-- The lemmas, by subject.
+pub mod ToldLemmas

@@ -1,0 +1,2 @@
+-- What the elements of the messages' lists are.
+pub mod Texts
