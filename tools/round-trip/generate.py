@@ -41,8 +41,8 @@ def held(kind):
         return "HeldNumbers<%s>" % number, "primitive_list::Owned<%s>" % number
     inner, owned = held(element)
     if element in schema.structs:
-        return "HeldStructs<%s>" % inner, "structs::Owned"
-    return "HeldPointers<%s, %s>" % (owned, inner), "pointer_list::Owned<%s>" % owned
+        return "HeldStructs<%s>" % inner, "struct_list::Owned"
+    return "HeldPointers<%s, %s>" % (owned, inner), "list_list::Owned<%s>" % owned
 
 
 def literal(kind, default):
