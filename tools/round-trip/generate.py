@@ -242,11 +242,11 @@ use crate::upgraded::*;
 use anyhow::Result;
 use capnp_frame::message::ReaderSegments;
 use capnp_values::fields::Extent;
-use capnp_values::{Borrowed, Element, Field, Fields, NoFields, StructValue, pointer_list, struct_list as structs};
+use capnp_values::{Borrowed, Element, Field, Fields, NoFields, StructValue};
 use capnp_wire::any_struct::StructReader;
 use capnp_wire::primitive_element::PrimitiveElement;
 use capnp_wire::traits::{Copied, SetterInput};
-use capnp_wire::{any_pointer, any_struct, data, primitive_list, text};
+use capnp_wire::{any_pointer, any_struct, data, list_list, primitive_list, struct_list, text};
 
 fn bits_of<T: PrimitiveElement>(value: T) -> u64 {
     value.to_bits()
