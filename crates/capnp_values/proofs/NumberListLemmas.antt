@@ -190,3 +190,8 @@ list_room code f items c next room w =
     let same : length (map f items) ≡ length items = length-map items f in
     let total = numbers_total_of c code (map f items) w.trees w.tree_is.1 in
     (omega (arith, w.tree_is.0, same), omega (arith, w.fits, total, ap (λ (k : ℕ). words_for k (width code)) same))
+
+-- the part of a block that some words take
+pub part_long : (next n : ℕ) (block : List ℕ) → next + n ≤ length (words_of block) → length (take (8 * (next + n) - 8 * next) (drop (8 * next) block)) ≡ 8 * n
+part_long next n block fits =
+    omega (arith, fits, length-words_of block, length-take (8 * (next + n) - 8 * next) (drop (8 * next) block), length-drop (8 * next) block)

@@ -5,7 +5,7 @@ use Rattle.capnp_wire.specs.Trim.{keep_tree, cut_nulls, trim, trim_form, trim_he
 use Rattle.capnp_wire.specs.Layout.{AllHaveRoom}
 use Rattle.capnp_wire.proofs.trees.TrimLemmas.{total-trim, count-trim}
 use Rattle.capnp_wire.proofs.trees.ChunkLemmas.{total-cut, count-cut}
-use Rattle.capnp_values.specs.Fields.{IsSettled, kept_row, is_left_out, extent_of}
+use Rattle.capnp_values.specs.Fields.{IsSettled, kept_row, is_left_out, extent_of, IsBounded}
 use Rattle.capnp_values.specs.declared.fields.Extent.{Extent}
 use Rattle.capnp_values.proofs.PartLemmas.{part_total, no_trees}
 
@@ -121,12 +121,7 @@ pub kept_count : (c : Bool) (t : Trees) → count (kept_row c t) ≤ count t
 kept_count true t = omega (arith, count-cut (trim t), count-trim t)
 kept_count false t = omega arith
 
-pub record Bounded (rest : Extent) : Type 0 where
-  pub pointers_few : rest.pointers < 2 ^ 16
-  pub words_few : rest.words < 2 ^ 46
-  pub standing_few : rest.standing < 2 ^ 46
-
-pub bounded : (c : Bool) (size : ℕ) (t : Trees) (rest : Extent) → size < 2 ^ 16 → IsSettled size t → rest ≡ extent_of c t → Bounded rest
+pub bounded : (c : Bool) (size : ℕ) (t : Trees) (rest : Extent) → size < 2 ^ 16 → IsSettled size t → rest ≡ extent_of c t → IsBounded rest
 bounded c size t rest small s e =
     let a : rest.pointers ≡ count (kept_row c t) = ap (λ (x : Extent). x.pointers) e in
     let b : rest.words ≡ total_words (kept_row c t) = ap (λ (x : Extent). x.words) e in

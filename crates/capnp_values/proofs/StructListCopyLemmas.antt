@@ -10,11 +10,12 @@ use Rattle.capnp_wire.proofs.layouts.SizeLemmas.{rows_even}
 use Rattle.capnp_wire.proofs.layouts.BlockLemmas.{length-put}
 use Rattle.capnp_wire.proofs.layouts.OpenLemmas.{room_formed}
 use Rattle.capnp_values.specs.Fields.{IsSettled}
-use Rattle.capnp_values.specs.StructLists.{AreRows, IsStructList, element_data, element_pointers, shown, AreEven, fill_rows, HasRoomForRows}
+use Rattle.capnp_values.specs.StructLists.{AreRows, IsStructList, element_data, element_pointers, shown, AreEven, fill_rows}
 use Rattle.capnp_values.proofs.FilledLemmas.{structs_filled}
 use Rattle.capnp_values.proofs.FillRowLemmas.{rows_filled}
 use Rattle.capnp_values.proofs.StructListLemmas.{rows_settled, structs_formed, total_shown}
-use Rattle.capnp_values.proofs.StructListValueLemmas.{AreTold, IsTold, size_told, list_total, list_rooms}
+use Rattle.capnp_values.specs.StructListPlaces.{AreTold, ListPlace}
+use Rattle.capnp_values.proofs.StructListValueLemmas.{size_told, list_total, list_rooms}
 
 -- what can be written of it
 pub list_even : {V : Type 0} (w : V → List ℕ) (h : V → Trees → Type 0) (d p : ℕ) (vs : List V) (trees : Trees) → IsStructList w h d p vs trees → AllHaveRoom trees → AreEven d (map w vs)
@@ -31,13 +32,7 @@ pub structs_many : {V : Type 0} (w : V → List ℕ) (h : V → Trees → Type 0
     → count held ≡ length (map w vs) * p
 structs_many w h p s vs held is = (rows_settled h p s vs held is).many ∙ ap (λ (n : ℕ). n * p) (sym (length-map vs w))
 
--- a list that has room in a block, from a word on
-pub record ListPlace {V : Type 0} (w : V → List ℕ) (h : V → Trees → Type 0) (c : Bool) (d p e m : ℕ) (vs : List V) (next room : ℕ) : Type 0 where
-  pub told_is : AreTold (length vs) d p
-  pub size : IsTold (length vs) d p e m
-  pub begin_within : next + 1 + length vs * (e + m) ≤ room
-  pub rows : HasRoomForRows w h c e m d p vs (next + 1 + length vs * (e + m)) room
-
+-- its room in a block
 pub list_place : {V : Type 0} (w : V → List ℕ) (h : V → Trees → Type 0) (c : Bool) (d p e m : ℕ) → ((v : V) (t : Trees) → h v t → IsSettled p t) → (vs : List V) (next room : ℕ) (trees : Trees)
     → IsStructList w h d p vs trees → AllHaveRoom trees → next + total_words (formed c trees) ≤ room → ((held : Trees) → AreRows h vs held → e ≡ element_data c d (map w vs))
     → ((held : Trees) → AreRows h vs held → m ≡ element_pointers c p (map w vs) held) → ListPlace w h c d p e m vs next room

@@ -15,17 +15,12 @@ use Rattle.capnp_values.specs.Fields.{IsSettled}
 use Rattle.capnp_values.specs.declared.rows.Reach.{Reach}
 use Rattle.capnp_values.specs.declared.measured.TreeWords.{TreeWords}
 use Rattle.capnp_values.specs.StructLists.{AreRows, IsStructList, TooManyStructs, RefusesStructList, element_data, element_pointers, reach_of, AreEven, ReachesRows}
+use Rattle.capnp_values.specs.StructListPlaces.{AreTold, IsTold}
 use Rattle.capnp_values.proofs.ItemLemmas.{same_tree_words}
 use Rattle.capnp_values.proofs.StructListLemmas.{rows_settled, structs_total}
 use Rattle.capnp_values.proofs.StructRowLemmas.{pointers_within}
 
--- how many structs of d data words and p pointers can be told
-pub record AreTold (n d p : ℕ) : Type 0 where
-  pub few_words : d < 2 ^ 16
-  pub few_pointers : p < 2 ^ 16
-  pub few : n < 2 ^ 29
-  pub small : n * (d + p) < 2 ^ 29
-
+-- what can be told of it
 pub told : (n d p x y : ℕ) → x ≡ d → y ≡ min p (2 ^ 16) → x < 2 ^ 16 → y < 2 ^ 16 → n < 2 ^ 29 → n * (x + y) < 2 ^ 29 → AreTold n d p
 told n d p x y x_is y_is a b few small =
     let y_there : y ≡ p = omega (arith, y_is, b) in
@@ -43,12 +38,6 @@ not_too_many n d p kind t (inl (inr many, is)) = absurd (omega (arith, many, t.f
 not_too_many n d p kind t (inr (inl many)) = absurd (omega (arith, many.2, t.few))
 not_too_many n d p kind t (inr (inr many)) = absurd (omega (arith, many.3, t.small))
 
--- what each keeps of them
-pub record IsTold (n d p e m : ℕ) : Type 0 where
-  pub words_within : e ≤ d
-  pub pointers_within : m ≤ p
-  pub elements : n * (e + m) < 2 ^ 29
-
 data_within : (c : Bool) (d : ℕ) (rows : List (List ℕ)) → AreEven d rows → element_data c d rows ≤ d
 data_within true d rows even = least_data_within d rows (rows_even d rows even)
 data_within false d rows even = omega arith
@@ -59,6 +48,10 @@ size_told c n d p e m rows held t even e_is m_is =
     let b : m ≤ p = omega (arith, m_is, pointers_within c p rows held) in
     let area : n * (e + m) ≤ n * (d + p) = mul-le-mul_left n (omega (arith, a, b)) in
     record { words_within = a; pointers_within = b; elements = omega (arith, area, t.small) }
+
+pub told_kept : (n d p x y e m : ℕ) → x ≡ d → y ≡ min p (2 ^ 16) → AreTold n d p → IsTold n d p e m → IsTold n x y e m
+told_kept n d p x y e m x_is y_is t k =
+    record { words_within = omega (arith, k.words_within, x_is); pointers_within = omega (arith, k.pointers_within, y_is, t.few_pointers); elements = k.elements }
 
 pub reach_told : (c : Bool) (n d p : ℕ) (rows : List (List ℕ)) (held : Trees) (reach : Reach) → AreTold n d p → AreEven d rows → reach ≡ reach_of c d p rows held → IsTold n d p reach.data_words reach.pointers
 reach_told c n d p rows held reach t even is =

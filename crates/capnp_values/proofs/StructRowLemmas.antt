@@ -9,8 +9,9 @@ use Rattle.capnp_wire.specs.Block.{put, fill}
 use Rattle.capnp_wire.specs.Values.{IsFreeFrom}
 use Rattle.capnp_wire.proofs.trees.ChunkLemmas.{count-first, total-before, least_pointers_within}
 use Rattle.capnp_wire.proofs.trees.NarrowLemmas.{first-before, following-before}
-use Rattle.capnp_values.specs.Fields.{IsSettled, CanWriteRow, IsRowWritten}
+use Rattle.capnp_values.specs.Fields.{IsSettled, IsRowWritten}
 use Rattle.capnp_values.specs.StructLists.{AreRows, element_pointers, shown, fill_rows, HasRoomForRows}
+use Rattle.capnp_values.specs.StructListPlaces.{ElementPlace}
 use Rattle.capnp_values.proofs.PointerListLemmas.{count_formed}
 use Rattle.capnp_values.proofs.ItemLemmas.{from_here, none_left}
 use Rattle.capnp_values.proofs.StructListLemmas.{shown_front}
@@ -83,14 +84,11 @@ spread n i w within =
     omega (arith, area)
 
 -- the next struct has room
-pub record RowRoom (h : Trees → Type 0) (c : Bool) (d m at free room : ℕ) : Type 0 where
-  pub can : CanWriteRow h c m free room
-  pub before_it : at + d + m ≤ free
-
-pub row_room : {V : Type 0} (w : V → List ℕ) (h : V → Trees → Type 0) (c : Bool) (d m p : ℕ) → ((v : V) (t : Trees) → h v t → IsSettled p t) → (items : List V) (start begin i at free : ℕ) (v : V)
-    (old block : List ℕ) → m ≤ p → i < length items → v ≡ get_or items i v → RowsWritten w h c d m p items start begin i at free old block
-    → RowRoom (h v) c d m at free (length (words_of block))
-row_room {V = V} w h c d m p s items start begin i at free v old block le within is so_far =
+pub row_room : {V : Type 0} (w : V → List ℕ) (h : V → Trees → Type 0) (c : Bool) (d m most p : ℕ) → ((v : V) (t : Trees) → h v t → IsSettled p t) → (items : List V) (start begin i at free room : ℕ) (v : V)
+    (old block : List ℕ) → HasRoomForRows w h c d m most p items begin room → i < length items → v ≡ get_or items i v → RowsWritten w h c d m p items start begin i at free old block
+    → ElementPlace (h v) c d m at free (length (words_of block))
+row_room {V = V} w h c d m most p s items start begin i at free room v old block has within is so_far =
+    let le : m ≤ p = omega (arith, has.pointers_are, pointers_within c p (map w items) has.held) in
     let here = from_here items i v within is in
     let r = subst (λ (l : List V). (held : Trees) × AreRows h l held × (free + total_words (shown c m p (map w l) held) ≤ length (words_of block))) here so_far.room in
     let f = r.1 in
@@ -106,12 +104,13 @@ row_room {V = V} w h c d m p s items start begin i at free v old block le within
     }
 
 -- one more is written
-pub writing_goes_on : {V : Type 0} (w : V → List ℕ) (h : V → Trees → Type 0) (c : Bool) (d m p : ℕ) → ((v : V) (t : Trees) → h v t → IsSettled p t) → (items : List V)
-    (start begin i at free next : ℕ) (v : V) (old block new : List ℕ) → m ≤ p → d ≤ length (w v) → i < length items → v ≡ get_or items i v → length new ≡ length block
+pub writing_goes_on : {V : Type 0} (w : V → List ℕ) (h : V → Trees → Type 0) (c : Bool) (d m most p : ℕ) → ((v : V) (t : Trees) → h v t → IsSettled p t) → (items : List V)
+    (start begin i at free next room : ℕ) (v : V) (old block new : List ℕ) → HasRoomForRows w h c d m most p items begin room → d ≤ length (w v) → i < length items → v ≡ get_or items i v → length new ≡ length block
     → length (words_of new) ≡ length (words_of block) → IsFreeFrom next new
     → IsRowWritten (h v) c (at + d) m free (put at (take d (w v)) (words_of block)) (words_of new) next → RowsWritten w h c d m p items start begin i at free old block
     → RowsWritten w h c d m p items start begin (i + 1) (at + (d + m)) next old new
-writing_goes_on {V = V} w h c d m p s items start begin i at free next v old block new le wide within is long same free_from written so_far =
+writing_goes_on {V = V} w h c d m most p s items start begin i at free next room v old block new has wide within is long same free_from written so_far =
+    let le : m ≤ p = omega (arith, has.pointers_are, pointers_within c p (map w items) has.held) in
     let here = from_here items i v within is in
     let r = subst (λ (l : List V). (held : Trees) × AreRows h l held × (free + total_words (shown c m p (map w l) held) ≤ length (words_of block))) here so_far.room in
     let f = r.1 in

@@ -73,3 +73,9 @@ pub record CanWriteRow (has_trees : Trees → Type 0) (canonical : Bool) (n next
 pub record IsRowWritten (has_trees : Trees → Type 0) (canonical : Bool) (slot n next : ℕ) (old new : List ℕ) (free : ℕ) : Type 0 where
   pub words_are : (trees : Trees) → has_trees trees → new ≡ fill (run slot n) next (first n (formed canonical trees)) old
   pub next_is : (trees : Trees) → has_trees trees → free ≡ next + total_words (first n (formed canonical trees))
+
+-- a row has room for one more value in front
+pub record IsBounded (extent : Extent) : Type 0 where
+  pub pointers_few : extent.pointers < 2 ^ 16
+  pub words_few : extent.words < 2 ^ 46
+  pub standing_few : extent.standing < 2 ^ 46

@@ -5,5 +5,6 @@ pub mod FieldLaws
 pub mod Structs
 pub mod Lists
 pub mod StructLists
+pub mod StructListPlaces
 pub mod NumberLists
 pub mod Sources

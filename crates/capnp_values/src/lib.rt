@@ -23,6 +23,7 @@ mod sections;
 pub mod sources;
 pub mod struct_list;
 pub mod struct_value;
+mod tagged;
 
 pub use borrowed::Borrowed;
 pub use element::Element;

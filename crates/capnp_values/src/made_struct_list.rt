@@ -4,11 +4,9 @@ ghost use Rattle.std.specs.Prelude.{◌≡◌};
 use crate::element::Element;
 use crate::fields::Fields;
 use crate::measured::{fitting, fitting_part};
-use crate::rows::{kept_by_each, write_rows};
 use crate::sources::StructSource;
-use crate::struct_list::measure_list;
+use crate::tagged::{measure_list, write_list};
 use capnp_frame::Result;
-use capnp_wire::pointer_word::{list_word, put_word, struct_word};
 use capnp_wire::struct_list::Owned;
 use capnp_wire::traits::{Copied, PartWords, SetterInput};
 
@@ -59,14 +57,6 @@ impl<S: StructSource> SetterInput<Owned> for MadeStructList<S> {
     }
 
     fn write(&self, canonical: bool, block: &mut [u8], following: usize, next: usize) -> Copied {
-        let count = self.source.len();
-        let kept = kept_by_each(&self.source, canonical);
-        let words = count * (kept.data_words + kept.pointers as usize);
-        let tag = struct_word(count as u64, kept.data_words as u16, kept.pointers as u16);
-        put_word(block, next, tag);
-        Copied {
-            pointer: list_word((next - following) as u64, 7, words as u64),
-            next: write_rows(&self.source, canonical, kept, block, next + 1),
-        }
+        write_list(&self.source, canonical, block, following, next)
     }
 }

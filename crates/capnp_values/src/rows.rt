@@ -4,8 +4,9 @@ ghost use Rattle.capnp_wire.specs.Pointer.{words_of};
 ghost use Rattle.capnp_wire.specs.Tree.{Trees, none};
 ghost use Rattle.capnp_wire.specs.Block.{put};
 ghost use Rattle.capnp_wire.specs.Values.{IsFreeFrom};
-ghost use Rattle.capnp_values.specs.Fields.{CanWriteRow, IsRowWritten};
+ghost use Rattle.capnp_values.specs.Fields.{IsRowWritten};
 ghost use Rattle.capnp_values.specs.StructLists.{AreRows, ReachesRows, HasRoomForRows, AreRowsWritten, element_data, element_pointers, reach_of, reached};
+ghost use Rattle.capnp_values.specs.StructListPlaces.{ElementPlace};
 
 use crate::element::Element;
 use crate::fields::{Extent, Fields};
@@ -198,9 +199,8 @@ fn write_element<E: Fields + Element>(
     next: usize,
 ) -> usize
     requires data { kept.data_words ≤ E.data_words }
-    requires row { CanWriteRow (E.has_trees item.now) canonical kept.pointers next
-        (length (words_of block.old)) }
-    requires before { at + kept.data_words + kept.pointers ≤ next }
+    requires place { ElementPlace (E.has_trees item.now) canonical kept.data_words kept.pointers at
+        next (length (words_of block.old)) }
     requires free { IsFreeFrom next block.old }
     ensures written { IsRowWritten (E.has_trees item.now) canonical (at + kept.data_words) kept.pointers
         next (put at (take kept.data_words (E.words item.now)) (words_of block.old))

@@ -1,15 +1,11 @@
 //! Lists of structs as values.
-ghost use Rattle.std.specs.Prelude.{◌≡◌, ◌+◌, ◌*◌, ◌^◌, ◌<◌, MatchResult};
-ghost use Rattle.capnp_values.specs.Measured.{Measures};
-ghost use Rattle.capnp_values.specs.StructLists.{IsStructList, RefusesStructList, TooManyStructs};
+ghost use Rattle.std.specs.Prelude.{◌≡◌};
 
 use crate::element::Element;
 use crate::fields::Fields;
-use crate::measured::{TreeWords, fitting, fitting_part, too_many};
-use crate::rows::{kept_by_each, measure_rows, write_rows};
-use crate::sources::StructSource;
-use capnp_frame::{Error, ErrorKind, Result};
-use capnp_wire::pointer_word::{list_word, put_word, struct_word};
+use crate::measured::{fitting, fitting_part};
+use crate::tagged::{measure_list, write_list};
+use capnp_frame::Result;
 use capnp_wire::struct_list::Owned;
 use capnp_wire::traits::{Copied, PartWords, SetterInput};
 
@@ -61,51 +57,6 @@ impl<'a, E: Fields + Element> SetterInput<Owned> for StructList<'a, E> {
     }
 
     fn write(&self, canonical: bool, block: &mut [u8], following: usize, next: usize) -> Copied {
-        let count = self.items.len();
-        let kept = kept_by_each(&self.items, canonical);
-        let words = count * (kept.data_words + kept.pointers as usize);
-        let tag = struct_word(count as u64, kept.data_words as u16, kept.pointers as u16);
-        put_word(block, next, tag);
-        Copied {
-            pointer: list_word((next - following) as u64, 7, words as u64),
-            next: write_rows(&self.items, canonical, kept, block, next + 1),
-        }
+        write_list(&self.items, canonical, block, following, next)
     }
-}
-
-/// The words of a list of some structs.
-pub(crate) fn measure_list<S: StructSource>(items: &S, canonical: bool) -> Result<TreeWords>
-    ensures { Measures (IsStructList (S.words items.now) (S.has_trees items.now)
-        S.Value.data_words S.Value.size (S.items items.now))
-        (RefusesStructList (S.has_trees items.now) (S.refuses items.now)
-        S.Value.data_words S.Value.size (S.items items.now)) canonical result }
-{
-    let count = items.len();
-    elements_fit(count, S::Value::data_words(), S::Value::count())?;
-    let reach = measure_rows(items, canonical)?;
-    let all = count * (S::Value::data_words() + S::Value::count() as usize);
-    let kept = count * (reach.data_words + reach.pointers as usize);
-    let standing = 1 + all as u64 + reach.standing;
-    let formed = 1 + kept as u64 + reach.words;
-    Ok(TreeWords { standing, formed })
-}
-
-// A pointer and a tag can tell as many structs of this size.
-fn elements_fit(count: usize, data_words: usize, pointers: u32) -> Result<()>
-    ensures { MatchResult result
-        (λ _. (data_words < 2 ^ 16) × (pointers < 2 ^ 16) × (count < 2 ^ 29)
-        × (count * (data_words + pointers) < 2 ^ 29))
-        (λ error. TooManyStructs count data_words pointers error.kind) }
-{
-    if data_words >= 1 << 16 || pointers >= 1 << 16 {
-        return Err(Error::from_kind(ErrorKind::AllocationTooLarge(1 << 16)));
-    }
-    if count >= 1 << 29 {
-        return Err(too_many(count as u64));
-    }
-    let words = count * (data_words + pointers as usize);
-    if words >= 1 << 29 {
-        return Err(too_many(words as u64));
-    }
-    Ok(())
 }

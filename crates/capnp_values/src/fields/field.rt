@@ -1,8 +1,8 @@
 //! A value in front of a row.
-ghost use Rattle.std.specs.Prelude.{◌≡◌, ◌<◌, ◌^◌};
+ghost use Rattle.std.specs.Prelude.{◌≡◌};
 ghost use Rattle.capnp_wire.specs.Tree.{Form, Trees, none, tree, total_words};
 ghost use Rattle.capnp_wire.specs.Layout.{formed};
-ghost use Rattle.capnp_values.specs.Fields.{IsPart, is_left_out, extent_of};
+ghost use Rattle.capnp_values.specs.Fields.{IsBounded, IsPart, is_left_out, extent_of};
 
 use crate::fields::{Extent, Fields};
 use capnp_frame::Result;
@@ -98,9 +98,7 @@ impl<T, V: SetterInput<T>, F: Fields> Fields for Field<T, V, F> {
 
 // How far a row reaches with one more value in front, of these words.
 fn front<T, V: SetterInput<T>>(value: &V, canonical: bool, own: PartWords, rest: Extent) -> Extent
-    requires pointers { rest.pointers < 2 ^ 16 }
-    requires words { rest.words < 2 ^ 46 }
-    requires standing { rest.standing < 2 ^ 46 }
+    requires { IsBounded rest }
     ensures { (form : Form) (held others : Trees) → IsPart (V.has_tree value.now) form held →
         own.standing ≡ total_words (tree form held none) →
         own.formed ≡ total_words (formed canonical (tree form held none)) →

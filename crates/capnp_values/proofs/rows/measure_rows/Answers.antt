@@ -49,12 +49,9 @@ loop-index-preserved g c =
 
 pub returns-in_err-extent : goal.returns-in_err-extent
 returns-in_err-extent g c =
-    let w = (g.S.StructSource.words c.args.items.now) in
-    let h = (g.S.StructSource.has_trees c.args.items.now) in
-    let r = (g.S.StructSource.refuses c.args.items.now) in
     let was : c.from_residual.result ≡ Err c.in_err-extent.field-0.0 = search rules in
-    subst (λ (x : Result Reach Error). ReachesRows w h r c.args.canonical g.S.Value.Element.data_words g.S.Value.Fields.size (g.S.StructSource.items c.args.items.now) x) (sym was)
-    (measuring_stops w h r c.args.canonical g.S.Value.Element.data_words g.S.Value.Fields.size (g.S.StructSource.items c.args.items.now) c.loop-index.index _ c.loop-index.reach c.get-item.ensures.0 c.measure.result c.in_err-extent.field-0.0
+    subst (λ (x : Result Reach Error). ReachesRows (g.S.StructSource.words c.args.items.now) (g.S.StructSource.has_trees c.args.items.now) (g.S.StructSource.refuses c.args.items.now) c.args.canonical g.S.Value.Element.data_words g.S.Value.Fields.size (g.S.StructSource.items c.args.items.now) x) (sym was)
+    (measuring_stops (g.S.StructSource.words c.args.items.now) (g.S.StructSource.has_trees c.args.items.now) (g.S.StructSource.refuses c.args.items.now) c.args.canonical g.S.Value.Element.data_words g.S.Value.Fields.size (g.S.StructSource.items c.args.items.now) c.loop-index.index _ c.loop-index.reach c.get-item.ensures.0 c.measure.result c.in_err-extent.field-0.0
     (omega (arith, c.loop-index-test.true, c.len-count.ensures)) c.get-item.ensures.1 c.in_err-extent.was (c.get-item.ensures.3.reasons_told c.in_err-extent.field-0.0.kind c.in_err-extent.ensures.returned) (λ t is. c.measure.ensures.found t (c.get-item.ensures.3.trees_are t is)) (λ kind refused. c.measure.ensures.exact kind (c.get-item.ensures.3.reasons_are kind refused)) c.loop-index.invariant)
 
 pub returns : goal.returns

@@ -11,7 +11,10 @@ kept_long d most words there is long le = omega (arith, length-take d there, ap 
 
 pub write_sections-requires-clause-before : goal.write_sections-requires-clause-before
 write_sections-requires-clause-before g c =
-    omega (arith, kept_long c.args.kept.data_words g.E.Element.data_words (g.E.Element.words c.args.item.now) c.words-words.result.now c.words-words.ensures.value c.words-words.ensures.long c.requires.data, c.requires.before)
+    omega (arith, kept_long c.args.kept.data_words g.E.Element.data_words (g.E.Element.words c.args.item.now) c.words-words.result.now c.words-words.ensures.value c.words-words.ensures.long c.requires.data, c.requires.place.before_it)
+
+pub write_sections-requires-clause-row : goal.write_sections-requires-clause-row
+write_sections-requires-clause-row g c = c.requires.place.can
 
 pub returns-clause-written : goal.returns-clause-written
 returns-clause-written g c =

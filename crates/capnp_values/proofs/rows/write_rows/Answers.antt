@@ -1,10 +1,10 @@
 -- Each struct is written after those before it.
-use Rattle.std.proofs.Common.{◌≤◌, ◌+◌, ◌*◌, ℕ, List, length, map, take, refl, sym, ap, arith, subst}
+use Rattle.std.proofs.Common.{◌+◌, ◌*◌, ℕ, List, length, take, refl, sym, ap, arith, subst}
 use Rattle.capnp_wire.specs.Pointer.{words_of}
 use Rattle.capnp_wire.specs.Block.{put}
 use Rattle.capnp_values.specs.Fields.{IsRowWritten}
 use Rattle.capnp_wire.proofs.words.WordLemmas.{length-words_of}
-use Rattle.capnp_values.proofs.StructRowLemmas.{RowsWritten, pointers_within, writing_begins, row_room, writing_goes_on, writing_ends}
+use Rattle.capnp_values.proofs.StructRowLemmas.{RowsWritten, writing_begins, row_room, writing_goes_on, writing_ends}
 use Rattle.capnp_values.proofs.SourceLemmas.{row_made, row_told}
 use Rattle.capnp_values.proofs.rows.write_rows.Goals as goal
 
@@ -19,90 +19,41 @@ overflow_add-next g c = record { fits = omega (arith, ap (λ (k : ℕ). k * (c.a
 
 pub loop-index-init : goal.loop-index-init
 loop-index-init g c =
-    let w = g.S.StructSource.words c.args.items.now in
-    let h = g.S.StructSource.has_trees c.args.items.now in
-    let structs = g.S.StructSource.items c.args.items.now in
     let d : ℕ = c.args.kept.data_words in
     let m : ℕ = c.args.kept.pointers in
     let begin : ℕ = c.args.first + length (g.S.StructSource.items c.args.items.now) * (c.args.kept.data_words + c.args.kept.pointers) in
-    subst (λ (k : ℕ). RowsWritten w h c.args.canonical d m g.S.Value.Fields.size structs c.args.first begin 0 c.args.first (c.args.first + k * (c.args.kept.data_words + c.args.kept.pointers)) c.args.block.now c.args.block.now)
-    (sym c.len-count.ensures)
-    (writing_begins w h c.args.canonical d m g.S.Value.Element.data_words g.S.Value.Fields.size structs c.args.first begin c.args.block.now c.requires.room refl c.requires.free)
+    subst (λ (k : ℕ). RowsWritten (g.S.StructSource.words c.args.items.now) (g.S.StructSource.has_trees c.args.items.now) c.args.canonical d m g.S.Value.Fields.size (g.S.StructSource.items c.args.items.now) c.args.first begin 0 c.args.first (c.args.first + k * (d + m)) c.args.block.now c.args.block.now) (sym c.len-count.ensures)
+    (writing_begins (g.S.StructSource.words c.args.items.now) (g.S.StructSource.has_trees c.args.items.now) c.args.canonical d m g.S.Value.Element.data_words g.S.Value.Fields.size (g.S.StructSource.items c.args.items.now) c.args.first begin c.args.block.now c.requires.room refl c.requires.free)
 
 pub write_element-next-requires-clause-data : goal.write_element-next-requires-clause-data
 write_element-next-requires-clause-data g c = c.requires.room.data_fits
 
-pub write_element-next-requires-clause-row : goal.write_element-next-requires-clause-row
-write_element-next-requires-clause-row g c =
-    let w = (g.S.StructSource.words c.args.items.now) in
-    let h = (g.S.StructSource.has_trees c.args.items.now) in
-    let p = g.S.Value.Fields.size in
-    let d : ℕ = c.args.kept.data_words in
-    let m : ℕ = c.args.kept.pointers in
-    let r = c.requires.room in
-    let le : c.args.kept.pointers ≤ g.S.Value.Fields.size = omega (arith, r.pointers_are, pointers_within c.args.canonical p (map w (g.S.StructSource.items c.args.items.now)) r.held) in
-    let room = row_room w h c.args.canonical d m p (g.met.S.StructSource.settled c.args.items.now) (g.S.StructSource.items c.args.items.now) c.args.first _ c.loop-index.index c.loop-index.at c.loop-index.next c.get-item.ensures.0 c.args.block.now
-    c.loop-index.block le (omega (arith, c.loop-index-test.true, c.len-count.ensures)) c.get-item.ensures.1 c.loop-index.invariant in
-    row_made c.get-item.ensures.3 c.args.canonical m c.loop-index.next _ room.can
-
-pub write_element-next-requires-clause-before : goal.write_element-next-requires-clause-before
-write_element-next-requires-clause-before g c =
-    let w = (g.S.StructSource.words c.args.items.now) in
-    let h = (g.S.StructSource.has_trees c.args.items.now) in
-    let p = g.S.Value.Fields.size in
-    let d : ℕ = c.args.kept.data_words in
-    let m : ℕ = c.args.kept.pointers in
-    let r = c.requires.room in
-    let le : c.args.kept.pointers ≤ g.S.Value.Fields.size = omega (arith, r.pointers_are, pointers_within c.args.canonical p (map w (g.S.StructSource.items c.args.items.now)) r.held) in
-    let room = row_room w h c.args.canonical d m p (g.met.S.StructSource.settled c.args.items.now) (g.S.StructSource.items c.args.items.now) c.args.first _ c.loop-index.index c.loop-index.at c.loop-index.next c.get-item.ensures.0 c.args.block.now
-    c.loop-index.block le (omega (arith, c.loop-index-test.true, c.len-count.ensures)) c.get-item.ensures.1 c.loop-index.invariant in
-    room.before_it
+pub write_element-next-requires-clause-place : goal.write_element-next-requires-clause-place
+write_element-next-requires-clause-place g c =
+    let room = row_room (g.S.StructSource.words c.args.items.now) (g.S.StructSource.has_trees c.args.items.now) c.args.canonical c.args.kept.data_words c.args.kept.pointers g.S.Value.Element.data_words g.S.Value.Fields.size (g.met.S.StructSource.settled c.args.items.now) (g.S.StructSource.items c.args.items.now) c.args.first _ c.loop-index.index c.loop-index.at c.loop-index.next (length (words_of c.args.block.now)) c.get-item.ensures.0 c.args.block.now
+    c.loop-index.block c.requires.room (omega (arith, c.loop-index-test.true, c.len-count.ensures)) c.get-item.ensures.1 c.loop-index.invariant in
+    record { can = row_made c.get-item.ensures.3 c.args.canonical c.args.kept.pointers c.loop-index.next _ room.can; before_it = room.before_it }
 
 pub write_element-next-requires-clause-free : goal.write_element-next-requires-clause-free
 write_element-next-requires-clause-free g c = c.loop-index.invariant.free_from
 
 pub overflow_add-at : goal.overflow_add-at
 overflow_add-at g c =
-    let w = (g.S.StructSource.words c.args.items.now) in
-    let h = (g.S.StructSource.has_trees c.args.items.now) in
-    let p = g.S.Value.Fields.size in
-    let d : ℕ = c.args.kept.data_words in
-    let m : ℕ = c.args.kept.pointers in
-    let r = c.requires.room in
-    let le : c.args.kept.pointers ≤ g.S.Value.Fields.size = omega (arith, r.pointers_are, pointers_within c.args.canonical p (map w (g.S.StructSource.items c.args.items.now)) r.held) in
-    let room = row_room w h c.args.canonical d m p (g.met.S.StructSource.settled c.args.items.now) (g.S.StructSource.items c.args.items.now) c.args.first _ c.loop-index.index c.loop-index.at c.loop-index.next c.get-item.ensures.0 c.args.block.now
-    c.loop-index.block le (omega (arith, c.loop-index-test.true, c.len-count.ensures)) c.get-item.ensures.1 c.loop-index.invariant in
+    let room = row_room (g.S.StructSource.words c.args.items.now) (g.S.StructSource.has_trees c.args.items.now) c.args.canonical c.args.kept.data_words c.args.kept.pointers g.S.Value.Element.data_words g.S.Value.Fields.size (g.met.S.StructSource.settled c.args.items.now) (g.S.StructSource.items c.args.items.now) c.args.first _ c.loop-index.index c.loop-index.at c.loop-index.next (length (words_of c.args.block.now)) c.get-item.ensures.0 c.args.block.now
+    c.loop-index.block c.requires.room (omega (arith, c.loop-index-test.true, c.len-count.ensures)) c.get-item.ensures.1 c.loop-index.invariant in
     record { fits = omega (arith, room.before_it, room.can.fits, c.loop-index.invariant.free_from.few) }
 
 pub loop-index-preserved : goal.loop-index-preserved
 loop-index-preserved g c =
-    let w = (g.S.StructSource.words c.args.items.now) in
-    let h = (g.S.StructSource.has_trees c.args.items.now) in
-    let p = g.S.Value.Fields.size in
     let d : ℕ = c.args.kept.data_words in
     let m : ℕ = c.args.kept.pointers in
-    let r = c.requires.room in
-    let le : c.args.kept.pointers ≤ g.S.Value.Fields.size = omega (arith, r.pointers_are, pointers_within c.args.canonical p (map w (g.S.StructSource.items c.args.items.now)) r.held) in
-    writing_goes_on w h c.args.canonical d m p (g.met.S.StructSource.settled c.args.items.now) (g.S.StructSource.items c.args.items.now) c.args.first _ c.loop-index.index c.loop-index.at c.loop-index.next c.write_element-next.result c.get-item.ensures.0
-    c.args.block.now c.loop-index.block c.write_element-next.new.block le (omega (arith, ap (λ (l : List ℕ). length l) c.get-item.ensures.2, c.write_element-next.ensures.wide, r.data_fits)) (omega (arith, c.loop-index-test.true, c.len-count.ensures)) c.get-item.ensures.1 c.write_element-next.ensures.len
-    (omega (arith, c.write_element-next.ensures.len, length-words_of c.write_element-next.new.block, length-words_of c.loop-index.block)) c.write_element-next.ensures.free (subst (λ (l : List ℕ). IsRowWritten (h c.get-item.ensures.0) c.args.canonical (c.loop-index.at + d) m c.loop-index.next (put c.loop-index.at (take d l) (words_of c.loop-index.block)) (words_of c.write_element-next.new.block) c.write_element-next.result) c.get-item.ensures.2
-    (row_told c.get-item.ensures.3 c.args.canonical (c.loop-index.at + d) m c.loop-index.next _ _ c.write_element-next.result c.write_element-next.ensures.written))
-    c.loop-index.invariant
+    writing_goes_on (g.S.StructSource.words c.args.items.now) (g.S.StructSource.has_trees c.args.items.now) c.args.canonical d m g.S.Value.Element.data_words g.S.Value.Fields.size (g.met.S.StructSource.settled c.args.items.now) (g.S.StructSource.items c.args.items.now) c.args.first _ c.loop-index.index c.loop-index.at c.loop-index.next c.write_element-next.result (length (words_of c.args.block.now)) c.get-item.ensures.0
+    c.args.block.now c.loop-index.block c.write_element-next.new.block c.requires.room (omega (arith, ap (λ (l : List ℕ). length l) c.get-item.ensures.2, c.write_element-next.ensures.wide, c.requires.room.data_fits)) (omega (arith, c.loop-index-test.true, c.len-count.ensures)) c.get-item.ensures.1 c.write_element-next.ensures.len
+    (omega (arith, c.write_element-next.ensures.len, length-words_of c.write_element-next.new.block, length-words_of c.loop-index.block)) c.write_element-next.ensures.free (subst (λ (l : List ℕ). IsRowWritten (g.S.StructSource.has_trees c.args.items.now c.get-item.ensures.0) c.args.canonical (c.loop-index.at + d) m c.loop-index.next (put c.loop-index.at (take d l) (words_of c.loop-index.block)) (words_of c.write_element-next.new.block) c.write_element-next.result) c.get-item.ensures.2
+    (row_told c.get-item.ensures.3 c.args.canonical (c.loop-index.at + d) m c.loop-index.next _ _ c.write_element-next.result c.write_element-next.ensures.written)) c.loop-index.invariant
 
 pub returns-clause-written : goal.returns-clause-written
-returns-clause-written g c =
-    let w = (g.S.StructSource.words c.args.items.now) in
-    let h = (g.S.StructSource.has_trees c.args.items.now) in
-    let d : ℕ = c.args.kept.data_words in
-    let m : ℕ = c.args.kept.pointers in
-    record {
-      words_are = λ held is.
-          (writing_ends w h c.args.canonical d m g.S.Value.Fields.size (g.S.StructSource.items c.args.items.now) c.args.first _ c.loop-index.index c.loop-index.at c.loop-index.next c.args.block.now c.loop-index.block (omega arith)
-          c.loop-index.invariant held is).words_are;
-      next_is = λ held is.
-          (writing_ends w h c.args.canonical d m g.S.Value.Fields.size (g.S.StructSource.items c.args.items.now) c.args.first _ c.loop-index.index c.loop-index.at c.loop-index.next c.args.block.now c.loop-index.block (omega arith)
-          c.loop-index.invariant held is).next_is;
-    }
+returns-clause-written g c = record { words_are = λ held is. (writing_ends (g.S.StructSource.words c.args.items.now) (g.S.StructSource.has_trees c.args.items.now) c.args.canonical c.args.kept.data_words c.args.kept.pointers g.S.Value.Fields.size (g.S.StructSource.items c.args.items.now) c.args.first _ c.loop-index.index c.loop-index.at c.loop-index.next c.args.block.now c.loop-index.block (omega arith) c.loop-index.invariant held is).words_are; next_is = λ held is. (writing_ends (g.S.StructSource.words c.args.items.now) (g.S.StructSource.has_trees c.args.items.now) c.args.canonical c.args.kept.data_words c.args.kept.pointers g.S.Value.Fields.size (g.S.StructSource.items c.args.items.now) c.args.first _ c.loop-index.index c.loop-index.at c.loop-index.next c.args.block.now c.loop-index.block (omega arith) c.loop-index.invariant held is).next_is }
 
 pub returns-clause-len : goal.returns-clause-len
 returns-clause-len g c = c.loop-index.invariant.long

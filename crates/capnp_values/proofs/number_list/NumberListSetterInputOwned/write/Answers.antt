@@ -1,12 +1,12 @@
 -- The numbers, in just their words.
-use Rattle.std.proofs.Common.{◌≡◌, ◌+◌, ◌-◌, ◌*◌, ◌∙◌, ℕ, List, map, length, drop, ap, sym, arith, length-take, length-drop}
+use Rattle.std.proofs.Common.{◌≡◌, ◌+◌, ◌-◌, ◌*◌, ◌∙◌, ℕ, List, map, length, ap, sym, arith}
 use Rattle.std.proofs.lemmas.List.{length-map}
 use Rattle.capnp_wire.specs.Element.{width, words_for}
 use Rattle.capnp_wire.specs.Layout.{list_pointer}
 use Rattle.capnp_wire.proofs.words.WordLemmas.{length-words_of}
 use Rattle.capnp_wire.proofs.layouts.FreeLemmas.{numbers_copied, as_formed, body_long}
 use Rattle.capnp_values.specs.NumberLists.{IsNumberList}
-use Rattle.capnp_values.proofs.NumberListLemmas.{list_fits, list_room, numbers_put}
+use Rattle.capnp_values.proofs.NumberListLemmas.{list_fits, list_room, numbers_put, part_long}
 use Rattle.capnp_values.proofs.number_list.NumberListSetterInputOwned.write.Goals as goal
 
 pub overflow_cast-count : goal.overflow_cast-count
@@ -33,15 +33,7 @@ put_numbers-requires-clause-fit g c =
 pub put_numbers-requires-clause-room : goal.put_numbers-requires-clause-room
 put_numbers-requires-clause-room g c =
     let r = list_room g.N.PrimitiveElement.code g.N.PrimitiveElement.bits_of c.args.self.now.items.now c.args._canonical c.args.next _ c.requires.value in
-    let n : ℕ = c.words_of_list.result in
-    omega (
-      arith,
-      r.1,
-      c.words_of_list.ensures.words,
-      length-words_of c.args.block.now,
-      length-take (8 * (c.args.next + c.words_of_list.result) - 8 * c.args.next) (drop (8 * c.args.next) c.args.block.now),
-      length-drop (8 * c.args.next) c.args.block.now,
-    )
+    omega (arith, c.words_of_list.ensures.words, part_long c.args.next c.words_of_list.result c.args.block.now (omega (arith, r.1, c.words_of_list.ensures.words)))
 
 pub returns-clause-written : goal.returns-clause-written
 returns-clause-written g c trees is =
@@ -51,15 +43,7 @@ returns-clause-written g c trees is =
     let same : length c.args.self.now.items.now ≡ length (map g.N.PrimitiveElement.bits_of c.args.self.now.items.now) = sym (length-map c.args.self.now.items.now g.N.PrimitiveElement.bits_of) in
     let size : 8 * (c.args.next + c.words_of_list.result) - 8 * c.args.next ≡ 8 * words_for (length c.args.self.now.items.now) (width g.N.PrimitiveElement.code) = omega (arith, c.words_of_list.ensures.words) in
     let long : length c.put_numbers.new.block ≡ 8 * words_for (length c.args.self.now.items.now) (width g.N.PrimitiveElement.code) =
-    omega (
-      arith,
-      c.put_numbers.auto.block,
-      size,
-      r.1,
-      length-words_of c.args.block.now,
-      length-take (8 * (c.args.next + c.words_of_list.result) - 8 * c.args.next) (drop (8 * c.args.next) c.args.block.now),
-      length-drop (8 * c.args.next) c.args.block.now,
-    ) in
+    omega (arith, c.put_numbers.auto.block, c.words_of_list.ensures.words, part_long c.args.next c.words_of_list.result c.args.block.now (omega (arith, r.1, c.words_of_list.ensures.words))) in
     as_formed c.args._canonical code bits trees _ c.args.next _ _ _ is.1
     (numbers_copied code bits _ c.args.next _ _ _
     (numbers_put code (length c.args.self.now.items.now) c.args.next _ bits c.args.block.now c.put_numbers.new.block same c.put_numbers.ensures long size (omega (arith, r.1)))

@@ -13,50 +13,31 @@ use Rattle.capnp_values.proofs.fields.field.FieldFields.measure.Goals as goal
 
 pub returns-in_err-own-clause-found : goal.returns-in_err-own-clause-found
 returns-in_err-own-clause-found g c trees is =
-    let h = g.V.SetterInput.has_tree c.args.self.now.value in
-    let found = c.measure_part.ensures.found (part_sizes c.args.canonical is.form is.held) (has_part h c.args.canonical is.form is.held is.part) in
+    let found = c.measure_part.ensures.found (part_sizes c.args.canonical is.form is.held) (has_part (g.V.SetterInput.has_tree c.args.self.now.value) c.args.canonical is.form is.held is.part) in
     let was : c.measure_part.result ≡ Err c.in_err-own.field-0.0 = c.in_err-own.was in
     absurd (cc)
 
 pub returns-in_err-own-clause-exact : goal.returns-in_err-own-clause-exact
 returns-in_err-own-clause-exact g c kind refused =
-    let was : c.measure_part.result ≡ Err c.in_err-own.field-0.0 = c.in_err-own.was in
-    let same : c.in_err-own.field-0.0.kind ≡ kind =
-    refused_first (g.V.SetterInput.has_tree c.args.self.now.value) (g.V.SetterInput.refuses c.args.self.now.value) (g.F.Fields.refuses c.args.self.now.rest) c.args.canonical
-    c.measure_part.result c.in_err-own.field-0.0 kind was c.measure_part.ensures.found c.measure_part.ensures.exact refused in
+    let same : c.in_err-own.field-0.0.kind ≡ kind = refused_first (g.V.SetterInput.has_tree c.args.self.now.value) (g.V.SetterInput.refuses c.args.self.now.value) (g.F.Fields.refuses c.args.self.now.rest) c.args.canonical c.measure_part.result c.in_err-own.field-0.0 kind c.in_err-own.was c.measure_part.ensures.found c.measure_part.ensures.exact refused in
     search rules
 
 pub returns-in_err-rest-clause-returned : goal.returns-in_err-rest-clause-returned
 returns-in_err-rest-clause-returned g c =
-    let h = g.V.SetterInput.has_tree c.args.self.now.value in
-    let own = standing_words h c.args.canonical c.in_ok-own.own c.in_ok-own.ensures.returned in
-    let refused : RefusesRow h (g.V.SetterInput.refuses c.args.self.now.value) (g.F.Fields.refuses c.args.self.now.rest) c.in_err-rest.field-0.0.kind =
-    inr (c.in_ok-own.own.standing, own, c.in_err-rest.ensures.returned) in
+    let own = standing_words (g.V.SetterInput.has_tree c.args.self.now.value) c.args.canonical c.in_ok-own.own c.in_ok-own.ensures.returned in
+    let refused : RefusesRow (g.V.SetterInput.has_tree c.args.self.now.value) (g.V.SetterInput.refuses c.args.self.now.value) (g.F.Fields.refuses c.args.self.now.rest) c.in_err-rest.field-0.0.kind = inr (c.in_ok-own.own.standing, own, c.in_err-rest.ensures.returned) in
     search rules
 
 pub returns-in_err-rest-clause-exact : goal.returns-in_err-rest-clause-exact
 returns-in_err-rest-clause-exact g c kind refused =
-    let was_rest : c.measure.result ≡ Err c.in_err-rest.field-0.0 = c.in_err-rest.was in
-    let others : g.F.Fields.refuses c.args.self.now.rest kind =
-    refused_rest (g.V.SetterInput.has_tree c.args.self.now.value) (g.V.SetterInput.refuses c.args.self.now.value) (g.F.Fields.refuses c.args.self.now.rest)
-    c.measure_part.result c.in_ok-own.own kind c.in_ok-own.was c.measure_part.ensures.exact refused in
-    let same : c.in_err-rest.field-0.0.kind ≡ kind = err_kind c.measure.result c.in_err-rest.field-0.0 kind was_rest (c.measure.ensures.exact kind others) in
+    let others : g.F.Fields.refuses c.args.self.now.rest kind = refused_rest (g.V.SetterInput.has_tree c.args.self.now.value) (g.V.SetterInput.refuses c.args.self.now.value) (g.F.Fields.refuses c.args.self.now.rest) c.measure_part.result c.in_ok-own.own kind c.in_ok-own.was c.measure_part.ensures.exact refused in
+    let same : c.in_err-rest.field-0.0.kind ≡ kind = err_kind c.measure.result c.in_err-rest.field-0.0 kind c.in_err-rest.was (c.measure.ensures.exact kind others) in
     search rules
 
-pub front-requires-clause-pointers : goal.front-requires-clause-pointers
-front-requires-clause-pointers g c =
+pub front-requires : goal.front-requires
+front-requires g c =
     let a = c.in_ok-rest.ensures.returned in
-    (bounded c.args.canonical g.F.Fields.size a.0 c.in_ok-rest.rest (omega (arith, c.requires)) (g.met.F.Fields.settled c.args.self.now.rest a.0 a.1) a.2).pointers_few
-
-pub front-requires-clause-words : goal.front-requires-clause-words
-front-requires-clause-words g c =
-    let a = c.in_ok-rest.ensures.returned in
-    (bounded c.args.canonical g.F.Fields.size a.0 c.in_ok-rest.rest (omega (arith, c.requires)) (g.met.F.Fields.settled c.args.self.now.rest a.0 a.1) a.2).words_few
-
-pub front-requires-clause-standing : goal.front-requires-clause-standing
-front-requires-clause-standing g c =
-    let a = c.in_ok-rest.ensures.returned in
-    (bounded c.args.canonical g.F.Fields.size a.0 c.in_ok-rest.rest (omega (arith, c.requires)) (g.met.F.Fields.settled c.args.self.now.rest a.0 a.1) a.2).standing_few
+    bounded c.args.canonical g.F.Fields.size a.0 c.in_ok-rest.rest (omega (arith, c.requires)) (g.met.F.Fields.settled c.args.self.now.rest a.0 a.1) a.2
 
 pub returns-clause-returned : goal.returns-clause-returned
 returns-clause-returned g c =
@@ -67,15 +48,11 @@ returns-clause-returned g c =
 pub returns-clause-found : goal.returns-clause-found
 returns-clause-found g c trees is =
     let k = c.args.canonical in
-    let h = g.V.SetterInput.has_tree c.args.self.now.value in
-    let own = same_parts c.measure_part.result c.in_ok-own.own (part_sizes k is.form is.held) c.in_ok-own.was (c.measure_part.ensures.found (part_sizes k is.form is.held) (has_part h k is.form is.held is.part)) in
+    let own = same_parts c.measure_part.result c.in_ok-own.own (part_sizes k is.form is.held) c.in_ok-own.was (c.measure_part.ensures.found (part_sizes k is.form is.held) (has_part (g.V.SetterInput.has_tree c.args.self.now.value) k is.form is.held is.part)) in
     let rest = same_extents c.measure.result c.in_ok-rest.rest (extent_of k is.rest) c.in_ok-rest.was (c.measure.ensures.found is.rest is.others) in
-    ap (λ (x : Extent). Ok x)
-    (c.front.ensures is.form is.held is.rest is.part (ap (λ (w : PartWords). w.standing) own) (ap (λ (w : PartWords). w.formed) own) rest ∙ sym (ap (λ (t : Trees). extent_of k t) is.whole))
+    ap (λ (x : Extent). Ok x) (c.front.ensures is.form is.held is.rest is.part (ap (λ (w : PartWords). w.standing) own) (ap (λ (w : PartWords). w.formed) own) rest ∙ sym (ap (λ (t : Trees). extent_of k t) is.whole))
 
 pub returns-clause-exact : goal.returns-clause-exact
 returns-clause-exact g c kind refused =
-    let others : g.F.Fields.refuses c.args.self.now.rest kind =
-    refused_rest (g.V.SetterInput.has_tree c.args.self.now.value) (g.V.SetterInput.refuses c.args.self.now.value) (g.F.Fields.refuses c.args.self.now.rest)
-    c.measure_part.result c.in_ok-own.own kind c.in_ok-own.was c.measure_part.ensures.exact refused in
+    let others : g.F.Fields.refuses c.args.self.now.rest kind = refused_rest (g.V.SetterInput.has_tree c.args.self.now.value) (g.V.SetterInput.refuses c.args.self.now.value) (g.F.Fields.refuses c.args.self.now.rest) c.measure_part.result c.in_ok-own.own kind c.in_ok-own.was c.measure_part.ensures.exact refused in
     ok_not_err c.measure.result c.in_ok-rest.rest (λ error. error.kind ≡ kind) c.in_ok-rest.was (c.measure.ensures.exact kind others)

@@ -1,0 +1,130 @@
+//! Lists of the structs of any source, with the tag in front of them (encoding document, "Lists").
+ghost use Rattle.std.specs.Prelude.{◌≡◌, ◌+◌, ◌-◌, ◌*◌, ◌^◌, ◌<◌, ◌≤◌, ◌∷◌, [], length, MatchResult};
+ghost use Rattle.capnp_wire.specs.Pointer.{words_of};
+ghost use Rattle.capnp_wire.specs.Tree.{Trees, total_words};
+ghost use Rattle.capnp_wire.specs.Layout.{body, formed, list_pointer, struct_pointer};
+ghost use Rattle.capnp_wire.specs.Block.{put};
+ghost use Rattle.capnp_wire.specs.Copy.{IsCopied};
+ghost use Rattle.capnp_wire.specs.Values.{HasRoomAt, IsFreeFrom};
+ghost use Rattle.capnp_values.specs.Measured.{Measures};
+ghost use Rattle.capnp_values.specs.StructLists.{AreRowsWritten, IsStructList, RefusesStructList, TooManyStructs};
+ghost use Rattle.capnp_values.specs.StructListPlaces.{AreTold, IsTold, ListPlace};
+
+use crate::element::Element;
+use crate::fields::Fields;
+use crate::measured::{TreeWords, too_many};
+use crate::rows::{KeptWords, Reach, kept_by_each, measure_rows, write_rows};
+use crate::sources::StructSource;
+use capnp_frame::{Error, ErrorKind, Result};
+use capnp_wire::pointer_word::{list_word, put_word, struct_word};
+use capnp_wire::traits::Copied;
+
+/// The words of a list of some structs.
+pub(crate) fn measure_list<S: StructSource>(items: &S, canonical: bool) -> Result<TreeWords>
+    ensures { Measures (IsStructList (S.words items.now) (S.has_trees items.now)
+        S.Value.data_words S.Value.size (S.items items.now))
+        (RefusesStructList (S.has_trees items.now) (S.refuses items.now)
+        S.Value.data_words S.Value.size (S.items items.now)) canonical result }
+{
+    let count = items.len();
+    let data_words = S::Value::data_words();
+    let pointers = S::Value::count();
+    elements_fit(count, data_words, pointers)?;
+    let reach = measure_rows(items, canonical)?;
+    Ok(with_tag(count, data_words, pointers, reach))
+}
+
+// A pointer and a tag can tell as many structs of this size.
+fn elements_fit(count: usize, data_words: usize, pointers: u32) -> Result<()>
+    ensures { MatchResult result
+        (λ _. (data_words < 2 ^ 16) × (pointers < 2 ^ 16) × (count < 2 ^ 29)
+        × (count * (data_words + pointers) < 2 ^ 29))
+        (λ error. TooManyStructs count data_words pointers error.kind) }
+{
+    if data_words >= 1 << 16 || pointers >= 1 << 16 {
+        return Err(Error::from_kind(ErrorKind::AllocationTooLarge(1 << 16)));
+    }
+    if count >= 1 << 29 {
+        return Err(too_many(count as u64));
+    }
+    let words = count * (data_words + pointers as usize);
+    if words >= 1 << 29 {
+        return Err(too_many(words as u64));
+    }
+    Ok(())
+}
+
+// The words of a tag, of the elements, and of all that these lead to.
+fn with_tag(count: usize, data_words: usize, pointers: u32, reach: Reach) -> TreeWords
+    requires told { AreTold count data_words pointers }
+    requires kept { IsTold count data_words pointers reach.data_words reach.pointers }
+    requires few { reach.words + reach.standing < 2 ^ 59 }
+    ensures standing { result.standing ≡ 1 + count * (data_words + pointers) + reach.standing }
+    ensures formed { result.formed
+        ≡ 1 + count * (reach.data_words + reach.pointers) + reach.words }
+{
+    let all = count * (data_words + pointers as usize);
+    let kept = count * (reach.data_words + reach.pointers as usize);
+    let standing = 1 + all as u64 + reach.standing;
+    let formed = 1 + kept as u64 + reach.words;
+    TreeWords { standing, formed }
+}
+
+/// Writes a list of some structs into a block, as a value is written.
+pub(crate) fn write_list<S: StructSource>(
+    items: &S,
+    canonical: bool,
+    block: &mut [u8],
+    following: usize,
+    next: usize,
+) -> Copied
+    requires value { HasRoomAt (IsStructList (S.words items.now) (S.has_trees items.now)
+        S.Value.data_words S.Value.size (S.items items.now)) canonical next
+        (length (words_of block.old)) }
+    requires free { IsFreeFrom next block.old }
+    requires following { following ≤ next }
+    ensures written { (trees : Trees) → IsStructList (S.words items.now) (S.has_trees items.now)
+        S.Value.data_words S.Value.size (S.items items.now) trees →
+        IsCopied (formed canonical trees) (next - following) next
+        (words_of block.old) (words_of block.new) result }
+    ensures long { (trees : Trees) → IsStructList (S.words items.now) (S.has_trees items.now)
+        S.Value.data_words S.Value.size (S.items items.now) trees →
+        length (body (formed canonical trees)) ≡ total_words (formed canonical trees) }
+    ensures len { length block.new ≡ length block.old }
+{
+    let kept = kept_by_each(items, canonical);
+    write_tagged(items, canonical, kept, block, following, next)
+}
+
+// Writes the tag, the elements, and what these lead to.
+fn write_tagged<S: StructSource>(
+    items: &S,
+    canonical: bool,
+    kept: KeptWords,
+    block: &mut [u8],
+    following: usize,
+    next: usize,
+) -> Copied
+    requires place { ListPlace (S.words items.now) (S.has_trees items.now) canonical
+        S.Value.data_words S.Value.size kept.data_words kept.pointers (S.items items.now)
+        next (length (words_of block.old)) }
+    requires free { IsFreeFrom next block.old }
+    requires following { following ≤ next }
+    ensures rows { AreRowsWritten (S.words items.now) (S.has_trees items.now) canonical
+        kept.data_words kept.pointers S.Value.size (S.items items.now) (next + 1)
+        (next + 1 + length (S.items items.now) * (kept.data_words + kept.pointers))
+        (put next (struct_pointer (length (S.items items.now)) kept.data_words kept.pointers ∷ [])
+        (words_of block.old)) (words_of block.new) result.next }
+    ensures pointer { result.pointer ≡ list_pointer (next - following) 7
+        (length (S.items items.now) * (kept.data_words + kept.pointers)) }
+    ensures len { length block.new ≡ length block.old }
+{
+    let count = items.len();
+    let words = count * (kept.data_words + kept.pointers as usize);
+    let tag = struct_word(count as u64, kept.data_words as u16, kept.pointers as u16);
+    put_word(block, next, tag);
+    Copied {
+        pointer: list_word((next - following) as u64, 7, words as u64),
+        next: write_rows(items, canonical, kept, block, next + 1),
+    }
+}
