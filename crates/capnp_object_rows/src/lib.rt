@@ -11,6 +11,8 @@ mod hostile;
 #[cfg(test)]
 mod hostile_messages;
 #[cfg(test)]
+mod made_lists;
+#[cfg(test)]
 mod regions;
 #[cfg(test)]
 mod roots;
