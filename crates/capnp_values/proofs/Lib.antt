@@ -22,3 +22,4 @@ pub mod FillRowLemmas
 pub mod RowMeasureLemmas
 pub mod KeptRowLemmas
 pub mod SourceLemmas
+pub mod DataSectionLemmas

@@ -3,6 +3,7 @@ pub mod Measured
 pub mod Fields
 pub mod FieldLaws
 pub mod Structs
+pub mod DataSections
 pub mod Lists
 pub mod StructLists
 pub mod StructListPlaces

@@ -9,9 +9,11 @@
 #![tactic(auto)]
 
 pub mod borrowed;
+mod data_section;
 pub mod element;
 pub mod fields;
 mod items;
+pub mod laws;
 pub mod made_pointer_list;
 pub mod made_struct_list;
 mod measured;
