@@ -1,9 +1,9 @@
 //! The lines of framed messages, whose segments are skipped.
-ghost use Rattle.std.specs.Prelude.{◌≡◌, ◌<◌, ◌⊎◌, ◌^◌, length, IfSome, OnOk, IfErr};
+ghost use Rattle.std.specs.Prelude.{◌≡◌, ◌<◌, ◌⊎◌, ◌^◌, ℕ, List, [], length, Option, None, Err, IfSome, IfOk, OnOk, IfErr};
 ghost use Rattle.capnp.specs.Passed.{ErrorKind, IsReaderKind, IfKnown, Advances, Fails, Adds, Grows, SkipsMessage, ReadsStream, default_limit};
 ghost use Rattle.capnp.specs.declared.streams.Format.{Format};
 ghost use Rattle.capnp.specs.Streams.{refuses_of, rules_of};
-ghost use Rattle.capnp.specs.Runs.{IsRunFault, HasRun, WritesEach};
+ghost use Rattle.capnp.specs.Runs.{IsRunFault, HasWritten, HasWrittenNext, HasRun, WritesEach};
 ghost use Rattle.capnp_ls.specs.declared.command.Command.{Command};
 ghost use Rattle.capnp_ls.specs.Output.{line_of, Prints, DeclinesPrinted};
 
@@ -55,17 +55,57 @@ fn list_all<R: BufRead, W: Write>(
     let mut spare = SegmentLengthsBuilder::empty(alloc);
     let mut text = Vec::new(alloc);
     for message in 0..u64::MAX {
-        let lengths = match skip_next(padding, source, spare) {
-            Ok(Some(lengths)) => lengths,
+        match list_next(padding, source, message, spare, &mut text, sink) {
+            Ok(Some(lengths)) => spare = lengths,
             Ok(None) => return Ok(()),
-            Err(error) => return Err(StoppedAt { message, error }),
-        };
-        match print_line(&mut text, message, &lengths, sink) {
-            Ok(()) => spare = lengths,
             Err(error) => return Err(StoppedAt { message, error }),
         }
     }
     Ok(())
+}
+
+// Prints the line of the next message, of this index, if one is left, and returns its lengths.
+fn list_next<R: BufRead, W: Write>(
+    padding: Padding,
+    source: &mut R,
+    message: u64,
+    spare: SegmentLengthsBuilder,
+    text: &mut Vec<u8>,
+    sink: &mut W,
+) -> Result<Option<SegmentLengthsBuilder>>
+    ensures listed { IfOk result (λ next. IfSome next (λ lengths.
+        IfKnown (R.unread source.old) (R.unread source.new) (HasWrittenNext padding Format.Framed
+        default_limit (Prints (Command.Listing Format.Framed padding) W.appends) message
+        (W.written sink.old) (W.written sink.new)))) }
+    ensures none { IfOk result (λ next. next ≡ None → (sink.new ≡ sink.old)
+        × IfSome (R.unread source.old) (λ raw. raw ≡ [])) }
+    // What a run of so many lines comes to, that stops here.
+    ensures stopped { IfErr result (λ error. (first before : Option (List ℕ))
+        → IfKnown first (R.unread source.old) (HasWritten padding Format.Framed default_limit
+        (Prints (Command.Listing Format.Framed padding) W.appends) message before (W.written sink.old))
+        → IfSome first (HasRun padding Format.Framed default_limit
+        (Prints (Command.Listing Format.Framed padding) W.appends)
+        (DeclinesPrinted (Command.Listing Format.Framed padding) W.refuses)
+        (Err (record { message = message; error = error }))
+        (R.unread source.new) before (W.written sink.new))) }
+    ensures kinds { IfErr result (λ error. IsReaderKind padding (refuses_of Format.Framed) error.kind
+        ⊎ IsRunFault (DeclinesPrinted (Command.Listing Format.Framed padding) W.refuses)
+        message error.kind) }
+    ensures failed { IfErr result (λ error. error.kind ≡ ErrorKind.DeviceFailed →
+        Fails (R.failures source.old) (R.failures source.new)
+        ⊎ Fails (W.failures sink.old) (W.failures sink.new)) }
+    ensures advances { Advances R.unread R.failures R.same source.old source.new }
+    ensures grows { Grows W.written W.failures W.same sink.old sink.new }
+{
+    let lengths = match skip_next(padding, source, spare) {
+        Ok(Some(lengths)) => lengths,
+        Ok(None) => return Ok(None),
+        Err(error) => return Err(error),
+    };
+    match print_line(text, message, &lengths, sink) {
+        Ok(()) => Ok(Some(lengths)),
+        Err(error) => Err(error),
+    }
 }
 
 // Skips the next message, its padding by the rule, and returns the lengths of its segments.
