@@ -79,7 +79,7 @@ fn list_next<R: BufRead, W: Write>(
         (W.written sink.old) (W.written sink.new)))) }
     ensures none { IfOk result (λ next. next ≡ None → (sink.new ≡ sink.old)
         × IfSome (R.unread source.old) (λ raw. raw ≡ [])) }
-    // What a run of so many lines comes to, that stops here.
+    // What a run comes to that has written the lines before this one, and stops here.
     ensures stopped { IfErr result (λ error. (first before : Option (List ℕ))
         → IfKnown first (R.unread source.old) (HasWritten padding Format.Framed default_limit
         (Prints (Command.Listing Format.Framed padding) W.appends) message before (W.written sink.old))
