@@ -1,5 +1,5 @@
 -- Values that are written into a part of a segment, which is just their words.
-use Rattle.std.proofs.Common.{◌≡◌, ℕ, ◌+◌, ◌-◌, ◌*◌, ◌/◌, ◌%◌, ◌≤◌, ◌<◌, ◌^◌, Bool, List, ◌∷◌, ◌++◌, length, take, drop, ◌∙◌, ap, arith, length-take, length-drop, drop-drop}
+use Rattle.std.proofs.Common.{◌≡◌, ℕ, ◌+◌, ◌-◌, ◌/◌, ◌%◌, ◌≤◌, Bool, List, ◌∷◌, ◌++◌, length, take, drop, ◌∙◌, ap, arith, length-take, length-drop, drop-drop}
 use Rattle.std.specs.Prelude.{replicate}
 use Rattle.capnp_frame.specs.Words.{bytes_of}
 use Rattle.capnp_frame.specs.declared.words.Word.{Word}

@@ -1,5 +1,5 @@
 -- New objects as trees.
-use Rattle.std.proofs.Common.{◌≡◌, ℕ, zero, suc, ◌+◌, ◌-◌, ◌*◌, ◌/◌, ◌%◌, ◌^◌, ◌<◌, ◌≤◌, ◌==◌, if◌then◌else◌, Bool, true, false, List, [], ◌∷◌, ◌++◌, length, take, drop, replicate, refl, ap, sym, subst, ◌∙◌, arith, drop-drop}
+use Rattle.std.proofs.Common.{◌≡◌, ℕ, zero, suc, ◌+◌, ◌-◌, ◌*◌, ◌^◌, ◌<◌, ◌≤◌, ◌==◌, if◌then◌else◌, Bool, true, false, List, [], ◌∷◌, ◌++◌, length, take, drop, replicate, refl, ap, sym, subst, ◌∙◌, arith, drop-drop}
 use Rattle.std.proofs.lemmas.List.{append-nil, length-replicate, drop-replicate, replicate-append-replicate, take-append-drop}
 use Rattle.std.proofs.lemmas.List.Elements.{All-replicate}
 use Rattle.capnp_wire.specs.Pointer.{number_of, digits, words_of}

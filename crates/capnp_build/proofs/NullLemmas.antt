@@ -113,9 +113,14 @@ first_size spaces there r =
 pub null_root : (spaces : List Space) → 0 < length spaces → HasNullRoot spaces → (traversed : ℕ) × At (message spaces) (root ∷ []) (tree null none none) traversed
 null_root spaces there r = null_tree spaces there r
 
-pub null_only : (spaces : List Space) (f : Form) (h : Trees) (traversed : ℕ) → HasNullRoot spaces → At (message spaces) (root ∷ []) (tree f h none) traversed → f ≡ null
-null_only spaces f h traversed r there =
+-- of a null root there is no tree but null
+pub null_tree_only : (spaces : List Space) (f : Form) (h : Trees) (traversed : ℕ) → HasNullRoot spaces → At (message spaces) (root ∷ []) (tree f h none) traversed → tree null none none ≡ tree f h none
+null_tree_only spaces f h traversed r there =
     let some : 0 < length spaces = root_there spaces (root ∷ []) (tree f h none) traversed refl there in
     let t = null_tree spaces some r in
-    let same : tree null none none ≡ tree f h none = (one_tree (message spaces) (root ∷ []) (tree null none none) (tree f h none) t.0 traversed t.1 there).0 in
+    (one_tree (message spaces) (root ∷ []) (tree null none none) (tree f h none) t.0 traversed t.1 there).0
+
+pub null_only : (spaces : List Space) (f : Form) (h : Trees) (traversed : ℕ) → HasNullRoot spaces → At (message spaces) (root ∷ []) (tree f h none) traversed → f ≡ null
+null_only spaces f h traversed r there =
+    let same : tree null none none ≡ tree f h none = null_tree_only spaces f h traversed r there in
     let forms : null ≡ f = cc in sym forms

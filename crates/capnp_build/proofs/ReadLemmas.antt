@@ -33,7 +33,7 @@ list_body values all =
     append-nil (own_is ++ []) ∙ append-nil own_is ∙ ap (λ (k : ℕ). digits (2 ^ 64) k (number_of (2 ^ 64) values)) n ∙ digits-number_of (2 ^ 64) values all
 
 -- the words of the body
-body_words : (spaces : List Space) (location : RootLocation) (form : Form) (held : Trees) → IsLaid spaces location form held → words_of (body_bytes spaces location) ≡ body (tree form held none)
+pub body_words : (spaces : List Space) (location : RootLocation) (form : Form) (held : Trees) → IsLaid spaces location form held → words_of (body_bytes spaces location) ≡ body (tree form held none)
 body_words spaces location form held r =
     let old : List ℕ = (space_at spaces location.segment).used in
     sym (part_words location.start location.words old r.body_is.room) ∙ ap (words_from (words_of old) location.start) r.body_is.size ∙ r.body_is.laid.words_are

@@ -1,10 +1,9 @@
 -- Words of segments.
 use Rattle.std.proofs.Common.{slice_index_or, slice_get, None, Some, ◌≡◌, ℕ, zero, suc, ◌+◌, ◌*◌, ◌/◌, ◌^◌, ◌<◌, ◌≤◌, List, [], ◌∷◌, length, map, take, drop, slice_set, w64, refl, ap, sym}
-use Rattle.std.proofs.Common.{◌∙◌, arith, length-take, length-drop, replicate, All}
+use Rattle.std.proofs.Common.{◌∙◌, arith, length-take, length-drop}
 use Rattle.std.specs.Int.{to_le_bytes}
 use Rattle.std.specs.Simd.{first_chunks}
-use Rattle.std.proofs.lemmas.List.{take-take, drop-drop, drop-take, length-replicate}
-use Rattle.std.proofs.lemmas.List.Elements.{All-take, All-drop, All-replicate}
+use Rattle.std.proofs.lemmas.List.{take-take, drop-drop, drop-take}
 use Rattle.capnp_wire.specs.Pointer.{number_of, words_of, words_from}
 use Rattle.capnp_wire.proofs.words.WordLemmas.{length-words_of}
 use Rattle.capnp_build.specs.Bytes.{written}

@@ -1,12 +1,14 @@
 -- What the calls keep that return a view of the root's object, or write through one (src/arena/root.rt, src/any_pointer.rt
 -- and the views). `message` is the reference that a view holds, and `built` what is seen of the message after it.
-use Rattle.std.specs.Prelude.{◌≡◌, ◌⊎◌, ℕ, ◌^◌, ◌<◌, List, length, map, Result, IfOk, IfErr, IsOk, MatchResult}
+use Rattle.std.specs.Prelude.{◌≡◌, ◌⊎◌, ℕ, ◌*◌, ◌^◌, ◌<◌, List, [], length, map, Result, IfOk, IfErr, IsOk, MatchResult}
 use Rattle.std.specs.Borrow.{MutBor}
 use Rattle.std.specs.Result.{IsErrAnd}
 use Rattle.capnp_frame.specs.declared.error.Error.{Error}
 use Rattle.capnp_frame.specs.declared.error.ErrorKind.{ErrorKind}
-use Rattle.capnp_wire.specs.Tree.{Form, none}
+use Rattle.capnp_wire.specs.Pointer.{words_of}
+use Rattle.capnp_wire.specs.Tree.{Form, Trees, none, tree, total_words}
 use Rattle.capnp_wire.specs.Reached.{Root}
+use Rattle.capnp_wire.specs.Layout.{body}
 use Rattle.capnp_wire.specs.Readers.{unlimited_root}
 use Rattle.capnp_wire.specs.Views.{Pointer, Measures, Unmeasured}
 use Rattle.capnp_wire.specs.declared.message_size.MessageSize.{MessageSize}
@@ -71,3 +73,10 @@ pub record SizesRoot (spaces : List Space) (result : Result MessageSize Error) :
       (λ size. Measures pointer size.word_count × (size.cap_count ≡ 0)) (λ error. Unmeasured pointer error.kind)
   pub measured : (words : ℕ) → Measures (unlimited_root (map used_of spaces)) words → words < 2 ^ 64 → IsOk result
   pub exact : (kind : ErrorKind) → Unmeasured (unlimited_root (map used_of spaces)) kind → IsErrAnd result (λ error. error.kind ≡ kind)
+
+-- The bytes of the root's object and of what it holds: the words of the whole tree, and nothing behind them.
+pub record HoldsTree (spaces : List Space) (bytes : List ℕ) : Type 0 where
+  pub words : (form : Form) (held : Trees) (traversed : ℕ) → Root (words_of_message spaces) form held traversed → words_of bytes ≡ body (tree form held none)
+  pub size : (form : Form) (held : Trees) (traversed : ℕ) → Root (words_of_message spaces) form held traversed → length bytes ≡ 8 * total_words (tree form held none)
+  -- there is no segment yet
+  pub empty : spaces ≡ [] → bytes ≡ []

@@ -21,7 +21,7 @@ pub enum RootKind {
 }
 
 /// What a pointer word says.
-pub fn read_tag(tag: u64) -> RootKind
+pub(crate) fn read_tag(tag: u64) -> RootKind
     ensures { (form : Form) (n : ℕ) → HasRoom form n → tag ≡ pointer form n 0 → ShowsRoot result form }
 {
     if tag == 0 {
@@ -39,7 +39,7 @@ pub fn read_tag(tag: u64) -> RootKind
 }
 
 /// A word of some bytes; 0 past the last whole one.
-pub fn word_at(bytes: &[u8], index: u32) -> u64
+pub(crate) fn word_at(bytes: &[u8], index: u32) -> u64
     ensures { result ≡ slice_index_or (words_of bytes.now) index 0 }
 {
     let (words, _) = bytes.as_chunks::<8>();

@@ -6,7 +6,7 @@ ghost use Rattle.capnp_build.specs.Written.{HasField, IsFieldSet, HasBytes, IsBy
 ghost use Rattle.capnp_build.specs.Placed.{DeclinesRoot, InitWords, FoundNoRoom};
 ghost use Rattle.capnp_build.specs.RootKind.{ShowsRoot, HoldsForm};
 ghost use Rattle.capnp_build.specs.Outcomes.{SetsRoot, InitsRoot, LacksFirst};
-ghost use Rattle.capnp_build.specs.RootViews.{WritesRoot, SizesRoot};
+ghost use Rattle.capnp_build.specs.RootViews.{WritesRoot, SizesRoot, HoldsTree};
 
 use crate::allocator::Allocator;
 use crate::arena::builder_arena::BuilderArena;
@@ -31,7 +31,8 @@ pub trait Building: Drop {
 
     /// The words of the tree at the root, after its pointer; none where it is null.
     fn root_bytes(&self) -> &[u8]
-        ensures { ForRoot (built self.now).spaces (HoldsForm result.now) };
+        ensures form { ForRoot (built self.now).spaces (HoldsForm result.now) }
+        ensures tree { HoldsTree (built self.now).spaces result.now };
 
     /// Sets a data word of the struct at the root.
     fn set_word(&mut self, index: u16, word: u64)

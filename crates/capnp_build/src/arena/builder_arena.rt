@@ -12,6 +12,7 @@ ghost use Rattle.capnp_wire.specs.Layout.{pointer};
 ghost use Rattle.capnp_wire.specs.Readers.{pointer_of, unlimited_root};
 ghost use Rattle.capnp_build.specs.Outcomes.{ClearsRoot, EnsuresRoot, NotTakenAtHome, IsNewMessage, GivesBack};
 ghost use Rattle.capnp_build.specs.Blocks.{LeavesNull};
+ghost use Rattle.capnp_build.specs.RootViews.{HoldsTree};
 
 use crate::allocator::Allocator;
 use crate::arena::location::RootLocation;
@@ -119,7 +120,8 @@ impl<A: Allocator> BuilderArena<A> {
 
     /// The words of the tree at the root, after its pointer; none where it is null.
     pub fn root_bytes(&self) -> &[u8]
-        ensures { ForRoot self.now.spaces (HoldsForm result.now) }
+        ensures form { ForRoot self.now.spaces (HoldsForm result.now) }
+        ensures tree { HoldsTree self.now.spaces result.now }
     {
         let Some(location) = self.location else {
             return &[];

@@ -8,7 +8,7 @@ pub returns-clause-root : goal.returns-clause-root
 returns-clause-root g c = λ form held traversed there words is.
     let many : c.data_words.result ≡ length words = c.data_words.ensures.count form held traversed there words is in
     let within : c.args.index < length words = omega (arith, many, c.if-index-data_words.false) in
-    c.word_at.ensures ∙ field_read form c.root_bytes.result.now words c.args.index (c.root_bytes.ensures form held traversed there) is within
+    c.word_at.ensures ∙ field_read form c.root_bytes.result.now words c.args.index (c.root_bytes.ensures.form form held traversed there) is within
 
 pub returns-clause-none : goal.returns-clause-none
 returns-clause-none g c = λ empty.

@@ -1,5 +1,5 @@
 -- A block of zeros is a new object.
-use Rattle.std.proofs.Common.{◌+◌, ◌-◌, ◌∙◌, ap, arith}
+use Rattle.std.proofs.Common.{◌-◌, ◌∙◌, ap, arith}
 use Rattle.capnp_build.specs.Body.{body_tag, words_of_body}
 use Rattle.capnp_build.proofs.NewObjectLemmas.{new_object_written, new_object_long}
 use Rattle.capnp_build.proofs.new_object.NewObjectSetterInputOwned.write.Goals as goal

@@ -5,4 +5,4 @@ use Rattle.capnp_build.proofs.arena.builder_arena.BuilderArena.accept_root.Goals
 pub returns : goal.returns
 returns g c =
     looks_at_root g.A.Allocator g.K.OwnedBuilder _ _ c.root_kind.result c.root_bytes.result.now c.accept.result c.in_ok-ensure_root.ensures
-    c.root_kind.ensures.form c.root_bytes.ensures c.accept.ensures.taken c.accept.ensures.declined
+    c.root_kind.ensures.form c.root_bytes.ensures.form c.accept.ensures.taken c.accept.ensures.declined
