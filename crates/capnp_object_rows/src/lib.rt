@@ -7,6 +7,8 @@ mod builder_memory;
 #[cfg(test)]
 mod calls;
 #[cfg(test)]
+mod data_sections;
+#[cfg(test)]
 mod hostile;
 #[cfg(test)]
 mod hostile_messages;
