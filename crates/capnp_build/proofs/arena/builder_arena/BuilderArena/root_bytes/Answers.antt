@@ -29,8 +29,8 @@ its_bytes : (spaces : List Space) (location : RootLocation) → IsBuilt spaces (
 its_bytes spaces location p = record {
   words = λ form held traversed there. body_words spaces location form held (laid_as spaces location p.0 form p.1 held traversed p.2 there);
   size = λ form held traversed there.
-    let r = laid_as spaces location p.0 form p.1 held traversed p.2 there in
-    body_long spaces location form held r ∙ ap (λ (n : ℕ). 8 * n) r.body_is.size;
+      let r = laid_as spaces location p.0 form p.1 held traversed p.2 there in
+      body_long spaces location form held r ∙ ap (λ (n : ℕ). 8 * n) r.body_is.size;
   empty = λ e. let no : length spaces ≡ 0 = ap length e in absurd (omega (arith, no, p.2.body_is.within));
 }
 
@@ -62,7 +62,7 @@ returns-clause-form g c = λ form held traversed there.
     got_used spaces location.segment (option_copied c.get.result) c.in-Some-get.used.now p.2.body_is.within c.get.ensures (ap option_copied c.in-Some-get.is) in
     let low : (j : ℕ) → slice_index_or (space_at spaces location.segment).used j 0 < 256 = subst (λ (l : List ℕ). (j : ℕ) → slice_index_or l j 0 < 256) same c.each_is_a_byte.ensures in
     let bytes = c.stretch.ensures ∙ ap (λ (l : List ℕ). take (8 * location.words) (drop (8 * location.start) l)) same in
-    subst (λ (l : List ℕ). HoldsForm l form) (sym bytes) 
+    subst (λ (l : List ℕ). HoldsForm l form) (sym bytes)
     (holds_there spaces location p low form held traversed (subst (λ (v : Built g.row.A.Denot). Root (message v.spaces) form held traversed) (sym c.self.view_is) there))
 
 pub returns-clause-tree : goal.returns-clause-tree
