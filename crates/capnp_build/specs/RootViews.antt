@@ -74,7 +74,7 @@ pub record SizesRoot (spaces : List Space) (result : Result MessageSize Error) :
   pub measured : (words : ℕ) → Measures (unlimited_root (map used_of spaces)) words → words < 2 ^ 64 → IsOk result
   pub exact : (kind : ErrorKind) → Unmeasured (unlimited_root (map used_of spaces)) kind → IsErrAnd result (λ error. error.kind ≡ kind)
 
--- The bytes of the root's object and of what it holds: the words of the whole tree, and nothing behind them.
+-- The bytes of the object at the root and of what it holds: the words of the whole tree, and no more.
 pub record HoldsTree (spaces : List Space) (bytes : List ℕ) : Type 0 where
   pub words : (form : Form) (held : Trees) (traversed : ℕ) → Root (words_of_message spaces) form held traversed → words_of bytes ≡ body (tree form held none)
   pub size : (form : Form) (held : Trees) (traversed : ℕ) → Root (words_of_message spaces) form held traversed → length bytes ≡ 8 * total_words (tree form held none)
