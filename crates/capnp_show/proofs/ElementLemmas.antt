@@ -1,5 +1,5 @@
 -- Which of some structs a word is of, by how many words it stands after the first one's start.
-use Rattle.std.proofs.Common.{◌≡◌, ℕ, zero, suc, ◌+◌, ◌-◌, ◌*◌, ◌/◌, ◌%◌, ◌<◌, ◌≤◌, [], refl, sym, ap, ◌∙◌, subst, arith}
+use Rattle.std.proofs.Common.{◌≡◌, ℕ, zero, suc, ◌+◌, ◌-◌, ◌*◌, ◌/◌, ◌%◌, ◌<◌, ◌≤◌, [], refl, sym, ap, ◌∙◌, arith}
 use Rattle.std.proofs.lemmas.Nat.{div-add-mod', mod_below, mod-mul-add, div-mul-add}
 use Rattle.capnp_wire.specs.Object.{row_places}
 use Rattle.capnp_show.specs.declared.words.StructSize.{StructSize}

@@ -1,10 +1,10 @@
 -- Objects that far pointers lead to, and their landing words_are.
-use Rattle.std.proofs.Common.{◌≡◌, ◌⊎◌, inl, inr, ℕ, ◌+◌, ◌-◌, ◌*◌, ◌/◌, ◌%◌, ◌^◌, ◌<◌, ◌≤◌, min, List, Some, None, Option, slice_get, IfSome, refl, sym, ◌∙◌, ap, subst, arith}
+use Rattle.std.proofs.Common.{◌≡◌, inl, inr, ℕ, ◌+◌, ◌-◌, ◌%◌, ◌^◌, ◌<◌, min, List, Some, None, Option, slice_get, IfSome, refl, sym, ◌∙◌, ap, subst, arith}
 use Rattle.std.proofs.lemmas.Option.{none-some, slice_get_cases}
 use Rattle.capnp_frame.specs.declared.error.ErrorKind.{ErrorKind}
 use Rattle.capnp_wire.specs.Pointer.{words_of, pointer_kind, has_wide_landing_pad, landing_pad_segment, landing_pad_position}
 use Rattle.capnp_wire.specs.Object.{message_of, word_at, landing_pad, landing_pad_tag, IsFar, following, exactly, IsStart, Lands, Target, near, far as by_landing_pad, double_far}
-use Rattle.capnp_wire.specs.Faults.{NoWord, no_segment, past_segment, BadLandingPad, no_landing_pad, no_tag, bad_landing_pad, Fault, Misfits, no_start as no_start_fault, misfits as misfits_fault}
+use Rattle.capnp_wire.specs.Faults.{NoWord, no_segment, past_segment, BadLandingPad, no_tag, bad_landing_pad, Fault, Misfits, no_start as no_start_fault, misfits as misfits_fault}
 use Rattle.capnp_wire.specs.Landing.{NotNear}
 use Rattle.capnp_wire.proofs.pointers.LandingPadLemmas.{wide_refused}
 use Rattle.capnp_wire.specs.declared.layout.place.Place.{Place as ReadPlace}

@@ -2,3 +2,4 @@
 pub mod ElementLemmas
 pub mod FarLemmas
 pub mod ObjectLemmas
+pub mod TextLemmas

@@ -7,3 +7,4 @@ pub mod Rows
 pub mod Words
 pub mod Arguments
 pub mod Refusals
+pub mod Arrows

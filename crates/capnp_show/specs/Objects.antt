@@ -1,5 +1,5 @@
 -- What the program finds at pointers (src/words.rt), in the terms of the crate that reads objects.
-use Rattle.std.specs.Prelude.{◌≡◌, ℕ, ◌+◌, ◌*◌, ◌/◌, ◌^◌, ◌<◌, ◌≤◌, ◌==◌, if◌then◌else◌, List, length, Option, Some, None, slice_get, IfSome}
+use Rattle.std.specs.Prelude.{◌≡◌, ℕ, ◌+◌, ◌*◌, ◌/◌, ◌<◌, ◌≤◌, ◌==◌, if◌then◌else◌, List, length, Option, Some, None, slice_get, IfSome}
 use Rattle.capnp.specs.Passed.{ErrorKind}
 use Rattle.capnp_frame.specs.declared.error.ErrorKind.TheVariants.{PointerOutOfBounds}
 use Rattle.capnp_wire.specs.Pointer.{words_of, pointer_kind, offset, data_words, pointer_words, code, list_count}

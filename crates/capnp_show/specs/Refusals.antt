@@ -31,3 +31,8 @@ sentence_of TextNotTerminated = codes "a text has no zero byte at its end"
 sentence_of CanonicalTooLarge = codes "the canonical form is larger than a segment may be"
 sentence_of NotOneSegment = codes "the message has more than one segment"
 sentence_of NonZeroPadding = codes "the padding of the segment table is not zero"
+
+-- and what is said where the output is not written
+abbrev pub unwritten_of : ErrorKind → List ℕ
+unwritten_of DeviceFailed = codes "standard output can't be written"
+unwritten_of kind = sentence_of kind

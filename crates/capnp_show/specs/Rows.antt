@@ -1,6 +1,6 @@
 -- The rows of nodes that a walk is in (src/tree.rt).
-use Rattle.std.specs.Prelude.{◌≡◌, ◌⊎◌, ℕ, ◌+◌, ◌-◌, ◌^◌, ◌<◌, ◌≤◌, min, List, [], ◌∷◌, Option, Some, None, IfSome}
-use Rattle.capnp.specs.Passed.{ErrorKind, message_of}
+use Rattle.std.specs.Prelude.{◌≡◌, ◌⊎◌, ℕ, ◌+◌, ◌-◌, ◌^◌, ◌<◌, ◌≤◌, min, List, [], Option, Some, None, IfSome}
+use Rattle.capnp.specs.Passed.{message_of}
 use Rattle.capnp_frame.specs.declared.error.ErrorKind.TheVariants.{NestingLimitExceeded, ReadLimitExceeded}
 use Rattle.capnp_wire.specs.Object.{word_at, places, row_places}
 use Rattle.capnp_wire.specs.declared.layout.place.Place.{Place as ReadPlace}

@@ -1,6 +1,7 @@
 -- Characters and texts, as they are shown (src/text.rt, src/markup.rt, src/listing.rt).
-use Rattle.std.specs.Prelude.{◌≡◌, ◌≢◌, ◌⊎◌, ℕ, ◌-◌, ◌%◌, ◌^◌, ◌≤◌, false, List, [], ◌∷◌, ◌++◌, Option, Some, None, codes, decimal}
+use Rattle.std.specs.Prelude.{◌≡◌, ◌≢◌, ◌⊎◌, ℕ, ◌-◌, ◌/◌, ◌%◌, ◌^◌, ◌≤◌, false, List, [], ◌∷◌, ◌++◌, Option, Some, None, codes, decimal}
 use Rattle.std.specs.Char.{encode_utf8}
+use Rattle.std.specs.Str.{chars}
 use Rattle.std.specs.Fmt.{digits, padded_integral, format_spec}
 use Rattle.capnp.specs.Passed.{ErrorKind}
 use Rattle.capnp_show.specs.declared.drawn.Anchor.{Anchor}
@@ -9,7 +10,7 @@ use Rattle.capnp_show.specs.declared.owners.Role.TheVariants.{Data, Pointer as P
 use Rattle.capnp_show.specs.declared.owners.Owner.{Owner}
 use Rattle.capnp_show.specs.declared.owners.Owner.TheVariants.{Free, Root, Object}
 use Rattle.capnp_show.specs.declared.owners.Lead.{Lead}
-use Rattle.capnp_show.specs.declared.owners.Lead.TheVariants.{Null}
+use Rattle.capnp_show.specs.declared.owners.Lead.TheVariants.{Nowhere, Null, Object as LeadObject}
 use Rattle.capnp_show.specs.declared.owners.Word.{Word}
 use Rattle.capnp_show.specs.declared.listing.Listed.{Listed}
 use Rattle.capnp_show.specs.declared.words.Place.{Place}
@@ -67,6 +68,32 @@ escaped character Plain = encode_utf8 character
 escaped character (Letter letter) = 92 ∷ encode_utf8 letter
 escaped character Number = codes "\\u" ++ padded_integral (format_spec 32 0 4 4 (2 ^ 64 - 1)) false [] (digits 16 false character)
 
+-- these characters are shown in these bytes: one after the other, each in the way that is its own
+pub data AreEscaped : List ℕ → List ℕ → Type 0 where
+  none_shown : AreEscaped [] []
+  one_shown : (characters bytes : List ℕ) (character : ℕ) (escape : Escape) → AreEscaped characters bytes → IsEscapeOf character escape
+      → AreEscaped (characters ++ character ∷ []) (bytes ++ escaped character escape)
+
+-- a text is added, escaped, between two others
+abbrev pub AddsEscaped : List ℕ → List ℕ → List ℕ → List ℕ → List ℕ → Type 0
+AddsEscaped front shown end old new = (bytes : List ℕ) × (new ≡ old ++ (front ++ (bytes ++ end))) × AreEscaped (chars shown) bytes
+
+-- the bytes of a character in a page, by how it stands there
+abbrev pub IsMarked : ℕ → Mark → List ℕ → Type 0
+IsMarked character PlainMark bytes = bytes ≡ encode_utf8 character
+IsMarked character (Named name) bytes = bytes ≡ name.now
+IsMarked character Control bytes = (escape : Escape) × IsEscapeOf character escape × (bytes ≡ escaped character escape)
+
+-- these characters stand in a page as these bytes
+pub data AreMarked : List ℕ → List ℕ → Type 0 where
+  none_marked : AreMarked [] []
+  one_marked : (characters bytes added : List ℕ) (character : ℕ) (mark : Mark) → AreMarked characters bytes → IsMarkOf character mark
+      → IsMarked character mark added → AreMarked (characters ++ character ∷ []) (bytes ++ added)
+
+-- a text is added to a page, between two others
+abbrev pub AddsMarked : List ℕ → List ℕ → List ℕ → List ℕ → List ℕ → Type 0
+AddsMarked front shown end old new = (bytes : List ℕ) × (new ≡ old ++ (front ++ (bytes ++ end))) × AreMarked (chars shown) bytes
+
 -- a number after some words
 abbrev pub counted : List ℕ → ℕ → List ℕ
 counted words number = words ++ decimal number
@@ -92,6 +119,10 @@ message_name anchor = counted (codes "m") anchor.input ++ counted (codes "-") an
 abbrev pub word_name : Anchor → Place → List ℕ
 word_name anchor place = message_name anchor ++ (counted (codes "-") place.segment ++ counted (codes "-") place.word)
 
+-- the classes of an object
+abbrev pub object_classes : ℕ → List ℕ
+object_classes number = counted (codes "o") number ++ counted (codes " c") (number % 8)
+
 -- the classes of a word in a page, by whose it is
 abbrev pub role_class : Role → List ℕ
 role_class Data = codes "data"
@@ -116,3 +147,41 @@ refused_class (Some kind) = codes " refused"
 
 abbrev pub word_classes : Word → List ℕ
 word_classes word = owner_classes word.owner ++ (null_class word.owner word.lead ++ refused_class word.refusal)
+
+-- what is said of a word whose pointer is not refused: where it stands, and what it is to whom
+abbrev pub role_name : Role → List ℕ
+role_name Data = codes "data"
+role_name PointerRole = codes "pointer"
+role_name Tag = codes "tag"
+role_name Landing = codes "landing pad"
+
+abbrev pub owner_name : Owner → List ℕ
+owner_name Free = codes "of no object that is reached"
+owner_name Root = codes "the root pointer"
+owner_name (Object number role) = role_name role ++ counted (codes " of object ") number
+
+abbrev pub lead_name : Lead → List ℕ
+lead_name Nowhere = []
+lead_name Null = codes ", null"
+lead_name (LeadObject number start) = counted (codes ", to object ") number
+
+-- the lead of a word that is drawn as a pointer
+abbrev pub drawn_lead : Owner → Lead → List ℕ
+drawn_lead Root lead = lead_name lead
+drawn_lead (Object number PointerRole) lead = lead_name lead
+drawn_lead owner lead = []
+
+abbrev pub where_of : Place → List ℕ
+where_of place = counted (codes "word ") place.segment ++ (counted (codes ":") place.word ++ codes ", ")
+
+abbrev pub title_of : Place → Word → List ℕ
+title_of place word = where_of place ++ (owner_name word.owner ++ drawn_lead word.owner word.lead)
+
+-- how far the reading of an input is, in MB where its size is known
+abbrev pub of_total : Option ℕ → List ℕ
+of_total None = []
+of_total (Some bytes) = counted (codes " of ") (bytes / 1000000) ++ codes " MB"
+
+abbrev pub progress_of : Option ℕ → ℕ → ℕ → List ℕ
+progress_of total megabytes messages = counted (codes ": ") megabytes ++ (codes " MB" ++ (of_total total
+    ++ (counted (codes ", ") messages ++ codes " messages\n")))

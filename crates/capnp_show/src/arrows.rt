@@ -3,7 +3,8 @@
 //! An arrow runs in the gaps between the cells alone: from the right of its pointer in the gap after
 //! that column, then in the gap above the object's row, and to the left of the cell where the object
 //! begins. Cells, gaps and headings have fixed sizes, so its corners are computed.
-ghost use Rattle.std.specs.Prelude.{◌≡◌, ℕ, ◌+◌, ◌*◌, ◌/◌, ◌%◌, ◌^◌, ◌<◌, min, Some, None, slice_get, MatchOption, ◌++◌, OnOk, codes, string_bytes};
+ghost use Rattle.std.specs.Prelude.{◌≡◌, ◌⊎◌, ◌+◌, ◌*◌, ◌/◌, ◌^◌, ◌<◌, None, length, slice_get, MatchOption, ◌++◌, IfOk, OnOk, codes, string_bytes};
+ghost use Rattle.capnp_show.specs.Arrows.{height_of, AreTops, IsCorner, AddsArrowOf, HasNoArrow, arrow_front, arrow_head, arrow_of, turns_between, sizes_text};
 ghost use Rattle.capnp_show.specs.Texts.{counted};
 
 use crate::drawn::{ROW_WORDS, colour_of};
@@ -32,7 +33,9 @@ const FIRST_LEFT: u64 = 2 * COLUMN_GAP + NUMBER_WIDTH;
 const WIDTH: u64 = FIRST_LEFT + 4 * (CELL_WIDTH + COLUMN_GAP);
 
 /// Adds the sizes that the style names.
-pub fn push_sizes(text: &mut String) -> Result<(), AllocError> {
+pub fn push_sizes(text: &mut String) -> Result<(), AllocError>
+    ensures { OnOk result (string_bytes text.new ≡ string_bytes text.old ++ sizes_text) }
+{
     write!(
         text,
         ":root {{ --number-width: {NUMBER_WIDTH}px; --cell-width: {CELL_WIDTH}px; \
@@ -43,8 +46,7 @@ pub fn push_sizes(text: &mut String) -> Result<(), AllocError> {
 
 /// The height of the part of a drawing that a segment of a given number of words has.
 pub fn part_height(words: usize) -> u64
-    ensures { let rows = (words + 3) / 4 in rows < 2 ^ 58
-        → result ≡ HEADING_HEIGHT + ROW_GAP + rows * (CELL_HEIGHT + ROW_GAP) }
+    ensures { result ≡ height_of words }
 {
     let rows = words.div_ceil(ROW_WORDS) as u64;
     let gaps = HEADING_HEIGHT + ROW_GAP;
@@ -69,7 +71,9 @@ pub struct Grid {
 
 impl Grid {
     /// Where the cells of these words are.
-    pub fn new(alloc: Global, owners: &Owners) -> Result<Grid, AllocError> {
+    pub fn new(alloc: Global, owners: &Owners) -> Result<Grid, AllocError>
+        ensures { IfOk result (λ grid. AreTops owners.now.segments.items grid.tops.items grid.height) }
+    {
         let mut tops = Vec::new(alloc);
         let mut height: u64 = 0;
         for words in owners.segments() {
@@ -100,7 +104,11 @@ impl Grid {
         owners: &Owners,
         place: Place,
         word: &Word,
-    ) -> Result<(), AllocError> {
+    ) -> Result<(), AllocError>
+        ensures { let old = string_bytes text.old in let new = string_bytes text.new in OnOk result
+            (AddsArrowOf self.now place word.now old new
+            ⊎ ((new ≡ old) × HasNoArrow self.now owners.now place word.now)) }
+    {
         let Some((number, start)) = word.target() else {
             return Ok(());
         };
@@ -115,11 +123,8 @@ impl Grid {
 
     // Where the cell of a word is: four in a row, and the rows of a segment below its top.
     fn corner(&self, place: Place) -> Option<Corner>
-        ensures { let top = slice_get self.now.tops.items place.segment in
-            MatchOption result (top ≡ None) (λ corner. (first : ℕ) × (top ≡ Some first)
-            × (corner.left ≡ FIRST_LEFT + place.word % 4 * (CELL_WIDTH + COLUMN_GAP))
-            × (corner.top ≡ min (first
-            + min (place.word / 4 * (CELL_HEIGHT + ROW_GAP)) u64.MAX) u64.MAX)) }
+        ensures { MatchOption result (slice_get self.now.tops.items place.segment ≡ None)
+            (IsCorner self.now place) }
     {
         let top = *self.tops.get(place.segment as usize)?;
         let row = place.word / ROW_WORDS as u64;
@@ -132,19 +137,44 @@ impl Grid {
 }
 
 // Adds the arrow to the object of this number, from one cell to another.
-fn push_path(text: &mut String, number: u64, from: Corner, to: Corner) -> Result<(), AllocError> {
+fn push_path(text: &mut String, number: u64, from: Corner, to: Corner) -> Result<(), AllocError>
+    ensures { OnOk result (string_bytes text.new ≡ string_bytes text.old ++ arrow_of number from to) }
+{
+    push_arrow_front(text, number, from)?;
+    push_turns(text, number, from, to)?;
+    push_arrow_head(text, to)
+}
+
+// Adds the front of an arrow, from the cell where it begins.
+fn push_arrow_front(text: &mut String, number: u64, from: Corner) -> Result<(), AllocError>
+    ensures { OnOk result (string_bytes text.new ≡ string_bytes text.old ++ arrow_front number from) }
+{
     let colour = colour_of(number);
     let right = from.left.saturating_add(CELL_WIDTH);
-    let from_middle = from.top.saturating_add(CELL_HEIGHT / 2);
-    let to_middle = to.top.saturating_add(CELL_HEIGHT / 2);
+    let middle = from.top.saturating_add(CELL_HEIGHT / 2);
+    write!(text, "<path class=\"c{colour}\" d=\"M{right} {middle}")
+}
+
+// Adds the head of an arrow, at the cell where it ends.
+fn push_arrow_head(text: &mut String, to: Corner) -> Result<(), AllocError>
+    ensures { OnOk result (string_bytes text.new ≡ string_bytes text.old ++ arrow_head to) }
+{
     let end = to.left.saturating_sub(2);
-    write!(text, "<path class=\"c{colour}\" d=\"M{right} {from_middle}")?;
-    if from.top != to.top || to.left != right.saturating_add(COLUMN_GAP) {
-        // Arrows side by side in a gap lie a few pixels apart.
-        let channel = right.saturating_add(4 + number % 5 * 3);
-        let lane = to.top.saturating_sub(3 + number % 4 * 3);
-        let entry = to.left.saturating_sub(9);
-        write!(text, "H{channel}V{lane}H{entry}V{to_middle}")?;
-    }
     write!(text, "H{end}m-5 -3l5 3l-5 3\"/>\n")
+}
+
+// Adds the turns of an arrow, where it does not lead to the next cell.
+fn push_turns(text: &mut String, number: u64, from: Corner, to: Corner) -> Result<(), AllocError>
+    ensures { OnOk result (string_bytes text.new ≡ string_bytes text.old ++ turns_between number from to) }
+{
+    let right = from.left.saturating_add(CELL_WIDTH);
+    if from.top == to.top && to.left == right.saturating_add(COLUMN_GAP) {
+        return Ok(());
+    }
+    // Arrows side by side in a gap lie a few pixels apart.
+    let channel = right.saturating_add(4 + number % 5 * 3);
+    let lane = to.top.saturating_sub(3 + number % 4 * 3);
+    let entry = to.left.saturating_sub(9);
+    let middle = to.top.saturating_add(CELL_HEIGHT / 2);
+    write!(text, "H{channel}V{lane}H{entry}V{middle}")
 }

@@ -1,6 +1,6 @@
 //! The words of a segment, as rows of a table.
-ghost use Rattle.std.specs.Prelude.{◌≡◌, ◌%◌, ◌++◌, OnOk, codes, string_bytes};
-ghost use Rattle.capnp_show.specs.Texts.{counted, message_name, word_name, null_class, owner_classes, refused_class, word_classes};
+ghost use Rattle.std.specs.Prelude.{◌≡◌, ◌%◌, ◌++◌, None, OnOk, codes, string_bytes};
+ghost use Rattle.capnp_show.specs.Texts.{counted, message_name, word_name, null_class, owner_classes, refused_class, word_classes, where_of, owner_name, drawn_lead, title_of};
 
 use crate::owners::{Lead, Owner, Owners, Role, Word};
 use crate::refusals::push_refusal;
@@ -155,16 +155,36 @@ fn push_refused(text: &mut String, word: &Word) -> Result<(), AllocError>
 }
 
 // Adds what is said of a word: why it is refused, or where it is, and what it is to whom.
-fn push_title(text: &mut String, place: Place, word: &Word) -> Result<(), AllocError> {
-    if let Some(kind) = word.refusal {
-        return push_refusal(text, kind);
+fn push_title(text: &mut String, place: Place, word: &Word) -> Result<(), AllocError>
+    ensures { word.now.refusal ≡ None → OnOk result
+        (string_bytes text.new ≡ string_bytes text.old ++ title_of place word.now) }
+{
+    match word.refusal {
+        Some(kind) => push_refusal(text, kind),
+        None => {
+            push_where(text, place)?;
+            push_owner_name(text, word.owner)?;
+            push_lead(text, word)
+        }
     }
+}
+
+// Adds where a word is.
+fn push_where(text: &mut String, place: Place) -> Result<(), AllocError>
+    ensures { OnOk result (string_bytes text.new ≡ string_bytes text.old ++ where_of place) }
+{
     let segment = place.segment;
-    let number = place.word;
-    write!(text, "word {segment}:{number}, ")?;
-    match word.owner {
-        Owner::Free => text.push_str("of no object that is reached")?,
-        Owner::Root => text.push_str("the root pointer")?,
+    let word = place.word;
+    write!(text, "word {segment}:{word}, ")
+}
+
+// Adds what a word is to whom.
+fn push_owner_name(text: &mut String, owner: Owner) -> Result<(), AllocError>
+    ensures { OnOk result (string_bytes text.new ≡ string_bytes text.old ++ owner_name owner) }
+{
+    match owner {
+        Owner::Free => text.push_str("of no object that is reached"),
+        Owner::Root => text.push_str("the root pointer"),
         Owner::Object(object, role) => {
             let said = match role {
                 Role::Data => "data",
@@ -172,13 +192,22 @@ fn push_title(text: &mut String, place: Place, word: &Word) -> Result<(), AllocE
                 Role::Tag => "tag",
                 Role::Landing => "landing pad",
             };
-            write!(text, "{said} of object {object}")?;
+            write!(text, "{said} of object {object}")
         }
     }
-    if let Some((object, _)) = word.target() {
-        write!(text, ", to object {object}")?;
-    } else if word.is_pointer() && word.lead == Lead::Null {
-        text.push_str(", null")?;
+}
+
+// Adds where a word leads that is drawn as a pointer.
+fn push_lead(text: &mut String, word: &Word) -> Result<(), AllocError>
+    ensures { OnOk result (string_bytes text.new
+        ≡ string_bytes text.old ++ drawn_lead word.now.owner word.now.lead) }
+{
+    if !word.is_pointer() {
+        return Ok(());
     }
-    Ok(())
+    match word.lead {
+        Lead::Nowhere => Ok(()),
+        Lead::Null => text.push_str(", null"),
+        Lead::Object(object, _) => write!(text, ", to object {object}"),
+    }
 }

@@ -1,5 +1,7 @@
 //! The parts of a page that stands alone, but for the drawings.
 ghost use Rattle.std.specs.Prelude.{◌≡◌, ◌++◌, OnOk, codes, string_bytes};
+ghost use Rattle.capnp_show.specs.Arrows.{height_of};
+ghost use Rattle.capnp_show.specs.Texts.{AddsMarked, counted, message_name, object_classes};
 
 use crate::arrows::{part_height, push_sizes};
 use crate::drawn::{Anchor, push_object_classes};
@@ -31,14 +33,21 @@ pub fn push_end(text: &mut String) -> Result<(), AllocError>
 }
 
 /// Adds the heading of an input.
-pub fn push_input(text: &mut String, name: &str) -> Result<(), AllocError> {
+#[tactic(auto, using(crate::proofs::TextLemmas::marked_between))]
+pub fn push_input(text: &mut String, name: &str) -> Result<(), AllocError>
+    ensures { OnOk result (AddsMarked (codes "<h1>") name.now (codes "</h1>\n")
+        (string_bytes text.old) (string_bytes text.new)) }
+{
     text.push_str("<h1>")?;
     push_markup(text, name)?;
     text.push_str("</h1>\n")
 }
 
 /// Adds the front of a message's section, up to the text of its heading.
-pub fn push_section(text: &mut String, anchor: Anchor) -> Result<(), AllocError> {
+pub fn push_section(text: &mut String, anchor: Anchor) -> Result<(), AllocError>
+    ensures { OnOk result (string_bytes text.new ≡ string_bytes text.old
+        ++ (codes "<section class=\"message\" id=\"" ++ (message_name anchor ++ codes "\">\n<h2>"))) }
+{
     text.push_str("<section class=\"message\" id=\"")?;
     anchor.push(text)?;
     text.push_str("\">\n<h2>")
@@ -60,16 +69,32 @@ pub fn push_no_root(text: &mut String, kind: ErrorKind) -> Result<(), AllocError
 }
 
 /// Adds the line of an object to the list of objects.
-pub fn push_object(text: &mut String, number: u64, line: &str) -> Result<(), AllocError> {
-    text.push_str("<li class=\"")?;
-    push_object_classes(text, number)?;
-    text.push_str("\">")?;
+pub fn push_object(text: &mut String, number: u64, line: &str) -> Result<(), AllocError>
+    ensures { OnOk result (AddsMarked (codes "<li class=\"" ++ (object_classes number ++ codes "\">"))
+        line.now (codes "</li>\n") (string_bytes text.old) (string_bytes text.new)) }
+{
+    push_object_front(text, number)?;
     push_markup(text, line)?;
     text.push_str("</li>\n")
 }
 
+// Adds the front of the line of an object, with its classes.
+fn push_object_front(text: &mut String, number: u64) -> Result<(), AllocError>
+    ensures { OnOk result (string_bytes text.new ≡ string_bytes text.old
+        ++ (codes "<li class=\"" ++ (object_classes number ++ codes "\">"))) }
+{
+    text.push_str("<li class=\"")?;
+    push_object_classes(text, number)?;
+    text.push_str("\">")
+}
+
 /// Adds the front of a segment of a given number of words.
-pub fn push_part(text: &mut String, segment: u32, words: usize) -> Result<(), AllocError> {
+pub fn push_part(text: &mut String, segment: u32, words: usize) -> Result<(), AllocError>
+    ensures { OnOk result (string_bytes text.new
+        ≡ string_bytes text.old ++ (counted (codes "<div style=\"height: ") (height_of words)
+        ++ (counted (codes "px\">\n<h3>segment ") segment ++ (counted (codes ", words ") words
+        ++ codes "</h3>\n<table class=\"segment\">\n")))) }
+{
     let height = part_height(words);
     write!(
         text,

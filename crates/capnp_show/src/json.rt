@@ -1,7 +1,7 @@
 //! Messages as JSON.
 ghost use Rattle.std.specs.Prelude.{◌≡◌, ◌++◌, OnOk, codes, string_bytes};
 ghost use Rattle.capnp_show.specs.Hashes.{IfHash};
-ghost use Rattle.capnp_show.specs.Texts.{member, listed_members};
+ghost use Rattle.capnp_show.specs.Texts.{AddsEscaped, member, listed_members};
 
 use crate::hash::Hash;
 use crate::listing::{Listed, name_of};
@@ -14,7 +14,11 @@ use std::alloc::AllocError;
 use std::fmt::Write;
 
 /// Adds the front of an object: the file's name.
-pub fn push_file(text: &mut String, name: &str) -> Result<(), AllocError> {
+#[tactic(auto, using(crate::proofs::TextLemmas::escaped_between))]
+pub fn push_file(text: &mut String, name: &str) -> Result<(), AllocError>
+    ensures { OnOk result (AddsEscaped (codes "{\"file\":\"") name.now (codes "\"")
+        (string_bytes text.old) (string_bytes text.new)) }
+{
     text.push_str("{\"file\":")?;
     push_quoted(text, name)
 }

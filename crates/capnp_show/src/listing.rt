@@ -1,7 +1,7 @@
 //! Messages as lines.
-ghost use Rattle.std.specs.Prelude.{◌≡◌, ◌++◌, OnOk, codes, decimal, string_bytes};
+ghost use Rattle.std.specs.Prelude.{◌≡◌, ◌++◌, [], MatchOption, OnOk, codes, decimal, string_bytes};
 ghost use Rattle.capnp_show.specs.Hashes.{IfHash};
-ghost use Rattle.capnp_show.specs.Texts.{element_name, counted, listed_line};
+ghost use Rattle.capnp_show.specs.Texts.{AddsEscaped, element_name, counted, listed_line};
 
 use crate::hash::Hash;
 use crate::refusals::{push_refusal, sentence};
@@ -27,7 +27,11 @@ pub struct Listed {
 }
 
 /// Adds what stands in front of a line.
-pub fn push_name(text: &mut String, name: Option<&str>) -> Result<(), AllocError> {
+#[tactic(auto, using(crate::proofs::TextLemmas::escaped_between))]
+pub fn push_name(text: &mut String, name: Option<&str>) -> Result<(), AllocError>
+    ensures { OnOk result (MatchOption name.entry (string_bytes text.new ≡ string_bytes text.old)
+        (λ shown. AddsEscaped [] shown.now (codes ": ") (string_bytes text.old) (string_bytes text.new))) }
+{
     if let Some(name) = name {
         push_escaped(text, name)?;
         text.push_str(": ")?;

@@ -1,5 +1,6 @@
 //! Texts, as they stand in a page.
-ghost use Rattle.capnp_show.specs.Texts.{IsMarkOf};
+ghost use Rattle.std.specs.Prelude.{◌≡◌, ◌++◌, ℕ, List, [], OnOk, string_bytes};
+ghost use Rattle.capnp_show.specs.Texts.{IsMarkOf, IsMarked, AddsMarked};
 
 use crate::text::{escape_of, push_escape};
 use std::alloc::AllocError;
@@ -30,13 +31,23 @@ pub fn mark_of(character: char) -> Mark
 }
 
 /// Adds a text to a page.
-pub fn push_markup(text: &mut String, shown: &str) -> Result<(), AllocError> {
+pub fn push_markup(text: &mut String, shown: &str) -> Result<(), AllocError>
+    ensures { OnOk result (AddsMarked [] shown.now [] (string_bytes text.old) (string_bytes text.new)) }
+{
     for character in shown.chars() {
-        match mark_of(character) {
-            Mark::Plain => text.push(character)?,
-            Mark::Named(name) => text.push_str(name)?,
-            Mark::Control => push_escape(text, character, escape_of(character))?,
-        }
+        push_mark(text, character, mark_of(character))?;
     }
     Ok(())
+}
+
+// Adds a character to a page, as it stands there.
+fn push_mark(text: &mut String, character: char, mark: Mark) -> Result<(), AllocError>
+    ensures { OnOk result ((bytes : List ℕ) × (string_bytes text.new ≡ string_bytes text.old ++ bytes)
+        × IsMarked character mark bytes) }
+{
+    match mark {
+        Mark::Plain => text.push(character),
+        Mark::Named(name) => text.push_str(name),
+        Mark::Control => push_escape(text, character, escape_of(character)),
+    }
 }

@@ -1,5 +1,6 @@
 //! How far the reading of a large input is.
-ghost use Rattle.std.specs.Prelude.{◌≡◌, ◌≤◌, ◌<◌, ◌+◌, ◌*◌, ◌/◌, ◌↔◌, ℕ, IfSome, IsSome, IsSomeAnd, IsTrue, None};
+ghost use Rattle.std.specs.Prelude.{[], IfOk, codes, string_bytes, ◌≡◌, ◌≤◌, ◌<◌, ◌+◌, ◌*◌, ◌/◌, ◌↔◌, ℕ, IfSome, IsSome, IsSomeAnd, IsTrue, None};
+ghost use Rattle.capnp_show.specs.Texts.{AddsEscaped, progress_of};
 
 use crate::refusals::named_line;
 use std::alloc::{AllocError, Global};
@@ -58,13 +59,17 @@ impl Progress {
     }
 
     /// The line for these numbers of MB and of messages that are read.
+    #[tactic(auto, using(crate::proofs::TextLemmas::escaped_and_more))]
     pub fn line(
         &self,
         alloc: Global,
         name: &str,
         megabytes: u64,
         messages: u64,
-    ) -> Result<String, AllocError> {
+    ) -> Result<String, AllocError>
+        ensures { IfOk result (λ line. AddsEscaped (codes "capnp_show: ") name.now
+            (progress_of self.now.total megabytes messages) [] (string_bytes line)) }
+    {
         let mut line = named_line(alloc, name)?;
         write!(line, "{megabytes} MB")?;
         if let Some(total) = self.total {

@@ -1,6 +1,7 @@
 //! What is said of refusals.
-ghost use Rattle.std.specs.Prelude.{◌≡◌};
-ghost use Rattle.capnp_show.specs.Refusals.{sentence_of};
+ghost use Rattle.std.specs.Prelude.{◌≡◌, ◌++◌, [], IfOk, codes, string_bytes};
+ghost use Rattle.capnp_show.specs.Refusals.{sentence_of, unwritten_of};
+ghost use Rattle.capnp_show.specs.Texts.{AddsEscaped};
 
 use crate::text::push_escaped;
 use capnp::{Error, ErrorKind};
@@ -87,14 +88,22 @@ pub fn unopened_line(alloc: Global, name: &str, error: &io::Error) -> Result<Str
 }
 
 /// The line for an input of which was told how its messages stand.
-pub fn detected_line(alloc: Global, name: &str, seen: &str) -> Result<String, AllocError> {
+#[tactic(auto, using(crate::proofs::TextLemmas::escaped_and_more))]
+pub fn detected_line(alloc: Global, name: &str, seen: &str) -> Result<String, AllocError>
+    ensures { IfOk result (λ line. AddsEscaped (codes "capnp_show: ") name.now
+        (codes ": " ++ (seen.now ++ codes "\n")) [] (string_bytes line)) }
+{
     let mut line = named_line(alloc, name)?;
     write!(line, "{seen}\n")?;
     Ok(line)
 }
 
 /// The front of a line about an input.
-pub fn named_line(alloc: Global, name: &str) -> Result<String, AllocError> {
+#[tactic(auto, using(crate::proofs::TextLemmas::escaped_between))]
+pub fn named_line(alloc: Global, name: &str) -> Result<String, AllocError>
+    ensures { IfOk result (λ line. AddsEscaped (codes "capnp_show: ") name.now (codes ": ")
+        [] (string_bytes line)) }
+{
     let mut line = String::from_str(alloc, "capnp_show: ")?;
     push_escaped(&mut line, name)?;
     line.push_str(": ")?;
@@ -102,7 +111,10 @@ pub fn named_line(alloc: Global, name: &str) -> Result<String, AllocError> {
 }
 
 /// The line for output that is not written.
-pub fn unwritten_line(alloc: Global, error: &Error) -> Result<String, AllocError> {
+pub fn unwritten_line(alloc: Global, error: &Error) -> Result<String, AllocError>
+    ensures { IfOk result (λ line. string_bytes line ≡ codes "capnp_show: "
+        ++ (unwritten_of error.now.kind ++ codes "\n")) }
+{
     match error.kind {
         ErrorKind::DeviceFailed => {
             format!(in alloc; "capnp_show: standard output can't be written\n")

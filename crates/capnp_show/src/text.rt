@@ -1,6 +1,6 @@
 //! Texts, as they are shown.
-ghost use Rattle.std.specs.Prelude.{◌≡◌, ◌++◌, ◌∷◌, ℕ, List, [], MatchOption, IsUtf8, OnOk, string_bytes};
-ghost use Rattle.capnp_show.specs.Texts.{IsEscapeOf, escaped};
+ghost use Rattle.std.specs.Prelude.{◌≡◌, ◌++◌, ◌∷◌, ℕ, List, [], MatchOption, IsUtf8, OnOk, codes, string_bytes};
+ghost use Rattle.capnp_show.specs.Texts.{IsEscapeOf, escaped, AddsEscaped};
 
 use std::alloc::AllocError;
 use std::fmt::Write;
@@ -34,7 +34,9 @@ pub fn escape_of(character: char) -> Escape
 }
 
 /// Adds a text, escaped.
-pub fn push_escaped(text: &mut String, shown: &str) -> Result<(), AllocError> {
+pub fn push_escaped(text: &mut String, shown: &str) -> Result<(), AllocError>
+    ensures { OnOk result (AddsEscaped [] shown.now [] (string_bytes text.old) (string_bytes text.new)) }
+{
     for character in shown.chars() {
         push_escape(text, character, escape_of(character))?;
     }
@@ -59,7 +61,10 @@ pub fn push_escape(text: &mut String, character: char, escape: Escape) -> Result
 }
 
 /// Adds a text, escaped and within quotation marks: a JSON string.
-pub fn push_quoted(text: &mut String, shown: &str) -> Result<(), AllocError> {
+pub fn push_quoted(text: &mut String, shown: &str) -> Result<(), AllocError>
+    ensures { OnOk result (AddsEscaped (codes "\"") shown.now (codes "\"")
+        (string_bytes text.old) (string_bytes text.new)) }
+{
     text.push('"')?;
     push_escaped(text, shown)?;
     text.push('"')

@@ -1,5 +1,5 @@
 -- What a pointer leads to, and each refusal on the way.
-use Rattle.std.proofs.Common.{◌≡◌, ◌<◌, sym, ap, arith}
+use Rattle.std.proofs.Common.{◌≡◌, ◌<◌, arith}
 use Rattle.capnp_wire.specs.Pointer.{words_of, pointer_kind}
 use Rattle.capnp_wire.specs.Object.{message_of, following, near}
 use Rattle.capnp_wire.specs.Faults.{no_word, capability}

@@ -1,5 +1,5 @@
 -- What a pointer says stands where its segment has room for it.
-use Rattle.std.proofs.Common.{◌≡◌, ◌+◌, ◌/◌, ◌<◌, ◌≤◌, ◌^◌, length, refl, arith}
+use Rattle.std.proofs.Common.{◌<◌, ◌^◌, refl, arith}
 use Rattle.capnp_show.specs.Objects.{words_in}
 use Rattle.capnp_show.proofs.ObjectLemmas.{says_stands, says_misfits, says_small}
 use Rattle.capnp_show.proofs.words.shaped_object.Goals as goal
