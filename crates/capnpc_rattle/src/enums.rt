@@ -5,6 +5,7 @@ use crate::paths::path_to;
 use crate::schema::{Base, Body, Field, Node, Request, Slot};
 use crate::shown::Site;
 use crate::templates::{ENUM_END, ENUM_HEAD};
+use crate::value_templates::ENUM_NUMBER;
 use std::alloc::{AllocError, Global};
 use std::fmt::Write;
 
@@ -30,8 +31,8 @@ pub fn cases_of(
     Ok(text)
 }
 
-// The names of the enumerants of a node.
-fn enumerants_of(request: &Request, id: u64) -> &[String] {
+/// The names of the enumerants of a node.
+pub fn enumerants_of(request: &Request, id: u64) -> &[String] {
     match request.find(id) {
         Some(node) => match &node.body {
             Body::Enum(names) => names.as_slice(),
@@ -189,5 +190,37 @@ pub fn push_enum(
         .with("type", type_name)?
         .holding("cases", cases)?
         .holding("arms", arms)?;
-    code.add(ENUM_END, &holes)
+    code.add(ENUM_END, &holes)?;
+    if request.has_values {
+        push_to_number(alloc, code, type_name, names)?;
+    }
+    Ok(())
+}
+
+// Adds the number of an enumerant.
+fn push_to_number(
+    alloc: Global,
+    code: &mut Code,
+    type_name: &str,
+    names: &[String],
+) -> Result<(), AllocError> {
+    let mut cases = String::new(alloc);
+    let mut arms = String::new(alloc);
+    let mut count: u32 = 0;
+    for name in names {
+        let variant = variant(alloc, name.as_str())?;
+        write!(cases, "  | {type_name}.{variant} ↦ result ≡ {count}\n")?;
+        write!(arms, "{type_name}::{variant} => {count},\n")?;
+        count = count.saturating_add(1);
+    }
+    write!(
+        cases,
+        "  | {type_name}.NotInSchema unknown ↦ result ≡ unknown"
+    )?;
+    write!(arms, "{type_name}::NotInSchema(unknown) => unknown,")?;
+    let holes = Holes::new(alloc)
+        .with("type", type_name)?
+        .holding("cases", cases)?
+        .holding("arms", arms)?;
+    code.add(ENUM_NUMBER, &holes)
 }

@@ -12,18 +12,25 @@ const DEFINITIONS: &[(&str, &[&str])] = &[
             "◌<◌",
             "◌==◌",
             "◌↔◌",
+            "if◌then◌else◌",
             "IsTrue",
             "bit_xor",
             "from_bits",
+            "to_bits",
             "length",
+            "replicate",
         ],
     ),
     ("std.specs.Float", &["binary32", "binary64"]),
-    ("std.specs.Int", &["w8", "w16", "w32", "w64", "cast_signed"]),
+    (
+        "std.specs.Int",
+        &["w8", "w16", "w32", "w64", "cast_signed", "cast_unsigned"],
+    ),
     (
         "capnp_constant.specs.Constants",
         &["segments_of", "root_of"],
     ),
+    ("capnp_values.specs.DataSections", &["with_field"]),
     ("capnp_wire.specs.Fields", &["field"]),
     ("capnp_wire.specs.ListViews", &["element_of"]),
     ("capnp_wire.specs.Object", &["nothing"]),
@@ -73,8 +80,27 @@ const DEFINITIONS: &[(&str, &[&str])] = &[
     ),
 ];
 
-/// The modules of views, of which a module of a struct imports those that it names.
-const VIEWS: &[&str] = &["any_pointer", "text", "upgraded"];
+/// The modules of views, of which a module of a struct imports those that it names, with how they are named.
+const VIEWS: &[(&str, &str)] = &[
+    ("any_pointer", "any_pointer::"),
+    ("text", "text::"),
+    ("upgraded", "upgraded::"),
+];
+
+/// What is imported of the traits.
+const TRAITS: &[(&str, &str)] = &[
+    ("self", "traits::"),
+    ("FromPointerReader", "FromPointerReader"),
+    ("SetterInput", "SetterInput<"),
+];
+
+/// What is imported of the values.
+const VALUES: &[(&str, &str)] = &[
+    ("Field", "Field<"),
+    ("NoFields", "NoFields"),
+    ("Null", "Null"),
+    ("StructValue", "StructValue"),
+];
 
 /// Whether clauses cite something by this name.
 pub fn is_definition(name: &str) -> bool {
@@ -91,7 +117,7 @@ pub fn push_definitions(alloc: Global, code: &mut Code, text: &str) -> Result<()
     for (module, names) in DEFINITIONS {
         let mut found = String::new(alloc);
         for name in *names {
-            if cites(text, name.trim_matches('◌')) {
+            if cites(text, word_of(name)) {
                 push_name(&mut found, name)?;
             }
         }
@@ -103,6 +129,14 @@ pub fn push_definitions(alloc: Global, code: &mut Code, text: &str) -> Result<()
         }
     }
     Ok(())
+}
+
+// The word by which a name is cited.
+fn word_of(name: &'static str) -> &'static str {
+    if name == "if◌then◌else◌" {
+        return "then";
+    }
+    name.trim_matches('◌')
 }
 
 // Whether a word stands in code, outside of its comments.
@@ -162,16 +196,9 @@ pub fn push_imports(
             "capnp_wire::primitive_element::PrimitiveElement",
         )?;
     }
-    if text.contains(" traits::") {
-        push_line(
-            alloc,
-            &mut lines,
-            "capnp_wire::traits::{self, FromPointerReader}",
-        )?;
-    } else if text.contains("FromPointerReader") {
-        push_line(alloc, &mut lines, "capnp_wire::traits::FromPointerReader")?;
-    }
-    push_views(alloc, &mut lines, text)?;
+    push_group(alloc, &mut lines, "capnp_values", VALUES, text)?;
+    push_group(alloc, &mut lines, "capnp_wire::traits", TRAITS, text)?;
+    push_group(alloc, &mut lines, "capnp_wire", VIEWS, text)?;
     lines.sort()?;
     for line in lines.as_slice() {
         code.add_lines(line.as_str())?;
@@ -196,31 +223,30 @@ fn push_words(alloc: Global, lines: &mut Vec<String>, text: &str) -> Result<(), 
     Ok(())
 }
 
-// Adds the line that imports the modules of views.
-fn push_views(alloc: Global, lines: &mut Vec<String>, text: &str) -> Result<(), AllocError> {
+// Adds the line that imports from a module those of some names that are named in the text, each as it is
+// named there.
+fn push_group(
+    alloc: Global,
+    lines: &mut Vec<String>,
+    module: &str,
+    names: &[(&str, &str)],
+    text: &str,
+) -> Result<(), AllocError> {
     let mut found = String::new(alloc);
     let mut count = 0u8;
-    for name in VIEWS {
-        let path = format!(in alloc; "{name}::")?;
-        if is_named(text, path.as_str()) {
+    for (name, use_of) in names {
+        if is_named(text, use_of) {
             push_name(&mut found, name)?;
             count = count.saturating_add(1);
         }
     }
     let found = found.as_str();
-    match count {
-        0 => Ok(()),
-        1 => push_line(
-            alloc,
-            lines,
-            format!(in alloc; "capnp_wire::{found}")?.as_str(),
-        ),
-        _ => push_line(
-            alloc,
-            lines,
-            format!(in alloc; "capnp_wire::{{{found}}}")?.as_str(),
-        ),
-    }
+    let path = match count {
+        0 => return Ok(()),
+        1 if found != "self" => format!(in alloc; "{module}::{found}")?,
+        _ => format!(in alloc; "{module}::{{{found}}}")?,
+    };
+    push_line(alloc, lines, path.as_str())
 }
 
 // Whether a path begins in the text that is no part of a longer one.

@@ -3,7 +3,8 @@
 //!
 //! It reads a `CodeGeneratorRequest` from standard input, and writes `NAME_capnp.rt` for each file that is
 //! asked for, in the folder in which it runs, or in that of its first argument; to standard output where
-//! that is `-`. Nothing is written before all of it is made.
+//! that is `-`. Nothing is written before all of it is made. Where the environment has `readers` as
+//! `CAPNPC_RATTLE`, it writes readers alone, and else values, too.
 #![tactic(auto)]
 
 mod checked;
@@ -18,16 +19,22 @@ mod input;
 mod names;
 mod numbers;
 mod output;
+mod owners;
 mod paths;
+mod pointer_setters;
 mod request;
 mod schema;
+mod setters;
 mod shown;
 mod signatures;
+mod slots;
 mod structs;
 mod taken;
 mod templates;
 mod types;
 mod unions;
+mod value_templates;
+mod values;
 mod views;
 mod words;
 
@@ -48,6 +55,14 @@ fn main(rt: HostRuntime) -> ExitCode {
     }
 }
 
+// Whether readers alone are asked for, by the environment.
+fn is_for_readers(rt: &HostRuntime) -> bool {
+    match env::var(rt, "CAPNPC_RATTLE") {
+        Ok(word) => word.as_str() == "readers",
+        Err(_) => false,
+    }
+}
+
 // Reads the request, and writes what it asks for.
 fn run(rt: HostRuntime) -> Result<()> {
     let alloc = rt.alloc();
@@ -61,7 +76,7 @@ fn run(rt: HostRuntime) -> Result<()> {
         .get_root()
         .and_then(|root| root.get_as())
         .context("standard input is no request of the schema compiler")?;
-    let request = request::read_request(alloc, &root).context(
+    let request = request::read_request(alloc, &root, !is_for_readers(&rt)).context(
         "standard input is no request of the schema compiler",
     )?;
     let outputs = outputs_of(alloc, &request)?;

@@ -9,10 +9,11 @@ use capnp_wire::text;
 use std::alloc::Global;
 use std::str::from_utf8;
 
-/// The request at the root of a message.
+/// The request at the root of a message, of which values are written, too, or readers alone.
 pub fn read_request<S: ReaderSegments>(
     alloc: Global,
     root: &code_generator_request::Reader<'_, S>,
+    has_values: bool,
 ) -> Result<Request> {
     let mut nodes = Vec::new(alloc);
     let list = root.get_nodes()?;
@@ -28,7 +29,11 @@ pub fn read_request<S: ReaderSegments>(
             name: read_text(alloc, file.get_filename()?)?,
         })?;
     }
-    let mut request = Request { nodes, files };
+    let mut request = Request {
+        nodes,
+        files,
+        has_values,
+    };
     add_comments(alloc, root, &mut request)?;
     Ok(request)
 }
@@ -101,6 +106,8 @@ fn read_struct<S: ReaderSegments>(
         } else {
             Some(group.get_discriminant_offset())
         },
+        data_words: group.get_data_word_count() as u32,
+        pointers: group.get_pointer_count() as u32,
         fields,
     })
 }

@@ -38,6 +38,10 @@ pub struct Struct {
     /// Where the number stands that says which member of the union is there, in units of two bytes; none
     /// where there is no union.
     pub discriminant: Option<u32>,
+    /// How many words its data section has.
+    pub data_words: u32,
+    /// How many pointers it has.
+    pub pointers: u32,
     pub fields: Vec<Field>,
 }
 
@@ -129,6 +133,8 @@ pub struct RequestedFile {
 pub struct Request {
     pub nodes: Vec<Node>,
     pub files: Vec<RequestedFile>,
+    /// Whether values are written, beside readers.
+    pub has_values: bool,
 }
 
 impl Request {

@@ -27,6 +27,14 @@ impl<'r> Site<'r> {
         }
     }
 
+    /// Where the number of its union stands, where it has one.
+    pub fn discriminant(&self) -> Option<u32> {
+        match &self.node.body {
+            Body::Struct(body) => body.discriminant,
+            _ => None,
+        }
+    }
+
     /// The struct of the fields, as a clause names it.
     pub fn fields(&self) -> &'static str {
         if self.is_group() {

@@ -1,0 +1,83 @@
+//! The struct whose fields the fields of groups are.
+use crate::names::snake;
+use crate::schema::{Body, Field, Node, Slot, Struct};
+use crate::shown::Site;
+use std::alloc::{AllocError, Global};
+
+/// As deep as groups may be in one another.
+const MAX_DEPTH: u32 = 64;
+
+/// The struct that the fields of a site are fields of, as the site's setters name it.
+#[derive(Drop)]
+pub struct Owner<'r> {
+    pub node: &'r Node,
+    pub body: &'r Struct,
+    /// The names of the groups down to the site, each with a `_` after it.
+    pub prefix: String,
+    /// The way from the site's module to the struct's.
+    pub path: String,
+    /// Of each union on the way whose member the next group is: where its number stands, and the number.
+    pub tags: Vec<(u32, u16)>,
+}
+
+/// The struct that the fields of a site are fields of.
+pub fn owner_of<'r>(alloc: Global, site: Site<'r>) -> Result<Option<Owner<'r>>, AllocError> {
+    let mut node = site.node;
+    let mut names: Vec<String> = Vec::new(alloc);
+    let mut tags: Vec<(u32, u16)> = Vec::new(alloc);
+    for _ in 0..MAX_DEPTH {
+        let Body::Struct(body) = &node.body else {
+            return Ok(None);
+        };
+        if !body.is_group {
+            tags.reverse();
+            let (prefix, path) = way_of(alloc, names.as_slice())?;
+            return Ok(Some(Owner {
+                node,
+                body,
+                prefix,
+                path,
+                tags,
+            }));
+        }
+        let Some((parent, field, discriminant)) = parent_of(site, node) else {
+            return Ok(None);
+        };
+        names.push(snake(alloc, field.name.as_str())?)?;
+        if let Some(offset) = discriminant
+            && let Some(number) = field.member
+        {
+            tags.push((offset, number))?;
+        }
+        node = parent;
+    }
+    Ok(None)
+}
+
+// The node that a group is a field of, that field, and where the number of the node's union stands.
+fn parent_of<'r>(site: Site<'r>, group: &'r Node) -> Option<(&'r Node, &'r Field, Option<u32>)> {
+    let parent = site.request.find(group.scope)?;
+    let Body::Struct(body) = &parent.body else {
+        return None;
+    };
+    for field in body.fields.as_slice() {
+        if let Slot::Group(id) = field.slot
+            && id == group.id
+        {
+            return Some((parent, field, body.discriminant));
+        }
+    }
+    None
+}
+
+// The names of groups as a part of a name, and the way out of their modules; the innermost stands first.
+fn way_of(alloc: Global, names: &[String]) -> Result<(String, String), AllocError> {
+    let mut prefix = String::new(alloc);
+    let mut path = String::new(alloc);
+    for name in names.iter().rev() {
+        prefix.push_str(name.as_str())?;
+        prefix.push('_')?;
+        path.push_str("super::")?;
+    }
+    Ok((prefix, path))
+}
