@@ -1,7 +1,10 @@
 //! What is asked of a schema before code is written of it: the nodes that its types name are there, and no
 //! two names of one scope become one.
 use crate::names::{constant, default_name, enum_type, module, snake, variant};
+use crate::owners::owner_of;
 use crate::schema::{Base, Body, Node, Place, Request, Slot, Struct};
+use crate::setters::{has_setter, setter_name};
+use crate::shown::Site;
 use anyhow::{Result, bail};
 use std::alloc::Global;
 
@@ -19,6 +22,9 @@ pub fn check_file(alloc: Global, request: &Request, file: u64) -> Result<()> {
         left.extend_from_slice(node.nested.as_slice())?;
         if let Body::Struct(body) = &node.body {
             check_fields(request, node, body)?;
+            if request.has_values && !body.is_group {
+                check_setters(alloc, request, id)?;
+            }
             for field in body.fields.as_slice() {
                 if let Slot::Group(group) = field.slot {
                     left.push(group)?;
@@ -138,6 +144,46 @@ fn check_variants(alloc: Global, node: &Node) -> Result<()> {
             }
         }
         _ => {}
+    }
+    Ok(())
+}
+
+// Says which two fields of a struct, and of its groups, would have setters of one name.
+fn check_setters(alloc: Global, request: &Request, id: u64) -> Result<()> {
+    let mut setters = Names::new(alloc);
+    let mut left: Vec<u64> = Vec::new(alloc);
+    left.push(id)?;
+    for _ in 0..u64::MAX {
+        let Some(id) = left.pop() else {
+            break;
+        };
+        let Some(node) = request.find(id) else {
+            continue;
+        };
+        let Body::Struct(body) = &node.body else {
+            continue;
+        };
+        add_setters(alloc, &mut setters, Site { request, node }, body)?;
+        for field in body.fields.as_slice() {
+            if let Slot::Group(group) = field.slot {
+                left.push(group)?;
+            }
+        }
+    }
+    Ok(())
+}
+
+// Adds the names of the setters of a struct's or a group's own fields.
+fn add_setters(alloc: Global, setters: &mut Names, site: Site<'_>, body: &Struct) -> Result<()> {
+    let Some(owner) = owner_of(alloc, site)? else {
+        return Ok(());
+    };
+    for field in body.fields.as_slice() {
+        if has_setter(alloc, &owner, site, field)? {
+            let mut of = String::from_str(alloc, owner.groups.as_str())?;
+            of.push_str(field.name.as_str())?;
+            setters.add(alloc, setter_name(alloc, &owner, field)?, of.as_str())?;
+        }
     }
     Ok(())
 }

@@ -12,7 +12,9 @@ const MAX_DEPTH: u32 = 64;
 pub struct Owner<'r> {
     pub node: &'r Node,
     pub body: &'r Struct,
-    /// The names of the groups down to the site, each with a `_` after it.
+    /// The names of the groups down to the site, each with a `.` after it, as the schema has them.
+    pub groups: String,
+    /// The same as a part of a setter's name, each with a `_` after it.
     pub prefix: String,
     /// The way from the site's module to the struct's.
     pub path: String,
@@ -31,19 +33,20 @@ pub fn owner_of<'r>(alloc: Global, site: Site<'r>) -> Result<Option<Owner<'r>>, 
         };
         if !body.is_group {
             tags.reverse();
-            let (prefix, path) = way_of(alloc, names.as_slice())?;
+            names.reverse();
             return Ok(Some(Owner {
                 node,
                 body,
-                prefix,
-                path,
+                groups: groups_of(alloc, names.as_slice())?,
+                prefix: prefix_of(alloc, names.as_slice())?,
+                path: path_out(alloc, names.len())?,
                 tags,
             }));
         }
         let Some((parent, field, discriminant)) = parent_of(site, node) else {
             return Ok(None);
         };
-        names.push(snake(alloc, field.name.as_str())?)?;
+        names.push(String::from_str(alloc, field.name.as_str())?)?;
         if let Some(offset) = discriminant
             && let Some(number) = field.member
         {
@@ -70,14 +73,31 @@ fn parent_of<'r>(site: Site<'r>, group: &'r Node) -> Option<(&'r Node, &'r Field
     None
 }
 
-// The names of groups as a part of a name, and the way out of their modules; the innermost stands first.
-fn way_of(alloc: Global, names: &[String]) -> Result<(String, String), AllocError> {
+// The names of groups, the outermost first.
+fn groups_of(alloc: Global, names: &[String]) -> Result<String, AllocError> {
+    let mut groups = String::new(alloc);
+    for name in names {
+        groups.push_str(name.as_str())?;
+        groups.push('.')?;
+    }
+    Ok(groups)
+}
+
+// The names of groups as a part of a name.
+fn prefix_of(alloc: Global, names: &[String]) -> Result<String, AllocError> {
     let mut prefix = String::new(alloc);
-    let mut path = String::new(alloc);
-    for name in names.iter().rev() {
-        prefix.push_str(name.as_str())?;
+    for name in names {
+        prefix.push_str(snake(alloc, name.as_str())?.as_str())?;
         prefix.push('_')?;
+    }
+    Ok(prefix)
+}
+
+// The way out of the modules of as many groups.
+fn path_out(alloc: Global, count: usize) -> Result<String, AllocError> {
+    let mut path = String::new(alloc);
+    for _ in 0..count {
         path.push_str("super::")?;
     }
-    Ok((prefix, path))
+    Ok(path)
 }

@@ -3,7 +3,7 @@ use crate::code::{Code, Holes};
 use crate::owners::Owner;
 use crate::paths::path_to;
 use crate::schema::{Base, Field, Place, Slot};
-use crate::setters::{calls_of, name_of, push_comment, tags_of, words_with};
+use crate::setters::{calls_of, push_comment, setter_name, tags_of, words_with};
 use crate::shown::Site;
 use crate::slots::{Slots, is_any, owned_of};
 use crate::value_templates::POINTER_SETTER;
@@ -34,7 +34,7 @@ pub fn push_pointer_setter(
     let arguments = slots.arguments(alloc, place.offset, schema.as_str(), "V")?;
     push_comment(code, field, comment)?;
     let holes = Holes::new(alloc)
-        .holding("name", name_of(alloc, owner, field)?)?
+        .holding("name", setter_name(alloc, owner, field)?)?
         .with("path", owner.path.as_str())?
         .holding("generic", generic)?
         .holding("taken", taken)?

@@ -6,6 +6,7 @@ use crate::numbers::{Number, NumberKind, default_bits, literal, number_of};
 use crate::owners::Owner;
 use crate::schema::{Base, Field, Place, Slot};
 use crate::shown::Site;
+use crate::slots::owned_of;
 use crate::value_templates::{DATA_SETTER, ENUM_CLAUSE, NUMBER_CLAUSE};
 use std::alloc::{AllocError, Global};
 use std::fmt::Write;
@@ -19,6 +20,25 @@ pub fn is_data(field: &Field) -> bool {
         }
         _ => false,
     }
+}
+
+/// Whether a field has a setter: not nothing that is no member of a union, and no interface.
+pub fn has_setter(
+    alloc: Global,
+    owner: &Owner<'_>,
+    site: Site<'_>,
+    field: &Field,
+) -> Result<bool, AllocError> {
+    let Slot::At(place) = &field.slot else {
+        return Ok(false);
+    };
+    if !is_data(field) {
+        return Ok(owned_of(alloc, place.of)?.is_some());
+    }
+    if place.of.base != Base::Void {
+        return Ok(true);
+    }
+    Ok(!tags_of(alloc, owner, site, field)?.is_empty())
 }
 
 /// The numbers of unions that are set with a field: those of the groups around it, and its own.
@@ -69,9 +89,10 @@ pub fn push_comment(code: &mut Code, field: &Field, comment: &str) -> Result<(),
     }
 }
 
-/// The name of a setter, without `set_`.
-pub fn name_of(alloc: Global, owner: &Owner<'_>, field: &Field) -> Result<String, AllocError> {
-    let mut name = String::from_str(alloc, owner.prefix.as_str())?;
+/// The name of a setter.
+pub fn setter_name(alloc: Global, owner: &Owner<'_>, field: &Field) -> Result<String, AllocError> {
+    let mut name = String::from_str(alloc, "set_")?;
+    name.push_str(owner.prefix.as_str())?;
     name.push_str(snake(alloc, field.name.as_str())?.as_str())?;
     Ok(name)
 }
@@ -96,7 +117,7 @@ pub fn push_data_setter(
     };
     push_comment(code, field, comment)?;
     let holes = Holes::new(alloc)
-        .holding("name", name_of(alloc, owner, field)?)?
+        .holding("name", setter_name(alloc, owner, field)?)?
         .with("path", owner.path.as_str())?
         .holding("parameter", set.parameter)?
         .holding("clause", set.clause)?

@@ -43,7 +43,7 @@ impl<@parameters@> @path@With<@arguments@> {
 ";
 
 /// The setter of a number, a bool or an enum, or of nothing that is a member of a union.
-pub const DATA_SETTER: &str = "pub fn set_@name@(self@parameter@) -> Self
+pub const DATA_SETTER: &str = "pub fn @name@(self@parameter@) -> Self
     ensures words { @clause@ }
     ensures fields { result.value.fields ≡ self.value.fields }
 {
@@ -64,7 +64,7 @@ elim value [
 ]";
 
 /// The setter of a pointer.
-pub const POINTER_SETTER: &str = "pub fn set_@name@<@generic@>(
+pub const POINTER_SETTER: &str = "pub fn @name@<@generic@>(
     self,
     value: @taken@,
 ) -> @path@With<@arguments@>
