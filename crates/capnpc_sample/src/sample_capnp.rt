@@ -1,8 +1,9 @@
 //! Types of `sample.capnp`, made by `capnpc-rattle`: change that file, and make them again.
-ghost use Rattle.std.specs.Prelude.{◌≡◌, ◌≤◌, ◌<◌, ◌==◌, ◌↔◌, IsTrue, bit_xor, from_bits, length};
+ghost use Rattle.std.specs.Prelude.{◌≡◌, ◌≤◌, ◌<◌, ◌==◌, ◌↔◌, if◌then◌else◌, IsTrue, bit_xor, from_bits, to_bits, length, replicate};
 ghost use Rattle.std.specs.Float.{binary64};
-ghost use Rattle.std.specs.Int.{w32, cast_signed};
+ghost use Rattle.std.specs.Int.{w32, cast_signed, cast_unsigned};
 ghost use Rattle.capnp_constant.specs.Constants.{segments_of, root_of};
+ghost use Rattle.capnp_values.specs.DataSections.{with_field};
 ghost use Rattle.capnp_wire.specs.Fields.{field};
 ghost use Rattle.capnp_wire.specs.ListViews.{element_of};
 ghost use Rattle.capnp_wire.specs.Object.{nothing};
@@ -37,6 +38,7 @@ pub fn get_corner() -> Result<point::Reader<'static, Words<16>>>
 pub mod point {
     use capnp_frame::Result;
     use capnp_frame::message::ReaderSegments;
+    use capnp_values::{NoFields, StructValue};
     use capnp_wire::any_struct::StructReader;
     use capnp_wire::traits::{self, FromPointerReader};
     use capnp_wire::{any_pointer, upgraded};
@@ -144,6 +146,49 @@ pub mod point {
             }
         }
     }
+
+    /// A struct of this type that is made field by field, as `value`.
+    #[derive(Drop)]
+    pub struct Setter<V> {
+        /// What the struct is.
+        pub value: V,
+    }
+
+    impl Setter<StructValue<1, NoFields>> {
+        /// One in which nothing is set, so that each field has its default.
+        pub fn new() -> Self
+            ensures { result.value.words ≡ replicate 1 0 }
+        {
+            let fields = NoFields;
+            Setter {
+                value: StructValue::new([0; 1], fields),
+            }
+        }
+    }
+
+    impl<F> Setter<StructValue<1, F>> {
+        /// Sets the field `x`.
+        pub fn set_x(self, value: i32) -> Self
+            ensures words { result.value.words
+                ≡ with_field self.value.words 32 0 (cast_unsigned w32 value) }
+            ensures fields { result.value.fields ≡ self.value.fields }
+        {
+            Setter {
+                value: self.value.with_data_field(0, value),
+            }
+        }
+
+        /// Sets the field `y`.
+        pub fn set_y(self, value: i32) -> Self
+            ensures words { result.value.words
+                ≡ with_field self.value.words 32 1 (cast_unsigned w32 value) }
+            ensures fields { result.value.fields ≡ self.value.fields }
+        {
+            Setter {
+                value: self.value.with_data_field(1, value),
+            }
+        }
+    }
 }
 
 /// Colors of a lamp.
@@ -175,15 +220,35 @@ impl Color {
     }
 }
 
+impl Color {
+    /// Its number.
+    pub fn to_number(self) -> u16
+        ensures { elim self [
+          | Color.Red ↦ result ≡ 0
+          | Color.Green ↦ result ≡ 1
+          | Color.DeepBlue ↦ result ≡ 2
+          | Color.NotInSchema unknown ↦ result ≡ unknown
+        ] }
+    {
+        match self {
+            Color::Red => 0,
+            Color::Green => 1,
+            Color::DeepBlue => 2,
+            Color::NotInSchema(unknown) => unknown,
+        }
+    }
+}
+
 /// A struct with a field of each kind.
 pub mod sample {
     use super::Color;
     use capnp_constant::{OrDefault, Words};
     use capnp_frame::Result;
     use capnp_frame::message::ReaderSegments;
+    use capnp_values::{Field, NoFields, Null, StructValue};
     use capnp_wire::any_struct::StructReader;
     use capnp_wire::primitive_element::PrimitiveElement;
-    use capnp_wire::traits::{self, FromPointerReader};
+    use capnp_wire::traits::{self, FromPointerReader, SetterInput};
     use capnp_wire::{any_pointer, text, upgraded};
 
     /// The type of the schema.
@@ -578,6 +643,693 @@ pub mod sample {
         }
     }
 
+    /// A struct of this type that is made field by field, as `value`.
+    #[derive(Drop)]
+    pub struct Setter<V> {
+        /// What the struct is.
+        pub value: V,
+    }
+
+    /// One whose pointers are set to values of these types.
+    pub type With<P0, P1, P2, P3, P4, P5, P6, P7, T8, P8> = Setter<
+        StructValue<
+            4,
+            Field<
+                text::Owned,
+                P0,
+                Field<
+                    capnp_wire::data::Owned,
+                    P1,
+                    Field<
+                        capnp_wire::struct_list::Owned,
+                        P2,
+                        Field<
+                            capnp_wire::primitive_list::Owned<u32>,
+                            P3,
+                            Field<
+                                capnp_wire::any_struct::Owned,
+                                P4,
+                                Field<
+                                    text::Owned,
+                                    P5,
+                                    Field<
+                                        text::Owned,
+                                        P6,
+                                        Field<
+                                            capnp_wire::any_struct::Owned,
+                                            P7,
+                                            Field<T8, P8, NoFields>,
+                                        >,
+                                    >,
+                                >,
+                            >,
+                        >,
+                    >,
+                >,
+            >,
+        >,
+    >;
+
+    impl With<Null, Null, Null, Null, Null, Null, Null, Null, any_pointer::Owned, Null> {
+        /// One in which nothing is set, so that each field has its default.
+        pub fn new() -> Self
+            ensures { result.value.words ≡ replicate 4 0 }
+        {
+            let fields = NoFields;
+            let fields = Field::new(Null, fields);
+            let fields = Field::new(Null, fields);
+            let fields = Field::new(Null, fields);
+            let fields = Field::new(Null, fields);
+            let fields = Field::new(Null, fields);
+            let fields = Field::new(Null, fields);
+            let fields = Field::new(Null, fields);
+            let fields = Field::new(Null, fields);
+            let fields = Field::new(Null, fields);
+            Setter {
+                value: StructValue::new([0; 4], fields),
+            }
+        }
+    }
+
+    impl<F> Setter<StructValue<4, F>> {
+        /// Sets the field `count`:
+        /// How many there are.
+        pub fn set_count(self, value: u16) -> Self
+            ensures words { result.value.words
+                ≡ with_field self.value.words 16 0 value }
+            ensures fields { result.value.fields ≡ self.value.fields }
+        {
+            Setter {
+                value: self.value.with_data_field(0, value),
+            }
+        }
+
+        /// Sets the field `balance`.
+        pub fn set_balance(self, value: i32) -> Self
+            ensures words { result.value.words
+                ≡ with_field self.value.words 32 1 (bit_xor (cast_unsigned w32 value) 4294967291) }
+            ensures fields { result.value.fields ≡ self.value.fields }
+        {
+            Setter {
+                value: self.value.with_data_field_mask(1, value, -5),
+            }
+        }
+
+        /// Sets the field `isReady`.
+        pub fn set_is_ready(self, value: bool) -> Self
+            ensures words { result.value.words
+                ≡ with_field self.value.words 1 16 (if value then 1 else 0) }
+            ensures fields { result.value.fields ≡ self.value.fields }
+        {
+            Setter {
+                value: self.value.with_data_field(16, value),
+            }
+        }
+
+        /// Sets the field `color`.
+        pub fn set_color(self, value: Color) -> Self
+            ensures words { let words = self.value.words in
+                elim value [
+                  | Color.Red ↦ result.value.words ≡ with_field words 16 4 0
+                  | Color.Green ↦ result.value.words ≡ with_field words 16 4 1
+                  | Color.DeepBlue ↦ result.value.words ≡ with_field words 16 4 2
+                  | Color.NotInSchema unknown ↦ result.value.words ≡ with_field words 16 4 unknown
+                ] }
+            ensures fields { result.value.fields ≡ self.value.fields }
+        {
+            Setter {
+                value: self.value.with_data_field(4, value.to_number()),
+            }
+        }
+
+        /// Sets the field `nothing`.
+        pub fn set_nothing(self) -> Self
+            ensures words { result.value.words ≡ (with_field self.value.words 16 7 0) }
+            ensures fields { result.value.fields ≡ self.value.fields }
+        {
+            Setter {
+                value: self.value.with_data_field::<u16>(7, 0),
+            }
+        }
+
+        /// Sets the field `size`.
+        pub fn set_size(self, value: u32) -> Self
+            ensures words { result.value.words
+                ≡ with_field (with_field self.value.words 16 7 1) 32 4 value }
+            ensures fields { result.value.fields ≡ self.value.fields }
+        {
+            Setter {
+                value: self
+                    .value
+                    .with_data_field::<u16>(7, 1)
+                    .with_data_field(4, value),
+            }
+        }
+
+        /// Sets the field `ratio`.
+        pub fn set_ratio(self, value: f64) -> Self
+            ensures words { result.value.words
+                ≡ with_field self.value.words 64 3 (bit_xor (to_bits binary64 value) 4602678819172646912) }
+            ensures fields { result.value.fields ≡ self.value.fields }
+        {
+            Setter {
+                value: self
+                    .value
+                    .with_data_field_mask::<u64>(
+                        3,
+                        PrimitiveElement::to_bits(value),
+                        4602678819172646912,
+                    ),
+            }
+        }
+    }
+
+    impl<
+        P0: Drop,
+        P1: Drop,
+        P2: Drop,
+        P3: Drop,
+        P4: Drop,
+        P5: Drop,
+        P6: Drop,
+        P7: Drop,
+        T8,
+        P8: Drop,
+    > With<P0, P1, P2, P3, P4, P5, P6, P7, T8, P8> {
+        /// Sets the field `title`.
+        pub fn set_title<V: SetterInput<text::Owned>>(
+            self,
+            value: V,
+        ) -> With<V, P1, P2, P3, P4, P5, P6, P7, T8, P8>
+            ensures words { result.value.words ≡ self.value.words }
+            ensures set { result.value.fields.value ≡ value }
+            ensures after { result.value.fields.rest
+                ≡ self.value.fields.rest }
+        {
+            let StructValue {
+                words,
+                fields: rest,
+            } = self.value;
+            let Field {
+                rest,
+                value: _,
+                schema: _,
+            } = rest;
+            let rest = Field::new(value, rest);
+            Setter {
+                value: StructValue::new(words, rest),
+            }
+        }
+
+        /// Sets the field `payload`.
+        pub fn set_payload<V: SetterInput<capnp_wire::data::Owned>>(
+            self,
+            value: V,
+        ) -> With<P0, V, P2, P3, P4, P5, P6, P7, T8, P8>
+            ensures words { result.value.words ≡ self.value.words }
+            ensures set { result.value.fields.rest.value ≡ value }
+            ensures before_0 { result.value.fields.value
+                ≡ self.value.fields.value }
+            ensures after { result.value.fields.rest.rest
+                ≡ self.value.fields.rest.rest }
+        {
+            let StructValue {
+                words,
+                fields: rest,
+            } = self.value;
+            let Field {
+                value: value_0,
+                rest,
+                schema: _,
+            } = rest;
+            let Field {
+                rest,
+                value: _,
+                schema: _,
+            } = rest;
+            let rest = Field::new(value, rest);
+            let rest = Field::new(value_0, rest);
+            Setter {
+                value: StructValue::new(words, rest),
+            }
+        }
+
+        /// Sets the field `points`.
+        pub fn set_points<V: SetterInput<capnp_wire::struct_list::Owned>>(
+            self,
+            value: V,
+        ) -> With<P0, P1, V, P3, P4, P5, P6, P7, T8, P8>
+            ensures words { result.value.words ≡ self.value.words }
+            ensures set { result.value.fields.rest.rest.value ≡ value }
+            ensures before_0 { result.value.fields.value
+                ≡ self.value.fields.value }
+            ensures before_1 { result.value.fields.rest.value
+                ≡ self.value.fields.rest.value }
+            ensures after { result.value.fields.rest.rest.rest
+                ≡ self.value.fields.rest.rest.rest }
+        {
+            let StructValue {
+                words,
+                fields: rest,
+            } = self.value;
+            let Field {
+                value: value_0,
+                rest,
+                schema: _,
+            } = rest;
+            let Field {
+                value: value_1,
+                rest,
+                schema: _,
+            } = rest;
+            let Field {
+                rest,
+                value: _,
+                schema: _,
+            } = rest;
+            let rest = Field::new(value, rest);
+            let rest = Field::new(value_1, rest);
+            let rest = Field::new(value_0, rest);
+            Setter {
+                value: StructValue::new(words, rest),
+            }
+        }
+
+        /// Sets the field `numbers`.
+        pub fn set_numbers<V: SetterInput<capnp_wire::primitive_list::Owned<u32>>>(
+            self,
+            value: V,
+        ) -> With<P0, P1, P2, V, P4, P5, P6, P7, T8, P8>
+            ensures words { result.value.words ≡ self.value.words }
+            ensures set { result.value.fields.rest.rest.rest.value ≡ value }
+            ensures before_0 { result.value.fields.value
+                ≡ self.value.fields.value }
+            ensures before_1 { result.value.fields.rest.value
+                ≡ self.value.fields.rest.value }
+            ensures before_2 { result.value.fields.rest.rest.value
+                ≡ self.value.fields.rest.rest.value }
+            ensures after { result.value.fields.rest.rest.rest.rest
+                ≡ self.value.fields.rest.rest.rest.rest }
+        {
+            let StructValue {
+                words,
+                fields: rest,
+            } = self.value;
+            let Field {
+                value: value_0,
+                rest,
+                schema: _,
+            } = rest;
+            let Field {
+                value: value_1,
+                rest,
+                schema: _,
+            } = rest;
+            let Field {
+                value: value_2,
+                rest,
+                schema: _,
+            } = rest;
+            let Field {
+                rest,
+                value: _,
+                schema: _,
+            } = rest;
+            let rest = Field::new(value, rest);
+            let rest = Field::new(value_2, rest);
+            let rest = Field::new(value_1, rest);
+            let rest = Field::new(value_0, rest);
+            Setter {
+                value: StructValue::new(words, rest),
+            }
+        }
+
+        /// Sets the field `origin`.
+        pub fn set_origin<V: SetterInput<capnp_wire::any_struct::Owned>>(
+            self,
+            value: super::point::Setter<V>,
+        ) -> With<P0, P1, P2, P3, V, P5, P6, P7, T8, P8>
+            ensures words { result.value.words ≡ self.value.words }
+            ensures set { result.value.fields.rest.rest.rest.rest.value ≡ value.value }
+            ensures before_0 { result.value.fields.value
+                ≡ self.value.fields.value }
+            ensures before_1 { result.value.fields.rest.value
+                ≡ self.value.fields.rest.value }
+            ensures before_2 { result.value.fields.rest.rest.value
+                ≡ self.value.fields.rest.rest.value }
+            ensures before_3 { result.value.fields.rest.rest.rest.value
+                ≡ self.value.fields.rest.rest.rest.value }
+            ensures after { result.value.fields.rest.rest.rest.rest.rest
+                ≡ self.value.fields.rest.rest.rest.rest.rest }
+        {
+            let StructValue {
+                words,
+                fields: rest,
+            } = self.value;
+            let Field {
+                value: value_0,
+                rest,
+                schema: _,
+            } = rest;
+            let Field {
+                value: value_1,
+                rest,
+                schema: _,
+            } = rest;
+            let Field {
+                value: value_2,
+                rest,
+                schema: _,
+            } = rest;
+            let Field {
+                value: value_3,
+                rest,
+                schema: _,
+            } = rest;
+            let Field {
+                rest,
+                value: _,
+                schema: _,
+            } = rest;
+            let rest = Field::new(value.value, rest);
+            let rest = Field::new(value_3, rest);
+            let rest = Field::new(value_2, rest);
+            let rest = Field::new(value_1, rest);
+            let rest = Field::new(value_0, rest);
+            Setter {
+                value: StructValue::new(words, rest),
+            }
+        }
+
+        /// Sets the field `label`.
+        pub fn set_label<V: SetterInput<text::Owned>>(
+            self,
+            value: V,
+        ) -> With<P0, P1, P2, P3, P4, V, P6, P7, T8, P8>
+            ensures words { result.value.words ≡ (with_field self.value.words 16 7 2) }
+            ensures set { result.value.fields.rest.rest.rest.rest.rest.value ≡ value }
+            ensures before_0 { result.value.fields.value
+                ≡ self.value.fields.value }
+            ensures before_1 { result.value.fields.rest.value
+                ≡ self.value.fields.rest.value }
+            ensures before_2 { result.value.fields.rest.rest.value
+                ≡ self.value.fields.rest.rest.value }
+            ensures before_3 { result.value.fields.rest.rest.rest.value
+                ≡ self.value.fields.rest.rest.rest.value }
+            ensures before_4 { result.value.fields.rest.rest.rest.rest.value
+                ≡ self.value.fields.rest.rest.rest.rest.value }
+            ensures after { result.value.fields.rest.rest.rest.rest.rest.rest
+                ≡ self.value.fields.rest.rest.rest.rest.rest.rest }
+        {
+            let StructValue {
+                words,
+                fields: rest,
+            } = self.value;
+            let Field {
+                value: value_0,
+                rest,
+                schema: _,
+            } = rest;
+            let Field {
+                value: value_1,
+                rest,
+                schema: _,
+            } = rest;
+            let Field {
+                value: value_2,
+                rest,
+                schema: _,
+            } = rest;
+            let Field {
+                value: value_3,
+                rest,
+                schema: _,
+            } = rest;
+            let Field {
+                value: value_4,
+                rest,
+                schema: _,
+            } = rest;
+            let Field {
+                rest,
+                value: _,
+                schema: _,
+            } = rest;
+            let rest = Field::new(value, rest);
+            let rest = Field::new(value_4, rest);
+            let rest = Field::new(value_3, rest);
+            let rest = Field::new(value_2, rest);
+            let rest = Field::new(value_1, rest);
+            let rest = Field::new(value_0, rest);
+            Setter {
+                value: StructValue::new(words, rest).with_data_field::<u16>(7, 2),
+            }
+        }
+
+        /// Sets the field `note`.
+        pub fn set_note<V: SetterInput<text::Owned>>(
+            self,
+            value: V,
+        ) -> With<P0, P1, P2, P3, P4, P5, V, P7, T8, P8>
+            ensures words { result.value.words ≡ self.value.words }
+            ensures set { result.value.fields.rest.rest.rest.rest.rest.rest.value ≡ value }
+            ensures before_0 { result.value.fields.value
+                ≡ self.value.fields.value }
+            ensures before_1 { result.value.fields.rest.value
+                ≡ self.value.fields.rest.value }
+            ensures before_2 { result.value.fields.rest.rest.value
+                ≡ self.value.fields.rest.rest.value }
+            ensures before_3 { result.value.fields.rest.rest.rest.value
+                ≡ self.value.fields.rest.rest.rest.value }
+            ensures before_4 { result.value.fields.rest.rest.rest.rest.value
+                ≡ self.value.fields.rest.rest.rest.rest.value }
+            ensures before_5 { result.value.fields.rest.rest.rest.rest.rest.value
+                ≡ self.value.fields.rest.rest.rest.rest.rest.value }
+            ensures after { result.value.fields.rest.rest.rest.rest.rest.rest.rest
+                ≡ self.value.fields.rest.rest.rest.rest.rest.rest.rest }
+        {
+            let StructValue {
+                words,
+                fields: rest,
+            } = self.value;
+            let Field {
+                value: value_0,
+                rest,
+                schema: _,
+            } = rest;
+            let Field {
+                value: value_1,
+                rest,
+                schema: _,
+            } = rest;
+            let Field {
+                value: value_2,
+                rest,
+                schema: _,
+            } = rest;
+            let Field {
+                value: value_3,
+                rest,
+                schema: _,
+            } = rest;
+            let Field {
+                value: value_4,
+                rest,
+                schema: _,
+            } = rest;
+            let Field {
+                value: value_5,
+                rest,
+                schema: _,
+            } = rest;
+            let Field {
+                rest,
+                value: _,
+                schema: _,
+            } = rest;
+            let rest = Field::new(value, rest);
+            let rest = Field::new(value_5, rest);
+            let rest = Field::new(value_4, rest);
+            let rest = Field::new(value_3, rest);
+            let rest = Field::new(value_2, rest);
+            let rest = Field::new(value_1, rest);
+            let rest = Field::new(value_0, rest);
+            Setter {
+                value: StructValue::new(words, rest),
+            }
+        }
+
+        /// Sets the field `target`.
+        pub fn set_target<V: SetterInput<capnp_wire::any_struct::Owned>>(
+            self,
+            value: super::point::Setter<V>,
+        ) -> With<P0, P1, P2, P3, P4, P5, P6, V, T8, P8>
+            ensures words { result.value.words ≡ self.value.words }
+            ensures set { result.value.fields.rest.rest.rest.rest.rest.rest.rest.value ≡ value.value }
+            ensures before_0 { result.value.fields.value
+                ≡ self.value.fields.value }
+            ensures before_1 { result.value.fields.rest.value
+                ≡ self.value.fields.rest.value }
+            ensures before_2 { result.value.fields.rest.rest.value
+                ≡ self.value.fields.rest.rest.value }
+            ensures before_3 { result.value.fields.rest.rest.rest.value
+                ≡ self.value.fields.rest.rest.rest.value }
+            ensures before_4 { result.value.fields.rest.rest.rest.rest.value
+                ≡ self.value.fields.rest.rest.rest.rest.value }
+            ensures before_5 { result.value.fields.rest.rest.rest.rest.rest.value
+                ≡ self.value.fields.rest.rest.rest.rest.rest.value }
+            ensures before_6 { result.value.fields.rest.rest.rest.rest.rest.rest.value
+                ≡ self.value.fields.rest.rest.rest.rest.rest.rest.value }
+            ensures after { result.value.fields.rest.rest.rest.rest.rest.rest.rest.rest
+                ≡ self.value.fields.rest.rest.rest.rest.rest.rest.rest.rest }
+        {
+            let StructValue {
+                words,
+                fields: rest,
+            } = self.value;
+            let Field {
+                value: value_0,
+                rest,
+                schema: _,
+            } = rest;
+            let Field {
+                value: value_1,
+                rest,
+                schema: _,
+            } = rest;
+            let Field {
+                value: value_2,
+                rest,
+                schema: _,
+            } = rest;
+            let Field {
+                value: value_3,
+                rest,
+                schema: _,
+            } = rest;
+            let Field {
+                value: value_4,
+                rest,
+                schema: _,
+            } = rest;
+            let Field {
+                value: value_5,
+                rest,
+                schema: _,
+            } = rest;
+            let Field {
+                value: value_6,
+                rest,
+                schema: _,
+            } = rest;
+            let Field {
+                rest,
+                value: _,
+                schema: _,
+            } = rest;
+            let rest = Field::new(value.value, rest);
+            let rest = Field::new(value_6, rest);
+            let rest = Field::new(value_5, rest);
+            let rest = Field::new(value_4, rest);
+            let rest = Field::new(value_3, rest);
+            let rest = Field::new(value_2, rest);
+            let rest = Field::new(value_1, rest);
+            let rest = Field::new(value_0, rest);
+            Setter {
+                value: StructValue::new(words, rest),
+            }
+        }
+
+        /// Sets the field `anything`.
+        pub fn set_anything<T, V: SetterInput<T>>(
+            self,
+            value: V,
+        ) -> With<P0, P1, P2, P3, P4, P5, P6, P7, T, V>
+            ensures words { result.value.words ≡ self.value.words }
+            ensures set { result.value.fields.rest.rest.rest.rest.rest.rest.rest.rest.value ≡ value }
+            ensures before_0 { result.value.fields.value
+                ≡ self.value.fields.value }
+            ensures before_1 { result.value.fields.rest.value
+                ≡ self.value.fields.rest.value }
+            ensures before_2 { result.value.fields.rest.rest.value
+                ≡ self.value.fields.rest.rest.value }
+            ensures before_3 { result.value.fields.rest.rest.rest.value
+                ≡ self.value.fields.rest.rest.rest.value }
+            ensures before_4 { result.value.fields.rest.rest.rest.rest.value
+                ≡ self.value.fields.rest.rest.rest.rest.value }
+            ensures before_5 { result.value.fields.rest.rest.rest.rest.rest.value
+                ≡ self.value.fields.rest.rest.rest.rest.rest.value }
+            ensures before_6 { result.value.fields.rest.rest.rest.rest.rest.rest.value
+                ≡ self.value.fields.rest.rest.rest.rest.rest.rest.value }
+            ensures before_7 { result.value.fields.rest.rest.rest.rest.rest.rest.rest.value
+                ≡ self.value.fields.rest.rest.rest.rest.rest.rest.rest.value }
+            ensures after { result.value.fields.rest.rest.rest.rest.rest.rest.rest.rest.rest
+                ≡ self.value.fields.rest.rest.rest.rest.rest.rest.rest.rest.rest }
+        {
+            let StructValue {
+                words,
+                fields: rest,
+            } = self.value;
+            let Field {
+                value: value_0,
+                rest,
+                schema: _,
+            } = rest;
+            let Field {
+                value: value_1,
+                rest,
+                schema: _,
+            } = rest;
+            let Field {
+                value: value_2,
+                rest,
+                schema: _,
+            } = rest;
+            let Field {
+                value: value_3,
+                rest,
+                schema: _,
+            } = rest;
+            let Field {
+                value: value_4,
+                rest,
+                schema: _,
+            } = rest;
+            let Field {
+                value: value_5,
+                rest,
+                schema: _,
+            } = rest;
+            let Field {
+                value: value_6,
+                rest,
+                schema: _,
+            } = rest;
+            let Field {
+                value: value_7,
+                rest,
+                schema: _,
+            } = rest;
+            let Field {
+                rest,
+                value: _,
+                schema: _,
+            } = rest;
+            let rest = Field::new(value, rest);
+            let rest = Field::new(value_7, rest);
+            let rest = Field::new(value_6, rest);
+            let rest = Field::new(value_5, rest);
+            let rest = Field::new(value_4, rest);
+            let rest = Field::new(value_3, rest);
+            let rest = Field::new(value_2, rest);
+            let rest = Field::new(value_1, rest);
+            let rest = Field::new(value_0, rest);
+            Setter {
+                value: StructValue::new(words, rest),
+            }
+        }
+    }
+
     #[rattlefmt::skip]
     pub static NOTE_DEFAULT: Words<16> = Words { bytes: [
         1, 0, 0, 0, 42, 0, 0, 0,
@@ -615,6 +1367,7 @@ pub mod sample {
     /// What is seen of it.
     pub mod window {
         use capnp_frame::message::ReaderSegments;
+        use capnp_values::StructValue;
         use capnp_wire::any_struct::StructReader;
 
         /// The group, in a struct in a message.
@@ -639,6 +1392,30 @@ pub mod sample {
                     result ≡ field fields.words 16 6 }
             {
                 self.fields.get_data_field(6)
+            }
+        }
+
+        impl<F> super::Setter<StructValue<4, F>> {
+            /// Sets the field `width`.
+            pub fn set_window_width(self, value: u16) -> Self
+                ensures words { result.value.words
+                    ≡ with_field self.value.words 16 5 value }
+                ensures fields { result.value.fields ≡ self.value.fields }
+            {
+                super::Setter {
+                    value: self.value.with_data_field(5, value),
+                }
+            }
+
+            /// Sets the field `height`.
+            pub fn set_window_height(self, value: u16) -> Self
+                ensures words { result.value.words
+                    ≡ with_field self.value.words 16 6 value }
+                ensures fields { result.value.fields ≡ self.value.fields }
+            {
+                super::Setter {
+                    value: self.value.with_data_field(6, value),
+                }
             }
         }
     }

@@ -1,4 +1,7 @@
-//! Messages that the C++ tool wrote of `sample.capnp`, read by the types that are made of it.
+//! Messages that the C++ tool wrote of `sample.capnp`, read by the types that are made of it, and messages
+//! that these make.
+mod values;
+
 use crate::sample_capnp::{Color, LIMIT, get_corner, sample};
 use capnp_constant::OrDefault;
 use capnp_frame::message::{ReaderOptions, SegmentArray};
@@ -10,7 +13,7 @@ use std::test::Fail;
 // color = deepBlue, window = (width = 80, height = 24), label = "here", ratio = -2.5, note = "some",
 // target = (y = 8))
 #[rattlefmt::skip]
-const FILLED: &[u8] = &[
+pub(crate) const FILLED: &[u8] = &[
     0, 0, 0, 0, 4, 0, 9, 0,
     7, 0, 1, 0, 247, 255, 255, 255,
     2, 0, 80, 0, 24, 0, 2, 0,
@@ -40,7 +43,7 @@ const FILLED: &[u8] = &[
 
 // ()
 #[rattlefmt::skip]
-const EMPTY: &[u8] = &[
+pub(crate) const EMPTY: &[u8] = &[
     0, 0, 0, 0, 4, 0, 9, 0,
     0, 0, 0, 0, 0, 0, 0, 0,
     0, 0, 0, 0, 0, 0, 0, 0,
