@@ -11,25 +11,18 @@ use std::test::Fail;
 fn a_sample_is_written_and_read_back(rt: HostRuntime) -> Result<(), Fail> {
     let alloc = rt.alloc();
     let origin = point::Setter::new().set_x(3).set_y(-4);
-    let made = sample::Setter::new()
-        .set_count(7)
-        .set_title("A title")
-        .set_origin(origin);
+    let made = sample::Setter::new().set_count(7).set_origin(origin);
     let mut message = Builder::new_default(alloc);
-    message.set_root::<any_struct::Owned, _>(made.value)?;
+    message.set_root::<any_struct::Owned, _>(made.set_title("A title").value)?;
     let mut stream: Vec<u8> = Vec::new(alloc);
     serialize::write_message(alloc, &mut stream, &message)?;
     let mut source = stream.as_slice();
     let message = serialize::read_message(alloc, &mut source, DEFAULT_READER_OPTIONS)?;
     let read: sample::Reader<'_, OwnedSegments> = message.get_root()?;
-    assert_eq!(rt;
-        (read.get_count(), read.get_title()?.as_bytes()),
-        (7, b"A title".as_slice())
-    );
-    assert_eq!(rt;
-        (read.get_origin()?.get_x(), read.get_origin()?.get_y()),
-        (3, -4)
-    );
+    assert_eq!(rt; read.get_count(), 7);
+    let origin = read.get_origin()?;
+    assert_eq!(rt; read.get_title()?.as_bytes(), b"A title".as_slice());
+    assert_eq!(rt; (origin.get_x(), origin.get_y()), (3, -4));
     Ok(())
 }
 
