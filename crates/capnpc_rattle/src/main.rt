@@ -3,8 +3,8 @@
 //!
 //! It reads a `CodeGeneratorRequest` from standard input, and writes `NAME_capnp.rt` for each file that is
 //! asked for, in the folder in which it runs, or in that of its first argument; to standard output where
-//! that is `-`. Nothing is written before all of it is made. Where the environment has `readers` as
-//! `CAPNPC_RATTLE`, it writes readers alone, and else values, too.
+//! that is `-`. Nothing is written before all of it is made. Where its second argument is `readers`, or the
+//! environment has that as `CAPNPC_RATTLE`, it writes readers alone, and else values, too.
 #![tactic(auto)]
 
 mod checked;
@@ -55,8 +55,11 @@ fn main(rt: HostRuntime) -> ExitCode {
     }
 }
 
-// Whether readers alone are asked for, by the environment.
-fn is_for_readers(rt: &HostRuntime) -> bool {
+// Whether readers alone are asked for, by an argument or by the environment.
+fn is_for_readers(rt: &HostRuntime, words: &[String]) -> bool {
+    if let Some(word) = words.get(2) {
+        return word.as_str() == "readers";
+    }
     match env::var(rt, "CAPNPC_RATTLE") {
         Ok(word) => word.as_str() == "readers",
         Err(_) => false,
@@ -76,7 +79,8 @@ fn run(rt: HostRuntime) -> Result<()> {
         .get_root()
         .and_then(|root| root.get_as())
         .context("standard input is no request of the schema compiler")?;
-    let request = request::read_request(alloc, &root, !is_for_readers(&rt)).context(
+    let has_values = !is_for_readers(&rt, words.as_slice());
+    let request = request::read_request(alloc, &root, has_values).context(
         "standard input is no request of the schema compiler",
     )?;
     let outputs = outputs_of(alloc, &request)?;
