@@ -96,9 +96,9 @@ const TRAITS: &[(&str, &str)] = &[
 
 /// What is imported of the values.
 const VALUES: &[(&str, &str)] = &[
-    ("Field", "Field<"),
-    ("NoFields", "NoFields"),
-    ("Null", "Null"),
+    ("Field", "Field::new("),
+    ("NoFields", "NoFields;"),
+    ("Null", "Field::new(Null,"),
     ("StructValue", "StructValue"),
 ];
 
