@@ -1,7 +1,7 @@
 //! Values by the types that are made of `sample.capnp`, set as the roots of messages.
 use crate::sample_capnp::{Color, point, sample};
 use crate::tests::{EMPTY, FILLED};
-use capnp::message::{Builder, DEFAULT_READER_OPTIONS};
+use capnp::message::{Builder, DEFAULT_READER_OPTIONS, ReaderSegments};
 use capnp::{any_struct, serialize};
 use capnp_frame::serialize::OwnedSegments;
 use capnp_values::{NumberList, StructList};
