@@ -1,0 +1,50 @@
+//! Runs a job that users of the library wait for, on messages that are made of a seed, and prints a
+//! digest of all that it returned.
+//!
+//! Its words are the job, the seed and how many messages or rows are made: `capnp_bench log 1 1000`.
+//! `all` runs each job in turn.
+#![tactic(auto)]
+
+mod canon;
+mod convert;
+mod digest;
+mod far;
+mod log;
+mod random;
+mod raw;
+mod walk;
+
+use anyhow::Result;
+use std::alloc::Global;
+use std::env;
+
+fn main(rt: HostRuntime) -> Result<()> {
+    let job = env::args(&rt)?.nth(1);
+    let seed = number(env::args(&rt)?.nth(2).as_deref());
+    let count = number(env::args(&rt)?.nth(3).as_deref());
+    let job = job.as_deref().unwrap_or("all");
+    for name in ["log", "convert", "walk", "canon", "far"] {
+        if job == name || job == "all" {
+            let digest = digest_of(rt.alloc(), name, seed, count)?;
+            println!(rt; "{name} {digest}")?;
+        }
+    }
+    Ok(())
+}
+
+fn number(word: Option<&str>) -> u32 {
+    match word {
+        Some(digits) => digits.parse::<u32>().unwrap_or(1),
+        None => 1,
+    }
+}
+
+fn digest_of(alloc: Global, job: &str, seed: u32, count: u32) -> capnp::Result<u64> {
+    match job {
+        "log" => log::digest_of(alloc, seed, count),
+        "convert" => convert::digest_of(alloc, seed, count),
+        "walk" => walk::digest_of(alloc, seed, count),
+        "canon" => canon::digest_of(alloc, seed, count),
+        _ => far::digest_of(alloc, seed, count),
+    }
+}
