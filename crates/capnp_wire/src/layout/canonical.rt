@@ -1,8 +1,8 @@
 //! Walks that test whether objects stand as the canonical form has them.
-ghost use Rattle.std.specs.Prelude.{◌≡◌, ◌↔◌, ◌+◌, ◌/◌, ◌^◌, ◌<◌, ◌≤◌, [], ◌∷◌, length, Option, IfOk, IfErr, IsTrue, true, false};
-ghost use Rattle.capnp_wire.specs.Pointer.{words_of};
+ghost use Rattle.std.specs.Prelude.{◌≡◌, ◌≢◌, ◌↔◌, ◌+◌, ◌/◌, ◌^◌, ◌<◌, ◌≤◌, ℕ, [], ◌∷◌, length, slice_get, Option, Some, IfOk, IfErr, IsTrue, true, false};
+ghost use Rattle.capnp_wire.specs.Pointer.{words_of, pointer_kind};
 ghost use Rattle.capnp_wire.specs.Object.{message_of};
-ghost use Rattle.capnp_wire.specs.Landing.{shape_of, room_of, words_in};
+ghost use Rattle.capnp_wire.specs.Landing.{IsObject, shape_of, room_of, words_in};
 ghost use Rattle.std.specs.Result.{IsErrAnd};
 ghost use Rattle.capnp_frame.specs.declared.error.ErrorKind.{ErrorKind};
 ghost use Rattle.capnp_wire.specs.Reached.{root};
@@ -11,8 +11,9 @@ ghost use Rattle.capnp_wire.specs.Rows.{places_in, end_of};
 ghost use Rattle.capnp_wire.specs.Tested.{NextOf, PaddedOf, IsTight, links_at, PassesAt, IsMet, Ends, refused, not_canonical};
 ghost use Rattle.capnp_wire.specs.declared.layout.place.Place.{Place};
 
+use crate::layout::near::{near_list, near_struct};
 use crate::layout::object::{Object, object_at};
-use crate::layout::place::{Place, pointer_at};
+use crate::layout::place::{Place, existing_word, pointer_at};
 use crate::layout::rows::PointerRows;
 use crate::layout::tested::{body_is_padded, is_next, is_tight};
 use crate::layout::walk::Walk;
@@ -58,6 +59,7 @@ impl CanonicalWalk {
     /// Whether the object that the pointer at a word leads to, and all below it, stand as the
     /// canonical form has them, from the next free word on. It goes in preorder, and stops at the
     /// first that doesn't, or at the first refusal.
+    #[inline(always)]
     #[cycle(testing)]
     pub(crate) fn test<S: ReaderSegments>(
         &mut self,
@@ -83,7 +85,13 @@ impl CanonicalWalk {
         match self.meet(segments, segment, word, nesting)? {
             Met::Null => Ok(true),
             Met::NotCanonical => Ok(false),
-            Met::Pointers(pointers) => self.test_pointers(segments, segment, pointers, nesting - 1),
+            Met::Pointers(pointers) => {
+                // Most objects hold no pointers: only what holds some takes a call.
+                if pointers.is_empty() {
+                    return Ok(true);
+                }
+                self.test_pointers(segments, segment, pointers, nesting - 1)
+            }
         }
     }
 
@@ -118,7 +126,9 @@ impl CanonicalWalk {
         Ok(true)
     }
 
-    // Enters the object that the pointer at a word leads to, and tests it by itself.
+    // Enters the object that the pointer at a word leads to, and tests it by itself. What most pointers
+    // lead to is found in the segment in hand, and its pointer read once.
+    #[inline(always)]
     fn meet<S: ReaderSegments>(
         &mut self,
         segments: &S,
@@ -136,16 +146,77 @@ impl CanonicalWalk {
             IfErr result (λ error. Ends (words_of segment.now) (place ∷ []) nesting
             self.old.walk.left self.old.next (refused error.kind)) }
     {
-        let place = Place { segment: 0, word };
-        let pointer = pointer_at(segments, place)?;
+        let pointer = existing_word(segment, word)?;
+        if pointer == 0 {
+            return Ok(Met::Null);
+        }
         if pointer % 4 == 2 {
             return Ok(Met::NotCanonical);
         }
+        let place = Place { segment: 0, word };
+        if let Some(found) = near_struct(segment, place, nesting) {
+            return self.enter(segment, pointer, word, &found.object());
+        }
+        if let Some(list) = near_list(segment, place, nesting) {
+            return self.enter(segment, pointer, word, &list.object());
+        }
+        self.meet_object(segments, segment, pointer, word, nesting)
+    }
+
+    // Goes to what a pointer leads to that isn't far, whatever it is.
+    fn meet_object<S: ReaderSegments>(
+        &mut self,
+        segments: &S,
+        segment: &[u8],
+        pointer: u64,
+        word: usize,
+        nesting: u32,
+    ) -> Result<Met>
+        requires one { message_of (S.segments segments.now) ≡ words_of segment.now ∷ [] }
+        requires before { word < self.now.next }
+        requires within { self.now.next ≤ length segment.now / 8 }
+        requires there { slice_get (words_of segment.now) word ≡ Some pointer }
+        requires not_far { pointer_kind pointer ≢ 2 }
+        ensures found { let place : Place = record { segment = 0; word = word } in
+            IfOk result (λ met. IsMet (words_of segment.now) place nesting
+            self.old.walk.left self.new.walk.left self.old.next self.new.next met) }
+        ensures refused { let place : Place = record { segment = 0; word = word } in
+            IfErr result (λ error. Ends (words_of segment.now) (place ∷ []) nesting
+            self.old.walk.left self.old.next (refused error.kind)) }
+    {
+        let place = Place { segment: 0, word };
         let Some(object) = object_at(segments, place, nesting)? else {
             return Ok(Met::Null);
         };
-        self.walk.enter(&object, false)?;
-        if !is_laid_out(segment, pointer, word, self.next, &object) {
+        self.enter(segment, pointer, word, &object)
+    }
+
+    // Enters an object, which the pointer at a word leads to, and tests it by itself.
+    #[inline(always)]
+    fn enter(
+        &mut self,
+        segment: &[u8],
+        pointer: u64,
+        word: usize,
+        object: &Object<'_>,
+    ) -> Result<Met>
+        requires before { word < self.now.next }
+        requires within { self.now.next ≤ length segment.now / 8 }
+        requires there { slice_get (words_of segment.now) word ≡ Some pointer }
+        requires not_far { pointer_kind pointer ≢ 2 }
+        requires object { let place : Place = record { segment = 0; word = word } in
+            IsObject (words_of segment.now ∷ []) place object.now }
+        ensures found { let place : Place = record { segment = 0; word = word } in
+            (nesting : ℕ) → 0 < nesting →
+            IfOk result (λ met. IsMet (words_of segment.now) place nesting
+            self.old.walk.left self.new.walk.left self.old.next self.new.next met) }
+        ensures refused { let place : Place = record { segment = 0; word = word } in
+            (nesting : ℕ) → 0 < nesting →
+            IfErr result (λ error. Ends (words_of segment.now) (place ∷ []) nesting
+            self.old.walk.left self.old.next (refused error.kind)) }
+    {
+        self.walk.pay(object.traversed)?;
+        if !is_laid_out(segment, pointer, word, self.next, object) {
             return Ok(Met::NotCanonical);
         }
         self.next += object.body.words() as usize;
@@ -179,6 +250,7 @@ pub(crate) fn is_canonical<S: ReaderSegments>(
 }
 
 // Whether an object stands as the canonical form has it, by itself.
+#[inline(always)]
 fn is_laid_out(segment: &[u8], pointer: u64, word: usize, next: usize, object: &Object<'_>) -> bool
     requires before { word < next }
     requires bound { next < 2 ^ 62 }

@@ -12,7 +12,7 @@ use crate::layout::block::used;
 use crate::layout::formed::formed_size;
 use crate::layout::landing::land_near;
 use crate::layout::number_list::NumberList;
-use crate::layout::object::{fits, words_fit};
+use crate::layout::object::{Body, Object, fits, words_fit};
 use crate::layout::place::{Place, word};
 use crate::layout::pointer::{NearShape, PointerWord, StructSize};
 use crate::layout::rows::PointerRows;
@@ -113,7 +113,20 @@ pub(crate) struct NearStruct<'a> {
     pub size: StructSize,
 }
 
-impl NearStruct<'_> {
+impl<'a> NearStruct<'a> {
+    /// It as an object.
+    #[inline(always)]
+    pub(crate) fn object(&self) -> Object<'a>
+        ensures { result ≡ near_struct_of self.now }
+    {
+        Object {
+            segment: self.segment,
+            start: self.start,
+            body: Body::Struct(self.size),
+            traversed: self.size.words(),
+        }
+    }
+
     /// The words of it once it is copied.
     #[inline(always)]
     pub(crate) fn formed(&self, canonical: bool) -> StructSize
@@ -165,5 +178,20 @@ impl NearStruct<'_> {
     {
         let first = self.first_pointer().word;
         used(self.segment, first, count as usize) == 0
+    }
+}
+
+impl<'a> NumberList<'a> {
+    /// It as an object.
+    #[inline(always)]
+    pub(crate) fn object(&self) -> Object<'a>
+        ensures { result ≡ object_of self.now }
+    {
+        Object {
+            segment: self.segment,
+            start: self.start,
+            body: Body::Numbers(self.size, self.count),
+            traversed: self.traversed(),
+        }
     }
 }

@@ -14,6 +14,7 @@ use crate::layout::place::word;
 use crate::layout::pointer::{Elements, Offset};
 
 /// Whether the pointer at a word leads to the next free word.
+#[inline(always)]
 pub(crate) fn is_next(pointer: u64, word: usize, next: usize, body: Body) -> bool
     requires { word < next }
     ensures { IsTrue result ↔ NextOf pointer word next body }
@@ -36,6 +37,7 @@ pub(crate) fn is_next(pointer: u64, word: usize, next: usize, body: Body) -> boo
 }
 
 // Whether a word of a segment is not zero.
+#[inline(always)]
 fn is_set(segment: &[u8], index: usize) -> bool
     ensures { IsTrue result ↔ (slice_index_or (words_of segment.now) index 0 ≢ 0) }
 {
@@ -46,6 +48,7 @@ fn is_set(segment: &[u8], index: usize) -> bool
 }
 
 // Whether the last of some words is not zero, if there is one.
+#[inline(always)]
 fn ends_full(segment: &[u8], start: usize, count: usize) -> bool
     requires { start + count ≤ length segment.now / 8 }
     ensures { IsTrue result ↔ EndsFull (words_from (words_of segment.now) start count) }
@@ -98,6 +101,7 @@ fn need_pointers(segment: &[u8], first: usize, elements: Elements) -> bool
 }
 
 /// Whether the sizes of an object are those that its words need.
+#[inline(always)]
 pub(crate) fn is_tight(object: &Object<'_>) -> bool
     requires room { object.now.start.word + room_of object.now.body
         ≤ length object.now.segment.now / 8 }
@@ -123,6 +127,7 @@ pub(crate) fn is_tight(object: &Object<'_>) -> bool
 }
 
 // Whether the bits after the elements of a list of numbers are zero, in its last word.
+#[inline(always)]
 fn is_padded(segment: &[u8], start: usize, size: ElementSize, count: u32) -> bool
     requires { start < 2 ^ 62 }
     ensures { let words = words_of segment.now in
@@ -141,6 +146,7 @@ fn is_padded(segment: &[u8], start: usize, size: ElementSize, count: u32) -> boo
 }
 
 /// Whether an object that starts at a word is padded by zeros.
+#[inline(always)]
 pub(crate) fn body_is_padded(segment: &[u8], start: usize, body: Body) -> bool
     requires { start < 2 ^ 62 }
     ensures { start + words_in body ≤ length segment.now / 8 →
