@@ -11,7 +11,7 @@ ghost use Rattle.capnp_wire.specs.Rows.{places_in, end_of};
 ghost use Rattle.capnp_wire.specs.Tested.{NextOf, PaddedOf, IsTight, links_at, PassesAt, IsMet, Ends, refused, not_canonical};
 ghost use Rattle.capnp_wire.specs.declared.layout.place.Place.{Place};
 
-use crate::layout::near::{near_list, near_struct};
+use crate::layout::near::{near_list, near_struct, near_structs};
 use crate::layout::object::{Object, object_at};
 use crate::layout::place::{Place, existing_word, pointer_at};
 use crate::layout::rows::PointerRows;
@@ -159,6 +159,9 @@ impl CanonicalWalk {
         }
         if let Some(list) = near_list(segment, place, nesting) {
             return self.enter(segment, pointer, word, &list.object());
+        }
+        if let Some(list) = near_structs(segment, place, nesting) {
+            return self.enter(segment, pointer, word, &list);
         }
         self.meet_object(segments, segment, pointer, word, nesting)
     }
