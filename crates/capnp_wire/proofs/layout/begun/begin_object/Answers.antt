@@ -1,0 +1,28 @@
+-- An object's own words are put into a block.
+use Rattle.std.proofs.Common.{arith}
+use Rattle.capnp_wire.proofs.layouts.CopiedLemmas.{opened_here, object_begins}
+use Rattle.capnp_wire.proofs.layout.begun.begin_object.Goals as goal
+
+pub put_own_words-requires-clause-many : goal.put_own_words-requires-clause-many
+put_own_words-requires-clause-many g c = (opened_here c.requires.there.can c.requires.there.is c.formed_as-body.ensures.body).few_elements
+
+pub put_own_words-requires-clause-fits : goal.put_own_words-requires-clause-fits
+put_own_words-requires-clause-fits g c =
+    let o = opened_here c.requires.there.can c.requires.there.is c.formed_as-body.ensures.body in omega (arith, o.kept.fits)
+
+pub pointer_word-pointer-requires : goal.pointer_word-pointer-requires
+pointer_word-pointer-requires g c =
+    let o = opened_here c.requires.there.can c.requires.there.is c.formed_as-body.ensures.body in
+    record { offset = omega (arith, o.kept.fits, c.requires.small); length = o.few }
+
+pub returns-clause-begun : goal.returns-clause-begun
+returns-clause-begun g c m place nesting can is deep =
+    let o = opened_here can is c.formed_as-body.ensures.body in
+    record {
+      begins = object_begins can o c.put_own_words.ensures.words c.put_own_words.ensures.len c.pointer_word-pointer.ensures;
+      content = is.content;
+      narrower = c.formed_as-body.ensures.narrower;
+      room = is.room;
+      elements = is.elements;
+      deep = deep;
+    }
