@@ -3,3 +3,4 @@ pub mod ElementLemmas
 pub mod FarLemmas
 pub mod ObjectLemmas
 pub mod TextLemmas
+pub mod RunLemmas

@@ -8,3 +8,4 @@ pub mod Words
 pub mod Arguments
 pub mod Refusals
 pub mod Arrows
+pub mod Plain

@@ -8,6 +8,7 @@ ghost use Rattle.capnp_show.specs.Arrows.{height_of, AreTops, IsCorner, AddsArro
 ghost use Rattle.capnp_show.specs.Texts.{counted};
 
 use crate::drawn::{ROW_WORDS, colour_of};
+use crate::numbers::push_counted;
 use crate::owners::{Owners, Word};
 use crate::words::Place;
 use std::alloc::{AllocError, Global};
@@ -90,11 +91,9 @@ impl Grid {
             ++ (counted (codes "\" height=\"") self.now.height
             ++ codes "\" aria-hidden=\"true\">\n"))) }
     {
-        let height = self.height;
-        write!(
-            text,
-            "<svg class=\"arrows\" width=\"{WIDTH}\" height=\"{height}\" aria-hidden=\"true\">\n"
-        )
+        push_counted(text, "<svg class=\"arrows\" width=\"", WIDTH)?;
+        push_counted(text, "\" height=\"", self.height)?;
+        text.push_str("\" aria-hidden=\"true\">\n")
     }
 
     /// Adds the arrow of a word that stands at a place, where it leads to a word.
@@ -152,7 +151,9 @@ fn push_arrow_front(text: &mut String, number: u64, from: Corner) -> Result<(), 
     let colour = colour_of(number);
     let right = from.left.saturating_add(CELL_WIDTH);
     let middle = from.top.saturating_add(CELL_HEIGHT / 2);
-    write!(text, "<path class=\"c{colour}\" d=\"M{right} {middle}")
+    push_counted(text, "<path class=\"c", colour)?;
+    push_counted(text, "\" d=\"M", right)?;
+    push_counted(text, " ", middle)
 }
 
 // Adds the head of an arrow, at the cell where it ends.
@@ -160,7 +161,8 @@ fn push_arrow_head(text: &mut String, to: Corner) -> Result<(), AllocError>
     ensures { OnOk result (string_bytes text.new ≡ string_bytes text.old ++ arrow_head to) }
 {
     let end = to.left.saturating_sub(2);
-    write!(text, "H{end}m-5 -3l5 3l-5 3\"/>\n")
+    push_counted(text, "H", end)?;
+    text.push_str("m-5 -3l5 3l-5 3\"/>\n")
 }
 
 // Adds the turns of an arrow, where it does not lead to the next cell.
@@ -176,5 +178,8 @@ fn push_turns(text: &mut String, number: u64, from: Corner, to: Corner) -> Resul
     let lane = to.top.saturating_sub(3 + number % 4 * 3);
     let entry = to.left.saturating_sub(9);
     let middle = to.top.saturating_add(CELL_HEIGHT / 2);
-    write!(text, "H{channel}V{lane}H{entry}V{middle}")
+    push_counted(text, "H", channel)?;
+    push_counted(text, "V", lane)?;
+    push_counted(text, "H", entry)?;
+    push_counted(text, "V", middle)
 }

@@ -2,11 +2,11 @@
 ghost use Rattle.std.specs.Prelude.{◌≡◌, ◌%◌, ◌++◌, None, OnOk, codes, string_bytes};
 ghost use Rattle.capnp_show.specs.Texts.{counted, message_name, word_name, null_class, owner_classes, refused_class, word_classes, where_of, owner_name, drawn_lead, title_of};
 
+use crate::numbers::{push_counted, push_hexadecimal};
 use crate::owners::{Lead, Owner, Owners, Role, Word};
 use crate::refusals::push_refusal;
 use crate::words::Place;
 use std::alloc::AllocError;
-use std::fmt::Write;
 
 /// How many words stand in a row.
 pub const ROW_WORDS: usize = 4;
@@ -26,19 +26,17 @@ impl Anchor {
     pub fn push(self, text: &mut String) -> Result<(), AllocError>
         ensures { OnOk result (string_bytes text.new ≡ string_bytes text.old ++ message_name self) }
     {
-        let input = self.input;
-        let message = self.message;
-        write!(text, "m{input}-{message}")
+        push_counted(text, "m", self.input)?;
+        push_counted(text, "-", self.message)
     }
 
     // Adds the name of a word.
     fn push_word(self, text: &mut String, place: Place) -> Result<(), AllocError>
         ensures { OnOk result (string_bytes text.new ≡ string_bytes text.old ++ word_name self place) }
     {
-        let segment = place.segment;
-        let word = place.word;
         self.push(text)?;
-        write!(text, "-{segment}-{word}")
+        push_counted(text, "-", u64::from(place.segment))?;
+        push_counted(text, "-", place.word)
     }
 }
 
@@ -48,7 +46,8 @@ pub fn push_object_classes(text: &mut String, number: u64) -> Result<(), AllocEr
         ++ (counted (codes "o") number ++ counted (codes " c") (number % COLOURS))) }
 {
     let colour = colour_of(number);
-    write!(text, "o{number} c{colour}")
+    push_counted(text, "o", number)?;
+    push_counted(text, " c", colour)
 }
 
 /// The colour of an object: the colours come one after the other, and then again from the first.
@@ -66,8 +65,8 @@ pub fn push_row(
     first: Place,
     words: &[Word],
 ) -> Result<(), AllocError> {
-    let number = first.word;
-    write!(text, "<tr><th>{number}</th>")?;
+    push_counted(text, "<tr><th>", first.word)?;
+    text.push_str("</th>")?;
     let mut place = first;
     for word in words {
         push_cell(text, anchor, owners, place, word)?;
@@ -91,14 +90,15 @@ fn push_cell(
     text.push_str("\" title=\"")?;
     push_title(text, place, word)?;
     text.push_str("\">")?;
-    let digits = u64::from_be_bytes(word.bytes);
     match word.target() {
         Some((_, start)) if owners.word(start).is_some() => {
             text.push_str("<a href=\"#")?;
             anchor.push_word(text, start)?;
-            write!(text, "\">{digits:016x}</a>")?;
+            text.push_str("\">")?;
+            push_hexadecimal(text, word.bytes)?;
+            text.push_str("</a>")?;
         }
-        _ => write!(text, "{digits:016x}")?,
+        _ => push_hexadecimal(text, word.bytes)?,
     }
     text.push_str("</td>")
 }
@@ -126,7 +126,8 @@ fn push_owner(text: &mut String, owner: Owner) -> Result<(), AllocError>
                 Role::Tag => "tag",
                 Role::Landing => "landing",
             };
-            write!(text, "{class} ")?;
+            text.push_str(class)?;
+            text.push(' ')?;
             push_object_classes(text, number)
         }
     }
@@ -173,9 +174,9 @@ fn push_title(text: &mut String, place: Place, word: &Word) -> Result<(), AllocE
 fn push_where(text: &mut String, place: Place) -> Result<(), AllocError>
     ensures { OnOk result (string_bytes text.new ≡ string_bytes text.old ++ where_of place) }
 {
-    let segment = place.segment;
-    let word = place.word;
-    write!(text, "word {segment}:{word}, ")
+    push_counted(text, "word ", u64::from(place.segment))?;
+    push_counted(text, ":", place.word)?;
+    text.push_str(", ")
 }
 
 // Adds what a word is to whom.
@@ -192,7 +193,8 @@ fn push_owner_name(text: &mut String, owner: Owner) -> Result<(), AllocError>
                 Role::Tag => "tag",
                 Role::Landing => "landing pad",
             };
-            write!(text, "{said} of object {object}")
+            text.push_str(said)?;
+            push_counted(text, " of object ", object)
         }
     }
 }
@@ -208,6 +210,6 @@ fn push_lead(text: &mut String, word: &Word) -> Result<(), AllocError>
     match word.lead {
         Lead::Nowhere => Ok(()),
         Lead::Null => text.push_str(", null"),
-        Lead::Object(object, _) => write!(text, ", to object {object}"),
+        Lead::Object(object, _) => push_counted(text, ", to object ", object),
     }
 }

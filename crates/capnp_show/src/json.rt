@@ -5,6 +5,7 @@ ghost use Rattle.capnp_show.specs.Texts.{AddsEscaped, member, listed_members};
 
 use crate::hash::Hash;
 use crate::listing::{Listed, name_of};
+use crate::numbers::push_counted;
 use crate::refusals::sentence;
 use crate::text::{push_quoted, text_in};
 use crate::tree::{Found, Label, Node};
@@ -56,7 +57,9 @@ pub fn push_hash(text: &mut String, hash: &Hash) -> Result<(), AllocError>
 pub fn push_number(text: &mut String, name: &str, number: u64) -> Result<(), AllocError>
     ensures { OnOk result (string_bytes text.new ≡ string_bytes text.old ++ member name.now number) }
 {
-    write!(text, ",\"{name}\":{number}")
+    text.push_str(",\"")?;
+    text.push_str(name)?;
+    push_counted(text, "\":", number)
 }
 
 /// Adds the object of a node.
@@ -65,12 +68,11 @@ pub fn push_node<S: ReaderSegments>(
     segments: &S,
     node: &Node,
 ) -> Result<(), AllocError> {
-    let depth = node.depth;
-    write!(text, "{{\"depth\":{depth}")?;
+    push_counted(text, "{\"depth\":", node.depth)?;
     match node.label {
         Label::Root => text.push_str(",\"label\":\"root\"")?,
-        Label::Pointer(index) => write!(text, ",\"label\":\"pointer\",\"index\":{index}")?,
-        Label::Element(index) => write!(text, ",\"label\":\"element\",\"index\":{index}")?,
+        Label::Pointer(index) => push_counted(text, ",\"label\":\"pointer\",\"index\":", index)?,
+        Label::Element(index) => push_counted(text, ",\"label\":\"element\",\"index\":", index)?,
     }
     push_found(text, segments, node.found)?;
     text.push('}')
@@ -109,25 +111,22 @@ fn push_object<S: ReaderSegments>(
             push_size(text, size)?;
         }
         Shape::List(size, count) => {
-            let element = name_of(size);
-            write!(
-                text,
-                ",\"kind\":\"list\",\"element\":\"{element}\",\"count\":{count}"
-            )?;
+            text.push_str(",\"kind\":\"list\",\"element\":\"")?;
+            text.push_str(name_of(size))?;
+            push_counted(text, "\",\"count\":", count)?;
         }
         Shape::Structs(size, count, _) => {
-            write!(
+            push_counted(
                 text,
-                ",\"kind\":\"list\",\"element\":\"struct\",\"count\":{count}"
+                ",\"kind\":\"list\",\"element\":\"struct\",\"count\":",
+                count,
             )?;
             push_size(text, size)?;
         }
     }
     push_place(text, object.start)?;
     if let Some(landing_pad) = object.landing_pad {
-        text.push_str(",\"landing_pad\":{\"words\":")?;
-        let words = landing_pad.words;
-        write!(text, "{words}")?;
+        push_counted(text, ",\"landing_pad\":{\"words\":", landing_pad.words)?;
         push_place(text, landing_pad.place)?;
         text.push('}')?;
     }

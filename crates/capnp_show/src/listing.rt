@@ -4,6 +4,7 @@ ghost use Rattle.capnp_show.specs.Hashes.{IfHash};
 ghost use Rattle.capnp_show.specs.Texts.{AddsEscaped, element_name, counted, listed_line};
 
 use crate::hash::Hash;
+use crate::numbers::{push_counted, push_decimal};
 use crate::refusals::{push_refusal, sentence};
 use crate::text::{push_escaped, push_quoted, text_in};
 use crate::tree::{Found, Label, Node};
@@ -43,15 +44,11 @@ pub fn push_name(text: &mut String, name: Option<&str>) -> Result<(), AllocError
 pub fn push_listed(text: &mut String, listed: &Listed) -> Result<(), AllocError>
     ensures { OnOk result (string_bytes text.new ≡ string_bytes text.old ++ listed_line listed.now) }
 {
-    let index = listed.index;
-    let offset = listed.offset;
-    let bytes = listed.bytes;
-    let segments = listed.segments;
-    let words = listed.words;
-    write!(
-        text,
-        "message {index}: offset {offset}, bytes {bytes}, segments {segments}, words {words}"
-    )
+    push_counted(text, "message ", listed.index)?;
+    push_counted(text, ": offset ", listed.offset)?;
+    push_counted(text, ", bytes ", listed.bytes)?;
+    push_counted(text, ", segments ", listed.segments)?;
+    push_counted(text, ", words ", listed.words)
 }
 
 /// Adds the hash of a canonical form, or why there is none.
@@ -72,7 +69,7 @@ pub fn push_hash(text: &mut String, hash: &Hash) -> Result<(), AllocError>
 pub fn push_count(text: &mut String, count: u64) -> Result<(), AllocError>
     ensures { OnOk result (string_bytes text.new ≡ string_bytes text.old ++ decimal count) }
 {
-    write!(text, "{count}")
+    push_decimal(text, count)
 }
 
 /// Adds the line of a node, without its end.
@@ -95,8 +92,14 @@ pub fn push_node_text<S: ReaderSegments>(
 ) -> Result<(), AllocError> {
     match node.label {
         Label::Root => text.push_str("root: ")?,
-        Label::Pointer(index) => write!(text, "pointer {index}: ")?,
-        Label::Element(index) => write!(text, "element {index}: ")?,
+        Label::Pointer(index) => {
+            push_counted(text, "pointer ", index)?;
+            text.push_str(": ")?;
+        }
+        Label::Element(index) => {
+            push_counted(text, "element ", index)?;
+            text.push_str(": ")?;
+        }
     }
     push_found(text, segments, node.found)
 }
@@ -131,20 +134,20 @@ fn push_object<S: ReaderSegments>(
             push_size(text, size)?;
         }
         Shape::List(size, count) => {
-            let element = name_of(size);
-            write!(text, "list, element {element}, count {count}")?;
+            text.push_str("list, element ")?;
+            text.push_str(name_of(size))?;
+            push_counted(text, ", count ", count)?;
         }
         Shape::Structs(size, count, _) => {
-            write!(text, "list, element struct, count {count}")?;
+            push_counted(text, "list, element struct, count ", count)?;
             push_size(text, size)?;
         }
     }
     push_place(text, object.start)?;
     if let Some(landing_pad) = object.landing_pad {
-        let segment = landing_pad.place.segment;
-        let word = landing_pad.place.word;
-        let words = landing_pad.words;
-        write!(text, ", landing pad {segment}:{word}, words {words}")?;
+        push_counted(text, ", landing pad ", u64::from(landing_pad.place.segment))?;
+        push_counted(text, ":", landing_pad.place.word)?;
+        push_counted(text, ", words ", landing_pad.words)?;
     }
     if let Some(shown) = bytes_of(segments, object).and_then(text_in) {
         text.push_str(", text ")?;
@@ -174,9 +177,8 @@ fn push_size(text: &mut String, size: StructSize) -> Result<(), AllocError>
         ++ (counted (codes ", data ") size.data_words
         ++ counted (codes ", pointers ") size.pointers)) }
 {
-    let data_words = size.data_words;
-    let pointers = size.pointers;
-    write!(text, ", data {data_words}, pointers {pointers}")
+    push_counted(text, ", data ", size.data_words)?;
+    push_counted(text, ", pointers ", size.pointers)
 }
 
 // Adds a place, by its segment and its word.
@@ -184,7 +186,6 @@ fn push_place(text: &mut String, place: Place) -> Result<(), AllocError>
     ensures { OnOk result (string_bytes text.new ≡ string_bytes text.old
         ++ (counted (codes ", at ") place.segment ++ counted (codes ":") place.word)) }
 {
-    let segment = place.segment;
-    let word = place.word;
-    write!(text, ", at {segment}:{word}")
+    push_counted(text, ", at ", u64::from(place.segment))?;
+    push_counted(text, ":", place.word)
 }

@@ -18,11 +18,13 @@ mod landing;
 mod listing;
 mod markup;
 mod messages;
+mod numbers;
 mod owners;
 #[cfg(test)]
 mod page_tests;
 mod progress;
 mod refusals;
+mod runs;
 mod settings;
 mod shown;
 mod sizes;

@@ -2,6 +2,7 @@
 ghost use Rattle.std.specs.Prelude.{◌≡◌, ◌++◌, ℕ, List, [], OnOk, string_bytes};
 ghost use Rattle.capnp_show.specs.Texts.{IsMarkOf, IsMarked, AddsMarked};
 
+use crate::runs::next_run;
 use crate::text::{escape_of, push_escape};
 use std::alloc::AllocError;
 
@@ -34,10 +35,13 @@ pub fn mark_of(character: char) -> Mark
 pub fn push_markup(text: &mut String, shown: &str) -> Result<(), AllocError>
     ensures { OnOk result (AddsMarked [] shown.now [] (string_bytes text.old) (string_bytes text.new)) }
 {
-    for character in shown.chars() {
+    let mut rest = shown;
+    while let Some((plain, character, after)) = next_run(rest) {
+        text.push_str(plain)?;
         push_mark(text, character, mark_of(character))?;
+        rest = after;
     }
-    Ok(())
+    text.push_str(rest)
 }
 
 // Adds a character to a page, as it stands there.

@@ -2,6 +2,7 @@
 ghost use Rattle.std.specs.Prelude.{◌≡◌, ◌++◌, ◌∷◌, ℕ, List, [], MatchOption, IsUtf8, OnOk, codes, string_bytes};
 ghost use Rattle.capnp_show.specs.Texts.{IsEscapeOf, escaped, AddsEscaped};
 
+use crate::runs::next_run;
 use std::alloc::AllocError;
 use std::fmt::Write;
 use std::str::from_utf8;
@@ -37,10 +38,13 @@ pub fn escape_of(character: char) -> Escape
 pub fn push_escaped(text: &mut String, shown: &str) -> Result<(), AllocError>
     ensures { OnOk result (AddsEscaped [] shown.now [] (string_bytes text.old) (string_bytes text.new)) }
 {
-    for character in shown.chars() {
+    let mut rest = shown;
+    while let Some((plain, character, after)) = next_run(rest) {
+        text.push_str(plain)?;
         push_escape(text, character, escape_of(character))?;
+        rest = after;
     }
-    Ok(())
+    text.push_str(rest)
 }
 
 /// Adds a character, escaped in a given way.

@@ -1,26 +1,33 @@
--- Each character is added after those before it.
-use Rattle.std.proofs.Common.{ℕ, List, [], ◌++◌, sym, subst, ◌∙◌, append-nil}
-use Rattle.std.proofs.lemmas.List.{map-id}
-use Rattle.std.proofs.lemmas.Iterator.{YieldsList-from_chars}
-use Rattle.std.proofs.lemmas.Iterator.Consumers.{YieldsList-end}
-use Rattle.capnp_show.specs.Texts.{AreMarked, none_marked, one_marked}
-use Rattle.capnp_show.proofs.TextLemmas.{added_after, ended}
+-- Each run stands after what came before it, and then the character at its end.
+use Rattle.std.proofs.Common.{rules, ◌≡◌, ℕ, List, [], ◌∷◌, ◌++◌, refl, sym, subst, ap, ◌∙◌, string_bytes, append-nil}
+use Rattle.std.specs.Str.{chars}
+use Rattle.std.proofs.lemmas.Result.{on_ok_weaker}
+use Rattle.capnp_show.specs.Texts.{AreMarked, none_marked}
+use Rattle.capnp_show.proofs.TextLemmas.{added_after, ended, pushed}
+use Rattle.capnp_show.proofs.RunLemmas.{marked_more, marked_last, characters_more}
 use Rattle.capnp_show.proofs.markup.push_markup.Goals as goal
 
-pub loop-character-init : goal.loop-character-init
-loop-character-init c = ([], sym (append-nil _), none_marked)
+pub loop-plain-init : goal.loop-plain-init
+loop-plain-init c = ([], [], sym (append-nil _), none_marked, refl, c.utf8.shown)
 
-pub loop-character-preserved : goal.loop-character-preserved
-loop-character-preserved c =
-    let added = c.in_ok-push_mark.ensures in
-    let before = c.loop-character.invariant in (
-      before.0 ++ added.0,
-      added_after _ before.0 _ _ added.0 before.1 added.1,
-      one_marked c.loop-character.yielded before.0 added.0 c.in-Some.character c.mark_of.result before.2 c.mark_of.ensures added.2,
+pub loop-plain-preserved : goal.loop-plain-preserved
+loop-plain-preserved c =
+    let before = c.loop-plain.invariant in
+    let added = c.in_ok-push_mark.ensures in (
+      (before.0 ++ chars c.in-Some.plain.now) ++ c.in-Some.character ∷ [],
+      (before.1 ++ c.in-Some.plain.now) ++ added.0,
+      added_after _ (before.1 ++ c.in-Some.plain.now) _ _ added.0 (added_after _ before.1 _ _ c.in-Some.plain.now before.2 c.in_ok-push_str.ensures.bytes) added.1,
+      marked_more before.0 before.1 c.in-Some.plain.now added.0 c.in-Some.character c.mark_of.result before.3 c.in-Some.ensures.plain.0 c.in-Some.ensures.plain.1 c.mark_of.ensures added.2,
+      characters_more (chars c.args.shown.now) before.0 c.loop-plain.rest.now c.in-Some.plain.now c.in-Some.after.now c.in-Some.character before.4 c.in-Some.ensures.rest.1,
+      c.in-Some.ensures.after,
     )
 
 pub returns : goal.returns
 returns c =
-    let all = YieldsList-end (YieldsList-from_chars c.args.shown.now c.utf8.shown cc) c.loop-character.yielded _ c.loop-character.yielded_by _ _ c.in-None.is c.next.ensures.steps in
-    let is = c.loop-character.invariant in
-    (is.0, ended _ is.0 _ is.1, subst (λ (characters : List ℕ). AreMarked characters is.0) (sym (map-id c.loop-character.yielded) ∙ all.0) is.2)
+    let before = c.loop-plain.invariant in
+    let all = marked_last before.0 before.1 c.loop-plain.rest.now before.3 before.5 (c.in_default.ensures.whole refl).1 in
+    on_ok_weaker c.push_str-2.result (λ is. (
+      before.1 ++ c.loop-plain.rest.now,
+      ended _ (before.1 ++ c.loop-plain.rest.now) _ (added_after _ before.1 _ _ c.loop-plain.rest.now before.2 is),
+      subst (λ (characters : List ℕ). AreMarked characters (before.1 ++ c.loop-plain.rest.now)) (sym before.4) all,
+    )) (pushed c.push_str-2.result _ c.loop-plain.rest.now _ c.push_str-2.ensures.bytes)

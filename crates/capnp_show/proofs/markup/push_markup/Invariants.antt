@@ -1,8 +1,14 @@
--- What is yielded stands in the page.
-use Rattle.std.proofs.Common.{◌≡◌, List, ℕ, ◌++◌, string_bytes}
+-- What comes before the rest stands in the page.
+use Rattle.std.proofs.Common.{◌≡◌, List, ℕ, ◌++◌, length, string_bytes}
+use Rattle.std.specs.Str.{chars}
+use denote.Shadow.{shadow}
+use denote.Text.{Utf8}
 use Rattle.capnp_show.specs.Texts.{AreMarked}
 use Rattle.capnp_show.proofs.markup.push_markup.Given as goal
 
-abbrev pub invariant-loop-character : goal.invariant-loop-character
-invariant-loop-character l =
-    (bytes : List ℕ) × (string_bytes l.text ≡ string_bytes l.fn.text ++ bytes) × AreMarked l.yielded bytes
+abbrev pub invariant-loop-plain : goal.invariant-loop-plain
+invariant-loop-plain l =
+    (done : List ℕ) × (bytes : List ℕ) × (string_bytes l.text ≡ string_bytes l.fn.text ++ bytes) × AreMarked done bytes × (chars l.shown ≡ done ++ chars l.rest) × shadow (Utf8 l.rest)
+
+abbrev pub decreases-loop-plain : goal.decreases-loop-plain
+decreases-loop-plain l = length l.rest
