@@ -9,6 +9,7 @@ pub mod WordGroups
 pub mod UnpackedLemmas
 pub mod TableRows
 pub mod PlaceLemmas
+pub mod LoneLemmas
 pub mod MarkLemmas
 pub mod RunFaults
 pub mod StoredLemmas

@@ -10,6 +10,7 @@
 mod buffer;
 mod group;
 pub mod laws;
+mod lone;
 mod marks;
 mod packed_read;
 mod packed_write;

@@ -3,8 +3,10 @@
 //! Just whole groups are taken that fit the buffer. One that isn't shown whole, or does not fit, is
 //! left to `group.rt`, which reads it through the source.
 ghost use Rattle.std.specs.Prelude.{◌≡◌, ◌<◌, ◌≤◌, ◌+◌, ◌%◌, ◌∷◌, [], length, take, drop, replicate, IfSome};
+ghost use Rattle.std.specs.Int.RustNames.{count_ones};
 ghost use Rattle.capnp_pack.specs.Steps.{MarkedAt, TakesMarked, GroupFollowing, Unpacked};
 
+use crate::lone::unpack_lone_groups;
 use crate::places::PLACES;
 use std::simd::prelude::*;
 
@@ -22,7 +24,13 @@ pub(crate) fn unpack_shown(shown: &[u8], buffer: &mut [u8]) -> Taken
     let mut used = 0;
     let mut filled = 0;
     while buffer.len() - filled >= 8 {
-        let Some(group) = unpack_group(&shown[used..], &mut buffer[filled..]) else {
+        let lone = unpack_lone_groups(&shown[used..], &mut buffer[filled..]);
+        used += lone.used;
+        filled += lone.filled;
+        if buffer.len() - filled < 8 {
+            break;
+        }
+        let Some(group) = unpack_next(&shown[used..], &mut buffer[filled..]) else {
             break;
         };
         used += group.used;
@@ -31,8 +39,45 @@ pub(crate) fn unpack_shown(shown: &[u8], buffer: &mut [u8]) -> Taken
     Taken { used, filled }
 }
 
-// Fills the front of a buffer by the first group.
+// Fills the front of a buffer by the first group, which most often is a short run of zero words.
 #[inline(always)]
+fn unpack_next(shown: &[u8], buffer: &mut [u8]) -> Option<Taken>
+    requires { 8 ≤ length buffer.old }
+    ensures some { IfSome result (λ taken. 0 < taken.filled) }
+    ensures group { IfSome result (λ taken.
+        Unpacked shown.now buffer.new taken.used taken.filled) }
+{
+    let short = unpack_short_zeros(shown, buffer);
+    if short.is_some() {
+        return short;
+    }
+    unpack_group(shown, buffer)
+}
+
+// Fills two to four zero words by two stores, which may overlap, with no call and no loop.
+#[inline(always)]
+fn unpack_short_zeros(shown: &[u8], buffer: &mut [u8]) -> Option<Taken>
+    requires { 8 ≤ length buffer.old }
+    ensures some { IfSome result (λ taken. 0 < taken.filled) }
+    ensures group { IfSome result (λ taken.
+        Unpacked shown.now buffer.new taken.used taken.filled) }
+{
+    if shown.len() < 2 || shown[0] != 0 {
+        return None;
+    }
+    let filled = 8 + 8 * shown[1] as usize;
+    if filled < 16 || filled > 32 || filled > buffer.len() {
+        return None;
+    }
+    clear_front(16, buffer);
+    clear_front(16, &mut buffer[filled - 16..]);
+    Some(Taken { used: 2, filled })
+}
+
+// Fills the front of a buffer by the first group.
+//
+// It stands apart, so that the loop over words keeps its registers.
+#[inline(never)]
 fn unpack_group(shown: &[u8], buffer: &mut [u8]) -> Option<Taken>
     requires { 8 ≤ length buffer.old }
     ensures some { IfSome result (λ taken. 0 < taken.filled) }
@@ -173,10 +218,11 @@ pub(crate) fn unpack_tagged(tag: u8, text: &[u8], word: &mut [u8]) -> usize
 
 // Each marked byte is moved to its place at once.
 #[inline(always)]
-fn unpack_lanes(tag: u8, text: &[u8], word: &mut [u8]) -> usize
+pub(crate) fn unpack_lanes(tag: u8, text: &[u8], word: &mut [u8]) -> usize
     requires long { 16 ≤ length text.now }
     requires word { length word.old ≡ 8 }
-    ensures { TakesMarked tag text.now word.new result }
+    ensures count { result ≡ count_ones tag }
+    ensures taken { TakesMarked tag text.now word.new result }
 {
     let places = u8x16::from_array(PLACES[tag as usize]);
     let lanes = u8x16::from_slice(text).swizzle_dyn(places).to_array();

@@ -9,8 +9,8 @@ swizzle c =
     let low : c.args.tag < 256 = omega arith in
     subst (SwzOk w8 16 16 0) (sym (row_of c.args.tag _ low)) (row_ok c.args.tag)
 
-pub returns : goal.returns
-returns c =
+pub returns-clause-taken : goal.returns-clause-taken
+returns-clause-taken c =
     let low : c.args.tag < 256 = omega arith in
     record {
       used_within = search rules;

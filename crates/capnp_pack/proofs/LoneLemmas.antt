@@ -1,0 +1,152 @@
+-- A group of one word, by what tables say of its tag.
+use Rattle.std.proofs.Common.{◌≡◌, ℕ, zero, suc, ◌+◌, ◌-◌, ◌<◌, ◌*◌, ◌≤◌, Bool, true, false, Some, List, [], ◌∷◌, ◌++◌, length, take, drop, get_or, replicate, refl, sym, ap, ◌∙◌, subst, arith, length-drop, drop-cons}
+use Rattle.std.specs.Prelude.{◌==◌, if◌then◌else◌}
+use Rattle.std.proofs.lemmas.List.{append-nil, take_all, take-take, take-replicate, replicate-append-replicate}
+use Rattle.std.proofs.lemmas.Bool.Decides.{nat_tests}
+use lib.Count.{ones, ones-le}
+use borrow.Rule.Slice.PartMut.{put_mid}
+use Rattle.capnp_frame.proofs.SourceLemmas.{length-put_mid, put_mid_front}
+use Rattle.capnp_pack.specs.Group.{IsWord}
+use Rattle.capnp_pack.specs.Steps.{MarkedAt, GroupFollowing, Unpacked}
+use Rattle.capnp_pack.specs.declared.lone.TheConstants.{GROUP_BYTES, LONE_UP_TO}
+use Rattle.capnp_pack.proofs.UnpackedLemmas.{group_unpacked, tagged_after, lone_zero_after, zeros_after, unpacked_more}
+use Rattle.capnp_pack.proofs.WordGroups.{literal_found}
+
+-- how many bytes a group of a tag has, where it is of one word
+abbrev pub group_bytes : ℕ → ℕ
+group_bytes tag = if tag == 0 then 2 else (if tag == 255 then 10 else 1 + ones tag)
+
+-- up to which last byte it is of one word
+abbrev pub lone_up_to : ℕ → ℕ
+lone_up_to tag = if tag == 0 then 0 else (if tag == 255 then 0 else 255)
+
+-- a number for each tag
+abbrev each_tag : (ℕ → ℕ) → ℕ → ℕ → List ℕ
+each_tag f tag zero = []
+each_tag f tag (suc n) = f tag ∷ each_tag f (suc tag) n
+
+get_or-each_tag : (f : ℕ → ℕ) (n first i : ℕ) → i < n → get_or (each_tag f first n) i 0 ≡ f (first + i)
+get_or-each_tag f zero first i low = absurd (omega arith)
+get_or-each_tag f (suc n) first zero low = let same : first ≡ first + 0 = omega arith in ap f same
+get_or-each_tag f (suc n) first (suc i) low =
+    let same : suc first + i ≡ first + suc i = omega arith in
+    get_or-each_tag f n (suc first) i (omega arith) ∙ ap f same
+
+at_tag : (f : ℕ → ℕ) (table : List ℕ) (tag : ℕ) → table ≡ each_tag f 0 256 → tag < 256 → get_or table tag 0 ≡ f tag
+at_tag f table tag is low =
+    let same : 0 + tag ≡ tag = omega arith in
+    ap (λ t. get_or t tag 0) is ∙ get_or-each_tag f 256 0 tag low ∙ ap f same
+
+group_bytes_table : GROUP_BYTES ≡ each_tag group_bytes 0 256
+unfolding ones
+group_bytes_table = refl
+
+lone_up_to_table : LONE_UP_TO ≡ each_tag lone_up_to 0 256
+lone_up_to_table = refl
+
+pub group_bytes_of : (tag : ℕ) → tag < 256 → get_or GROUP_BYTES tag 0 ≡ group_bytes tag
+group_bytes_of tag low = at_tag group_bytes GROUP_BYTES tag group_bytes_table low
+
+pub lone_up_to_of : (tag : ℕ) → tag < 256 → get_or LONE_UP_TO tag 0 ≡ lone_up_to tag
+lone_up_to_of tag low = at_tag lone_up_to LONE_UP_TO tag lone_up_to_table low
+
+by_tag : (none full : Bool) (n : ℕ) → n ≤ 8 → (1 ≤ (if none then 2 else (if full then 10 else 1 + n))) × ((if none then 2 else (if full then 10 else 1 + n)) ≤ 10)
+by_tag true full n few = (omega arith, omega arith)
+by_tag false true n few = (omega arith, omega arith)
+by_tag false false n few = (omega arith, omega arith)
+
+pub group_bytes_few : (tag : ℕ) → tag < 256 → (1 ≤ group_bytes tag) × (group_bytes tag ≤ 10)
+group_bytes_few tag low = by_tag (tag == 0) (tag == 255) (ones tag) (ones-le 8 tag low)
+
+pub group_bytes_tagged : (tag : ℕ) → 0 < tag → tag < 255 → group_bytes tag ≡ 1 + ones tag
+group_bytes_tagged tag some low = grind (arith, nat_tests)
+
+-- a word of which all is marked, and no word after it
+lone_literal_after : (following word buffer : List ℕ) → 9 ≤ length following → get_or following 8 0 ≡ 0 → IsWord word → 8 ≤ length buffer →
+    take 8 buffer ≡ word → MarkedAt 255 word following (drop 8 following) → GroupFollowing 255 following buffer 9 8
+lone_literal_after following word buffer long none is room same at =
+    let counted : drop 8 following ≡ 0 ∷ drop 9 following = drop-cons following 8 0 (omega arith) ∙ ap (λ k. k ∷ drop 9 following) none in
+    record {
+      used_within = long;
+      some = omega arith;
+      filled_within = room;
+      whole = refl;
+      group = literal_found 255 word [] (take 8 buffer) (Some following) (Some (drop 8 following)) (Some (drop 9 following)) refl is (same ∙ sym (append-nil word)) at
+          (0, omega arith, refl, counted);
+    }
+
+pub lone_unpacked : (tag used most : ℕ) (shown following word buffer : List ℕ) → tag < 256 → (tag ≡ 0 → used ≡ 2) → (tag ≡ 255 → used ≡ 10) →
+    (0 < tag → tag < 255 → used ≡ 1 + ones tag) → (tag ≡ 0 → most ≡ 0) → (tag ≡ 255 → most ≡ 0) → shown ≡ tag ∷ following → 17 ≤ length shown →
+    IsWord word → 8 ≤ length buffer → take 8 buffer ≡ word → MarkedAt tag word following (drop (ones tag) following) → get_or shown (used - 1) 0 ≤ most → Unpacked shown buffer used 8
+unfolding ones
+lone_unpacked zero used most shown following word buffer low zeros full tagged none fulls e long is room same at count =
+    let two : used ≡ 2 = zeros refl in
+    let wide : 9 ≤ length following = omega (arith, ap length e) in
+    let second : get_or shown 1 0 ≤ 0 = subst (λ k. get_or shown (k - 1) 0 ≤ 0) two (subst (λ m. get_or shown (used - 1) 0 ≤ m) (none refl) count) in
+    let alone : get_or following 0 0 ≡ 0 = omega (arith, second, ap (λ l. get_or l 1 0) e) in
+    subst (λ k. Unpacked shown buffer k 8) (sym two) (group_unpacked 0 1 8 shown following buffer e (lone_zero_after 0 0 following word buffer refl alone is wide room same (omega arith) at))
+lone_unpacked (suc t) used most shown following word buffer low zeros full tagged none fulls e long is room same at count = by_full (suc t == 255) refl
+  where
+    by_full : (b : Bool) → (suc t == 255) ≡ b → Unpacked shown buffer used 8
+    by_full true f =
+        let tag : suc t ≡ 255 = grind (arith, nat_tests, f) in
+        let ten : used ≡ 10 = full tag in
+        let wide : 9 ≤ length following = omega (arith, ap length e) in
+        let tenth : get_or shown 9 0 ≤ 0 = subst (λ k. get_or shown (k - 1) 0 ≤ 0) ten (subst (λ m. get_or shown (used - 1) 0 ≤ m) (fulls tag) count) in
+        let alone : get_or following 8 0 ≡ 0 = omega (arith, tenth, ap (λ l. get_or l 9 0) e) in
+        let here : MarkedAt 255 word following (drop 8 following) = subst (λ k. MarkedAt k word following (drop (ones k) following)) tag at in
+        subst (λ k. Unpacked shown buffer k 8) (sym ten)
+        (group_unpacked 255 9 8 shown following buffer (e ∙ ap (λ k. k ∷ following) tag) (lone_literal_after following word buffer wide alone is room same here))
+    by_full false f =
+        let other : suc t < 255 = grind (arith, nat_tests, f, low) in
+        let few : ones (suc t) ≤ 8 = ones-le 8 (suc t) low in
+        subst (λ k. Unpacked shown buffer k 8) (sym (tagged (omega arith) other))
+        (group_unpacked (suc t) (ones (suc t)) 8 shown following buffer e
+        (tagged_after (suc t) (ones (suc t)) following word buffer (omega arith) other is (omega (arith, ap length e)) room same at))
+
+-- groups that are unpacked of what is left, into what is left of a buffer
+pub unpacked_on : (used filled more count : ℕ) (shown buffer part : List ℕ) → length part ≡ length buffer - filled → Unpacked shown buffer used filled →
+    Unpacked (take (length shown - used) (drop used shown)) part more count →
+    (length (put_mid filled (length buffer - filled) buffer part) ≡ length buffer) × Unpacked shown (put_mid filled (length buffer - filled) buffer part) (used + more) (filled + count)
+unpacked_on used filled more count shown buffer part fits before after =
+    let within = before.used_within in
+    let inside = before.filled_within in
+    let all : take (length shown - used) (drop used shown) ≡ drop used shown = take_all (length shown - used) (drop used shown) (omega (arith, length-drop used shown)) in
+    (length-put_mid filled buffer part inside fits, unpacked_more used filled more count shown _ buffer part all fits before after)
+
+none_unpacked : (text buffer : List ℕ) → Unpacked text buffer 0 0
+none_unpacked text buffer = record {
+  used_within = omega arith;
+  some = λ s. s;
+  filled_within = omega arith;
+  whole = refl;
+  chunk = record { groups = []; each = tt; spelled = refl; unpacked = refl };
+}
+
+-- where no group follows, what is left of a buffer may hold anything
+pub unpacked_kept : (used filled : ℕ) (shown buffer part : List ℕ) → length part ≡ length buffer - filled → Unpacked shown buffer used filled →
+    Unpacked shown (put_mid filled (length buffer - filled) buffer part) used filled
+unpacked_kept used filled shown buffer part fits before =
+    let after = put_mid filled (length buffer - filled) buffer part in
+    let text : used + 0 ≡ used = omega arith in
+    let words : filled + 0 ≡ filled = omega arith in
+    let same = unpacked_on used filled 0 0 shown buffer part fits before (none_unpacked (take (length shown - used) (drop used shown)) part) in
+    subst (λ u. Unpacked shown after u filled) text (subst (λ f. Unpacked shown after (used + 0) f) words same.1)
+
+-- zero words, filled by two stores that may overlap
+pub short_zeros_unpacked : (filled : ℕ) (shown buffer part : List ℕ) → 2 ≤ length shown → get_or shown 0 0 ≡ 0 → get_or shown 1 0 < 256 → filled ≡ 8 + 8 * get_or shown 1 0 →
+    16 ≤ filled → filled ≤ 32 → filled ≤ length buffer → take 16 buffer ≡ replicate 16 0 → length part ≡ length buffer - (filled - 16) → take 16 part ≡ replicate 16 0 →
+    Unpacked shown (put_mid (filled - 16) (length buffer - (filled - 16)) buffer part) 2 filled
+short_zeros_unpacked filled shown buffer part long none byte count least most room front fits end =
+    let cut = filled - 16 in
+    let after = put_mid cut (length buffer - cut) buffer part in
+    let len : length after ≡ length buffer = length-put_mid cut buffer part (omega arith) fits in
+    let joined : cut + 16 ≡ filled = omega arith in
+    let before : take cut buffer ≡ replicate cut 0 = sym (take-take cut 16 buffer (omega arith)) ∙ ap (take cut) front ∙ take-replicate cut 16 0 (omega arith) in
+    let both : take (cut + 16) after ≡ replicate (cut + 16) 0 = put_mid_front cut (length buffer - cut) 16 buffer part (omega arith) (omega arith)
+    ∙ ap (λ l. l ++ take 16 part) before ∙ ap (λ l. replicate cut 0 ++ l) end ∙ replicate-append-replicate cut 16 0 in
+    let clear : take filled after ≡ replicate filled 0 = subst (λ n. take n after ≡ replicate n 0) joined both in
+    let whole : shown ≡ 0 ∷ drop 1 shown = drop-cons shown 0 0 (omega arith) ∙ ap (λ k. k ∷ drop 1 shown) none in
+    let second : get_or (drop 1 shown) 0 0 ≡ get_or shown 1 0 = sym (ap (λ l. get_or l 1 0) whole) in
+    group_unpacked 0 1 filled shown (drop 1 shown) after whole
+    (zeros_after filled (drop 1 shown) after (omega (arith, length-drop 1 shown)) (omega (arith, second)) (omega (arith, second)) (omega arith) clear)
