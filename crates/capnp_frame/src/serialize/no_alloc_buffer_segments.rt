@@ -1,5 +1,5 @@
 //! Segments in a buffer that are found without memory.
-ghost use Rattle.std.specs.Prelude.{◌≡◌, ℕ, ◌+◌, ◌<◌, List, length, sum, IfOk, Some, None};
+ghost use Rattle.std.specs.Prelude.{◌≡◌, ℕ, ◌+◌, ◌<◌, ◌≤◌, List, length, sum, IfOk, Some, None};
 ghost use Rattle.capnp_frame.specs.Front.{HasFrame, IsDescribed, HoldsMessage, told_lengths, told_segments};
 ghost use Rattle.capnp_frame.specs.KeptTables.{KeepsEnds};
 ghost use Rattle.capnp_frame.specs.FlatReaders.{no_alloc_rules, ReadsFlat};
@@ -198,9 +198,31 @@ fn place(bytes: &[u8], ends: &[usize; KEPT_ENDS], index: usize) -> (usize, usize
         let start = if index == 0 { 0 } else { ends[index - 1] };
         return (start, ends[index]);
     }
-    let mut start = ends[KEPT_ENDS - 1];
-    for before in KEPT_ENDS..index {
+    let start = later_start(bytes, ends[KEPT_ENDS - 1], index);
+    (start, start + field_at(bytes, 4 * (index + 1)) as usize)
+}
+
+// Where a segment from the ninth on starts, by where the eighth one ends.
+//
+// Of fewer than 2^35 bytes each sum fits four bytes, as a length does. Then a vector holds as many sums
+// as lengths, and no length has to be made longer first.
+#[inline(always)]
+fn later_start(bytes: &[u8], end: usize, index: usize) -> usize
+    requires held { (count : ℕ) × HoldsMessage bytes.now count × (index < count) }
+    requires later { 8 ≤ index }
+    requires end { end ≡ sum (told_lengths 8 bytes.now) }
+    ensures { result ≡ sum (told_lengths index bytes.now) }
+{
+    if bytes.len() < 1 << 35 {
+        let mut start = end as u32;
+        'short: for before in KEPT_ENDS..index {
+            start += field_at(bytes, 4 * (before + 1));
+        }
+        return start as usize;
+    }
+    let mut start = end;
+    'long: for before in KEPT_ENDS..index {
         start += field_at(bytes, 4 * (before + 1)) as usize;
     }
-    (start, start + field_at(bytes, 4 * (index + 1)) as usize)
+    start
 }
