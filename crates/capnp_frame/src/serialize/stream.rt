@@ -25,6 +25,9 @@ use crate::serialize::segment_table::{
 };
 use std::alloc::Global;
 
+// The bytes of a table of up to 63 segments.
+const SHORT_TABLE: usize = 256;
+
 /// Reads the next message of a source, or returns `None` where nothing is unread.
 ///
 /// The message is three chunks to the source: the first word of its table, the table's other words,
@@ -169,7 +172,8 @@ pub(crate) fn read_table<R: Read>(
 }
 
 // Reads the table's other words, tests the limit and the padding, fills in where each segment begins
-// and ends, and returns the sum of the lengths. Only a long table takes the long buffer, since each
+// and ends, and returns the sum of the lengths. One segment, as most messages have, has its length in
+// the first word, so no table is put together. Only a longer table takes a longer buffer, since each
 // buffer is filled with zeros first.
 fn read_lengths<R: Read>(
     source: &mut R,
@@ -182,8 +186,15 @@ fn read_lengths<R: Read>(
     ensures { ReadsLengths R.Read source.old source.new rule limit first.now indices.new result }
 {
     let size = table_len(indices.len());
+    if size == 8 {
+        return fill_lengths(indices, first, limit, rule);
+    }
     if size <= 16 {
         let mut table = [0; 16];
+        return read_lengths_by(source, first, indices, &mut table[..size], limit, rule);
+    }
+    if size <= SHORT_TABLE {
+        let mut table = [0; SHORT_TABLE];
         return read_lengths_by(source, first, indices, &mut table[..size], limit, rule);
     }
     let mut table = [0; LONGEST_TABLE];

@@ -1,0 +1,46 @@
+-- The table of one segment is its first word: no more is asked for.
+use Rattle.std.proofs.Common.{rules, ◌≡◌, ◌-◌, ℕ, List, [], Option, length, take, drop, refl, inr, arith}
+use Rattle.std.proofs.lemmas.List.{take_all, length-drop, nil_from_length}
+use Rattle.std.proofs.lemmas.Result.{on_ok_weaker, IfErr-weaker}
+use Rattle.capnp_frame.specs.SegmentTable.{table_size}
+use Rattle.capnp_frame.specs.Source.{Giving, Refusing, IsSource, IsTail, IfKnown}
+use Rattle.capnp_frame.proofs.SourceLemmas.{IfKnown-refl}
+use Rattle.capnp_frame.proofs.MetRefusals.{complete_stops, complete_kind}
+use Rattle.capnp_frame.proofs.TableReading.{rest_stands}
+use Rattle.capnp_frame.proofs.serialize.stream.read_lengths.Goals as goal
+
+no_more : {gives : Giving} {refuses : Refusing} → IsSource gives refuses → (word : List ℕ) → length word ≡ 8
+    → (unread : Option (List ℕ)) → IfKnown unread unread (λ raw rest. gives raw (length word - 8) (drop 8 word) rest)
+no_more source word long unread =
+    let none : drop 8 word ≡ [] = nil_from_length (drop 8 word) (omega (arith, length-drop 8 word)) in
+    let nothing : length word - 8 ≡ 0 = omega arith in
+    IfKnown-refl _ unread (λ raw. rw (none, nothing) (source.takes_nothing raw))
+
+pub returns-then-size-eq8 : goal.returns-then-size-eq8
+returns-then-size-eq8 g c =
+    let word = c.args.first.now in
+    let source = c.args.source.now in
+    let long : length word ≡ 8 = search rules in
+    let front : take 8 word ≡ word = take_all 8 word (omega arith) in
+    let size : length word ≡ table_size (length c.fill_lengths.new.indices) = search rules in
+    let given = no_more g.met.R.Read.lawful word long (g.R.Read.unread source) in
+    let told = c.fill_lengths.ensures in
+    let read = c.fill_lengths.result in
+    record {
+      table = on_ok_weaker read (λ kept. rw told.told (rest_stands c.args.rule g.R.Read.gives word word _ _ _ front size told.tells kept given)) told.padding;
+      ranges = told.ranges;
+      bound = told.bound;
+      each = on_ok_weaker read (λ kept. rw told.told told.tells.lengths.each) told.padding;
+      within = told.within;
+      refused = IfErr-weaker read _ _ (λ error met. inr (complete_stops c.args.rule g.R.Read.gives g.R.Read.refuses c.args.limit error.kind word word _ _ _
+          front size given met)) told.refused;
+      kinds = IfErr-weaker read _ _ (λ error met. (complete_kind c.args.rule g.R.Read.refuses c.args.limit error.kind word met).0) told.refused;
+      asked = record {
+        failed = IfErr-weaker read _ _ (λ error met device. absurd ((complete_kind c.args.rule g.R.Read.refuses c.args.limit error.kind word met).1 device)) told.refused;
+        advances = record {
+          tail = IfKnown-refl IsTail _ (λ raw. ([], refl));
+          counted = omega arith;
+          same_source = g.met.R.Read.keeps.reflexive source;
+        };
+      };
+    }
