@@ -1,7 +1,6 @@
 pub mod Group
 pub mod Chunk
 pub mod Packed
-pub mod PackedWords
 pub mod PackedFrame
 pub mod PackedSource
 pub mod PackedSink
