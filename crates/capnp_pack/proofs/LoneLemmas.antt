@@ -133,7 +133,16 @@ unpacked_kept used filled shown buffer part fits before =
     let same = unpacked_on used filled 0 0 shown buffer part fits before (none_unpacked (take (length shown - used) (drop used shown)) part) in
     subst (λ u. Unpacked shown after u filled) text (subst (λ f. Unpacked shown after (used + 0) f) words same.1)
 
--- zero words, filled by two stores that may overlap
+-- a run of zero words, by its tag and its count
+pub zero_run_unpacked : (filled : ℕ) (shown buffer : List ℕ) → 2 ≤ length shown → get_or shown 0 0 ≡ 0 → get_or shown 1 0 < 256 → filled ≡ 8 + 8 * get_or shown 1 0 →
+    filled ≤ length buffer → take filled buffer ≡ replicate filled 0 → Unpacked shown buffer 2 filled
+zero_run_unpacked filled shown buffer long none byte count room clear =
+    let whole : shown ≡ 0 ∷ drop 1 shown = drop-cons shown 0 0 (omega arith) ∙ ap (λ k. k ∷ drop 1 shown) none in
+    let second : get_or (drop 1 shown) 0 0 ≡ get_or shown 1 0 = sym (ap (λ l. get_or l 1 0) whole) in
+    group_unpacked 0 1 filled shown (drop 1 shown) buffer whole
+    (zeros_after filled (drop 1 shown) buffer (omega (arith, length-drop 1 shown)) (omega (arith, second)) (omega (arith, second)) room clear)
+
+-- and where its first sixteen bytes and its last sixteen are cleared, with nothing between them
 pub short_zeros_unpacked : (filled : ℕ) (shown buffer part : List ℕ) → 2 ≤ length shown → get_or shown 0 0 ≡ 0 → get_or shown 1 0 < 256 → filled ≡ 8 + 8 * get_or shown 1 0 →
     16 ≤ filled → filled ≤ 32 → filled ≤ length buffer → take 16 buffer ≡ replicate 16 0 → length part ≡ length buffer - (filled - 16) → take 16 part ≡ replicate 16 0 →
     Unpacked shown (put_mid (filled - 16) (length buffer - (filled - 16)) buffer part) 2 filled
@@ -145,8 +154,4 @@ short_zeros_unpacked filled shown buffer part long none byte count least most ro
     let before : take cut buffer ≡ replicate cut 0 = sym (take-take cut 16 buffer (omega arith)) ∙ ap (take cut) front ∙ take-replicate cut 16 0 (omega arith) in
     let both : take (cut + 16) after ≡ replicate (cut + 16) 0 = put_mid_front cut (length buffer - cut) 16 buffer part (omega arith) (omega arith)
     ∙ ap (λ l. l ++ take 16 part) before ∙ ap (λ l. replicate cut 0 ++ l) end ∙ replicate-append-replicate cut 16 0 in
-    let clear : take filled after ≡ replicate filled 0 = subst (λ n. take n after ≡ replicate n 0) joined both in
-    let whole : shown ≡ 0 ∷ drop 1 shown = drop-cons shown 0 0 (omega arith) ∙ ap (λ k. k ∷ drop 1 shown) none in
-    let second : get_or (drop 1 shown) 0 0 ≡ get_or shown 1 0 = sym (ap (λ l. get_or l 1 0) whole) in
-    group_unpacked 0 1 filled shown (drop 1 shown) after whole
-    (zeros_after filled (drop 1 shown) after (omega (arith, length-drop 1 shown)) (omega (arith, second)) (omega (arith, second)) (omega arith) clear)
+    zero_run_unpacked filled shown after long none byte count (omega arith) (subst (λ n. take n after ≡ replicate n 0) joined both)

@@ -1,7 +1,8 @@
 //! Unpacking groups of one word, one after another.
 //!
 //! Where a group's longest text of one word is shown and a word of the buffer is left, no other
-//! test of room is needed, and two look-ups by the tag say where the next group begins.
+//! test of room is needed, and two look-ups by the tag say where the next group begins, and whether
+//! this one has one word.
 ghost use Rattle.std.specs.Prelude.{◌≡◌, ◌+◌, ◌<◌, ◌≤◌, length, IfSome};
 ghost use Rattle.std.specs.Int.RustNames.{count_ones};
 ghost use Rattle.capnp_pack.specs.Steps.{Unpacked};

@@ -39,7 +39,7 @@ pub(crate) fn unpack_shown(shown: &[u8], buffer: &mut [u8]) -> Taken
     Taken { used, filled }
 }
 
-// Fills the front of a buffer by the first group, which most often is a short run of zero words.
+// Fills the front of a buffer by the first group, which most often is a run of zero words.
 #[inline(always)]
 fn unpack_next(shown: &[u8], buffer: &mut [u8]) -> Option<Taken>
     requires { 8 ≤ length buffer.old }
@@ -47,16 +47,17 @@ fn unpack_next(shown: &[u8], buffer: &mut [u8]) -> Option<Taken>
     ensures group { IfSome result (λ taken.
         Unpacked shown.now buffer.new taken.used taken.filled) }
 {
-    let short = unpack_short_zeros(shown, buffer);
-    if short.is_some() {
-        return short;
+    let zeros = unpack_zero_run(shown, buffer);
+    if zeros.is_some() {
+        return zeros;
     }
     unpack_group(shown, buffer)
 }
 
-// Fills two to four zero words by two stores, which may overlap, with no call and no loop.
+// Fills zero words by one fill, two to four of them by two stores, which may overlap, with no call and
+// no loop.
 #[inline(always)]
-fn unpack_short_zeros(shown: &[u8], buffer: &mut [u8]) -> Option<Taken>
+fn unpack_zero_run(shown: &[u8], buffer: &mut [u8]) -> Option<Taken>
     requires { 8 ≤ length buffer.old }
     ensures some { IfSome result (λ taken. 0 < taken.filled) }
     ensures group { IfSome result (λ taken.
@@ -66,8 +67,12 @@ fn unpack_short_zeros(shown: &[u8], buffer: &mut [u8]) -> Option<Taken>
         return None;
     }
     let filled = 8 + 8 * shown[1] as usize;
-    if filled < 16 || filled > 32 || filled > buffer.len() {
+    if filled > buffer.len() {
         return None;
+    }
+    if filled < 16 || filled > 32 {
+        clear_front(filled, buffer);
+        return Some(Taken { used: 2, filled });
     }
     clear_front(16, buffer);
     clear_front(16, &mut buffer[filled - 16..]);
@@ -116,7 +121,7 @@ fn unpack_near(tag: u8, following: &[u8], buffer: &mut [u8]) -> Option<Taken>
     if tag == 255 {
         return unpack_literal(following, buffer);
     }
-    // One number, so that a zero word alone takes no branch of its own.
+    // One number for both tests. A run of zero words that fits was filled before this is asked.
     let kind = tag as usize * 256 + following[0].wrapping_sub(1) as usize;
     if kind < 255 {
         return unpack_zeros(following, buffer);
