@@ -62,7 +62,11 @@ pub(crate) struct FarPointer {
     pub is_wide: bool,
 }
 
+// Each of these stands where it is called: a call would return what a pointer says by memory, stored in
+// parts and loaded in others, for which a processor waits.
+
 impl PointerWord {
+    #[inline(always)]
     pub(crate) fn read(word: u64) -> PointerWord
         ensures { IsPointerWord word result }
     {
@@ -88,6 +92,7 @@ impl PointerWord {
 }
 
 impl Offset {
+    #[inline(always)]
     pub(crate) fn read(word: u64) -> Offset
         ensures { result.0 ≡ offset word }
     {
@@ -95,6 +100,7 @@ impl Offset {
     }
 
     /// The word at which the target of a pointer begins that stands at a word of the same segment.
+    #[inline(always)]
     pub(crate) fn target(self, word: usize) -> Option<usize>
         requires bits { self.0 < 2 ^ 30 }
         requires place { word < 2 ^ 61 }
@@ -112,6 +118,7 @@ impl Offset {
 }
 
 impl StructSize {
+    #[inline(always)]
     pub(crate) fn read(word: u64) -> StructSize
         ensures data { result.data_words ≡ word / 2 ^ 32 % 2 ^ 16 }
         ensures pointers { result.pointers ≡ word / 2 ^ 48 }
@@ -122,6 +129,7 @@ impl StructSize {
         }
     }
 
+    #[inline(always)]
     pub(crate) fn words(self) -> u64
         ensures { result ≡ self.data_words + self.pointers }
     {
@@ -132,6 +140,7 @@ impl StructSize {
 impl Elements {
     /// What the tag in front of the elements says; `None` where it isn't shaped like a struct
     /// pointer.
+    #[inline(always)]
     pub(crate) fn read(tag: u64) -> Option<Elements>
         ensures { MatchOption result (0 < pointer_kind tag)
             (λ elements. IsElementsTag tag elements) }
@@ -146,6 +155,7 @@ impl Elements {
     }
 
     /// The words of all elements.
+    #[inline(always)]
     pub(crate) fn words(self) -> u64
         ensures words { result ≡ self.count * (self.size.data_words + self.size.pointers) }
         ensures bound { result < 2 ^ 50 }
@@ -155,6 +165,7 @@ impl Elements {
 }
 
 // What a list pointer leads to.
+#[inline(always)]
 fn list_shape(word: u64) -> NearShape
     requires { pointer_kind word ≡ 1 }
     ensures { IsNearShape word result }
