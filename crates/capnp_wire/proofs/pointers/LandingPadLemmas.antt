@@ -177,7 +177,7 @@ wide_landing m place content word inner tag near bytes read e wide first inner_f
     }
 
 -- the object to which a landing leads
-pub traversed_of_shape : (words : List ℕ) (start : Place) (body : Body) → (shape_of words start body).traversed ≡ traversed_of body
+traversed_of_shape : (words : List ℕ) (start : Place) (body : Body) → (shape_of words start body).traversed ≡ traversed_of body
 traversed_of_shape words start (Struct size) = refl
 traversed_of_shape words start (Numbers elements count) = refl
 traversed_of_shape words start (Pointers count) = refl

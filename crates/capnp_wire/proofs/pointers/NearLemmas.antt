@@ -12,13 +12,12 @@ use Rattle.capnp_wire.specs.Copy.{least_size, formed_body}
 use Rattle.capnp_wire.specs.declared.layout.place.Place.{Place}
 use Rattle.capnp_wire.specs.declared.layout.element.ElementSize.{ElementSize}
 use Rattle.capnp_wire.specs.declared.layout.number_list.NumberList.{NumberList}
-use Rattle.capnp_wire.specs.declared.layout.pointer.NearShape.TheVariants.{Numbers as NearNumbers, Struct as NearStructShape, Structs as NearStructs}
+use Rattle.capnp_wire.specs.declared.layout.pointer.NearShape.TheVariants.{Numbers as NearNumbers, Struct as NearStructShape}
 use Rattle.capnp_wire.specs.declared.layout.object.Body.{Body}
 use Rattle.capnp_wire.specs.declared.layout.pointer.StructSize.{StructSize}
 use Rattle.capnp_wire.specs.declared.layout.near.NearStruct.{NearStruct}
 use Rattle.capnp_wire.specs.declared.layout.object.Body.TheVariants.{Struct, Numbers, Pointers, Structs}
 use Rattle.capnp_wire.proofs.pointers.LandingLemmas.{struct_stands, numbers_stand}
-use Rattle.capnp_wire.proofs.pointers.LandingPadLemmas.{traversed_of_shape}
 use Rattle.capnp_wire.proofs.trees.RoomLemmas.{stands_room}
 use Rattle.capnp_wire.proofs.walks.ProgressLemmas.{entered, walked_alone}
 
@@ -74,18 +73,6 @@ struct_stands_near m place pointer segment start size word positive small conten
     let stands = struct_stands segment.now here pointer size.data_words size.pointers is.0 is.1 is.2 room in
     near_stands m place pointer segment start (Struct size) (size.data_words + size.pointers) word positive small (omega (arith, is.0)) content begins
     (stands, refl) (omega arith) words_fit room (omega arith)
-
--- a list of structs
-pub structs_stand_near : (m : List (List ℕ)) (place : Place) (pointer : ℕ) (segment : Bor (List ℕ)) (start words : ℕ) (body : Body) (traversed : ℕ)
-    → word_at m place ≡ Some pointer → pointer < 2 ^ 64 → slice_get m place.segment ≡ Some (words_of segment.now)
-    → start + 2 ^ 30 * (offset pointer / 2 ^ 29) ≡ place.word + 1 + offset pointer → IsNearShape pointer (NearStructs words)
-    → (let here : Place = record { segment = place.segment; word = start } in ShapeStands (words_of segment.now) here pointer (shape_of (words_of segment.now) here body))
-    → traversed ≡ traversed_of body → All (λ w. w < 2 ^ 64) (words_of segment.now) → start + room_of body ≤ length segment.now / 8 → words_in body ≤ room_of body
-    → IsObject m place (record { segment = segment; start = record { segment = place.segment; word = start }; body = body; traversed = traversed })
-structs_stand_near m place pointer segment start words body traversed word small content begins list stands traversed_is words_fit room inside =
-    let here : Place = record { segment = place.segment; word = start } in
-    near_stands m place pointer segment start body traversed word (omega (arith, list.0)) small (omega (arith, list.0)) content begins
-    (stands, omega (arith, traversed_is, traversed_of_shape (words_of segment.now) here body)) (omega (arith, traversed_is)) words_fit room inside
 
 -- a list without structs is the same in canonical form
 abbrev pub IsPlainList : Body → Type 0

@@ -73,36 +73,14 @@ pub(crate) fn begin<'a, S: ReaderSegments, T: BlockItem>(
     let Some(object) = object_there(segments, place, nesting) else {
         return None;
     };
-    Some(begin_object(object, canonical, block, following, next))
-}
-
-/// Begins the copy of an object in the same way.
-#[inline(always)]
-pub(crate) fn begin_object<'a, T: BlockItem>(
-    object: Object<'a>,
-    canonical: bool,
-    block: &mut [T],
-    following: usize,
-    next: usize,
-) -> BegunCopy<'a>
-    requires there { IsCopyable object canonical next (length (T.as_words block.old)) }
-    requires following { following ≤ next }
-    requires small { length (T.as_words block.old) < 2 ^ 29 }
-    ensures begun { (m : List (List ℕ)) (place : Place) (nesting : ℕ) →
-        CanCopy m (place ∷ []) nesting canonical next (length (T.as_words block.old)) →
-        IsObject m place object.entry → 0 < nesting →
-        BeginsObject m place nesting canonical (next - following) next
-        (T.as_words block.old) (T.as_words block.new) result }
-    ensures len { length (T.as_words block.new) ≡ length (T.as_words block.old) }
-{
     let body = formed_as(&object, canonical);
     put_own_words(&object, body, block, next);
     let pointer = pointer_word(body, (next - following) as u64);
-    BegunCopy {
+    Some(BegunCopy {
         object,
         body,
         pointer,
-    }
+    })
 }
 
 /// Begins the copy of a struct in the same way, which is whole where the pointers that it keeps are

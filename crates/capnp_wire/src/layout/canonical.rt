@@ -11,7 +11,7 @@ ghost use Rattle.capnp_wire.specs.Rows.{places_in, end_of};
 ghost use Rattle.capnp_wire.specs.Tested.{NextOf, PaddedOf, IsTight, links_at, PassesAt, IsMet, Ends, refused, not_canonical};
 ghost use Rattle.capnp_wire.specs.declared.layout.place.Place.{Place};
 
-use crate::layout::near::{near_list, near_struct, near_structs};
+use crate::layout::near::{near_list, near_struct};
 use crate::layout::object::{Object, object_at};
 use crate::layout::place::{Place, existing_word, pointer_at};
 use crate::layout::rows::PointerRows;
@@ -96,6 +96,7 @@ impl CanonicalWalk {
     }
 
     // Tests all objects that these pointers lead to.
+    #[inline(never)]
     #[cycle(testing)]
     fn test_pointers<S: ReaderSegments>(
         &mut self,
@@ -127,7 +128,7 @@ impl CanonicalWalk {
     }
 
     // Enters the object that the pointer at a word leads to, and tests it by itself. What most pointers
-    // lead to is found in the segment in hand, and its pointer read once.
+    // lead to is found in the segment in hand.
     #[inline(always)]
     fn meet<S: ReaderSegments>(
         &mut self,
@@ -160,13 +161,11 @@ impl CanonicalWalk {
         if let Some(list) = near_list(segment, place, nesting) {
             return self.enter(segment, pointer, word, &list.object());
         }
-        if let Some(list) = near_structs(segment, place, nesting) {
-            return self.enter(segment, pointer, word, &list);
-        }
         self.meet_object(segments, segment, pointer, word, nesting)
     }
 
     // Goes to what a pointer leads to that isn't far, whatever it is.
+    #[inline(never)]
     fn meet_object<S: ReaderSegments>(
         &mut self,
         segments: &S,

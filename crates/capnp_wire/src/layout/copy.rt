@@ -2,16 +2,13 @@
 ghost use Rattle.std.specs.Prelude.{◌≡◌, ◌-◌, ◌^◌, ◌<◌, ◌≤◌, [], ◌∷◌, length, slice_get, Some};
 ghost use Rattle.capnp_wire.specs.Pointer.{words_of};
 ghost use Rattle.capnp_wire.specs.Object.{message_of};
-ghost use Rattle.capnp_wire.specs.Landing.{IsObject};
 ghost use Rattle.capnp_wire.specs.Copy.{CanCopy, Copies};
 
-use crate::layout::begun::{StructCopy, begin, begin_object, begin_struct, copy_list};
+use crate::layout::begun::{StructCopy, begin, begin_struct, copy_list};
 use crate::layout::block::BlockItem;
-use crate::layout::copy_rows::{copy_all, copy_pointers, copy_run};
-use crate::layout::near::{bare_pointer, near_list, near_struct, near_structs};
-use crate::layout::object::Object;
+use crate::layout::copy_rows::{copy_pointers, copy_run};
+use crate::layout::near::{bare_pointer, near_list, near_struct};
 use crate::layout::place::Place;
-use crate::layout::row_pair::RowPair;
 use capnp_frame::message::ReaderSegments;
 
 /// The pointer word to a copy, and the first free word after it.
@@ -26,6 +23,7 @@ pub struct Copied {
 
 /// Copies the object that the pointer at a place leads to, with all below it, into a block from the
 /// word `next` on. The pointer to the copy stands just before the word `following`.
+#[inline(never)]
 #[cycle(copy)]
 pub(crate) fn copy<S: ReaderSegments, T: BlockItem>(
     segments: &S,
@@ -62,7 +60,8 @@ pub(crate) fn copy<S: ReaderSegments, T: BlockItem>(
     }
 }
 
-// As `copy`, of one of the pointers in a segment. What most of them lead to needs no call.
+// As `copy`, of one of the pointers in a segment. What most of them lead to needs no call. It stands in
+// its callers, since what it recurses by, `copy` and `copy_run`, are calls.
 #[inline(always)]
 #[cycle(copy)]
 pub(crate) fn copy_target<S: ReaderSegments, T: BlockItem>(
@@ -109,55 +108,10 @@ pub(crate) fn copy_target<S: ReaderSegments, T: BlockItem>(
             next: free,
         };
     }
-    if let Some(list) = near_list(segment, place, nesting) {
-        return copy_list(&list, block, following, next);
-    }
-    let Some(list) = near_structs(segment, place, nesting) else {
+    let Some(list) = near_list(segment, place, nesting) else {
         return copy(segments, place, nesting, canonical, block, following, next);
     };
-    copy_structs(
-        segments, place, list, nesting, canonical, block, following, next,
-    )
-}
-
-// As `copy`, of a list of structs. Only one whose copy holds pointers takes a call.
-#[inline(always)]
-#[cycle(copy)]
-fn copy_structs<S: ReaderSegments, T: BlockItem>(
-    segments: &S,
-    place: Place,
-    list: Object<'_>,
-    nesting: u32,
-    canonical: bool,
-    block: &mut [T],
-    following: usize,
-    next: usize,
-) -> Copied
-    requires there { CanCopy (message_of (S.segments segments.now)) (place ∷ []) nesting canonical
-        next (length (T.as_words block.old)) }
-    requires list { IsObject (message_of (S.segments segments.now)) place list }
-    requires deep { 0 < nesting }
-    requires following { following ≤ next }
-    requires small { length (T.as_words block.old) < 2 ^ 29 }
-    ensures copied { Copies (message_of (S.segments segments.now)) place canonical
-        (next - following) next (T.as_words block.old) (T.as_words block.new) result }
-    ensures len { length (T.as_words block.new) ≡ length (T.as_words block.old) }
-{
-    let begun = begin_object(list, canonical, block, following, next);
-    let rows = RowPair::of(&begun.object, begun.body, next);
-    let end = next + begun.body.words() as usize;
-    if rows.is_empty() {
-        return Copied {
-            pointer: begun.pointer,
-            next: end,
-        };
-    }
-    let segment = begun.object.segment;
-    let free = copy_all(segments, segment, rows, nesting - 1, canonical, block, end);
-    Copied {
-        pointer: begun.pointer,
-        next: free,
-    }
+    copy_list(&list, block, following, next)
 }
 
 /// As `copy`, by the short ways from the first pointer on, where its segment is there.

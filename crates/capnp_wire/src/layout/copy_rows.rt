@@ -111,30 +111,9 @@ fn copy_rows<S: ReaderSegments, T: BlockItem>(
     free
 }
 
-/// As `copy_rows`, in a call.
-#[inline(never)]
-#[cycle(copy)]
-pub(crate) fn copy_all<S: ReaderSegments, T: BlockItem>(
-    segments: &S,
-    segment: &[u8],
-    rows: RowPair,
-    nesting: u32,
-    canonical: bool,
-    block: &mut [T],
-    next: usize,
-) -> usize
-    requires there { CanCopyRows (message_of (S.segments segments.now)) (words_of segment.now) rows
-        nesting canonical next (length (T.as_words block.old)) }
-    requires small { length (T.as_words block.old) < 2 ^ 29 }
-    ensures copied { CopiesAll (message_of (S.segments segments.now)) (places_in rows.from) canonical
-        (slots_in rows.to) next (T.as_words block.old) (T.as_words block.new) result }
-    ensures len { length (T.as_words block.new) ≡ length (T.as_words block.old) }
-{
-    copy_rows(segments, segment, rows, nesting, canonical, block, next)
-}
-
 // As `copy_rows`, of a given number of pointers that stand one after the other, as their copies do.
 // All that it is told fits registers.
+#[inline(never)]
 #[cycle(copy)]
 pub(crate) fn copy_run<S: ReaderSegments, T: BlockItem>(
     segments: &S,

@@ -12,7 +12,7 @@ use crate::layout::block::used;
 use crate::layout::formed::formed_size;
 use crate::layout::landing::land_near;
 use crate::layout::number_list::NumberList;
-use crate::layout::object::{Body, Object, fits, structs, words_fit};
+use crate::layout::object::{Body, Object, fits, words_fit};
 use crate::layout::place::{Place, word};
 use crate::layout::pointer::{NearShape, PointerWord, StructSize};
 use crate::layout::rows::PointerRows;
@@ -105,39 +105,6 @@ pub(crate) fn near_struct(segment: &[u8], place: Place, nesting: u32) -> Option<
     })
 }
 
-/// The list of structs that the pointer at a place of this segment leads to without a landing pad.
-#[inline(always)]
-pub(crate) fn near_structs(segment: &[u8], place: Place, nesting: u32) -> Option<Object<'_>>
-    ensures { (m : List (List ℕ)) → slice_get m place.segment ≡ Some (words_of segment.now) →
-        IfSome result (λ list. IsObject m place list × (0 < nesting)) }
-{
-    let pointer = word(segment, place.word)?;
-    let PointerWord::Near(near) = PointerWord::read(pointer) else {
-        return None;
-    };
-    let NearShape::Structs(words) = near.shape else {
-        return None;
-    };
-    let landing = land_near(segment, place, near, 0);
-    let start = landing.start?;
-    if nesting == 0 {
-        return None;
-    }
-    words_fit(segment);
-    let Ok(body) = structs(segment, start, words) else {
-        return None;
-    };
-    Some(Object {
-        segment,
-        start: Place {
-            segment: place.segment,
-            word: start,
-        },
-        body,
-        traversed: body.traversed(),
-    })
-}
-
 /// A struct.
 #[derive(Drop)]
 pub(crate) struct NearStruct<'a> {
@@ -147,7 +114,7 @@ pub(crate) struct NearStruct<'a> {
 }
 
 impl<'a> NearStruct<'a> {
-    /// It as an object.
+    /// The struct as an object.
     #[inline(always)]
     pub(crate) fn object(&self) -> Object<'a>
         ensures { result ≡ near_struct_of self.now }
@@ -215,7 +182,7 @@ impl<'a> NearStruct<'a> {
 }
 
 impl<'a> NumberList<'a> {
-    /// It as an object.
+    /// The list as an object.
     #[inline(always)]
     pub(crate) fn object(&self) -> Object<'a>
         ensures { result ≡ object_of self.now }

@@ -134,9 +134,8 @@ fn body_at(segment: &[u8], start: usize, shape: NearShape) -> Result<Body>
     }
 }
 
-/// A list of structs at a word of a segment, with a given number of words after its tag.
-#[inline(always)]
-pub(crate) fn structs(segment: &[u8], start: usize, words: u32) -> Result<Body>
+// A list of structs at a word of a segment, with a given number of words after its tag.
+fn structs(segment: &[u8], start: usize, words: u32) -> Result<Body>
     ensures found { let words_there = words_of segment.now in
         IfOk result (λ body. (tag number : ℕ) → IsNearShape tag (NearShape.Structs words) →
         let place : Place = record { segment = number; word = start } in

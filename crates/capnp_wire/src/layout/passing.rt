@@ -1,67 +1,20 @@
 //! What a walk meets at one pointer, and does not go below.
-ghost use Rattle.std.specs.Prelude.{◌≡◌, ◌+◌, ◌/◌, ◌<◌, ◌≤◌, Bool, ℕ, List, [], ◌∷◌, length, IfErr, IfOk, OnOk, MatchOption, IsTrue};
+ghost use Rattle.std.specs.Prelude.{◌+◌, ◌/◌, ◌<◌, ◌≤◌, Bool, ℕ, List, [], ◌∷◌, length, IfErr, IfOk, OnOk, MatchOption, IsTrue};
 ghost use Rattle.capnp_wire.specs.Object.{message_of};
-ghost use Rattle.capnp_frame.specs.declared.error.ErrorKind.{ErrorKind};
-ghost use Rattle.capnp_wire.specs.Pointer.{words_of};
-ghost use Rattle.capnp_wire.specs.Landing.{IsObject, room_of, words_in};
-ghost use Rattle.capnp_wire.specs.Copy.{formed_body};
+ghost use Rattle.capnp_wire.specs.Landing.{IsObject};
 ghost use Rattle.capnp_wire.specs.Near.{object_of, near_struct_of};
-ghost use Rattle.capnp_wire.specs.Traversed.{counted, less, Within, Exceeds, CountsMore, EntersObject, Walked};
+ghost use Rattle.capnp_wire.specs.Traversed.{counted, EntersObject, Walked};
 ghost use Rattle.capnp_wire.specs.Faults.{StopsWalk};
 
-use crate::layout::formed::formed_as;
 use crate::layout::near::NearStruct;
 use crate::layout::number_list::NumberList;
-use crate::layout::object::{Object, object_at, words_fit};
+use crate::layout::object::{Object, object_at};
 use crate::layout::place::Place;
 use crate::layout::walk::Walk;
 use capnp_frame::Result;
 use capnp_frame::message::ReaderSegments;
 
 impl Walk {
-    /// As `walk`, by the short ways from the first pointer on, where its segment is there.
-    pub(crate) fn walk_from<S: ReaderSegments>(
-        &mut self,
-        segments: &S,
-        place: Place,
-        nesting: u32,
-        canonical: bool,
-    ) -> Result<()>
-        ensures found { let m = message_of (S.segments segments.now) in
-            OnOk result (Walked m canonical place nesting
-            self.old.left self.new.left (counted self.old) (counted self.new)) }
-        ensures refused { let m = message_of (S.segments segments.now) in
-            IfErr result (λ error. StopsWalk m (place ∷ []) nesting self.old.left error.kind) }
-    {
-        if let Some(segment) = segments.get_segment(place.segment) {
-            words_fit(segment);
-            if place.word < segment.len() / 8 {
-                return self.walk_run(segments, segment, place, 1, nesting, canonical);
-            }
-        }
-        self.walk(segments, place, nesting, canonical)
-    }
-
-    /// Counts an object against the traversal limit, and its words.
-    #[inline(always)]
-    pub(crate) fn enter(&mut self, object: &Object<'_>, canonical: bool) -> Result<()>
-        requires room { object.now.start.word + room_of object.now.body
-            ≤ length object.now.segment.now / 8 }
-        requires elements { words_in object.now.body ≤ room_of object.now.body }
-        ensures within { OnOk result (Within self.old.left object.now.traversed) }
-        ensures left { OnOk result (self.new.left ≡ less self.old.left object.now.traversed) }
-        ensures words { OnOk result (CountsMore (counted self.old) (counted self.new)
-            (words_in (formed_body canonical
-            (words_of object.now.segment.now) object.now.start.word object.now.body))) }
-        ensures refused { IfErr result (λ error. Exceeds self.old.left object.now.traversed
-            × (error.kind ≡ ErrorKind.ReadLimitExceeded)) }
-    {
-        self.pay(object.traversed)?;
-        let more = formed_as(object, canonical).words();
-        self.count(more);
-        Ok(())
-    }
-
     /// Enters the object that the pointer at a place leads to, and nothing below it; `None` for null.
     #[inline(always)]
     pub(crate) fn meet<'a, S: ReaderSegments>(

@@ -3,13 +3,15 @@ ghost use Rattle.std.specs.Prelude.{◌≡◌, ◌≢◌, ◌+◌, ◌-◌, ◌/
 ghost use Rattle.capnp_frame.specs.declared.error.ErrorKind.{ErrorKind};
 ghost use Rattle.capnp_wire.specs.Pointer.{words_of};
 ghost use Rattle.capnp_wire.specs.Object.{message_of, places};
-ghost use Rattle.capnp_wire.specs.Landing.{IsObject};
+ghost use Rattle.capnp_wire.specs.Landing.{room_of, words_in};
 ghost use Rattle.capnp_wire.specs.Traversed.{counted, Within, Exceeds, CountsMore, Walked, WalkedAll, WalkedTo, less};
 ghost use Rattle.capnp_wire.specs.Faults.{StopsWalk};
+ghost use Rattle.capnp_wire.specs.Copy.{formed_body};
 ghost use Rattle.capnp_wire.specs.Rows.{places_in};
 
-use crate::layout::near::{NearStruct, bare_pointer, near_list, near_struct, near_structs};
-use crate::layout::object::Object;
+use crate::layout::formed::formed_as;
+use crate::layout::near::{NearStruct, bare_pointer, near_list, near_struct};
+use crate::layout::object::{Object, words_fit};
 use crate::layout::place::Place;
 use crate::layout::rows::PointerRows;
 use capnp_frame::message::ReaderSegments;
@@ -48,6 +50,26 @@ impl Walk {
         Some(self.words)
     }
 
+    // Counts an object against the traversal limit, and its words.
+    #[inline(always)]
+    pub(crate) fn enter(&mut self, object: &Object<'_>, canonical: bool) -> Result<()>
+        requires room { object.now.start.word + room_of object.now.body
+            ≤ length object.now.segment.now / 8 }
+        requires elements { words_in object.now.body ≤ room_of object.now.body }
+        ensures within { OnOk result (Within self.old.left object.now.traversed) }
+        ensures left { OnOk result (self.new.left ≡ less self.old.left object.now.traversed) }
+        ensures words { OnOk result (CountsMore (counted self.old) (counted self.new)
+            (words_in (formed_body canonical
+            (words_of object.now.segment.now) object.now.start.word object.now.body))) }
+        ensures refused { IfErr result (λ error. Exceeds self.old.left object.now.traversed
+            × (error.kind ≡ ErrorKind.ReadLimitExceeded)) }
+    {
+        self.pay(object.traversed)?;
+        let more = formed_as(object, canonical).words();
+        self.count(more);
+        Ok(())
+    }
+
     /// Counts some words against the traversal limit.
     #[inline(always)]
     pub(crate) fn pay(&mut self, words: u64) -> Result<()>
@@ -79,6 +101,7 @@ impl Walk {
 
     /// Enters the object that the pointer at a place leads to, where it may be entered at this
     /// nesting depth, and all below it, in preorder. It stops at the first refusal.
+    #[inline(never)]
     #[cycle(walk)]
     pub(crate) fn walk<S: ReaderSegments>(
         &mut self,
@@ -105,7 +128,31 @@ impl Walk {
         )
     }
 
-    /// Walks over all objects that these pointers lead to, which stand in this segment.
+    /// As `walk`, by the short ways from the first pointer on, where its segment is there.
+    pub(crate) fn walk_from<S: ReaderSegments>(
+        &mut self,
+        segments: &S,
+        place: Place,
+        nesting: u32,
+        canonical: bool,
+    ) -> Result<()>
+        ensures found { let m = message_of (S.segments segments.now) in
+            OnOk result (Walked m canonical place nesting
+            self.old.left self.new.left (counted self.old) (counted self.new)) }
+        ensures refused { let m = message_of (S.segments segments.now) in
+            IfErr result (λ error. StopsWalk m (place ∷ []) nesting self.old.left error.kind) }
+    {
+        if let Some(segment) = segments.get_segment(place.segment) {
+            words_fit(segment);
+            if place.word < segment.len() / 8 {
+                return self.walk_run(segments, segment, place, 1, nesting, canonical);
+            }
+        }
+        self.walk(segments, place, nesting, canonical)
+    }
+
+    /// Walks over all objects that these pointers lead to, which stand in this segment. It stands in
+    /// its callers, since what it recurses by, `walk` and `walk_run`, are calls.
     #[inline(always)]
     #[cycle(walk)]
     pub(crate) fn walk_pointers<S: ReaderSegments>(
@@ -194,8 +241,6 @@ impl Walk {
                 }
             } else if let Some(list) = near_list(segment, place, nesting) {
                 self.pass_list(&list)?;
-            } else if let Some(list) = near_structs(segment, place, nesting) {
-                self.walk_structs(segments, place, &list, nesting, canonical)?;
             } else {
                 self.walk(segments, place, nesting, canonical)?;
             }
@@ -203,59 +248,9 @@ impl Walk {
         Ok(None)
     }
 
-    // Enters a list of structs, and all below it. Only what holds pointers takes a call.
-    #[inline(always)]
-    #[cycle(walk)]
-    fn walk_structs<S: ReaderSegments>(
-        &mut self,
-        segments: &S,
-        place: Place,
-        list: &Object<'_>,
-        nesting: u32,
-        canonical: bool,
-    ) -> Result<()>
-        requires there { IsObject (message_of (S.segments segments.now)) place list.now }
-        requires deep { 0 < nesting }
-        ensures found { let m = message_of (S.segments segments.now) in
-            OnOk result (Walked m canonical place nesting
-            self.old.left self.new.left (counted self.old) (counted self.new)) }
-        ensures refused { let m = message_of (S.segments segments.now) in
-            IfErr result (λ error. StopsWalk m (place ∷ []) nesting self.old.left error.kind) }
-    {
-        self.enter(list, canonical)?;
-        let below = list.pointers();
-        if below.is_empty() {
-            return Ok(());
-        }
-        self.walk_rows(segments, list.segment, below, nesting - 1, canonical)
-    }
-
-    // As `walk_pointers`, in a call.
-    #[inline(never)]
-    #[cycle(walk)]
-    fn walk_rows<S: ReaderSegments>(
-        &mut self,
-        segments: &S,
-        segment: &[u8],
-        pointers: PointerRows,
-        nesting: u32,
-        canonical: bool,
-    ) -> Result<()>
-        requires content { places_in pointers ≢ [] →
-            slice_get (message_of (S.segments segments.now)) pointers.next.segment
-            ≡ Some (words_of segment.now) }
-        ensures found { let m = message_of (S.segments segments.now) in
-            OnOk result (WalkedAll m canonical (places_in pointers) nesting
-            self.old.left self.new.left (counted self.old) (counted self.new)) }
-        ensures refused { let m = message_of (S.segments segments.now) in
-            IfErr result (λ error.
-            StopsWalk m (places_in pointers) nesting self.old.left error.kind) }
-    {
-        self.walk_pointers(segments, segment, pointers, nesting, canonical)
-    }
-
     /// As `walk_pointers`, of a given number of pointers that stand one after the other. All that it
     /// is told fits registers.
+    #[inline(never)]
     #[cycle(walk)]
     pub(crate) fn walk_run<S: ReaderSegments>(
         &mut self,

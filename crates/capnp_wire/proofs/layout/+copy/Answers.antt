@@ -1,6 +1,6 @@
 -- An object is copied, and then what its pointers lead to, one after the other.
 use Rattle.std.proofs.Common.{arith}
-use Rattle.capnp_wire.proofs.layouts.CopyLemmas.{copying_begins, copying_first, copying_next, copying_ends}
+use Rattle.capnp_wire.proofs.layouts.CopyLemmas.{copying_first, copying_next, copying_ends}
 use Rattle.capnp_wire.proofs.layouts.CopiedLemmas.{copyable}
 use Rattle.capnp_wire.proofs.pointers.EmptyStructLemmas.{bare_copied}
 use Rattle.capnp_wire.proofs.layout.+copy.Goals as goal
@@ -47,45 +47,5 @@ pub copy::copy_target-returns-in-Some-near_struct-clause-copied : goal.copy::cop
 copy::copy_target-returns-in-Some-near_struct-clause-copied g t c =
     (c.in-Begun.ensures.begun _ _ _ c.requires.there (c.in-Some-near_struct.ensures _ c.requires.content).0).begins.ends _ _ c.copy_run-free.ensures.copied
 
-pub copy::copy_target-returns-in-Some-near_list-clause-copied : goal.copy::copy_target-returns-in-Some-near_list-clause-copied
-copy::copy_target-returns-in-Some-near_list-clause-copied g t c = c.copy_list.ensures.copied _ _ _ _ c.requires.there (c.in-Some-near_list.ensures _ c.requires.content).0
-
-pub copy::copy_target-copy_structs-requires : goal.copy::copy_target-copy_structs-requires
-copy::copy_target-copy_structs-requires g t c κs within =
-    let near = c.in-Some-near_structs.ensures _ c.requires.content in
-    (omega arith, (within.0, (within.1, (c.requires.there, (near.0, (near.1, (c.requires.following, c.requires.small)))))))
-
--- a list of structs whose copy is begun, and whose pointers are gone over by these rows
-pub copy::copy_structs-begin_object-begun-requires-clause-there : goal.copy::copy_structs-begin_object-begun-requires-clause-there
-copy::copy_structs-begin_object-begun-requires-clause-there g t c = copyable c.requires.there c.requires.list
-
-pub copy::copy_structs-of-rows-requires-clause-narrower : goal.copy::copy_structs-of-rows-requires-clause-narrower
-copy::copy_structs-of-rows-requires-clause-narrower g t c = (c.begin_object-begun.ensures.begun _ _ _ c.requires.there c.requires.list c.requires.deep).narrower
-
-pub copy::copy_structs-of-rows-requires-clause-room : goal.copy::copy_structs-of-rows-requires-clause-room
-copy::copy_structs-of-rows-requires-clause-room g t c = (c.begin_object-begun.ensures.begun _ _ _ c.requires.there c.requires.list c.requires.deep).room
-
-pub copy::copy_structs-of-rows-requires-clause-elements : goal.copy::copy_structs-of-rows-requires-clause-elements
-copy::copy_structs-of-rows-requires-clause-elements g t c = (c.begin_object-begun.ensures.begun _ _ _ c.requires.there c.requires.list c.requires.deep).elements
-
-pub copy::copy_structs-of-rows-requires-clause-bound : goal.copy::copy_structs-of-rows-requires-clause-bound
-copy::copy_structs-of-rows-requires-clause-bound g t c =
-    let b = c.begin_object-begun.ensures.begun _ _ _ c.requires.there c.requires.list c.requires.deep in
-    omega (arith, b.begins.there.fits, c.begin_object-begun.ensures.len, c.requires.small)
-
-pub copy::copy_structs-returns-then-is_empty-clause-copied : goal.copy::copy_structs-returns-then-is_empty-clause-copied
-copy::copy_structs-returns-then-is_empty-clause-copied g t c =
-    let b = c.begin_object-begun.ensures.begun _ _ _ c.requires.there c.requires.list c.requires.deep in
-    let can = c.of-rows.ensures.can _ _ _ _ _ _ b.begins.there (λ some. b.content) (omega arith) in
-    rw c.words.ensures (b.begins.ends _ _ (c.of-rows.ensures.copied _ _ _ _ _ _ (copying_ends (copying_begins can) (c.is_empty.ensures.0 c.if-is_empty.true))))
-
-pub copy::copy_structs-copy_all-free-requires : goal.copy::copy_structs-copy_all-free-requires
-copy::copy_structs-copy_all-free-requires g t c κs within =
-    let b = c.begin_object-begun.ensures.begun _ _ _ c.requires.there c.requires.list c.requires.deep in
-    let can = c.of-rows.ensures.can _ _ _ _ _ _ b.begins.there (λ some. b.content) (omega arith) in
-    (omega (arith, c.requires.deep), (within.0, (within.1, (rw c.words.ensures can, omega (arith, c.begin_object-begun.ensures.len, c.requires.small)))))
-
-pub copy::copy_structs-returns-clause-copied : goal.copy::copy_structs-returns-clause-copied
-copy::copy_structs-returns-clause-copied g t c =
-    let b = c.begin_object-begun.ensures.begun _ _ _ c.requires.there c.requires.list c.requires.deep in
-    b.begins.ends _ _ (c.of-rows.ensures.copied _ _ _ _ _ _ (rw c.words.ensures at c.copy_all-free.ensures.copied))
+pub copy::copy_target-returns-clause-copied : goal.copy::copy_target-returns-clause-copied
+copy::copy_target-returns-clause-copied g t c = c.copy_list.ensures.copied _ _ _ _ c.requires.there (c.in-Some-near_list.ensures _ c.requires.content).0

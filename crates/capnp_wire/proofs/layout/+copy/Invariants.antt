@@ -12,12 +12,6 @@ decreases-copy::copy g l = 5 * l.nesting
 abbrev pub decreases-copy::copy_target : goal.decreases-copy::copy_target
 decreases-copy::copy_target g l = 5 * l.nesting + 1
 
-abbrev pub decreases-copy::copy_structs : goal.decreases-copy::copy_structs
-decreases-copy::copy_structs g l = 5 * l.nesting
-
-abbrev pub decreases-copy_rows::copy_all : goal.decreases-copy_rows::copy_all
-decreases-copy_rows::copy_all g l = 5 * l.nesting + 3
-
 abbrev pub decreases-copy_rows::copy_rows : goal.decreases-copy_rows::copy_rows
 decreases-copy_rows::copy_rows g l = 5 * l.nesting + 2
 

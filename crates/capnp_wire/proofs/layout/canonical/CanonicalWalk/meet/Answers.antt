@@ -42,12 +42,3 @@ returns-in-Some-near_list-clause-found g c = c.enter-in-Some-near_list.ensures.f
 
 pub returns-in-Some-near_list-clause-refused : goal.returns-in-Some-near_list-clause-refused
 returns-in-Some-near_list-clause-refused g c = c.enter-in-Some-near_list.ensures.refused c.args.nesting (c.in-Some-near_list.ensures (words_of c.args.segment.now ∷ []) refl).1
-
-pub enter-requires-in-Some-near_structs-clause-object : goal.enter-requires-in-Some-near_structs-clause-object
-enter-requires-in-Some-near_structs-clause-object g c = (c.in-Some-near_structs.ensures (words_of c.args.segment.now ∷ []) refl).0
-
-pub returns-in-Some-near_structs-clause-found : goal.returns-in-Some-near_structs-clause-found
-returns-in-Some-near_structs-clause-found g c = c.enter-in-Some-near_structs.ensures.found c.args.nesting (c.in-Some-near_structs.ensures (words_of c.args.segment.now ∷ []) refl).1
-
-pub returns-in-Some-near_structs-clause-refused : goal.returns-in-Some-near_structs-clause-refused
-returns-in-Some-near_structs-clause-refused g c = c.enter-in-Some-near_structs.ensures.refused c.args.nesting (c.in-Some-near_structs.ensures (words_of c.args.segment.now ∷ []) refl).1

@@ -1,12 +1,11 @@
 -- A walk meets an object, and then goes over its pointers.
-use Rattle.std.proofs.Common.{◌∙◌, sym, arith}
+use Rattle.std.proofs.Common.{◌∙◌, arith}
 use Rattle.capnp_wire.specs.Rows.{places_in}
 use Rattle.capnp_wire.specs.Traversed.{counted}
 use Rattle.capnp_wire.proofs.pointers.EmptyStructLemmas.{bare_walked}
 use Rattle.capnp_frame.proofs.AskLemmas.{passed_on}
 use Rattle.capnp_wire.proofs.walks.ParentLemmas.{struct_met, struct_stops, held_by, going_below}
-use Rattle.capnp_wire.proofs.walks.ProgressLemmas.{going_begins, going_there, going_on, going_done, progress_done, progress_stops, progress_stopped, entered, walked_alone, walk_goes_on, walk_stops}
-use Rattle.capnp_wire.proofs.walks.StopLemmas.{exceeds_stops}
+use Rattle.capnp_wire.proofs.walks.ProgressLemmas.{going_begins, going_there, going_on, going_done, progress_done, progress_stops, progress_stopped, entered, walk_goes_on, walk_stops}
 use Rattle.capnp_wire.proofs.layout.walk.Walk.+walk.Goals as goal
 
 pub walk-returns-in_err-object-clause-refused : goal.walk-returns-in_err-object-clause-refused
@@ -27,34 +26,6 @@ walk-returns-clause-found g t c =
 pub walk-returns-clause-refused : goal.walk-returns-clause-refused
 walk-returns-clause-refused g t c =
     walk_stops (places_in c.pointers.result) c.walk_pointers.result (entered (rw c.in-Some.is at c.in_ok-object.ensures.found)) c.pointers.ensures.places c.walk_pointers.ensures.refused
-
-pub walk_structs-returns-in_err-enter-clause-refused : goal.walk_structs-returns-in_err-enter-clause-refused
-walk_structs-returns-in_err-enter-clause-refused g t c =
-    passed_on _ _ c.from_residual.ensures.1
-    (exceeds_stops _ c.args.place _ c.args.nesting _ _ c.requires.there.object c.requires.deep c.in_err-enter.ensures.refused.0 c.in_err-enter.ensures.refused.1)
-
-pub walk_structs-returns-then-is_empty-clause-found : goal.walk_structs-returns-then-is_empty-clause-found
-walk_structs-returns-then-is_empty-clause-found g t c =
-    let e = c.in_ok-enter.ensures in
-    walked_alone (entered (record { there = c.requires.there; deep = c.requires.deep; within = e.within; left_is = e.left; counted = e.words }))
-    (sym c.pointers-below.ensures.places ∙ c.is_empty.ensures.0 c.if-is_empty.true)
-
-pub walk_structs-walk_rows-requires : goal.walk_structs-walk_rows-requires
-walk_structs-walk_rows-requires g t c κs within = (omega (arith, c.requires.deep), (within, λ some. rw c.pointers-below.ensures.segment c.requires.there.content))
-
-pub walk_structs-returns-clause-found : goal.walk_structs-returns-clause-found
-walk_structs-returns-clause-found g t c =
-    let e = c.in_ok-enter.ensures in
-    walk_goes_on c.walk_rows.new.self.left (counted c.walk_rows.new.self) (places_in c.pointers-below.result) c.walk_rows.result
-    (entered (record { there = c.requires.there; deep = c.requires.deep; within = e.within; left_is = e.left; counted = e.words }))
-    c.pointers-below.ensures.places c.walk_rows.ensures.found
-
-pub walk_structs-returns-clause-refused : goal.walk_structs-returns-clause-refused
-walk_structs-returns-clause-refused g t c =
-    let e = c.in_ok-enter.ensures in
-    walk_stops (places_in c.pointers-below.result) c.walk_rows.result
-    (entered (record { there = c.requires.there; deep = c.requires.deep; within = e.within; left_is = e.left; counted = e.words }))
-    c.pointers-below.ensures.places c.walk_rows.ensures.refused
 
 pub walk_run-walk_pointers-requires : goal.walk_run-walk_pointers-requires
 walk_run-walk_pointers-requires g t c κs within = (omega arith, (within, λ some. rw c.run-pointers.ensures.segment c.requires.content))
@@ -106,15 +77,6 @@ next_parent-pointers-preserved-in-Continue-branch-2 g t c =
     let takes = c.take-place.ensures in
     let near = c.in-Some-near_list.ensures _ (going_there c.pointers.invariant takes.taken takes.segment) in
     going_on c.pointers.invariant takes.taken takes.same_segment (c.in_ok-pass_list.ensures.found _ _ _ _ near.0 near.1)
-
-pub next_parent-returns-in_err-walk_structs-clause-refused : goal.next_parent-returns-in_err-walk_structs-clause-refused
-next_parent-returns-in_err-walk_structs-clause-refused g t c =
-    passed_on _ _ c.from_residual-in_err-walk_structs.ensures.1
-    (progress_stops c.take-place.ensures.taken.places_are c.pointers.invariant.progress c.in_err-walk_structs.ensures.refused)
-
-pub next_parent-pointers-preserved-in-Continue-branch-3 : goal.next_parent-pointers-preserved-in-Continue-branch-3
-next_parent-pointers-preserved-in-Continue-branch-3 g t c =
-    going_on c.pointers.invariant c.take-place.ensures.taken c.take-place.ensures.same_segment c.in_ok-walk_structs.ensures.found
 
 pub next_parent-walk-requires : goal.next_parent-walk-requires
 next_parent-walk-requires g t c κs within = (omega arith, within)

@@ -13,12 +13,6 @@ decreases-walk g l = 4 * l.nesting
 abbrev pub decreases-walk_run : goal.decreases-walk_run
 decreases-walk_run g l = 4 * l.nesting + 3
 
-abbrev pub decreases-walk_rows : goal.decreases-walk_rows
-decreases-walk_rows g l = 4 * l.nesting + 3
-
-abbrev pub decreases-walk_structs : goal.decreases-walk_structs
-decreases-walk_structs g l = 4 * l.nesting
-
 abbrev pub decreases-walk_pointers : goal.decreases-walk_pointers
 decreases-walk_pointers g l = 4 * l.nesting + 2
 
