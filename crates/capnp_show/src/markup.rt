@@ -2,7 +2,7 @@
 ghost use Rattle.std.specs.Prelude.{◌≡◌, ◌++◌, ℕ, List, [], OnOk, string_bytes};
 ghost use Rattle.capnp_show.specs.Texts.{IsMarkOf, IsMarked, AddsMarked};
 
-use crate::runs::next_run;
+use crate::runs::{next_run, push_run};
 use crate::text::{escape_of, push_escape};
 use std::alloc::AllocError;
 
@@ -37,7 +37,7 @@ pub fn push_markup(text: &mut String, shown: &str) -> Result<(), AllocError>
 {
     let mut rest = shown;
     while let Some((plain, character, after)) = next_run(rest) {
-        text.push_str(plain)?;
+        push_run(text, plain)?;
         push_mark(text, character, mark_of(character))?;
         rest = after;
     }

@@ -1,13 +1,16 @@
 //! Runs of characters that stand as they are, within quotation marks and in a page.
 //!
 //! Most of what is shown of a text stands as it is, so it is added by runs and not by characters.
-ghost use Rattle.std.specs.Prelude.{◌≡◌, ◌++◌, ◌∷◌, ◌⊎◌, ◌≤◌, ◌<◌, None, IfSome, IsUtf8, IsTrue, IsFalse, length, slice_index, take};
+ghost use Rattle.std.specs.Prelude.{◌≡◌, ◌++◌, ◌∷◌, ◌⊎◌, ◌≤◌, ◌<◌, None, IfSome, IsUtf8, IsTrue, IsFalse, OnOk, length, slice_index, string_bytes, take};
 ghost use Rattle.std.specs.List.{All};
 ghost use Rattle.std.specs.Str.{chars};
 ghost use Rattle.capnp_show.specs.Plain.{IsPlainByte};
 
+use std::alloc::AllocError;
+
 /// The front of a text up to the first character that may not stand as it is, that character, and
 /// what follows it; `None` where each may.
+#[inline(always)]
 pub fn next_run(shown: &str) -> Option<(&str, char, &str)>
     ensures whole { result ≡ None → IsUtf8 shown.now × All IsPlainByte shown.now }
     ensures plain { IfSome result (λ run. IsUtf8 run.0.now × All IsPlainByte run.0.now) }
@@ -19,6 +22,18 @@ pub fn next_run(shown: &str) -> Option<(&str, char, &str)>
     let mut characters = rest.chars();
     let character = characters.next()?;
     Some((plain, character, characters.as_str()))
+}
+
+/// Adds a run to a text. Where one character after the other does not stand as it is, most runs are
+/// empty.
+#[inline(always)]
+pub fn push_run(text: &mut String, run: &str) -> Result<(), AllocError>
+    ensures { OnOk result (string_bytes text.new ≡ string_bytes text.old ++ run.now) }
+{
+    if run.is_empty() {
+        return Ok(());
+    }
+    text.push_str(run)
 }
 
 // How many bytes there are before the first one that is no plain one.

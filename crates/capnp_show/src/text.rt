@@ -2,7 +2,7 @@
 ghost use Rattle.std.specs.Prelude.{◌≡◌, ◌++◌, ◌∷◌, ℕ, List, [], MatchOption, IsUtf8, OnOk, codes, string_bytes};
 ghost use Rattle.capnp_show.specs.Texts.{IsEscapeOf, escaped, AddsEscaped};
 
-use crate::runs::next_run;
+use crate::runs::{next_run, push_run};
 use std::alloc::AllocError;
 use std::fmt::Write;
 use std::str::from_utf8;
@@ -40,7 +40,7 @@ pub fn push_escaped(text: &mut String, shown: &str) -> Result<(), AllocError>
 {
     let mut rest = shown;
     while let Some((plain, character, after)) = next_run(rest) {
-        text.push_str(plain)?;
+        push_run(text, plain)?;
         push_escape(text, character, escape_of(character))?;
         rest = after;
     }

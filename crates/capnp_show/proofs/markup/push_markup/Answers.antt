@@ -16,7 +16,7 @@ loop-plain-preserved c =
     let added = c.in_ok-push_mark.ensures in (
       (before.0 ++ chars c.in-Some.plain.now) ++ c.in-Some.character ∷ [],
       (before.1 ++ c.in-Some.plain.now) ++ added.0,
-      added_after _ (before.1 ++ c.in-Some.plain.now) _ _ added.0 (added_after _ before.1 _ _ c.in-Some.plain.now before.2 c.in_ok-push_str.ensures.bytes) added.1,
+      added_after _ (before.1 ++ c.in-Some.plain.now) _ _ added.0 (added_after _ before.1 _ _ c.in-Some.plain.now before.2 c.in_ok-push_run.ensures) added.1,
       marked_more before.0 before.1 c.in-Some.plain.now added.0 c.in-Some.character c.mark_of.result before.3 c.in-Some.ensures.plain.0 c.in-Some.ensures.plain.1 c.mark_of.ensures added.2,
       characters_more (chars c.args.shown.now) before.0 c.loop-plain.rest.now c.in-Some.plain.now c.in-Some.after.now c.in-Some.character before.4 c.in-Some.ensures.rest.1,
       c.in-Some.ensures.after,
@@ -26,8 +26,8 @@ pub returns : goal.returns
 returns c =
     let before = c.loop-plain.invariant in
     let all = marked_last before.0 before.1 c.loop-plain.rest.now before.3 before.5 (c.in_default.ensures.whole refl).1 in
-    on_ok_weaker c.push_str-2.result (λ is. (
+    on_ok_weaker c.push_str.result (λ is. (
       before.1 ++ c.loop-plain.rest.now,
       ended _ (before.1 ++ c.loop-plain.rest.now) _ (added_after _ before.1 _ _ c.loop-plain.rest.now before.2 is),
       subst (λ (characters : List ℕ). AreMarked characters (before.1 ++ c.loop-plain.rest.now)) (sym before.4) all,
-    )) (pushed c.push_str-2.result _ c.loop-plain.rest.now _ c.push_str-2.ensures.bytes)
+    )) (pushed c.push_str.result _ c.loop-plain.rest.now _ c.push_str.ensures.bytes)
