@@ -23,6 +23,12 @@ mod owners;
 #[cfg(test)]
 mod page_tests;
 mod progress;
+#[cfg(test)]
+mod pushed_drawing_tests;
+#[cfg(test)]
+mod pushed_node_tests;
+#[cfg(test)]
+mod pushed_tests;
 mod refusals;
 mod runs;
 mod settings;
