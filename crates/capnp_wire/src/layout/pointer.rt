@@ -62,8 +62,8 @@ pub(crate) struct FarPointer {
     pub is_wide: bool,
 }
 
-// Each of these stands where it is called: a call would return what a pointer says by memory, stored in
-// parts and loaded in others, for which a processor waits.
+// All of these stand where they are called. Most have a few instructions; `PointerWord::read` and
+// `list_shape` would return by memory, stored in parts and loaded in others, for which a processor waits.
 
 impl PointerWord {
     #[inline(always)]

@@ -248,11 +248,11 @@ impl Walk {
         Ok(None)
     }
 
-    /// As `walk_pointers`, of a given number of pointers that stand one after the other. All that it
-    /// is told fits registers.
+    // As `walk_pointers`, of a given number of pointers that stand one after the other. All that it
+    // is told fits registers.
     #[inline(never)]
     #[cycle(walk)]
-    pub(crate) fn walk_run<S: ReaderSegments>(
+    fn walk_run<S: ReaderSegments>(
         &mut self,
         segments: &S,
         segment: &[u8],
