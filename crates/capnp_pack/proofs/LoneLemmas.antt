@@ -1,15 +1,15 @@
 -- A group of one word, by what tables say of its tag.
-use Rattle.std.proofs.Common.{◌≡◌, ℕ, zero, suc, ◌+◌, ◌-◌, ◌<◌, ◌*◌, ◌≤◌, Bool, true, false, Some, List, [], ◌∷◌, ◌++◌, length, take, drop, get_or, replicate, refl, sym, ap, ◌∙◌, subst, arith, length-drop, drop-cons}
+use Rattle.std.proofs.Common.{◌≡◌, ℕ, zero, suc, ◌+◌, ◌-◌, ◌<◌, ◌*◌, ◌≤◌, Bool, true, false, Some, List, [], ◌∷◌, ◌++◌, length, take, drop, get_or, refl, sym, ap, ◌∙◌, subst, arith, length-drop, drop-cons}
 use Rattle.std.specs.Prelude.{◌==◌, if◌then◌else◌}
-use Rattle.std.proofs.lemmas.List.{append-nil, take_all, take-take, take-replicate, replicate-append-replicate}
+use Rattle.std.proofs.lemmas.List.{append-nil, take_all}
 use Rattle.std.proofs.lemmas.Bool.Decides.{nat_tests}
 use lib.Count.{ones, ones-le}
 use borrow.Rule.Slice.PartMut.{put_mid}
-use Rattle.capnp_frame.proofs.SourceLemmas.{length-put_mid, put_mid_front}
+use Rattle.capnp_frame.proofs.SourceLemmas.{length-put_mid}
 use Rattle.capnp_pack.specs.Group.{IsWord}
 use Rattle.capnp_pack.specs.Steps.{MarkedAt, GroupFollowing, Unpacked}
 use Rattle.capnp_pack.specs.declared.lone.TheConstants.{GROUP_BYTES, LONE_UP_TO}
-use Rattle.capnp_pack.proofs.UnpackedLemmas.{group_unpacked, tagged_after, lone_zero_after, zeros_after, unpacked_more}
+use Rattle.capnp_pack.proofs.UnpackedLemmas.{group_unpacked, tagged_after, lone_zero_after, unpacked_more}
 use Rattle.capnp_pack.proofs.WordGroups.{literal_found}
 
 -- how many bytes a group of a tag has, where it is of one word
@@ -132,26 +132,3 @@ unpacked_kept used filled shown buffer part fits before =
     let words : filled + 0 ≡ filled = omega arith in
     let same = unpacked_on used filled 0 0 shown buffer part fits before (none_unpacked (take (length shown - used) (drop used shown)) part) in
     subst (λ u. Unpacked shown after u filled) text (subst (λ f. Unpacked shown after (used + 0) f) words same.1)
-
--- a run of zero words, by its tag and its count
-pub zero_run_unpacked : (filled : ℕ) (shown buffer : List ℕ) → 2 ≤ length shown → get_or shown 0 0 ≡ 0 → get_or shown 1 0 < 256 → filled ≡ 8 + 8 * get_or shown 1 0 →
-    filled ≤ length buffer → take filled buffer ≡ replicate filled 0 → Unpacked shown buffer 2 filled
-zero_run_unpacked filled shown buffer long none byte count room clear =
-    let whole : shown ≡ 0 ∷ drop 1 shown = drop-cons shown 0 0 (omega arith) ∙ ap (λ k. k ∷ drop 1 shown) none in
-    let second : get_or (drop 1 shown) 0 0 ≡ get_or shown 1 0 = sym (ap (λ l. get_or l 1 0) whole) in
-    group_unpacked 0 1 filled shown (drop 1 shown) buffer whole
-    (zeros_after filled (drop 1 shown) buffer (omega (arith, length-drop 1 shown)) (omega (arith, second)) (omega (arith, second)) room clear)
-
--- and where its first sixteen bytes and its last sixteen are cleared, with nothing between them
-pub short_zeros_unpacked : (filled : ℕ) (shown buffer part : List ℕ) → 2 ≤ length shown → get_or shown 0 0 ≡ 0 → get_or shown 1 0 < 256 → filled ≡ 8 + 8 * get_or shown 1 0 →
-    16 ≤ filled → filled ≤ 32 → filled ≤ length buffer → take 16 buffer ≡ replicate 16 0 → length part ≡ length buffer - (filled - 16) → take 16 part ≡ replicate 16 0 →
-    Unpacked shown (put_mid (filled - 16) (length buffer - (filled - 16)) buffer part) 2 filled
-short_zeros_unpacked filled shown buffer part long none byte count least most room front fits end =
-    let cut = filled - 16 in
-    let after = put_mid cut (length buffer - cut) buffer part in
-    let len : length after ≡ length buffer = length-put_mid cut buffer part (omega arith) fits in
-    let joined : cut + 16 ≡ filled = omega arith in
-    let before : take cut buffer ≡ replicate cut 0 = sym (take-take cut 16 buffer (omega arith)) ∙ ap (take cut) front ∙ take-replicate cut 16 0 (omega arith) in
-    let both : take (cut + 16) after ≡ replicate (cut + 16) 0 = put_mid_front cut (length buffer - cut) 16 buffer part (omega arith) (omega arith)
-    ∙ ap (λ l. l ++ take 16 part) before ∙ ap (λ l. replicate cut 0 ++ l) end ∙ replicate-append-replicate cut 16 0 in
-    zero_run_unpacked filled shown after long none byte count (omega arith) (subst (λ n. take n after ≡ replicate n 0) joined both)

@@ -2,7 +2,7 @@
 use Rattle.std.proofs.Common.{◌≡◌, ℕ, zero, suc, ◌+◌, ◌-◌, ◌*◌, ◌%◌, ◌/◌, ◌<◌, ◌≤◌, Option, Some, None, IfSome, List, [], ◌∷◌, ◌++◌}
 use Rattle.std.proofs.Common.{length, take, drop, get_or, replicate, refl, sym, ap, ◌∙◌, subst, arith, append_assoc, length-append}
 use Rattle.std.proofs.Common.{length-drop, drop-cons, add-one}
-use Rattle.std.proofs.lemmas.List.{append-nil, take_at, take-append-drop, drop-drop, length-take-le, take-append-le}
+use Rattle.std.proofs.lemmas.List.{append-nil, take_at, take-append-drop, drop-drop, length-take-le, take-append-le, take-take, take-replicate, drop-replicate}
 use Rattle.std.proofs.lemmas.List.Concat.{flat_map-append}
 use Rattle.std.proofs.lemmas.List.Folds.{concat-append}
 use Rattle.std.proofs.Math.Seq.{take-add}
@@ -68,6 +68,32 @@ zeros_after filled following buffer long byte count room clear =
       whole = omega arith;
       group = zeros_at (get_or following 0 0) filled following (drop 1 following) (take filled buffer) byte count clear front;
     }
+
+-- what is copied by its ends, with nothing between them
+pub copied_ends : (part count : ℕ) (text buffer last : List ℕ) → part ≤ count → count ≤ 2 * part → count ≤ length buffer → take part buffer ≡ take part text →
+    length last ≡ length buffer - (count - part) → take part last ≡ take part (drop (count - part) text) →
+    take count (put_mid (count - part) (length buffer - (count - part)) buffer last) ≡ take count text
+copied_ends part count text buffer last most twice room front fits end =
+    let cut = count - part in
+    let after = put_mid cut (length buffer - cut) buffer last in
+    let joined : cut + part ≡ count = omega arith in
+    let before : take cut buffer ≡ take cut text = sym (take-take cut part buffer (omega arith)) ∙ ap (take cut) front ∙ take-take cut part text (omega arith) in
+    let both : take (cut + part) after ≡ take (cut + part) text = put_mid_front cut (length buffer - cut) part buffer last (omega arith) (omega arith)
+    ∙ ap (λ l. l ++ take part last) before ∙ ap (λ l. take cut text ++ l) end ∙ sym (take-add cut part text) in
+    subst (λ n. take n after ≡ take n text) joined both
+
+-- and where their first sixteen bytes and their last sixteen are cleared, with nothing between them
+pub short_zeros_after : (filled : ℕ) (following buffer part : List ℕ) → 1 ≤ length following → get_or following 0 0 < 256 → filled ≡ 8 * (get_or following 0 0 + 1) →
+    16 ≤ filled → filled ≤ 32 → filled ≤ length buffer → take 16 buffer ≡ replicate 16 0 → length part ≡ length buffer - (filled - 16) → take 16 part ≡ replicate 16 0 →
+    GroupFollowing 0 following (put_mid (filled - 16) (length buffer - (filled - 16)) buffer part) 1 filled
+short_zeros_after filled following buffer part long byte count least most room front fits end =
+    let zeros = replicate filled 0 in
+    let after = put_mid (filled - 16) (length buffer - (filled - 16)) buffer part in
+    let len : length after ≡ length buffer = length-put_mid (filled - 16) buffer part (omega arith) fits in
+    let first : take 16 zeros ≡ replicate 16 0 = take-replicate 16 filled 0 least in
+    let last : take 16 (drop (filled - 16) zeros) ≡ replicate 16 0 = ap (take 16) (drop-replicate (filled - 16) filled 0) ∙ take-replicate 16 (filled - (filled - 16)) 0 (omega arith) in
+    let both : take filled after ≡ take filled zeros = copied_ends 16 filled zeros buffer part least most room (front ∙ sym first) fits (end ∙ sym last) in
+    zeros_after filled following after long byte count (omega arith) (both ∙ take-replicate filled filled 0 (omega arith))
 
 unmarked_none : (w : List ℕ) → unmarked 0 w ≡ w
 unmarked_none [] = refl

@@ -2,7 +2,7 @@
 //!
 //! Just whole groups are taken that fit the buffer. One that isn't shown whole, or does not fit, is
 //! left to `group.rt`, which reads it through the source.
-ghost use Rattle.std.specs.Prelude.{◌≡◌, ◌<◌, ◌≤◌, ◌+◌, ◌%◌, ◌∷◌, [], length, take, drop, replicate, IfSome};
+ghost use Rattle.std.specs.Prelude.{◌≡◌, ◌<◌, ◌≤◌, ◌+◌, ◌*◌, ◌%◌, ◌∷◌, [], length, take, drop, replicate, IfSome};
 ghost use Rattle.std.specs.Int.RustNames.{count_ones};
 ghost use Rattle.capnp_pack.specs.Steps.{MarkedAt, TakesMarked, GroupFollowing, Unpacked};
 
@@ -30,7 +30,7 @@ pub(crate) fn unpack_shown(shown: &[u8], buffer: &mut [u8]) -> Taken
         if buffer.len() - filled < 8 {
             break;
         }
-        let Some(group) = unpack_next(&shown[used..], &mut buffer[filled..]) else {
+        let Some(group) = unpack_group(&shown[used..], &mut buffer[filled..]) else {
             break;
         };
         used += group.used;
@@ -39,50 +39,8 @@ pub(crate) fn unpack_shown(shown: &[u8], buffer: &mut [u8]) -> Taken
     Taken { used, filled }
 }
 
-// Fills the front of a buffer by the first group, which most often is a run of zero words.
-#[inline(always)]
-fn unpack_next(shown: &[u8], buffer: &mut [u8]) -> Option<Taken>
-    requires { 8 ≤ length buffer.old }
-    ensures some { IfSome result (λ taken. 0 < taken.filled) }
-    ensures group { IfSome result (λ taken.
-        Unpacked shown.now buffer.new taken.used taken.filled) }
-{
-    let zeros = unpack_zero_run(shown, buffer);
-    if zeros.is_some() {
-        return zeros;
-    }
-    unpack_group(shown, buffer)
-}
-
-// Fills zero words by one fill, two to four of them by two stores, which may overlap, with no call and
-// no loop.
-#[inline(always)]
-fn unpack_zero_run(shown: &[u8], buffer: &mut [u8]) -> Option<Taken>
-    requires { 8 ≤ length buffer.old }
-    ensures some { IfSome result (λ taken. 0 < taken.filled) }
-    ensures group { IfSome result (λ taken.
-        Unpacked shown.now buffer.new taken.used taken.filled) }
-{
-    if shown.len() < 2 || shown[0] != 0 {
-        return None;
-    }
-    let filled = 8 + 8 * shown[1] as usize;
-    if filled > buffer.len() {
-        return None;
-    }
-    if filled < 16 || filled > 32 {
-        clear_front(filled, buffer);
-        return Some(Taken { used: 2, filled });
-    }
-    clear_front(16, buffer);
-    clear_front(16, &mut buffer[filled - 16..]);
-    Some(Taken { used: 2, filled })
-}
-
 // Fills the front of a buffer by the first group.
-//
-// It stands apart, so that the loop over words keeps its registers.
-#[inline(never)]
+#[inline(always)]
 fn unpack_group(shown: &[u8], buffer: &mut [u8]) -> Option<Taken>
     requires { 8 ≤ length buffer.old }
     ensures some { IfSome result (λ taken. 0 < taken.filled) }
@@ -97,73 +55,65 @@ fn unpack_group(shown: &[u8], buffer: &mut [u8]) -> Option<Taken>
     })
 }
 
-// Fills the front of a buffer by the group of this tag.
+// Fills the front of a buffer by the group of this tag, which most often is a run.
 #[inline(always)]
 fn unpack_after(tag: u8, following: &[u8], buffer: &mut [u8]) -> Option<Taken>
     requires { 8 ≤ length buffer.old }
     ensures { IfSome result (λ taken.
         GroupFollowing tag following.now buffer.new taken.used taken.filled) }
 {
-    if following.len() >= 9 {
-        return unpack_near(tag, following, buffer);
+    match tag {
+        0 => unpack_zeros(following, buffer),
+        255 => unpack_literal(following, buffer),
+        _ => unpack_marked(tag, following, buffer),
     }
-    unpack_last(tag, following, buffer)
 }
 
-// Where its word and its count are shown.
-#[inline(always)]
-fn unpack_near(tag: u8, following: &[u8], buffer: &mut [u8]) -> Option<Taken>
-    requires long { 9 ≤ length following.now }
+// Where the tag marks some bytes of the word, and not all.
+//
+// Just groups at the end of what is shown come here, so it stands apart, and the loop over words keeps
+// its registers.
+#[inline(never)]
+fn unpack_marked(tag: u8, following: &[u8], buffer: &mut [u8]) -> Option<Taken>
+    requires some { 0 < tag }
+    requires few { tag < 255 }
     requires room { 8 ≤ length buffer.old }
     ensures { IfSome result (λ taken.
         GroupFollowing tag following.now buffer.new taken.used taken.filled) }
 {
-    if tag == 255 {
-        return unpack_literal(following, buffer);
-    }
-    // One number for both tests. A run of zero words that fits was filled before this is asked.
-    let kind = tag as usize * 256 + following[0].wrapping_sub(1) as usize;
-    if kind < 255 {
-        return unpack_zeros(following, buffer);
-    }
-    let marked = unpack_tagged(tag, following, &mut buffer[..8]);
-    let used = if tag == 0 { marked + 1 } else { marked };
-    Some(Taken { used, filled: 8 })
-}
-
-// Where fewer bytes are shown, byte by byte.
-fn unpack_last(tag: u8, following: &[u8], buffer: &mut [u8]) -> Option<Taken>
-    requires room { 8 ≤ length buffer.old }
-    ensures { IfSome result (λ taken.
-        GroupFollowing tag following.now buffer.new taken.used taken.filled) }
-{
-    if following.is_empty() || tag == 255 {
+    if following.is_empty() {
         return None;
     }
-    if tag == 0 {
-        return unpack_zeros(following, buffer);
-    }
-    let used = unpack_bytes(tag, following, &mut buffer[..8])?;
+    let word = &mut buffer[..8];
+    let used = if following.len() >= 8 {
+        unpack_tagged(tag, following, word)
+    } else {
+        unpack_bytes(tag, following, word)?
+    };
     Some(Taken { used, filled: 8 })
 }
 
-// Fills zero words at once.
+// Fills zero words by one fill, two to four of them by two stores, which may overlap, with no call and
+// no loop.
+#[inline(always)]
 fn unpack_zeros(following: &[u8], buffer: &mut [u8]) -> Option<Taken>
-    requires some { 1 ≤ length following.now }
-    requires room { 8 ≤ length buffer.old }
     ensures { IfSome result (λ taken.
         GroupFollowing 0 following.now buffer.new taken.used taken.filled) }
 {
-    let further = 8 * following[0] as usize;
-    if further > buffer.len() - 8 {
+    if following.is_empty() {
         return None;
     }
-    clear_front(8, buffer);
-    clear_front(further, &mut buffer[8..]);
-    Some(Taken {
-        used: 1,
-        filled: 8 + further,
-    })
+    let filled = 8 + 8 * following[0] as usize;
+    if filled > buffer.len() {
+        return None;
+    }
+    if filled < 16 || filled > 32 {
+        clear_front(filled, buffer);
+        return Some(Taken { used: 1, filled });
+    }
+    clear_front(16, buffer);
+    clear_front(16, &mut buffer[filled - 16..]);
+    Some(Taken { used: 1, filled })
 }
 
 #[inline(always)]
@@ -178,22 +128,68 @@ fn clear_front(count: usize, buffer: &mut [u8])
 }
 
 // Copies a word and the words after its count.
+#[inline(always)]
 fn unpack_literal(following: &[u8], buffer: &mut [u8]) -> Option<Taken>
-    requires long { 9 ≤ length following.now }
-    requires room { 8 ≤ length buffer.old }
+    requires { 8 ≤ length buffer.old }
     ensures { IfSome result (λ taken.
         GroupFollowing 255 following.now buffer.new taken.used taken.filled) }
 {
+    if following.len() < 9 {
+        return None;
+    }
     let run = 8 * following[8] as usize;
     if run > following.len() - 9 || run > buffer.len() - 8 {
         return None;
     }
-    copy_front(8, following, buffer);
-    copy_front(run, &following[9..], &mut buffer[8..]);
+    move_front::<8>(following, buffer);
+    copy_run(run, &following[9..], &mut buffer[8..]);
     Some(Taken {
         used: 9 + run,
         filled: 8 + run,
     })
+}
+
+// Copies words: up to eight of them by two moves of one size, which may overlap, with no call and no
+// loop, and more of them by one copy.
+#[inline(always)]
+fn copy_run(count: usize, text: &[u8], buffer: &mut [u8])
+    requires text { count ≤ length text.now }
+    requires room { count ≤ length buffer.old }
+    ensures { take count buffer.new ≡ take count text.now }
+{
+    if count < 8 || count > 64 {
+        copy_front(count, text, buffer);
+    } else if count <= 16 {
+        copy_ends::<8>(count, text, buffer);
+    } else if count <= 32 {
+        copy_ends::<16>(count, text, buffer);
+    } else {
+        copy_ends::<32>(count, text, buffer);
+    }
+}
+
+// Copies a given number of bytes by their first ones and their last ones, each half of them or more.
+#[inline(always)]
+fn copy_ends<const N: usize>(count: usize, text: &[u8], buffer: &mut [u8])
+    requires part { N ≤ count }
+    requires twice { count ≤ 2 * N }
+    requires text { count ≤ length text.now }
+    requires room { count ≤ length buffer.old }
+    ensures { take count buffer.new ≡ take count text.now }
+{
+    let cut = count - N;
+    move_front::<N>(text, buffer);
+    move_front::<N>(&text[cut..], &mut buffer[cut..]);
+}
+
+// Moves the first bytes as one vector. A copy from slice to slice would ask first whether they overlap.
+#[inline(always)]
+fn move_front<const N: usize>(text: &[u8], buffer: &mut [u8])
+    requires text { N ≤ length text.now }
+    requires room { N ≤ length buffer.old }
+    ensures { take N buffer.new ≡ take N text.now }
+{
+    Simd::<u8, N>::from_slice(text).copy_to_slice(buffer);
 }
 
 #[inline(always)]

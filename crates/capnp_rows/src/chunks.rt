@@ -201,6 +201,20 @@ fn a_part_of_a_word_is_not_read(rt: HostRuntime) -> Result<()> {
     Ok(())
 }
 
+// Where a source shows a tag alone and then fails, nothing of its word is written.
+#[test]
+fn a_tag_alone_leaves_the_word(rt: HostRuntime) -> Result<()> {
+    for tag in [0, 1, 2, 0x24, 0x80, 0xf0, 0xfe, 0xff] {
+        let text = [tag];
+        let mut source = Faulty::new(Trickle::new(&text, 1), 2);
+        let mut word = [0xaa; 8];
+        let returned = PackedRead::new(&mut source).read_exact(&mut word);
+        assert!(rt; returned.is_err_and(|error| error.kind == ErrorKind::DeviceFailed));
+        assert_eq!(rt; word, [0xaa; 8]);
+    }
+    Ok(())
+}
+
 #[test]
 fn a_part_of_a_word_is_not_written(rt: HostRuntime) -> Result<()> {
     retried!(write_parts(&rt))

@@ -8,7 +8,7 @@ loop-buffer-preserved c =
     let lone = unpacked_on c.loop-buffer.used c.loop-buffer.filled c.unpack_lone_groups-lone.result.used c.unpack_lone_groups-lone.result.filled
     c.args.shown.now c.loop-buffer.buffer c.unpack_lone_groups-lone.new.buffer (search rules) c.loop-buffer.invariant.1 c.unpack_lone_groups-lone.ensures in
     let next = unpacked_on (c.loop-buffer.used + c.unpack_lone_groups-lone.result.used) (c.loop-buffer.filled + c.unpack_lone_groups-lone.result.filled)
-    c.in-Some.group.used c.in-Some.group.filled c.args.shown.now _ c.unpack_next.new.buffer (search rules) lone.1 c.in-Some.ensures.group in
+    c.in-Some.group.used c.in-Some.group.filled c.args.shown.now _ c.unpack_group.new.buffer (search rules) lone.1 c.in-Some.ensures.group in
     (next.0 ∙ lone.0 ∙ c.loop-buffer.invariant.0, next.1)
 
 pub returns-then-buffer-filled-lt8 : goal.returns-then-buffer-filled-lt8
@@ -22,4 +22,4 @@ returns-in_default c =
     let lone = unpacked_on c.loop-buffer.used c.loop-buffer.filled c.unpack_lone_groups-lone.result.used c.unpack_lone_groups-lone.result.filled
     c.args.shown.now c.loop-buffer.buffer c.unpack_lone_groups-lone.new.buffer (search rules) c.loop-buffer.invariant.1 c.unpack_lone_groups-lone.ensures in
     unpacked_kept (c.loop-buffer.used + c.unpack_lone_groups-lone.result.used) (c.loop-buffer.filled + c.unpack_lone_groups-lone.result.filled)
-    c.args.shown.now _ c.unpack_next.new.buffer (search rules) lone.1
+    c.args.shown.now _ c.unpack_group.new.buffer (search rules) lone.1
