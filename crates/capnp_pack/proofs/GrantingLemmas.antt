@@ -9,7 +9,8 @@ use Rattle.capnp_pack.specs.Steps.{HasFewZeros, IsRun, IsGroupOf, tag_of}
 use Rattle.capnp_pack.proofs.AllLemmas.{AllByRecursion-drop}
 use Rattle.capnp_pack.proofs.RunLemmas.{IsRun-once, IsRun-some, few_or_not}
 use Rattle.capnp_pack.proofs.PackerGroups.{IsGroupOf-some, IsGroupOf-once, IsGroupOf-literal}
-use Rattle.capnp_pack.proofs.PackerLemmas.{PacksWords, PacksTo, PacksWords-more, PacksWords-none, PacksWords-some, Packs-words, Packs-once}
+use Rattle.capnp_pack.specs.PackedWords.{PacksWords, PacksTo}
+use Rattle.capnp_pack.proofs.PackerLemmas.{PacksWords-more, PacksWords-none, PacksWords-some, Packs-words, Packs-once}
 use Rattle.capnp_pack.proofs.PackingLemmas.{PacksTo-more}
 
 -- the words of a literal run have as many bytes as the chunk that is written of them

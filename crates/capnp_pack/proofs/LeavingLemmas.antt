@@ -14,7 +14,8 @@ use Rattle.capnp_pack.specs.PackedSink.{LeavesPacked}
 use Rattle.capnp_pack.specs.Steps.{HasFewZeros, IsRun, Hands, LeavesParts, LiteralAfter, GroupAfter, tag_of}
 use Rattle.capnp_pack.proofs.AllLemmas.{AllByRecursion-drop}
 use Rattle.capnp_pack.proofs.PackerGroups.{IsGroupOf-some, IsGroupOf-literal}
-use Rattle.capnp_pack.proofs.PackerLemmas.{PacksWords, PacksTo, PacksWords-more, PacksWords-none, PacksWords-some, Packs-words}
+use Rattle.capnp_pack.specs.PackedWords.{PacksWords, PacksTo}
+use Rattle.capnp_pack.proofs.PackerLemmas.{PacksWords-more, PacksWords-none, PacksWords-some, Packs-words}
 
 -- a front of a longer text
 parts_longer : (appends : Appending) (leaves : Leaving) (text more left : List ℕ) → LeavesParts appends leaves text left → LeavesParts appends leaves (text ++ more) left

@@ -11,6 +11,8 @@ pub mod TableRows
 pub mod PlaceLemmas
 pub mod LoneLemmas
 pub mod MarkLemmas
+pub mod FrontLemmas
+pub mod SizeLemmas
 pub mod RunFaults
 pub mod StoredLemmas
 pub mod LaneLemmas
@@ -28,6 +30,7 @@ pub mod PackedFrameLemmas
 pub mod PackedTextLemmas
 pub mod HandingLemmas
 pub mod PackingLemmas
+pub mod BufferedLemmas
 pub mod MessageLemmas
 pub mod Shown
 pub mod WorkedRows

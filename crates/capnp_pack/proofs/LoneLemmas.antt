@@ -1,6 +1,6 @@
 -- A group of one word, by what tables say of its tag.
-use Rattle.std.proofs.Common.{◌≡◌, ℕ, zero, suc, ◌+◌, ◌-◌, ◌<◌, ◌*◌, ◌≤◌, Bool, true, false, Some, List, [], ◌∷◌, ◌++◌, length, take, drop, get_or, refl, sym, ap, ◌∙◌, subst, arith, length-drop, drop-cons}
-use Rattle.std.specs.Prelude.{◌==◌, if◌then◌else◌}
+use Rattle.std.proofs.Common.{◌≡◌, ℕ, zero, suc, ◌+◌, ◌-◌, ◌<◌, ◌≤◌, Bool, true, false, Some, List, [], ◌∷◌, length, take, drop, get_or, refl, sym, ap, ◌∙◌, subst, arith, length-drop, drop-cons}
+use Rattle.std.specs.Prelude.{◌==◌}
 use Rattle.std.proofs.lemmas.List.{append-nil, take_all}
 use Rattle.std.proofs.lemmas.Bool.Decides.{nat_tests}
 use lib.Count.{ones, ones-le}
@@ -8,58 +8,8 @@ use borrow.Rule.Slice.PartMut.{put_mid}
 use Rattle.capnp_frame.proofs.SourceLemmas.{length-put_mid}
 use Rattle.capnp_pack.specs.Group.{IsWord}
 use Rattle.capnp_pack.specs.Steps.{MarkedAt, GroupFollowing, Unpacked}
-use Rattle.capnp_pack.specs.declared.lone.TheConstants.{GROUP_BYTES, LONE_UP_TO}
 use Rattle.capnp_pack.proofs.UnpackedLemmas.{group_unpacked, tagged_after, lone_zero_after, unpacked_more}
 use Rattle.capnp_pack.proofs.WordGroups.{literal_found}
-
--- how many bytes a group of a tag has, where it is of one word
-abbrev pub group_bytes : ℕ → ℕ
-group_bytes tag = if tag == 0 then 2 else (if tag == 255 then 10 else 1 + ones tag)
-
--- up to which last byte it is of one word
-abbrev pub lone_up_to : ℕ → ℕ
-lone_up_to tag = if tag == 0 then 0 else (if tag == 255 then 0 else 255)
-
--- a number for each tag
-abbrev each_tag : (ℕ → ℕ) → ℕ → ℕ → List ℕ
-each_tag f tag zero = []
-each_tag f tag (suc n) = f tag ∷ each_tag f (suc tag) n
-
-get_or-each_tag : (f : ℕ → ℕ) (n first i : ℕ) → i < n → get_or (each_tag f first n) i 0 ≡ f (first + i)
-get_or-each_tag f zero first i low = absurd (omega arith)
-get_or-each_tag f (suc n) first zero low = let same : first ≡ first + 0 = omega arith in ap f same
-get_or-each_tag f (suc n) first (suc i) low =
-    let same : suc first + i ≡ first + suc i = omega arith in
-    get_or-each_tag f n (suc first) i (omega arith) ∙ ap f same
-
-at_tag : (f : ℕ → ℕ) (table : List ℕ) (tag : ℕ) → table ≡ each_tag f 0 256 → tag < 256 → get_or table tag 0 ≡ f tag
-at_tag f table tag is low =
-    let same : 0 + tag ≡ tag = omega arith in
-    ap (λ t. get_or t tag 0) is ∙ get_or-each_tag f 256 0 tag low ∙ ap f same
-
-group_bytes_table : GROUP_BYTES ≡ each_tag group_bytes 0 256
-unfolding ones
-group_bytes_table = refl
-
-lone_up_to_table : LONE_UP_TO ≡ each_tag lone_up_to 0 256
-lone_up_to_table = refl
-
-pub group_bytes_of : (tag : ℕ) → tag < 256 → get_or GROUP_BYTES tag 0 ≡ group_bytes tag
-group_bytes_of tag low = at_tag group_bytes GROUP_BYTES tag group_bytes_table low
-
-pub lone_up_to_of : (tag : ℕ) → tag < 256 → get_or LONE_UP_TO tag 0 ≡ lone_up_to tag
-lone_up_to_of tag low = at_tag lone_up_to LONE_UP_TO tag lone_up_to_table low
-
-by_tag : (none full : Bool) (n : ℕ) → n ≤ 8 → (1 ≤ (if none then 2 else (if full then 10 else 1 + n))) × ((if none then 2 else (if full then 10 else 1 + n)) ≤ 10)
-by_tag true full n few = (omega arith, omega arith)
-by_tag false true n few = (omega arith, omega arith)
-by_tag false false n few = (omega arith, omega arith)
-
-pub group_bytes_few : (tag : ℕ) → tag < 256 → (1 ≤ group_bytes tag) × (group_bytes tag ≤ 10)
-group_bytes_few tag low = by_tag (tag == 0) (tag == 255) (ones tag) (ones-le 8 tag low)
-
-pub group_bytes_tagged : (tag : ℕ) → 0 < tag → tag < 255 → group_bytes tag ≡ 1 + ones tag
-group_bytes_tagged tag some low = grind (arith, nat_tests)
 
 -- a word of which all is marked, and no word after it
 lone_literal_after : (following word buffer : List ℕ) → 9 ≤ length following → get_or following 8 0 ≡ 0 → IsWord word → 8 ≤ length buffer →

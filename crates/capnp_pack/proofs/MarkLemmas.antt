@@ -55,11 +55,16 @@ few_marks (suc n) i tag = by_bit (tag % 2 == 1) (few_marks n (suc i) (tag / 2))
     by_bit false few = omega arith
     by_bit true few = omega arith
 
+pub mark_row_len : (tag : ℕ) → length (mark_row tag) ≡ 16
+mark_row_len tag =
+    let m = 16 - length (marks 8 0 tag) in
+    omega (arith, length-append (marks 8 0 tag) (replicate m 128), length-replicate {A = ℕ} m 128, few_marks 8 0 tag)
+
 pub mark_row_ok : (tag : ℕ) → SwzOk w8 16 16 0 (mark_row tag)
 mark_row_ok tag =
     let m = 16 - length (marks 8 0 tag) in
     SwzOk-from_Each1 w8 16 1 16 0 (mark_row tag) refl
-    (omega (arith, length-append (marks 8 0 tag) (replicate m 128), length-replicate {A = ℕ} m 128, few_marks 8 0 tag)) (marks_ok 8 0 tag m (omega arith))
+    (omega (arith, mark_row_len tag)) (marks_ok 8 0 tag m (omega arith))
 
 -- the first lanes are the marked bytes
 gather : (n i tag k : ℕ) (word xs filler : List ℕ) → i + n ≡ 8 → length word ≡ 8 → ((j : ℕ) → j < 8 → get_or xs j 0 ≡ get_or word j 0) → k + n ≤ 16 →

@@ -8,23 +8,12 @@ use Rattle.capnp_pack.specs.Group.{Group, tagged, zeros, literal, IsGroup, IsWor
 use Rattle.capnp_pack.specs.Chunk.{text_of, words_of_groups}
 use Rattle.capnp_pack.specs.Packed.{Packs, IsLongest, AreLongest}
 use Rattle.capnp_pack.specs.Steps.{IsGroupOf}
+use Rattle.capnp_pack.specs.PackedWords.{PacksWords}
 use Rattle.capnp_pack.specs.PackedSource.{Unpacks}
 use Rattle.capnp_pack.specs.UnpackingLaws.{words_len, unpack_once, zero_words}
 use Rattle.capnp_pack.proofs.AllLemmas.{AllByRecursion-append, AllByRecursion-drop}
 use Rattle.capnp_pack.proofs.PackerGroups.{IsGroupOf-some, IsGroupOf-once, first_is}
 use Rattle.capnp_pack.proofs.Chunks.{chunks_whole}
-
--- the text is the one that a packer makes of the words
-pub record PacksWords (words : List (List ℕ)) (text : List ℕ) : Type 0 where
-  pub groups : List Group
-  pub each : AllByRecursion IsGroup groups
-  pub longest : AreLongest groups
-  pub spelled : text ≡ text_of groups
-  pub unpacked : words_of_groups groups ≡ words
-
--- the text is the front of the packed words, up to where these are left
-abbrev pub PacksTo : List (List ℕ) → List ℕ → List (List ℕ) → Type 0
-PacksTo words text left = (more : List ℕ) → PacksWords left more → PacksWords words (text ++ more)
 
 pub PacksWords-more : (w : List ℕ) (os : List (List ℕ)) (n : ℕ) (g : Group) (text : List ℕ) → IsGroupOf w os n g → PacksWords (drop n os) text → PacksWords (w ∷ os) (group_text g ++ text)
 PacksWords-more w os n g text made p = record {

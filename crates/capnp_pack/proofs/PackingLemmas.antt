@@ -12,7 +12,8 @@ use Rattle.capnp_pack.specs.PackedSink.{AppendsPacked}
 use Rattle.capnp_pack.specs.Steps.{IsZero, HasFewZeros, tag_of, nonzero, IsRun, IsGroupOf, EndsGroup, Hands}
 use Rattle.capnp_pack.proofs.TagLemmas.{tag_zero, tag_full, top_word, marked_tag, zeros_cons, zeros_suc, nonzero_suc}
 use Rattle.capnp_pack.proofs.PackerGroups.{IsGroupOf-zeros, IsGroupOf-literal, IsGroupOf-tagged}
-use Rattle.capnp_pack.proofs.PackerLemmas.{PacksWords, PacksTo, PacksWords-more, PacksWords-none, Packs-words}
+use Rattle.capnp_pack.specs.PackedWords.{PacksWords, PacksTo}
+use Rattle.capnp_pack.proofs.PackerLemmas.{PacksWords-more, PacksWords-none, Packs-words}
 use Rattle.capnp_pack.proofs.HandingLemmas.{Hands-join, Hands-none}
 
 nonzero_all : (w : List ℕ) → zero_bytes w ≡ 0 → nonzero w ≡ w
@@ -20,9 +21,14 @@ nonzero_all [] e = refl
 nonzero_all (zero ∷ w) e = absurd (omega (arith, zeros_cons 0 w))
 nonzero_all (suc b ∷ w) e = nonzero_suc b w ∙ ap (λ l. suc b ∷ l) (nonzero_all w (sym (zeros_suc b w) ∙ e))
 
+-- bytes that the buffer takes, after those that it held or handed on
+pub buffered_after : (appends : Appending) (old held roomy text new : List ℕ) (a b : Option (List ℕ)) → new ≡ roomy ++ text → IfKnown a b (Hands appends old held roomy)
+    → IfKnown a b (Hands appends old (held ++ text) new)
+buffered_after appends old held roomy text new a b e handed = IfKnown-weaker a b (λ x y p. Hands-join appends old held roomy text new x y y p (Hands-none appends roomy text new y e)) handed
+
 -- a group that the buffer takes
 buffered : (appends : Appending) (old roomy new text : List ℕ) (a b : Option (List ℕ)) → new ≡ roomy ++ text → IfKnown a b (Hands appends old [] roomy) → IfKnown a b (Hands appends old text new)
-buffered appends old roomy new text a b e roomed = IfKnown-weaker a b (λ x y p. Hands-join appends old [] roomy text new x y y p (Hands-none appends roomy text new y e)) roomed
+buffered appends old roomy new text a b e roomed = buffered_after appends old [] roomy text new a b e roomed
 
 -- a run of zero words
 pub ends_zeros : (word : List ℕ) (os : List (List ℕ)) (count tag : ℕ) (filled new : List ℕ) → IsWord word → tag ≡ tag_of word → tag ≡ 0
@@ -49,11 +55,10 @@ ends_tagged word os tag filled is tagged_by some low = (
 pub filled_by : (word : List ℕ) (tag : ℕ) (roomy filled : List ℕ) → tag ≡ tag_of word → filled ≡ roomy ++ tag ∷ nonzero word → filled ≡ roomy ++ tag_of word ∷ nonzero word
 filled_by word tag roomy filled tagged_by fill = fill ∙ ap (λ k. roomy ++ k ∷ nonzero word) tagged_by
 
-pub made_group : (appends : Appending) (word : List ℕ) (os : List (List ℕ)) (count tag : ℕ) (old roomy filled new : List ℕ) (a b : Option (List ℕ))
-    → EndsGroup word os count filled new → tag ≡ tag_of word → filled ≡ roomy ++ tag ∷ nonzero word
+pub made_group : (appends : Appending) (word : List ℕ) (os : List (List ℕ)) (count : ℕ) (old roomy new : List ℕ) (a b : Option (List ℕ))
+    → ((g : Group) × IsGroupOf word os count g × (new ≡ roomy ++ group_text g))
     → IfKnown a b (Hands appends old [] roomy) → (g : Group) × IsGroupOf word os count g × IfKnown a b (Hands appends old (group_text g) new)
-made_group appends word os count tag old roomy filled new a b (group, made, ends) tagged_by fill roomed =
-    (group, made, buffered appends old roomy new (group_text group) a b (ends roomy (filled_by word tag roomy filled tagged_by fill)) roomed)
+made_group appends word os count old roomy new a b (group, made, is) roomed = (group, made, buffered appends old roomy new (group_text group) a b is roomed)
 
 -- the tag of a word that goes as it stands, and the word
 pub literal_front : (word : List ℕ) (tag : ℕ) (roomy filled : List ℕ) → IsWord word → tag ≡ tag_of word → tag ≡ 255
@@ -63,16 +68,15 @@ literal_front word tag roomy filled is tagged_by full fill =
     let none : zero_bytes word ≡ 0 = tag_full word (omega (arith, top_word word is)) in
     fill ∙ ap (λ l. roomy ++ l) (ap (λ k. k ∷ nonzero word) full ∙ ap (λ l. 255 ∷ l) (nonzero_all word none))
 
-pub made_literal : {X : Type 0} (words : X → ℕ) (new : X → List ℕ) (appends : Appending) (word : List ℕ) (os : List (List ℕ)) (tag : ℕ)
+pub made_literal : {X : Type 0} (words : X → ℕ) (new : X → List ℕ) (appends : Appending) (word : List ℕ) (os : List (List ℕ))
     (old roomy filled : List ℕ) (a b c : Option (List ℕ))
-    (r : Result X Error) → IsWord word → AllByRecursion IsWord os → tag ≡ tag_of word → tag ≡ 255 → filled ≡ roomy ++ tag ∷ nonzero word →
+    (r : Result X Error) → IsWord word → AllByRecursion IsWord os → tag_of word ≡ 255 → filled ≡ roomy ++ 255 ∷ word →
     IfKnown a b (Hands appends old [] roomy) → IfOk r (λ v. IsRun HasFewZeros os (words v)) →
     IfOk r (λ v. IfKnown b c (Hands appends filled (words v ∷ concat (take (words v) os)) (new v))) →
     IfOk r (λ v. (g : Group) × IsGroupOf word os (words v) g × IfKnown a c (Hands appends old (group_text g) (new v)))
-made_literal words new appends word os tag old roomy filled a b c (Err e) is all tagged_by full fill roomed run handed = tt
-made_literal words new appends word os tag old roomy filled a b c (Ok v) is all tagged_by full fill roomed run handed =
-    let full_tag : tag_of word ≡ 255 = sym tagged_by ∙ full in
-    let first = buffered appends old roomy filled (255 ∷ word) a b (literal_front word tag roomy filled is tagged_by full fill) roomed in
+made_literal words new appends word os old roomy filled a b c (Err e) is all full_tag fill roomed run handed = tt
+made_literal words new appends word os old roomy filled a b c (Ok v) is all full_tag fill roomed run handed =
+    let first = buffered appends old roomy filled (255 ∷ word) a b fill roomed in
     let long : length (take (words v) os) ≡ (words v) = length-take-le (words v) os run.within in
     let further : (words v) ∷ concat (take (words v) os) ≡ length (take (words v) os) ∷ concat (take (words v) os) = ap (λ k. k ∷ concat (take (words v) os)) (sym long) in (
       literal word (take (words v) os),

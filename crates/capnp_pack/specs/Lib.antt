@@ -1,6 +1,7 @@
 pub mod Group
 pub mod Chunk
 pub mod Packed
+pub mod PackedWords
 pub mod PackedFrame
 pub mod PackedSource
 pub mod PackedSink

@@ -57,42 +57,31 @@ pub(crate) fn push(bytes: &mut [u8; 64], used: usize, byte: u8) -> usize
     used + 1
 }
 
-// Adds a tag, and the bytes of a word that aren't zero. After them stands a zero, the count of a
-// run that is one word long.
+// Adds a tag, and the bytes of a word that aren't zero: eight are stored at once, however many they
+// are. So after the tag of a zero word stands a zero, the count of a run that is one word long.
 #[inline(always)]
 pub(crate) fn push_word(bytes: &mut [u8; 64], used: usize, tag: u8, word: &[u8; 8]) -> usize
     requires room { used ≤ 54 }
     requires tag { tag ≡ tag_of word.now }
     ensures room { result < 64 }
+    ensures used { result ≡ used + 1 + count_ones tag }
     ensures word { take result bytes.new ≡ take used bytes.old ++ tag ∷ nonzero word.now }
-    ensures zero { take (result + 1) bytes.new ≡ take result bytes.new ++ 0 ∷ [] }
-{
-    let end = push_front(bytes, used, tag, word);
-    bytes[end] = 0;
-    end
-}
-
-// The same with nothing after them.
-#[inline(always)]
-fn push_front(bytes: &mut [u8; 64], used: usize, tag: u8, word: &[u8; 8]) -> usize
-    requires room { used ≤ 54 }
-    requires tag { tag ≡ tag_of word.now }
-    ensures room { result < 64 }
-    ensures word { take result bytes.new ≡ take used bytes.old ++ tag ∷ nonzero word.now }
+    ensures zero { tag ≡ 0 → take (result + 1) bytes.new ≡ take result bytes.new ++ 0 ∷ [] }
 {
     let front = nonzero_front(tag, word);
     let at = push(bytes, used, tag);
-    bytes[at..at + 8].copy_from_slice(&front[..8]);
+    front.copy_to_slice(&mut bytes[at..at + 8]);
     at + tag.count_ones() as usize
 }
 
-// The bytes of a word that aren't zero, at the front.
+// The bytes of a word that aren't zero, at the front, and then zeros.
 #[inline(always)]
-fn nonzero_front(tag: u8, word: &[u8; 8]) -> [u8; 16]
+fn nonzero_front(tag: u8, word: &[u8; 8]) -> u8x8
     requires { tag ≡ tag_of word.now }
     ensures counted { count_ones tag ≡ length (nonzero word.now) }
     ensures few { count_ones tag ≤ 8 }
-    ensures front { take (count_ones tag) (take 8 result) ≡ nonzero word.now }
+    ensures front { take (count_ones tag) result ≡ nonzero word.now }
+    ensures zero { tag ≡ 0 → take 1 result ≡ 0 ∷ [] }
 {
     let bytes = u8x16::from_array([
         word[0], word[1], word[2], word[3], word[4], word[5], word[6], word[7], 0, 0, 0, 0, 0, 0,
@@ -100,5 +89,5 @@ fn nonzero_front(tag: u8, word: &[u8; 8]) -> [u8; 16]
     ]);
     bytes
         .swizzle_dyn(u8x16::from_array(MARKS[tag as usize]))
-        .to_array()
+        .extract::<0, 8>()
 }

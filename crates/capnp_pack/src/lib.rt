@@ -16,6 +16,7 @@ mod packed_read;
 mod packed_write;
 mod places;
 mod runs;
+mod sizes;
 pub mod stream;
 mod unpack;
 

@@ -3,10 +3,10 @@
 //! Where a group's longest text of one word is shown and a word of the buffer is left, no other
 //! test of room is needed, and two look-ups by the tag say where the next group begins, and whether
 //! this one has one word.
-ghost use Rattle.std.specs.Prelude.{◌≡◌, ◌+◌, ◌<◌, ◌≤◌, length, IfSome};
-ghost use Rattle.std.specs.Int.RustNames.{count_ones};
+ghost use Rattle.std.specs.Prelude.{◌≡◌, ◌≤◌, length, IfSome};
 ghost use Rattle.capnp_pack.specs.Steps.{Unpacked};
 
+use crate::sizes::group_bytes;
 use crate::unpack::{Taken, unpack_lanes};
 
 // How many bytes a tag, a word's vector and a count reach over, at most.
@@ -54,18 +54,6 @@ fn unpack_lone(shown: &[u8], buffer: &mut [u8]) -> Option<usize>
     Some(used)
 }
 
-// How many bytes a group of this tag and of one word has: its tag, what that marks, and the count
-// after tags 0 and 255.
-#[inline(always)]
-fn group_bytes(tag: u8) -> usize
-    ensures few { (1 ≤ result) × (result ≤ 10) }
-    ensures zero { tag ≡ 0 → result ≡ 2 }
-    ensures full { tag ≡ 255 → result ≡ 10 }
-    ensures tagged { 0 < tag → tag < 255 → result ≡ 1 + count_ones tag }
-{
-    GROUP_BYTES[tag as usize] as usize
-}
-
 // Up to which last byte such a group has one word: after tags 0 and 255 that byte counts further
 // ones, and after others it is any byte of the word.
 #[inline(always)]
@@ -75,26 +63,6 @@ fn lone_up_to(tag: u8) -> u8
 {
     LONE_UP_TO[tag as usize]
 }
-
-#[rattlefmt::skip]
-static GROUP_BYTES: [u8; 256] = [
-    2, 2, 2, 3, 2, 3, 3, 4, 2, 3, 3, 4, 3, 4, 4, 5,
-    2, 3, 3, 4, 3, 4, 4, 5, 3, 4, 4, 5, 4, 5, 5, 6,
-    2, 3, 3, 4, 3, 4, 4, 5, 3, 4, 4, 5, 4, 5, 5, 6,
-    3, 4, 4, 5, 4, 5, 5, 6, 4, 5, 5, 6, 5, 6, 6, 7,
-    2, 3, 3, 4, 3, 4, 4, 5, 3, 4, 4, 5, 4, 5, 5, 6,
-    3, 4, 4, 5, 4, 5, 5, 6, 4, 5, 5, 6, 5, 6, 6, 7,
-    3, 4, 4, 5, 4, 5, 5, 6, 4, 5, 5, 6, 5, 6, 6, 7,
-    4, 5, 5, 6, 5, 6, 6, 7, 5, 6, 6, 7, 6, 7, 7, 8,
-    2, 3, 3, 4, 3, 4, 4, 5, 3, 4, 4, 5, 4, 5, 5, 6,
-    3, 4, 4, 5, 4, 5, 5, 6, 4, 5, 5, 6, 5, 6, 6, 7,
-    3, 4, 4, 5, 4, 5, 5, 6, 4, 5, 5, 6, 5, 6, 6, 7,
-    4, 5, 5, 6, 5, 6, 6, 7, 5, 6, 6, 7, 6, 7, 7, 8,
-    3, 4, 4, 5, 4, 5, 5, 6, 4, 5, 5, 6, 5, 6, 6, 7,
-    4, 5, 5, 6, 5, 6, 6, 7, 5, 6, 6, 7, 6, 7, 7, 8,
-    4, 5, 5, 6, 5, 6, 6, 7, 5, 6, 6, 7, 6, 7, 7, 8,
-    5, 6, 6, 7, 6, 7, 7, 8, 6, 7, 7, 8, 7, 8, 8, 10,
-];
 
 #[rattlefmt::skip]
 static LONE_UP_TO: [u8; 256] = [

@@ -1,5 +1,5 @@
 //! Words into a sink, packed.
-ghost use Rattle.std.specs.Prelude.{◌≡◌, ℕ, ◌+◌, ◌<◌, ◌≤◌, ◌⊎◌, List, [], ◌∷◌, ◌++◌, IfOk, IfErr, OnOk, OnErr, IsOk, IsOkAnd, length, take, refl};
+ghost use Rattle.std.specs.Prelude.{◌≡◌, ℕ, ◌+◌, ◌<◌, ◌≤◌, ◌⊎◌, List, [], ◌∷◌, ◌++◌, IfOk, IfErr, IfSome, IfNone, OnOk, OnErr, IsOk, IsOkAnd, length, take, drop, refl};
 ghost use Rattle.std.specs.List.{concat};
 ghost use Rattle.std.specs.Result.{IsErrAnd};
 ghost use Rattle.std.proofs.Common.{◌∙◌};
@@ -9,13 +9,15 @@ ghost use Rattle.capnp_frame.specs.Source.{IfKnown, Fails};
 ghost use Rattle.capnp_frame.specs.Sink.{DeclinesAny, Adds, Grows};
 ghost use Rattle.capnp_frame.specs.Writers.{WritesTo};
 ghost use Rattle.capnp_pack.specs.Calls.{HandsOn};
-ghost use Rattle.capnp_pack.specs.Group.{Group, IsWord, group_text};
+ghost use Rattle.capnp_pack.specs.Group.{Group, group_text};
 ghost use Rattle.capnp_pack.specs.Packed.{Packs};
+ghost use Rattle.capnp_pack.specs.PackedWords.{PacksTo};
 ghost use Rattle.capnp_pack.specs.PackedSink.{AppendsPacked, LeavesPacked, DeclinesPacked};
-ghost use Rattle.capnp_pack.specs.Steps.{IsRun, IsZero, HasFewZeros, Hands, IsGroupOf, EndsGroup, GroupAfter, LiteralAfter, tag_of};
+ghost use Rattle.capnp_pack.specs.Steps.{IsRun, IsZero, HasFewZeros, Hands, IsGroupOf, GroupAfter, LiteralAfter, tag_of};
 
 use crate::buffer::{flush, make_room, push, push_word};
 use crate::runs::{first_mark, literal_run, tag, zero_run};
+use crate::sizes::group_bytes;
 use capnp_frame::io::Write;
 use capnp_frame::{Error, ErrorKind, Result};
 
@@ -97,7 +99,7 @@ impl<'a, W: Write> Write for PackedWrite<'a, W> {
     } };
 }
 
-// How many of the words after one its group takes, and how many bytes are then used.
+// How many words are packed (of one group, those after its first one), and how many bytes are then used.
 #[derive(Clone, Copy)]
 struct Packed {
     words: usize,
@@ -119,9 +121,68 @@ fn pack<W: Write>(sink: &mut W, chunk: &[u8]) -> Result<()>
     while done < words.len() {
         let packed = pack_group(sink, &mut bytes, used, &words[done], &words[done + 1..])?;
         done += 1 + packed.words;
-        used = packed.used;
+        let more = pack_groups(&mut bytes, packed.used, &words[done..]);
+        done += more.words;
+        used = more.used;
     }
     flush(sink, &bytes, used)
+}
+
+// Packs groups that need nothing but the buffer, while it has room for one more, and another word
+// follows.
+//
+// The sink is not looked at here, and one test tells that a word is left and another follows, so that
+// most words take this short loop. The other groups are left to `pack_group`.
+#[inline(always)]
+fn pack_groups(bytes: &mut [u8; 64], used: usize, words: &[[u8; 8]]) -> Packed
+    requires { used ≤ 64 }
+    ensures within { result.words ≤ length words.now }
+    ensures used { result.used ≤ 64 }
+    ensures packed { (text : List ℕ) × PacksTo words.now text (drop result.words words.now)
+        × (take result.used bytes.new ≡ take used bytes.old ++ text) }
+{
+    let mut count = 0;
+    let mut end = used;
+    while end <= 54 && count + 1 < words.len() {
+        let Some(packed) = pack_part(bytes, end, &words[count], &words[count + 1..]) else {
+            break;
+        };
+        count += 1 + packed.words;
+        end = packed.used;
+    }
+    Packed {
+        words: count,
+        used: end,
+    }
+}
+
+// Packs a word that doesn't go as it stands, and the zero words that its group takes. `None` where the
+// word goes as it stands: nothing is packed then.
+#[inline(always)]
+fn pack_part(
+    bytes: &mut [u8; 64],
+    used: usize,
+    word: &[u8; 8],
+    others: &[[u8; 8]],
+) -> Option<Packed>
+    requires { used ≤ 54 }
+    ensures literal { IfNone result ((tag_of word.now ≡ 255) × (bytes.new ≡ bytes.old)) }
+    ensures used { IfSome result (λ packed. packed.used ≤ 64) }
+    ensures group { IfSome result (λ packed. (group : Group)
+        × IsGroupOf word.now others.now packed.words group
+        × (take packed.used bytes.new ≡ take used bytes.old ++ group_text group)) }
+{
+    let tag = tag(word);
+    if tag == 255 {
+        return None;
+    }
+    let end = push_word(bytes, used, tag, word);
+    // A sum, so that a zero word alone takes no branch of its own.
+    if tag as usize + first_mark(others) as usize == 0 {
+        return Some(pack_zeros(bytes, end, others));
+    }
+    let used = used + group_bytes(tag);
+    Some(Packed { words: 0, used })
 }
 
 // Packs a word, and as many of those after it as its group takes.
@@ -146,30 +207,11 @@ fn pack_group<W: Write>(
         IsOkAnd result (λ packed. W.grants sink.new (packed.used + more)) }
 {
     let start = make_room(sink, bytes, used)?;
-    let tag = tag(word);
-    let end = push_word(bytes, start, tag, word);
-    if tag == 255 {
-        return pack_literal(sink, bytes, end, others);
+    if let Some(packed) = pack_part(bytes, start, word, others) {
+        return Ok(packed);
     }
-    Ok(end_group(bytes, end, tag, others))
-}
-
-// Ends the group of a word that doesn't go as it stands: after a zero word comes a count.
-#[inline(always)]
-fn end_group(bytes: &mut [u8; 64], end: usize, tag: u8, others: &[[u8; 8]]) -> Packed
-    requires room { end < 64 }
-    requires low { tag < 255 }
-    requires zero { take (end + 1) bytes.old ≡ take end bytes.old ++ 0 ∷ [] }
-    ensures used { result.used ≤ 64 }
-    ensures ends { (word : List ℕ) → IsWord word → tag ≡ tag_of word →
-        EndsGroup word others.now result.words (take end bytes.old) (take result.used bytes.new) }
-{
-    // A sum, so that a zero word alone takes no branch of its own.
-    if tag as usize + first_mark(others) as usize == 0 {
-        return pack_zeros(bytes, end, others);
-    }
-    let used = if tag == 0 { end + 1 } else { end };
-    Packed { words: 0, used }
+    let end = push_word(bytes, start, 255, word);
+    pack_literal(sink, bytes, end, others)
 }
 
 // Counts the zero words after one.

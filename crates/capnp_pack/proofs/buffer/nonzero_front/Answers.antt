@@ -1,8 +1,9 @@
 -- The table has each byte's place.
-use Rattle.std.proofs.Common.{rules, arith, ◌≡◌, ◌<◌, ◌∙◌, sym, ap, subst, take, length, w8}
+use Rattle.std.proofs.Common.{rules, arith, ◌≡◌, ◌<◌, ◌∙◌, sym, ap, subst, length, w8}
 use lib.Count.{ones}
-use borrow.Rule.Simd.Moves.{SwzOk, swz_l}
-use Rattle.capnp_pack.proofs.MarkLemmas.{mark_row_of, mark_row_ok, nonzero_lanes, ones_tag, padded}
+use borrow.Rule.Simd.Moves.{SwzOk}
+use Rattle.capnp_pack.proofs.FrontLemmas.{front_lanes, front_zero}
+use Rattle.capnp_pack.proofs.MarkLemmas.{mark_row_of, mark_row_ok, ones_tag}
 use Rattle.capnp_pack.proofs.buffer.nonzero_front.Goals as goal
 
 pub swizzle : goal.swizzle
@@ -17,4 +18,9 @@ pub returns-clause-front : goal.returns-clause-front
 returns-clause-front c =
     let low : c.args.tag < 256 = omega arith in
     let is : length c.args.word.now ≡ 8 = search rules in
-    ap (λ js. take (ones c.args.tag) (take 8 (swz_l w8 16 (padded c.args.word.now) 0 js))) (mark_row_of c.args.tag _ low) ∙ nonzero_lanes c.args.tag c.args.word.now is c.requires
+    front_lanes c.args.tag c.args.word.now _ (mark_row_of c.args.tag _ low) is c.requires
+
+pub returns-clause-zero : goal.returns-clause-zero
+returns-clause-zero c none =
+    let low : c.args.tag < 256 = omega arith in
+    front_zero c.args.tag c.args.word.now _ (mark_row_of c.args.tag _ low) none

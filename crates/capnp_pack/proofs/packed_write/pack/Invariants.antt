@@ -4,7 +4,7 @@ use Rattle.capnp_frame.specs.Source.{IfKnown}
 use Rattle.capnp_frame.specs.Sink.{Grows}
 use Rattle.capnp_pack.specs.Steps.{Hands}
 use Rattle.capnp_pack.proofs.GrantingLemmas.{GrantsRest}
-use Rattle.capnp_pack.proofs.PackerLemmas.{PacksTo}
+use Rattle.capnp_pack.specs.PackedWords.{PacksTo}
 use Rattle.capnp_pack.proofs.packed_write.pack.Given as goal
 
 abbrev pub invariant-loop-done : goal.invariant-loop-done
