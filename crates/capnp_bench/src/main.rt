@@ -2,7 +2,8 @@
 //! digest of all that it returned.
 //!
 //! Its words are the job, the seed and how many messages or rows are made: `capnp_bench log 1 1000`.
-//! `all` runs each job in turn.
+//! `all` runs each job in turn. Of `roots` and `trickle` one word more picks a part, and a second one
+//! a part of it: `capnp_bench roots 1 1000 text set_root`.
 #![tactic(auto)]
 
 mod canon;
@@ -12,6 +13,11 @@ mod far;
 mod log;
 mod random;
 mod raw;
+mod roots;
+mod shape;
+mod small;
+mod source;
+mod trickle;
 mod walk;
 
 use anyhow::Result;
@@ -26,6 +32,15 @@ fn main(rt: HostRuntime) -> Result<()> {
     for name in ["log", "convert", "walk", "canon", "far"] {
         if job == name || job == "all" {
             let digest = digest_of(rt.alloc(), name, seed, count)?;
+            println!(rt; "{name} {digest}")?;
+        }
+    }
+    let part = env::args(&rt)?.nth(4);
+    let piece = env::args(&rt)?.nth(5);
+    for name in ["roots", "trickle"] {
+        if job == name || job == "all" {
+            let parts = (part.as_deref(), piece.as_deref());
+            let digest = digest_of_parts(rt.alloc(), name, seed, count, parts)?;
             println!(rt; "{name} {digest}")?;
         }
     }
@@ -46,5 +61,18 @@ fn digest_of(alloc: Global, job: &str, seed: u32, count: u32) -> capnp::Result<u
         "walk" => walk::digest_of(alloc, seed, count),
         "canon" => canon::digest_of(alloc, seed, count),
         _ => far::digest_of(alloc, seed, count),
+    }
+}
+
+fn digest_of_parts(
+    alloc: Global,
+    job: &str,
+    seed: u32,
+    count: u32,
+    parts: (Option<&str>, Option<&str>),
+) -> capnp::Result<u64> {
+    match job {
+        "roots" => roots::digest_of(alloc, seed, count, parts.0, parts.1),
+        _ => trickle::digest_of(alloc, seed, count, parts.0, parts.1),
     }
 }
