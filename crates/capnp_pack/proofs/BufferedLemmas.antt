@@ -1,14 +1,19 @@
 -- Groups that need nothing but the buffer, one after another.
-use Rattle.std.proofs.Common.{◌≡◌, ℕ, zero, suc, ◌<◌, refl, ◌+◌, ◌-◌, ◌≤◌, Option, List, [], ◌∷◌, ◌++◌, length, take, drop, sym, ap, ◌∙◌, subst, arith, length-append, append_assoc}
-use Rattle.std.proofs.lemmas.List.{drop-drop, length-take-le, take_all, length-drop}
+use Rattle.std.proofs.Common.{◌≡◌, ℕ, zero, suc, ◌<◌, refl, ◌+◌, ◌-◌, ◌≤◌, inl, inr, Option, List, [], ◌∷◌, ◌++◌, length, take, drop, get_or, sym, ap, ◌∙◌, subst, arith, length-append, append_assoc}
+use Rattle.std.proofs.lemmas.List.{append-nil, drop_all, drop-drop, length-take-le, take_all, length-drop}
 use Rattle.capnp_frame.specs.Source.{IfKnown}
+use Rattle.capnp_frame.proofs.SourceLemmas.{IfKnown-join}
 use Rattle.capnp_frame.specs.Sink.{Appending}
+use Rattle.std.proofs.lemmas.Bool.{cases_order}
 use lib.Count.{ones, ones-le}
+use Rattle.std.specs.List.{AllByRecursion}
+use Rattle.capnp_pack.proofs.AllLemmas.{AllByRecursion-drop}
 use Rattle.capnp_pack.specs.Group.{Group, IsWord, group_text}
 use Rattle.capnp_pack.specs.Packed.{IfFirst}
 use Rattle.capnp_pack.specs.PackedWords.{PacksWords, PacksTo}
 use Rattle.capnp_pack.specs.Steps.{IsGroupOf, IsZero, Hands, tag_of, nonzero}
-use Rattle.capnp_pack.proofs.PackingLemmas.{PacksTo-more, buffered_after, ends_zeros, ends_tagged, filled_by, run_of_none}
+use Rattle.capnp_pack.proofs.PackingLemmas.{next_words, other_words, PacksTo-more, buffered_after, ends_zeros, ends_tagged, filled_by, run_of_none}
+use Rattle.capnp_pack.proofs.HandingLemmas.{Hands-join}
 use Rattle.capnp_pack.proofs.GrantingLemmas.{GrantsRest}
 
 -- the group of one word, of which the table gives the size
@@ -31,6 +36,14 @@ tagged_group word os tag used end size old new is tagged_by low next fill zero_a
         let last : used + size ≡ end = omega (arith, more (omega (arith, some)), ended) in
         let (g, made, ends) = ends_tagged word os tag (take end new) is tagged_by (omega (arith, some)) low in
         (g, made, ap (λ k. take k new) last ∙ ends old filled)
+
+-- of words of which none is left, none is the first
+pub none_left : (words : List (List ℕ)) (done : ℕ) (P : List ℕ → Type 0) → length words ≤ done → IfFirst (drop done words) P
+none_left words done P past = subst (λ l. IfFirst l P) (sym (drop_all done words past)) tt
+
+pub last_word : (words : List (List ℕ)) (count : ℕ) (P : List ℕ → Type 0) → length words ≤ count + 1
+    → IfFirst (take (length words - (count + 1)) (drop (count + 1) words)) P
+last_word words count P past = subst (λ l. IfFirst l P) (sym (other_words words count)) (none_left words (count + 1) P past)
 
 -- one more group
 pub buffered_more : (words : List (List ℕ)) (count n : ℕ) (w : List ℕ) (os : List (List ℕ)) (old buffer new : List ℕ) → drop count words ≡ w ∷ os → os ≡ drop (count + 1) words
@@ -68,6 +81,27 @@ pub buffered_handed : (appends : Appending) (words : List (List ℕ)) (done n : 
 buffered_handed appends words done n buffer new a b (text, to, handed) (more, next, is) =
     (text ++ more, PacksTo-join words done n text more to next, buffered_after appends [] text buffer more new a b is handed)
 
+-- all that the buffer holds is handed on
+pub flushed_handed : (appends : Appending) (words left : List (List ℕ)) (buffer : List ℕ) (a b c : Option (List ℕ))
+    → ((text : List ℕ) × PacksTo words text left × IfKnown a b (Hands appends [] text buffer)) → IfKnown b c (Hands appends buffer [] [])
+    → (text : List ℕ) × PacksTo words text left × IfKnown a c (Hands appends [] text [])
+flushed_handed appends words left buffer a b c (text, to, handed) flushed = (
+  text,
+  to,
+  subst (λ t. IfKnown a c (Hands appends [] t [])) (append-nil text)
+      (IfKnown-join a b c (λ x y z p q. Hands-join appends [] text buffer [] [] x y z p q) handed flushed),
+)
+
+pub flushed_grants : (first before after : ℕ → Type 0) (words left : List (List ℕ)) (used : ℕ) (Flushed : Type 0) → GrantsRest first before words left used
+    → ((more : ℕ) → before (used + more) → Flushed × after more) → GrantsRest first after words left 0
+flushed_grants first before after words left used Flushed (text, to, grants) flush = (
+  text,
+  to,
+  λ rest more packs granted.
+      let none : length rest + more ≡ 0 + (length rest + more) = omega arith in
+      subst after none (flush (length rest + more) (grants rest more packs granted)).1,
+)
+
 -- and what is granted is granted for them
 pub buffered_grants : (first now : ℕ → Type 0) (words : List (List ℕ)) (done n used end : ℕ) (old new : List ℕ) → length old ≡ 64 → length new ≡ 64 → used ≤ 64 → end ≤ 64
     → ((text : List ℕ) × PacksTo (drop done words) text (drop n (drop done words)) × (take end new ≡ take used old ++ text))
@@ -85,3 +119,23 @@ buffered_grants first now words done n used end old new old_long new_long before
           let given : used + (length (more ++ rest) + others) ≡ end + (length rest + others) = omega (arith, both, whole) in
           subst now given (grants (more ++ rest) others left (subst first asked granted)),
     )
+
+-- what holds once the buffer took them
+pub buffered_on : (appends : Appending) (first now : ℕ → Type 0) (words : List (List ℕ)) (done n used end : ℕ) (old new : List ℕ) (a b : Option (List ℕ))
+    → length old ≡ 64 → length new ≡ 64 → used ≤ 64 → end ≤ 64
+    → ((text : List ℕ) × PacksTo (take (length words - done) (drop done words)) text (drop n (take (length words - done) (drop done words))) × (take end new ≡ take used old ++ text))
+    → ((text : List ℕ) × PacksTo words text (drop done words) × IfKnown a b (Hands appends [] text (take used old))) → GrantsRest first now words (drop done words) used
+    → ((text : List ℕ) × PacksTo words text (drop (done + n) words) × IfKnown a b (Hands appends [] text (take end new))) × GrantsRest first now words (drop (done + n) words) end
+buffered_on appends first now words done n used end old new a b old_long new_long before after packed handed granted =
+    let rest = buffered_slice words done n packed in (
+      buffered_handed appends words done n (take used old) (take end new) a b handed rest,
+      buffered_grants first now words done n used end old new old_long new_long before after rest granted,
+    )
+
+-- and the tag of the word after them
+pub literal_next : (words : List (List ℕ)) (done n : ℕ) → IfFirst (drop n (take (length words - done) (drop done words))) (λ w. tag_of w ≡ 255)
+    → done + n < length words → tag_of (get_or words (done + n) []) ≡ 255
+literal_next words done n first less =
+    let at : drop n (take (length words - done) (drop done words)) ≡ get_or words (done + n) [] ∷ take (length words - (done + n + 1)) (drop (done + n + 1) words) =
+    ap (drop n) (words_from words done) ∙ drop-drop n done words ∙ next_words words (done + n) less in
+    subst (λ l. IfFirst l (λ w. tag_of w ≡ 255)) at first

@@ -1,5 +1,5 @@
 -- What is handed on to a sink, and what a buffer keeps.
-use Rattle.std.proofs.Common.{◌≡◌, ℕ, ◌⊎◌, inl, inr, Option, Result, Ok, Err, IfErr, List, [], ◌∷◌, ◌++◌, refl, sym, ap, ◌∙◌, subst, append_assoc}
+use Rattle.std.proofs.Common.{◌≡◌, ℕ, ◌⊎◌, inl, inr, Option, Some, None, Result, Ok, Err, IfErr, List, [], ◌∷◌, ◌++◌, refl, sym, ap, ◌∙◌, subst, append_assoc}
 use Rattle.std.specs.List.{concat, flat_map}
 use Rattle.std.proofs.lemmas.List.{append-nil}
 use Rattle.std.proofs.lemmas.List.Folds.{concat-append}
@@ -27,6 +27,11 @@ Hands-join appends old s mid t new x y z p q = record {
 -- bytes that the buffer takes
 pub Hands-none : (appends : Appending) (old text new x : List ℕ) → new ≡ old ++ text → Hands appends old text new x x
 Hands-none appends old text new x e = record { parts = []; handed = []; told = refl; added = sym (append-nil x); kept = sym e }
+
+-- nothing, of what the buffer holds
+pub Hands-same : (appends : Appending) (old : List ℕ) (a : Option (List ℕ)) → IfKnown a a (Hands appends old [] old)
+Hands-same appends old None = tt
+Hands-same appends old (Some x) = Hands-none appends old [] old x (sym (append-nil old))
 
 -- a chunk after an empty buffer, or the buffer itself
 pub Hands-one : (appends : Appending) (old text chunk x y : List ℕ) → old ++ text ≡ chunk → Adds (appends chunk) x y → Hands appends old text [] x y

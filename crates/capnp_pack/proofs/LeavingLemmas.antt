@@ -93,6 +93,14 @@ left_room appends leaves word os old a b is all (text, same, left) =
       left_longer appends leaves text (group_text group) (old ++ group_text group) a b (ap (λ l. l ++ group_text group) (sym same)) left,
     )
 
+-- nor for the next of a chunk's words
+pub left_next : (appends : Appending) (leaves : Leaving) (words : List (List ℕ)) (done : ℕ) (w : List ℕ) (os : List (List ℕ)) (old : List ℕ) (a b : Option (List ℕ))
+    → AllByRecursion IsWord words → drop done words ≡ w ∷ os → (text : List ℕ) × (text ≡ old) × IfKnown a b (Adds (LeavesParts appends leaves text))
+    → (whole : List ℕ) × GroupAfter old w os whole × IfKnown a b (Adds (LeavesParts appends leaves whole))
+left_next appends leaves words done w os old a b all front left =
+    let each : AllByRecursion IsWord (w ∷ os) = subst (AllByRecursion IsWord) front (AllByRecursion-drop IsWord done words all) in
+    left_room appends leaves w os old a b each.0 each.1 left
+
 -- it is one of words that go as they stand
 pub left_literal : (appends : Appending) (leaves : Leaving) (word : List ℕ) (os : List (List ℕ)) (old roomy filled : List ℕ) (a b c : Option (List ℕ))
     → IsWord word → AllByRecursion IsWord os → tag_of word ≡ 255 → filled ≡ roomy ++ 255 ∷ word → IfKnown a b (Hands appends old [] roomy)

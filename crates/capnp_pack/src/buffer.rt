@@ -2,7 +2,7 @@
 //!
 //! They are collected in 64 bytes, of which a given number of are used. A group adds at most 10 of
 //! them: a tag, a word and a count.
-ghost use Rattle.std.specs.Prelude.{◌≡◌, ℕ, ◌+◌, ◌<◌, ◌≤◌, [], ◌∷◌, ◌++◌, IfOk, IsOk, IsOkAnd, length, take, count_ones};
+ghost use Rattle.std.specs.Prelude.{◌≡◌, ℕ, ◌+◌, ◌<◌, ◌≤◌, [], ◌∷◌, ◌++◌, IsOk, length, take, count_ones};
 ghost use Rattle.capnp_frame.specs.Source.{IfKnown};
 ghost use Rattle.capnp_pack.specs.Calls.{HandsOn};
 ghost use Rattle.capnp_pack.specs.Steps.{Hands, nonzero, tag_of};
@@ -11,24 +11,6 @@ use crate::marks::MARKS;
 use capnp_frame::Result;
 use capnp_frame::io::Write;
 use std::simd::prelude::*;
-
-// Makes room for a tag, a word and a count, and returns how many bytes are then used.
-#[inline(always)]
-pub(crate) fn make_room<W: Write>(sink: &mut W, bytes: &[u8; 64], used: usize) -> Result<usize>
-    requires { used ≤ 64 }
-    ensures room { IfOk result (λ left. left ≤ 54) }
-    ensures hands { HandsOn W.Write sink.old sink.new (λ text. text ≡ take used bytes.now) (λ left.
-        IfKnown (W.written sink.old) (W.written sink.new)
-        (Hands W.appends (take used bytes.now) [] (take left bytes.now))) result }
-    ensures granted { (more : ℕ) → W.grants sink.old (used + more) →
-        IsOkAnd result (λ left. W.grants sink.new (left + more)) }
-{
-    if used <= 54 {
-        return Ok(used);
-    }
-    flush(sink, bytes, used)?;
-    Ok(0)
-}
 
 // Hands on what is used.
 #[inline(always)]

@@ -1,5 +1,5 @@
 //! Words into a sink, packed.
-ghost use Rattle.std.specs.Prelude.{◌≡◌, ℕ, ◌+◌, ◌<◌, ◌≤◌, ◌⊎◌, List, [], ◌∷◌, ◌++◌, IfOk, IfErr, IfSome, IfNone, OnOk, OnErr, IsOk, IsOkAnd, length, take, drop, refl};
+ghost use Rattle.std.specs.Prelude.{◌≡◌, ◌≢◌, ℕ, ◌+◌, ◌*◌, ◌<◌, ◌≤◌, ◌⊎◌, List, [], ◌∷◌, ◌++◌, IfOk, IfErr, OnOk, OnErr, IsOk, IsOkAnd, length, take, drop, refl};
 ghost use Rattle.std.specs.List.{concat};
 ghost use Rattle.std.specs.Result.{IsErrAnd};
 ghost use Rattle.std.proofs.Common.{◌∙◌};
@@ -10,12 +10,12 @@ ghost use Rattle.capnp_frame.specs.Sink.{DeclinesAny, Adds, Grows};
 ghost use Rattle.capnp_frame.specs.Writers.{WritesTo};
 ghost use Rattle.capnp_pack.specs.Calls.{HandsOn};
 ghost use Rattle.capnp_pack.specs.Group.{Group, group_text};
-ghost use Rattle.capnp_pack.specs.Packed.{Packs};
+ghost use Rattle.capnp_pack.specs.Packed.{IfFirst, Packs};
 ghost use Rattle.capnp_pack.specs.PackedWords.{PacksTo};
 ghost use Rattle.capnp_pack.specs.PackedSink.{AppendsPacked, LeavesPacked, DeclinesPacked};
 ghost use Rattle.capnp_pack.specs.Steps.{IsRun, IsZero, HasFewZeros, Hands, IsGroupOf, GroupAfter, LiteralAfter, tag_of};
 
-use crate::buffer::{flush, make_room, push, push_word};
+use crate::buffer::{flush, push, push_word};
 use crate::runs::{first_mark, literal_run, tag, zero_run};
 use crate::sizes::group_bytes;
 use capnp_frame::io::Write;
@@ -99,7 +99,10 @@ impl<'a, W: Write> Write for PackedWrite<'a, W> {
     } };
 }
 
-// How many words are packed (of one group, those after its first one), and how many bytes are then used.
+// The most bytes of the buffer that may be used where a group is added.
+const MOST_USED: usize = 54;
+
+// How many words are packed, and how many bytes of the buffer are then used.
 #[derive(Clone, Copy)]
 struct Packed {
     words: usize,
@@ -119,36 +122,87 @@ fn pack<W: Write>(sink: &mut W, chunk: &[u8]) -> Result<()>
     let mut used = 0;
     let mut done = 0;
     while done < words.len() {
-        let packed = pack_group(sink, &mut bytes, used, &words[done], &words[done + 1..])?;
-        done += 1 + packed.words;
-        let more = pack_groups(&mut bytes, packed.used, &words[done..]);
-        done += more.words;
-        used = more.used;
+        let packed = pack_buffered(&mut bytes, used, &words[done..]);
+        done += packed.words;
+        used = packed.used;
+        if done == words.len() {
+            continue;
+        }
+        if used > MOST_USED {
+            flush(sink, &bytes, used)?;
+            used = 0;
+            continue;
+        }
+        let literal = pack_literal(sink, &mut bytes, used, &words[done], &words[done + 1..])?;
+        done += literal.words;
+        used = literal.used;
     }
     flush(sink, &bytes, used)
 }
 
-// Packs groups that need nothing but the buffer, while it has room for one more, and another word
-// follows.
-//
-// The sink is not looked at here, and one test tells that a word is left and another follows, so that
-// most words take this short loop. The other groups are left to `pack_group`.
+// Packs groups that need nothing but the buffer, while it has room for one more: up to a word that
+// goes as it stands.
 #[inline(always)]
-fn pack_groups(bytes: &mut [u8; 64], used: usize, words: &[[u8; 8]]) -> Packed
+fn pack_buffered(bytes: &mut [u8; 64], used: usize, words: &[[u8; 8]]) -> Packed
     requires { used ≤ 64 }
     ensures within { result.words ≤ length words.now }
     ensures used { result.used ≤ 64 }
+    // A group has at most ten bytes.
+    ensures few { result.used ≤ used + 10 * result.words }
     ensures packed { (text : List ℕ) × PacksTo words.now text (drop result.words words.now)
         × (take result.used bytes.new ≡ take used bytes.old ++ text) }
+    // Where room is left, the next word goes as it stands.
+    ensures literal { result.used ≤ 54 →
+        IfFirst (drop result.words words.now) (λ word. tag_of word ≡ 255) }
+{
+    let packed = pack_stretch(bytes, used, words);
+    if packed.used > MOST_USED || packed.words + 1 != words.len() {
+        return packed;
+    }
+    let last = &words[packed.words];
+    let tag = tag(last);
+    if tag == 255 {
+        return packed;
+    }
+    push_word(bytes, packed.used, tag, last);
+    Packed {
+        words: packed.words + 1,
+        used: packed.used + group_bytes(tag),
+    }
+}
+
+// The same but for the last word: one test tells that a word is left and another follows, so that
+// most words take this short loop.
+#[inline(always)]
+fn pack_stretch(bytes: &mut [u8; 64], used: usize, words: &[[u8; 8]]) -> Packed
+    requires { used ≤ 64 }
+    ensures within { result.words ≤ length words.now }
+    ensures used { result.used ≤ 64 }
+    ensures few { result.used ≤ used + 10 * result.words }
+    ensures packed { (text : List ℕ) × PacksTo words.now text (drop result.words words.now)
+        × (take result.used bytes.new ≡ take used bytes.old ++ text) }
+    ensures literal { result.used ≤ 54 → result.words + 1 ≢ length words.now →
+        IfFirst (drop result.words words.now) (λ word. tag_of word ≡ 255) }
 {
     let mut count = 0;
     let mut end = used;
-    while end <= 54 && count + 1 < words.len() {
-        let Some(packed) = pack_part(bytes, end, &words[count], &words[count + 1..]) else {
+    while end <= MOST_USED && count + 1 < words.len() {
+        let word = &words[count];
+        let others = &words[count + 1..];
+        let tag = tag(word);
+        if tag == 255 {
             break;
-        };
-        count += 1 + packed.words;
-        end = packed.used;
+        }
+        let filled = push_word(bytes, end, tag, word);
+        // A sum, so that a zero word alone takes no branch of its own.
+        if tag as usize + first_mark(others) as usize == 0 {
+            let zeros = zero_run(others);
+            end = push(bytes, filled, zeros as u8);
+            count += 1 + zeros;
+        } else {
+            end += group_bytes(tag);
+            count += 1;
+        }
     }
     Packed {
         words: count,
@@ -156,49 +210,21 @@ fn pack_groups(bytes: &mut [u8; 64], used: usize, words: &[[u8; 8]]) -> Packed
     }
 }
 
-// Packs a word that doesn't go as it stands, and the zero words that its group takes. `None` where the
-// word goes as it stands: nothing is packed then.
+// Packs a word that goes as it stands, and hands on those after it that do.
 #[inline(always)]
-fn pack_part(
-    bytes: &mut [u8; 64],
-    used: usize,
-    word: &[u8; 8],
-    others: &[[u8; 8]],
-) -> Option<Packed>
-    requires { used ≤ 54 }
-    ensures literal { IfNone result ((tag_of word.now ≡ 255) × (bytes.new ≡ bytes.old)) }
-    ensures used { IfSome result (λ packed. packed.used ≤ 64) }
-    ensures group { IfSome result (λ packed. (group : Group)
-        × IsGroupOf word.now others.now packed.words group
-        × (take packed.used bytes.new ≡ take used bytes.old ++ group_text group)) }
-{
-    let tag = tag(word);
-    if tag == 255 {
-        return None;
-    }
-    let end = push_word(bytes, used, tag, word);
-    // A sum, so that a zero word alone takes no branch of its own.
-    if tag as usize + first_mark(others) as usize == 0 {
-        return Some(pack_zeros(bytes, end, others));
-    }
-    let used = used + group_bytes(tag);
-    Some(Packed { words: 0, used })
-}
-
-// Packs a word, and as many of those after it as its group takes.
-#[inline(always)]
-fn pack_group<W: Write>(
+fn pack_literal<W: Write>(
     sink: &mut W,
     bytes: &mut [u8; 64],
     used: usize,
     word: &[u8; 8],
     others: &[[u8; 8]],
 ) -> Result<Packed>
-    requires { used ≤ 64 }
+    requires room { used ≤ 54 }
+    requires full { tag_of word.now ≡ 255 }
     ensures used { IfOk result (λ packed. packed.used ≤ 64) }
     ensures hands { HandsOn W.Write sink.old sink.new
-        (GroupAfter (take used bytes.old) word.now others.now) (λ packed. (group : Group)
-        × IsGroupOf word.now others.now packed.words group
+        (GroupAfter (take used bytes.old) word.now others.now) (λ packed. (further : ℕ)
+        × (packed.words ≡ 1 + further) × (group : Group) × IsGroupOf word.now others.now further group
         × IfKnown (W.written sink.old) (W.written sink.new)
         (Hands W.appends (take used bytes.old) (group_text group)
         (take packed.used bytes.new))) result }
@@ -206,30 +232,17 @@ fn pack_group<W: Write>(
         W.grants sink.old (used + (length (group_text group) + more)) →
         IsOkAnd result (λ packed. W.grants sink.new (packed.used + more)) }
 {
-    let start = make_room(sink, bytes, used)?;
-    if let Some(packed) = pack_part(bytes, start, word, others) {
-        return Ok(packed);
-    }
-    let end = push_word(bytes, start, 255, word);
-    pack_literal(sink, bytes, end, others)
-}
-
-// Counts the zero words after one.
-#[inline(always)]
-fn pack_zeros(bytes: &mut [u8; 64], end: usize, others: &[[u8; 8]]) -> Packed
-    requires { end < 64 }
-    ensures used { result.used ≤ 64 }
-    ensures run { IsRun IsZero others.now result.words }
-    ensures counted { take result.used bytes.new ≡ take end bytes.old ++ result.words ∷ [] }
-{
-    let words = zero_run(others);
-    let used = push(bytes, end, words as u8);
-    Packed { words, used }
+    let end = push_word(bytes, used, 255, word);
+    let further = pack_run(sink, bytes, end, others)?;
+    Ok(Packed {
+        words: 1 + further.words,
+        used: further.used,
+    })
 }
 
 // Hands on the words after one that go as they stand.
 #[inline(always)]
-fn pack_literal<W: Write>(
+fn pack_run<W: Write>(
     sink: &mut W,
     bytes: &mut [u8; 64],
     end: usize,

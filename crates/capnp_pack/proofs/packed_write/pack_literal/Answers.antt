@@ -1,54 +1,52 @@
--- What is used is handed on with the count, and the words after it.
-use Rattle.std.proofs.Common.{rules, arith, ◌≡◌, ◌+◌, take, refl, subst}
-use Rattle.std.proofs.lemmas.Bool.{false≢true}
-use Rattle.std.specs.List.{flat_map}
-use Rattle.capnp_frame.proofs.SourceLemmas.{Grows-join}
-use Rattle.capnp_pack.proofs.CallLemmas.{hands_passed, hands_err}
-use Rattle.capnp_pack.proofs.HandingLemmas.{IfKnown-literal}
-use Rattle.capnp_pack.proofs.GrantingLemmas.{run_granted}
-use Rattle.capnp_pack.proofs.LeavingLemmas.{left_count, left_words}
+-- The word and its tag stand in the buffer, before the words after it.
+use Rattle.std.proofs.Common.{rules, length, take, ◌≡◌, Ok, refl, sym}
+use Rattle.capnp_pack.proofs.CallLemmas.{hands_passed}
+use Rattle.capnp_pack.proofs.Chunks.{each_word}
+use Rattle.capnp_pack.proofs.GrantingLemmas.{literal_granted}
+use Rattle.capnp_pack.proofs.HandingLemmas.{Hands-same}
+use Rattle.capnp_pack.proofs.LeavingLemmas.{left_literal}
+use Rattle.capnp_pack.proofs.PackingLemmas.{made_literal, literal_front}
 use Rattle.capnp_pack.proofs.packed_write.pack_literal.Goals as goal
 
 pub returns-clause-hands : goal.returns-clause-hands
 returns-clause-hands g c =
-    let words = take c.literal_run-words.result c.args.others.now in
-    let flat : c.as_flattened.result.now ≡ flat_map (λ x. x) words = search rules in
+    let is : length c.args.word.now ≡ 8 = search rules in
+    let full = c.requires.full in
+    let front = literal_front c.args.word.now 255 _ _ is (sym full) refl c.push_word-end.ensures.word in
+    let told = c.in_ok-further.ensures in
+    let (group, made, handed) = made_literal (λ packed. packed.words) (λ packed. take packed.used c.pack_run.new.bytes) g.W.Write.appends _ _ _ _ _ _ _ _ (Ok c.in_ok-further.further)
+    is (each_word c.args.others.now c.told-others) full front (Hands-same g.W.Write.appends _ _) told.run told.hands.handed in
     record {
-      handed = IfKnown-literal g.W.Write.appends _ _ _ _ _ words _ _ _ c.push-used.ensures.added refl flat c.in_ok-flush.ensures.hands.handed c.in_ok-write_all.ensures.added;
+      handed = (c.in_ok-further.further.words, refl, group, made, handed);
       left = tt;
       refused = tt;
       failed = tt;
-      grows = Grows-join _ _ _ (g.met.W.Write.keeps.transitive _ _ _) c.flush.ensures.hands.grows c.write_all.ensures.grows;
+      grows = c.pack_run.ensures.hands.grows;
     }
 
-pub returns-in_err-flush-clause-hands : goal.returns-in_err-flush-clause-hands
-returns-in_err-flush-clause-hands g c =
+pub returns-in_err-further-clause-hands : goal.returns-in_err-further-clause-hands
+returns-in_err-further-clause-hands g c =
+    let is : length c.args.word.now ≡ 8 = search rules in
+    let full = c.requires.full in
+    let front = literal_front c.args.word.now 255 _ _ is (sym full) refl c.push_word-end.ensures.word in
     hands_passed g.W.Write _ _ _ _ _ _ _ _ c.from_residual.ensures.1
-    (left_count g.W.Write.appends g.W.Write.leaves _ _ _ c.args.others.now _ _ c.literal_run-words.ensures c.push-used.ensures.added) c.in_err-flush.ensures.hands
-
-pub returns-in_err-write_all-clause-hands : goal.returns-in_err-write_all-clause-hands
-returns-in_err-write_all-clause-hands g c =
-    let told = c.in_err-write_all.ensures in
-    let flat : c.as_flattened.result.now ≡ flat_map (λ x. x) (take c.literal_run-words.result c.args.others.now) = search rules in
-    let left = left_words g.W.Write.appends g.W.Write.leaves c.literal_run-words.result _ _ _ c.args.others.now _ _ _
-    c.literal_run-words.ensures c.push-used.ensures.added flat c.in_ok-flush.ensures.hands.handed told.left in
-    hands_err g.W.Write g.met.W.Write.keeps _ _ _ _ _ _ _ _ c.from_residual-in_err-write_all.ensures.1 left told.refused told.failed
-    c.flush.ensures.hands.grows told.grows
-
-pub returns-in_err-flush-clause-granted : goal.returns-in_err-flush-clause-granted
-returns-in_err-flush-clause-granted g c count more run granted =
-    absurd (false≢true (run_granted (g.W.Write.grants c.args.sink.now) (g.W.Write.grants c.flush.new.sink) count _ c.args.end c.push-used.result more _ c.args.others.now _
-    run c.literal_run-words.ensures refl c.push-used.ensures.used granted c.in_err-flush.ensures.granted).0)
-
-pub returns-in_err-write_all-clause-granted : goal.returns-in_err-write_all-clause-granted
-returns-in_err-write_all-clause-granted g c count more run granted =
-    let flushed = run_granted (g.W.Write.grants c.args.sink.now) (g.W.Write.grants c.flush.new.sink) count _ c.args.end c.push-used.result more c.as_flattened.result.now
-    c.args.others.now _ run c.literal_run-words.ensures (search rules) c.push-used.ensures.used granted c.in_ok-flush.ensures.granted in
-    absurd (false≢true (c.in_err-write_all.ensures.granted more flushed.1).0)
+    (left_literal g.W.Write.appends g.W.Write.leaves _ _ _ _ _ _ _ _ is (each_word c.args.others.now c.told-others) full front (Hands-same g.W.Write.appends _ _))
+    c.in_err-further.ensures.hands
 
 pub returns-clause-granted : goal.returns-clause-granted
-returns-clause-granted g c count more run granted =
-    let flushed = run_granted (g.W.Write.grants c.args.sink.now) (g.W.Write.grants c.flush.new.sink) count _ c.args.end c.push-used.result more c.as_flattened.result.now
-    c.args.others.now _ run c.literal_run-words.ensures (search rules) c.push-used.ensures.used granted c.in_ok-flush.ensures.granted in
-    let none : more ≡ 0 + more = omega arith in
-    subst (g.W.Write.grants _) none (c.in_ok-write_all.ensures.granted more flushed.1).1
+returns-clause-granted g c group count more made granted =
+    let is : length c.args.word.now ≡ 8 = search rules in
+    let full = c.requires.full in
+    let front = literal_front c.args.word.now 255 _ _ is (sym full) refl c.push_word-end.ensures.word in
+    let (k, run, left) = literal_granted (g.W.Write.grants c.args.sink.now) c.args.word.now c.args.others.now count more _ _ group _ _ is
+    (each_word c.args.others.now c.told-others) full c.told-bytes c.push_word-end.array_long c.requires.room c.push_word-end.ensures.room front made granted in
+    c.in_ok-further.ensures.granted k more run left
+
+pub returns-in_err-further-clause-granted : goal.returns-in_err-further-clause-granted
+returns-in_err-further-clause-granted g c group count more made granted =
+    let is : length c.args.word.now ≡ 8 = search rules in
+    let full = c.requires.full in
+    let front = literal_front c.args.word.now 255 _ _ is (sym full) refl c.push_word-end.ensures.word in
+    let (k, run, left) = literal_granted (g.W.Write.grants c.args.sink.now) c.args.word.now c.args.others.now count more _ _ group _ _ is
+    (each_word c.args.others.now c.told-others) full c.told-bytes c.push_word-end.array_long c.requires.room c.push_word-end.ensures.room front made granted in
+    absurd (c.in_err-further.ensures.granted k more run left)

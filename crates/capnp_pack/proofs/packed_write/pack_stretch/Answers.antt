@@ -1,0 +1,44 @@
+-- One more group stands before the words that are left.
+use Rattle.std.proofs.Common.{rules, arith, ◌≡◌, ◌<◌, ◌≤◌, ◌+◌, ◌-◌, ap, length, length-drop, get_or, [], sym, take, drop}
+use lib.Count.{ones, ones-le}
+use Rattle.capnp_pack.proofs.BufferedLemmas.{buffered_more, tagged_group}
+use Rattle.capnp_pack.proofs.PackingLemmas.{ends_zeros, filled_by, next_words, other_words}
+use Rattle.capnp_pack.proofs.packed_write.pack_stretch.Goals as goal
+
+pub loop-end-preserved : goal.loop-end-preserved
+loop-end-preserved c =
+    let words = c.args.words.now in
+    let count = c.loop-end.count in
+    let tag = c.tag-tag.result in
+    let others = take (length words - (count + 1)) (drop (count + 1) words) in
+    let low : tag < 255 = omega arith in
+    let is : length (get_or words count []) ≡ 8 = search rules in
+    let told = c.push_word-filled.ensures in
+    let size = c.group_bytes-end.ensures in
+    let made = tagged_group (get_or words count []) others tag c.loop-end.end c.push_word-filled.result c.group_bytes-end.result _ _ is c.tag-tag.ensures low
+    (λ none. let some : 0 < c.first_mark.result = omega (arith, none) in c.first_mark.ensures some)
+    told.word told.zero told.used size.zero (λ some. size.tagged some low) in (
+      omega arith,
+      omega (arith, size.few),
+      omega (arith, size.few),
+      buffered_more words count 0 (get_or words count []) others _ _ _ (next_words words count (omega arith)) (other_words words count) c.loop-end.invariant.3 made,
+    )
+
+pub loop-end-preserved-then-tag-first_mark-eq0 : goal.loop-end-preserved-then-tag-first_mark-eq0
+loop-end-preserved-then-tag-first_mark-eq0 c =
+    let words = c.args.words.now in
+    let count = c.loop-end.count in
+    let tag = c.tag-tag.result in
+    let zeros = c.zero_run-zeros.result in
+    let others = take (length words - (count + 1)) (drop (count + 1) words) in
+    let all = other_words words count in
+    let none : tag ≡ 0 = omega arith in
+    let no : ones tag ≤ 0 = ones-le 0 tag (omega (arith, none)) in
+    let is : length (get_or words count []) ≡ 8 = search rules in
+    let (group, made, ends) = ends_zeros (get_or words count []) others zeros tag _ _ is c.tag-tag.ensures none c.zero_run-zeros.ensures c.push-end.ensures.added in
+    let fill = filled_by (get_or words count []) tag _ _ c.tag-tag.ensures c.push_word-filled.ensures.word in (
+      omega (arith, ap length all, length-drop (count + 1) words, c.zero_run-zeros.ensures.within),
+      omega (arith, c.push-end.ensures.used, c.push_word-filled.ensures.room),
+      omega (arith, c.push-end.ensures.used, c.push_word-filled.ensures.used, no),
+      buffered_more words count zeros (get_or words count []) others _ _ _ (next_words words count (omega arith)) all c.loop-end.invariant.3 (group, made, ends _ fill),
+    )
