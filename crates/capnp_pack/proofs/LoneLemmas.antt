@@ -25,24 +25,24 @@ lone_literal_after following word buffer long none is room same at =
           (0, omega arith, refl, counted);
     }
 
-pub lone_unpacked : (tag used most : ℕ) (shown following word buffer : List ℕ) → tag < 256 → (tag ≡ 0 → used ≡ 2) → (tag ≡ 255 → used ≡ 10) →
-    (0 < tag → tag < 255 → used ≡ 1 + ones tag) → (tag ≡ 0 → most ≡ 0) → (tag ≡ 255 → most ≡ 0) → shown ≡ tag ∷ following → 17 ≤ length shown →
-    IsWord word → 8 ≤ length buffer → take 8 buffer ≡ word → MarkedAt tag word following (drop (ones tag) following) → get_or shown (used - 1) 0 ≤ most → Unpacked shown buffer used 8
+pub lone_unpacked : (tag used : ℕ) (shown following word buffer : List ℕ) → tag < 256 → (tag ≡ 0 → used ≡ 2) → (tag ≡ 255 → used ≡ 10) →
+    (0 < tag → tag < 255 → used ≡ 1 + ones tag) → (tag ≡ 0 → get_or shown (used - 1) 0 ≡ 0) → (tag ≡ 255 → get_or shown (used - 1) 0 ≡ 0) → shown ≡ tag ∷ following → 10 ≤ length shown →
+    IsWord word → 8 ≤ length buffer → take 8 buffer ≡ word → MarkedAt tag word following (drop (ones tag) following) → Unpacked shown buffer used 8
 unfolding ones
-lone_unpacked zero used most shown following word buffer low zeros full tagged none fulls e long is room same at count =
+lone_unpacked zero used shown following word buffer low zeros full tagged none fulls e long is room same at =
     let two : used ≡ 2 = zeros refl in
     let wide : 9 ≤ length following = omega (arith, ap length e) in
-    let second : get_or shown 1 0 ≤ 0 = subst (λ k. get_or shown (k - 1) 0 ≤ 0) two (subst (λ m. get_or shown (used - 1) 0 ≤ m) (none refl) count) in
+    let second : get_or shown 1 0 ≡ 0 = subst (λ k. get_or shown (k - 1) 0 ≡ 0) two (none refl) in
     let alone : get_or following 0 0 ≡ 0 = omega (arith, second, ap (λ l. get_or l 1 0) e) in
     subst (λ k. Unpacked shown buffer k 8) (sym two) (group_unpacked 0 1 8 shown following buffer e (lone_zero_after 0 0 following word buffer refl alone is wide room same (omega arith) at))
-lone_unpacked (suc t) used most shown following word buffer low zeros full tagged none fulls e long is room same at count = by_full (suc t == 255) refl
+lone_unpacked (suc t) used shown following word buffer low zeros full tagged none fulls e long is room same at = by_full (suc t == 255) refl
   where
     by_full : (b : Bool) → (suc t == 255) ≡ b → Unpacked shown buffer used 8
     by_full true f =
         let tag : suc t ≡ 255 = grind (arith, nat_tests, f) in
         let ten : used ≡ 10 = full tag in
         let wide : 9 ≤ length following = omega (arith, ap length e) in
-        let tenth : get_or shown 9 0 ≤ 0 = subst (λ k. get_or shown (k - 1) 0 ≤ 0) ten (subst (λ m. get_or shown (used - 1) 0 ≤ m) (fulls tag) count) in
+        let tenth : get_or shown 9 0 ≡ 0 = subst (λ k. get_or shown (k - 1) 0 ≡ 0) ten (fulls tag) in
         let alone : get_or following 8 0 ≡ 0 = omega (arith, tenth, ap (λ l. get_or l 9 0) e) in
         let here : MarkedAt 255 word following (drop 8 following) = subst (λ k. MarkedAt k word following (drop (ones k) following)) tag at in
         subst (λ k. Unpacked shown buffer k 8) (sym ten)
@@ -64,7 +64,8 @@ unpacked_on used filled more count shown buffer part fits before after =
     let all : take (length shown - used) (drop used shown) ≡ drop used shown = take_all (length shown - used) (drop used shown) (omega (arith, length-drop used shown)) in
     (length-put_mid filled buffer part inside fits, unpacked_more used filled more count shown _ buffer part all fits before after)
 
-none_unpacked : (text buffer : List ℕ) → Unpacked text buffer 0 0
+-- no group is taken
+pub none_unpacked : (text buffer : List ℕ) → Unpacked text buffer 0 0
 none_unpacked text buffer = record {
   used_within = omega arith;
   some = λ s. s;

@@ -16,7 +16,7 @@ use Rattle.capnp_pack.specs.declared.marks.TheConstants.{MARKS}
 use Rattle.capnp_pack.specs.Group.{IsWord, marked}
 use Rattle.capnp_pack.specs.Steps.{tag_of, nonzero}
 use Rattle.capnp_pack.proofs.TagLemmas.{marked_tag, tag_below, top_word, tag_suc, nonzero_suc}
-use Rattle.capnp_pack.proofs.PlaceLemmas.{IsPlace, later, lane_at}
+use Rattle.capnp_pack.proofs.PlaceLemmas.{IsPlace, later, lane_at, padded, padded_at}
 use Rattle.std.proofs.lemmas.List.{take-take}
 use Rattle.capnp_pack.proofs.LaneLemmas.{marks_lanes}
 
@@ -105,20 +105,6 @@ ones_tag (suc b ∷ w) =
     let half : (1 + 2 * tag_of w) / 2 ≡ tag_of w = omega arith in
     let more : ones (1 + 2 * tag_of w) ≡ suc (length (nonzero w)) = omega (arith, ones_step (1 + 2 * tag_of w), ap ones half, ones_tag w) in
     ap ones (tag_suc b w) ∙ more ∙ sym (ap length (nonzero_suc b w))
-
-abbrev pub padded : List ℕ → List ℕ
-padded word = get_or word 0 0 ∷ get_or word 1 0 ∷ get_or word 2 0 ∷ get_or word 3 0 ∷ get_or word 4 0 ∷ get_or word 5 0 ∷ get_or word 6 0 ∷ get_or word 7 0 ∷ replicate 8 0
-
-padded_at : (word : List ℕ) (j : ℕ) → j < 8 → get_or (padded word) j 0 ≡ get_or word j 0
-padded_at word zero low = refl
-padded_at word (suc zero) low = refl
-padded_at word (suc (suc zero)) low = refl
-padded_at word (suc (suc (suc zero))) low = refl
-padded_at word (suc (suc (suc (suc zero)))) low = refl
-padded_at word (suc (suc (suc (suc (suc zero))))) low = refl
-padded_at word (suc (suc (suc (suc (suc (suc zero)))))) low = refl
-padded_at word (suc (suc (suc (suc (suc (suc (suc zero))))))) low = refl
-padded_at word (suc (suc (suc (suc (suc (suc (suc (suc j)))))))) low = absurd (omega arith)
 
 padded_tag : (word : List ℕ) → IsWord word → tag_of (padded word) ≡ tag_of word
 padded_tag [] is = absurd (omega (arith, is))

@@ -11,7 +11,9 @@ ghost use Rattle.capnp_pack.specs.Calls.{TakesFrom, TakesNext};
 ghost use Rattle.capnp_pack.specs.PackedSource.{Unpacks, MeetsFault, RefusesChunk, LeavesOverrun, Overran};
 ghost use Rattle.capnp_pack.specs.Steps.{TakesGroups, HeadOver, CountOver, GroupAt, FaultAfter, MarkedAt, marked_count, Lacks, RunAt, RefusesRun};
 
-use crate::unpack::{copy_front, unpack_shown, unpack_tagged};
+use crate::copies::copy_front;
+use crate::lanes::unpack_word;
+use crate::unpack::unpack_shown;
 use capnp_frame::io::{BufRead, Read};
 use capnp_frame::{Error, ErrorKind, Result};
 
@@ -136,7 +138,7 @@ fn read_word<R: BufRead>(source: &mut R, tag: u8, word: &mut [u8]) -> Result<()>
     if shown.len() < 8 {
         return read_marked(source, tag, word);
     }
-    let used = unpack_tagged(tag, shown, word);
+    let used = unpack_word(tag, shown, word);
     source.consume(used);
     Ok(())
 }

@@ -8,7 +8,9 @@
 #![tactic(auto)]
 
 mod buffer;
+mod copies;
 mod group;
+mod lanes;
 pub mod laws;
 mod lone;
 mod marks;

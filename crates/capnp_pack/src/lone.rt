@@ -1,16 +1,16 @@
 //! Unpacking groups of one word, one after another.
 //!
 //! Where a group's longest text of one word is shown and a word of the buffer is left, no other
-//! test of room is needed, and two look-ups by the tag say where the next group begins, and whether
-//! this one has one word.
-ghost use Rattle.std.specs.Prelude.{◌≡◌, ◌≤◌, length, IfSome};
+//! test of room is needed, and one look-up by the tag says where the next group begins.
+ghost use Rattle.std.specs.Prelude.{◌≡◌, ◌<◌, ◌≤◌, length, IfSome};
 ghost use Rattle.capnp_pack.specs.Steps.{Unpacked};
 
+use crate::lanes::unpack_word;
 use crate::sizes::group_bytes;
-use crate::unpack::{Taken, unpack_lanes};
+use crate::unpack::Taken;
 
-// How many bytes a tag, a word's vector and a count reach over, at most.
-const REACH: usize = 17;
+// How many bytes a tag, a word and a count have.
+pub(crate) const REACH: usize = 10;
 
 // Fills the front of a buffer by the groups of one word at the front of what is shown.
 //
@@ -41,45 +41,26 @@ pub(crate) fn unpack_lone_groups(shown: &[u8], buffer: &mut [u8]) -> Taken
 // group has.
 #[inline(always)]
 fn unpack_lone(shown: &[u8], buffer: &mut [u8]) -> Option<usize>
-    requires long { 17 ≤ length shown.now }
+    requires long { 10 ≤ length shown.now }
     requires room { 8 ≤ length buffer.old }
     ensures { IfSome result (λ used. Unpacked shown.now buffer.new used 8) }
 {
     let tag = shown[0];
     let used = group_bytes(tag);
-    if shown[used - 1] > lone_up_to(tag) {
+    if lone_mark(tag, shown[used - 1]) == 0 {
         return None;
     }
-    unpack_lanes(tag, &shown[1..], &mut buffer[..8]);
+    unpack_word(tag, &shown[1..], &mut buffer[..8]);
     Some(used)
 }
 
-// Up to which last byte such a group has one word: after tags 0 and 255 that byte counts further
-// ones, and after others it is any byte of the word.
+// 0 where the last byte of such a group counts further words, as it does after tags 0 and 255.
+//
+// A sum, so that none of these groups takes a branch of its own.
 #[inline(always)]
-fn lone_up_to(tag: u8) -> u8
-    ensures zero { tag ≡ 0 → result ≡ 0 }
-    ensures full { tag ≡ 255 → result ≡ 0 }
+fn lone_mark(tag: u8, last: u8) -> usize
+    ensures zero { tag ≡ 0 → 0 < result → last ≡ 0 }
+    ensures full { tag ≡ 255 → 0 < result → last ≡ 0 }
 {
-    LONE_UP_TO[tag as usize]
+    tag.wrapping_add(1) as usize / 2 + usize::from(last == 0)
 }
-
-#[rattlefmt::skip]
-static LONE_UP_TO: [u8; 256] = [
-    0, 255, 255, 255, 255, 255, 255, 255, 255, 255, 255, 255, 255, 255, 255, 255,
-    255, 255, 255, 255, 255, 255, 255, 255, 255, 255, 255, 255, 255, 255, 255, 255,
-    255, 255, 255, 255, 255, 255, 255, 255, 255, 255, 255, 255, 255, 255, 255, 255,
-    255, 255, 255, 255, 255, 255, 255, 255, 255, 255, 255, 255, 255, 255, 255, 255,
-    255, 255, 255, 255, 255, 255, 255, 255, 255, 255, 255, 255, 255, 255, 255, 255,
-    255, 255, 255, 255, 255, 255, 255, 255, 255, 255, 255, 255, 255, 255, 255, 255,
-    255, 255, 255, 255, 255, 255, 255, 255, 255, 255, 255, 255, 255, 255, 255, 255,
-    255, 255, 255, 255, 255, 255, 255, 255, 255, 255, 255, 255, 255, 255, 255, 255,
-    255, 255, 255, 255, 255, 255, 255, 255, 255, 255, 255, 255, 255, 255, 255, 255,
-    255, 255, 255, 255, 255, 255, 255, 255, 255, 255, 255, 255, 255, 255, 255, 255,
-    255, 255, 255, 255, 255, 255, 255, 255, 255, 255, 255, 255, 255, 255, 255, 255,
-    255, 255, 255, 255, 255, 255, 255, 255, 255, 255, 255, 255, 255, 255, 255, 255,
-    255, 255, 255, 255, 255, 255, 255, 255, 255, 255, 255, 255, 255, 255, 255, 255,
-    255, 255, 255, 255, 255, 255, 255, 255, 255, 255, 255, 255, 255, 255, 255, 255,
-    255, 255, 255, 255, 255, 255, 255, 255, 255, 255, 255, 255, 255, 255, 255, 255,
-    255, 255, 255, 255, 255, 255, 255, 255, 255, 255, 255, 255, 255, 255, 255, 0,
-];

@@ -11,12 +11,13 @@ returns c =
     let shown = c.args.shown.now in
     let tag = get_or shown 0 0 in
     let low : tag < 256 = omega arith in
-    let word : length c.unpack_lanes.new.word ≡ 8 = search rules in
+    let some : 0 < c.lone_mark.result = omega arith in
+    let word : length c.unpack_word.new.word ≡ 8 = search rules in
     let all : take (length shown - 1) (drop 1 shown) ≡ drop 1 shown = take_all (length shown - 1) (drop 1 shown) (omega (arith, length-drop 1 shown)) in
-    let at : MarkedAt tag c.unpack_lanes.new.word (drop 1 shown) (drop (ones tag) (drop 1 shown)) =
-    subst (λ k. MarkedAt tag c.unpack_lanes.new.word (drop 1 shown) (drop k (drop 1 shown))) c.unpack_lanes.ensures.count
-    (subst (λ l. MarkedAt tag c.unpack_lanes.new.word l (drop c.unpack_lanes.result l)) all c.unpack_lanes.ensures.taken.marked) in
+    let at : MarkedAt tag c.unpack_word.new.word (drop 1 shown) (drop (ones tag) (drop 1 shown)) =
+    subst (λ k. MarkedAt tag c.unpack_word.new.word (drop 1 shown) (drop k (drop 1 shown))) c.unpack_word.ensures.count
+    (subst (λ l. MarkedAt tag c.unpack_word.new.word l (drop c.unpack_word.result l)) all c.unpack_word.ensures.taken.marked) in
     let parts : shown ≡ tag ∷ drop 1 shown = search rules in
-    lone_unpacked tag c.group_bytes-used.result c.lone_up_to.result shown (drop 1 shown) c.unpack_lanes.new.word _ low
-    c.group_bytes-used.ensures.zero c.group_bytes-used.ensures.full c.group_bytes-used.ensures.tagged c.lone_up_to.ensures.zero c.lone_up_to.ensures.full
-    parts c.requires.long word (search rules) (take_at c.unpack_lanes.new.word _ 8 word) at (search rules)
+    lone_unpacked tag c.group_bytes-used.result shown (drop 1 shown) c.unpack_word.new.word _ low
+    c.group_bytes-used.ensures.zero c.group_bytes-used.ensures.full c.group_bytes-used.ensures.tagged (λ none. c.lone_mark.ensures.zero none some) (λ full. c.lone_mark.ensures.full full some)
+    parts c.requires.long word (search rules) (take_at c.unpack_word.new.word _ 8 word) at

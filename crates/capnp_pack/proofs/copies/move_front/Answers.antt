@@ -2,7 +2,7 @@
 use Rattle.std.proofs.Common.{arith, ◌≡◌, length, take}
 use Rattle.std.proofs.lemmas.List.{length-take-le}
 use Rattle.std.proofs.lemmas.Simd.{take_more_put_chunk}
-use Rattle.capnp_pack.proofs.unpack.move_front.Goals as goal
+use Rattle.capnp_pack.proofs.copies.move_front.Goals as goal
 
 pub returns : goal.returns
 returns g c =

@@ -1,7 +1,7 @@
 -- What is filled is the groups so far.
 use Rattle.std.proofs.Common.{◌≡◌, ◌-◌, length}
 use Rattle.capnp_pack.specs.Steps.{Unpacked}
-use Rattle.capnp_pack.proofs.unpack.unpack_shown.Given as goal
+use Rattle.capnp_pack.proofs.unpack.unpack_groups.Given as goal
 
 abbrev pub invariant-loop-buffer : goal.invariant-loop-buffer
 invariant-loop-buffer l = (length l.buffer ≡ length l.initial.buffer) × Unpacked l.shown l.buffer l.used l.filled

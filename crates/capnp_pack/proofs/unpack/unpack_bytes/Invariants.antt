@@ -1,7 +1,0 @@
--- The bytes so far stand under the tag, and the others under the bits that are left.
-use Rattle.std.proofs.Common.{◌≤◌, take, drop, length}
-use Rattle.capnp_pack.proofs.WordLemmas.{MarksTo}
-use Rattle.capnp_pack.proofs.unpack.unpack_bytes.Given as goal
-
-abbrev pub invariant-loop-byte : goal.invariant-loop-byte
-invariant-loop-byte l = (l.used ≤ length l.text) × MarksTo l.tag l.bits (take l.byte-index l.word) l.text (drop l.used l.text)

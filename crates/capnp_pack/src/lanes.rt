@@ -1,0 +1,42 @@
+//! The bytes that a tag marks, each moved to its place in a word at once.
+ghost use Rattle.std.specs.Prelude.{◌≡◌, ◌≤◌, length};
+ghost use Rattle.std.specs.Int.RustNames.{count_ones};
+ghost use Rattle.capnp_pack.specs.Steps.{TakesMarked};
+
+use crate::copies::copy_bytes;
+use crate::places::PLACES;
+use std::simd::prelude::*;
+
+// Fills a word by the bytes that a tag marks, where eight bytes are shown, and returns how many they
+// are.
+#[inline(always)]
+pub(crate) fn unpack_word(tag: u8, text: &[u8], word: &mut [u8]) -> usize
+    requires long { 8 ≤ length text.now }
+    requires word { length word.old ≡ 8 }
+    ensures count { result ≡ count_ones tag }
+    ensures taken { TakesMarked tag text.now word.new result }
+{
+    let places = u8x16::from_array(PLACES[tag as usize]);
+    let bytes = u8x16::from_array([
+        text[0], text[1], text[2], text[3], text[4], text[5], text[6], text[7], 0, 0, 0, 0, 0, 0,
+        0, 0,
+    ]);
+    bytes
+        .swizzle_dyn(places)
+        .extract::<0, 8>()
+        .copy_to_slice(word);
+    tag.count_ones() as usize
+}
+
+// The same where fewer may be shown, and all that the tag marks.
+#[inline(always)]
+pub(crate) fn unpack_short_word(tag: u8, text: &[u8], word: &mut [u8]) -> usize
+    requires long { count_ones tag ≤ length text.now }
+    requires word { length word.old ≡ 8 }
+    ensures count { result ≡ count_ones tag }
+    ensures taken { TakesMarked tag text.now word.new result }
+{
+    let mut bytes = [0; 8];
+    copy_bytes(text.len().min(8), text, &mut bytes);
+    unpack_word(tag, &bytes, word)
+}
