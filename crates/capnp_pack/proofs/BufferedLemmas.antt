@@ -1,13 +1,10 @@
 -- Groups that need nothing but the buffer, one after another.
-use Rattle.std.proofs.Common.{◌≡◌, ℕ, zero, suc, ◌<◌, refl, ◌+◌, ◌-◌, ◌≤◌, inl, inr, Option, List, [], ◌∷◌, ◌++◌, length, take, drop, get_or, sym, ap, ◌∙◌, subst, arith, length-append, append_assoc}
+use Rattle.std.proofs.Common.{◌≡◌, ℕ, zero, suc, ◌<◌, refl, ◌+◌, ◌-◌, ◌≤◌, Option, List, [], ◌∷◌, ◌++◌, length, take, drop, get_or, sym, ap, ◌∙◌, subst, arith, length-append, append_assoc}
 use Rattle.std.proofs.lemmas.List.{append-nil, drop_all, drop-drop, length-take-le, take_all, length-drop}
 use Rattle.capnp_frame.specs.Source.{IfKnown}
 use Rattle.capnp_frame.proofs.SourceLemmas.{IfKnown-join}
 use Rattle.capnp_frame.specs.Sink.{Appending}
-use Rattle.std.proofs.lemmas.Bool.{cases_order}
 use lib.Count.{ones, ones-le}
-use Rattle.std.specs.List.{AllByRecursion}
-use Rattle.capnp_pack.proofs.AllLemmas.{AllByRecursion-drop}
 use Rattle.capnp_pack.specs.Group.{Group, IsWord, group_text}
 use Rattle.capnp_pack.specs.Packed.{IfFirst}
 use Rattle.capnp_pack.specs.PackedWords.{PacksWords, PacksTo}

@@ -1,6 +1,5 @@
 -- Calls that hand bytes on to a sink, or take bytes of a source, one after another.
 use Rattle.std.proofs.Common.{◌≡◌, ◌⊎◌, inr, ℕ, List, [], ◌∷◌, Option, Some, None, Result, Ok, Err, IfErr, OnOk, OnErr, refl, sym, ◌∙◌, subst}
-use Rattle.std.specs.Prelude.{IfOk}
 use Rattle.std.specs.Result.{IsErrAnd}
 use Rattle.capnp_frame.specs.declared.error.Error.{Error}
 use Rattle.capnp_frame.specs.declared.error.ErrorKind.{ErrorKind}
@@ -34,20 +33,6 @@ hands_chunk sink old new kept chunk (Err e) is added left refused failed grows =
   refused = declines_any (e.kind ≡ DeviceFailed) sink.refuses chunk e.kind refused;
   failed = failed;
   grows = grows;
-}
-
--- a call after one that returned
-pub hands_after : {S X : Type 0} (sink : Sink S) (keeps : IsPreorder sink.same) (a b c : S) (stops more : List ℕ → Type 0) (first hands : X → Type 0) (r : Result X Error)
-    → IfOk r hands → (LeavesOf sink b c stops → LeavesOf sink a c more) → Grows sink.written sink.failures sink.same a b
-    → HandsOn sink b c stops first r → HandsOn sink a c more hands r
-hands_after sink keeps a b c stops more first hands (Ok x) handed turn before told =
-    record { handed = handed; left = tt; refused = tt; failed = tt; grows = Grows-join a b c (keeps.transitive a b c) before told.grows }
-hands_after sink keeps a b c stops more first hands (Err e) handed turn before told = record {
-  handed = tt;
-  left = turn told.left;
-  refused = told.refused;
-  failed = λ device. Fails-join (sink.failures a) (sink.failures b) (sink.failures c) before.counted (told.failed device);
-  grows = Grows-join a b c (keeps.transitive a b c) before told.grows;
 }
 
 -- a failure that is passed on

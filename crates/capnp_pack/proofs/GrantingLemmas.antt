@@ -30,19 +30,7 @@ run_granted before after count words end used more flat os Flushed run own all p
     let (done, left) = flush (bytes + more) (subst before same granted) in
     (done, subst (λ k. after (k + more)) (run_flat count words flat os run own all) left)
 
--- a buffer of 64 bytes with a group after what it held: what was granted for the group is, for what it holds now
-pub group_granted : (grants : ℕ → Type 0) (word : List ℕ) (os : List (List ℕ)) (n count more start used : ℕ) (own made : Group) (old new : List ℕ)
-    → length old ≡ 64 → length new ≡ 64 → start ≤ 54 → used ≤ 64 → take used new ≡ take start old ++ group_text own → IsGroupOf word os n own
-    → IsGroupOf word os count made → grants (start + (length (group_text made) + more)) → grants (used + more)
-group_granted grants word os n count more start used own made old new old_long new_long room within is mine theirs =
-    let same = (IsGroupOf-once word os n count own made mine theirs).1 in
-    let whole : length (take used new) ≡ length (take start old) + length (group_text own) = ap length is ∙ length-append (take start old) (group_text own) in
-    let begun : length (take start old) ≡ start = length-take-le start old (omega (arith, old_long)) in
-    let ended : length (take used new) ≡ used = length-take-le used new (omega (arith, new_long)) in
-    let both : start + (length (group_text own) + more) ≡ used + more = omega (arith, whole, begun, ended) in
-    subst grants (ap (λ g. start + (length (group_text g) + more)) (sym same) ∙ both)
-
--- and one of words that go as they stand: it is granted for what it holds with the count and the words
+-- a buffer of 64 bytes with a word that goes as it stands: what was granted for its group is granted for what it holds with the count and the words
 pub literal_granted : (grants : ℕ → Type 0) (word : List ℕ) (os : List (List ℕ)) (count more start end : ℕ) (made : Group) (old new : List ℕ)
     → IsWord word → AllByRecursion IsWord os → tag_of word ≡ 255 → length old ≡ 64 → length new ≡ 64 → start ≤ 54 → end < 64
     → take end new ≡ take start old ++ 255 ∷ word → IsGroupOf word os count made → grants (start + (length (group_text made) + more))

@@ -55,11 +55,6 @@ ends_tagged word os tag filled is tagged_by some low = (
 pub filled_by : (word : List ℕ) (tag : ℕ) (roomy filled : List ℕ) → tag ≡ tag_of word → filled ≡ roomy ++ tag ∷ nonzero word → filled ≡ roomy ++ tag_of word ∷ nonzero word
 filled_by word tag roomy filled tagged_by fill = fill ∙ ap (λ k. roomy ++ k ∷ nonzero word) tagged_by
 
-pub made_group : (appends : Appending) (word : List ℕ) (os : List (List ℕ)) (count : ℕ) (old roomy new : List ℕ) (a b : Option (List ℕ))
-    → ((g : Group) × IsGroupOf word os count g × (new ≡ roomy ++ group_text g))
-    → IfKnown a b (Hands appends old [] roomy) → (g : Group) × IsGroupOf word os count g × IfKnown a b (Hands appends old (group_text g) new)
-made_group appends word os count old roomy new a b (group, made, is) roomed = (group, made, buffered appends old roomy new (group_text group) a b is roomed)
-
 -- the tag of a word that goes as it stands, and the word
 pub literal_front : (word : List ℕ) (tag : ℕ) (roomy filled : List ℕ) → IsWord word → tag ≡ tag_of word → tag ≡ 255
     → filled ≡ roomy ++ tag ∷ nonzero word → filled ≡ roomy ++ 255 ∷ word

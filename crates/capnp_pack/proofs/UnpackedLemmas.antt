@@ -1,5 +1,5 @@
 -- What is unpacked of a text that is shown.
-use Rattle.std.proofs.Common.{◌≡◌, ℕ, zero, suc, ◌+◌, ◌-◌, ◌*◌, ◌%◌, ◌/◌, ◌<◌, ◌≤◌, Option, Some, None, IfSome, List, [], ◌∷◌, ◌++◌}
+use Rattle.std.proofs.Common.{◌≡◌, ℕ, zero, suc, ◌+◌, ◌-◌, ◌*◌, ◌%◌, ◌<◌, ◌≤◌, Option, Some, None, IfSome, List, [], ◌∷◌, ◌++◌}
 use Rattle.std.proofs.Common.{length, take, drop, get_or, replicate, refl, sym, ap, ◌∙◌, subst, arith, append_assoc, length-append}
 use Rattle.std.proofs.Common.{length-drop, drop-cons, add-one}
 use Rattle.std.proofs.lemmas.List.{append-nil, take_at, take-append-drop, drop-drop, length-take-le, take-append-le, take-take, take-replicate, drop-replicate}
@@ -16,7 +16,7 @@ use Rattle.capnp_pack.specs.PackedSource.{Unpacks, MeetsFault}
 use Rattle.capnp_pack.specs.Steps.{MarkedAt, RunAt, GroupFollowing, Unpacked}
 use Rattle.capnp_pack.proofs.AllLemmas.{AllByRecursion-append}
 use Rattle.capnp_pack.proofs.GroupLemmas.{group_takes, zeros_at}
-use Rattle.capnp_pack.proofs.WordLemmas.{MarksTo, MarksTo-more, clear_byte, set_byte, full_word}
+use Rattle.capnp_pack.proofs.WordLemmas.{clear_byte, set_byte, full_word}
 use Rattle.capnp_frame.proofs.SourceLemmas.{put_mid_front}
 use Rattle.capnp_pack.proofs.WordGroups.{tagged_found, literal_found}
 
@@ -35,15 +35,6 @@ bit_here bits used byte text clear set = by_bit (bits % 2) refl
         let front : drop used text ≡ byte ∷ drop (used + 1) text = drop-cons text used 0 here.0 ∙ ap (λ b. b ∷ drop (suc used) text) (sym here.1) ∙ ap (λ k. byte ∷ drop k text) (sym (add-one used)) in
         set_byte bits byte (Some (drop used text)) (Some (drop (used + 1) text)) (λ z. absurd (omega arith)) front
     by_bit (suc (suc bit)) e = absurd (omega arith)
-
--- the next byte of a word
-pub marks_next : (tag bits byte : ℕ) (front next raw left mid : List ℕ) → next ≡ front ++ byte ∷ [] → MarksTo tag bits front raw left →
-    MarkedAt bits (byte ∷ []) left mid → MarksTo tag (bits / 2) next raw mid
-marks_next tag bits byte front next raw left mid same to here = subst (λ l. MarksTo tag (bits / 2) l raw mid) (sym same) (MarksTo-more tag bits byte front raw left mid to here)
-
--- all of a word
-pub marks_word_whole : (tag bits : ℕ) (front word raw left : List ℕ) → front ≡ word → MarksTo tag bits front raw left → MarkedAt tag word raw left
-marks_word_whole tag bits front word raw left same p = subst (λ w. MarkedAt tag w raw left) (append-nil front ∙ same) (p.joins [] left (refl, tt))
 
 -- the groups by their tags
 

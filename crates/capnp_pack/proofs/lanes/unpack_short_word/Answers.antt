@@ -1,5 +1,5 @@
 -- The marked bytes are the front of those that are copied.
-use Rattle.std.proofs.Common.{rules, arith, ◌≤◌, ◌≡◌, ◌∙◌, sym, ap, take, length}
+use Rattle.std.proofs.Common.{rules, arith, ◌≤◌, ◌≡◌, ◌∙◌, sym, ap, take}
 use Rattle.std.proofs.lemmas.List.{take-take}
 use Rattle.capnp_pack.proofs.PlaceLemmas.{spread_front}
 use Rattle.capnp_pack.proofs.lanes.unpack_short_word.Goals as goal

@@ -1,9 +1,9 @@
 -- Each group packs the front of what is left.
-use Rattle.std.proofs.Common.{rules, arith, ◌+◌, ◌≤◌, ◌<◌, List, ℕ, length, get_or, [], ap, sym, subst, length-drop, take, drop, refl}
+use Rattle.std.proofs.Common.{arith, ◌+◌, ◌<◌, List, ℕ, length, [], ap, sym, subst, length-drop, take, drop, refl}
 use Rattle.std.proofs.lemmas.Bool.{false≢true}
 use Rattle.capnp_frame.specs.Source.{IfKnown}
 use Rattle.capnp_frame.proofs.SourceLemmas.{Grows-join}
-use Rattle.capnp_pack.specs.Group.{IsWord, group_text}
+use Rattle.capnp_pack.specs.Group.{group_text}
 use Rattle.capnp_pack.specs.PackedWords.{PacksTo}
 use Rattle.capnp_pack.specs.Steps.{Hands}
 use Rattle.capnp_pack.proofs.BufferedLemmas.{buffered_on, flushed_handed, flushed_grants, literal_next, words_from}

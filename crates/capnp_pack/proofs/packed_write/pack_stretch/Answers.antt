@@ -1,5 +1,5 @@
 -- One more group stands before the words that are left.
-use Rattle.std.proofs.Common.{rules, arith, ◌≡◌, ◌<◌, ◌≤◌, ◌+◌, ◌-◌, ap, length, length-drop, get_or, [], sym, take, drop}
+use Rattle.std.proofs.Common.{rules, arith, ◌≡◌, ◌<◌, ◌≤◌, ◌+◌, ◌-◌, ap, length, length-drop, get_or, [], take, drop}
 use lib.Count.{ones, ones-le}
 use Rattle.capnp_pack.proofs.BufferedLemmas.{buffered_more, tagged_group}
 use Rattle.capnp_pack.proofs.PackingLemmas.{ends_zeros, filled_by, next_words, other_words}
