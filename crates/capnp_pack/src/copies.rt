@@ -3,8 +3,8 @@ ghost use Rattle.std.specs.Prelude.{◌≡◌, ◌≤◌, ◌*◌, length, take,
 
 use std::simd::prelude::*;
 
-// Copies words: up to eight of them by two moves of one size, which may overlap, and more of them by
-// one copy.
+// Copies words: up to eight of them by two moves of one size, which may overlap, and more of them
+// by one copy.
 #[inline(always)]
 pub(crate) fn copy_run(count: usize, text: &[u8], buffer: &mut [u8])
     requires text { count ≤ length text.now }
@@ -45,7 +45,8 @@ pub(crate) fn copy_bytes(count: usize, text: &[u8], buffer: &mut [u8])
     }
 }
 
-// Copies a given number of bytes by their first ones and their last ones, each half of them or more.
+// Copies a given number of bytes by their first ones and their last ones, each half of them or
+// more.
 #[inline(always)]
 fn copy_ends<const N: usize>(count: usize, text: &[u8], buffer: &mut [u8])
     requires part { N ≤ count }
@@ -59,7 +60,8 @@ fn copy_ends<const N: usize>(count: usize, text: &[u8], buffer: &mut [u8])
     move_front::<N>(&text[cut..], &mut buffer[cut..]);
 }
 
-// Moves the first bytes as one vector. A copy from slice to slice would ask first whether they overlap.
+// Moves the first bytes as one vector. A copy from slice to slice would ask first whether they
+// overlap.
 #[inline(always)]
 pub(crate) fn move_front<const N: usize>(text: &[u8], buffer: &mut [u8])
     requires text { N ≤ length text.now }

@@ -7,8 +7,8 @@ use crate::copies::copy_bytes;
 use crate::places::PLACES;
 use std::simd::prelude::*;
 
-// Fills a word by the bytes that a tag marks, where eight bytes are shown, and returns how many they
-// are.
+// Fills a word by the bytes that a tag marks, where eight bytes are shown, and returns how many
+// they are.
 #[inline(always)]
 pub(crate) fn unpack_word(tag: u8, text: &[u8], word: &mut [u8]) -> usize
     requires long { 8 ≤ length text.now }

@@ -19,8 +19,8 @@ pub(crate) struct Taken {
 
 // Fills the front of a buffer by the groups at the front of what is shown.
 //
-// A source that shows few bytes at a time takes a way of its own, with nothing to set up, and most of
-// what it shows is no group.
+// A source that shows few bytes at a time takes a way of its own, with nothing to set up, and most
+// of what it shows is no group.
 #[inline(always)]
 pub(crate) fn unpack_shown(shown: &[u8], buffer: &mut [u8]) -> Taken
     ensures { Unpacked shown.now buffer.new result.used result.filled }
@@ -86,7 +86,8 @@ fn unpack_short_groups(shown: &[u8], buffer: &mut [u8]) -> Taken
     Taken { used, filled }
 }
 
-// Fills the front of a buffer by the first group, where that isn't a literal one, which is never short.
+// Fills the front of a buffer by the first group, where that isn't a literal one, which is never
+// short.
 #[inline(always)]
 fn unpack_short_group(shown: &[u8], buffer: &mut [u8]) -> Option<Taken>
     requires { 8 ≤ length buffer.old }
@@ -147,8 +148,8 @@ fn unpack_run_after(tag: u8, following: &[u8], buffer: &mut [u8]) -> Option<Take
     }
 }
 
-// Fills one zero word by one store and two to four by two stores, which may overlap, with no call and
-// no loop, and more of them by one fill.
+// Fills one zero word by one store and two to four by two stores, which may overlap, with no call
+// and no loop, and more of them by one fill.
 #[inline(always)]
 fn unpack_zeros(following: &[u8], buffer: &mut [u8]) -> Option<Taken>
     ensures { IfSome result (λ taken.
