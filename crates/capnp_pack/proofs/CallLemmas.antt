@@ -35,6 +35,11 @@ hands_chunk sink old new kept chunk (Err e) is added left refused failed grows =
   grows = grows;
 }
 
+-- a call that returns
+pub hands_ok : {S X : Type 0} (sink : Sink S) (old new : S) (stops : List ℕ → Type 0) (hands : X → Type 0) (x : X) → hands x
+    → Grows sink.written sink.failures sink.same old new → HandsOn sink old new stops hands (Ok x)
+hands_ok sink old new stops hands x handed grows = record { handed = handed; left = tt; refused = tt; failed = tt; grows = grows }
+
 -- a failure that is passed on
 pub hands_passed : {S X Y : Type 0} (sink : Sink S) (old new : S) (stops more : List ℕ → Type 0) (first : X → Type 0) (hands : Y → Type 0) (e : Error)
     (r : Result Y Error) → IsErrAnd r (λ y. y ≡ e) → (LeavesOf sink old new stops → LeavesOf sink old new more)

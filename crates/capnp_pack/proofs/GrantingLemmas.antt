@@ -1,17 +1,17 @@
 -- What a packer hands on to a sink that grants its text.
-use Rattle.std.proofs.Common.{◌≡◌, ℕ, ◌+◌, ◌<◌, ◌≤◌, List, [], ◌∷◌, ◌++◌, length, take, drop, sym, ap, ◌∙◌, subst, arith, length-append}
+use Rattle.std.proofs.Common.{◌≡◌, ℕ, ◌+◌, ◌<◌, ◌≤◌, List, [], ◌∷◌, ◌++◌, length, take, drop, sym, ap, ◌∙◌, subst, arith, length-append, get_or}
 use Rattle.std.specs.List.{concat, flat_map, AllByRecursion}
 use Rattle.std.proofs.lemmas.List.{drop_all, drop-drop, length-take-le}
 use Rattle.std.proofs.lemmas.List.Concat.{concat_is}
 use Rattle.capnp_pack.specs.Group.{Group, literal, IsWord, group_text}
-use Rattle.capnp_pack.specs.Packed.{Packs}
 use Rattle.capnp_pack.specs.Steps.{HasFewZeros, IsRun, IsGroupOf, tag_of}
 use Rattle.capnp_pack.proofs.AllLemmas.{AllByRecursion-drop}
+use Rattle.capnp_pack.proofs.Chunks.{each_word}
 use Rattle.capnp_pack.proofs.RunLemmas.{IsRun-once, IsRun-some, few_or_not}
 use Rattle.capnp_pack.proofs.PackerGroups.{IsGroupOf-some, IsGroupOf-once, IsGroupOf-literal}
-use Rattle.capnp_pack.specs.PackedWords.{PacksWords, PacksTo}
-use Rattle.capnp_pack.proofs.PackerLemmas.{PacksWords-more, PacksWords-none, PacksWords-some, Packs-words, Packs-once}
-use Rattle.capnp_pack.proofs.PackingLemmas.{PacksTo-more}
+use Rattle.capnp_pack.specs.PackedWords.{PacksWords, PacksTo, GrantsTo}
+use Rattle.capnp_pack.proofs.PackerLemmas.{PacksWords-more, PacksWords-none, PacksWords-some, PacksWords-once}
+use Rattle.capnp_pack.proofs.PackingLemmas.{words_after}
 
 -- the words of a literal run have as many bytes as the chunk that is written of them
 run_flat : (count words : ℕ) (flat : List ℕ) (os : List (List ℕ)) → IsRun HasFewZeros os count → IsRun HasFewZeros os words
@@ -48,58 +48,70 @@ literal_granted grants word os count more start end made old new is all full old
     let both : start + (length (group_text own) + more) ≡ end + (1 + (length (concat further) + more)) = omega (arith, head, text, begun, ended) in
     (run.0, run.1, subst grants (ap (λ g. start + (length (group_text g) + more)) (sym same) ∙ both) granted)
 
--- what is granted at first is, less what is handed on, granted for what the buffer holds and the rest of the text
-abbrev pub GrantsRest : (ℕ → Type 0) → (ℕ → Type 0) → List (List ℕ) → List (List ℕ) → ℕ → Type 0
-GrantsRest first now words left used = (text : List ℕ) × PacksTo words text left
-    × ((rest : List ℕ) (more : ℕ) → PacksWords left rest → first (length text + (length rest + more)) → now (used + (length rest + more)))
+-- what is granted for the text of words is granted for what a buffer of 64 bytes holds once it took some of them, and the rest
+pub granted_taken : (grants : ℕ → Type 0) (words : List (List ℕ)) (n used end more : ℕ) (old new whole : List ℕ) → ((i : ℕ) → i < length words → length (get_or words i []) ≡ 8)
+    → length old ≡ 64 → length new ≡ 64 → used ≤ 64 → end ≤ 64 → ((text : List ℕ) × PacksTo words text (drop n words) × (take end new ≡ take used old ++ text))
+    → PacksWords words whole → grants (used + (length whole + more)) → GrantsTo grants (drop n words) end more
+granted_taken grants words n used end more old new whole each old_long new_long before after (text, to, is) packs granted =
+    let (rest, left) = PacksWords-some (drop n words) (AllByRecursion-drop IsWord n words (each_word words each)) in
+    let both : whole ≡ text ++ rest = PacksWords-once words whole (text ++ rest) packs (to rest left) in
+    let begun : length (take used old) ≡ used = length-take-le used old (omega (arith, old_long)) in
+    let ended : length (take end new) ≡ end = length-take-le end new (omega (arith, new_long)) in
+    let same : used + (length whole + more) ≡ end + (length rest + more) =
+    omega (arith, ap length is, length-append (take used old) text, begun, ended, ap length both, length-append text rest) in
+    (rest, left, subst grants same granted)
 
--- the next group of a chunk
-pub grants_more : (first before after : ℕ → Type 0) (words : List (List ℕ)) (done n used next : ℕ) (w : List ℕ) (os : List (List ℕ)) (g : Group)
-    → drop done words ≡ w ∷ os → os ≡ drop (done + 1) words → IsGroupOf w os n g → GrantsRest first before words (drop done words) used
-    → ((group : Group) (count more : ℕ) → IsGroupOf w os count group → before (used + (length (group_text group) + more)) → after (next + more))
-    → GrantsRest first after words (drop (done + (1 + n)) words) next
-grants_more first before after words done n used next w os g front rest made (text, to, grants) step =
-    let whole : (done + 1) + n ≡ done + (1 + n) = omega arith in
-    let left : drop n os ≡ drop (done + (1 + n)) words = ap (drop n) rest ∙ drop-drop n (done + 1) words ∙ ap (λ k. drop k words) whole in (
-      text ++ group_text g,
-      PacksTo-more words text done (done + (1 + n)) n w os g front left made to,
-      λ following more packs granted.
-          let group : PacksWords (drop done words) (group_text g ++ following) =
-          subst (λ l. PacksWords l (group_text g ++ following)) (sym front) (PacksWords-more w os n g following made (subst (λ l. PacksWords l following) (sym left) packs)) in
-          let both : length (group_text g ++ following) ≡ length (group_text g) + length following = length-append (group_text g) following in
-          let text_both : length (text ++ group_text g) ≡ length text + length (group_text g) = length-append text (group_text g) in
-          let asked : length (text ++ group_text g) + (length following + more) ≡ length text + (length (group_text g ++ following) + more) = omega (arith, both, text_both) in
-          let given : used + (length (group_text g ++ following) + more) ≡ used + (length (group_text g) + (length following + more)) = omega (arith, both) in
-          step g n (length following + more) made (subst before given (grants (group_text g ++ following) more group (subst first asked granted))),
-    )
+-- it is once all that it holds is handed on
+pub granted_flushed : (before after : ℕ → Type 0) (words : List (List ℕ)) (used more : ℕ) (Flushed : Type 0) → GrantsTo before words used more
+    → ((n : ℕ) → before (used + n) → Flushed × after n) → Flushed × GrantsTo after words 0 more
+granted_flushed before after words used more Flushed (rest, packs, granted) flush =
+    let (done, left) = flush (length rest + more) granted in
+    let none : length rest + more ≡ 0 + (length rest + more) = omega arith in
+    (done, (rest, packs, subst after none left))
 
--- so the next group is granted
-pub grants_group : (first now : ℕ → Type 0) (chunk text : List ℕ) (more : ℕ) (words : List (List ℕ)) (done used : ℕ) (w : List ℕ) (os : List (List ℕ))
-    → concat words ≡ chunk → AllByRecursion IsWord words → drop done words ≡ w ∷ os → Packs chunk text → first (length text + more)
-    → GrantsRest first now words (drop done words) used
-    → (group : Group) × (count : ℕ) × (others : ℕ) × IsGroupOf w os count group × now (used + (length (group_text group) + others))
-grants_group first now chunk text more words done used w os whole all front packs granted (handed, to, grants) =
-    let each : AllByRecursion IsWord (w ∷ os) = subst (AllByRecursion IsWord) front (AllByRecursion-drop IsWord done words all) in
+-- the next group is granted, and the rest
+granted_group : (grants : ℕ → Type 0) (words : List (List ℕ)) (n used count more : ℕ) (w : List ℕ) (os : List (List ℕ)) (g : Group) → AllByRecursion IsWord words
+    → drop n words ≡ w ∷ os → IsGroupOf w os count g → GrantsTo grants (drop n words) used more
+    → (rest : List ℕ) × PacksWords (drop count os) rest × grants (used + (length (group_text g) + (length rest + more)))
+granted_group grants words n used count more w os g all front made (whole, packs, granted) =
+    let each : AllByRecursion IsWord (w ∷ os) = subst (AllByRecursion IsWord) front (AllByRecursion-drop IsWord n words all) in
+    let (rest, left) = PacksWords-some (drop count os) (AllByRecursion-drop IsWord count os each.1) in
+    let own : PacksWords (drop n words) (group_text g ++ rest) = subst (λ l. PacksWords l (group_text g ++ rest)) (sym front) (PacksWords-more w os count g rest made left) in
+    let same : used + (length whole + more) ≡ used + (length (group_text g) + (length rest + more)) =
+    omega (arith, ap length (PacksWords-once (drop n words) whole (group_text g ++ rest) packs own), length-append (group_text g) rest) in
+    (rest, left, subst grants same granted)
+
+-- so the call that hands it on returns
+pub group_granted : (grants : ℕ → Type 0) (words : List (List ℕ)) (n used more : ℕ) (w : List ℕ) (os : List (List ℕ))
+    → ((i : ℕ) → i < length words → length (get_or words i []) ≡ 8) → drop n words ≡ w ∷ os → GrantsTo grants (drop n words) used more
+    → (group : Group) × (count others : ℕ) × IsGroupOf w os count group × grants (used + (length (group_text group) + others))
+group_granted grants words n used more w os told front granted =
+    let all = each_word words told in
+    let each : AllByRecursion IsWord (w ∷ os) = subst (AllByRecursion IsWord) front (AllByRecursion-drop IsWord n words all) in
     let (count, (group, made)) = IsGroupOf-some w os each.0 each.1 in
-    let (rest, others) = PacksWords-some (drop count os) (AllByRecursion-drop IsWord count os each.1) in
-    let left : PacksWords (drop done words) (group_text group ++ rest) =
-    subst (λ l. PacksWords l (group_text group ++ rest)) (sym front) (PacksWords-more w os count group rest made others) in
-    let following = group_text group ++ rest in
-    let own : Packs chunk (handed ++ following) = subst (λ l. Packs l (handed ++ following)) whole (Packs-words words (handed ++ following) (to following left)) in
-    let long : length text ≡ length handed + length following = ap length (Packs-once chunk text (handed ++ following) packs own) ∙ length-append handed following in
-    let both : length following ≡ length (group_text group) + length rest = length-append (group_text group) rest in
-    let asked : length text + more ≡ length handed + (length following + more) = omega (arith, long) in
-    let given : used + (length following + more) ≡ used + (length (group_text group) + (length rest + more)) = omega (arith, both) in
-    (group, count, length rest + more, made, subst now given (grants following more left (subst first asked granted)))
+    let (rest, left, given) = granted_group grants words n used count more w os group all front made granted in
+    (group, count, length rest + more, made, given)
 
--- and at last what the buffer holds
-pub grants_last : (first now : ℕ → Type 0) (chunk text : List ℕ) (more : ℕ) (words : List (List ℕ)) (done used : ℕ)
-    → concat words ≡ chunk → length words ≤ done → Packs chunk text → first (length text + more) → GrantsRest first now words (drop done words) used → now (used + more)
-grants_last first now chunk text more words done used whole past packs granted (handed, to, grants) =
-    let over : drop done words ≡ [] = drop_all done words past in
-    let none : PacksWords (drop done words) [] = subst (λ l. PacksWords l []) (sym over) PacksWords-none in
-    let own : Packs chunk (handed ++ []) = subst (λ l. Packs l (handed ++ [])) whole (Packs-words words (handed ++ []) (to [] none)) in
-    let long : length text ≡ length handed + 0 = ap length (Packs-once chunk text (handed ++ []) packs own) ∙ length-append handed [] in
-    let asked : length text + more ≡ length handed + (0 + more) = omega (arith, long) in
-    let last : used + (0 + more) ≡ used + more = omega arith in
-    subst now last (grants [] more none (subst first asked granted))
+-- and then the rest is granted
+pub granted_more : (before after : ℕ → Type 0) (words : List (List ℕ)) (n count used end more : ℕ) (w : List ℕ) (os : List (List ℕ)) (P : Group → Type 0)
+    → ((i : ℕ) → i < length words → length (get_or words i []) ≡ 8) → drop n words ≡ w ∷ os → os ≡ drop (n + 1) words
+    → (k : ℕ) × (count ≡ 1 + k) × (g : Group) × IsGroupOf w os k g × P g → GrantsTo before (drop n words) used more
+    → ((group : Group) (k others : ℕ) → IsGroupOf w os k group → before (used + (length (group_text group) + others)) → after (end + others))
+    → GrantsTo after (drop (n + count) words) end more
+granted_more before after words n count used end more w os P each front others (k, counted, g, made, handed) granted step =
+    let (rest, left, given) = granted_group before words n used k more w os g (each_word words each) front made granted in
+    let is : drop k os ≡ drop (n + count) words = words_after words n k os others ∙ ap (λ m. drop (n + m) words) (sym counted) in
+    (rest, subst (λ l. PacksWords l rest) is left, step g k (length rest + more) made given)
+
+-- and what the next call is granted, where some of the words are a slice
+pub granted_on : (before after : ℕ → Type 0) (words slice : List (List ℕ)) (done n used end more : ℕ) → slice ≡ drop done words → GrantsTo before (drop done words) used more
+    → ((text : List ℕ) (others : ℕ) → PacksWords slice text → before (used + (length text + others)) → GrantsTo after (drop n slice) end others)
+    → GrantsTo after (drop (done + n) words) end more
+granted_on before after words slice done n used end more is (rest, packs, granted) step =
+    subst (λ l. GrantsTo after l end more) (ap (drop n) is ∙ drop-drop n done words) (step rest more (subst (λ l. PacksWords l rest) (sym is) packs) granted)
+
+-- at last what the buffer holds is granted
+pub granted_last : (grants : ℕ → Type 0) (words : List (List ℕ)) (done used more : ℕ) → length words ≤ done → GrantsTo grants (drop done words) used more → grants (used + more)
+granted_last grants words done used more past (rest, packs, granted) =
+    let none : PacksWords [] rest = subst (λ l. PacksWords l rest) (drop_all done words past) packs in
+    subst grants (omega (arith, ap length (PacksWords-once [] rest [] none PacksWords-none))) granted

@@ -1,5 +1,5 @@
 -- What a packer leaves at a sink where a call fails.
-use Rattle.std.proofs.Common.{◌≡◌, ℕ, ◌≤◌, inl, inr, Option, List, [], ◌∷◌, ◌++◌, length, take, drop, refl, sym, ap, ◌∙◌, subst, append_assoc}
+use Rattle.std.proofs.Common.{◌≡◌, ℕ, ◌≤◌, inl, inr, Option, List, [], ◌∷◌, ◌++◌, length, take, drop, refl, sym, ap, ◌∙◌, subst, append_assoc, ◌<◌, get_or}
 use Rattle.std.specs.List.{concat, flat_map, AllByRecursion}
 use Rattle.std.proofs.lemmas.List.{append-nil, drop_all, length-take-le}
 use Rattle.std.proofs.lemmas.List.Folds.{concat-append}
@@ -13,8 +13,9 @@ use Rattle.capnp_pack.specs.Packed.{Packs}
 use Rattle.capnp_pack.specs.PackedSink.{LeavesPacked}
 use Rattle.capnp_pack.specs.Steps.{HasFewZeros, IsRun, Hands, LeavesParts, LiteralAfter, GroupAfter, tag_of}
 use Rattle.capnp_pack.proofs.AllLemmas.{AllByRecursion-drop}
-use Rattle.capnp_pack.proofs.PackerGroups.{IsGroupOf-some, IsGroupOf-literal}
-use Rattle.capnp_pack.specs.PackedWords.{PacksWords, PacksTo}
+use Rattle.capnp_pack.proofs.Chunks.{each_word}
+use Rattle.capnp_pack.proofs.PackerGroups.{IsGroupOf-literal}
+use Rattle.capnp_pack.specs.PackedWords.{PacksWords, PacksTo, HandsTo, RestAfter}
 use Rattle.capnp_pack.proofs.PackerLemmas.{PacksWords-more, PacksWords-none, PacksWords-some, Packs-words}
 
 -- a front of a longer text
@@ -82,25 +83,6 @@ left_words appends leaves count old pushed flat others a b c run push all handed
 
 -- A group
 
--- no room is made for it
-pub left_room : (appends : Appending) (leaves : Leaving) (word : List ℕ) (os : List (List ℕ)) (old : List ℕ) (a b : Option (List ℕ))
-    → IsWord word → AllByRecursion IsWord os → (text : List ℕ) × (text ≡ old) × IfKnown a b (Adds (LeavesParts appends leaves text))
-    → (whole : List ℕ) × GroupAfter old word os whole × IfKnown a b (Adds (LeavesParts appends leaves whole))
-left_room appends leaves word os old a b is all (text, same, left) =
-    let (count, (group, made)) = IsGroupOf-some word os is all in (
-      old ++ group_text group,
-      (count, group, made, refl),
-      left_longer appends leaves text (group_text group) (old ++ group_text group) a b (ap (λ l. l ++ group_text group) (sym same)) left,
-    )
-
--- nor for the next of a chunk's words
-pub left_next : (appends : Appending) (leaves : Leaving) (words : List (List ℕ)) (done : ℕ) (w : List ℕ) (os : List (List ℕ)) (old : List ℕ) (a b : Option (List ℕ))
-    → AllByRecursion IsWord words → drop done words ≡ w ∷ os → (text : List ℕ) × (text ≡ old) × IfKnown a b (Adds (LeavesParts appends leaves text))
-    → (whole : List ℕ) × GroupAfter old w os whole × IfKnown a b (Adds (LeavesParts appends leaves whole))
-left_next appends leaves words done w os old a b all front left =
-    let each : AllByRecursion IsWord (w ∷ os) = subst (AllByRecursion IsWord) front (AllByRecursion-drop IsWord done words all) in
-    left_room appends leaves w os old a b each.0 each.1 left
-
 -- it is one of words that go as they stand
 pub left_literal : (appends : Appending) (leaves : Leaving) (word : List ℕ) (os : List (List ℕ)) (old roomy filled : List ℕ) (a b c : Option (List ℕ))
     → IsWord word → AllByRecursion IsWord os → tag_of word ≡ 255 → filled ≡ roomy ++ 255 ∷ word → IfKnown a b (Hands appends old [] roomy)
@@ -119,6 +101,32 @@ left_literal appends leaves word os old roomy filled a b c is all full fill room
           (subst (λ l. IfKnown b c (Adds (LeavesParts appends leaves l))) text_is left),
     )
 
+-- Words
+
+-- the buffer with what it took of them isn't handed on
+pub left_buffer : (appends : Appending) (leaves : Leaving) (words : List (List ℕ)) (n : ℕ) (old buffer : List ℕ) (a b : Option (List ℕ))
+    → ((i : ℕ) → i < length words → length (get_or words i []) ≡ 8) → ((text : List ℕ) × PacksTo words text (drop n words) × (buffer ≡ old ++ text))
+    → (s : List ℕ) × (s ≡ buffer) × IfKnown a b (Adds (LeavesParts appends leaves s))
+    → (whole : List ℕ) × RestAfter old words whole × IfKnown a b (Adds (LeavesParts appends leaves whole))
+left_buffer appends leaves words n old buffer a b told (text, to, is) (s, same, left) =
+    let (rest, packs) = PacksWords-some (drop n words) (AllByRecursion-drop IsWord n words (each_word words told)) in
+    let whole : old ++ (text ++ rest) ≡ s ++ rest = sym (append_assoc old text rest) ∙ ap (λ l. l ++ rest) (sym (same ∙ is)) in
+    (old ++ (text ++ rest), (text ++ rest, to rest packs, refl), left_longer appends leaves s rest (old ++ (text ++ rest)) a b whole left)
+
+-- nor the group after them
+pub left_group : (appends : Appending) (leaves : Leaving) (words : List (List ℕ)) (n : ℕ) (w : List ℕ) (os : List (List ℕ)) (old buffer : List ℕ) (a b : Option (List ℕ))
+    → ((i : ℕ) → i < length words → length (get_or words i []) ≡ 8) → drop n words ≡ w ∷ os → ((text : List ℕ) × PacksTo words text (drop n words) × (buffer ≡ old ++ text))
+    → (s : List ℕ) × GroupAfter buffer w os s × IfKnown a b (Adds (LeavesParts appends leaves s))
+    → (whole : List ℕ) × RestAfter old words whole × IfKnown a b (Adds (LeavesParts appends leaves whole))
+left_group appends leaves words n w os old buffer a b told front (text, to, is) (s, (count, group, made, spelled), left) =
+    let each : AllByRecursion IsWord (w ∷ os) = subst (AllByRecursion IsWord) front (AllByRecursion-drop IsWord n words (each_word words told)) in
+    let (more, others) = PacksWords-some (drop count os) (AllByRecursion-drop IsWord count os each.1) in
+    let rest = group_text group ++ more in
+    let packs : PacksWords (drop n words) rest = subst (λ l. PacksWords l rest) (sym front) (PacksWords-more w os count group more made others) in
+    let whole : old ++ (text ++ rest) ≡ s ++ more = sym (append_assoc old text rest) ∙ ap (λ l. l ++ rest) (sym is)
+    ∙ sym (append_assoc buffer (group_text group) more) ∙ ap (λ l. l ++ more) (sym spelled) in
+    (old ++ (text ++ rest), (text ++ rest, to rest packs, refl), left_longer appends leaves s more (old ++ (text ++ rest)) a b whole left)
+
 -- A chunk
 
 -- some parts of its text
@@ -127,30 +135,20 @@ packed_left : (appends : Appending) (leaves : Leaving) (chunk text : List ℕ) (
 packed_left appends leaves chunk text a b packed = IfKnown-weaker a b (λ x y (left, (parts, joined, stopped), added).
     (left, inr (parts, subst (Packs chunk) (sym joined) packed, stopped), added))
 
--- a group isn't handed on
-pub left_group : (appends : Appending) (leaves : Leaving) (chunk : List ℕ) (words : List (List ℕ)) (done : ℕ) (w : List ℕ) (os : List (List ℕ)) (buffer : List ℕ)
-    (a b c : Option (List ℕ)) → concat words ≡ chunk → AllByRecursion IsWord words → drop done words ≡ w ∷ os
-    → ((text : List ℕ) × PacksTo words text (drop done words) × IfKnown a b (Hands appends [] text buffer))
-    → (s : List ℕ) × GroupAfter buffer w os s × IfKnown b c (Adds (LeavesParts appends leaves s))
-    → IfKnown a c (Adds (LeavesPacked appends leaves chunk))
-left_group appends leaves chunk words done w os buffer a b c whole all front (text, to, handed) (s, (count, group, made, spelled), left) =
-    let each : AllByRecursion IsWord (w ∷ os) = subst (AllByRecursion IsWord) front (AllByRecursion-drop IsWord done words all) in
-    let (more, rest) = PacksWords-some (drop count os) (AllByRecursion-drop IsWord count os each.1) in
-    let following = group_text group ++ more in
-    let packed : PacksWords words (text ++ following) = to following (subst (λ l. PacksWords l following) (sym front) (PacksWords-more w os count group more made rest)) in
-    let longer : buffer ++ following ≡ s ++ more = sym (append_assoc buffer (group_text group) more) ∙ ap (λ l. l ++ more) (sym spelled) in
-    packed_left appends leaves chunk (text ++ following) a c (subst (λ l. Packs l (text ++ following)) whole (Packs-words words (text ++ following) packed))
-    (left_after_handed appends leaves [] text buffer following (text ++ following) a b c refl handed (left_longer appends leaves s more (buffer ++ following) b c longer left))
+-- the rest isn't handed on
+pub left_rest : (appends : Appending) (leaves : Leaving) (chunk : List ℕ) (words left slice : List (List ℕ)) (buffer : List ℕ) (a b c : Option (List ℕ))
+    → concat words ≡ chunk → slice ≡ left → HandsTo appends words left [] buffer a b
+    → (s : List ℕ) × RestAfter buffer slice s × IfKnown b c (Adds (LeavesParts appends leaves s)) → IfKnown a c (Adds (LeavesPacked appends leaves chunk))
+left_rest appends leaves chunk words left slice buffer a b c whole is (text, to, handed) (s, (rest, packs, spelled), stopped) =
+    let packed : PacksWords words (text ++ rest) = to rest (subst (λ l. PacksWords l rest) is packs) in
+    packed_left appends leaves chunk (text ++ rest) a c (subst (λ l. Packs l (text ++ rest)) whole (Packs-words words (text ++ rest) packed))
+    (left_after_handed appends leaves [] text buffer rest (text ++ rest) a b c refl handed
+    (subst (λ l. IfKnown b c (Adds (LeavesParts appends leaves l))) spelled stopped))
 
 -- the last bytes aren't
 pub left_last : (appends : Appending) (leaves : Leaving) (chunk : List ℕ) (words : List (List ℕ)) (done : ℕ) (buffer : List ℕ) (a b c : Option (List ℕ))
-    → concat words ≡ chunk → length words ≤ done
-    → ((text : List ℕ) × PacksTo words text (drop done words) × IfKnown a b (Hands appends [] text buffer))
-    → (s : List ℕ) × (s ≡ buffer) × IfKnown b c (Adds (LeavesParts appends leaves s))
-    → IfKnown a c (Adds (LeavesPacked appends leaves chunk))
-left_last appends leaves chunk words done buffer a b c whole past (text, to, handed) (s, is, left) =
-    let over : drop done words ≡ [] = drop_all done words past in
-    let packed : PacksWords words (text ++ []) = to [] (subst (λ l. PacksWords l []) (sym over) PacksWords-none) in
-    packed_left appends leaves chunk (text ++ []) a c (subst (λ l. Packs l (text ++ [])) whole (Packs-words words (text ++ []) packed))
-    (left_after_handed appends leaves [] text buffer [] (text ++ []) a b c refl handed
-    (left_longer appends leaves s [] (buffer ++ []) b c (ap (λ l. l ++ []) (sym is)) left))
+    → concat words ≡ chunk → length words ≤ done → HandsTo appends words (drop done words) [] buffer a b
+    → (s : List ℕ) × (s ≡ buffer) × IfKnown b c (Adds (LeavesParts appends leaves s)) → IfKnown a c (Adds (LeavesPacked appends leaves chunk))
+left_last appends leaves chunk words done buffer a b c whole past handed (s, is, left) =
+    let none : PacksWords (drop done words) [] = subst (λ l. PacksWords l []) (sym (drop_all done words past)) PacksWords-none in
+    left_rest appends leaves chunk words (drop done words) (drop done words) buffer a b c whole refl handed (s, ([], none, is ∙ sym (append-nil buffer)), left)

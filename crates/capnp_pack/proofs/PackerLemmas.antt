@@ -103,6 +103,16 @@ Packs-once bytes text other p q =
 pub Packs-words : (words : List (List ℕ)) (text : List ℕ) → PacksWords words text → Packs (concat words) text
 Packs-words words text p = record { groups = p.groups; each = p.each; longest = p.longest; spelled = p.spelled; unpacked = ap concat (sym p.unpacked) }
 
+pub PacksWords-once : (words : List (List ℕ)) (text other : List ℕ) → PacksWords words text → PacksWords words other → text ≡ other
+PacksWords-once words text other p q =
+    p.spelled ∙ ap text_of (groups_once p.groups q.groups p.each q.each p.longest q.longest (p.unpacked ∙ sym q.unpacked)) ∙ sym q.spelled
+
+-- a chunk's text is that of its words
+pub Packs-of-words : (chunk text : List ℕ) (words : List (List ℕ)) → concat words ≡ chunk → AllByRecursion IsWord words → Packs chunk text → PacksWords words text
+Packs-of-words chunk text words whole all packs =
+    let (own, made) = PacksWords-some words all in
+    subst (PacksWords words) (Packs-once chunk own text (subst (λ b. Packs b own) whole (Packs-words words own made)) packs) made
+
 pub Packs-some : (bytes : List ℕ) → length bytes % 8 ≡ 0 → (text : List ℕ) × Packs bytes text
 Packs-some bytes whole =
     let cut = chunks_whole (length bytes / 8) bytes (omega arith) in

@@ -12,7 +12,7 @@ use Rattle.capnp_pack.specs.PackedSink.{AppendsPacked}
 use Rattle.capnp_pack.specs.Steps.{IsZero, HasFewZeros, tag_of, nonzero, IsRun, IsGroupOf, EndsGroup, Hands}
 use Rattle.capnp_pack.proofs.TagLemmas.{tag_zero, tag_full, top_word, marked_tag, zeros_cons, zeros_suc, nonzero_suc}
 use Rattle.capnp_pack.proofs.PackerGroups.{IsGroupOf-zeros, IsGroupOf-literal, IsGroupOf-tagged}
-use Rattle.capnp_pack.specs.PackedWords.{PacksWords, PacksTo}
+use Rattle.capnp_pack.specs.PackedWords.{PacksWords, PacksTo, HandsTo}
 use Rattle.capnp_pack.proofs.PackerLemmas.{PacksWords-more, PacksWords-none, Packs-words}
 use Rattle.capnp_pack.proofs.HandingLemmas.{Hands-join, Hands-none}
 
@@ -99,24 +99,29 @@ pub next_words : (words : List (List ℕ)) (done : ℕ) → done < length words
 next_words words done within = drop-cons words done [] within
     ∙ ap (λ k. get_or words done [] ∷ drop k words) (sym (add-one done)) ∙ ap (λ l. get_or words done [] ∷ l) (sym (other_words words done))
 
--- the next group of a chunk
-pub packed_more : (appends : Appending) (words : List (List ℕ)) (done n : ℕ) (w : List ℕ) (os : List (List ℕ)) (buffer new : List ℕ)
-    (a b c : Option (List ℕ)) → drop done words ≡ w ∷ os → os ≡ drop (done + 1) words →
-    ((text : List ℕ) × PacksTo words text (drop done words) × IfKnown a b (Hands appends [] text buffer)) →
-    ((g : Group) × IsGroupOf w os n g × IfKnown b c (Hands appends buffer (group_text g) new)) → (text : List ℕ) ×
-    PacksTo words text (drop (done + (1 + n)) words) × IfKnown a c (Hands appends [] text new)
-packed_more appends words done n w os buffer new a b c front rest (text, to, handed) (g, made, more) =
+-- those after a group
+pub words_after : (words : List (List ℕ)) (done n : ℕ) (os : List (List ℕ)) → os ≡ drop (done + 1) words → drop n os ≡ drop (done + (1 + n)) words
+words_after words done n os rest =
     let next : (done + 1) + n ≡ done + (1 + n) = omega arith in
-    let left : drop n os ≡ drop (done + (1 + n)) words = ap (drop n) rest ∙ drop-drop n (done + 1) words ∙ ap (λ k. drop k words) next in (
+    ap (drop n) rest ∙ drop-drop n (done + 1) words ∙ ap (λ k. drop k words) next
+
+-- the next group, after those that the buffer took
+pub packed_more : (appends : Appending) (words : List (List ℕ)) (done count : ℕ) (w : List ℕ) (os : List (List ℕ)) (old buffer new : List ℕ)
+    (a b : Option (List ℕ)) → drop done words ≡ w ∷ os → os ≡ drop (done + 1) words
+    → ((text : List ℕ) × PacksTo words text (drop done words) × (buffer ≡ old ++ text))
+    → (n : ℕ) × (count ≡ 1 + n) × (g : Group) × IsGroupOf w os n g × IfKnown a b (Hands appends buffer (group_text g) new)
+    → HandsTo appends words (drop (done + count) words) old new a b
+packed_more appends words done count w os old buffer new a b front rest (text, to, is) (n, counted, g, made, more) =
+    let left : drop n os ≡ drop (done + count) words = words_after words done n os rest ∙ ap (λ k. drop (done + k) words) (sym counted) in (
       text ++ group_text g,
-      PacksTo-more words text done (done + (1 + n)) n w os g front left made to,
-      IfKnown-join a b c (λ x y z p q. Hands-join appends [] text buffer (group_text g) new x y z p q) handed more,
+      PacksTo-more words text done (done + count) n w os g front left made to,
+      IfKnown-weaker a b (λ x y p. Hands-join appends old text buffer (group_text g) new x x y (Hands-none appends old text buffer x is) p) more,
     )
 
 -- the last bytes of a chunk
 pub packed_all : (appends : Appending) (chunk : List ℕ) (words : List (List ℕ)) (done : ℕ) (buffer left : List ℕ) (a b c : Option (List ℕ)) →
     concat words ≡ chunk → length words ≤ done → left ≡ [] →
-    ((text : List ℕ) × PacksTo words text (drop done words) × IfKnown a b (Hands appends [] text buffer)) →
+    HandsTo appends words (drop done words) [] buffer a b →
     IfKnown b c (Hands appends buffer [] left) → IfKnown a c (Adds (AppendsPacked appends chunk))
 packed_all appends chunk words done buffer left a b c whole past none (text, to, handed) last =
     let over : drop done words ≡ [] = drop_all done words past in

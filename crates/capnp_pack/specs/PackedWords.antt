@@ -1,9 +1,12 @@
 -- What a packer makes of words, and of the front of them.
-use Rattle.std.specs.Prelude.{◌≡◌, ℕ, List, ◌++◌}
+use Rattle.std.specs.Prelude.{◌≡◌, ℕ, ◌+◌, List, ◌++◌, length, Option}
 use Rattle.std.specs.List.{AllByRecursion}
 use Rattle.capnp_pack.specs.Group.{Group, IsGroup}
 use Rattle.capnp_pack.specs.Chunk.{text_of, words_of_groups}
+use Rattle.capnp_frame.specs.Sink.{Appending}
+use Rattle.capnp_frame.specs.Source.{IfKnown}
 use Rattle.capnp_pack.specs.Packed.{AreLongest}
+use Rattle.capnp_pack.specs.Steps.{Hands}
 
 -- the text is the one that a packer makes of the words
 pub record PacksWords (words : List (List ℕ)) (text : List ℕ) : Type 0 where
@@ -16,3 +19,16 @@ pub record PacksWords (words : List (List ℕ)) (text : List ℕ) : Type 0 where
 -- the text is the front of the packed words, up to where these are left
 abbrev pub PacksTo : List (List ℕ) → List ℕ → List (List ℕ) → Type 0
 PacksTo words text left = (more : List ℕ) → PacksWords left more → PacksWords words (text ++ more)
+
+-- the packed words up to where these are left are handed on after what a buffer held, but for what it keeps
+abbrev pub HandsTo : Appending → List (List ℕ) → List (List ℕ) → List ℕ → List ℕ → Option (List ℕ) → Option (List ℕ) → Type 0
+HandsTo appends words left old new before after = (text : List ℕ) × PacksTo words text left
+    × IfKnown before after (Hands appends old text new)
+
+-- what a buffer holds, and after it the packed words
+abbrev pub RestAfter : List ℕ → List (List ℕ) → List ℕ → Type 0
+RestAfter buffer words text = (rest : List ℕ) × PacksWords words rest × (text ≡ buffer ++ rest)
+
+-- what a buffer holds, the packed words and so many bytes more are granted
+abbrev pub GrantsTo : (ℕ → Type 0) → List (List ℕ) → ℕ → ℕ → Type 0
+GrantsTo grants words used more = (rest : List ℕ) × PacksWords words rest × grants (used + (length rest + more))

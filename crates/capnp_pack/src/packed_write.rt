@@ -11,7 +11,7 @@ ghost use Rattle.capnp_frame.specs.Writers.{WritesTo};
 ghost use Rattle.capnp_pack.specs.Calls.{HandsOn};
 ghost use Rattle.capnp_pack.specs.Group.{Group, group_text};
 ghost use Rattle.capnp_pack.specs.Packed.{IfFirst, Packs};
-ghost use Rattle.capnp_pack.specs.PackedWords.{PacksTo};
+ghost use Rattle.capnp_pack.specs.PackedWords.{PacksWords, PacksTo, HandsTo, RestAfter, GrantsTo};
 ghost use Rattle.capnp_pack.specs.PackedSink.{AppendsPacked, LeavesPacked, DeclinesPacked};
 ghost use Rattle.capnp_pack.specs.Steps.{IsRun, IsZero, HasFewZeros, Hands, IsGroupOf, GroupAfter, LiteralAfter, tag_of};
 
@@ -122,22 +122,53 @@ fn pack<W: Write>(sink: &mut W, chunk: &[u8]) -> Result<()>
     let mut used = 0;
     let mut done = 0;
     while done < words.len() {
-        let packed = pack_buffered(&mut bytes, used, &words[done..]);
-        done += packed.words;
-        used = packed.used;
-        if done == words.len() {
-            continue;
-        }
-        if used > MOST_USED {
-            flush(sink, &bytes, used)?;
-            used = 0;
-            continue;
-        }
-        let literal = pack_literal(sink, &mut bytes, used, &words[done], &words[done + 1..])?;
-        done += literal.words;
-        used = literal.used;
+        let next = pack_next(sink, &mut bytes, used, &words[done..])?;
+        done += next.words;
+        used = next.used;
     }
     flush(sink, &bytes, used)
+}
+
+// Packs the next groups: those that need nothing but the buffer, and then one that goes as it stands
+// where there is room for it, or else the buffer is handed on.
+#[inline(always)]
+fn pack_next<W: Write>(
+    sink: &mut W,
+    bytes: &mut [u8; 64],
+    used: usize,
+    words: &[[u8; 8]],
+) -> Result<Packed>
+    requires used { used ≤ 64 }
+    requires some { 0 < length words.now }
+    ensures within { IfOk result (λ packed. packed.words ≤ length words.now) }
+    ensures used { IfOk result (λ packed. packed.used ≤ 64) }
+    // Words are packed, or the buffer is handed on.
+    ensures further { IfOk result (λ packed. packed.used < used + 65 * packed.words) }
+    ensures hands { HandsOn W.Write sink.old sink.new (RestAfter (take used bytes.old) words.now)
+        (λ packed. HandsTo W.appends words.now (drop packed.words words.now)
+        (take used bytes.old) (take packed.used bytes.new)
+        (W.written sink.old) (W.written sink.new)) result }
+    ensures granted { (text : List ℕ) (more : ℕ) → PacksWords words.now text →
+        W.grants sink.old (used + (length text + more)) →
+        IsOkAnd result (λ packed. GrantsTo (W.grants sink.new) (drop packed.words words.now) packed.used more) }
+{
+    let packed = pack_buffered(bytes, used, words);
+    if packed.words == words.len() {
+        return Ok(packed);
+    }
+    if packed.used > MOST_USED {
+        flush(sink, bytes, packed.used)?;
+        return Ok(Packed {
+            words: packed.words,
+            used: 0,
+        });
+    }
+    let (word, others) = (&words[packed.words], &words[packed.words + 1..]);
+    let literal = pack_literal(sink, bytes, packed.used, word, others)?;
+    Ok(Packed {
+        words: packed.words + literal.words,
+        used: literal.used,
+    })
 }
 
 // Packs groups that need nothing but the buffer, while it has room for one more: up to a word that
