@@ -63,11 +63,8 @@ HandsTo-join appends words next left old buffer new a b c (text, to, handed) (mo
 pub words_from : (words : List (List ℕ)) (done : ℕ) → take (length words - done) (drop done words) ≡ drop done words
 words_from words done = take_all (length words - done) (drop done words) (omega (arith, length-drop done words))
 
--- some of them more are packed
-pub handed_on : (appends : Appending) (words slice : List (List ℕ)) (done n : ℕ) (old buffer new : List ℕ) (a b c : Option (List ℕ)) → slice ≡ drop done words
-    → HandsTo appends words (drop done words) old buffer a b → HandsTo appends slice (drop n slice) buffer new b c
-    → HandsTo appends words (drop (done + n) words) old new a c
-handed_on appends words slice done n old buffer new a b c is first next =
-    subst (λ l. HandsTo appends words l old new a c) (drop-drop n done words)
-    (HandsTo-join appends words (drop done words) (drop n (drop done words)) old buffer new a b c first
-    (subst (λ l. HandsTo appends l (drop n l) buffer new b c) is next))
+-- some more words are packed, and the others are a slice
+pub handed_on : (appends : Appending) (words left : List (List ℕ)) (n : ℕ) (slice : List (List ℕ)) (old buffer new : List ℕ) (a b c : Option (List ℕ)) → slice ≡ drop n left
+    → HandsTo appends words left old buffer a b → HandsTo appends left (drop n left) buffer new b c → HandsTo appends words slice old new a c
+handed_on appends words left n slice old buffer new a b c is first next =
+    subst (λ l. HandsTo appends words l old new a c) (sym is) (HandsTo-join appends words left (drop n left) old buffer new a b c first next)

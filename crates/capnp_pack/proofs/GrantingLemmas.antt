@@ -103,15 +103,14 @@ granted_more before after words n count used end more w os P each front others (
     let is : drop k os ≡ drop (n + count) words = words_after words n k os others ∙ ap (λ m. drop (n + m) words) (sym counted) in
     (rest, subst (λ l. PacksWords l rest) is left, step g k (length rest + more) made given)
 
--- and what the next call is granted, where some of the words are a slice
-pub granted_on : (before after : ℕ → Type 0) (words slice : List (List ℕ)) (done n used end more : ℕ) → slice ≡ drop done words → GrantsTo before (drop done words) used more
-    → ((text : List ℕ) (others : ℕ) → PacksWords slice text → before (used + (length text + others)) → GrantsTo after (drop n slice) end others)
-    → GrantsTo after (drop (done + n) words) end more
-granted_on before after words slice done n used end more is (rest, packs, granted) step =
-    subst (λ l. GrantsTo after l end more) (ap (drop n) is ∙ drop-drop n done words) (step rest more (subst (λ l. PacksWords l rest) (sym is) packs) granted)
+-- and what a call is granted, after which the others are a slice
+pub granted_on : (before after : ℕ → Type 0) (left slice : List (List ℕ)) (n used end more : ℕ) → slice ≡ drop n left → GrantsTo before left used more
+    → ((text : List ℕ) (others : ℕ) → PacksWords left text → before (used + (length text + others)) → GrantsTo after (drop n left) end others)
+    → GrantsTo after slice end more
+granted_on before after left slice n used end more is (rest, packs, granted) step = subst (λ l. GrantsTo after l end more) (sym is) (step rest more packs granted)
 
 -- at last what the buffer holds is granted
-pub granted_last : (grants : ℕ → Type 0) (words : List (List ℕ)) (done used more : ℕ) → length words ≤ done → GrantsTo grants (drop done words) used more → grants (used + more)
-granted_last grants words done used more past (rest, packs, granted) =
-    let none : PacksWords [] rest = subst (λ l. PacksWords l rest) (drop_all done words past) packs in
-    subst grants (omega (arith, ap length (PacksWords-once [] rest [] none PacksWords-none))) granted
+pub granted_last : (grants : ℕ → Type 0) (left : List (List ℕ)) (used more : ℕ) → left ≡ [] → GrantsTo grants left used more → grants (used + more)
+granted_last grants left used more none (rest, packs, granted) =
+    let empty : rest ≡ [] = PacksWords-once [] rest [] (subst (λ l. PacksWords l rest) none packs) PacksWords-none in
+    subst grants (omega (arith, ap length empty)) granted

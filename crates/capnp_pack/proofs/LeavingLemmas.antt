@@ -136,19 +136,19 @@ packed_left appends leaves chunk text a b packed = IfKnown-weaker a b (λ x y (l
     (left, inr (parts, subst (Packs chunk) (sym joined) packed, stopped), added))
 
 -- the rest isn't handed on
-pub left_rest : (appends : Appending) (leaves : Leaving) (chunk : List ℕ) (words left slice : List (List ℕ)) (buffer : List ℕ) (a b c : Option (List ℕ))
-    → concat words ≡ chunk → slice ≡ left → HandsTo appends words left [] buffer a b
-    → (s : List ℕ) × RestAfter buffer slice s × IfKnown b c (Adds (LeavesParts appends leaves s)) → IfKnown a c (Adds (LeavesPacked appends leaves chunk))
-left_rest appends leaves chunk words left slice buffer a b c whole is (text, to, handed) (s, (rest, packs, spelled), stopped) =
-    let packed : PacksWords words (text ++ rest) = to rest (subst (λ l. PacksWords l rest) is packs) in
+pub left_rest : (appends : Appending) (leaves : Leaving) (chunk : List ℕ) (words left : List (List ℕ)) (buffer : List ℕ) (a b c : Option (List ℕ))
+    → concat words ≡ chunk → HandsTo appends words left [] buffer a b
+    → (s : List ℕ) × RestAfter buffer left s × IfKnown b c (Adds (LeavesParts appends leaves s)) → IfKnown a c (Adds (LeavesPacked appends leaves chunk))
+left_rest appends leaves chunk words left buffer a b c whole (text, to, handed) (s, (rest, packs, spelled), stopped) =
+    let packed : PacksWords words (text ++ rest) = to rest packs in
     packed_left appends leaves chunk (text ++ rest) a c (subst (λ l. Packs l (text ++ rest)) whole (Packs-words words (text ++ rest) packed))
     (left_after_handed appends leaves [] text buffer rest (text ++ rest) a b c refl handed
     (subst (λ l. IfKnown b c (Adds (LeavesParts appends leaves l))) spelled stopped))
 
 -- the last bytes aren't
-pub left_last : (appends : Appending) (leaves : Leaving) (chunk : List ℕ) (words : List (List ℕ)) (done : ℕ) (buffer : List ℕ) (a b c : Option (List ℕ))
-    → concat words ≡ chunk → length words ≤ done → HandsTo appends words (drop done words) [] buffer a b
+pub left_last : (appends : Appending) (leaves : Leaving) (chunk : List ℕ) (words left : List (List ℕ)) (buffer : List ℕ) (a b c : Option (List ℕ))
+    → concat words ≡ chunk → left ≡ [] → HandsTo appends words left [] buffer a b
     → (s : List ℕ) × (s ≡ buffer) × IfKnown b c (Adds (LeavesParts appends leaves s)) → IfKnown a c (Adds (LeavesPacked appends leaves chunk))
-left_last appends leaves chunk words done buffer a b c whole past handed (s, is, left) =
-    let none : PacksWords (drop done words) [] = subst (λ l. PacksWords l []) (sym (drop_all done words past)) PacksWords-none in
-    left_rest appends leaves chunk words (drop done words) (drop done words) buffer a b c whole refl handed (s, ([], none, is ∙ sym (append-nil buffer)), left)
+left_last appends leaves chunk words left buffer a b c whole none handed (s, is, stopped) =
+    let empty : PacksWords left [] = subst (λ l. PacksWords l []) (sym none) PacksWords-none in
+    left_rest appends leaves chunk words left buffer a b c whole handed (s, ([], empty, is ∙ sym (append-nil buffer)), stopped)

@@ -119,12 +119,11 @@ packed_more appends words done count w os old buffer new a b front rest (text, t
     )
 
 -- the last bytes of a chunk
-pub packed_all : (appends : Appending) (chunk : List ℕ) (words : List (List ℕ)) (done : ℕ) (buffer left : List ℕ) (a b c : Option (List ℕ)) →
-    concat words ≡ chunk → length words ≤ done → left ≡ [] →
-    HandsTo appends words (drop done words) [] buffer a b →
+pub packed_all : (appends : Appending) (chunk : List ℕ) (words rest : List (List ℕ)) (buffer left : List ℕ) (a b c : Option (List ℕ)) →
+    concat words ≡ chunk → rest ≡ [] → left ≡ [] →
+    HandsTo appends words rest [] buffer a b →
     IfKnown b c (Hands appends buffer [] left) → IfKnown a c (Adds (AppendsPacked appends chunk))
-packed_all appends chunk words done buffer left a b c whole past none (text, to, handed) last =
-    let over : drop done words ≡ [] = drop_all done words past in
+packed_all appends chunk words rest buffer left a b c whole over none (text, to, handed) last =
     let all : PacksWords words text = subst (PacksWords words) (append-nil text) (to [] (subst (λ l. PacksWords l []) (sym over) PacksWords-none)) in
     let packed : Packs chunk text = subst (λ l. Packs l text) whole (Packs-words words text all) in
     IfKnown-join a b c (λ x y z p q.

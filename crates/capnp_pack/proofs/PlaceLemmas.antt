@@ -119,7 +119,7 @@ spread_word tag text word low long is =
     subst (λ w. MarkedAt tag w text (drop (ones tag) text)) (sym (is ∙ front))
     (subst (λ k. MarkedAt tag (swz_l w8 16 (padded text) 0 (places 8 0 tag)) text (drop k text)) none (spread 8 0 tag 0 text (omega arith) (omega arith) long low))
 
--- the same of a text that has the marked bytes, and no others, in common with that one
+-- and from a text that has the marked bytes, and no others, in common with that one
 pub spread_front : (tag used : ℕ) (text front word : List ℕ) → used ≤ length front → take used front ≡ take used text →
     MarkedAt tag word front (drop used front) → MarkedAt tag word text (drop used text)
 spread_front tag used text front word within same at =

@@ -29,6 +29,6 @@ HandsTo appends words left old new before after = (text : List ℕ) × PacksTo w
 abbrev pub RestAfter : List ℕ → List (List ℕ) → List ℕ → Type 0
 RestAfter buffer words text = (rest : List ℕ) × PacksWords words rest × (text ≡ buffer ++ rest)
 
--- what a buffer holds, the packed words and so many bytes more are granted
+-- what a buffer holds, the packed words and a given number of bytes more are granted
 abbrev pub GrantsTo : (ℕ → Type 0) → List (List ℕ) → ℕ → ℕ → Type 0
 GrantsTo grants words used more = (rest : List ℕ) × PacksWords words rest × grants (used + (length rest + more))

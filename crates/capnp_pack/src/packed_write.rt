@@ -118,12 +118,12 @@ fn pack<W: Write>(sink: &mut W, chunk: &[u8]) -> Result<()>
         W.grants sink.old (length text + more) → IsOk result × W.grants sink.new more }
 {
     let (words, _) = chunk.as_chunks::<8>();
+    let mut left = words;
     let mut bytes = [0; 64];
     let mut used = 0;
-    let mut done = 0;
-    while done < words.len() {
-        let next = pack_next(sink, &mut bytes, used, &words[done..])?;
-        done += next.words;
+    while left.len() > 0 {
+        let next = pack_next(sink, &mut bytes, used, left)?;
+        left = &left[next.words..];
         used = next.used;
     }
     flush(sink, &bytes, used)

@@ -1,18 +1,18 @@
 -- The groups so far are the front of the packed text, whose end is kept.
-use Rattle.std.proofs.Common.{length, ◌≡◌, ◌+◌, ◌*◌, ◌-◌, ◌≤◌, List, [], ℕ, drop, take}
+use Rattle.std.proofs.Common.{length, ◌≡◌, ◌+◌, ◌*◌, ◌≤◌, List, [], ℕ, take}
 use Rattle.capnp_frame.specs.Sink.{Grows}
 use Rattle.capnp_pack.specs.PackedWords.{PacksWords, HandsTo, GrantsTo}
 use Rattle.capnp_pack.proofs.packed_write.pack.Given as goal
 
-abbrev pub invariant-loop-done : goal.invariant-loop-done
-invariant-loop-done g l = let W = g.W.Write in
-    (l.done ≤ length l.words)
+abbrev pub invariant-loop-left : goal.invariant-loop-left
+invariant-loop-left g l = let W = g.W.Write in
+    (length l.left ≤ length l.initial.left)
     × (l.used ≤ 64)
-    × HandsTo W.appends l.words (drop l.done l.words) [] (take l.used l.bytes) (W.written l.initial.sink) (W.written l.sink)
+    × HandsTo W.appends l.initial.left l.left [] (take l.used l.bytes) (W.written l.initial.sink) (W.written l.sink)
     × Grows W.written W.failures W.same l.initial.sink l.sink
-    × ((text : List ℕ) (more : ℕ) → PacksWords l.words text → W.grants l.initial.sink (length text + more)
-    → GrantsTo (W.grants l.sink) (drop l.done l.words) l.used more)
+    × ((text : List ℕ) (more : ℕ) → PacksWords l.initial.left text → W.grants l.initial.sink (length text + more)
+    → GrantsTo (W.grants l.sink) l.left l.used more)
     × (length l.bytes ≡ 64)
 
-abbrev pub decreases-loop-done : goal.decreases-loop-done
-decreases-loop-done g l = 65 * (length l.words - l.done) + l.used
+abbrev pub decreases-loop-left : goal.decreases-loop-left
+decreases-loop-left g l = 65 * length l.left + l.used
