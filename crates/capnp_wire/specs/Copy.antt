@@ -153,7 +153,7 @@ pub record BeginsObject (m : List (List ℕ)) (place : Place) (nesting : ℕ) (c
   pub elements : words_in begun.object.body ≤ room_of begun.object.body
   pub deep : 0 < nesting
 
--- The copy of a struct is begun whose pointers stand one after the other, as their copies do.
+-- The copy of an object is begun whose pointers stand one after the other, as their copies do.
 pub record BeginsRun (m : List (List ℕ)) (place : Place) (words : List ℕ) (nesting : ℕ) (canonical : Bool) (gap next : ℕ) (old mid : List ℕ) (left : LeftRun) : Type 0 where
   pub begins : Begins m place (places left.first.segment left.first.word left.count) (run left.slot left.count) nesting canonical gap next left.next old mid left.pointer
   pub content : slice_get m left.first.segment ≡ Some words

@@ -1,5 +1,5 @@
--- Lists of numbers and structs as objects, and the pointer to a struct of no words (src/layout/number_list.rt,
--- src/layout/near.rt).
+-- Structs and lists of numbers or pointers as objects, and the pointer to a struct of no words (src/layout/number_list.rt,
+-- src/layout/pointer_run.rt, src/layout/near.rt).
 use Rattle.std.specs.Prelude.{◌≡◌, ◌⊎◌, ℕ, ◌+◌, ◌<◌, List, length}
 use Rattle.capnp_wire.specs.Pointer.{words_from}
 use Rattle.capnp_wire.specs.Trim.{cut_zeros}
@@ -7,7 +7,8 @@ use Rattle.capnp_wire.specs.Landing.{traversed_of}
 use Rattle.capnp_wire.specs.Layout.{struct_pointer, minus_one}
 use Rattle.capnp_wire.specs.declared.layout.number_list.NumberList.{NumberList}
 use Rattle.capnp_wire.specs.declared.layout.near.NearStruct.{NearStruct}
-use Rattle.capnp_wire.specs.declared.layout.object.Body.TheVariants.{Struct, Numbers}
+use Rattle.capnp_wire.specs.declared.layout.pointer_run.PointerRun.{PointerRun}
+use Rattle.capnp_wire.specs.declared.layout.object.Body.TheVariants.{Struct, Numbers, Pointers}
 use Rattle.capnp_wire.specs.declared.layout.object.Object.{Object}
 
 abbrev pub object_of : NumberList → Object
@@ -25,6 +26,15 @@ near_struct_of found = record {
   start = found.start;
   body = Struct found.size;
   traversed = found.size.data_words + found.size.pointers;
+}
+
+-- and a list of pointers
+abbrev pub pointers_of : PointerRun → Object
+pointers_of list = record {
+  segment = list.segment;
+  start = list.first;
+  body = Pointers list.count;
+  traversed = list.count;
 }
 
 -- the pointer to a struct of no words that begins where the pointer does

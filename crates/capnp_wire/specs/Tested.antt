@@ -1,5 +1,6 @@
 -- What a walk tests of the objects of a message of one segment, and where it ends (src/layout/canonical.rt).
-use Rattle.std.specs.Prelude.{◌≡◌, ◌≢◌, ◌⊎◌, ℕ, ◌+◌, ◌-◌, ◌*◌, ◌^◌, ◌<◌, ◌≤◌, false, List, [], ◌∷◌, length, Option, Some, slice_get, slice_index_or}
+use Rattle.std.specs.Prelude.{◌≡◌, ◌≢◌, ◌⊎◌, ℕ, ◌+◌, ◌-◌, ◌*◌, ◌^◌, ◌<◌, ◌≤◌, false, List, [], ◌∷◌, length, Option, Some, Result, IfOk, IfErr, slice_get, slice_index_or}
+use Rattle.capnp_frame.specs.declared.error.Error.{Error}
 use Rattle.capnp_frame.specs.declared.error.ErrorKind.{ErrorKind}
 use Rattle.capnp_frame.specs.declared.error.ErrorKind.TheVariants.{ReadLimitExceeded, InvalidSegmentId}
 use Rattle.capnp_wire.specs.Pointer.{pointer_kind, offset, list_count}
@@ -13,6 +14,7 @@ use Rattle.capnp_wire.specs.Layout.{minus_one, Trimmed}
 use Rattle.capnp_wire.specs.Canonical.{EndsFull, Padded, Tidy}
 use Rattle.capnp_wire.specs.declared.layout.place.Place.{Place}
 use Rattle.capnp_wire.specs.Rows.{places_in, end_of}
+use Rattle.capnp_wire.specs.declared.layout.canonical.CanonicalWalk.{CanonicalWalk}
 use Rattle.capnp_wire.specs.declared.layout.canonical.Met.{Met}
 use Rattle.capnp_wire.specs.declared.layout.canonical.Met.TheVariants.{Null, NotCanonical, Pointers}
 use Rattle.capnp_wire.specs.declared.layout.rows.PointerRows.{PointerRows}
@@ -151,6 +153,16 @@ IsMet segment place nesting limit left next after Null =
 IsMet segment place nesting limit left next after NotCanonical = Ends segment (place ∷ []) nesting limit next not_canonical
 IsMet segment place nesting limit left next after (Pointers pointers) =
     MeetsPointers segment place nesting limit left next after pointers
+
+-- what a test of the object that the pointer at a word leads to finds, by itself
+abbrev pub MeetsAt : List ℕ → ℕ → ℕ → CanonicalWalk → CanonicalWalk → Result Met Error → Type 0
+MeetsAt segment word nesting old new result = let place : Place = record { segment = 0; word = word } in
+    IfOk result (λ met. IsMet segment place nesting old.walk.left new.walk.left old.next new.next met)
+
+-- and with which kind it fails
+abbrev pub FailsAt : List ℕ → ℕ → ℕ → CanonicalWalk → Result Met Error → Type 0
+FailsAt segment word nesting old result = let place : Place = record { segment = 0; word = word } in
+    IfErr result (λ error. Ends segment (place ∷ []) nesting old.walk.left old.next (refused error.kind))
 
 -- Whether a message is canonical is not said: it has no first segment, or the walk over its one segment is
 -- refused. A message of more segments is not canonical, whatever they hold.

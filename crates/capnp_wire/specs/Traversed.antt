@@ -1,15 +1,15 @@
 -- What a walk over trees may still count against the traversal limit, and the words that it has counted (src/layout/walk.rt).
-use Rattle.std.specs.Prelude.{◌≡◌, Bool, ℕ, ◌+◌, ◌-◌, ◌^◌, ◌<◌, ◌≤◌, List, [], ◌∷◌, ◌++◌, Option, Some, None, IfSome, if◌then◌else◌}
+use Rattle.std.specs.Prelude.{◌≡◌, Bool, ℕ, ◌+◌, ◌-◌, ◌^◌, ◌<◌, ◌≤◌, List, [], ◌∷◌, ◌++◌, slice_get, Option, Some, None, IfSome, if◌then◌else◌}
 use Rattle.capnp_wire.specs.Pointer.{words_of}
 use Rattle.capnp_wire.specs.Tree.{Trees, depth, total_words}
-use Rattle.capnp_wire.specs.Landing.{IsObject, words_in}
+use Rattle.capnp_wire.specs.Object.{places}
+use Rattle.capnp_wire.specs.Landing.{IsObject, shape_of, words_in}
 use Rattle.capnp_wire.specs.Reached.{At}
 use Rattle.capnp_wire.specs.Layout.{formed, AllHaveRoom}
-use Rattle.capnp_wire.specs.Near.{near_struct_of}
 use Rattle.capnp_wire.specs.Copy.{formed_body}
 use Rattle.capnp_wire.specs.declared.layout.place.Place.{Place}
 use Rattle.capnp_wire.specs.declared.layout.walk.Walk.{Walk}
-use Rattle.capnp_wire.specs.declared.layout.near.NearStruct.{NearStruct}
+use Rattle.capnp_wire.specs.declared.layout.pointer_run.PointerRun.{PointerRun}
 use Rattle.capnp_wire.specs.declared.layout.object.Object.{Object}
 
 -- the words counted are within the limit, where there is one
@@ -74,13 +74,20 @@ pub record EntersObject (m : List (List ℕ)) (canonical : Bool) (place : Place)
   pub left_is : left ≡ less limit object.traversed
   pub counted : CountsMore words_before words_now (words_in (formed_body canonical (words_of object.segment.now) object.start.word object.body))
 
--- What a walk over the pointers at some places finds up to a struct that holds others, with `rest` after it: all in
+-- A walk has entered the object at a place, and nothing below it yet: pointers that stand one after the other.
+pub record EntersRun (m : List (List ℕ)) (canonical : Bool) (place : Place) (held : PointerRun) (nesting : ℕ) (limit left words_before words_now : Option ℕ) : Type 0 where
+  pub object : Object
+  pub enters : EntersObject m canonical place object nesting limit left words_before words_now
+  pub held_are : places held.first.segment held.first.word held.count ≡ (shape_of (words_of object.segment.now) object.start object.body).held
+  pub content : slice_get m held.first.segment ≡ Some (words_of held.segment.now)
+
+-- What a walk over the pointers at some places finds up to an object that holds others, with `rest` after it: all in
 -- front of it, and then its own words alone.
-pub record WalkedTo (m : List (List ℕ)) (canonical : Bool) (at rest : List Place) (parent : NearStruct) (nesting : ℕ) (limit left words_before words_now : Option ℕ) : Type 0 where
+pub record WalkedTo (m : List (List ℕ)) (canonical : Bool) (at rest : List Place) (held : PointerRun) (nesting : ℕ) (limit left words_before words_now : Option ℕ) : Type 0 where
   pub front : List Place
   pub place : Place
   pub at_is : at ≡ front ++ place ∷ rest
   pub left_there : Option ℕ
   pub words_there : Option ℕ
   pub in_front : WalkedAll m canonical front nesting limit left_there words_before words_there
-  pub enters : EntersObject m canonical place (near_struct_of parent) nesting left_there left words_there words_now
+  pub enters : EntersRun m canonical place held nesting left_there left words_there words_now

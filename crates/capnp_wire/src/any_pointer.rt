@@ -10,7 +10,7 @@ mod near;
 mod reader;
 
 use crate::layout::block::BlockItem;
-use crate::layout::copy::{Copied, copy_from};
+use crate::layout::copy::{Copied, copy};
 use crate::layout::value;
 use crate::read_limiter::limit_in_words;
 use crate::traits::{self, SetterInput};
@@ -78,7 +78,7 @@ pub(crate) fn write_into<S: ReaderSegments, T: BlockItem>(
 {
     match reader.place {
         None => Copied { pointer: 0, next },
-        Some(place) => copy_from(
+        Some(place) => copy(
             reader.segments,
             place,
             reader.nesting,

@@ -15,6 +15,7 @@ pub(crate) mod own_words;
 pub(crate) mod passing;
 pub(crate) mod place;
 pub(crate) mod pointer;
+pub(crate) mod pointer_run;
 pub(crate) mod row_pair;
 pub(crate) mod rows;
 pub(crate) mod struct_value;

@@ -1,15 +1,19 @@
--- A list of numbers that is copied: nothing is below it.
-use Rattle.std.proofs.Common.{◌≡◌, ℕ, ◌+◌, ◌-◌, Bool, List, [], ◌∷◌, length, refl}
+-- Lists that are copied: nothing is below numbers, and pointers have no other words.
+use Rattle.std.proofs.Common.{◌≡◌, ℕ, ◌+◌, ◌-◌, Bool, List, [], ◌∷◌, ◌<◌, ◌^◌, length, refl, sym, subst, arith}
 use Rattle.capnp_wire.specs.Pointer.{words_of}
 use Rattle.capnp_wire.specs.Element.{code_of, width, words_for}
+use Rattle.capnp_wire.specs.Object.{places}
 use Rattle.capnp_wire.specs.Landing.{IsObject}
-use Rattle.capnp_wire.specs.Near.{object_of}
-use Rattle.capnp_wire.specs.Copy.{CanCopy, Copies, pointer_of_body, put_own}
+use Rattle.capnp_wire.specs.Layout.{run}
+use Rattle.capnp_wire.specs.Rows.{slots_of}
+use Rattle.capnp_wire.specs.Near.{object_of, pointers_of}
+use Rattle.capnp_wire.specs.Copy.{CanCopy, Copies, Begins, BeginsRun, pointer_of_body, put_own}
 use Rattle.capnp_wire.specs.declared.layout.place.Place.{Place}
 use Rattle.capnp_wire.specs.declared.layout.number_list.NumberList.{NumberList}
-use Rattle.capnp_wire.specs.declared.layout.object.Body.TheVariants.{Numbers}
+use Rattle.capnp_wire.specs.declared.layout.pointer_run.PointerRun.{PointerRun}
+use Rattle.capnp_wire.specs.declared.layout.object.Body.TheVariants.{Numbers, Pointers}
 use Rattle.capnp_wire.proofs.layouts.CopyLemmas.{copies_none}
-use Rattle.capnp_wire.proofs.layouts.CopiedLemmas.{opened_here, object_begins}
+use Rattle.capnp_wire.proofs.layouts.CopiedLemmas.{opened_here, object_begins, in_run}
 use Rattle.capnp_wire.proofs.pointers.NearLemmas.{list_formed}
 use Rattle.capnp_wire.proofs.layouts.OpenLemmas.{Opened}
 
@@ -27,3 +31,32 @@ pub number_list_copied : {m : List (List ℕ)} {place : Place} {nesting : ℕ} {
     → Copies m place c gap next old new (record { pointer = pointer; next = free })
 number_list_copied {free = free} {new = new} list can is new_is long pointer_is free_is =
     (object_begins can (number_list_opened list can is) new_is long pointer_is).ends new free (copies_none refl free_is)
+
+-- a list of pointers
+pub pointer_list_opened : {m : List (List ℕ)} {place : Place} {nesting : ℕ} {c : Bool} {next room : ℕ} (list : PointerRun) (can : CanCopy m (place ∷ []) nesting c next room)
+    → IsObject m place (pointers_of list)
+    → Opened m (words_of list.segment.now) list.first (Pointers list.count) (Pointers list.count) (nesting - 1) c next room can.trees
+pointer_list_opened {c = c} list can is = opened_here can is (list_formed c (words_of list.segment.now) list.first.word (Pointers list.count) tt)
+
+-- it has no other words, so its copy is begun before any is written
+pub pointer_list_begins : {m : List (List ℕ)} {place : Place} {nesting : ℕ} {c : Bool} {gap next following pointer : ℕ} {old : List ℕ}
+    (list : PointerRun) (can : CanCopy m (place ∷ []) nesting c next (length old))
+    → IsObject m place (pointers_of list) → pointer ≡ pointer_of_body (Pointers list.count) gap → following ≡ next + list.count → list.first.word + list.count < 2 ^ 61
+    → BeginsRun m place (words_of list.segment.now) nesting c gap next old old (record {
+      pointer = pointer;
+      first = list.first;
+      count = list.count;
+      slot = next;
+      next = following;
+    })
+pointer_list_begins {m} {place} {nesting} {c} {gap} {next} {following} {pointer} {old} list can is pointer_is following_is bound =
+    let b = object_begins can (pointer_list_opened list can is) refl refl pointer_is in
+    let r = in_run list.first (Pointers list.count) (Pointers list.count) next list.count refl refl in
+    record {
+      begins = subst (λ (f : ℕ). Begins m place (places list.first.segment list.first.word list.count) (run next list.count) nesting c gap next f old old pointer) (sym following_is)
+          (subst (λ (s : List ℕ). Begins m place (places list.first.segment list.first.word list.count) s nesting c gap next (next + list.count) old old pointer) r.slots_are
+          (subst (λ (l : List Place). Begins m place l (slots_of next (Pointers list.count)) nesting c gap next (next + list.count) old old pointer) r.places_are b));
+      content = is.content;
+      bound = bound;
+      before = omega (arith, following_is);
+    }

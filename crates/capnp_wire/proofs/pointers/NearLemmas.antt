@@ -6,18 +6,19 @@ use Rattle.capnp_wire.specs.PointerWord.{IsNearShape}
 use Rattle.capnp_wire.specs.Element.{code_of, width, words_for}
 use Rattle.capnp_wire.specs.Object.{word_at, near, following, Target, Lands, Shape, ShapeStands, PointsTo, is_object}
 use Rattle.capnp_wire.specs.Landing.{IsObject, shape_of, room_of, words_in, traversed_of}
-use Rattle.capnp_wire.specs.Near.{object_of, near_struct_of}
+use Rattle.capnp_wire.specs.Near.{object_of, near_struct_of, pointers_of}
 use Rattle.capnp_wire.specs.Traversed.{Within, CountsMore, EntersObject, Walked, less}
 use Rattle.capnp_wire.specs.Copy.{least_size, formed_body}
 use Rattle.capnp_wire.specs.declared.layout.place.Place.{Place}
 use Rattle.capnp_wire.specs.declared.layout.element.ElementSize.{ElementSize}
 use Rattle.capnp_wire.specs.declared.layout.number_list.NumberList.{NumberList}
-use Rattle.capnp_wire.specs.declared.layout.pointer.NearShape.TheVariants.{Numbers as NearNumbers, Struct as NearStructShape}
+use Rattle.capnp_wire.specs.declared.layout.pointer.NearShape.TheVariants.{Numbers as NearNumbers, Pointers as NearPointers, Struct as NearStructShape}
 use Rattle.capnp_wire.specs.declared.layout.object.Body.{Body}
 use Rattle.capnp_wire.specs.declared.layout.pointer.StructSize.{StructSize}
 use Rattle.capnp_wire.specs.declared.layout.near.NearStruct.{NearStruct}
+use Rattle.capnp_wire.specs.declared.layout.pointer_run.PointerRun.{PointerRun}
 use Rattle.capnp_wire.specs.declared.layout.object.Body.TheVariants.{Struct, Numbers, Pointers, Structs}
-use Rattle.capnp_wire.proofs.pointers.LandingLemmas.{struct_stands, numbers_stand}
+use Rattle.capnp_wire.proofs.pointers.LandingLemmas.{struct_stands, numbers_stand, pointers_stand}
 use Rattle.capnp_wire.proofs.trees.RoomLemmas.{stands_room}
 use Rattle.capnp_wire.proofs.walks.ProgressLemmas.{entered, walked_alone}
 
@@ -62,6 +63,18 @@ number_list_stands m place pointer segment start size count traversed word small
     near_stands m place pointer segment start (Numbers size count) traversed word (omega (arith, list.0)) small (omega (arith, list.0)) content begins
     (stands, omega (arith, traversed_is)) (omega (arith, traversed_is)) words_fit room (omega arith)
 
+-- a list of pointers
+pub pointer_list_stands : (m : List (List ℕ)) (place : Place) (pointer : ℕ) (segment : Bor (List ℕ)) (start count : ℕ)
+    → word_at m place ≡ Some pointer → pointer < 2 ^ 64 → slice_get m place.segment ≡ Some (words_of segment.now)
+    → start + 2 ^ 30 * (offset pointer / 2 ^ 29) ≡ place.word + 1 + offset pointer → IsNearShape pointer (NearPointers count)
+    → All (λ w. w < 2 ^ 64) (words_of segment.now) → start + count ≤ length segment.now / 8
+    → IsObject m place (record { segment = segment; start = record { segment = place.segment; word = start }; body = Pointers count; traversed = count })
+pointer_list_stands m place pointer segment start count word small content begins list words_fit room =
+    let here : Place = record { segment = place.segment; word = start } in
+    let stands = pointers_stand segment.now here pointer count list.0 list.1 list.2 room in
+    near_stands m place pointer segment start (Pointers count) count word (omega (arith, list.0)) small (omega (arith, list.0)) content begins
+    (stands, refl) (omega arith) words_fit room (omega arith)
+
 -- a struct
 pub struct_stands_near : (m : List (List ℕ)) (place : Place) (pointer : ℕ) (segment : Bor (List ℕ)) (start : ℕ) (size : StructSize)
     → word_at m place ≡ Some pointer → 0 < pointer → pointer < 2 ^ 64 → slice_get m place.segment ≡ Some (words_of segment.now)
@@ -103,6 +116,18 @@ number_list_walked {c = c} {limit = limit} {left = left} {counted_then = before}
       counted = subst (CountsMore before now) formed_words counted;
     }))
     refl
+
+-- one that meets a list of pointers enters it
+pub pointer_list_entered : {m : List (List ℕ)} {c : Bool} {place : Place} {nesting : ℕ} {limit left counted_then counted_now : Option ℕ} (list : PointerRun)
+    → IsObject m place (pointers_of list) → 0 < nesting → Within limit list.count → left ≡ less limit list.count → CountsMore counted_then counted_now list.count
+    → EntersObject m c place (pointers_of list) nesting limit left counted_then counted_now
+pointer_list_entered {c = c} {counted_then = before} {counted_now = now} list is deep within left_is counted = record {
+  there = is;
+  deep = deep;
+  within = within;
+  left_is = left_is;
+  counted = subst (CountsMore before now) (ap words_in (list_formed c (words_of list.segment.now) list.first.word (Pointers list.count) tt)) counted;
+}
 
 -- and one that meets a struct enters it
 pub struct_enters : {m : List (List ℕ)} {c : Bool} {place : Place} {found : NearStruct} {size : StructSize} {nesting : ℕ} {limit left counted_then counted_now : Option ℕ} {traversed words : ℕ}

@@ -1,21 +1,45 @@
--- A walk comes to a struct that holds others, and then goes over these.
+-- A walk comes to an object that holds a run of others, and then goes over these.
 use Rattle.std.proofs.Common.{◌≡◌, ◌≢◌, Bool, ℕ, ◌+◌, ◌-◌, List, [], ◌∷◌, ◌++◌, length, slice_get, Option, refl, ◌∙◌, ap, arith, length-append}
 use Rattle.capnp_frame.specs.declared.error.ErrorKind.{ErrorKind}
 use Rattle.capnp_wire.specs.Object.{places}
 use Rattle.capnp_wire.specs.Near.{near_struct_of}
-use Rattle.capnp_wire.specs.Traversed.{EntersObject, WalkedAll, WalkedTo}
+use Rattle.capnp_wire.specs.Traversed.{EntersObject, EntersRun, Walked, WalkedAll, WalkedTo}
 use Rattle.capnp_wire.specs.Faults.{StopsWalk}
 use Rattle.capnp_wire.specs.Rows.{places_in}
 use Rattle.capnp_wire.specs.declared.layout.place.Place.{Place}
 use Rattle.capnp_wire.specs.declared.layout.rows.PointerRows.{PointerRows}
 use Rattle.capnp_wire.specs.declared.layout.near.NearStruct.{NearStruct}
+use Rattle.capnp_wire.specs.declared.layout.pointer_run.PointerRun.{PointerRun}
 use Rattle.capnp_wire.proofs.walks.ProgressLemmas.{Progress, Going, entered, progress_front, progress_over, progress_next, progress_stops, walk_over, walk_stops_inside}
 
--- it comes to a struct
-pub struct_met : {m : List (List ℕ)} {c : Bool} {held rest others : List Place} {place : Place} {found : NearStruct} {nesting : ℕ} {limit left after counted_then counted_now counted_after : Option ℕ}
-    → rest ≡ place ∷ others → Progress m c held rest nesting limit left counted_then counted_now → EntersObject m c place (near_struct_of found) nesting left after counted_now counted_after
-    → WalkedTo m c held others found nesting limit after counted_then counted_after
-struct_met {place = place} {left = left} {counted_now = counted_now} is p enters = record {
+-- a struct that is entered holds its pointers
+pub struct_holds : {m : List (List ℕ)} {c : Bool} {place : Place} {nesting : ℕ} {limit left counted_then counted_now : Option ℕ} (found : NearStruct) (held : PointerRun)
+    → EntersObject m c place (near_struct_of found) nesting limit left counted_then counted_now
+    → held.segment.now ≡ found.segment.now → held.first.word ≡ found.start.word + found.size.data_words → held.first.segment ≡ found.start.segment → held.count ≡ found.size.pointers
+    → EntersRun m c place held nesting limit left counted_then counted_now
+struct_holds found held enters same word_is segment_is count_is = record {
+  object = near_struct_of found;
+  enters = enters;
+  held_are = rw (word_is, segment_is, count_is) refl;
+  content = rw (segment_is, same) enters.there.content;
+}
+
+-- what is walked over below it, or where that stops
+pub run_walked : {m : List (List ℕ)} {c : Bool} {place : Place} {held : PointerRun} {pointers : List Place} {nesting : ℕ} {limit mid after counted_then counted_mid counted_after : Option ℕ}
+    → EntersRun m c place held nesting limit mid counted_then counted_mid → pointers ≡ places held.first.segment held.first.word held.count
+    → WalkedAll m c pointers (nesting - 1) mid after counted_mid counted_after → Walked m c place nesting limit after counted_then counted_after
+run_walked e all walked = walk_over (entered e.enters) (all ∙ e.held_are) walked
+
+pub run_stops : {m : List (List ℕ)} {c : Bool} {place : Place} {held : PointerRun} {pointers : List Place} {nesting : ℕ} {limit mid counted_then counted_mid : Option ℕ} {kind : ErrorKind}
+    → EntersRun m c place held nesting limit mid counted_then counted_mid → pointers ≡ places held.first.segment held.first.word held.count
+    → StopsWalk m pointers (nesting - 1) mid kind → StopsWalk m (place ∷ []) nesting limit kind
+run_stops e all stops = walk_stops_inside (entered e.enters) (all ∙ e.held_are) stops
+
+-- among other pointers a walk comes to it
+pub parent_met : {m : List (List ℕ)} {c : Bool} {held rest others : List Place} {place : Place} {run : PointerRun} {nesting : ℕ} {limit left after counted_then counted_now counted_after : Option ℕ}
+    → rest ≡ place ∷ others → Progress m c held rest nesting limit left counted_then counted_now → EntersRun m c place run nesting left after counted_now counted_after
+    → WalkedTo m c held others run nesting limit after counted_then counted_after
+parent_met {place = place} {left = left} {counted_now = counted_now} is p enters = record {
   front = p.front;
   place = place;
   at_is = p.held_is ∙ ap (λ (l : List Place). p.front ++ l) is;
@@ -26,34 +50,29 @@ struct_met {place = place} {left = left} {counted_now = counted_now} is p enters
 }
 
 -- there was a pointer to it
-pub some_before : {m : List (List ℕ)} {c : Bool} {at rest : List Place} {found : NearStruct} {nesting : ℕ} {limit left counted_then counted_now : Option ℕ}
-    → WalkedTo m c at rest found nesting limit left counted_then counted_now → at ≢ []
+pub some_before : {m : List (List ℕ)} {c : Bool} {at rest : List Place} {run : PointerRun} {nesting : ℕ} {limit left counted_then counted_now : Option ℕ}
+    → WalkedTo m c at rest run nesting limit left counted_then counted_now → at ≢ []
 some_before {rest = rest} w none = absurd (omega (arith, ap length w.at_is, ap length none, length-append w.front (w.place ∷ rest)))
 
 -- and goes over what it holds, or stops there
-pub struct_walked : {m : List (List ℕ)} {c : Bool} {held at rest pointers : List Place} {found : NearStruct} {nesting : ℕ} {limit left mid after counted_then counted_now counted_mid counted_after : Option ℕ}
-    → Progress m c held at nesting limit left counted_then counted_now → WalkedTo m c at rest found nesting left mid counted_now counted_mid
-    → pointers ≡ places found.start.segment (found.start.word + found.size.data_words) found.size.pointers → WalkedAll m c pointers (nesting - 1) mid after counted_mid counted_after
+pub parent_walked : {m : List (List ℕ)} {c : Bool} {held at rest pointers : List Place} {run : PointerRun} {nesting : ℕ} {limit left mid after counted_then counted_now counted_mid counted_after : Option ℕ}
+    → Progress m c held at nesting limit left counted_then counted_now → WalkedTo m c at rest run nesting left mid counted_now counted_mid
+    → pointers ≡ places run.first.segment run.first.word run.count → WalkedAll m c pointers (nesting - 1) mid after counted_mid counted_after
     → Progress m c held rest nesting limit after counted_then counted_after
-struct_walked p w all walked = progress_next refl (progress_over w.at_is p w.in_front) (walk_over (entered w.enters) all walked)
+parent_walked p w all walked = progress_next refl (progress_over w.at_is p w.in_front) (run_walked w.enters all walked)
 
-pub struct_stops : {m : List (List ℕ)} {c : Bool} {held at rest pointers : List Place} {found : NearStruct} {nesting : ℕ} {limit left mid counted_then counted_now counted_mid : Option ℕ} {kind : ErrorKind}
-    → Progress m c held at nesting limit left counted_then counted_now → WalkedTo m c at rest found nesting left mid counted_now counted_mid
-    → pointers ≡ places found.start.segment (found.start.word + found.size.data_words) found.size.pointers → StopsWalk m pointers (nesting - 1) mid kind → StopsWalk m held nesting limit kind
-struct_stops p w all stops = progress_stops refl (progress_over w.at_is p w.in_front) (walk_stops_inside (entered w.enters) all stops)
+pub parent_stops : {m : List (List ℕ)} {c : Bool} {held at rest pointers : List Place} {run : PointerRun} {nesting : ℕ} {limit left mid counted_then counted_now counted_mid : Option ℕ} {kind : ErrorKind}
+    → Progress m c held at nesting limit left counted_then counted_now → WalkedTo m c at rest run nesting left mid counted_now counted_mid
+    → pointers ≡ places run.first.segment run.first.word run.count → StopsWalk m pointers (nesting - 1) mid kind → StopsWalk m held nesting limit kind
+parent_stops p w all stops = progress_stops refl (progress_over w.at_is p w.in_front) (run_stops w.enters all stops)
 
--- its pointers, from the first one on
-pub held_by : {first : Place} (found : NearStruct) → first.word ≡ found.start.word + found.size.data_words → first.segment ≡ found.start.segment
-    → places first.segment first.word found.size.pointers ≡ places found.start.segment (found.start.word + found.size.data_words) found.size.pointers
-held_by found word_is segment_is = rw (word_is, segment_is) refl
-
-pub going_below : {m : List (List ℕ)} {segment : List ℕ} {c : Bool} {whole at rest : PointerRows} {pointers : List Place} {found : NearStruct} {nesting : ℕ}
+pub going_below : {m : List (List ℕ)} {segment : List ℕ} {c : Bool} {whole at rest : PointerRows} {pointers : List Place} {run : PointerRun} {nesting : ℕ}
     {limit left mid after counted_then counted_now counted_mid counted_after : Option ℕ} → Going m segment c whole at nesting limit left counted_then counted_now
-    → WalkedTo m c (places_in at) (places_in rest) found nesting left mid counted_now counted_mid → rest.next.segment ≡ at.next.segment
-    → pointers ≡ places found.start.segment (found.start.word + found.size.data_words) found.size.pointers → WalkedAll m c pointers (nesting - 1) mid after counted_mid counted_after
+    → WalkedTo m c (places_in at) (places_in rest) run nesting left mid counted_now counted_mid → rest.next.segment ≡ at.next.segment
+    → pointers ≡ places run.first.segment run.first.word run.count → WalkedAll m c pointers (nesting - 1) mid after counted_mid counted_after
     → Going m segment c whole rest nesting limit after counted_then counted_after
 going_below {m} going w same all walked = record {
-  progress = struct_walked going.progress w all walked;
+  progress = parent_walked going.progress w all walked;
   content = λ some. ap (slice_get m) same ∙ going.content (some_before w);
   same_segment = same ∙ going.same_segment;
 }

@@ -92,7 +92,7 @@ impl<'a, S: ReaderSegments> Reader<'a, S> {
                 cap_count: 0,
             });
         };
-        walk.walk_from(self.segments, place, self.nesting, false)?;
+        walk.walk(self.segments, place, self.nesting, false)?;
         match walk.words() {
             Some(word_count) => Ok(MessageSize {
                 word_count,

@@ -1,10 +1,10 @@
 //! Copies that are begun: an object's own words stand in the block, and its pointers are left.
-ghost use Rattle.std.specs.Prelude.{◌≡◌, ◌+◌, ◌-◌, ◌^◌, ◌<◌, ◌≤◌, Bool, ℕ, List, [], ◌∷◌, length, MatchOption};
+ghost use Rattle.std.specs.Prelude.{◌≡◌, ◌+◌, ◌-◌, ◌^◌, ◌<◌, ◌≤◌, ◌/◌, Bool, ℕ, List, [], ◌∷◌, length, slice_get, Some, MatchOption};
 ghost use Rattle.capnp_wire.specs.Pointer.{words_of};
 ghost use Rattle.capnp_wire.specs.Object.{message_of};
 ghost use Rattle.capnp_wire.specs.Landing.{IsObject};
-ghost use Rattle.capnp_wire.specs.Near.{object_of, near_struct_of};
-ghost use Rattle.capnp_wire.specs.Copy.{CanCopy, Copies, IsCopyable, BeginsObject, BeginsStruct};
+ghost use Rattle.capnp_wire.specs.Near.{object_of, near_struct_of, pointers_of};
+ghost use Rattle.capnp_wire.specs.Copy.{CanCopy, Copies, IsCopyable, BeginsObject, BeginsRun, BeginsStruct};
 ghost use Rattle.capnp_wire.specs.declared.layout.copy.Copied.{Copied};
 
 use crate::layout::block::{BlockItem, put_elements, put_words};
@@ -16,6 +16,7 @@ use crate::layout::number_list::NumberList;
 use crate::layout::object::{Body, Object, object_there};
 use crate::layout::own_words::put_own_words;
 use crate::layout::place::Place;
+use crate::layout::pointer_run::PointerRun;
 use crate::pointer_word::list_word;
 use capnp_frame::message::ReaderSegments;
 
@@ -34,8 +35,8 @@ pub(crate) enum StructCopy {
     Begun(LeftRun),
 }
 
-/// The pointer to a struct's copy, and what is left of that: a given number of pointers, whose
-/// copies stand one after the other. What they lead to goes from the word `next` on.
+/// The pointer to a copy, and what is left of that: a given number of pointers, whose copies stand
+/// one after the other. What they lead to goes from the word `next` on.
 #[derive(Clone, Copy)]
 pub(crate) struct LeftRun {
     pub pointer: u64,
@@ -45,11 +46,12 @@ pub(crate) struct LeftRun {
     pub next: usize,
 }
 
-/// Begins the copy of the object that the pointer at a place leads to, at the word `next` of a block;
-/// `None` for null. The pointer to the copy stands just before the word `following`.
+/// Begins the copy of the object that the pointer at a place of this segment leads to, at the word `next`
+/// of a block; `None` for null. The pointer to the copy stands just before the word `following`.
 #[inline(always)]
 pub(crate) fn begin<'a, S: ReaderSegments, T: BlockItem>(
     segments: &'a S,
+    segment: &'a [u8],
     place: Place,
     nesting: u32,
     canonical: bool,
@@ -59,6 +61,8 @@ pub(crate) fn begin<'a, S: ReaderSegments, T: BlockItem>(
 ) -> Option<BegunCopy<'a>>
     requires there { CanCopy (message_of (S.segments segments.now)) (place ∷ []) nesting canonical
         next (length (T.as_words block.old)) }
+    requires content { slice_get (message_of (S.segments segments.now)) place.segment
+        ≡ Some (words_of segment.now) }
     requires following { following ≤ next }
     requires small { length (T.as_words block.old) < 2 ^ 29 }
     ensures begun { let m = message_of (S.segments segments.now) in
@@ -70,7 +74,7 @@ pub(crate) fn begin<'a, S: ReaderSegments, T: BlockItem>(
         (T.as_words block.old) (T.as_words block.new) begun) }
     ensures len { length (T.as_words block.new) ≡ length (T.as_words block.old) }
 {
-    let Some(object) = object_there(segments, place, nesting) else {
+    let Some(object) = object_there(segments, segment, place, nesting) else {
         return None;
     };
     let body = formed_as(&object, canonical);
@@ -151,5 +155,26 @@ pub(crate) fn copy_list<T: BlockItem>(
             list.count as u64,
         ),
         next: next + list.words() as usize,
+    }
+}
+
+/// Begins the copy of a list of pointers, which has no other words.
+#[inline(always)]
+pub(crate) fn begin_list(list: &PointerRun<'_>, following: usize, next: usize) -> LeftRun
+    requires there { (canonical : Bool) × (room : ℕ) × (room < 2 ^ 29)
+        × IsCopyable (pointers_of list.now) canonical next room }
+    requires following { following ≤ next }
+    ensures { (m : List (List ℕ)) (place : Place) (nesting : ℕ) (canonical : Bool) (old : List ℕ) →
+        CanCopy m (place ∷ []) nesting canonical next (length old) →
+        IsObject m place (pointers_of list.now) →
+        BeginsRun m place (words_of list.now.segment.now) nesting canonical
+        (next - following) next old old result }
+{
+    LeftRun {
+        pointer: list_word((next - following) as u64, 6, list.count as u64),
+        first: list.first,
+        count: list.count,
+        slot: next,
+        next: next + list.count as usize,
     }
 }

@@ -8,11 +8,11 @@ ghost use Rattle.capnp_frame.specs.declared.error.ErrorKind.{ErrorKind};
 ghost use Rattle.capnp_wire.specs.Reached.{root};
 ghost use Rattle.capnp_wire.specs.Canonical.{IsCanonical};
 ghost use Rattle.capnp_wire.specs.Rows.{places_in, end_of};
-ghost use Rattle.capnp_wire.specs.Tested.{NextOf, PaddedOf, IsTight, links_at, PassesAt, IsMet, Ends, refused, not_canonical};
+ghost use Rattle.capnp_wire.specs.Tested.{NextOf, PaddedOf, IsTight, links_at, PassesAt, MeetsAt, FailsAt, Ends, refused, not_canonical};
 ghost use Rattle.capnp_wire.specs.declared.layout.place.Place.{Place};
 
 use crate::layout::near::{near_list, near_struct};
-use crate::layout::object::{Object, object_at};
+use crate::layout::object::{Object, object_in};
 use crate::layout::place::{Place, existing_word, pointer_at};
 use crate::layout::rows::PointerRows;
 use crate::layout::tested::{body_is_padded, is_next, is_tight};
@@ -140,12 +140,8 @@ impl CanonicalWalk {
         requires one { message_of (S.segments segments.now) ≡ words_of segment.now ∷ [] }
         requires before { word < self.now.next }
         requires within { self.now.next ≤ length segment.now / 8 }
-        ensures found { let place : Place = record { segment = 0; word = word } in
-            IfOk result (λ met. IsMet (words_of segment.now) place nesting
-            self.old.walk.left self.new.walk.left self.old.next self.new.next met) }
-        ensures refused { let place : Place = record { segment = 0; word = word } in
-            IfErr result (λ error. Ends (words_of segment.now) (place ∷ []) nesting
-            self.old.walk.left self.old.next (refused error.kind)) }
+        ensures found { MeetsAt (words_of segment.now) word nesting self.old self.new result }
+        ensures refused { FailsAt (words_of segment.now) word nesting self.old result }
     {
         let pointer = existing_word(segment, word)?;
         if pointer == 0 {
@@ -179,15 +175,11 @@ impl CanonicalWalk {
         requires within { self.now.next ≤ length segment.now / 8 }
         requires there { slice_get (words_of segment.now) word ≡ Some pointer }
         requires not_far { pointer_kind pointer ≢ 2 }
-        ensures found { let place : Place = record { segment = 0; word = word } in
-            IfOk result (λ met. IsMet (words_of segment.now) place nesting
-            self.old.walk.left self.new.walk.left self.old.next self.new.next met) }
-        ensures refused { let place : Place = record { segment = 0; word = word } in
-            IfErr result (λ error. Ends (words_of segment.now) (place ∷ []) nesting
-            self.old.walk.left self.old.next (refused error.kind)) }
+        ensures found { MeetsAt (words_of segment.now) word nesting self.old self.new result }
+        ensures refused { FailsAt (words_of segment.now) word nesting self.old result }
     {
         let place = Place { segment: 0, word };
-        let Some(object) = object_at(segments, place, nesting)? else {
+        let Some(object) = object_in(segments, segment, place, nesting)? else {
             return Ok(Met::Null);
         };
         self.enter(segment, pointer, word, &object)
@@ -208,14 +200,10 @@ impl CanonicalWalk {
         requires not_far { pointer_kind pointer ≢ 2 }
         requires object { let place : Place = record { segment = 0; word = word } in
             IsObject (words_of segment.now ∷ []) place object.now }
-        ensures found { let place : Place = record { segment = 0; word = word } in
-            (nesting : ℕ) → 0 < nesting →
-            IfOk result (λ met. IsMet (words_of segment.now) place nesting
-            self.old.walk.left self.new.walk.left self.old.next self.new.next met) }
-        ensures refused { let place : Place = record { segment = 0; word = word } in
-            (nesting : ℕ) → 0 < nesting →
-            IfErr result (λ error. Ends (words_of segment.now) (place ∷ []) nesting
-            self.old.walk.left self.old.next (refused error.kind)) }
+        ensures found { (nesting : ℕ) → 0 < nesting →
+            MeetsAt (words_of segment.now) word nesting self.old self.new result }
+        ensures refused { (nesting : ℕ) → 0 < nesting →
+            FailsAt (words_of segment.now) word nesting self.old result }
     {
         self.walk.pay(object.traversed)?;
         if !is_laid_out(segment, pointer, word, self.next, object) {

@@ -4,11 +4,11 @@ ghost use Rattle.capnp_wire.specs.Pointer.{words_of};
 ghost use Rattle.capnp_wire.specs.Object.{message_of};
 ghost use Rattle.capnp_wire.specs.Copy.{CanCopy, Copies};
 
-use crate::layout::begun::{StructCopy, begin, begin_struct, copy_list};
+use crate::layout::begun::{StructCopy, begin, begin_list, begin_struct, copy_list};
 use crate::layout::block::BlockItem;
 use crate::layout::copy_rows::{copy_pointers, copy_run};
-use crate::layout::near::{bare_pointer, near_list, near_struct};
-use crate::layout::place::Place;
+use crate::layout::near::{bare_pointer, has_short_way, near_list, near_pointers, near_struct};
+use crate::layout::place::{Place, word};
 use capnp_frame::message::ReaderSegments;
 
 /// The pointer word to a copy, and the first free word after it.
@@ -23,8 +23,6 @@ pub struct Copied {
 
 /// Copies the object that the pointer at a place leads to, with all below it, into a block from the
 /// word `next` on. The pointer to the copy stands just before the word `following`.
-#[inline(never)]
-#[cycle(copy)]
 pub(crate) fn copy<S: ReaderSegments, T: BlockItem>(
     segments: &S,
     place: Place,
@@ -42,26 +40,26 @@ pub(crate) fn copy<S: ReaderSegments, T: BlockItem>(
         (next - following) next (T.as_words block.old) (T.as_words block.new) result }
     ensures len { length (T.as_words block.new) ≡ length (T.as_words block.old) }
 {
-    let Some(begun) = begin(segments, place, nesting, canonical, block, following, next) else {
-        return Copied { pointer: 0, next };
-    };
-    let free = copy_pointers(
-        segments,
-        &begun.object,
-        begun.body,
-        nesting - 1,
-        canonical,
-        block,
-        next,
-    );
-    Copied {
-        pointer: begun.pointer,
-        next: free,
+    match segments.get_segment(place.segment) {
+        Some(found) => {
+            if let Some(pointer) = word(found, place.word)
+                && !has_short_way(pointer)
+            {
+                return copy_any(
+                    segments, found, place, nesting, canonical, block, following, next,
+                );
+            }
+            copy_target(
+                segments, found, place, nesting, canonical, block, following, next,
+            )
+        }
+        // A tree stands at the place, and so in a segment.
+        None => Copied { pointer: 0, next },
     }
 }
 
-// As `copy`, of one of the pointers in a segment. What most of them lead to needs no call. It stands in
-// its callers, since what it recurses by, `copy` and `copy_run`, are calls.
+// The same from a segment in hand. What most pointers lead to needs no call. It stands in its callers,
+// since what it recurses by, `copy_object` and `copy_run`, are calls.
 #[inline(always)]
 #[cycle(copy)]
 pub(crate) fn copy_target<S: ReaderSegments, T: BlockItem>(
@@ -108,15 +106,38 @@ pub(crate) fn copy_target<S: ReaderSegments, T: BlockItem>(
             next: free,
         };
     }
-    let Some(list) = near_list(segment, place, nesting) else {
-        return copy(segments, place, nesting, canonical, block, following, next);
+    if let Some(list) = near_list(segment, place, nesting) {
+        return copy_list(&list, block, following, next);
+    }
+    let Some(list) = near_pointers(segment, place, nesting) else {
+        return copy_object(
+            segments, segment, place, nesting, canonical, block, following, next,
+        );
     };
-    copy_list(&list, block, following, next)
+    let left = begin_list(&list, following, next);
+    let free = copy_run(
+        segments,
+        list.segment,
+        left.first,
+        left.count,
+        nesting - 1,
+        canonical,
+        block,
+        left.slot,
+        left.next,
+    );
+    Copied {
+        pointer: left.pointer,
+        next: free,
+    }
 }
 
-/// As `copy`, by the short ways from the first pointer on, where its segment is there.
-pub(crate) fn copy_from<S: ReaderSegments, T: BlockItem>(
+// The same whatever the pointer leads to, by a call.
+#[inline(never)]
+#[cycle(copy)]
+fn copy_object<S: ReaderSegments, T: BlockItem>(
     segments: &S,
+    segment: &[u8],
     place: Place,
     nesting: u32,
     canonical: bool,
@@ -126,16 +147,59 @@ pub(crate) fn copy_from<S: ReaderSegments, T: BlockItem>(
 ) -> Copied
     requires there { CanCopy (message_of (S.segments segments.now)) (place ∷ []) nesting canonical
         next (length (T.as_words block.old)) }
+    requires content { slice_get (message_of (S.segments segments.now)) place.segment
+        ≡ Some (words_of segment.now) }
     requires following { following ≤ next }
     requires small { length (T.as_words block.old) < 2 ^ 29 }
     ensures copied { Copies (message_of (S.segments segments.now)) place canonical
         (next - following) next (T.as_words block.old) (T.as_words block.new) result }
     ensures len { length (T.as_words block.new) ≡ length (T.as_words block.old) }
 {
-    if let Some(segment) = segments.get_segment(place.segment) {
-        return copy_target(
-            segments, segment, place, nesting, canonical, block, following, next,
-        );
+    copy_any(
+        segments, segment, place, nesting, canonical, block, following, next,
+    )
+}
+
+// The same where it stands.
+#[inline(always)]
+#[cycle(copy)]
+fn copy_any<S: ReaderSegments, T: BlockItem>(
+    segments: &S,
+    segment: &[u8],
+    place: Place,
+    nesting: u32,
+    canonical: bool,
+    block: &mut [T],
+    following: usize,
+    next: usize,
+) -> Copied
+    requires there { CanCopy (message_of (S.segments segments.now)) (place ∷ []) nesting canonical
+        next (length (T.as_words block.old)) }
+    requires content { slice_get (message_of (S.segments segments.now)) place.segment
+        ≡ Some (words_of segment.now) }
+    requires following { following ≤ next }
+    requires small { length (T.as_words block.old) < 2 ^ 29 }
+    ensures copied { Copies (message_of (S.segments segments.now)) place canonical
+        (next - following) next (T.as_words block.old) (T.as_words block.new) result }
+    ensures len { length (T.as_words block.new) ≡ length (T.as_words block.old) }
+{
+    let begun = begin(
+        segments, segment, place, nesting, canonical, block, following, next,
+    );
+    let Some(begun) = begun else {
+        return Copied { pointer: 0, next };
+    };
+    let free = copy_pointers(
+        segments,
+        &begun.object,
+        begun.body,
+        nesting - 1,
+        canonical,
+        block,
+        next,
+    );
+    Copied {
+        pointer: begun.pointer,
+        next: free,
     }
-    copy(segments, place, nesting, canonical, block, following, next)
 }

@@ -1,6 +1,7 @@
 //! Where pointers lead, by way of landing pads.
-ghost use Rattle.std.specs.Prelude.{◌≡◌, ◌+◌, ◌*◌, ◌/◌, ◌^◌, ◌<◌, ℕ, Some, None, IfOk, IfErr, MatchOption, MatchResult, false};
+ghost use Rattle.std.specs.Prelude.{◌≡◌, ◌+◌, ◌*◌, ◌/◌, ◌^◌, ◌<◌, ℕ, slice_get, Some, None, IfOk, IfErr, MatchOption, MatchResult, false};
 ghost use Rattle.capnp_frame.specs.declared.error.ErrorKind.{ErrorKind};
+ghost use Rattle.capnp_wire.specs.Pointer.{words_of};
 ghost use Rattle.capnp_wire.specs.PointerWord.{IsNear, IsFarPointer};
 ghost use Rattle.capnp_wire.specs.Object.{message_of, word_at};
 ghost use Rattle.capnp_wire.specs.Landing.{HasWideLandingPad, IsLanding, NotNear};
@@ -24,16 +25,21 @@ pub(crate) struct Landing<'a> {
     pub landing_pads: u64,
 }
 
-/// Where the pointer at a place leads; `None` for null.
+/// Where the pointer at a place of this segment leads; `None` for null.
 #[inline(always)]
-pub(crate) fn land<S: ReaderSegments>(segments: &S, place: Place) -> Result<Option<Landing<'_>>>
+pub(crate) fn land<'a, S: ReaderSegments>(
+    segments: &'a S,
+    segment: &'a [u8],
+    place: Place,
+) -> Result<Option<Landing<'a>>>
+    requires content { slice_get (message_of (S.segments segments.now)) place.segment
+        ≡ Some (words_of segment.now) }
     ensures found { let m = message_of (S.segments segments.now) in
         IfOk result (λ found. MatchOption found (word_at m place ≡ Some 0)
         (λ landing. IsLanding m place landing)) }
     ensures refused { IfErr result (λ error. (nesting : ℕ) →
         Fault (message_of (S.segments segments.now)) place nesting error.kind) }
 {
-    let segment = segment(segments, place.segment)?;
     let pointer = existing_word(segment, place.word)?;
     if pointer == 0 {
         return Ok(None);

@@ -1,10 +1,11 @@
-//! The short ways: to null, to a struct and to a list of numbers in the segment of their pointer.
-ghost use Rattle.std.specs.Prelude.{◌≡◌, ◌↔◌, ℕ, List, ◌+◌, ◌/◌, ◌^◌, ◌<◌, ◌≤◌, length, Some, slice_get, IfSome, IsTrue};
-ghost use Rattle.capnp_wire.specs.Pointer.{words_of};
+//! The short ways: to null, to a struct and to a list of numbers or pointers in the segment of their
+//! pointer.
+ghost use Rattle.std.specs.Prelude.{◌≡◌, ◌⊎◌, ◌↔◌, ℕ, List, ◌+◌, ◌/◌, ◌^◌, ◌<◌, ◌≤◌, length, Some, slice_get, IfSome, IsTrue};
+ghost use Rattle.capnp_wire.specs.Pointer.{words_of, pointer_kind, code};
 ghost use Rattle.capnp_wire.specs.Object.{places};
 ghost use Rattle.capnp_wire.specs.Landing.{IsObject};
 ghost use Rattle.capnp_wire.specs.Rows.{places_in};
-ghost use Rattle.capnp_wire.specs.Near.{AreNull, IsBare, object_of, near_struct_of};
+ghost use Rattle.capnp_wire.specs.Near.{AreNull, IsBare, object_of, near_struct_of, pointers_of};
 ghost use Rattle.capnp_wire.specs.Copy.{formed_body, IsNarrower};
 ghost use Rattle.capnp_wire.specs.declared.layout.object.Body.{Body};
 
@@ -15,11 +16,12 @@ use crate::layout::number_list::NumberList;
 use crate::layout::object::{Body, Object, fits, words_fit};
 use crate::layout::place::{Place, word};
 use crate::layout::pointer::{NearShape, PointerWord, StructSize};
+use crate::layout::pointer_run::PointerRun;
 use crate::layout::rows::PointerRows;
 
 // Most pointers of most messages are null, or lead to structs, or to lists of numbers, which hold no
-// pointers. So a walk over many of them asks here first, of the segment that it has in hand: it then
-// needs no call for a pointer, and nothing that tells all kinds of objects apart.
+// pointers, or of pointers. So a walk over many of them asks here first, of the segment that it has in
+// hand: it then needs no call for a pointer, and what it meets holds at most one run of pointers.
 
 // The pointer to a struct of no words, with the offset -1: the struct begins where its pointer does.
 const EMPTY_STRUCT: u64 = 0xffff_fffc;
@@ -39,9 +41,18 @@ pub(crate) fn bare_pointer(segment: &[u8], index: usize, nesting: u32) -> Option
     None
 }
 
+/// Whether a pointer is null, or of a kind to which there is a short way.
+#[inline(always)]
+pub(crate) fn has_short_way(pointer: u64) -> bool
+    ensures { IsTrue result ↔ ((pointer_kind pointer ≡ 0) ⊎ ((pointer_kind pointer ≡ 1)
+        × (code pointer < 7))) }
+{
+    pointer % 4 == 0 || (pointer % 4 == 1 && pointer / (1 << 32) % 8 < 7)
+}
+
 /// The list of numbers that the pointer at a place of this segment leads to without a landing pad,
 /// where it may be entered at this nesting depth left. `None` says nothing of what stands there:
-/// `object_at` does.
+/// `object_in` does.
 #[inline(always)]
 pub(crate) fn near_list(segment: &[u8], place: Place, nesting: u32) -> Option<NumberList<'_>>
     ensures { (m : List (List ℕ)) → slice_get m place.segment ≡ Some (words_of segment.now) →
@@ -105,6 +116,35 @@ pub(crate) fn near_struct(segment: &[u8], place: Place, nesting: u32) -> Option<
     })
 }
 
+/// The list of pointers that the pointer at a place of this segment leads to without a landing pad.
+#[inline(always)]
+pub(crate) fn near_pointers(segment: &[u8], place: Place, nesting: u32) -> Option<PointerRun<'_>>
+    ensures { (m : List (List ℕ)) → slice_get m place.segment ≡ Some (words_of segment.now) →
+        IfSome result (λ list. IsObject m place (pointers_of list) × (0 < nesting)) }
+{
+    let pointer = word(segment, place.word)?;
+    let PointerWord::Near(near) = PointerWord::read(pointer) else {
+        return None;
+    };
+    let NearShape::Pointers(count) = near.shape else {
+        return None;
+    };
+    let landing = land_near(segment, place, near, 0);
+    let start = landing.start?;
+    if nesting == 0 || !fits(segment, start, count as u64) {
+        return None;
+    }
+    words_fit(segment);
+    Some(PointerRun {
+        segment,
+        first: Place {
+            segment: place.segment,
+            word: start,
+        },
+        count,
+    })
+}
+
 /// A struct.
 #[derive(Drop)]
 pub(crate) struct NearStruct<'a> {
@@ -157,14 +197,19 @@ impl<'a> NearStruct<'a> {
 
     /// Its pointers.
     #[inline(always)]
-    pub(crate) fn pointers(&self) -> PointerRows
+    pub(crate) fn pointers(&self) -> PointerRun<'a>
         requires room { self.now.start.word + (self.now.size.data_words + self.now.size.pointers)
             ≤ length self.now.segment.now / 8 }
-        ensures places { places_in result ≡ places self.now.start.segment
-            (self.now.start.word + self.now.size.data_words) self.now.size.pointers }
-        ensures segment { result.next.segment ≡ self.now.start.segment }
+        ensures content { result.segment.now ≡ self.now.segment.now }
+        ensures word { result.first.word ≡ self.now.start.word + self.now.size.data_words }
+        ensures segment { result.first.segment ≡ self.now.start.segment }
+        ensures count { result.count ≡ self.now.size.pointers }
     {
-        PointerRows::run(self.first_pointer(), self.size.pointers as u32)
+        PointerRun {
+            segment: self.segment,
+            first: self.first_pointer(),
+            count: self.size.pointers as u32,
+        }
     }
 
     /// Whether its first pointers are null, a given number of them.
@@ -193,5 +238,17 @@ impl<'a> NumberList<'a> {
             body: Body::Numbers(self.size, self.count),
             traversed: self.traversed(),
         }
+    }
+}
+
+impl<'a> PointerRun<'a> {
+    /// These pointers, which a walk has yet to meet.
+    #[inline(always)]
+    pub(crate) fn rows(&self) -> PointerRows
+        ensures places { places_in result
+            ≡ places self.now.first.segment self.now.first.word self.now.count }
+        ensures segment { result.next.segment ≡ self.now.first.segment }
+    {
+        PointerRows::run(self.first, self.count)
     }
 }

@@ -1,6 +1,5 @@
-//! From a place to the object that its pointer leads to: the nesting depth left, bounds, and a
-//! list's tag.
-ghost use Rattle.std.specs.Prelude.{◌≡◌, ◌↔◌, ◌+◌, ◌/◌, ◌^◌, ◌<◌, ◌≤◌, ℕ, [], ◌∷◌, All, length, Some, None, IfOk, IfErr, MatchOption, MatchResult, IsTrue};
+//! From a place to the object its pointer leads to: nesting depth left, bounds, and a list's tag.
+ghost use Rattle.std.specs.Prelude.{◌≡◌, ◌↔◌, ◌+◌, ◌/◌, ◌^◌, ◌<◌, ◌≤◌, ℕ, [], ◌∷◌, All, length, slice_get, Some, None, IfOk, IfErr, MatchOption, MatchResult, IsTrue};
 ghost use Rattle.capnp_frame.specs.declared.error.ErrorKind.{ErrorKind};
 ghost use Rattle.capnp_wire.specs.Pointer.{words_of};
 ghost use Rattle.capnp_wire.specs.PointerWord.{IsNearShape};
@@ -16,7 +15,7 @@ ghost use Rattle.capnp_wire.specs.declared.layout.pointer.StructSize.{StructSize
 
 use crate::layout::element::ElementSize;
 use crate::layout::landing::land;
-use crate::layout::place::{Place, existing_word};
+use crate::layout::place::{Place, existing_word, segment};
 use crate::layout::pointer::{Elements, NearShape, StructSize};
 use crate::layout::rows::PointerRows;
 use capnp_frame::message::ReaderSegments;
@@ -57,7 +56,27 @@ pub(crate) fn object_at<S: ReaderSegments>(
     ensures refused { IfErr result (λ error.
         Fault (message_of (S.segments segments.now)) place nesting error.kind) }
 {
-    let Some(landing) = land(segments, place)? else {
+    let segment = segment(segments, place.segment)?;
+    object_in(segments, segment, place, nesting)
+}
+
+/// The same where the segment of the pointer is in hand.
+#[inline(always)]
+pub(crate) fn object_in<'a, S: ReaderSegments>(
+    segments: &'a S,
+    segment: &'a [u8],
+    place: Place,
+    nesting: u32,
+) -> Result<Option<Object<'a>>>
+    requires content { slice_get (message_of (S.segments segments.now)) place.segment
+        ≡ Some (words_of segment.now) }
+    ensures found { let m = message_of (S.segments segments.now) in
+        IfOk result (λ found. MatchOption found (word_at m place ≡ Some 0)
+        (λ object. IsObject m place object × (0 < nesting))) }
+    ensures refused { IfErr result (λ error.
+        Fault (message_of (S.segments segments.now)) place nesting error.kind) }
+{
+    let Some(landing) = land(segments, segment, place)? else {
         return Ok(None);
     };
     if nesting == 0 {
@@ -79,21 +98,25 @@ pub(crate) fn object_at<S: ReaderSegments>(
     }))
 }
 
-/// The object that the pointer at a place leads to, where a tree stands there; `None` for null.
+/// The object that the pointer at a place of this segment leads to, where a tree stands there; `None`
+/// for null.
 #[inline(always)]
-pub(crate) fn object_there<S: ReaderSegments>(
-    segments: &S,
+pub(crate) fn object_there<'a, S: ReaderSegments>(
+    segments: &'a S,
+    segment: &'a [u8],
     place: Place,
     nesting: u32,
-) -> Option<Object<'_>>
-    requires { (trees : Trees) × (traversed : ℕ)
+) -> Option<Object<'a>>
+    requires content { slice_get (message_of (S.segments segments.now)) place.segment
+        ≡ Some (words_of segment.now) }
+    requires tree { (trees : Trees) × (traversed : ℕ)
         × At (message_of (S.segments segments.now)) (place ∷ []) trees traversed
         × (depth trees ≤ nesting) }
     ensures { let m = message_of (S.segments segments.now) in
         MatchOption result (word_at m place ≡ Some 0)
         (λ object. IsObject m place object × (0 < nesting)) }
 {
-    match object_at(segments, place, nesting) {
+    match object_in(segments, segment, place, nesting) {
         Ok(found) => found,
         Err(_) => None,
     }

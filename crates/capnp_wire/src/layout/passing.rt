@@ -1,29 +1,35 @@
 //! What a walk meets at one pointer, and does not go below.
-ghost use Rattle.std.specs.Prelude.{◌+◌, ◌/◌, ◌<◌, ◌≤◌, Bool, ℕ, List, [], ◌∷◌, length, IfErr, IfOk, OnOk, MatchOption, IsTrue};
+ghost use Rattle.std.specs.Prelude.{◌≡◌, ◌+◌, ◌/◌, ◌<◌, ◌≤◌, Bool, ℕ, List, [], ◌∷◌, length, slice_get, Some, IfErr, IfOk, OnOk, MatchOption, IsTrue};
+ghost use Rattle.capnp_wire.specs.Pointer.{words_of};
 ghost use Rattle.capnp_wire.specs.Object.{message_of};
 ghost use Rattle.capnp_wire.specs.Landing.{IsObject};
-ghost use Rattle.capnp_wire.specs.Near.{object_of, near_struct_of};
+ghost use Rattle.capnp_wire.specs.Near.{object_of, near_struct_of, pointers_of};
 ghost use Rattle.capnp_wire.specs.Traversed.{counted, EntersObject, Walked};
 ghost use Rattle.capnp_wire.specs.Faults.{StopsWalk};
 
 use crate::layout::near::NearStruct;
 use crate::layout::number_list::NumberList;
-use crate::layout::object::{Object, object_at};
+use crate::layout::object::{Object, object_in};
 use crate::layout::place::Place;
+use crate::layout::pointer_run::PointerRun;
 use crate::layout::walk::Walk;
 use capnp_frame::Result;
 use capnp_frame::message::ReaderSegments;
 
 impl Walk {
-    /// Enters the object that the pointer at a place leads to, and nothing below it; `None` for null.
+    /// Enters the object that the pointer at a place of this segment leads to, and nothing below it;
+    /// `None` for null.
     #[inline(always)]
     pub(crate) fn meet<'a, S: ReaderSegments>(
         &mut self,
         segments: &'a S,
+        segment: &'a [u8],
         place: Place,
         nesting: u32,
         canonical: bool,
     ) -> Result<Option<Object<'a>>>
+        requires content { slice_get (message_of (S.segments segments.now)) place.segment
+            ≡ Some (words_of segment.now) }
         ensures found { let m = message_of (S.segments segments.now) in
             IfOk result (λ met. MatchOption met
             (Walked m canonical place nesting
@@ -33,7 +39,7 @@ impl Walk {
         ensures refused { let m = message_of (S.segments segments.now) in
             IfErr result (λ error. StopsWalk m (place ∷ []) nesting self.old.left error.kind) }
     {
-        let Some(object) = object_at(segments, place, nesting)? else {
+        let Some(object) = object_in(segments, segment, place, nesting)? else {
             return Ok(None);
         };
         self.enter(&object, canonical)?;
@@ -73,6 +79,23 @@ impl Walk {
     {
         self.pay(list.traversed())?;
         self.count(list.words());
+        Ok(())
+    }
+
+    /// Enters a list of pointers, and nothing below it.
+    #[inline(always)]
+    pub(crate) fn pass_pointers(&mut self, list: &PointerRun<'_>) -> Result<()>
+        ensures found { (m : List (List ℕ)) (canonical : Bool) (place : Place) (nesting : ℕ) →
+            IsObject m place (pointers_of list.now) → 0 < nesting →
+            OnOk result (EntersObject m canonical place (pointers_of list.now) nesting
+            self.old.left self.new.left (counted self.old) (counted self.new)) }
+        ensures refused { (m : List (List ℕ)) (place : Place) (nesting : ℕ) →
+            IsObject m place (pointers_of list.now) → 0 < nesting → IfErr result (λ error.
+            StopsWalk m (place ∷ []) nesting self.old.left error.kind) }
+    {
+        let words = list.count as u64;
+        self.pay(words)?;
+        self.count(words);
         Ok(())
     }
 }

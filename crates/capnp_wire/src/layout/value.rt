@@ -29,7 +29,7 @@ pub(crate) fn measure<S: ReaderSegments>(
         (λ error. UnmeasuredTree m place nesting limit canonical error.kind) }
 {
     let mut walk = Walk::new(limit);
-    walk.walk_from(segments, place, nesting, canonical)?;
+    walk.walk(segments, place, nesting, canonical)?;
     fitting(walk.words(), canonical)
 }
 

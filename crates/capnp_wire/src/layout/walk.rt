@@ -10,9 +10,10 @@ ghost use Rattle.capnp_wire.specs.Copy.{formed_body};
 ghost use Rattle.capnp_wire.specs.Rows.{places_in};
 
 use crate::layout::formed::formed_as;
-use crate::layout::near::{NearStruct, bare_pointer, near_list, near_struct};
+use crate::layout::near::{bare_pointer, has_short_way, near_list, near_pointers, near_struct};
 use crate::layout::object::{Object, words_fit};
-use crate::layout::place::Place;
+use crate::layout::place::{Place, segment, word};
+use crate::layout::pointer_run::PointerRun;
 use crate::layout::rows::PointerRows;
 use capnp_frame::message::ReaderSegments;
 use capnp_frame::{Error, ErrorKind, Result};
@@ -101,8 +102,7 @@ impl Walk {
 
     /// Enters the object that the pointer at a place leads to, where it may be entered at this
     /// nesting depth, and all below it, in preorder. It stops at the first refusal.
-    #[inline(never)]
-    #[cycle(walk)]
+    #[inline(always)]
     pub(crate) fn walk<S: ReaderSegments>(
         &mut self,
         segments: &S,
@@ -116,7 +116,51 @@ impl Walk {
         ensures refused { let m = message_of (S.segments segments.now) in
             IfErr result (λ error. StopsWalk m (place ∷ []) nesting self.old.left error.kind) }
     {
-        let Some(object) = self.meet(segments, place, nesting, canonical)? else {
+        let segment = segment(segments, place.segment)?;
+        if let Some(_) = bare_pointer(segment, place.word, nesting) {
+            return Ok(());
+        }
+        if let Some(list) = near_pointers(segment, place, nesting) {
+            self.pass_pointers(&list)?;
+            let below = nesting - 1;
+            return self.walk_run(
+                segments,
+                list.segment,
+                list.first,
+                list.count,
+                below,
+                canonical,
+            );
+        }
+        if let Some(pointer) = word(segment, place.word) {
+            words_fit(segment);
+            if has_short_way(pointer) {
+                return self.walk_run(segments, segment, place, 1, nesting, canonical);
+            }
+        }
+        self.walk_object(segments, segment, place, nesting, canonical)
+    }
+
+    // The same from a segment in hand, whatever the pointer leads to.
+    #[inline(never)]
+    #[cycle(walk)]
+    fn walk_object<S: ReaderSegments>(
+        &mut self,
+        segments: &S,
+        segment: &[u8],
+        place: Place,
+        nesting: u32,
+        canonical: bool,
+    ) -> Result<()>
+        requires content { slice_get (message_of (S.segments segments.now)) place.segment
+            ≡ Some (words_of segment.now) }
+        ensures found { let m = message_of (S.segments segments.now) in
+            OnOk result (Walked m canonical place nesting
+            self.old.left self.new.left (counted self.old) (counted self.new)) }
+        ensures refused { let m = message_of (S.segments segments.now) in
+            IfErr result (λ error. StopsWalk m (place ∷ []) nesting self.old.left error.kind) }
+    {
+        let Some(object) = self.meet(segments, segment, place, nesting, canonical)? else {
             return Ok(());
         };
         self.walk_pointers(
@@ -128,31 +172,8 @@ impl Walk {
         )
     }
 
-    /// As `walk`, by the short ways from the first pointer on, where its segment is there.
-    pub(crate) fn walk_from<S: ReaderSegments>(
-        &mut self,
-        segments: &S,
-        place: Place,
-        nesting: u32,
-        canonical: bool,
-    ) -> Result<()>
-        ensures found { let m = message_of (S.segments segments.now) in
-            OnOk result (Walked m canonical place nesting
-            self.old.left self.new.left (counted self.old) (counted self.new)) }
-        ensures refused { let m = message_of (S.segments segments.now) in
-            IfErr result (λ error. StopsWalk m (place ∷ []) nesting self.old.left error.kind) }
-    {
-        if let Some(segment) = segments.get_segment(place.segment) {
-            words_fit(segment);
-            if place.word < segment.len() / 8 {
-                return self.walk_run(segments, segment, place, 1, nesting, canonical);
-            }
-        }
-        self.walk(segments, place, nesting, canonical)
-    }
-
     /// Walks over all objects that these pointers lead to, which stand in this segment. It stands in
-    /// its callers, since what it recurses by, `walk` and `walk_run`, are calls.
+    /// its callers, since what it recurses by, `walk_object` and `walk_run`, are calls.
     #[inline(always)]
     #[cycle(walk)]
     pub(crate) fn walk_pointers<S: ReaderSegments>(
@@ -181,7 +202,7 @@ impl Walk {
             nesting,
             canonical,
         )? {
-            let mut below = parent.pointers();
+            let mut below = parent.rows();
             let inside = nesting - 1;
             'children: while let Some(child) = self.next_parent(
                 segments,
@@ -193,8 +214,8 @@ impl Walk {
                 self.walk_run(
                     segments,
                     child.segment,
-                    child.first_pointer(),
-                    child.size.pointers as u32,
+                    child.first,
+                    child.count,
                     inside - 1,
                     canonical,
                 )?;
@@ -203,7 +224,7 @@ impl Walk {
         Ok(())
     }
 
-    // The same up to a struct that holds others: that is entered alone, and returned.
+    // The same up to what holds one run of others: that is entered alone, and these are returned.
     #[inline(always)]
     #[cycle(walk)]
     fn next_parent<'a, S: ReaderSegments>(
@@ -213,7 +234,7 @@ impl Walk {
         pointers: &mut PointerRows,
         nesting: u32,
         canonical: bool,
-    ) -> Result<Option<NearStruct<'a>>>
+    ) -> Result<Option<PointerRun<'a>>>
         requires content { places_in pointers.old ≢ [] →
             slice_get (message_of (S.segments segments.now)) pointers.old.next.segment
             ≡ Some (words_of segment.now) }
@@ -221,8 +242,8 @@ impl Walk {
             IfOk result (λ met. MatchOption met
             (WalkedAll m canonical (places_in pointers.old) nesting
             self.old.left self.new.left (counted self.old) (counted self.new))
-            (λ parent. WalkedTo m canonical (places_in pointers.old) (places_in pointers.new)
-            parent nesting self.old.left self.new.left (counted self.old) (counted self.new)
+            (λ held. WalkedTo m canonical (places_in pointers.old) (places_in pointers.new)
+            held nesting self.old.left self.new.left (counted self.old) (counted self.new)
             × (pointers.new.next.segment ≡ pointers.old.next.segment))) }
         ensures refused { let m = message_of (S.segments segments.now) in
             IfErr result (λ error.
@@ -237,12 +258,12 @@ impl Walk {
             if let Some(found) = near_struct(segment, place, nesting) {
                 let alone = self.pass_struct(&found, canonical)?;
                 if !alone {
-                    return Ok(Some(found));
+                    return Ok(Some(found.pointers()));
                 }
             } else if let Some(list) = near_list(segment, place, nesting) {
                 self.pass_list(&list)?;
             } else {
-                self.walk(segments, place, nesting, canonical)?;
+                self.walk_object(segments, segment, place, nesting, canonical)?;
             }
         }
         Ok(None)

@@ -47,5 +47,15 @@ pub copy::copy_target-returns-in-Some-near_struct-clause-copied : goal.copy::cop
 copy::copy_target-returns-in-Some-near_struct-clause-copied g t c =
     (c.in-Begun.ensures.begun _ _ _ c.requires.there (c.in-Some-near_struct.ensures _ c.requires.content).0).begins.ends _ _ c.copy_run-free.ensures.copied
 
+pub copy::copy_target-returns-in-Some-near_list-clause-copied : goal.copy::copy_target-returns-in-Some-near_list-clause-copied
+copy::copy_target-returns-in-Some-near_list-clause-copied g t c = c.copy_list.ensures.copied _ _ _ _ c.requires.there (c.in-Some-near_list.ensures _ c.requires.content).0
+
+pub copy::copy_target-copy_run-free-requires-2 : goal.copy::copy_target-copy_run-free-requires-2
+copy::copy_target-copy_run-free-requires-2 g t c κs within =
+    let near = c.in-Some-near_pointers.ensures _ c.requires.content in
+    let b = c.begin_list-left.ensures _ _ _ c.args.canonical _ c.requires.there near.0 in
+    (omega (arith, near.1), (within.0, (within.1, (b.bound, (b.begins.there, (λ _. b.content, (b.before, c.requires.small)))))))
+
 pub copy::copy_target-returns-clause-copied : goal.copy::copy_target-returns-clause-copied
-copy::copy_target-returns-clause-copied g t c = c.copy_list.ensures.copied _ _ _ _ c.requires.there (c.in-Some-near_list.ensures _ c.requires.content).0
+copy::copy_target-returns-clause-copied g t c =
+    (c.begin_list-left.ensures _ _ _ c.args.canonical _ c.requires.there (c.in-Some-near_pointers.ensures _ c.requires.content).0).begins.ends _ _ c.copy_run-free-2.ensures.copied

@@ -2,52 +2,45 @@
 use Rattle.std.proofs.Common.{◌<◌, Some, sym, ◌∙◌, ap, subst, arith, lit≤}
 use Rattle.std.proofs.lemmas.Result.{err_from_is_err_and}
 use Rattle.capnp_wire.specs.Object.{message_of, near}
-use Rattle.capnp_wire.specs.Faults.{Fault, no_word, no_segment, past_segment, bad_landing_pad, capability}
-use Rattle.capnp_wire.proofs.words.MessageLemmas.{segment_stands, no_segment_stands, word_stands}
+use Rattle.capnp_wire.specs.Faults.{Fault, no_word, past_segment, bad_landing_pad, capability}
+use Rattle.capnp_wire.proofs.pointers.NearLemmas.{word_there}
 use Rattle.capnp_wire.proofs.pointers.LandingPadLemmas.{near_landing}
 use Rattle.capnp_wire.proofs.layout.landing.land.Goals as goal
 
-pub returns-in_err-segment-clause-refused : goal.returns-in_err-segment-clause-refused
-returns-in_err-segment-clause-refused g c =
-    let p = err_from_is_err_and c.from_residual.result c.from_residual.ensures.1 in
-    let m = message_of (g.S.ReaderSegments.segments c.args.segments.now) in
-    rw (p.1, p.2) (λ nesting. subst (Fault m c.args.place nesting) (sym c.in_err-segment.ensures.1)
-    (no_word (no_segment (no_segment_stands _ c.args.place.segment c.in_err-segment.ensures.0))))
-
 pub returns-in_err-pointer-clause-refused : goal.returns-in_err-pointer-clause-refused
 returns-in_err-pointer-clause-refused g c =
-    let p = err_from_is_err_and c.from_residual-in_err-pointer.result c.from_residual-in_err-pointer.ensures.1 in
+    let p = err_from_is_err_and c.from_residual.result c.from_residual.ensures.1 in
     let m = message_of (g.S.ReaderSegments.segments c.args.segments.now) in
     rw (p.1, p.2) (λ nesting. subst (Fault m c.args.place nesting) (sym c.in_err-pointer.ensures.1)
-    (no_word (past_segment (segment_stands _ c.args.place.segment _ c.in_ok-segment.ensures) c.in_err-pointer.ensures.0)))
+    (no_word (past_segment c.requires.content c.in_err-pointer.ensures.0)))
 
 pub returns-then-pointer-eq0-clause-found : goal.returns-then-pointer-eq0-clause-found
 returns-then-pointer-eq0-clause-found g c =
-    word_stands _ c.args.place _ 0 c.in_ok-segment.ensures (c.in_ok-pointer.ensures.0 ∙ ap Some c.if-pointer-eq0.true)
+    word_there _ c.args.place _ 0 c.requires.content (c.in_ok-pointer.ensures.0 ∙ ap Some c.if-pointer-eq0.true)
 
 pub returns-in_err-land_far-in-Far-clause-refused : goal.returns-in_err-land_far-in-Far-clause-refused
 returns-in_err-land_far-in-Far-clause-refused g c =
     let p = err_from_is_err_and c.from_residual-in_err-land_far-in-Far.result c.from_residual-in_err-land_far-in-Far.ensures.1 in
-    let word = word_stands _ c.args.place _ c.in_ok-pointer.pointer c.in_ok-segment.ensures c.in_ok-pointer.ensures.0 in
+    let word = word_there _ c.args.place _ c.in_ok-pointer.pointer c.requires.content c.in_ok-pointer.ensures.0 in
     rw (p.1, p.2) (λ nesting. bad_landing_pad word c.in-Far.ensures.far_kind (c.in_err-land_far-in-Far.ensures.refused c.in_ok-pointer.pointer c.in-Far.ensures))
 
 pub returns-in-Near-clause-found : goal.returns-in-Near-clause-found
 returns-in-Near-clause-found g c =
     let segments = g.S.ReaderSegments.segments c.args.segments.now in
-    let word = word_stands segments c.args.place _ c.in_ok-pointer.pointer c.in_ok-segment.ensures c.in_ok-pointer.ensures.0 in
+    let word = word_there _ c.args.place _ c.in_ok-pointer.pointer c.requires.content c.in_ok-pointer.ensures.0 in
     let positive : 0 < c.in_ok-pointer.pointer = omega arith in
     let landed = c.land_near.ensures in
     near_landing (message_of segments) c.args.place c.args.place c.in_ok-pointer.pointer 0 c.in-Near.near _ _
-    (near word positive c.in-Near.ensures.near_kind) (lit≤ tt) (segment_stands segments c.args.place.segment _ c.in_ok-segment.ensures) c.in-Near.ensures
+    (near word positive c.in-Near.ensures.near_kind) (lit≤ tt) c.requires.content c.in-Near.ensures
     (record { segment = landed.segment; number = landed.number; shape = landed.shape; landing_pads_are = landed.landing_pads; start = landed.start })
 
 pub returns-in_ok-land_far-in-Far-clause-found : goal.returns-in_ok-land_far-in-Far-clause-found
 returns-in_ok-land_far-in-Far-clause-found g c =
-    let word = word_stands _ c.args.place _ c.in_ok-pointer.pointer c.in_ok-segment.ensures c.in_ok-pointer.ensures.0 in
+    let word = word_there _ c.args.place _ c.in_ok-pointer.pointer c.requires.content c.in_ok-pointer.ensures.0 in
     c.in_ok-land_far-in-Far.ensures.found c.args.place c.in_ok-pointer.pointer word c.in-Far.ensures
 
 pub returns-in-Other-clause-refused : goal.returns-in-Other-clause-refused
 returns-in-Other-clause-refused g c = λ nesting.
     let m = message_of (g.S.ReaderSegments.segments c.args.segments.now) in
-    let word = word_stands _ c.args.place _ c.in_ok-pointer.pointer c.in_ok-segment.ensures c.in_ok-pointer.ensures.0 in
+    let word = word_there _ c.args.place _ c.in_ok-pointer.pointer c.requires.content c.in_ok-pointer.ensures.0 in
     subst (Fault m c.args.place nesting) (sym c.from_kind.ensures) (capability word c.in-Other.ensures)

@@ -5,4 +5,4 @@ use Rattle.capnp_wire.proofs.layout.object.object_there.Goals as goal
 
 pub returns-in-Err : goal.returns-in-Err
 returns-in-Err g c =
-    absurd (fault_no_tree (message_of (g.S.ReaderSegments.segments c.args.segments.now)) c.args.place c.args.nesting _ c.requires.0 c.requires.1 c.in-Err.ensures.refused c.requires.2 c.requires.3)
+    absurd (fault_no_tree (message_of (g.S.ReaderSegments.segments c.args.segments.now)) c.args.place c.args.nesting _ c.requires.tree.0 c.requires.tree.1 c.in-Err.ensures.refused c.requires.tree.2 c.requires.tree.3)

@@ -8,23 +8,23 @@ use Rattle.capnp_wire.proofs.any_pointer.reader.Reader.measure.Goals as goal
 pub returns-in_default-clause-returned : goal.returns-in_default-clause-returned
 returns-in_default-clause-returned g c = (measures_nothing (pointer_of g.S.ReaderSegments.segments c.args.self.now) c.in_default.is, refl)
 
-pub returns-in_err-walk_from-clause-returned : goal.returns-in_err-walk_from-clause-returned
-returns-in_err-walk_from-clause-returned g c =
+pub returns-in_err-walk-clause-returned : goal.returns-in_err-walk-clause-returned
+returns-in_err-walk-clause-returned g c =
     let p = err_from_is_err_and c.from_residual.result c.from_residual.ensures.1 in
     let pointer = pointer_of g.S.ReaderSegments.segments c.args.self.now in
-    let stops = rw (c.new-walk.ensures.left ∙ c.limit_in_words.ensures) at c.in_err-walk_from.ensures.refused in
+    let stops = rw (c.new-walk.ensures.left ∙ c.limit_in_words.ensures) at c.in_err-walk.ensures.refused in
     rw (p.1, p.2) (walk_stops pointer c.in-Some.place _ c.in-Some.is stops)
 
 pub returns-in-Some-words-clause-returned : goal.returns-in-Some-words-clause-returned
 returns-in-Some-words-clause-returned g c =
     let pointer = pointer_of g.S.ReaderSegments.segments c.args.self.now in
     let walked = walked_as pointer.message c.in-Some.place pointer.nesting _ pointer.limit _ _ (Some 0) _ (Some c.in-Some-words.word_count)
-    (c.new-walk.ensures.left ∙ c.limit_in_words.ensures) c.new-walk.ensures.words (sym c.in-Some-words.ensures) c.in_ok-walk_from.ensures.found in
+    (c.new-walk.ensures.left ∙ c.limit_in_words.ensures) c.new-walk.ensures.words (sym c.in-Some-words.ensures) c.in_ok-walk.ensures.found in
     (walk_measures pointer c.in-Some.place c.in-Some-words.word_count _ c.in-Some.is walked, refl)
 
 pub returns-in-None-clause-returned : goal.returns-in-None-clause-returned
 returns-in-None-clause-returned g c =
     let pointer = pointer_of g.S.ReaderSegments.segments c.args.self.now in
     let walked = walked_as pointer.message c.in-Some.place pointer.nesting _ pointer.limit _ _ (Some 0) _ None
-    (c.new-walk.ensures.left ∙ c.limit_in_words.ensures) c.new-walk.ensures.words (sym c.in-None.ensures) c.in_ok-walk_from.ensures.found in
+    (c.new-walk.ensures.left ∙ c.limit_in_words.ensures) c.new-walk.ensures.words (sym c.in-None.ensures) c.in_ok-walk.ensures.found in
     walk_overflows pointer c.in-Some.place _ c.from_kind.result.kind c.in-Some.is walked c.from_kind.ensures

@@ -1,30 +1,30 @@
 -- A walk meets an object, and then goes over its pointers.
-use Rattle.std.proofs.Common.{◌∙◌, arith}
+use Rattle.std.proofs.Common.{◌∙◌, refl, arith}
 use Rattle.capnp_wire.specs.Rows.{places_in}
 use Rattle.capnp_wire.specs.Traversed.{counted}
 use Rattle.capnp_wire.proofs.pointers.EmptyStructLemmas.{bare_walked}
 use Rattle.capnp_frame.proofs.AskLemmas.{passed_on}
-use Rattle.capnp_wire.proofs.walks.ParentLemmas.{struct_met, struct_stops, held_by, going_below}
+use Rattle.capnp_wire.proofs.walks.ParentLemmas.{parent_met, parent_stops, struct_holds, going_below}
 use Rattle.capnp_wire.proofs.walks.ProgressLemmas.{going_begins, going_there, going_on, going_done, progress_done, progress_stops, progress_stopped, entered, walk_goes_on, walk_stops}
 use Rattle.capnp_wire.proofs.layout.walk.Walk.+walk.Goals as goal
 
-pub walk-returns-in_err-object-clause-refused : goal.walk-returns-in_err-object-clause-refused
-walk-returns-in_err-object-clause-refused g t c = passed_on _ _ c.from_residual.ensures.1 c.in_err-object.ensures.refused
+pub walk_object-returns-in_err-object-clause-refused : goal.walk_object-returns-in_err-object-clause-refused
+walk_object-returns-in_err-object-clause-refused g t c = passed_on _ _ c.from_residual.ensures.1 c.in_err-object.ensures.refused
 
-pub walk-returns-in_default-clause-found : goal.walk-returns-in_default-clause-found
-walk-returns-in_default-clause-found g t c = rw c.in_default.is at c.in_ok-object.ensures.found
+pub walk_object-returns-in_default-clause-found : goal.walk_object-returns-in_default-clause-found
+walk_object-returns-in_default-clause-found g t c = rw c.in_default.is at c.in_ok-object.ensures.found
 
-pub walk-walk_pointers-requires : goal.walk-walk_pointers-requires
-walk-walk_pointers-requires g t c κs within =
+pub walk_object-walk_pointers-requires : goal.walk_object-walk_pointers-requires
+walk_object-walk_pointers-requires g t c κs within =
     let met = rw c.in-Some.is at c.in_ok-object.ensures.found in (omega (arith, met.deep), (within, λ some. rw c.pointers.ensures.segment met.there.content))
 
-pub walk-returns-clause-found : goal.walk-returns-clause-found
-walk-returns-clause-found g t c =
+pub walk_object-returns-clause-found : goal.walk_object-returns-clause-found
+walk_object-returns-clause-found g t c =
     walk_goes_on c.walk_pointers.new.self.left (counted c.walk_pointers.new.self) (places_in c.pointers.result) c.walk_pointers.result (entered (rw c.in-Some.is at c.in_ok-object.ensures.found))
     c.pointers.ensures.places c.walk_pointers.ensures.found
 
-pub walk-returns-clause-refused : goal.walk-returns-clause-refused
-walk-returns-clause-refused g t c =
+pub walk_object-returns-clause-refused : goal.walk_object-returns-clause-refused
+walk_object-returns-clause-refused g t c =
     walk_stops (places_in c.pointers.result) c.walk_pointers.result (entered (rw c.in-Some.is at c.in_ok-object.ensures.found)) c.pointers.ensures.places c.walk_pointers.ensures.refused
 
 pub walk_run-walk_pointers-requires : goal.walk_run-walk_pointers-requires
@@ -56,9 +56,13 @@ next_parent-returns-in_err-alone-clause-refused g t c =
 
 pub next_parent-returns-then-not-alone-clause-found : goal.next_parent-returns-then-not-alone-clause-found
 next_parent-returns-then-not-alone-clause-found g t c =
+    let p = c.pointers-then-not-alone.ensures in
     let takes = c.take-place.ensures in
-    let near = c.in-Some-near_struct.ensures _ (going_there c.pointers.invariant takes.taken takes.segment) in
-    (struct_met takes.taken.places_are c.pointers.invariant.progress (c.in_ok-alone.ensures.found _ _ _ near.0 near.1).0, takes.same_segment ∙ c.pointers.invariant.same_segment)
+    let near = c.in-Some-near_struct.ensures _ (going_there c.pointers.invariant takes.taken takes.segment) in (
+      parent_met takes.taken.places_are c.pointers.invariant.progress
+          (struct_holds c.in-Some-near_struct.found c.pointers-then-not-alone.result (c.in_ok-alone.ensures.found _ _ _ near.0 near.1).0 p.content p.word p.segment p.count),
+      takes.same_segment ∙ c.pointers.invariant.same_segment,
+    )
 
 pub next_parent-pointers-preserved-else-not-alone : goal.next_parent-pointers-preserved-else-not-alone
 next_parent-pointers-preserved-else-not-alone g t c =
@@ -78,15 +82,15 @@ next_parent-pointers-preserved-in-Continue-branch-2 g t c =
     let near = c.in-Some-near_list.ensures _ (going_there c.pointers.invariant takes.taken takes.segment) in
     going_on c.pointers.invariant takes.taken takes.same_segment (c.in_ok-pass_list.ensures.found _ _ _ _ near.0 near.1)
 
-pub next_parent-walk-requires : goal.next_parent-walk-requires
-next_parent-walk-requires g t c κs within = (omega arith, within)
+pub next_parent-walk_object-requires : goal.next_parent-walk_object-requires
+next_parent-walk_object-requires g t c κs within = (omega arith, (within, going_there c.pointers.invariant c.take-place.ensures.taken c.take-place.ensures.segment))
 
 pub next_parent-pointers-preserved : goal.next_parent-pointers-preserved
-next_parent-pointers-preserved g t c = going_on c.pointers.invariant c.take-place.ensures.taken c.take-place.ensures.same_segment c.in_ok-walk.ensures.found
+next_parent-pointers-preserved g t c = going_on c.pointers.invariant c.take-place.ensures.taken c.take-place.ensures.same_segment c.in_ok-walk_object.ensures.found
 
-pub next_parent-returns-in_err-walk-clause-refused : goal.next_parent-returns-in_err-walk-clause-refused
-next_parent-returns-in_err-walk-clause-refused g t c =
-    passed_on _ _ c.from_residual-in_err-walk.ensures.1 (progress_stops c.take-place.ensures.taken.places_are c.pointers.invariant.progress c.in_err-walk.ensures.refused)
+pub next_parent-returns-in_err-walk_object-clause-refused : goal.next_parent-returns-in_err-walk_object-clause-refused
+next_parent-returns-in_err-walk_object-clause-refused g t c =
+    passed_on _ _ c.from_residual-in_err-walk_object.ensures.1 (progress_stops c.take-place.ensures.taken.places_are c.pointers.invariant.progress c.in_err-walk_object.ensures.refused)
 
 pub walk_pointers-parents-init : goal.walk_pointers-parents-init
 walk_pointers-parents-init g t c = going_begins c.requires.content
@@ -99,28 +103,27 @@ walk_pointers-returns-in_err-parent-clause-refused g t c = passed_on _ _ c.from_
 
 pub walk_pointers-children-init : goal.walk_pointers-children-init
 walk_pointers-children-init g t c =
-    let parent = rw c.in-Some.is at c.in_ok-parent.ensures.found in going_begins (λ some. rw c.pointers-below.ensures.segment parent.0.enters.there.content)
+    let parent = rw c.in-Some.is at c.in_ok-parent.ensures.found in going_begins (λ some. rw c.rows-below.ensures.segment parent.0.enters.content)
 
 pub walk_pointers-returns-in_err-child-clause-refused : goal.walk_pointers-returns-in_err-child-clause-refused
 walk_pointers-returns-in_err-child-clause-refused g t c =
     let parent = rw c.in-Some.is at c.in_ok-parent.ensures.found in
     passed_on _ _ c.from_residual-in_err-child.ensures.1
-    (struct_stops c.parents.invariant.progress parent.0 c.pointers-below.ensures.places (progress_stopped c.children.invariant.progress c.in_err-child.ensures.refused))
+    (parent_stops c.parents.invariant.progress parent.0 c.rows-below.ensures.places (progress_stopped c.children.invariant.progress c.in_err-child.ensures.refused))
 
 pub walk_pointers-children-preserved : goal.walk_pointers-children-preserved
 walk_pointers-children-preserved g t c =
     let child = rw c.in-Some-2.is at c.in_ok-child.ensures.found in
-    going_below c.children.invariant child.0 child.1 (held_by c.in-Some-2.child c.first_pointer.ensures.word c.first_pointer.ensures.segment) c.in_ok-walk_run.ensures.found
+    going_below c.children.invariant child.0 child.1 refl c.in_ok-walk_run.ensures.found
 
 pub walk_pointers-returns-in_err-walk_run-clause-refused : goal.walk_pointers-returns-in_err-walk_run-clause-refused
 walk_pointers-returns-in_err-walk_run-clause-refused g t c =
     let parent = rw c.in-Some.is at c.in_ok-parent.ensures.found in
     let child = rw c.in-Some-2.is at c.in_ok-child.ensures.found in
-    let held = held_by c.in-Some-2.child c.first_pointer.ensures.word c.first_pointer.ensures.segment in
     passed_on _ _ c.from_residual-in_err-walk_run.ensures.1
-    (struct_stops c.parents.invariant.progress parent.0 c.pointers-below.ensures.places (struct_stops c.children.invariant.progress child.0 held c.in_err-walk_run.ensures.refused))
+    (parent_stops c.parents.invariant.progress parent.0 c.rows-below.ensures.places (parent_stops c.children.invariant.progress child.0 refl c.in_err-walk_run.ensures.refused))
 
 pub walk_pointers-parents-preserved : goal.walk_pointers-parents-preserved
 walk_pointers-parents-preserved g t c =
     let parent = rw c.in-Some.is at c.in_ok-parent.ensures.found in
-    going_below c.parents.invariant parent.0 parent.1 c.pointers-below.ensures.places (going_done c.children.invariant (rw c.in_default-2.is at c.in_ok-child.ensures.found))
+    going_below c.parents.invariant parent.0 parent.1 c.rows-below.ensures.places (going_done c.children.invariant (rw c.in_default-2.is at c.in_ok-child.ensures.found))

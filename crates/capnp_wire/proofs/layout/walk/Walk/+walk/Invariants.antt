@@ -7,8 +7,8 @@ use Rattle.capnp_wire.specs.Traversed.{counted}
 use Rattle.capnp_wire.proofs.walks.ProgressLemmas.{Going}
 use Rattle.capnp_wire.proofs.layout.walk.Walk.+walk.Given as goal
 
-abbrev pub decreases-walk : goal.decreases-walk
-decreases-walk g l = 4 * l.nesting
+abbrev pub decreases-walk_object : goal.decreases-walk_object
+decreases-walk_object g l = 4 * l.nesting
 
 abbrev pub decreases-walk_run : goal.decreases-walk_run
 decreases-walk_run g l = 4 * l.nesting + 3

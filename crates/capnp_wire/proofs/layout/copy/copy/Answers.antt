@@ -1,0 +1,17 @@
+-- The pointer stands in a segment, since a tree stands at its place.
+use Rattle.std.proofs.Common.{sym}
+use Rattle.capnp_wire.specs.Faults.{no_word, no_segment}
+use Rattle.capnp_wire.proofs.words.MessageLemmas.{segment_stands, no_segment_stands}
+use Rattle.capnp_wire.proofs.layouts.CopiedLemmas.{fault_no_tree}
+use Rattle.capnp_wire.proofs.layout.copy.copy.Goals as goal
+
+pub copy_target-requires-clause-content : goal.copy_target-requires-clause-content
+copy_target-requires-clause-content g c = segment_stands _ c.args.place.segment _ (sym c.in-Some.ensures)
+
+pub copy_any-requires-clause-content : goal.copy_any-requires-clause-content
+copy_any-requires-clause-content g c = segment_stands _ c.args.place.segment _ (sym c.in-Some.ensures)
+
+pub returns-in-None-clause-copied : goal.returns-in-None-clause-copied
+returns-in-None-clause-copied g c =
+    let can = c.requires.there in
+    absurd (fault_no_tree _ c.args.place c.args.nesting _ can.trees can.traversed (no_word (no_segment (no_segment_stands _ c.args.place.segment (sym c.in-None.ensures)))) can.stand can.shallow)
