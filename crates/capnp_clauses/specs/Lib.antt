@@ -1,2 +1,0 @@
--- What the clauses say.
-pub mod Refusing
