@@ -18,17 +18,13 @@ mod landing;
 mod listing;
 mod markup;
 mod messages;
+#[cfg(test)]
+mod node_tests;
 mod numbers;
 mod owners;
 #[cfg(test)]
 mod page_tests;
 mod progress;
-#[cfg(test)]
-mod pushed_drawing_tests;
-#[cfg(test)]
-mod pushed_node_tests;
-#[cfg(test)]
-mod pushed_tests;
 mod refusals;
 mod runs;
 mod settings;
@@ -38,6 +34,8 @@ mod style;
 #[cfg(test)]
 mod tests;
 mod text;
+#[cfg(test)]
+mod threshold_tests;
 mod tree;
 mod words;
 
