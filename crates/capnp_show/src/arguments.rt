@@ -36,88 +36,100 @@ fn read<'a>(alloc: Global, command: Command<'a>) -> Result<Command<'a>, AllocErr
         .action(ArgAction::Append)
         .num_args(0..)
         .help("Files to read; standard input where none is named, and for -");
-    let packed = flag(alloc, "packed", "The messages are packed");
-    let detect = flag(
+    let command = command.arg(files)?;
+    let command = with_flag(alloc, command, "packed", "The messages are packed")?;
+    command.arg(detect(alloc)?)
+}
+
+// The flag that asks for the format that the first bytes tell.
+fn detect<'a>(alloc: Global) -> Result<Arg<'a>, AllocError> {
+    flag(
         alloc,
         "detect",
         "Tell by the first bytes whether they are packed",
     )
-    .conflicts_with("packed")?;
-    command.arg(files)?.arg(packed)?.arg(detect)
+    .conflicts_with("packed")
 }
 
 // In which form it is shown.
 fn formed<'a>(alloc: Global, command: Command<'a>) -> Result<Command<'a>, AllocError> {
-    let hash = flag(alloc, "hash", "Show the SHA-256 of each canonical form");
-    let tree = flag(alloc, "tree", "Show the objects of each message");
-    let json = flag(
-        alloc,
-        "json",
-        "Show each message as a JSON object, on a line",
-    );
-    let count = flag(alloc, "count", "Show the number of messages alone");
-    let html = flag(
+    let hash = "Show the SHA-256 of each canonical form";
+    let command = with_flag(alloc, command, "hash", hash)?;
+    let tree = "Show the objects of each message";
+    let command = with_flag(alloc, command, "tree", tree)?;
+    let json = "Show each message as a JSON object, on a line";
+    let command = with_flag(alloc, command, "json", json)?;
+    let count = "Show the number of messages alone";
+    let command = with_flag(alloc, command, "count", count)?;
+    command.arg(html(alloc)?)
+}
+
+// The flag that asks for a page.
+fn html<'a>(alloc: Global) -> Result<Arg<'a>, AllocError> {
+    flag(
         alloc,
         "html",
         "Draw the messages, as a page that stands alone",
     )
     .conflicts_with("tree")?
     .conflicts_with("json")?
-    .conflicts_with("count")?;
-    command
-        .arg(hash)?
-        .arg(tree)?
-        .arg(json)?
-        .arg(count)?
-        .arg(html)
+    .conflicts_with("count")
 }
 
 // How much of it.
 fn limited<'a>(alloc: Global, command: Command<'a>) -> Result<Command<'a>, AllocError> {
-    let first = number(
-        alloc,
-        "first",
-        u64::MAX,
-        "Stop after N messages of each file",
-    );
-    let words = number(
-        alloc,
-        "words",
-        u64::MAX,
-        "Refuse messages of more words [default: 8388608]",
-    );
-    let nesting = number(
-        alloc,
-        "nesting",
-        i32::MAX as u64,
-        "Follow pointers so deep [default: 64]",
-    );
-    let progress = flag(
-        alloc,
-        "progress",
-        "Tell how far the reading is, after each 64 MB",
-    );
-    command.arg(first)?.arg(words)?.arg(nesting)?.arg(progress)
+    let first = "Stop after N messages of each file";
+    let command = with_number(alloc, command, "first", u64::MAX, first)?;
+    let words = "Refuse messages of more words [default: 8388608]";
+    let command = with_number(alloc, command, "words", u64::MAX, words)?;
+    let nesting = "Follow pointers so deep [default: 64]";
+    let command = with_number(alloc, command, "nesting", i32::MAX as u64, nesting)?;
+    let progress = "Tell how far the reading is, after each 64 MB";
+    with_flag(alloc, command, "progress", progress)
+}
+
+// The command with one flag more. A command is handed on at once, since each `?` drops the arguments
+// that are made and not yet its own.
+fn with_flag<'a>(
+    alloc: Global,
+    command: Command<'a>,
+    name: &'a str,
+    help: &'a str,
+) -> Result<Command<'a>, AllocError> {
+    command.arg(flag(alloc, name, help))
+}
+
+// The command with one number more.
+fn with_number<'a>(
+    alloc: Global,
+    command: Command<'a>,
+    name: &'a str,
+    most: u64,
+    help: &'a str,
+) -> Result<Command<'a>, AllocError> {
+    command.arg(number(alloc, name, most, help))
 }
 
 fn flag<'a>(alloc: Global, name: &'a str, help: &'a str) -> Arg<'a>
     ensures names { (result.id ≡ name.entry) × (result.long ≡ Some name.entry) }
     ensures action { result.action ≡ Some ArgAction.SetTrue }
 {
-    Arg::new(alloc, name)
-        .long(name)
-        .action(ArgAction::SetTrue)
-        .help(help)
+    named(alloc, name, help).action(ArgAction::SetTrue)
 }
 
 fn number<'a>(alloc: Global, name: &'a str, most: u64, help: &'a str) -> Arg<'a>
     ensures { (result.id ≡ name.entry) × (result.long ≡ Some name.entry) }
 {
-    Arg::new(alloc, name)
-        .long(name)
+    named(alloc, name, help)
         .value_name("N")
         .value_parser(ValueParser::unsigned(0, most))
-        .help(help)
+}
+
+// An argument that has its name as a long flag.
+fn named<'a>(alloc: Global, name: &'a str, help: &'a str) -> Arg<'a>
+    ensures { (result.id ≡ name.entry) × (result.long ≡ Some name.entry) }
+{
+    Arg::new(alloc, name).long(name).help(help)
 }
 
 /// What the words ask for.

@@ -79,15 +79,28 @@ fn show_arrows<W: Write>(
     grid.push_front(text)?;
     let mut segment: u32 = 0;
     for words in owners.segments() {
-        let mut place = Place { segment, word: 0 };
-        for word in words {
-            grid.push_arrow(text, owners, place, word)?;
-            place = place.moved(1);
-            write_full(text, sink)?;
-        }
+        show_arrows_from(&grid, owners, segment, words.as_slice(), text, sink)?;
         segment = segment.saturating_add(1);
     }
     text.push_str("</svg>\n")?;
+    Ok(())
+}
+
+// Shows the arrows of a drawing that begin at the words of a segment.
+fn show_arrows_from<W: Write>(
+    grid: &Grid,
+    owners: &Owners,
+    segment: u32,
+    words: &[Word],
+    text: &mut String,
+    sink: &mut W,
+) -> Result<()> {
+    let mut place = Place { segment, word: 0 };
+    for word in words {
+        grid.push_arrow(text, owners, place, word)?;
+        place = place.moved(1);
+        write_full(text, sink)?;
+    }
     Ok(())
 }
 

@@ -7,13 +7,13 @@ use crate::progress::Progress;
 use crate::refusals::{Stop, detected_line, refused_line, unopened_line};
 use crate::settings::{Form, Reading, Settings};
 use crate::shown::Showing;
-use capnp::Result;
 use capnp::devices::Input;
 use capnp::io::{BufRead, Write};
 use capnp::streams::Format;
-use std::fs;
+use capnp::{Error, Result};
 use std::fs::File;
 use std::io::{IsTerminal, Read};
+use std::{fs, io};
 
 /// Shows the messages of the files of these names, or of standard input where none is named.
 ///
@@ -68,26 +68,50 @@ fn show_each<W: Write>(
 
 // Shows the messages of one file, or of standard input where its name is `-`.
 fn show_file<W: Write>(rt: HostRuntime, showing: Showing<'_>, sink: &mut W) -> Result<bool> {
-    let mut showing = showing;
-    let name = showing.name;
-    if name == "-" {
-        showing.name = "standard input";
-        show_name(rt, showing, sink)?;
-        let progress = Progress::new(showing.settings.has_progress, None);
-        return show_device(rt, showing, progress, rt.stdin(), sink);
+    if showing.name == "-" {
+        return show_standard_input(rt, showing, sink);
     }
     show_name(rt, showing, sink)?;
-    match fs::open(&rt, name) {
-        Ok(file) => {
-            let progress = progress_of(rt, showing.settings, &file);
-            show_device(rt, showing, progress, file, sink)
-        }
+    match fs::open(&rt, showing.name) {
+        Ok(file) => show_opened(rt, showing, file, sink),
         Err(error) => {
-            let line = unopened_line(rt.alloc(), name, &error)?;
-            let _ = eprint!(rt; "{line}");
+            say_unopened(rt, showing.name, &error)?;
             Ok(false)
         }
     }
+}
+
+// Shows the messages of standard input.
+fn show_standard_input<W: Write>(
+    rt: HostRuntime,
+    showing: Showing<'_>,
+    sink: &mut W,
+) -> Result<bool> {
+    let showing = Showing {
+        name: "standard input",
+        ..showing
+    };
+    show_name(rt, showing, sink)?;
+    let progress = Progress::new(showing.settings.has_progress, None);
+    show_device(rt, showing, progress, rt.stdin(), sink)
+}
+
+// Shows the messages of a file that is open.
+fn show_opened<W: Write>(
+    rt: HostRuntime,
+    showing: Showing<'_>,
+    file: File,
+    sink: &mut W,
+) -> Result<bool> {
+    let progress = progress_of(rt, showing.settings, &file);
+    show_device(rt, showing, progress, file, sink)
+}
+
+// Says on standard error that a file can't be opened.
+fn say_unopened(rt: HostRuntime, name: &str, error: &io::Error) -> Result<()> {
+    let line = unopened_line(rt.alloc(), name, error)?;
+    let _ = eprint!(rt; "{line}");
+    Ok(())
 }
 
 // Shows the name of an input where a page is shown.
@@ -118,14 +142,12 @@ fn show_device<D: Read + Drop, W: Write>(
     device: D,
     sink: &mut W,
 ) -> Result<bool> {
-    let alloc = rt.alloc();
-    let mut showing = showing;
-    match showing.settings.reading {
-        Reading::Framed => {}
-        Reading::Packed => showing.format = Format::Packed,
+    let format = match showing.settings.reading {
+        Reading::Framed => Format::Framed,
+        Reading::Packed => Format::Packed,
         Reading::Detected => return show_detected(rt, showing, progress, device, sink),
-    }
-    show_source(rt, showing, progress, Input::new(alloc, device)?, sink)
+    };
+    show_input(rt, Showing { format, ..showing }, progress, device, sink)
 }
 
 // Shows the messages of a device, in the format that its first bytes tell, and says which.
@@ -136,19 +158,35 @@ fn show_detected<D: Read + Drop, W: Write>(
     device: D,
     sink: &mut W,
 ) -> Result<bool> {
-    let alloc = rt.alloc();
-    let mut showing = showing;
     let mut device = device;
-    let mut front = Vec::new(alloc);
-    showing.format = detect(&mut device, &mut front, showing.settings.limits)?;
-    let seen = match showing.format {
+    let mut front = Vec::new(rt.alloc());
+    let format = detect(&mut device, &mut front, showing.settings.limits)?;
+    say_detected(rt, showing.name, format)?;
+    let whole = front.as_slice().chain(device);
+    show_input(rt, Showing { format, ..showing }, progress, whole, sink)
+}
+
+// Says on standard error in which format an input is read.
+fn say_detected(rt: HostRuntime, name: &str, format: Format) -> Result<()> {
+    let seen = match format {
         Format::Framed => "framed",
         Format::Packed => "packed",
     };
-    let line = detected_line(alloc, showing.name, seen)?;
+    let line = detected_line(rt.alloc(), name, seen)?;
     let _ = eprint!(rt; "{line}");
-    let whole = front.as_slice().chain(device);
-    show_source(rt, showing, progress, Input::new(alloc, whole)?, sink)
+    Ok(())
+}
+
+// Shows the messages of a device, in a format that is known.
+fn show_input<D: Read + Drop, W: Write>(
+    rt: HostRuntime,
+    showing: Showing<'_>,
+    progress: Progress,
+    device: D,
+    sink: &mut W,
+) -> Result<bool> {
+    let source = Input::new(rt.alloc(), device)?;
+    show_source(rt, showing, progress, source, sink)
 }
 
 // Shows the messages of a source, and says where it stops.
@@ -170,10 +208,16 @@ fn show_source<R: BufRead + Drop, W: Write>(
                 error,
             },
         ) => {
-            let line = refused_line(rt.alloc(), showing.name, index, offset, &error)?;
-            let _ = eprint!(rt; "{line}");
+            say_refused(rt, showing.name, index, offset, &error)?;
             Ok(false)
         }
         Err(Stop::Unwritten(error)) => Err(error),
     }
+}
+
+// Says on standard error which message is refused, and why.
+fn say_refused(rt: HostRuntime, name: &str, index: u64, offset: u64, error: &Error) -> Result<()> {
+    let line = refused_line(rt.alloc(), name, index, offset, error)?;
+    let _ = eprint!(rt; "{line}");
+    Ok(())
 }
