@@ -1,217 +1,195 @@
 //! Chunks that are packed by themselves.
+use crate::assertions::{
+    At, assert_bytes, assert_calls, assert_count, assert_holds, assert_refused,
+};
+use crate::chunk_rows::{PACKED, Packed};
+use crate::packing::{pack, unpack, unpack_some};
 use crate::retried;
 use crate::sinks::FaultySink;
 use crate::sources::{Faulty, Trickle};
-use capnp_frame::io::{BufRead, Read, Write};
 use capnp_frame::{ErrorKind, Result};
-use capnp_pack::{PackedRead, PackedWrite};
 use std::process::Abort;
 
-// Chunks, and their packed texts after one another.
-#[rattlefmt::skip]
-const CHUNKS: [(&[&[u8]], &[u8]); 18] = [
-    (&[], &[]),
-    // Row packer.
-    (&[&[]], &[]),
-    (&[&[0; 8]], &[0, 0]),
-    (&[&[0; 2064]], &[0, 255, 0, 1]),
-    (&[&[0, 0, 12, 0, 0, 34, 0, 0]], &[0x24, 12, 34]),
-    (&[&[1, 3, 2, 4, 5, 7, 6, 8, 8, 6, 7, 4, 5, 2, 3, 1]],
-     &[0xff, 1, 3, 2, 4, 5, 7, 6, 8, 1, 8, 6, 7, 4, 5, 2, 3, 1]),
-    (&[&[8, 0, 100, 6, 0, 1, 1, 2, 0, 0, 0, 0, 0, 0, 0, 0, 0, 0, 0, 0, 0, 0, 0, 0,
-         0, 0, 0, 0, 0, 0, 0, 0, 0, 0, 1, 0, 2, 0, 3, 1]],
-     &[0xed, 8, 100, 6, 1, 1, 2, 0, 2, 0xd4, 1, 2, 3, 1]),
-    // Row literal-runs, and a run of one word thrice.
-    (&[&[1, 2, 3, 4, 5, 6, 7, 8, 1, 2, 3, 4, 5, 6, 7, 8, 6, 2, 4, 3, 9, 0, 5, 1,
-         1, 2, 3, 4, 5, 6, 7, 8, 0, 2, 4, 0, 9, 0, 5, 1]],
-     &[0xff, 1, 2, 3, 4, 5, 6, 7, 8, 3, 1, 2, 3, 4, 5, 6, 7, 8, 6, 2, 4, 3, 9, 0, 5, 1,
-       1, 2, 3, 4, 5, 6, 7, 8, 0xd6, 2, 4, 9, 5, 1]),
-    (&[&[1, 2, 3, 4, 5, 6, 7, 8, 1, 2, 3, 4, 5, 6, 7, 8, 1, 2, 3, 4, 5, 6, 7, 8,
-         1, 2, 3, 4, 5, 6, 7, 8, 0, 2, 4, 0, 9, 0, 5, 1]],
-     &[0xff, 1, 2, 3, 4, 5, 6, 7, 8, 3, 1, 2, 3, 4, 5, 6, 7, 8, 1, 2, 3, 4, 5, 6, 7, 8,
-       1, 2, 3, 4, 5, 6, 7, 8, 0xd6, 2, 4, 9, 5, 1]),
-    (&[&[1, 3, 2, 4, 5, 7, 6, 8]], &[0xff, 1, 3, 2, 4, 5, 7, 6, 8, 0]),
-    (&[&[0, 0, 0, 0, 0, 0, 0, 0, 1, 3, 2, 4, 5, 7, 6, 8]],
-     &[0, 0, 0xff, 1, 3, 2, 4, 5, 7, 6, 8, 0]),
-    (&[&[0, 0, 12, 0, 0, 34, 0, 0, 1, 3, 2, 4, 5, 7, 6, 8]],
-     &[0x24, 12, 34, 0xff, 1, 3, 2, 4, 5, 7, 6, 8, 0]),
-    // No run goes from a chunk into the next.
-    (&[&[0; 8], &[0; 8]], &[0, 0, 0, 0]),
-    (&[&[0; 16], &[], &[0; 2064]], &[0, 1, 0, 255, 0, 1]),
-    (&[&[1, 2, 3, 4, 5, 6, 7, 8], &[1, 2, 3, 4, 5, 6, 7, 8]],
-     &[0xff, 1, 2, 3, 4, 5, 6, 7, 8, 0, 0xff, 1, 2, 3, 4, 5, 6, 7, 8, 0]),
-    (&[&[0, 0, 12, 0, 0, 34, 0, 0], &[0; 24]], &[0x24, 12, 34, 0, 2]),
-    (&[&[0; 24], &[0, 0, 12, 0, 0, 34, 0, 0]], &[0, 2, 0x24, 12, 34]),
-    // A literal run ends before a word with two zero bytes: three words of 27 bytes.
-    (&[&[1, 2, 3, 4, 5, 6, 7, 8, 1, 2, 3, 4, 5, 6, 0, 0, 1, 2, 3, 4, 5, 6, 7, 8]],
-     &[0xff, 1, 2, 3, 4, 5, 6, 7, 8, 0, 0x3f, 1, 2, 3, 4, 5, 6, 0xff, 1, 2, 3, 4, 5, 6, 7, 8, 0]),
-];
-
+// The text of each row's chunks where this packer writes it, and the chunks of its text.
 #[test]
 fn chunks_after_one_another(rt: HostRuntime) -> Result<()> {
-    for (chunks, text) in CHUNKS {
-        retried!(pack_each(&rt, chunks, text))?;
-        for most in 1..=24 {
-            retried!(unpack_each(&rt, chunks, text, most))?;
-        }
+    for row in &PACKED {
+        retried!(pack_row(&rt, row))?;
+        unpack_each(&rt, row)?;
     }
     Ok(())
 }
 
-fn pack_each(rt: &(impl Abort + AllocGlobal), chunks: &[&[u8]], text: &[u8]) -> Result<()> {
-    let mut sink: Vec<u8> = Vec::new(rt.alloc());
-    let mut packed = PackedWrite::new(&mut sink);
-    for chunk in chunks {
-        packed.write_all(*chunk)?;
+fn pack_row(rt: &(impl Abort + AllocGlobal), row: &Packed) -> Result<()> {
+    if !row.is_written {
+        return Ok(());
     }
-    assert_eq!(rt; sink.as_slice(), text);
+    let at = At::row(row.name);
+    let mut sink = FaultySink::new(Vec::new(rt.alloc()), 0);
+    pack(&mut sink, row.chunks)?;
+    assert_bytes(rt, sink.written.as_slice(), row.text, at);
+    assert_calls(rt, sink.calls, row.handed.unwrap_or(sink.calls), at);
     Ok(())
 }
 
-// The chunks by `read_exact`. Of a source that shows a chunk whole, it asks once for each.
-fn unpack_each(
-    rt: &(impl Abort + AllocGlobal),
-    chunks: &[&[u8]],
-    text: &[u8],
-    most: usize,
-) -> Result<()> {
-    let mut source = Faulty::new(Trickle::new(text, most), 0);
+// The source shows or returns at most so many bytes, and at last each text whole.
+fn unpack_each(rt: &impl Abort, row: &Packed) -> Result<()> {
+    for most in 1..=24 {
+        unpack_row(rt, row, most)?;
+    }
+    unpack_row(rt, row, 5000)
+}
+
+// Of a source that shows a chunk whole, it asks once for each, and nothing for no bytes.
+fn unpack_row(rt: &impl Abort, row: &Packed, most: usize) -> Result<()> {
+    let at = At::new(row.name, most as u64);
+    let mut source = Faulty::new(Trickle::new(row.text, most), 0);
+    let mut parts = Trickle::new(row.text, most);
     let mut asked: u64 = 0;
-    for chunk in chunks {
-        let mut bytes = vec![in rt.alloc(); 0xaa; chunk.len()]?;
-        PackedRead::new(&mut source).read_exact(&mut bytes)?;
-        assert_eq!(rt; bytes.as_slice(), *chunk, "{text:?}, {most} bytes shown");
+    for chunk in row.chunks {
+        unpack_chunk(rt, &mut source, &mut parts, chunk, at)?;
         asked = asked.saturating_add(u64::from(!chunk.is_empty()));
     }
-    assert!(rt;
-        source.source.bytes.is_empty(),
-        "{text:?}, {most} bytes shown"
+    assert_holds(
+        rt,
+        source.source.bytes.is_empty() && parts.bytes.is_empty(),
+        at,
     );
-    if text.len() <= most {
-        assert_eq!(rt; source.calls, asked, "{text:?}");
+    if row.text.len() <= most {
+        assert_calls(rt, source.calls, asked, at);
+        assert_calls(rt, source.source.reads, 0, at);
     }
     Ok(())
 }
 
-// The packer hands on what it collected at the end of a chunk: few bytes in one call.
-#[test]
-fn a_short_text_is_handed_on_at_once(rt: HostRuntime) -> Result<()> {
-    retried!(pack_zeros(&rt))
-}
-
-fn pack_zeros(rt: &(impl Abort + AllocGlobal)) -> Result<()> {
-    let mut sink = FaultySink::new(Vec::new(rt.alloc()), 0);
-    PackedWrite::new(&mut sink).write_all(&[0; 2064])?;
-    assert_eq!(rt; sink.written.as_slice(), [0, 255, 0, 1].as_slice());
-    assert_eq!(rt; sink.calls, 1);
-    Ok(())
-}
-
-// Rows marked-zero and literal-cut: texts that this packer does not write, or that go on after a cut.
-const OTHERS: [(&[u8], &[u8]); 2] = [
-    (&[1, 0], &[0; 8]),
-    (
-        &[
-            0xff, 1, 2, 3, 4, 5, 6, 7, 8, 1, 9, 10, 11, 12, 13, 14, 15, 16,
-        ],
-        &[1, 2, 3, 4, 5, 6, 7, 8, 9, 10, 11, 12, 13, 14, 15, 16],
-    ),
-];
-
-#[test]
-fn texts_of_other_packers(rt: HostRuntime) -> Result<()> {
-    for (text, words) in OTHERS {
-        for most in 1..=24 {
-            retried!(unpack_twice(&rt, text, words, most))?;
-        }
-    }
-    Ok(())
-}
-
-// The same by `read_exact`, and by one `read`, which returns all that was asked for.
-fn unpack_twice(
-    rt: &(impl Abort + AllocGlobal),
-    text: &[u8],
-    words: &[u8],
-    most: usize,
+// A chunk by `read_exact`, and by one `read`, which returns all that was asked for.
+fn unpack_chunk(
+    rt: &impl Abort,
+    source: &mut Faulty<'_>,
+    parts: &mut Trickle<'_>,
+    chunk: &[u8],
+    at: At<'_>,
 ) -> Result<()> {
-    unpack_each(rt, &[words], text, most)?;
-    let mut source = Trickle::new(text, most);
-    let mut bytes = vec![in rt.alloc(); 0xaa; words.len()]?;
-    let count = PackedRead::new(&mut source).read(&mut bytes)?;
-    assert_eq!(rt; count, words.len());
-    assert_eq!(rt; bytes.as_slice(), words, "{most} bytes shown");
-    assert!(rt; source.bytes.is_empty());
+    let length = chunk.len().min(2064);
+    let mut space = [0xaa; 2064];
+    unpack(source, &mut space[..length])?;
+    assert_bytes(rt, &space[..length], chunk, at);
+    let mut again = [0xaa; 2064];
+    assert_count(rt, unpack_some(parts, &mut again[..length])?, length, at);
+    assert_bytes(rt, &again[..length], chunk, at);
     Ok(())
 }
 
-// Row chunk-refusals: texts, how many bytes are asked for, and the kind.
+// Texts, how many bytes are asked for, and the kind.
 #[rattlefmt::skip]
-const REFUSED: [(&[u8], usize, ErrorKind); 8] = [
-    (&[0xff, 1, 2, 3, 4, 5, 6, 7, 8, 1, 1, 2], 16, ErrorKind::FailedToFillTheWholeBuffer),
-    (&[0xff, 1, 2, 3, 4, 5, 6, 7, 8, 37, 1, 2], 200,
+const REFUSED: [(&str, &[u8], usize, ErrorKind); 11] = [
+    ("chunk-refusals, a cut literal run", &[0xff, 1, 2, 3, 4, 5, 6, 7, 8, 1, 1, 2], 16, ErrorKind::FailedToFillTheWholeBuffer),
+    ("chunk-refusals, a run past the end", &[0xff, 1, 2, 3, 4, 5, 6, 7, 8, 37, 1, 2], 200,
      ErrorKind::PackedInputDidNotEndCleanlyOnASegmentBoundary),
-    (&[0xf0, 1, 2], 200, ErrorKind::PrematureEndOfPackedInput),
-    (&[0], 200, ErrorKind::PrematureEndOfPackedInput),
-    (&[0xff, 1, 2, 3, 4, 5, 6, 7, 8], 200, ErrorKind::PrematureEndOfPackedInput),
-    (&[1, 1], 200, ErrorKind::PrematureEndOfPackedInput),
-    (&[], 8, ErrorKind::FailedToFillTheWholeBuffer),
-    (&[], 12, ErrorKind::NotWholeWords),
+    ("chunk-refusals, a cut word", &[0xf0, 1, 2], 200, ErrorKind::PrematureEndOfPackedInput),
+    ("chunk-refusals, no count of zeros", &[0], 200, ErrorKind::PrematureEndOfPackedInput),
+    ("chunk-refusals, no count of words", &[0xff, 1, 2, 3, 4, 5, 6, 7, 8], 200, ErrorKind::PrematureEndOfPackedInput),
+    ("chunk-refusals, one word", &[1, 1], 200, ErrorKind::PrematureEndOfPackedInput),
+    ("chunk-refusals, nothing", &[], 8, ErrorKind::FailedToFillTheWholeBuffer),
+    ("chunk-refusals, a part of a word of nothing", &[], 12, ErrorKind::NotWholeWords),
+    ("parts of a word, 12 bytes", &[1, 7, 0, 0], 12, ErrorKind::NotWholeWords),
+    ("parts of a word, 7 bytes", &[1, 7, 0, 0], 7, ErrorKind::NotWholeWords),
+    ("parts of a word, 12 bytes of a word", &[1, 1], 12, ErrorKind::NotWholeWords),
 ];
 
 #[test]
-fn chunks_are_refused(rt: HostRuntime) -> Result<()> {
-    for (text, length, kind) in REFUSED {
+fn chunks_are_refused(rt: HostRuntime) {
+    for &(name, text, length, kind) in &REFUSED {
         for most in 1..=24 {
-            let mut source = Trickle::new(text, most);
-            let mut space = [0xaa; 200];
-            let returned = PackedRead::new(&mut source).read_exact(&mut space[..length.min(200)]);
-            assert!(rt;
-                returned.is_err_and(|error| error.kind == kind),
-                "{text:?}, {most} bytes shown"
-            );
+            refuse(&rt, text, length.min(200), kind, At::new(name, most));
         }
     }
-    assert_eq!(rt;
-        PackedRead::new(&mut Trickle::new(&[], 8)).read(&mut [0; 8])?,
-        0
-    );
+}
+
+// For a part of a word nothing is asked, and nothing is written.
+fn refuse(rt: &impl Abort, text: &[u8], length: usize, kind: ErrorKind, at: At<'_>) {
+    let mut source = Trickle::new(text, at.number as usize);
+    let mut space = [0xaa; 200];
+    let room = &mut space[..length.min(200)];
+    assert_refused(rt, unpack(&mut source, room), kind, at);
+    if kind == ErrorKind::NotWholeWords {
+        assert_refused(rt, unpack_some(&mut source, room), kind, at);
+        assert_holds(
+            rt,
+            source.bytes == text && source.fills == 0 && source.reads == 0,
+            at,
+        );
+        assert_bytes(rt, &space, &[0xaa; 200], at);
+    }
+}
+
+// Of no more words a `read` returns none, and asks for nothing where there is no room.
+#[test]
+fn no_more_words(rt: HostRuntime) -> Result<()> {
+    for most in 1..=4 {
+        end_after(&rt, At::new("two words", most))?;
+    }
     Ok(())
 }
 
-// Nothing is read for a part of a word, nor for no word.
-#[test]
-fn a_part_of_a_word_is_not_read(rt: HostRuntime) -> Result<()> {
-    let text = [1, 7, 0, 0];
-    for most in 1..=4 {
-        let mut source = Trickle::new(&text, most);
-        let mut packed = PackedRead::new(&mut source);
-        let returned = packed.read(&mut [0; 12]);
-        assert!(rt; returned.is_err_and(|error| error.kind == ErrorKind::NotWholeWords));
-        let returned = packed.read_exact(&mut [0; 7]);
-        assert!(rt; returned.is_err_and(|error| error.kind == ErrorKind::NotWholeWords));
-        assert_eq!(rt; packed.read(&mut [])?, 0);
-        packed.read_exact(&mut [])?;
-        let mut word = [0xaa; 16];
-        packed.read_exact(&mut word)?;
-        assert_eq!(rt; word, [7, 0, 0, 0, 0, 0, 0, 0, 0, 0, 0, 0, 0, 0, 0, 0]);
-        assert_eq!(rt; packed.read(&mut word)?, 0);
-        assert!(rt; source.bytes.is_empty());
-    }
+fn end_after(rt: &impl Abort, at: At<'_>) -> Result<()> {
+    let mut source = Trickle::new(&[1, 7, 0, 0], at.number as usize);
+    assert_count(rt, unpack_some(&mut source, &mut [])?, 0, at);
+    unpack(&mut source, &mut [])?;
+    assert_calls(rt, source.fills, 0, at);
+    let mut words = [0xaa; 16];
+    unpack(&mut source, &mut words)?;
+    assert_bytes(
+        rt,
+        &words,
+        &[7, 0, 0, 0, 0, 0, 0, 0, 0, 0, 0, 0, 0, 0, 0, 0],
+        at,
+    );
+    assert_count(rt, unpack_some(&mut source, &mut words)?, 0, at);
+    assert_holds(rt, source.bytes.is_empty(), at);
     Ok(())
 }
 
 // Where a source shows a tag alone and then fails, nothing of its word is written.
 #[test]
-fn a_tag_alone_leaves_the_word(rt: HostRuntime) -> Result<()> {
+fn a_tag_alone_leaves_the_word(rt: HostRuntime) {
     for tag in [0, 1, 2, 0x24, 0x80, 0xf0, 0xfe, 0xff] {
+        let at = At::new("a tag alone", u64::from(tag));
         let text = [tag];
         let mut source = Faulty::new(Trickle::new(&text, 1), 2);
         let mut word = [0xaa; 8];
-        let returned = PackedRead::new(&mut source).read_exact(&mut word);
-        assert!(rt; returned.is_err_and(|error| error.kind == ErrorKind::DeviceFailed));
-        assert_eq!(rt; word, [0xaa; 8]);
+        assert_refused(
+            &rt,
+            unpack(&mut source, &mut word),
+            ErrorKind::DeviceFailed,
+            at,
+        );
+        assert_bytes(&rt, &word, &[0xaa; 8], at);
     }
+}
+
+// Of a literal run what is shown is copied, and the rest is one request.
+#[test]
+fn a_cut_literal_run_is_asked_for_once(rt: HostRuntime) -> Result<()> {
+    for most in 14..25 {
+        unpack_cut_run(&rt, At::new("a cut literal run", most))?;
+    }
+    Ok(())
+}
+
+#[rattlefmt::skip]
+const RUN: [u8; 27] = [0xff, 1, 2, 3, 4, 5, 6, 7, 8, 2, 1, 1, 1, 1, 1, 1, 1, 1, 2, 2, 2, 2, 2, 2, 2, 2, 0xaa];
+
+#[rattlefmt::skip]
+const RUN_WORDS: [u8; 24] = [1, 2, 3, 4, 5, 6, 7, 8, 1, 1, 1, 1, 1, 1, 1, 1, 2, 2, 2, 2, 2, 2, 2, 2];
+
+fn unpack_cut_run(rt: &impl Abort, at: At<'_>) -> Result<()> {
+    let mut source = Trickle::new(&RUN, at.number as usize);
+    let mut back = [0xaa; 24];
+    unpack(&mut source, &mut back)?;
+    assert_bytes(rt, &back, &RUN_WORDS, at);
+    assert_bytes(rt, source.bytes, &[0xaa], at);
+    assert_holds(rt, source.reads <= 1, at);
     Ok(())
 }
 
@@ -220,46 +198,53 @@ fn a_part_of_a_word_is_not_written(rt: HostRuntime) -> Result<()> {
     retried!(write_parts(&rt))
 }
 
+const PARTS: [&[u8]; 5] = [&[1], &[1; 7], &[1; 9], &[0; 12], &[1; 12]];
+
 fn write_parts(rt: &(impl Abort + AllocGlobal)) -> Result<()> {
+    let at = At::row("parts of a word");
     let mut sink = [3, 2, 1].to_vec(rt.alloc())?;
-    let mut packed = PackedWrite::new(&mut sink);
-    for chunk in [&[1u8] as &[u8], &[1; 7], &[1; 9], &[0; 12]] {
-        let returned = packed.write_all(chunk);
-        assert!(rt; returned.is_err_and(|error| error.kind == ErrorKind::NotWholeWords));
+    for part in &PARTS {
+        assert_refused(rt, pack(&mut sink, &[part]), ErrorKind::NotWholeWords, at);
     }
-    packed.write_all(&[5, 0, 0, 0, 0, 0, 0, 0])?;
-    assert_eq!(rt; sink.as_slice(), [3, 2, 1, 1, 5].as_slice());
+    pack(&mut sink, &[&[5, 0, 0, 0, 0, 0, 0, 0]])?;
+    assert_bytes(rt, sink.as_slice(), &[3, 2, 1, 1, 5], at);
     Ok(())
 }
 
 // Packed texts of three words, one of them written by another packer.
-const THREE_WORDS: [&[u8]; 2] = [&[1, 7, 0, 1], &[0x81, 7, 0, 0, 0, 0, 0]];
+const THREE_WORDS: [(&str, &[u8]); 2] = [
+    ("three words", &[1, 7, 0, 1]),
+    ("three words of another packer", &[0x81, 7, 0, 0, 0, 0, 0]),
+];
 
 // However many bytes a `read` returns, they are the next ones, and none only at the end.
 #[test]
 fn reads_return_the_words_in_order(rt: HostRuntime) -> Result<()> {
-    for text in THREE_WORDS {
+    for &(name, text) in &THREE_WORDS {
         for most in 1..=16 {
-            let mut source = Trickle::new(text, most);
-            let mut packed = PackedRead::new(&mut source);
-            let mut words = [0; 24];
-            words[0] = 7;
-            let mut filled = 0;
-            for _ in 0..24 {
-                assert!(rt; filled < 24);
-                let mut part = [0xaa; 24];
-                let count = packed.read(&mut part[filled..])?;
-                assert!(rt; count > 0 && count <= 24 - filled);
-                let end = filled + count;
-                assert_eq!(rt; &part[filled..end], &words[filled..end]);
-                filled = end;
-                if filled == 24 {
-                    break;
-                }
-            }
-            assert_eq!(rt; filled, 24);
-            assert_eq!(rt; packed.read(&mut words)?, 0);
+            read_in_order(&rt, text, At::new(name, most))?;
         }
     }
+    Ok(())
+}
+
+const SEVEN_AND_ZEROS: [u8; 24] = [
+    7, 0, 0, 0, 0, 0, 0, 0, 0, 0, 0, 0, 0, 0, 0, 0, 0, 0, 0, 0, 0, 0, 0, 0,
+];
+
+fn read_in_order(rt: &impl Abort, text: &[u8], at: At<'_>) -> Result<()> {
+    let mut source = Trickle::new(text, at.number as usize);
+    let mut words = [0xaa; 24];
+    let mut filled = 0;
+    for _ in 0..24 {
+        if filled < 24 {
+            let count = unpack_some(&mut source, &mut words[filled..])?;
+            assert!(rt; count > 0 && count <= 24 - filled);
+            filled += count;
+        }
+    }
+    assert_count(rt, filled, 24, at);
+    assert_bytes(rt, &words, &SEVEN_AND_ZEROS, at);
+    assert_count(rt, unpack_some(&mut source, &mut words)?, 0, at);
     Ok(())
 }

@@ -1,101 +1,130 @@
 //! Messages of 2^16 and 2^20 words, and more bytes in one chunk than two bytes count.
-use crate::messages::{has_segments, is_writable};
+use crate::assertions::{At, assert_count, assert_holds};
+use crate::framing::{Found, read, read_packed, write, write_packed};
+use crate::packing::{pack, unpack};
 use crate::retried;
 use capnp_frame::Result;
-use capnp_frame::io::{Read, Write};
-use capnp_frame::message::{DEFAULT_READER_OPTIONS, SegmentArray};
-use capnp_frame::serialize::{try_read_segments, write_segments};
-use capnp_pack::stream::try_read_packed_segments;
-use capnp_pack::{PackedRead, PackedWrite};
+use capnp_frame::io::Write;
+use std::alloc::Global;
 use std::process::Abort;
 
-const WORDS: usize = 1 << 16;
+// A message of one segment, of which all bytes are the same: how many words it has, the word that is
+// its table, how long its packed text is, and how that begins.
+#[derive(Drop)]
+struct Pattern {
+    name: &'static str,
+    words: usize,
+    byte: u8,
+    table: [u8; 8],
+    packed: usize,
+    front: &'static [u8],
+}
 
-// The table: one segment, of 2^16 words.
-const TABLE: [u8; 8] = [0, 0, 0, 0, 0, 0, 1, 0];
-
-// What each byte of the segment is, how long its packed text is, and how it begins. A run is of 256
-// words at most, so there are 256 of them, after two bytes for the table. Of zeros each is a tag and
-// a count; of sevens a tag, a word, a count, and 255 words as they stand.
-#[rattlefmt::skip]
-const PATTERNS: [(u8, usize, &[u8]); 2] = [
-    (0, 2 + 256 * 2, &[0x40, 1, 0, 255, 0, 255, 0, 255]),
-    (7, 2 + 256 * (1 + 8 + 1 + 255 * 8), &[0x40, 1, 0xff, 7, 7, 7, 7, 7, 7, 7, 7, 255, 7]),
+// A run is of 256 words at most. Of 2^16 words there are 256 runs, and of 2^20 there are 4,096, after
+// two bytes for the table. Of zeros each is a tag and a count; of sevens a tag, a word, a count, and
+// 255 words as they stand.
+const PATTERNS: [Pattern; 2] = [
+    Pattern {
+        name: "2^16 zero words",
+        words: 1 << 16,
+        byte: 0,
+        table: [0, 0, 0, 0, 0, 0, 1, 0],
+        packed: 2 + 256 * 2,
+        front: &[0x40, 1, 0, 255, 0, 255, 0, 255],
+    },
+    Pattern {
+        name: "2^16 words of sevens",
+        words: 1 << 16,
+        byte: 7,
+        table: [0, 0, 0, 0, 0, 0, 1, 0],
+        packed: 2 + 256 * (1 + 8 + 1 + 255 * 8),
+        front: &[0x40, 1, 0xff, 7, 7, 7, 7, 7, 7, 7, 7, 255, 7],
+    },
 ];
+
+const MILLION: Pattern = Pattern {
+    name: "2^20 zero words",
+    words: 1 << 20,
+    byte: 0,
+    table: [0, 0, 0, 0, 0, 0, 16, 0],
+    packed: 2 + 4096 * 2,
+    front: &[0x40, 0x10, 0, 255, 0, 255],
+};
 
 #[test]
 fn many_words(rt: HostRuntime) -> Result<()> {
-    for (byte, length, front) in PATTERNS {
-        retried!(write_and_read(&rt, byte, length, front))?;
+    for row in &PATTERNS {
+        retried!(write_and_read(&rt, row))?;
+        retried!(pack_and_read(&rt, row))?;
+        retried!(pack_and_unpack(&rt, row))?;
     }
-    Ok(())
+    retried!(pack_and_read(&rt, &MILLION))
 }
 
-fn write_and_read(
-    rt: &(impl Abort + AllocGlobal),
-    byte: u8,
-    length: usize,
-    front: &[u8],
-) -> Result<()> {
-    let segment = vec![in rt.alloc(); byte; 8 * WORDS]?;
+fn segment_of(alloc: Global, row: &Pattern) -> Result<Vec<u8>> {
+    Ok(vec![in alloc; row.byte; row.words.saturating_mul(8)]?)
+}
+
+fn write_and_read(rt: &(impl Abort + AllocGlobal), row: &Pattern) -> Result<()> {
+    let segment = segment_of(rt.alloc(), row)?;
     let mut framed: Vec<u8> = Vec::new(rt.alloc());
-    let mut packed: Vec<u8> = Vec::new(rt.alloc());
-    write_to(rt, &segment, &mut framed)?;
-    write_to(rt, &segment, &mut PackedWrite::new(&mut packed))?;
-    assert_eq!(rt; framed.len(), 8 * (1 + WORDS));
-    assert!(rt; framed.starts_with(&TABLE) && framed.ends_with(&segment));
-    assert_eq!(rt; packed.len(), length);
-    assert!(rt; packed.starts_with(front));
-    read_framed(rt, &segment, &framed)?;
-    read_packed(rt, &segment, &packed)?;
-    unpack(rt, &framed, &packed)
-}
-
-// 2^20 zero words are 4,096 runs of two bytes, after two for the table.
-#[test]
-fn a_million_zero_words(rt: HostRuntime) -> Result<()> {
-    retried!(pack_zeros(&rt))
-}
-
-fn pack_zeros(rt: &(impl Abort + AllocGlobal)) -> Result<()> {
-    let segment = vec![in rt.alloc(); 0u8; 8 << 20]?;
-    let mut packed: Vec<u8> = Vec::new(rt.alloc());
-    write_to(rt, &segment, &mut PackedWrite::new(&mut packed))?;
-    assert_eq!(rt; packed.len(), 2 + 4096 * 2);
-    assert!(rt; packed.starts_with(&[0x40, 0x10, 0, 255, 0, 255]));
-    read_packed(rt, &segment, &packed)
-}
-
-fn write_to<W: Write>(rt: &(impl Abort + AllocGlobal), segment: &[u8], sink: &mut W) -> Result<()> {
-    let segments = [segment];
-    let array = SegmentArray::new(&segments);
-    assert!(rt; is_writable(&array));
-    write_segments(rt.alloc(), sink, &array)
-}
-
-fn read_framed(rt: &(impl Abort + AllocGlobal), segment: &[u8], framed: &[u8]) -> Result<()> {
-    let mut source = framed;
-    let found = try_read_segments(rt.alloc(), &mut source, DEFAULT_READER_OPTIONS)?;
-    assert!(rt; found.is_some_and(|found| has_segments(&found, &[segment])));
-    assert!(rt; source.is_empty());
+    write(rt, &mut framed, &[&segment])?;
+    let at = At::row(row.name);
+    assert_count(
+        rt,
+        framed.len(),
+        row.words.saturating_add(1).saturating_mul(8),
+        at,
+    );
+    assert_holds(
+        rt,
+        framed.starts_with(&row.table) && framed.ends_with(&segment),
+        at,
+    );
+    let mut source = framed.as_slice();
+    let found = read(rt.alloc(), &mut source, &[&segment])?;
+    assert_holds(rt, found == Found::Wanted && source.is_empty(), at);
     Ok(())
 }
 
-fn read_packed(rt: &(impl Abort + AllocGlobal), segment: &[u8], packed: &[u8]) -> Result<()> {
-    let mut source = packed;
-    let found = try_read_packed_segments(rt.alloc(), &mut source, DEFAULT_READER_OPTIONS)?;
-    assert!(rt; found.is_some_and(|found| has_segments(&found, &[segment])));
-    assert!(rt; source.is_empty());
+fn pack_and_read(rt: &(impl Abort + AllocGlobal), row: &Pattern) -> Result<()> {
+    let segment = segment_of(rt.alloc(), row)?;
+    let mut packed: Vec<u8> = Vec::new(rt.alloc());
+    write_packed(rt, &mut packed, &[&segment])?;
+    let at = At::row(row.name);
+    assert_count(rt, packed.len(), row.packed, at);
+    assert_holds(rt, packed.starts_with(row.front), at);
+    let mut source = packed.as_slice();
+    let found = read_packed(rt.alloc(), &mut source, &[&segment])?;
+    assert_holds(rt, found == Found::Wanted && source.is_empty(), at);
     Ok(())
+}
+
+fn pack_and_unpack(rt: &(impl Abort + AllocGlobal), row: &Pattern) -> Result<()> {
+    let segment = segment_of(rt.alloc(), row)?;
+    let mut packed: Vec<u8> = Vec::new(rt.alloc());
+    pack(&mut packed, &[&row.table, &segment])?;
+    assert_count(rt, packed.len(), row.packed, At::row(row.name));
+    unpack_all(rt, &packed, row, &segment)
 }
 
 // All words at once.
-fn unpack(rt: &(impl Abort + AllocGlobal), framed: &[u8], packed: &[u8]) -> Result<()> {
+fn unpack_all(
+    rt: &(impl Abort + AllocGlobal),
+    packed: &[u8],
+    row: &Pattern,
+    segment: &[u8],
+) -> Result<()> {
+    let mut words = vec![in rt.alloc(); 0xaau8; segment.len().saturating_add(8)]?;
     let mut source = packed;
-    let mut words = vec![in rt.alloc(); 0xaa; framed.len()]?;
-    PackedRead::new(&mut source).read_exact(&mut words)?;
-    assert!(rt; words.as_slice() == framed);
-    assert!(rt; source.is_empty());
+    unpack(&mut source, &mut words)?;
+    let at = At::row(row.name);
+    assert_holds(
+        rt,
+        words.starts_with(&row.table) && words.ends_with(segment),
+        at,
+    );
+    assert_holds(rt, source.is_empty(), at);
     Ok(())
 }
 
@@ -108,7 +137,7 @@ fn append(rt: &(impl Abort + AllocGlobal)) -> Result<()> {
     let chunk = vec![in rt.alloc(); 5u8; 65_537]?;
     let mut sink = [1, 2, 3].to_vec(rt.alloc())?;
     sink.write_all(&chunk)?;
-    assert_eq!(rt; sink.len(), 65_540);
+    assert!(rt; sink.len() == 65_540);
     assert!(rt; sink.starts_with(&[1, 2, 3, 5]) && sink.ends_with(&chunk));
     Ok(())
 }

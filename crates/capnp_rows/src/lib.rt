@@ -1,18 +1,20 @@
 //! Worked rows over framing and packing, their calls, and what all tests share: messages, sources and
-//! sinks, limits, refusals, and what a test does where a growth is refused.
+//! sinks, limits, refusals, assertions, and what a test does where a growth is refused.
 //!
 //! Expected values come from the [encoding document] and from rows worked by hand, never from what
 //! the calls return. `rt try --test --fail-alloc N` refuses one growth of each test: a body that
-//! returns an error is run once more, and has to succeed then. Only the tests of `calls`, which read
-//! whole results, may fail.
+//! returns an error is run once more, and has to succeed then.
 //!
 //! [encoding document]: https://capnproto.org/encoding.html
 #![tactic(auto)]
 
+pub mod assertions;
 #[cfg(test)]
-mod calls;
+mod chunk_rows;
 #[cfg(test)]
 mod chunks;
+#[cfg(test)]
+mod framing;
 pub mod growths;
 #[cfg(test)]
 mod large;
@@ -25,7 +27,7 @@ pub mod messages;
 #[cfg(test)]
 mod no_memory;
 #[cfg(test)]
-mod packed_calls;
+mod packing;
 #[cfg(test)]
 mod parts;
 pub mod refusals;

@@ -1,14 +1,15 @@
 //! Calls that take no memory: they succeed whichever growth is refused, and none is made twice.
+use crate::assertions::{At, assert_bytes, assert_count, assert_holds, assert_refused};
+use crate::framing::{Found, read_into, read_packed, write, write_packed};
 use crate::messages::{has_segments, is_writable};
-use capnp_frame::io::{Read, Write};
+use crate::packing::{pack, unpack, unpack_some};
 use capnp_frame::message::{DEFAULT_READER_OPTIONS, ReaderSegments, SegmentArray};
 use capnp_frame::serialize::{
-    NoAllocBufferSegments, NoAllocSegmentTableInfo, NoAllocSliceSegments, describes,
-    serialized_size_in_words, try_read_segments_into, write_segments,
+    NoAllocBufferSegments, NoAllocSliceSegments, serialized_size_in_words, try_read_text_into,
 };
 use capnp_frame::{ErrorKind, Result};
-use capnp_pack::stream::try_read_packed_segments;
-use capnp_pack::{PackedRead, PackedWrite};
+use capnp_pack::PackedRead;
+use capnp_pack::stream::try_read_packed_text_into;
 
 // Segments of 1, 0 and 1 words.
 const SEGMENTS: [&[u8]; 3] = [&[1, 2, 3, 4, 5, 6, 7, 8], &[], &[0; 8]];
@@ -21,114 +22,189 @@ const PACKED: [u8; 17] = [0x11, 2, 1, 0x10, 1, 0xff, 1, 2, 3, 4, 5, 6, 7, 8, 0, 
 
 #[test]
 fn segments_are_written(rt: HostRuntime) -> Result<()> {
-    let array = SegmentArray::new(&SEGMENTS);
-    assert!(rt; is_writable(&array));
-    assert_eq!(rt; serialized_size_in_words(&array)?, 4);
+    let at = At::row("segments of 1, 0 and 1 words");
     let mut framed = [9; 32];
     let mut left: &mut [u8] = &mut framed;
-    write_segments(rt.alloc(), &mut left, &array)?;
-    assert!(rt; left.is_empty());
-    assert_eq!(rt; framed, FRAMED);
+    write(&rt, &mut left, &SEGMENTS)?;
+    assert_holds(&rt, left.is_empty(), at);
+    assert_bytes(&rt, &framed, &FRAMED, at);
     let mut packed = [9; 17];
     let mut left: &mut [u8] = &mut packed;
-    write_segments(rt.alloc(), &mut PackedWrite::new(&mut left), &array)?;
-    assert!(rt; left.is_empty());
-    assert_eq!(rt; packed, PACKED);
+    write_packed(&rt, &mut left, &SEGMENTS)?;
+    assert_holds(&rt, left.is_empty(), at);
+    assert_bytes(&rt, &packed, &PACKED, at);
     Ok(())
 }
 
 #[test]
-fn segments_are_shown(rt: HostRuntime) {
+fn segments_are_shown(rt: HostRuntime) -> Result<()> {
     let array = SegmentArray::new(&SEGMENTS);
-    assert!(rt; has_segments(&array, &SEGMENTS));
-    assert!(rt; has_segments(&&array, &SEGMENTS));
-    assert_eq!(rt; array.len(), 3);
-    assert!(rt; !array.is_empty());
+    assert!(rt; has_segments(&array, &SEGMENTS) && has_segments(&&array, &SEGMENTS));
+    assert!(rt; array.len() == 3 && !array.is_empty());
+    assert!(rt; is_writable(&array));
+    assert!(rt; serialized_size_in_words(&array)? == 4);
     assert!(rt; SegmentArray::new(&[]).is_empty());
+    Ok(())
 }
 
 #[test]
 fn messages_are_found(rt: HostRuntime) -> Result<()> {
     let mut slice = FRAMED.as_slice();
     let found = NoAllocSliceSegments::from_slice(&mut slice, DEFAULT_READER_OPTIONS)?;
-    assert!(rt; has_segments(&found, &SEGMENTS));
-    assert_eq!(rt; found.len(), 3);
+    assert!(rt; has_segments(&found, &SEGMENTS) && found.len() == 3);
     assert!(rt; slice.is_empty());
-    let buffer = FRAMED.as_slice();
-    let found = NoAllocBufferSegments::from_buffer(buffer, DEFAULT_READER_OPTIONS)?;
-    assert!(rt; has_segments(&found, &SEGMENTS));
-    let info = NoAllocSegmentTableInfo {
-        segments_count: 3,
-        segment_table_length_bytes: 16,
-        total_segments_length_bytes: 16,
-    };
-    assert!(rt; describes(&buffer, &info));
-    let found = NoAllocBufferSegments::from_segment_table_info(buffer, info);
+    let found = NoAllocBufferSegments::from_buffer(FRAMED.as_slice(), DEFAULT_READER_OPTIONS)?;
     assert!(rt; has_segments(&found, &SEGMENTS));
     let cut = NoAllocBufferSegments::from_buffer(&FRAMED[..31], DEFAULT_READER_OPTIONS);
-    let kind = ErrorKind::MessageEndsPrematurely(2, 1);
-    assert!(rt; cut.is_err_and(|error| error.kind == kind));
+    assert_refused(
+        &rt,
+        cut,
+        ErrorKind::MessageEndsPrematurely(2, 1),
+        At::row("31 bytes of 32"),
+    );
     Ok(())
 }
 
 #[test]
 fn messages_are_read_into_a_buffer(rt: HostRuntime) -> Result<()> {
-    let mut buffer = [9; 32];
+    let mut room = [9; 32];
     let mut source = FRAMED.as_slice();
-    let found = try_read_segments_into(&mut source, &mut buffer, DEFAULT_READER_OPTIONS)?;
-    assert!(rt; found.is_some_and(|found| has_segments(&found, &SEGMENTS)));
-    let found = try_read_segments_into(&mut source, &mut buffer, DEFAULT_READER_OPTIONS)?;
-    assert!(rt; found.is_none());
-    let mut source = PACKED.as_slice();
-    let mut packed = PackedRead::new(&mut source);
-    let found = try_read_segments_into(&mut packed, &mut buffer, DEFAULT_READER_OPTIONS)?;
-    assert!(rt; found.is_some_and(|found| has_segments(&found, &SEGMENTS)));
-    let mut short = [9; 31];
-    let mut source = FRAMED.as_slice();
-    let short = try_read_segments_into(&mut source, &mut short, DEFAULT_READER_OPTIONS);
-    assert!(rt; short.is_err_and(|error| error.kind == ErrorKind::BufferNotLargeEnough));
+    let found = read_into(&mut source, &mut room, &SEGMENTS)?;
+    let ended = read_into(&mut source, &mut room, &SEGMENTS)?;
+    assert!(rt; found == Found::Wanted && ended == Found::End);
     Ok(())
 }
 
 #[test]
-fn chunks_are_packed_and_unpacked(rt: HostRuntime) -> Result<()> {
-    let words = [0, 0, 12, 0, 0, 34, 0, 0, 1, 2, 3, 4, 5, 6, 7, 8];
+fn packed_messages_are_read_into_a_buffer(rt: HostRuntime) -> Result<()> {
+    let mut room = [9; 32];
+    let mut source = PACKED.as_slice();
+    let found = read_into(&mut PackedRead::new(&mut source), &mut room, &SEGMENTS)?;
+    assert!(rt; found == Found::Wanted);
+    Ok(())
+}
+
+#[test]
+fn a_buffer_that_is_a_byte_short(rt: HostRuntime) {
+    let mut room = [9; 31];
+    let mut source = FRAMED.as_slice();
+    let short = read_into(&mut source, &mut room, &SEGMENTS);
+    assert_refused(
+        &rt,
+        short,
+        ErrorKind::BufferNotLargeEnough,
+        At::row("room for 31 bytes"),
+    );
+}
+
+const WORDS: [u8; 16] = [0, 0, 12, 0, 0, 34, 0, 0, 1, 2, 3, 4, 5, 6, 7, 8];
+
+const PACKED_WORDS: [u8; 13] = [0x24, 12, 34, 0xff, 1, 2, 3, 4, 5, 6, 7, 8, 0];
+
+#[test]
+fn chunks_are_packed(rt: HostRuntime) -> Result<()> {
+    let at = At::row("two words");
     let mut text = [9; 13];
     let mut left: &mut [u8] = &mut text;
-    PackedWrite::new(&mut left).write_all(&words)?;
-    assert!(rt; left.is_empty());
-    let refused = PackedWrite::new(&mut left).write_all(&words);
-    assert!(rt; refused.is_err_and(|error| error.kind == ErrorKind::BufferNotLargeEnough));
-    assert_eq!(rt; text, [0x24, 12, 34, 0xff, 1, 2, 3, 4, 5, 6, 7, 8, 0]);
-    let mut back = [9; 16];
-    let mut source = text.as_slice();
-    PackedRead::new(&mut source).read_exact(&mut back)?;
-    assert_eq!(rt; back, words);
-    assert_eq!(rt; PackedRead::new(&mut source).read(&mut back)?, 0);
-    let refused = PackedRead::new(&mut &text[..5]).read_exact(&mut back);
-    assert!(rt; refused.is_err_and(|error| error.kind == ErrorKind::PrematureEndOfPackedInput));
+    pack(&mut left, &[&WORDS])?;
+    assert_holds(&rt, left.is_empty(), at);
+    assert_refused(
+        &rt,
+        pack(&mut left, &[&WORDS]),
+        ErrorKind::BufferNotLargeEnough,
+        at,
+    );
+    assert_bytes(&rt, &text, &PACKED_WORDS, at);
     Ok(())
 }
 
-// A packed message that is refused before its number of segments is accepted, and the end.
 #[test]
-fn packed_messages_that_take_no_memory(rt: HostRuntime) {
-    for (text, kind) in [
-        (
-            &[3u8, 255, 1] as &[u8],
-            ErrorKind::InvalidNumberOfSegments(512),
-        ),
-        (&[3, 255], ErrorKind::PrematureEndOfPackedInput),
-        (
-            &[0, 1],
-            ErrorKind::PackedInputDidNotEndCleanlyOnASegmentBoundary,
-        ),
-    ] {
+fn chunks_are_unpacked(rt: HostRuntime) -> Result<()> {
+    let at = At::row("two words");
+    let mut back = [9; 16];
+    let mut source = PACKED_WORDS.as_slice();
+    unpack(&mut source, &mut back)?;
+    assert_bytes(&rt, &back, &WORDS, at);
+    assert_count(&rt, unpack_some(&mut source, &mut back)?, 0, at);
+    let cut = unpack(&mut &PACKED_WORDS[..5], &mut back);
+    assert_refused(&rt, cut, ErrorKind::PrematureEndOfPackedInput, at);
+    Ok(())
+}
+
+// A packed message that is refused before its number of segments is accepted.
+#[rattlefmt::skip]
+const REFUSED: [(&str, &[u8], ErrorKind); 3] = [
+    ("512 segments", &[3, 255, 1], ErrorKind::InvalidNumberOfSegments(512)),
+    ("a cut word", &[3, 255], ErrorKind::PrematureEndOfPackedInput),
+    ("a long run", &[0, 1], ErrorKind::PackedInputDidNotEndCleanlyOnASegmentBoundary),
+];
+
+#[test]
+fn packed_messages_that_take_no_memory(rt: HostRuntime) -> Result<()> {
+    for &(name, text, kind) in &REFUSED {
         let mut source = text;
-        let returned = try_read_packed_segments(rt.alloc(), &mut source, DEFAULT_READER_OPTIONS);
-        assert!(rt; returned.is_err_and(|error| error.kind == kind), "{text:?}");
+        assert_refused(
+            &rt,
+            read_packed(rt.alloc(), &mut source, &[]),
+            kind,
+            At::row(name),
+        );
     }
-    let mut source: &[u8] = &[];
-    let returned = try_read_packed_segments(rt.alloc(), &mut source, DEFAULT_READER_OPTIONS);
-    assert!(rt; returned.is_ok_and(|found| found.is_none()));
+    assert!(rt; read_packed(rt.alloc(), &mut [].as_slice(), &[])? == Found::End);
+    Ok(())
+}
+
+// Two segments, of one and of two words, and after their frame two words more.
+#[rattlefmt::skip]
+const FRAME_AND_MORE: [u8; 56] = [
+    1, 0, 0, 0, 1, 0, 0, 0, 2, 0, 0, 0, 0, 0, 0, 0,
+    123, 0, 0, 0, 0, 0, 0, 0,
+    4, 0, 0, 0, 0, 0, 0, 0, 5, 0, 0, 0, 0, 0, 0, 0,
+    9, 9, 9, 9, 9, 9, 9, 9, 8, 7, 6, 5, 4, 3, 2, 1,
+];
+
+// The text of that message as it is written, in a buffer of ones.
+#[rattlefmt::skip]
+const TEXT_AND_ROOM: [u8; 48] = [
+    1, 0, 0, 0, 1, 0, 0, 0, 2, 0, 0, 0, 0, 0, 0, 0,
+    123, 0, 0, 0, 0, 0, 0, 0,
+    4, 0, 0, 0, 0, 0, 0, 0, 5, 0, 0, 0, 0, 0, 0, 0,
+    1, 1, 1, 1, 1, 1, 1, 1,
+];
+
+#[test]
+fn a_text_in_a_buffer(rt: HostRuntime) -> Result<()> {
+    let at = At::row("a framed text");
+    let mut source = FRAME_AND_MORE.as_slice();
+    let mut room = [1; 48];
+    let found = try_read_text_into(&mut source, &mut room, DEFAULT_READER_OPTIONS)?;
+    let Some(info) = found else {
+        panic!(rt; "no message");
+    };
+    assert_count(&rt, info.segment_table_length_bytes, 16, at);
+    assert_count(&rt, info.total_segments_length_bytes, 24, at);
+    assert_bytes(&rt, &room, &TEXT_AND_ROOM, at);
+    assert_count(&rt, source.len(), 16, at);
+    Ok(())
+}
+
+// A message of one word of nines and a byte after it, and its framed text in a buffer that is a byte
+// longer.
+const PACKED_NINES: [u8; 13] = [0x10, 1, 0xff, 9, 9, 9, 9, 9, 9, 9, 9, 0, 7];
+
+const NINES_AND_ROOM: [u8; 17] = [0, 0, 0, 0, 1, 0, 0, 0, 9, 9, 9, 9, 9, 9, 9, 9, 1];
+
+#[test]
+fn a_packed_text_in_a_buffer(rt: HostRuntime) -> Result<()> {
+    let at = At::row("a packed text");
+    let mut source = PACKED_NINES.as_slice();
+    let mut room = [1; 17];
+    let found = try_read_packed_text_into(&mut source, &mut room, DEFAULT_READER_OPTIONS)?;
+    let Some(info) = found else {
+        panic!(rt; "no message");
+    };
+    assert_count(&rt, info.total_segments_length_bytes, 8, at);
+    assert_bytes(&rt, &room, &NINES_AND_ROOM, at);
+    assert_bytes(&rt, source, &[7], at);
+    Ok(())
 }

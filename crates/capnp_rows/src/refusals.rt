@@ -9,6 +9,15 @@ pub fn refusal<T: Drop>(returned: Result<T>) -> u8 {
     }
 }
 
+/// The kind of a refusal, and nothing for a result. A refusal for want of memory is handed back.
+pub fn kind_of<T: Drop>(returned: Result<T>) -> Result<Option<ErrorKind>> {
+    match returned {
+        Ok(_) => Ok(None),
+        Err(error) if error.kind == ErrorKind::OutOfMemory => Err(error),
+        Err(error) => Ok(Some(error.kind)),
+    }
+}
+
 /// What is returned, or the number of a refusal.
 pub fn numbered<T>(returned: Result<T>) -> std::result::Result<T, u8> {
     match returned {

@@ -1,4 +1,5 @@
 //! Tables that are known already.
+use crate::assertions::{At, assert_bytes, assert_count, assert_holds};
 use crate::messages::has_segments;
 use crate::retried;
 use capnp_frame::Result;
@@ -20,84 +21,123 @@ const SEGMENTS: [&[u8]; 2] = [
     &[4, 0, 0, 0, 0, 0, 0, 0, 5, 0, 0, 0, 0, 0, 0, 0],
 ];
 
-fn info_of(count: usize, table: usize, total: usize) -> NoAllocSegmentTableInfo {
-    NoAllocSegmentTableInfo {
-        segments_count: count,
-        segment_table_length_bytes: table,
-        total_segments_length_bytes: total,
-    }
-}
-
-// How many bytes of a buffer are there, and the numbers of a table.
-const DESCRIBED: [(usize, usize, usize, usize, bool); 10] = [
-    (56, 2, 16, 24, true),
-    (40, 2, 16, 24, true),
-    (39, 2, 16, 24, false),
-    (15, 2, 16, 24, false),
-    (0, 2, 16, 24, false),
-    (56, 1, 16, 24, false),
-    (56, 3, 16, 24, false),
-    (56, 2, 8, 24, false),
-    (56, 2, 16, 16, false),
-    (56, 2, 16, 40, false),
+// The numbers of a table whose padding is nines are known, too.
+const PADDED: &[u8] = &[
+    1, 0, 0, 0, 0, 0, 0, 0, 1, 0, 0, 0, 9, 9, 9, 9, 1, 2, 3, 4, 5, 6, 7, 8,
 ];
 
+const ONE: &[u8] = &[0, 0, 0, 0, 1, 0, 0, 0, 1, 2, 3, 4, 5, 6, 7, 8, 9];
+
+// A buffer, the numbers of a table, and the segments, where the table has these numbers.
+#[derive(Drop)]
+struct Described {
+    name: &'static str,
+    buffer: &'static [u8],
+    count: usize,
+    table: usize,
+    total: usize,
+    segments: Option<&'static [&'static [u8]]>,
+}
+
+const NONE: Described = Described {
+    name: "flatten",
+    buffer: &FLATTEN,
+    count: 2,
+    table: 16,
+    total: 24,
+    segments: None,
+};
+
+#[rattlefmt::skip]
+const DESCRIBED: [Described; 13] = [
+    Described { segments: Some(&SEGMENTS), ..NONE },
+    Described { name: "flatten alone", buffer: FLATTEN_ALONE, segments: Some(&SEGMENTS), ..NONE },
+    Described { name: "flatten, a byte short", buffer: CUT, ..NONE },
+    Described { name: "flatten, a byte of its table short", buffer: CUT_TABLE, ..NONE },
+    Described { name: "nothing", buffer: &[], ..NONE },
+    Described { name: "flatten, 1 segment", count: 1, ..NONE },
+    Described { name: "flatten, 3 segments", count: 3, ..NONE },
+    Described { name: "flatten, a table of 8 bytes", table: 8, ..NONE },
+    Described { name: "flatten, 16 bytes", total: 16, ..NONE },
+    Described { name: "flatten, 40 bytes", total: 40, ..NONE },
+    Described {
+        name: "one segment",
+        buffer: ONE,
+        count: 1,
+        table: 8,
+        total: 8,
+        segments: Some(&[&[1, 2, 3, 4, 5, 6, 7, 8]]),
+    },
+    Described {
+        name: "another padding",
+        buffer: PADDED,
+        total: 8,
+        segments: Some(&[&[], &[1, 2, 3, 4, 5, 6, 7, 8]]),
+        ..NONE
+    },
+    Described { name: "another padding, 16 bytes", buffer: PADDED, total: 16, ..NONE },
+];
+
+const FLATTEN_ALONE: &[u8] = &[
+    1, 0, 0, 0, 1, 0, 0, 0, 2, 0, 0, 0, 0, 0, 0, 0, 123, 0, 0, 0, 0, 0, 0, 0, 4, 0, 0, 0, 0, 0, 0,
+    0, 5, 0, 0, 0, 0, 0, 0, 0,
+];
+
+// Of these 40 bytes all but the last, and all but the last of the table.
+const CUT: &[u8] = &[
+    1, 0, 0, 0, 1, 0, 0, 0, 2, 0, 0, 0, 0, 0, 0, 0, 123, 0, 0, 0, 0, 0, 0, 0, 4, 0, 0, 0, 0, 0, 0,
+    0, 5, 0, 0, 0, 0, 0, 0,
+];
+
+const CUT_TABLE: &[u8] = &[1, 0, 0, 0, 1, 0, 0, 0, 2, 0, 0, 0, 0, 0, 0];
+
 #[test]
-fn numbers_of_a_table(rt: HostRuntime) -> Result<()> {
-    for (length, count, table, total, wanted) in DESCRIBED {
-        assert!(rt; length <= 56);
-        let buffer = &FLATTEN[..length];
-        let found = describes(&buffer, &info_of(count, table, total));
-        assert_eq!(rt; found, wanted, "{length} bytes, {count}, {table}, {total}");
+fn numbers_of_a_table(rt: HostRuntime) {
+    for row in &DESCRIBED {
+        assert_holds(&rt, is_described(row), At::row(row.name));
     }
-    Ok(())
 }
 
-#[test]
-fn segments_by_a_known_table(rt: HostRuntime) {
-    let bytes = FLATTEN.as_slice();
-    let info = info_of(2, 16, 24);
-    assert!(rt; describes(&bytes, &info));
-    let found = NoAllocBufferSegments::from_segment_table_info(bytes, info);
-    assert!(rt; has_segments(&found, &SEGMENTS));
-    assert_eq!(rt; found.len(), 2);
-    let bytes = [0, 0, 0, 0, 1, 0, 0, 0, 1, 2, 3, 4, 5, 6, 7, 8, 9].as_slice();
-    let info = info_of(1, 8, 8);
-    assert!(rt; describes(&bytes, &info));
-    let found = NoAllocBufferSegments::from_segment_table_info(bytes, info);
-    assert!(rt; has_segments(&found, &[&[1, 2, 3, 4, 5, 6, 7, 8]]));
-    assert_eq!(rt; found.len(), 1);
-}
-
-// The numbers of a table are known whatever its padding is.
-#[test]
-fn a_table_of_any_padding(rt: HostRuntime) {
-    let bytes = [
-        1, 0, 0, 0, 0, 0, 0, 0, 1, 0, 0, 0, 9, 9, 9, 9, 1, 2, 3, 4, 5, 6, 7, 8,
-    ]
-    .as_slice();
-    let info = info_of(2, 16, 8);
-    assert!(rt; describes(&bytes, &info));
-    let found = NoAllocBufferSegments::from_segment_table_info(bytes, info);
-    assert!(rt; has_segments(&found, &[&[], &[1, 2, 3, 4, 5, 6, 7, 8]]));
-    assert!(rt; !describes(&bytes, &info_of(2, 16, 16)));
+// Whether the buffer is told to have such a table just where it has, and its segments are found.
+fn is_described(row: &Described) -> bool {
+    let info = NoAllocSegmentTableInfo {
+        segments_count: row.count,
+        segment_table_length_bytes: row.table,
+        total_segments_length_bytes: row.total,
+    };
+    if !describes(&row.buffer, &info) {
+        return row.segments.is_none();
+    }
+    let found = NoAllocBufferSegments::from_segment_table_info(row.buffer, info);
+    match row.segments {
+        Some(segments) => found.len() == row.count && has_segments(&found, segments),
+        None => false,
+    }
 }
 
 #[test]
 fn segments_of_known_lengths(rt: HostRuntime) -> Result<()> {
-    retried!(cut_by_lengths(&rt))
+    retried!(cut_by_lengths(&rt))?;
+    retried!(hold(&rt))
 }
 
 fn cut_by_lengths(rt: &(impl Abort + AllocGlobal)) -> Result<()> {
     let mut lengths = SegmentLengthsBuilder::with_capacity(rt.alloc(), 2)?;
     lengths.try_push_segment(1)?;
     lengths.try_push_segment(2)?;
-    assert_eq!(rt; lengths.total_words(), 3);
-    let found = lengths.into_slice_segments(&FLATTEN, 16);
-    assert!(rt; has_segments(&found, &SEGMENTS));
-    assert_eq!(rt; found.into_buffer(), FLATTEN.as_slice());
-    let found = BufferSegments::new(rt.alloc(), FLATTEN.as_slice(), DEFAULT_READER_OPTIONS)?;
-    assert!(rt; has_segments(&found, &SEGMENTS));
-    assert_eq!(rt; found.into_buffer(), FLATTEN.as_slice());
+    assert_count(rt, lengths.total_words(), 3, At::row("words in all"));
+    assert_flatten(rt, lengths.into_slice_segments(&FLATTEN, 16));
     Ok(())
+}
+
+fn hold(rt: &(impl Abort + AllocGlobal)) -> Result<()> {
+    let found = BufferSegments::new(rt.alloc(), FLATTEN.as_slice(), DEFAULT_READER_OPTIONS)?;
+    assert_flatten(rt, found);
+    Ok(())
+}
+
+fn assert_flatten(rt: &impl Abort, found: BufferSegments<&[u8]>) {
+    let at = At::row("flatten");
+    assert_holds(rt, has_segments(&found, &SEGMENTS), at);
+    assert_bytes(rt, found.into_buffer(), &FLATTEN, at);
 }

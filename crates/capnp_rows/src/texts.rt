@@ -1,4 +1,5 @@
 //! What refusals are printed as, and their numbers.
+use crate::assertions::{At, assert_bytes, assert_holds};
 use crate::retried;
 use capnp_frame::{Error, ErrorKind, Result};
 use std::process::Abort;
@@ -39,24 +40,17 @@ const TEXTS: [(u8, ErrorKind, &[u8]); 26] = [
 
 #[test]
 fn texts_and_numbers(rt: HostRuntime) -> Result<()> {
-    retried!(print_each(&rt))
+    for &(number, kind, text) in &TEXTS {
+        retried!(print(&rt, number, kind, text))?;
+    }
+    Ok(())
 }
 
-fn print_each(rt: &(impl Abort + AllocGlobal)) -> Result<()> {
-    for (number, kind, text) in TEXTS {
-        assert_eq!(rt; kind.number(), number);
-        assert_eq!(rt;
-            format!(in rt.alloc(); "{kind}")?.as_bytes(),
-            text,
-            "kind {number}"
-        );
-        let error = Error::from_kind(kind);
-        assert_eq!(rt; error.kind, kind);
-        assert_eq!(rt;
-            format!(in rt.alloc(); "{error}")?.as_bytes(),
-            text,
-            "error {number}"
-        );
-    }
+fn print(rt: &(impl Abort + AllocGlobal), number: u8, kind: ErrorKind, text: &[u8]) -> Result<()> {
+    let at = At::new("kind", u64::from(number));
+    let error = Error::from_kind(kind);
+    assert_holds(rt, kind.number() == number && error.kind == kind, at);
+    assert_bytes(rt, format!(in rt.alloc(); "{kind}")?.as_bytes(), text, at);
+    assert_bytes(rt, format!(in rt.alloc(); "{error}")?.as_bytes(), text, at);
     Ok(())
 }

@@ -1,4 +1,5 @@
 //! Words, and bytes that are written into a caller-provided slice.
+use crate::assertions::{At, assert_bytes, assert_count, assert_refused};
 use crate::retried;
 use capnp_frame::io::Write;
 use capnp_frame::message::AsBytes;
@@ -7,63 +8,99 @@ use std::process::Abort;
 
 #[test]
 fn zero_words(rt: HostRuntime) -> Result<()> {
-    retried!(make_words(&rt))
+    for length in [0, 1, 2, 9] {
+        retried!(make_words(&rt, length))?;
+    }
+    Ok(())
 }
 
-fn make_words(rt: &(impl Abort + AllocGlobal)) -> Result<()> {
-    for length in [0, 1, 2, 9] {
-        let words = Word::allocate_zeroed_vec(rt.alloc(), length)?;
-        assert_eq!(rt; words.len(), length);
-        for zero in words.as_slice() {
-            assert_eq!(rt; *zero, word(0, 0, 0, 0, 0, 0, 0, 0));
-            assert_eq!(rt; zero.bytes(), [0; 8]);
-        }
+fn make_words(rt: &(impl Abort + AllocGlobal), length: usize) -> Result<()> {
+    let words = Word::allocate_zeroed_vec(rt.alloc(), length)?;
+    assert!(rt; words.len() == length);
+    for zero in words.as_slice() {
+        assert!(rt; *zero == word(0, 0, 0, 0, 0, 0, 0, 0));
+        assert!(rt; zero.bytes() == [0; 8]);
     }
     Ok(())
 }
 
 // Of these no allocator is asked.
+const TOO_MANY: [(usize, ErrorKind); 3] = [
+    (1 << 60, ErrorKind::OutOfMemory),
+    (1 << 61, ErrorKind::MessageSizeOverflow),
+    (usize::MAX, ErrorKind::MessageSizeOverflow),
+];
+
 #[test]
 fn more_words_than_an_address_space(rt: HostRuntime) {
-    for (length, kind) in [
-        (1 << 60, ErrorKind::OutOfMemory),
-        (1 << 61, ErrorKind::MessageSizeOverflow),
-        (usize::MAX, ErrorKind::MessageSizeOverflow),
-    ] {
+    for &(length, kind) in &TOO_MANY {
         let refused = Word::allocate_zeroed_vec(rt.alloc(), length);
-        assert!(rt; refused.is_err_and(|error| error.kind == kind), "{length}");
+        assert_refused(&rt, refused, kind, At::new("words", length as u64));
     }
 }
 
 #[test]
 fn the_bytes_of_a_word(rt: HostRuntime) {
-    let word = word(1, 2, 3, 4, 5, 6, 7, 255);
-    assert_eq!(rt; word.bytes(), [1, 2, 3, 4, 5, 6, 7, 255]);
+    assert!(rt; word(1, 2, 3, 4, 5, 6, 7, 255).bytes() == [1, 2, 3, 4, 5, 6, 7, 255]);
+    assert!(rt; word(1, 2, 3, 4, 5, 6, 7, 8).bytes() == [1, 2, 3, 4, 5, 6, 7, 8]);
 }
+
+// A slice's room, the chunks that are written into it with the room that each leaves, a chunk for
+// which there is no room then, and the slice after all.
+#[derive(Drop)]
+struct Provided {
+    name: &'static str,
+    room: usize,
+    chunks: &'static [(&'static [u8], usize)],
+    refused: &'static [u8],
+    space: [u8; 5],
+}
+
+#[rattlefmt::skip]
+const PROVIDED: [Provided; 2] = [
+    Provided {
+        name: "five bytes, and then one",
+        room: 5,
+        chunks: &[(&[1, 2], 3), (&[], 3), (&[4, 5, 6], 0), (&[], 0)],
+        refused: &[7],
+        space: [1, 2, 4, 5, 6],
+    },
+    Provided {
+        name: "three bytes of two",
+        room: 2,
+        chunks: &[],
+        refused: &[1, 2, 3],
+        space: [9, 9, 9, 9, 9],
+    },
+];
 
 // A chunk that fits moves the slice on, and one that doesn't leaves all as it was.
 #[test]
 fn chunks_into_a_provided_slice(rt: HostRuntime) -> Result<()> {
-    let mut space = [9; 5];
-    let mut left: &mut [u8] = &mut space;
-    for (chunk, room) in [(&[1u8, 2] as &[u8], 3), (&[], 3), (&[4, 5, 6], 0), (&[], 0)] {
-        left.write_all(chunk)?;
-        assert_eq!(rt; left.len(), room);
+    for row in &PROVIDED {
+        write_into(&rt, row)?;
     }
-    let refused = left.write_all(&[7]);
-    assert!(rt; refused.is_err_and(|error| error.kind == ErrorKind::BufferNotLargeEnough));
-    assert_eq!(rt; space, [1, 2, 4, 5, 6]);
     Ok(())
 }
 
-#[test]
-fn a_chunk_that_does_not_fit(rt: HostRuntime) {
-    let mut space = [8, 9];
-    let mut left: &mut [u8] = &mut space;
-    let refused = left.write_all(&[1, 2, 3]);
-    assert!(rt; refused.is_err_and(|error| error.kind == ErrorKind::BufferNotLargeEnough));
-    assert_eq!(rt; *left, *[8, 9].as_slice());
-    assert_eq!(rt; space, [8, 9]);
+fn write_into(rt: &impl Abort, row: &Provided) -> Result<()> {
+    let at = At::row(row.name);
+    let mut space = [9; 5];
+    let mut left: &mut [u8] = &mut space[..row.room.min(5)];
+    for (chunk, room) in row.chunks {
+        left.write_all(*chunk)?;
+        assert_count(rt, left.len(), *room, at);
+    }
+    let length = left.len();
+    assert_refused(
+        rt,
+        left.write_all(row.refused),
+        ErrorKind::BufferNotLargeEnough,
+        at,
+    );
+    assert_count(rt, left.len(), length, at);
+    assert_bytes(rt, &space, &row.space, at);
+    Ok(())
 }
 
 #[test]
@@ -73,7 +110,7 @@ fn what_shows_bytes(rt: HostRuntime) -> Result<()> {
 
 fn show_bytes(rt: &(impl Abort + AllocGlobal)) -> Result<()> {
     let bytes: &[u8] = &[1, 2, 3];
-    assert_eq!(rt; AsBytes::as_bytes(&bytes), bytes);
-    assert_eq!(rt; AsBytes::as_bytes(&bytes.to_vec(rt.alloc())?), bytes);
+    assert!(rt; AsBytes::as_bytes(&bytes) == bytes);
+    assert!(rt; AsBytes::as_bytes(&bytes.to_vec(rt.alloc())?) == bytes);
     Ok(())
 }

@@ -1,0 +1,136 @@
+//! The worked rows of chunks that are packed by themselves.
+
+/// Chunks, and their packed texts after one another.
+#[derive(Drop)]
+pub struct Packed {
+    pub name: &'static str,
+    pub chunks: &'static [&'static [u8]],
+    pub text: &'static [u8],
+    /// In how many chunks the text is handed to the sink, where that is known.
+    pub handed: Option<u64>,
+    /// Whether this packer writes the text.
+    pub is_written: bool,
+}
+
+const NONE: Packed = Packed {
+    name: "no chunk",
+    chunks: &[],
+    text: &[],
+    handed: None,
+    is_written: true,
+};
+
+#[rattlefmt::skip]
+pub const PACKED: [Packed; 21] = [
+    NONE,
+    Packed { name: "packer, no word", chunks: &[&[]], handed: Some(0), ..NONE },
+    Packed { name: "packer, a zero word", chunks: &[&[0; 8]], text: &[0, 0], ..NONE },
+    // The packer hands on what it collected at the end of a chunk: few bytes in one call.
+    Packed {
+        name: "packer, 258 zero words",
+        chunks: &[&[0; 2064]],
+        text: &[0, 255, 0, 1],
+        handed: Some(1),
+        ..NONE
+    },
+    Packed { name: "packer, two bytes of a word", chunks: &[&[0, 0, 12, 0, 0, 34, 0, 0]], text: &[0x24, 12, 34], ..NONE },
+    Packed {
+        name: "packer, two whole words",
+        chunks: &[&[1, 3, 2, 4, 5, 7, 6, 8, 8, 6, 7, 4, 5, 2, 3, 1]],
+        text: &[0xff, 1, 3, 2, 4, 5, 7, 6, 8, 1, 8, 6, 7, 4, 5, 2, 3, 1],
+        ..NONE
+    },
+    Packed {
+        name: "packer, zero words between others",
+        chunks: &[&[8, 0, 100, 6, 0, 1, 1, 2, 0, 0, 0, 0, 0, 0, 0, 0, 0, 0, 0, 0, 0, 0, 0, 0,
+                    0, 0, 0, 0, 0, 0, 0, 0, 0, 0, 1, 0, 2, 0, 3, 1]],
+        text: &[0xed, 8, 100, 6, 1, 1, 2, 0, 2, 0xd4, 1, 2, 3, 1],
+        ..NONE
+    },
+    Packed {
+        name: "literal-runs",
+        chunks: &[&[1, 2, 3, 4, 5, 6, 7, 8, 1, 2, 3, 4, 5, 6, 7, 8, 6, 2, 4, 3, 9, 0, 5, 1,
+                    1, 2, 3, 4, 5, 6, 7, 8, 0, 2, 4, 0, 9, 0, 5, 1]],
+        text: &[0xff, 1, 2, 3, 4, 5, 6, 7, 8, 3, 1, 2, 3, 4, 5, 6, 7, 8, 6, 2, 4, 3, 9, 0, 5, 1,
+                1, 2, 3, 4, 5, 6, 7, 8, 0xd6, 2, 4, 9, 5, 1],
+        ..NONE
+    },
+    Packed {
+        name: "literal-runs, one word thrice",
+        chunks: &[&[1, 2, 3, 4, 5, 6, 7, 8, 1, 2, 3, 4, 5, 6, 7, 8, 1, 2, 3, 4, 5, 6, 7, 8,
+                    1, 2, 3, 4, 5, 6, 7, 8, 0, 2, 4, 0, 9, 0, 5, 1]],
+        text: &[0xff, 1, 2, 3, 4, 5, 6, 7, 8, 3, 1, 2, 3, 4, 5, 6, 7, 8, 1, 2, 3, 4, 5, 6, 7, 8,
+                1, 2, 3, 4, 5, 6, 7, 8, 0xd6, 2, 4, 9, 5, 1],
+        ..NONE
+    },
+    Packed {
+        name: "literal-runs, one word",
+        chunks: &[&[1, 3, 2, 4, 5, 7, 6, 8]],
+        text: &[0xff, 1, 3, 2, 4, 5, 7, 6, 8, 0],
+        handed: Some(1),
+        ..NONE
+    },
+    Packed {
+        name: "literal-runs, after a zero word",
+        chunks: &[&[0, 0, 0, 0, 0, 0, 0, 0, 1, 3, 2, 4, 5, 7, 6, 8]],
+        text: &[0, 0, 0xff, 1, 3, 2, 4, 5, 7, 6, 8, 0],
+        ..NONE
+    },
+    Packed {
+        name: "literal-runs, after another word",
+        chunks: &[&[0, 0, 12, 0, 0, 34, 0, 0, 1, 3, 2, 4, 5, 7, 6, 8]],
+        text: &[0x24, 12, 34, 0xff, 1, 3, 2, 4, 5, 7, 6, 8, 0],
+        ..NONE
+    },
+    // A literal run is handed on by itself.
+    Packed {
+        name: "literal-runs, two words and a zero word",
+        chunks: &[&[1, 2, 3, 4, 5, 6, 7, 8, 8, 7, 6, 5, 4, 3, 2, 1, 0, 0, 0, 0, 0, 0, 0, 0]],
+        text: &[0xff, 1, 2, 3, 4, 5, 6, 7, 8, 1, 8, 7, 6, 5, 4, 3, 2, 1, 0, 0],
+        handed: Some(3),
+        ..NONE
+    },
+    // No run goes from a chunk into the next.
+    Packed { name: "two chunks of zeros", chunks: &[&[0; 8], &[0; 8]], text: &[0, 0, 0, 0], ..NONE },
+    Packed {
+        name: "three chunks of zeros, one of no word",
+        chunks: &[&[0; 16], &[], &[0; 2064]],
+        text: &[0, 1, 0, 255, 0, 1],
+        ..NONE
+    },
+    Packed {
+        name: "two chunks of a literal run",
+        chunks: &[&[1, 2, 3, 4, 5, 6, 7, 8], &[1, 2, 3, 4, 5, 6, 7, 8]],
+        text: &[0xff, 1, 2, 3, 4, 5, 6, 7, 8, 0, 0xff, 1, 2, 3, 4, 5, 6, 7, 8, 0],
+        ..NONE
+    },
+    Packed {
+        name: "a word, and a chunk of zeros",
+        chunks: &[&[0, 0, 12, 0, 0, 34, 0, 0], &[0; 24]],
+        text: &[0x24, 12, 34, 0, 2],
+        ..NONE
+    },
+    Packed {
+        name: "zeros, and a chunk of a word",
+        chunks: &[&[0; 24], &[0, 0, 12, 0, 0, 34, 0, 0]],
+        text: &[0, 2, 0x24, 12, 34],
+        ..NONE
+    },
+    // A literal run ends before a word with two zero bytes: three words of 27 bytes.
+    Packed {
+        name: "a literal run before two zero bytes",
+        chunks: &[&[1, 2, 3, 4, 5, 6, 7, 8, 1, 2, 3, 4, 5, 6, 0, 0, 1, 2, 3, 4, 5, 6, 7, 8]],
+        text: &[0xff, 1, 2, 3, 4, 5, 6, 7, 8, 0, 0x3f, 1, 2, 3, 4, 5, 6, 0xff, 1, 2, 3, 4, 5, 6, 7, 8, 0],
+        handed: Some(1),
+        ..NONE
+    },
+    // Texts that this packer does not write, or that go on after a cut.
+    Packed { name: "marked-zero", chunks: &[&[0; 8]], text: &[1, 0], is_written: false, ..NONE },
+    Packed {
+        name: "literal-cut",
+        chunks: &[&[1, 2, 3, 4, 5, 6, 7, 8, 9, 10, 11, 12, 13, 14, 15, 16]],
+        text: &[0xff, 1, 2, 3, 4, 5, 6, 7, 8, 1, 9, 10, 11, 12, 13, 14, 15, 16],
+        is_written: false,
+        ..NONE
+    },
+];
