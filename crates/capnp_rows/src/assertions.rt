@@ -1,12 +1,12 @@
 //! Assertions that tell the row at which they fail.
 //!
-//! Each is proved once, and a test that calls these is quick to prove: an assertion of two values with a
-//! message takes some three seconds wherever it stands, a call of one of these a tenth of that.
+//! Each is proved once, and a test that calls these is quick to prove: an assertion of two values
+//! with a message takes some three seconds wherever it stands, a call of one of these a tenth of that.
 use capnp_frame::{ErrorKind, Result};
 use std::process::Abort;
 
-/// A row of a table, and the number that a test counts through at it: how many bytes a source shows, or
-/// which call fails.
+/// A row of a table, and the number that a test counts through at it: how many bytes a source shows,
+/// or which call fails.
 #[derive(Clone, Copy)]
 pub struct At<'a> {
     pub row: &'a str,
@@ -39,13 +39,13 @@ pub fn assert_bytes(rt: &impl Abort, found: &[u8], wanted: &[u8], at: At<'_>) {
     );
 }
 
-/// There are so many.
+/// This is the number, of bytes or of words.
 pub fn assert_count(rt: &impl Abort, found: usize, wanted: usize, at: At<'_>) {
     let At { row, number } = at;
     assert!(rt; found == wanted, "{found} for {wanted}, at {row}, {number}");
 }
 
-/// So many calls were made.
+/// This is the number of calls.
 pub fn assert_calls(rt: &impl Abort, found: u64, wanted: u64, at: At<'_>) {
     let At { row, number } = at;
     assert!(rt;

@@ -33,7 +33,12 @@ pub const PACKED: [Packed; 21] = [
         handed: Some(1),
         ..NONE
     },
-    Packed { name: "packer, two bytes of a word", chunks: &[&[0, 0, 12, 0, 0, 34, 0, 0]], text: &[0x24, 12, 34], ..NONE },
+    Packed {
+        name: "packer, two bytes of a word",
+        chunks: &[&[0, 0, 12, 0, 0, 34, 0, 0]],
+        text: &[0x24, 12, 34],
+        ..NONE
+    },
     Packed {
         name: "packer, two whole words",
         chunks: &[&[1, 3, 2, 4, 5, 7, 6, 8, 8, 6, 7, 4, 5, 2, 3, 1]],
@@ -120,7 +125,8 @@ pub const PACKED: [Packed; 21] = [
     Packed {
         name: "a literal run before two zero bytes",
         chunks: &[&[1, 2, 3, 4, 5, 6, 7, 8, 1, 2, 3, 4, 5, 6, 0, 0, 1, 2, 3, 4, 5, 6, 7, 8]],
-        text: &[0xff, 1, 2, 3, 4, 5, 6, 7, 8, 0, 0x3f, 1, 2, 3, 4, 5, 6, 0xff, 1, 2, 3, 4, 5, 6, 7, 8, 0],
+        text: &[0xff, 1, 2, 3, 4, 5, 6, 7, 8, 0, 0x3f, 1, 2, 3, 4, 5, 6,
+                0xff, 1, 2, 3, 4, 5, 6, 7, 8, 0],
         handed: Some(1),
         ..NONE
     },

@@ -32,7 +32,7 @@ fn pack_row(rt: &(impl Abort + AllocGlobal), row: &Packed) -> Result<()> {
     Ok(())
 }
 
-// The source shows or returns at most so many bytes, and at last each text whole.
+// The source shows or returns at most a given number of bytes, and at last each text whole.
 fn unpack_each(rt: &impl Abort, row: &Packed) -> Result<()> {
     for most in 1..=24 {
         unpack_row(rt, row, most)?;
@@ -83,12 +83,14 @@ fn unpack_chunk(
 // Texts, how many bytes are asked for, and the kind.
 #[rattlefmt::skip]
 const REFUSED: [(&str, &[u8], usize, ErrorKind); 11] = [
-    ("chunk-refusals, a cut literal run", &[0xff, 1, 2, 3, 4, 5, 6, 7, 8, 1, 1, 2], 16, ErrorKind::FailedToFillTheWholeBuffer),
+    ("chunk-refusals, a cut literal run", &[0xff, 1, 2, 3, 4, 5, 6, 7, 8, 1, 1, 2], 16,
+     ErrorKind::FailedToFillTheWholeBuffer),
     ("chunk-refusals, a run past the end", &[0xff, 1, 2, 3, 4, 5, 6, 7, 8, 37, 1, 2], 200,
      ErrorKind::PackedInputDidNotEndCleanlyOnASegmentBoundary),
     ("chunk-refusals, a cut word", &[0xf0, 1, 2], 200, ErrorKind::PrematureEndOfPackedInput),
     ("chunk-refusals, no count of zeros", &[0], 200, ErrorKind::PrematureEndOfPackedInput),
-    ("chunk-refusals, no count of words", &[0xff, 1, 2, 3, 4, 5, 6, 7, 8], 200, ErrorKind::PrematureEndOfPackedInput),
+    ("chunk-refusals, no count of words", &[0xff, 1, 2, 3, 4, 5, 6, 7, 8], 200,
+     ErrorKind::PrematureEndOfPackedInput),
     ("chunk-refusals, one word", &[1, 1], 200, ErrorKind::PrematureEndOfPackedInput),
     ("chunk-refusals, nothing", &[], 8, ErrorKind::FailedToFillTheWholeBuffer),
     ("chunk-refusals, a part of a word of nothing", &[], 12, ErrorKind::NotWholeWords),
@@ -178,7 +180,9 @@ fn a_cut_literal_run_is_asked_for_once(rt: HostRuntime) -> Result<()> {
 }
 
 #[rattlefmt::skip]
-const RUN: [u8; 27] = [0xff, 1, 2, 3, 4, 5, 6, 7, 8, 2, 1, 1, 1, 1, 1, 1, 1, 1, 2, 2, 2, 2, 2, 2, 2, 2, 0xaa];
+const RUN: [u8; 27] = [
+    0xff, 1, 2, 3, 4, 5, 6, 7, 8, 2, 1, 1, 1, 1, 1, 1, 1, 1, 2, 2, 2, 2, 2, 2, 2, 2, 0xaa,
+];
 
 #[rattlefmt::skip]
 const RUN_WORDS: [u8; 24] = [1, 2, 3, 4, 5, 6, 7, 8, 1, 1, 1, 1, 1, 1, 1, 1, 2, 2, 2, 2, 2, 2, 2, 2];

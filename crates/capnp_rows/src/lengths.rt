@@ -37,7 +37,13 @@ const THREE: Lengths = Lengths {
 #[rattlefmt::skip]
 const LENGTHS: [Lengths; 5] = [
     NONE,
-    Lengths { name: "a segment of 2 words", capacity: 1, lengths: &[2], indices: &[(0, 2)], total: 2 },
+    Lengths {
+        name: "a segment of 2 words",
+        capacity: 1,
+        lengths: &[2],
+        indices: &[(0, 2)],
+        total: 2,
+    },
     THREE,
     Lengths {
         name: "lengths",
@@ -164,7 +170,7 @@ fn has_written(segments: &OwnedSegments) -> bool {
     segments.get_segment(u32::MAX).is_none()
 }
 
-// Of these no allocator is asked: a capacity, and a length with the kind by which its segment is refused.
+// A length, and the kind by which its segment is refused. Of these no allocator is asked.
 const TOO_LONG: [(usize, ErrorKind); 3] = [
     (1 << 60, ErrorKind::OutOfMemory),
     (1 << 61, ErrorKind::MessageSizeOverflow),

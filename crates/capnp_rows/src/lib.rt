@@ -3,7 +3,8 @@
 //!
 //! Expected values come from the [encoding document] and from rows worked by hand, never from what
 //! the calls return. `rt try --test --fail-alloc N` refuses one growth of each test: a body that
-//! returns an error is run once more, and has to succeed then.
+//! returns an error is run once more, and has to succeed then. Only the tests of a module `calls`,
+//! which read whole results, may fail.
 //!
 //! [encoding document]: https://capnproto.org/encoding.html
 #![tactic(auto)]

@@ -12,8 +12,8 @@ const SEVEN: [u8; 8] = [7, 0, 0, 0, 0, 0, 0, 0];
 
 const ZERO: [u8; 8] = [0; 8];
 
-/// Words, their packed text, and in how many parts it is handed on at least: a literal run's words are
-/// a part by themselves, and no more than 64 bytes are collected for another.
+/// Words, their packed text, and in how many parts it is handed on at least: a literal run's words
+/// are a part by themselves, and no more than 64 bytes are collected for another.
 #[derive(Drop)]
 pub struct Parts {
     pub name: &'static str,
@@ -27,7 +27,8 @@ pub const PARTS: [Parts; 6] = [
     Parts {
         name: "a literal run of three words",
         words: &[A, B, C],
-        text: &[0xff, 1, 2, 3, 4, 5, 6, 7, 8, 2, 9, 10, 11, 12, 13, 14, 15, 16, 17, 18, 19, 20, 21, 22, 23, 24],
+        text: &[0xff, 1, 2, 3, 4, 5, 6, 7, 8, 2, 9, 10, 11, 12, 13, 14, 15, 16,
+                17, 18, 19, 20, 21, 22, 23, 24],
         parts: 2,
     },
     Parts {

@@ -23,8 +23,8 @@ fn options(rt: HostRuntime) {
     assert!(rt; SEGMENTS_COUNT_LIMIT == 512);
 }
 
-fn has_limits(options: ReaderOptions, words: Option<usize>, levels: i32) -> bool {
-    options.traversal_limit_in_words == words && options.nesting_limit == levels
+fn has_limits(options: ReaderOptions, words: Option<usize>, nesting: i32) -> bool {
+    options.traversal_limit_in_words == words && options.nesting_limit == nesting
 }
 
 const BYTES: [u8; 11] = [1, 2, 3, 4, 5, 6, 7, 8, 9, 10, 11];
