@@ -4,17 +4,19 @@ use crate::flat_calls::{
 };
 use crate::flat_rows::{FLAT_ROWS, FlatResult, FlatRow};
 use crate::packed_rows::NO_WORDS;
+use crate::streams::with_limit;
 use capnp::message::Reader;
 use capnp_frame::message::{ReaderOptions, ReaderSegments};
 use capnp_frame::serialize::Padding;
 use capnp_frame::{ErrorKind, Result};
+use capnp_rows::assertions::{At, assert_count};
 use capnp_rows::limits::{DEFAULT_LIMIT, NO_LIMIT};
 use capnp_rows::messages::has_segments;
 use capnp_rows::retried;
 use std::process::Abort;
 
 // The calls that find a message, over what holds it.
-#[derive(Clone, Copy, Debug, PartialEq, Eq)]
+#[derive(Clone, Copy, Debug)]
 pub enum Form {
     Take,
     New,
@@ -60,12 +62,6 @@ impl Form {
             _ => ErrorKind::MessageEndsPrematurely(4, length % 4),
         }
     }
-}
-
-fn with_limit(limit: Option<usize>) -> ReaderOptions {
-    let mut options = ReaderOptions::new();
-    let _ = options.traversal_limit_in_words(limit);
-    options
 }
 
 /// The segments that are wanted, or the kind.
@@ -122,6 +118,12 @@ pub fn find(
     Ok((returned, slice.len()))
 }
 
+/// A form returned what is wanted.
+pub fn assert_form(rt: &impl Abort, holds: bool, (form, rule): (Form, Padding), at: At<'_>) {
+    let At { row, number } = at;
+    assert!(rt; holds, "at {row}, {number}, {form:?}, {rule:?}");
+}
+
 /// How many bytes a form leaves: those that take a slice move it after a message.
 pub fn left_by(form: Form, whole: usize, following: usize) -> usize {
     match form {
@@ -133,23 +135,24 @@ pub fn left_by(form: Form, whole: usize, following: usize) -> usize {
 // No row has a padding that isn't zero, so both rules return the same.
 #[test]
 fn rows_in_each_form(rt: HostRuntime) -> Result<()> {
-    for rule in RULES {
-        for form in FORMS {
-            for row in FLAT_ROWS {
-                retried!(find_row(&rt, (form, rule), &row))?;
-            }
+    for row in &FLAT_ROWS {
+        for rule in &RULES {
+            find_in_each(&rt, *rule, row)?;
         }
     }
     Ok(())
 }
 
-/// Looks for a row's message.
-pub fn find_row(
-    rt: &(impl Abort + AllocGlobal),
-    call: (Form, Padding),
-    row: &FlatRow,
-) -> Result<()> {
-    let name = row.name;
+/// Looks for a row's message by each form.
+pub fn find_in_each(rt: &(impl Abort + AllocGlobal), rule: Padding, row: &FlatRow) -> Result<()> {
+    for form in &FORMS {
+        retried!(find_row(rt, (*form, rule), row))?;
+    }
+    Ok(())
+}
+
+fn find_row(rt: &(impl Abort + AllocGlobal), call: (Form, Padding), row: &FlatRow) -> Result<()> {
+    let at = At::row(row.name);
     let whole = row.bytes.len();
     let (form, _) = call;
     let (wanted, following) = match row.returned {
@@ -158,29 +161,28 @@ pub fn find_row(
         FlatResult::Refused(_, kind) => (Err(kind), whole),
     };
     let (returned, left) = find(rt, call, row.bytes, with_limit(row.limit), wanted)?;
-    assert!(rt; returned, "{name}, {call:?}");
-    assert_eq!(rt; left, left_by(form, whole, following), "{name}, {call:?}");
+    assert_form(rt, returned, call, at);
+    assert_count(rt, left, left_by(form, whole, following), at);
     Ok(())
 }
 
-// A table of 2,048 bytes: the low byte of its count, each byte of its lengths, a limit, and the kind.
+// A table of 2,048 bytes: the low byte of its count, each byte of its lengths, a limit, and the result.
 #[rattlefmt::skip]
-const TABLES: [(u8, u8, Option<usize>, ErrorKind); 3] = [
-    (255, 0, DEFAULT_LIMIT, ErrorKind::InvalidNumberOfSegments(512)),
-    (254, 255, DEFAULT_LIMIT, ErrorKind::MessageTooLarge(2194728287745)),
-    (254, 255, NO_LIMIT, ErrorKind::MessageEndsPrematurely(2194728287745, 0)),
+const TABLES: [(u8, u8, Option<usize>, Wanted<'static>); 4] = [
+    (254, 0, DEFAULT_LIMIT, Ok(&NO_WORDS)),
+    (255, 0, DEFAULT_LIMIT, Err(ErrorKind::InvalidNumberOfSegments(512))),
+    (254, 255, DEFAULT_LIMIT, Err(ErrorKind::MessageTooLarge(2194728287745))),
+    (254, 255, NO_LIMIT, Err(ErrorKind::MessageEndsPrematurely(2194728287745, 0))),
 ];
 
 // As many segments as a reader accepts, all empty, with 3 bytes after them; then one segment more, and
 // lengths that come to more words than the limit, or than are there.
 #[test]
 fn the_longest_tables(rt: HostRuntime) -> Result<()> {
-    for rule in RULES {
-        for form in FORMS {
-            let call = (form, rule);
-            retried!(find_table(&rt, call, 254, 0, DEFAULT_LIMIT, Ok(&NO_WORDS)))?;
-            for (count, lengths, limit, kind) in TABLES {
-                retried!(find_table(&rt, call, count, lengths, limit, Err(kind)))?;
+    for rule in &RULES {
+        for form in &FORMS {
+            for &(count, lengths, limit, wanted) in &TABLES {
+                retried!(find_table(&rt, (*form, *rule), count, lengths, limit, wanted))?;
             }
         }
     }
@@ -205,11 +207,8 @@ fn find_table(
         Err(_) => 2051,
     };
     let (returned, left) = find(rt, call, &bytes, with_limit(limit), wanted)?;
-    assert!(rt; returned, "{call:?}, count {count}, lengths {lengths}");
-    assert_eq!(rt;
-        left,
-        wanted_left,
-        "{call:?}, count {count}, lengths {lengths}"
-    );
+    let at = At::new("a table of 2,048 bytes, its count", u64::from(count));
+    assert_form(rt, returned, call, at);
+    assert_count(rt, left, wanted_left, at);
     Ok(())
 }

@@ -1,4 +1,5 @@
 //! The worked rows of messages in a slice, as bytes and results.
+use crate::framed_rows::{FLATTEN, THREE};
 use capnp_frame::ErrorKind;
 use capnp_rows::limits::{DEFAULT_LIMIT, NO_LIMIT};
 
@@ -34,11 +35,6 @@ const HELLO_SEGMENT: &[u8] = &[
     0x64, 0x21, 0, 0, 0,
 ];
 
-const FLATTEN: &[&[u8]] = &[
-    &[123, 0, 0, 0, 0, 0, 0, 0],
-    &[4, 0, 0, 0, 0, 0, 0, 0, 5, 0, 0, 0, 0, 0, 0, 0],
-];
-
 const LENGTHS_TABLE: &[u8] = &[
     3, 0, 0, 0, 77, 0, 0, 0, 23, 0, 0, 0, 1, 0, 0, 0, 99, 0, 0, 0, 0, 0, 0, 0,
 ];
@@ -47,7 +43,21 @@ const LENGTHS_TABLE: &[u8] = &[
 const NO_PADDING: &[u8] = &[1, 0, 0, 0, 2, 0, 0, 0, 3, 0, 0, 0];
 
 #[rattlefmt::skip]
-pub const FLAT_ROWS: [FlatRow; 17] = [
+pub const FLAT_ROWS: [FlatRow; 19] = [
+    FlatRow {
+        name: "flatten, two-segments and an empty segment",
+        bytes: THREE,
+        limit: DEFAULT_LIMIT,
+        returned: FlatResult::Segments(FLATTEN, 32),
+    },
+    FlatRow {
+        name: "two-segments and an empty segment",
+        bytes: &[
+            1, 0, 0, 0, 0, 0, 0, 0, 1, 0, 0, 0, 0, 0, 0, 0, 1, 2, 3, 4, 5, 6, 7, 8, 0, 0, 0, 0, 0, 0, 0, 0,
+        ],
+        limit: DEFAULT_LIMIT,
+        returned: FlatResult::Segments(&[&[], &[1, 2, 3, 4, 5, 6, 7, 8]], 8),
+    },
     FlatRow {
         name: "short-front",
         bytes: &[0, 0, 0, 0],

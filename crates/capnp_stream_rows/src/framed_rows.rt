@@ -6,8 +6,8 @@ use capnp_rows::limits::{DEFAULT_LIMIT, NO_LIMIT};
 /// A chunk of which not all bytes are there.
 pub const CUT: Wanted<'static> = Wanted::Refused(ErrorKind::FailedToFillTheWholeBuffer);
 
-// A message of three words: the text "Hello, World!".
-const HELLO: &[u8] = &[
+/// A message of three words: the text "Hello, World!".
+pub const HELLO: &[u8] = &[
     0, 0, 0, 0, 3, 0, 0, 0, 1, 0, 0, 0, 0x72, 0, 0, 0, 0x48, 0x65, 0x6c, 0x6c, 0x6f, 0x2c, 0x20,
     0x57, 0x6f, 0x72, 0x6c, 0x64, 0x21, 0, 0, 0,
 ];
@@ -15,6 +15,21 @@ const HELLO: &[u8] = &[
 const HELLO_SEGMENT: &[u8] = &[
     1, 0, 0, 0, 0x72, 0, 0, 0, 0x48, 0x65, 0x6c, 0x6c, 0x6f, 0x2c, 0x20, 0x57, 0x6f, 0x72, 0x6c,
     0x64, 0x21, 0, 0, 0,
+];
+
+/// Segments [] and [1, 2, 3, 4, 5, 6, 7, 8].
+pub const TWO_SEGMENTS: Wanted<'static> = Wanted::Segments(&[&[], &[1, 2, 3, 4, 5, 6, 7, 8]]);
+
+pub const FLATTEN: &[&[u8]] = &[
+    &[123, 0, 0, 0, 0, 0, 0, 0],
+    &[4, 0, 0, 0, 0, 0, 0, 0, 5, 0, 0, 0, 0, 0, 0, 0],
+];
+
+/// The texts of FLATTEN, of TWO_SEGMENTS and of an empty segment, after one another.
+pub const THREE: &[u8] = &[
+    1, 0, 0, 0, 1, 0, 0, 0, 2, 0, 0, 0, 0, 0, 0, 0, 123, 0, 0, 0, 0, 0, 0, 0, 4, 0, 0, 0, 0, 0, 0,
+    0, 5, 0, 0, 0, 0, 0, 0, 0, 1, 0, 0, 0, 0, 0, 0, 0, 1, 0, 0, 0, 0, 0, 0, 0, 1, 2, 3, 4, 5, 6, 7,
+    8, 0, 0, 0, 0, 0, 0, 0, 0,
 ];
 
 // Lengths 77, 23, 1 and 99, and no segments after them.
@@ -25,7 +40,7 @@ const LENGTHS_TABLE: &[u8] = &[
 // Lengths 4294967295 and 2, and no segments after them.
 const LONG_TABLE: &[u8] = &[1, 0, 0, 0, 255, 255, 255, 255, 2, 0, 0, 0, 0, 0, 0, 0];
 
-// The text "hello world!" in a second segment, and its far pointer in the first.
+/// The text "hello world!" in a second segment, and its far pointer in the first.
 pub const HELLO_FAR: &[u8] = &[
     1, 0, 0, 0, 1, 0, 0, 0, 3, 0, 0, 0, 0, 0, 0, 0, 2, 0, 0, 0, 1, 0, 0, 0, 1, 0, 0, 0, 0x6a, 0, 0,
     0, 0x68, 0x65, 0x6c, 0x6c, 0x6f, 0x20, 0x77, 0x6f, 0x72, 0x6c, 0x64, 0x21, 0, 0, 0, 0,
@@ -40,7 +55,7 @@ pub const HELLO_FAR_SEGMENTS: &[&[u8]] = &[
 ];
 
 #[rattlefmt::skip]
-pub const FRAMED: [Stream; 20] = [
+pub const FRAMED: [Stream; 22] = [
     Stream { name: "nothing", bytes: &[], limit: DEFAULT_LIMIT, returns: &[END, END] },
     Stream {
         name: "short-front",
@@ -81,13 +96,27 @@ pub const FRAMED: [Stream; 20] = [
         limit: DEFAULT_LIMIT,
         returns: &[
             (
-                Wanted::Segments(&[
-                    &[123, 0, 0, 0, 0, 0, 0, 0],
-                    &[4, 0, 0, 0, 0, 0, 0, 0, 5, 0, 0, 0, 0, 0, 0, 0],
-                ]),
+                Wanted::Segments(FLATTEN),
                 Some(16),
             ),
             (Wanted::Refused(ErrorKind::InvalidNumberOfSegments(151587082)), Some(8)),
+        ],
+    },
+    Stream {
+        name: "two-segments",
+        bytes: &[1, 0, 0, 0, 0, 0, 0, 0, 1, 0, 0, 0, 0, 0, 0, 0, 1, 2, 3, 4, 5, 6, 7, 8],
+        limit: DEFAULT_LIMIT,
+        returns: &[(TWO_SEGMENTS, Some(0)), END],
+    },
+    Stream {
+        name: "flatten, two-segments and an empty segment",
+        bytes: THREE,
+        limit: DEFAULT_LIMIT,
+        returns: &[
+            (Wanted::Segments(FLATTEN), Some(32)),
+            (TWO_SEGMENTS, Some(8)),
+            (Wanted::Segments(&[&[]]), Some(0)),
+            END,
         ],
     },
     Stream {

@@ -5,9 +5,11 @@
 #[cfg(test)]
 mod appended;
 #[cfg(test)]
+mod built_and_read;
+#[cfg(test)]
 mod built_messages;
 #[cfg(test)]
-mod calls;
+mod canonical_texts;
 #[cfg(test)]
 mod each_message;
 #[cfg(test)]
@@ -39,9 +41,9 @@ mod prefixes;
 #[cfg(test)]
 mod provided;
 #[cfg(test)]
-mod provided_roots;
-#[cfg(test)]
 mod requests;
+#[cfg(test)]
+mod roots;
 #[cfg(test)]
 mod samples;
 #[cfg(test)]
@@ -52,5 +54,7 @@ mod segment_ends;
 mod streams;
 #[cfg(test)]
 mod transcodings;
+#[cfg(test)]
+mod writers;
 #[cfg(test)]
 mod writing;

@@ -24,14 +24,13 @@ pub fn next_segments<R: BufRead>(
     }
 }
 
-// Into the memory of a message before, here of none.
+// Into the memory of a message before.
 pub fn next_segments_reusing<R: BufRead>(
-    alloc: Global,
     padding: Padding,
     source: &mut R,
     options: ReaderOptions,
+    spare: OwnedSegments,
 ) -> Result<Option<OwnedSegments>> {
-    let spare = OwnedSegments::empty(alloc);
     match padding {
         Padding::Zero => try_read_packed_segments_reusing(source, options, spare),
         Padding::Any => try_read_packed_segments_reusing_lenient(source, options, spare),

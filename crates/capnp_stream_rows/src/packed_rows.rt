@@ -1,5 +1,5 @@
 //! The worked rows of packed messages, as bytes and results.
-use crate::framed_rows::HELLO_FAR_SEGMENTS;
+use crate::framed_rows::{FLATTEN, HELLO_FAR_SEGMENTS, TWO_SEGMENTS};
 use crate::streams::{END, Expected, Stream, Wanted};
 use capnp_frame::ErrorKind;
 use capnp_rows::limits::DEFAULT_LIMIT;
@@ -25,11 +25,13 @@ const HELLO_SEGMENT: &[u8] = &[
 /// 511 empty segments.
 pub const NO_WORDS: [&[u8]; 511] = [&[]; 511];
 
-/// Segments [] and [1, 2, 3, 4, 5, 6, 7, 8].
-pub const TWO_SEGMENTS: Wanted<'static> = Wanted::Segments(&[&[], &[1, 2, 3, 4, 5, 6, 7, 8]]);
+/// The packed texts of the three messages of `THREE`.
+pub const PACKED_THREE: &[u8] = &[
+    0x11, 1, 1, 1, 2, 1, 123, 1, 4, 1, 5, 1, 1, 1, 1, 0xff, 1, 2, 3, 4, 5, 6, 7, 8, 0, 0, 0,
+];
 
 #[rattlefmt::skip]
-pub const PACKED: [Stream; 19] = [
+pub const PACKED: [Stream; 21] = [
     Stream {
         name: "nothing",
         bytes: &[],
@@ -65,6 +67,23 @@ pub const PACKED: [Stream; 19] = [
         bytes: &[1, 1, 1, 1, 0xff, 1, 2, 3, 4, 5, 6, 7, 8, 0, 0, 0],
         limit: DEFAULT_LIMIT,
         returns: &[(TWO_SEGMENTS, Some(2)), (Wanted::Segments(&[&[]]), Some(0)), END],
+    },
+    Stream {
+        name: "two-segments",
+        bytes: &[1, 1, 1, 1, 0xff, 1, 2, 3, 4, 5, 6, 7, 8, 0],
+        limit: DEFAULT_LIMIT,
+        returns: &[(TWO_SEGMENTS, Some(0)), END],
+    },
+    Stream {
+        name: "flatten, two-segments and an empty segment",
+        bytes: PACKED_THREE,
+        limit: DEFAULT_LIMIT,
+        returns: &[
+            (Wanted::Segments(FLATTEN), Some(16)),
+            (TWO_SEGMENTS, Some(2)),
+            (Wanted::Segments(&[&[]]), Some(0)),
+            END,
+        ],
     },
     Stream {
         name: "hello",

@@ -1,14 +1,16 @@
 //! Streams and buffers with tables whose padding isn't zero, by both rules.
 use crate::flat::RULES;
-use crate::framed_rows::CUT;
-use crate::packed_rows::{NO_WORDS, TWO_SEGMENTS};
+use crate::framed_rows::{CUT, TWO_SEGMENTS};
+use crate::packed_rows::NO_WORDS;
 use crate::padding_rows::{
     FRAMED_PADDINGS, NOT_ZERO, PACKED_PADDINGS, PACKED_TWO, PaddedStream, TABLE, TWO,
 };
 use crate::provided::{Row, TOO_SMALL, read_into_each};
-use crate::streams::{Format, READERS, Reader, Stream, Wanted, is_returned, read_stream};
+use crate::streams::{READERS, Reader, Stream, Wanted, assert_call, is_returned, read_stream};
+use capnp::streams::Format;
 use capnp_frame::serialize::Padding;
 use capnp_frame::{ErrorKind, Result};
+use capnp_rows::assertions::{At, assert_count};
 use capnp_rows::limits::{DEFAULT_LIMIT, NO_LIMIT};
 use capnp_rows::retried;
 use capnp_rows::sources::Trickle;
@@ -30,13 +32,23 @@ fn read_each(
     streams: &[PaddedStream],
 ) -> Result<()> {
     for most in [1, 3, 8, 24] {
-        for rule in RULES {
-            for reader in READERS {
-                for stream in streams {
-                    let call = (format, rule, reader);
-                    retried!(read_stream(rt, call, &by_rule(stream, rule), most))?;
-                }
-            }
+        for stream in streams {
+            read_by_each(rt, format, stream, most)?;
+        }
+    }
+    Ok(())
+}
+
+fn read_by_each(
+    rt: &(impl Abort + AllocGlobal),
+    format: Format,
+    stream: &PaddedStream,
+    most: usize,
+) -> Result<()> {
+    for rule in &RULES {
+        for reader in &READERS {
+            let call = (format, *rule, *reader);
+            retried!(read_stream(rt, call, &by_rule(stream, *rule), most))?;
         }
     }
     Ok(())
@@ -106,10 +118,10 @@ fn buffers_of_each_length(rt: HostRuntime) -> Result<()> {
 // 510 empty segments: the longest table that has a padding, and 3 bytes after it.
 #[test]
 fn the_longest_table(rt: HostRuntime) -> Result<()> {
-    for reader in READERS {
-        retried!(read_longest(&rt, (Padding::Zero, reader), NOT_ZERO))?;
-        let none = Wanted::Segments(&NO_WORDS[..510]);
-        retried!(read_longest(&rt, (Padding::Any, reader), none))?;
+    let none = Wanted::Segments(&NO_WORDS[..510]);
+    for reader in &READERS {
+        retried!(read_longest(&rt, (Padding::Zero, *reader), NOT_ZERO))?;
+        retried!(read_longest(&rt, (Padding::Any, *reader), none))?;
     }
     Ok(())
 }
@@ -126,7 +138,8 @@ fn read_longest(
     let mut source = Trickle::new(&bytes, 100);
     let call = (Format::Framed, rule, reader);
     let returned = is_returned(rt.alloc(), call, &mut source, DEFAULT_LIMIT, wanted)?;
-    assert!(rt; returned, "{call:?}");
-    assert_eq!(rt; source.bytes.len(), 3, "{call:?}");
+    let at = At::row("510 empty segments");
+    assert_call(rt, returned, call, at);
+    assert_count(rt, source.bytes.len(), 3, at);
     Ok(())
 }

@@ -1,7 +1,7 @@
 //! The worked rows of tables whose padding isn't zero, and of what stands beside them, as bytes and
 //! the results of both rules.
-use crate::framed_rows::CUT;
-use crate::packed_rows::{CUT_GROUP, TWO_SEGMENTS};
+use crate::framed_rows::{CUT, TWO_SEGMENTS};
+use crate::packed_rows::CUT_GROUP;
 use crate::streams::{END, Expected, Wanted};
 use capnp_frame::ErrorKind;
 use capnp_rows::limits::{DEFAULT_LIMIT, NO_LIMIT};
@@ -21,12 +21,17 @@ pub const TWO: &[u8] = &[
     1, 0, 0, 0, 0, 0, 0, 0, 1, 0, 0, 0, 9, 9, 9, 9, 1, 2, 3, 4, 5, 6, 7, 8,
 ];
 
-/// The same up to the end of its table, and cut within its padding.
+/// Segments [] and [4, 0, .., 5, 0, ..] of two words, and a padding of nines.
+pub const PADDED: &[u8] = &[
+    1, 0, 0, 0, 0, 0, 0, 0, 2, 0, 0, 0, 9, 9, 9, 9, 4, 0, 0, 0, 0, 0, 0, 0, 5, 0, 0, 0, 0, 0, 0, 0,
+];
+
+/// TWO up to the end of its table, and cut within its padding.
 pub const TABLE: &[u8] = &[1, 0, 0, 0, 0, 0, 0, 0, 1, 0, 0, 0, 9, 9, 9, 9];
 
 pub const CUT_TABLE: &[u8] = &[1, 0, 0, 0, 0, 0, 0, 0, 1, 0, 0, 0, 9, 9];
 
-/// The same, packed.
+/// TWO, packed.
 pub const PACKED_TWO: &[u8] = &[1, 1, 0xf1, 1, 9, 9, 9, 9, 0xff, 1, 2, 3, 4, 5, 6, 7, 8, 0];
 
 /// The refusal of such a padding.
@@ -51,7 +56,17 @@ const NONE: PaddedStream = PaddedStream {
 };
 
 #[rattlefmt::skip]
-pub const FRAMED_PADDINGS: [PaddedStream; 13] = [
+pub const FRAMED_PADDINGS: [PaddedStream; 14] = [
+    PaddedStream {
+        name: "segments of 0 and 2 words",
+        bytes: PADDED,
+        limit: DEFAULT_LIMIT,
+        strict: &[(NOT_ZERO, Some(16))],
+        lenient: &[
+            (Wanted::Segments(&[&[], &[4, 0, 0, 0, 0, 0, 0, 0, 5, 0, 0, 0, 0, 0, 0, 0]]), Some(0)),
+            END,
+        ],
+    },
     PaddedStream {
         name: "two-segments",
         bytes: TWO,
@@ -126,7 +141,14 @@ pub const FRAMED_PADDINGS: [PaddedStream; 13] = [
 ];
 
 #[rattlefmt::skip]
-pub const PACKED_PADDINGS: [PaddedStream; 11] = [
+pub const PACKED_PADDINGS: [PaddedStream; 12] = [
+    PaddedStream {
+        name: "two-segments, and a byte after it",
+        bytes: &[1, 1, 0xf1, 1, 9, 9, 9, 9, 0xff, 1, 2, 3, 4, 5, 6, 7, 8, 0, 7],
+        limit: DEFAULT_LIMIT,
+        strict: &[(NOT_ZERO, Some(11))],
+        lenient: &[(TWO_SEGMENTS, Some(1))],
+    },
     PaddedStream {
         name: "two-segments",
         bytes: PACKED_TWO,

@@ -1,10 +1,12 @@
 //! Messages that are cut: no prefix of a text is a message, and each fails with one kind.
-use crate::flat::{FORMS, Form, RULES, find};
+use crate::flat::{FORMS, Form, RULES, assert_form, find};
 use crate::samples::{SAMPLES, Sample};
-use crate::streams::{Format, READERS, Reader, Wanted, is_returned};
-use capnp_frame::message::ReaderOptions;
+use crate::streams::{Call, READERS, Reader, Wanted, assert_call, is_returned};
+use capnp::streams::Format;
+use capnp_frame::message::DEFAULT_READER_OPTIONS;
 use capnp_frame::serialize::Padding;
 use capnp_frame::{ErrorKind, Result};
+use capnp_rows::assertions::{At, assert_count};
 use capnp_rows::limits::DEFAULT_LIMIT;
 use capnp_rows::retried;
 use capnp_rows::sources::Trickle;
@@ -13,48 +15,55 @@ use std::process::Abort;
 #[test]
 fn prefixes_of_streams(rt: HostRuntime) -> Result<()> {
     for most in 1..=16 {
-        for reader in READERS {
-            for sample in SAMPLES {
-                retried!(read_prefixes(&rt, (Padding::Zero, reader), &sample, most))?;
-            }
+        for reader in &READERS {
+            read_each(&rt, (Padding::Zero, *reader), most)?;
         }
+    }
+    for reader in &READERS {
+        read_each(&rt, (Padding::Any, *reader), 3)?;
     }
     Ok(())
 }
 
-#[test]
-fn prefixes_by_the_lenient_calls(rt: HostRuntime) -> Result<()> {
-    for reader in READERS {
-        for sample in SAMPLES {
-            retried!(read_prefixes(&rt, (Padding::Any, reader), &sample, 3))?;
-        }
-    }
-    Ok(())
-}
-
-// A framed text is refused wherever it is cut. In a packed one just a whole chunk can be missing, or
-// a part of a group.
-fn read_prefixes(
+fn read_each(
     rt: &(impl Abort + AllocGlobal),
     (rule, reader): (Padding, Reader),
+    most: usize,
+) -> Result<()> {
+    for sample in &SAMPLES {
+        retried!(read_framed(rt, (Format::Framed, rule, reader), sample, most))?;
+        retried!(read_packed(rt, (Format::Packed, rule, reader), sample, most))?;
+    }
+    Ok(())
+}
+
+// A framed text is refused wherever it is cut, and all of it is consumed.
+fn read_framed(
+    rt: &(impl Abort + AllocGlobal),
+    call: Call,
     sample: &Sample,
     most: usize,
 ) -> Result<()> {
-    let name = sample.name;
     for length in 0..sample.framed.len() {
         let wanted = match length {
             0 => Wanted::End,
             _ => Wanted::Refused(ErrorKind::FailedToFillTheWholeBuffer),
         };
         let mut source = Trickle::new(&sample.framed[..length], most);
-        let call = (Format::Framed, rule, reader);
         let returned = is_returned(rt.alloc(), call, &mut source, DEFAULT_LIMIT, wanted)?;
-        assert!(rt;
-            returned,
-            "{name}, {length} bytes, {call:?}, {most} at once"
-        );
-        assert!(rt; source.bytes.is_empty());
+        let at = At::new(sample.name, length as u64);
+        assert_call(rt, returned && source.bytes.is_empty(), call, at);
     }
+    Ok(())
+}
+
+// In a packed text just a whole chunk can be missing, or a part of a group.
+fn read_packed(
+    rt: &(impl Abort + AllocGlobal),
+    call: Call,
+    sample: &Sample,
+    most: usize,
+) -> Result<()> {
     for length in 0..sample.packed.len() {
         let wanted = match length {
             0 => Wanted::End,
@@ -64,22 +73,18 @@ fn read_prefixes(
             _ => Wanted::Refused(ErrorKind::PrematureEndOfPackedInput),
         };
         let mut source = Trickle::new(&sample.packed[..length], most);
-        let call = (Format::Packed, rule, reader);
         let returned = is_returned(rt.alloc(), call, &mut source, DEFAULT_LIMIT, wanted)?;
-        assert!(rt;
-            returned,
-            "{name}, {length} bytes, {call:?}, {most} at once"
-        );
+        assert_call(rt, returned, call, At::new(sample.name, length as u64));
     }
     Ok(())
 }
 
 #[test]
 fn prefixes_of_slices(rt: HostRuntime) -> Result<()> {
-    for rule in RULES {
-        for form in FORMS {
-            for sample in SAMPLES {
-                retried!(find_prefixes(&rt, (form, rule), &sample))?;
+    for rule in &RULES {
+        for form in &FORMS {
+            for sample in &SAMPLES {
+                retried!(find_prefixes(&rt, (*form, *rule), sample))?;
             }
         }
     }
@@ -92,7 +97,6 @@ fn find_prefixes(
     call: (Form, Padding),
     sample: &Sample,
 ) -> Result<()> {
-    let name = sample.name;
     for length in 0..sample.framed.len() {
         let kind = if length >= sample.table {
             let there = (length - sample.table) / 8;
@@ -101,9 +105,10 @@ fn find_prefixes(
             call.0.refusal_of_a_cut_table(length)
         };
         let front = &sample.framed[..length];
-        let (returned, left) = find(rt, call, front, ReaderOptions::new(), Err(kind))?;
-        assert!(rt; returned, "{name}, {length} bytes, {call:?}");
-        assert_eq!(rt; left, length, "{name}, {call:?}");
+        let (returned, left) = find(rt, call, front, DEFAULT_READER_OPTIONS, Err(kind))?;
+        let at = At::new(sample.name, length as u64);
+        assert_form(rt, returned, call, at);
+        assert_count(rt, left, length, at);
     }
     Ok(())
 }

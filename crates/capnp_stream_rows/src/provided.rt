@@ -1,10 +1,12 @@
 //! Messages that are read into caller-provided buffers of each length.
 use crate::flat::RULES;
-use crate::framed_rows::CUT;
+use crate::framed_rows::{CUT, FLATTEN};
 use crate::packed_rows::NO_WORDS;
-use crate::streams::{Call, Format, READERS, Reader, Wanted, is_returned};
+use crate::streams::{Call, READERS, Reader, Wanted, assert_call, is_returned};
+use capnp::streams::Format;
 use capnp_frame::serialize::Padding;
 use capnp_frame::{ErrorKind, Result};
+use capnp_rows::assertions::{At, assert_count};
 use capnp_rows::limits::{DEFAULT_LIMIT, NO_LIMIT};
 use capnp_rows::retried;
 use capnp_rows::sources::Trickle;
@@ -20,12 +22,19 @@ const TWO_SEGMENTS: &[u8] = &[
     1, 0, 0, 0, 0, 0, 0, 0, 1, 0, 0, 0, 0, 0, 0, 0, 1, 2, 3, 4, 5, 6, 7, 8,
 ];
 
+// Segments of one and of two words, and 16 bytes after them.
+const FLATTEN_AND_MORE: &[u8] = &[
+    1, 0, 0, 0, 1, 0, 0, 0, 2, 0, 0, 0, 0, 0, 0, 0, 123, 0, 0, 0, 0, 0, 0, 0, 4, 0, 0, 0, 0, 0, 0,
+    0, 5, 0, 0, 0, 0, 0, 0, 0, 9, 9, 9, 9, 9, 9, 9, 9, 8, 7, 6, 5, 4, 3, 2, 1,
+];
+
 const TWO: Wanted<'static> = Wanted::Segments(&[&[], &[1, 2, 3, 4, 5, 6, 7, 8]]);
 
 // The order of refusals: a buffer under a word, then the end, a cut word, the count, the table's
 // room, the cut table, the limit, and after a padding, the room of all.
 #[rattlefmt::skip]
-const FRAMED: [Row; 18] = [
+const FRAMED: [Row; 19] = [
+    (40, FLATTEN_AND_MORE, NO_LIMIT, Wanted::Segments(FLATTEN), 16),
     (0, TWO_SEGMENTS, NO_LIMIT, TOO_SMALL, 24),
     (7, TWO_SEGMENTS, NO_LIMIT, TOO_SMALL, 24),
     (8, TWO_SEGMENTS, NO_LIMIT, TOO_SMALL, 16),
@@ -46,10 +55,19 @@ const FRAMED: [Row; 18] = [
     (16, &[1, 0, 0, 0, 0, 0, 0, 0, 0, 0, 0, 0, 0, 0, 0, 0], Some(0), Wanted::Segments(&[&[], &[]]), 0),
 ];
 
+const PACKED_TWO: &[u8] = &[1, 1, 1, 1, 0xff, 1, 2, 3, 4, 5, 6, 7, 8, 0];
+
+// A message of one word of nines, and a byte after it.
+const NINES: &[u8] = &[0x10, 1, 0xff, 9, 9, 9, 9, 9, 9, 9, 9, 0, 7];
+
 const FIVE: &[u8] = &[0x11, 4, 1, 0, 1, 0, 0];
 
 #[rattlefmt::skip]
-const PACKED: [Row; 12] = [
+const PACKED: [Row; 16] = [
+    (24, PACKED_TWO, DEFAULT_LIMIT, TWO, 0),
+    (23, PACKED_TWO, DEFAULT_LIMIT, TOO_SMALL, 10),
+    (16, NINES, DEFAULT_LIMIT, Wanted::Segments(&[&[9; 8]]), 1),
+    (15, NINES, DEFAULT_LIMIT, TOO_SMALL, 11),
     (32, FIVE, DEFAULT_LIMIT, Wanted::Segments(&[&[0; 8], &[], &[], &[], &[]]), 0),
     (31, FIVE, DEFAULT_LIMIT, TOO_SMALL, 2),
     (24, FIVE, DEFAULT_LIMIT, TOO_SMALL, 2),
@@ -66,9 +84,9 @@ const PACKED: [Row; 12] = [
 
 #[test]
 fn buffers_of_each_length(rt: HostRuntime) -> Result<()> {
-    for rule in RULES {
-        read_into_each(&rt, (Format::Framed, rule), &FRAMED)?;
-        read_into_each(&rt, (Format::Packed, rule), &PACKED)?;
+    for rule in &RULES {
+        read_into_each(&rt, (Format::Framed, *rule), &FRAMED)?;
+        read_into_each(&rt, (Format::Packed, *rule), &PACKED)?;
     }
     Ok(())
 }
@@ -89,20 +107,26 @@ pub fn read_into_each(
     rows: &[Row],
 ) -> Result<()> {
     for most in 1..=24 {
-        for (room, bytes, limit, wanted, unread) in rows {
-            for reader in lending(*room) {
-                let mut source = Trickle::new(*bytes, most);
-                let call = (format, rule, reader);
-                let returned = is_returned(rt.alloc(), call, &mut source, *limit, *wanted)?;
-                assert!(rt; returned, "{bytes:?}, {call:?}, {most} bytes");
-                assert_eq!(rt;
-                    source.bytes.len(),
-                    *unread,
-                    "{bytes:?}, {call:?}, {most} bytes"
-                );
+        for row in rows {
+            for reader in lending(row.0) {
+                read_into(rt, (format, rule, reader), row, most)?;
             }
         }
     }
+    Ok(())
+}
+
+fn read_into(
+    rt: &(impl Abort + AllocGlobal),
+    call: Call,
+    &(_, bytes, limit, wanted, unread): &Row,
+    most: usize,
+) -> Result<()> {
+    let at = At::new("a buffer", most as u64);
+    let mut source = Trickle::new(bytes, most);
+    let returned = is_returned(rt.alloc(), call, &mut source, limit, wanted)?;
+    assert_call(rt, returned, call, at);
+    assert_count(rt, source.bytes.len(), unread, at);
     Ok(())
 }
 
@@ -168,15 +192,14 @@ const PROVIDED_TABLES: [(usize, Table); 3] = [
 #[test]
 fn the_longest_tables(rt: HostRuntime) -> Result<()> {
     for most in 1..=17 {
-        for table in TABLES {
-            for reader in READERS {
-                let call = (Format::Framed, Padding::Zero, reader);
-                retried!(read_table(&rt, call, &table, most))?;
+        for table in &TABLES {
+            for reader in &READERS {
+                retried!(read_table(&rt, *reader, table, most))?;
             }
         }
-        for (room, table) in PROVIDED_TABLES {
-            for reader in lending(room) {
-                read_table(&rt, (Format::Framed, Padding::Zero, reader), &table, most)?;
+        for (room, table) in &PROVIDED_TABLES {
+            for reader in lending(*room) {
+                read_table(&rt, reader, table, most)?;
             }
         }
     }
@@ -185,10 +208,11 @@ fn the_longest_tables(rt: HostRuntime) -> Result<()> {
 
 fn read_table(
     rt: &(impl Abort + AllocGlobal),
-    call: Call,
+    reader: Reader,
     table: &Table,
     most: usize,
 ) -> Result<()> {
+    let call = (Format::Framed, Padding::Zero, reader);
     let mut bytes = [table.lengths; 2051];
     bytes[0] = table.count;
     bytes[1] = 1;
@@ -196,7 +220,8 @@ fn read_table(
     bytes[3] = 0;
     let mut source = Trickle::new(&bytes, if most > 16 { 2051 } else { most });
     let returned = is_returned(rt.alloc(), call, &mut source, table.limit, table.wanted)?;
-    assert!(rt; returned, "{call:?}, {most} bytes");
-    assert_eq!(rt; source.bytes.len(), table.unread, "{call:?}, {most} bytes");
+    let at = At::new("a table of 2,048 bytes", most as u64);
+    assert_call(rt, returned, call, at);
+    assert_count(rt, source.bytes.len(), table.unread, at);
     Ok(())
 }

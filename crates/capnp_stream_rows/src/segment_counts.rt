@@ -1,15 +1,14 @@
 //! The number of segments that writers take: as many as a reader accepts, and none more.
-use capnp::appended::write_and_read_back;
-use capnp::message::{Reader, ReaderOptions};
+use crate::appended::{are_read, read_back};
+use crate::faults::FORMATS;
+use crate::writers::{WRITERS, Writer, write};
 use capnp::streams::Format;
-use capnp::{serialize, serialize_packed};
-use capnp_frame::message::{ReaderSegments, SegmentArray};
-use capnp_frame::serialize::{
-    OwnedSegments, segments_to_words, serialized_size_in_words, write_segments,
-};
+use capnp_frame::message::SegmentArray;
+use capnp_frame::serialize::serialized_size_in_words;
 use capnp_frame::{ErrorKind, Result};
-use capnp_pack::PackedWrite;
-use capnp_rows::messages::{has_segments, is_writable};
+use capnp_rows::assertions::{At, assert_bytes, assert_holds, assert_kind};
+use capnp_rows::messages::is_writable;
+use capnp_rows::refusals::kind_of;
 use capnp_rows::retried;
 use std::process::Abort;
 
@@ -17,38 +16,36 @@ const WORD: &[u8] = &[1, 2, 3, 4, 5, 6, 7, 8];
 
 const EMPTY: &[u8] = &[];
 
-// No limit of words.
-const OPTIONS: ReaderOptions = ReaderOptions {
-    traversal_limit_in_words: None,
-    nesting_limit: 64,
-};
+// One segment more than a reader accepts, and many more.
+const MORE: [&[u8]; 512] = [EMPTY; 512];
 
+const MANY: [&[u8]; 600] = [EMPTY; 600];
+
+// As many as it accepts.
+const WORDS: [&[u8]; 511] = [WORD; 511];
+
+// Each writer tells their number, and its sink stays as it was.
 #[test]
 fn one_segment_more_than_a_reader_accepts(rt: HostRuntime) -> Result<()> {
-    retried!(refuse_many_segments(&rt))
+    for (number, writer) in (0..).zip(&WRITERS) {
+        retried!(refuse(&rt, *writer, At::new("512 segments", number)))?;
+    }
+    let array = SegmentArray::new(&MORE);
+    assert!(rt; is_writable(&array));
+    assert!(rt; serialized_size_in_words(&array).is_ok_and(|size| size == 257));
+    Ok(())
 }
 
-// 512 empty segments: each writer tells their number, and its sink stays as it was.
-fn refuse_many_segments(rt: &(impl Abort + AllocGlobal)) -> Result<()> {
-    let segments = [EMPTY; 512];
-    let array = SegmentArray::new(&segments);
-    assert!(rt; is_writable(&array));
-    assert_eq!(rt; serialized_size_in_words(&array)?, 257);
-    let mut sink: Vec<u8> = Vec::new(rt.alloc());
-    sink.push(9)?;
-    let returns = [
-        write_segments(rt.alloc(), &mut sink, &array),
-        write_segments(rt.alloc(), &mut PackedWrite::new(&mut sink), &array),
-        segments_to_words(rt.alloc(), &array).map(|_| ()),
-        serialize::write_message_segments(rt.alloc(), &mut sink, &array),
-        serialize_packed::write_message_segments(rt.alloc(), &mut sink, &array),
-        serialize::write_message_segments_to_words(rt.alloc(), &array).map(|_| ()),
-    ];
-    for returned in returns {
-        let kind = returned.map_err(|error| error.kind);
-        assert_eq!(rt; kind, Err(ErrorKind::InvalidNumberOfSegments(512)));
-    }
-    assert_eq!(rt; sink.as_slice(), [9].as_slice());
+fn refuse(rt: &(impl Abort + AllocGlobal), writer: Writer, at: At<'_>) -> Result<()> {
+    let mut sink = [9].to_vec(rt.alloc())?;
+    let returned = kind_of(write(rt, writer, &mut sink, &SegmentArray::new(&MORE)))?;
+    assert_kind(
+        rt,
+        returned,
+        Some(ErrorKind::InvalidNumberOfSegments(512)),
+        at,
+    );
+    assert_bytes(rt, sink.as_slice(), &[9], at);
     Ok(())
 }
 
@@ -56,41 +53,23 @@ fn refuse_many_segments(rt: &(impl Abort + AllocGlobal)) -> Result<()> {
 // none; one with more in its second message is not written.
 #[test]
 fn lists_of_many_segments(rt: HostRuntime) -> Result<()> {
-    for format in [Format::Framed, Format::Packed] {
-        retried!(read_back(&rt, format))?;
-        retried!(refuse_in_a_list(&rt, format))?;
+    for format in &FORMATS {
+        retried!(read_many(&rt, *format))?;
+        retried!(refuse_in_a_list(&rt, *format))?;
     }
     Ok(())
 }
 
-fn read_back(rt: &(impl Abort + AllocGlobal), format: Format) -> Result<()> {
-    let segments = [WORD; 511];
-    let many = SegmentArray::new(&segments);
-    let one = SegmentArray::new(&[EMPTY]);
-    assert!(rt; is_writable(&many) && is_writable(&one));
-    let done = write_and_read_back(rt.alloc(), format, &[many, one], OPTIONS)?;
-    assert!(rt; done.end.is_none(), "{format:?}");
-    assert_eq!(rt; done.readers.len(), 2, "{format:?}");
-    assert!(rt; holds(done.readers.first(), &segments), "{format:?}");
-    assert!(rt; holds(done.readers.get(1), &[EMPTY]), "{format:?}");
+fn read_many(rt: &(impl Abort + AllocGlobal), format: Format) -> Result<()> {
+    let done = read_back(rt, format, &WORDS, &[EMPTY])?;
+    let are_read = are_read(&done.readers, &[&WORDS, &[EMPTY]]);
+    assert_holds(rt, are_read && done.end.is_none(), At::row("511 segments"));
     Ok(())
-}
-
-fn holds(reader: Option<&Reader<OwnedSegments>>, segments: &[&[u8]]) -> bool {
-    reader.is_some_and(|reader| has_segments(reader.get_segments(), segments))
 }
 
 fn refuse_in_a_list(rt: &(impl Abort + AllocGlobal), format: Format) -> Result<()> {
-    let segments = [EMPTY; 600];
-    let one = SegmentArray::new(&[WORD]);
-    let many = SegmentArray::new(&segments);
-    assert!(rt; is_writable(&one) && is_writable(&many));
-    match write_and_read_back(rt.alloc(), format, &[one, many], OPTIONS) {
-        Ok(_) => panic!(rt; "600 segments are written, {format:?}"),
-        Err(error) if error.kind == ErrorKind::OutOfMemory => Err(error),
-        Err(error) => {
-            assert_eq!(rt; error.kind, ErrorKind::InvalidNumberOfSegments(600));
-            Ok(())
-        }
-    }
+    let returned = kind_of(read_back(rt, format, &[WORD], &MANY))?;
+    let kind = ErrorKind::InvalidNumberOfSegments(600);
+    assert_kind(rt, returned, Some(kind), At::row("600 segments"));
+    Ok(())
 }

@@ -1,9 +1,12 @@
 //! As many segments as a reader accepts, of 0, 1 and 2 words in turn: each is where it begins.
-use crate::flat::{FORMS, Form, RULES, find, left_by};
-use crate::streams::{Call, Format, Reader, Wanted, is_returned};
+use crate::faults::FORMATS;
+use crate::flat::{FORMS, Form, RULES, assert_form, find, left_by};
+use crate::streams::{Call, Reader, Wanted, assert_call, is_returned};
+use capnp::streams::Format;
 use capnp_frame::Result;
 use capnp_frame::message::ReaderOptions;
 use capnp_frame::serialize::{NoAllocBufferSegments, NoAllocSegmentTableInfo, Padding, describes};
+use capnp_rows::assertions::{At, assert_count};
 use capnp_rows::limits::DEFAULT_LIMIT;
 use capnp_rows::messages::has_segments;
 use capnp_rows::retried;
@@ -47,21 +50,27 @@ fn segments_of<'a>(rt: &impl Abort, text: &'a [u8; 6128]) -> [&'a [u8]; 511] {
 fn segments_in_a_slice(rt: HostRuntime) -> Result<()> {
     let text = text();
     let segments = segments_of(&rt, &text);
-    for rule in RULES {
-        for form in FORMS {
-            retried!(find_all(&rt, (form, rule), &text, &segments))?;
+    for rule in &RULES {
+        for form in &FORMS {
+            retried!(find_all(&rt, (*form, *rule), &text, &segments))?;
         }
     }
+    assert!(rt; has_described(&text, &segments));
+    Ok(())
+}
+
+// Whether a table of these numbers is told to be there, and its segments are found.
+fn has_described(text: &[u8], segments: &[&[u8]]) -> bool {
     let info = NoAllocSegmentTableInfo {
         segments_count: 511,
         segment_table_length_bytes: 2048,
         total_segments_length_bytes: 4080,
     };
-    let buffer = text.as_slice();
-    assert!(rt; describes(&buffer, &info));
-    let found = NoAllocBufferSegments::from_segment_table_info(buffer, info);
-    assert!(rt; has_segments(&found, &segments));
-    Ok(())
+    describes(&text, &info)
+        && has_segments(
+            &NoAllocBufferSegments::from_segment_table_info(text, info),
+            segments,
+        )
 }
 
 fn find_all(
@@ -71,51 +80,39 @@ fn find_all(
     segments: &[&[u8]],
 ) -> Result<()> {
     let (returned, left) = find(rt, call, text, ReaderOptions::new(), Ok(segments))?;
-    assert!(rt; returned, "{call:?}");
-    assert_eq!(rt; left, left_by(call.0, text.len(), 0), "{call:?}");
+    let at = At::row("511 segments");
+    assert_form(rt, returned, call, at);
+    assert_count(rt, left, left_by(call.0, text.len(), 0), at);
     Ok(())
 }
+
+// Each call, the caller-provided buffer being as long as the framed text.
+const CALLS: [Reader; 5] = [
+    Reader::Copying,
+    Reader::Reusing,
+    Reader::Lending(6128),
+    Reader::Message,
+    Reader::ProvidedMessage(6128),
+];
 
 #[test]
 fn segments_in_a_stream(rt: HostRuntime) -> Result<()> {
     let text = text();
     let segments = segments_of(&rt, &text);
+    let packed = retried!(packed_text(rt.alloc(), &text))?;
     for most in [1, 7, 16, 6128] {
-        for reader in [
-            Reader::Copying,
-            Reader::Reusing,
-            Reader::Lending(6128),
-            Reader::Message,
-            Reader::ProvidedMessage(6128),
-        ] {
-            retried!(read_all(&rt, reader, &text, &segments, most))?;
+        for reader in &CALLS {
+            for format in &FORMATS {
+                let bytes = match format {
+                    Format::Framed => text.as_slice(),
+                    Format::Packed => packed.as_slice(),
+                };
+                let call = (*format, Padding::Zero, *reader);
+                retried!(read_text(&rt, call, bytes, &segments, most))?;
+            }
         }
     }
     Ok(())
-}
-
-fn read_all(
-    rt: &(impl Abort + AllocGlobal),
-    reader: Reader,
-    text: &[u8; 6128],
-    segments: &[&[u8]],
-    most: usize,
-) -> Result<()> {
-    let packed = packed_text(rt.alloc(), text)?;
-    read_text(
-        rt,
-        (Format::Framed, Padding::Zero, reader),
-        text,
-        segments,
-        most,
-    )?;
-    read_text(
-        rt,
-        (Format::Packed, Padding::Zero, reader),
-        &packed,
-        segments,
-        most,
-    )
 }
 
 fn read_text(
@@ -128,8 +125,8 @@ fn read_text(
     let mut source = Trickle::new(text, most);
     let wanted = Wanted::Segments(segments);
     let returned = is_returned(rt.alloc(), call, &mut source, DEFAULT_LIMIT, wanted)?;
-    assert!(rt; returned, "{call:?}, {most} bytes");
-    assert!(rt; source.bytes.is_empty(), "{call:?}, {most} bytes");
+    let at = At::new("511 segments", most as u64);
+    assert_call(rt, returned && source.bytes.is_empty(), call, at);
     Ok(())
 }
 

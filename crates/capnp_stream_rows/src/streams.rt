@@ -3,10 +3,12 @@ use crate::framed_rows::FRAMED;
 use crate::packed_rows::PACKED;
 use crate::{framed, packed};
 use capnp::message;
+use capnp::streams::Format;
 use capnp_frame::io::{BufRead, Read};
 use capnp_frame::message::{ReaderOptions, ReaderSegments};
-use capnp_frame::serialize::Padding;
+use capnp_frame::serialize::{OwnedSegments, Padding};
 use capnp_frame::{ErrorKind, Result};
+use capnp_rows::assertions::{At, assert_count};
 use capnp_rows::messages::has_segments;
 use capnp_rows::retried;
 use capnp_rows::sources::Trickle;
@@ -14,7 +16,7 @@ use std::alloc::Global;
 use std::process::Abort;
 
 /// What a stream reader returns.
-#[derive(Clone, Copy, Debug)]
+#[derive(Clone, Copy)]
 pub enum Wanted<'a> {
     /// No message, since nothing is unread.
     End,
@@ -36,12 +38,6 @@ pub struct Stream {
 }
 
 pub const END: Expected = (Wanted::End, Some(0));
-
-#[derive(Clone, Copy, Debug)]
-pub enum Format {
-    Framed,
-    Packed,
-}
 
 /// The calls that read the next message.
 #[derive(Clone, Copy, Debug)]
@@ -74,7 +70,8 @@ pub const READERS: [Reader; 7] = [
     Reader::ProvidedNeeded(4096),
 ];
 
-fn with_limit(limit: Option<usize>) -> ReaderOptions {
+/// Options of this limit.
+pub fn with_limit(limit: Option<usize>) -> ReaderOptions {
     let mut options = ReaderOptions::new();
     let _ = options.traversal_limit_in_words(limit);
     options
@@ -120,7 +117,12 @@ pub fn is_read<R: Read>(
     match reader {
         Reader::Copying => is_wanted(framed::next_segments(alloc, rule, source, options), wanted),
         Reader::Reusing => {
-            let read = framed::next_segments_reusing(alloc, rule, source, options);
+            let read = framed::next_segments_reusing(
+                rule,
+                source,
+                options,
+                OwnedSegments::empty(alloc),
+            );
             is_wanted(read, wanted)
         }
         Reader::Lending(_) => {
@@ -159,7 +161,12 @@ fn is_unpacked<R: BufRead>(
     match reader {
         Reader::Copying => is_wanted(packed::next_segments(alloc, rule, source, options), wanted),
         Reader::Reusing => {
-            let read = packed::next_segments_reusing(alloc, rule, source, options);
+            let read = packed::next_segments_reusing(
+                rule,
+                source,
+                options,
+                OwnedSegments::empty(alloc),
+            );
             is_wanted(read, wanted)
         }
         Reader::Lending(_) => {
@@ -228,29 +235,34 @@ fn is_wanted<S: ReaderSegments + Drop>(
     })
 }
 
-// However little a source shows or returns, each call returns the same.
+/// A call returned what is wanted.
+pub fn assert_call(rt: &impl Abort, holds: bool, call: Call, at: At<'_>) {
+    let (format, padding, reader) = call;
+    let At { row, number } = at;
+    assert!(rt;
+        holds,
+        "at {row}, {number}, {format:?}, {padding:?}, {reader:?}"
+    );
+}
+
 #[test]
 fn framed_streams(rt: HostRuntime) -> Result<()> {
-    for most in 1..=16 {
-        read_each(&rt, (Format::Framed, Padding::Zero), &FRAMED, most)?;
-    }
-    Ok(())
+    read_rows(&rt, Format::Framed, &FRAMED)
 }
 
 #[test]
 fn packed_streams(rt: HostRuntime) -> Result<()> {
-    for most in 1..=24 {
-        read_each(&rt, (Format::Packed, Padding::Zero), &PACKED, most)?;
-    }
-    Ok(())
+    read_rows(&rt, Format::Packed, &PACKED)
 }
 
-// No row has a padding that isn't zero, so the lenient calls return the same.
-#[test]
-fn streams_by_the_lenient_calls(rt: HostRuntime) -> Result<()> {
+// However little a source shows or returns, each call returns the same. No row has a padding that
+// isn't zero, so the lenient calls return the same, too.
+fn read_rows(rt: &(impl Abort + AllocGlobal), format: Format, streams: &[Stream]) -> Result<()> {
+    for most in 1..=24 {
+        read_each(rt, (format, Padding::Zero), streams, most)?;
+    }
     for most in [1, 7, 24] {
-        read_each(&rt, (Format::Framed, Padding::Any), &FRAMED, most)?;
-        read_each(&rt, (Format::Packed, Padding::Any), &PACKED, most)?;
+        read_each(rt, (format, Padding::Any), streams, most)?;
     }
     Ok(())
 }
@@ -261,9 +273,9 @@ fn read_each(
     streams: &[Stream],
     most: usize,
 ) -> Result<()> {
-    for reader in READERS {
+    for reader in &READERS {
         for stream in streams {
-            let call = (format, padding, reader);
+            let call = (format, padding, *reader);
             retried!(read_stream(rt, call, stream, most))?;
         }
     }
@@ -278,17 +290,13 @@ pub fn read_stream(
     stream: &Stream,
     most: usize,
 ) -> Result<()> {
-    let name = stream.name;
+    let at = At::new(stream.name, most as u64);
     let mut source = Trickle::new(stream.bytes, most);
     for (wanted, unread) in stream.returns {
         let returned = is_returned(rt.alloc(), call, &mut source, stream.limit, *wanted)?;
-        assert!(rt; returned, "{name}, {call:?}, {most} bytes");
+        assert_call(rt, returned, call, at);
         let left = source.bytes.len();
-        assert_eq!(rt;
-            left,
-            unread.unwrap_or(left),
-            "{name}, {call:?}, {most} bytes"
-        );
+        assert_count(rt, left, unread.unwrap_or(left), at);
     }
     Ok(())
 }

@@ -1,13 +1,15 @@
 //! What is written of messages, by the calls over a sink and by those into memory.
-use capnp::{serialize, serialize_packed};
-use capnp_frame::io::Write;
+use crate::faults::FORMATS;
+use crate::packed;
+use crate::packed_rows::NO_WORDS;
+use crate::streams::{Reader, Wanted, assert_call, is_returned};
+use crate::writers::{WRITERS, Writer, write};
+use capnp::streams::Format;
 use capnp_frame::message::{DEFAULT_READER_OPTIONS, ReaderSegments, SegmentArray};
-use capnp_frame::serialize::{
-    OwnedSegments, segments_to_words, serialized_size_in_words, try_read_segments, write_segments,
-};
+use capnp_frame::serialize::{BufferSegments, OwnedSegments, Padding, serialized_size_in_words};
 use capnp_frame::{Error, ErrorKind, Result};
-use capnp_pack::PackedWrite;
-use capnp_pack::stream::try_read_packed_segments;
+use capnp_rows::assertions::{At, assert_holds};
+use capnp_rows::limits::DEFAULT_LIMIT;
 use capnp_rows::messages::{MESSAGES, Message, has_segments, is_framed, is_writable};
 use capnp_rows::retried;
 use std::alloc::Global;
@@ -16,44 +18,32 @@ use std::process::Abort;
 // Each call writes the message's text, whatever holds its segments.
 fn write_message<S: ReaderSegments>(
     rt: &(impl Abort + AllocGlobal),
+    writer: Writer,
     message: &Message,
     segments: &S,
 ) -> Result<()> {
     let name = message.name;
-    assert!(rt; is_writable(segments), "{name}");
-    assert!(rt; has_segments(segments, message.segments), "{name}");
-    let size = serialized_size_in_words(segments)?;
-    assert_eq!(rt; size, message.size_in_words, "{name}");
-    let text = segments_to_words(rt.alloc(), segments)?;
-    assert_eq!(rt; text.len() / 8, size, "{name}");
-    assert!(rt; is_framed(&text, message.table, message.segments), "{name}");
-    let mut framed: Vec<u8> = Vec::new(rt.alloc());
-    write_segments(rt.alloc(), &mut framed, segments)?;
-    assert_eq!(rt; framed.as_slice(), text.as_slice(), "{name}");
-    let mut packed: Vec<u8> = Vec::new(rt.alloc());
-    write_segments(rt.alloc(), &mut PackedWrite::new(&mut packed), segments)?;
-    assert_eq!(rt; packed.as_slice(), message.packed, "{name}");
-    write_as_message(rt, message, segments, &text)
+    let mut text: Vec<u8> = Vec::new(rt.alloc());
+    write(rt, writer, &mut text, segments)?;
+    let is_written = match writer.format() {
+        Format::Framed => is_framed(&text, message.table, message.segments),
+        Format::Packed => text.as_slice() == message.packed,
+    };
+    assert!(rt; is_written, "{name}, {writer:?}");
+    assert_holds(rt, has_segments(segments, message.segments), At::row(name));
+    assert_holds(rt, has_size(segments, message.size_in_words), At::row(name));
+    Ok(())
 }
 
-// The same by the calls of the crate `capnp`.
-fn write_as_message<S: ReaderSegments>(
-    rt: &(impl Abort + AllocGlobal),
-    message: &Message,
-    segments: &S,
-    text: &[u8],
-) -> Result<()> {
-    let name = message.name;
-    assert!(rt; is_writable(segments), "{name}");
-    let words = serialize::write_message_segments_to_words(rt.alloc(), segments)?;
-    assert_eq!(rt; words.as_slice(), text, "{name}");
-    let mut framed: Vec<u8> = Vec::new(rt.alloc());
-    serialize::write_message_segments(rt.alloc(), &mut framed, segments)?;
-    assert_eq!(rt; framed.as_slice(), text, "{name}");
-    let mut packed: Vec<u8> = Vec::new(rt.alloc());
-    serialize_packed::write_message_segments(rt.alloc(), &mut packed, segments)?;
-    assert_eq!(rt; packed.as_slice(), message.packed, "{name}");
-    Ok(())
+// Whether the segments take a given number of words framed.
+fn has_size<S: ReaderSegments>(segments: &S, words: usize) -> bool {
+    if !is_writable(segments) {
+        return false;
+    }
+    match serialized_size_in_words(segments) {
+        Ok(size) => size == words,
+        Err(_) => false,
+    }
 }
 
 // What a writer is given.
@@ -64,7 +54,17 @@ enum Form {
     Slices,
     Vectors,
     Owned,
+    Held,
 }
+
+const FORMS: [Form; 6] = [
+    Form::Array,
+    Form::Reference,
+    Form::Slices,
+    Form::Vectors,
+    Form::Owned,
+    Form::Held,
+];
 
 fn slices_of(alloc: Global, segments: &'static [&'static [u8]]) -> Result<Vec<&'static [u8]>> {
     let mut slices: Vec<&'static [u8]> = Vec::new(alloc);
@@ -84,142 +84,127 @@ fn vectors_of(alloc: Global, segments: &[&[u8]]) -> Result<Vec<Vec<u8>>> {
 
 // The segments of a packed text, each copied.
 fn owned_of(alloc: Global, mut packed: &[u8]) -> Result<OwnedSegments> {
-    let found = try_read_packed_segments(alloc, &mut packed, DEFAULT_READER_OPTIONS)?;
-    found.ok_or(Error::from_kind(ErrorKind::PrematureEndOfFile))
+    let options = DEFAULT_READER_OPTIONS;
+    match packed::next_segments(alloc, Padding::Zero, &mut packed, options)? {
+        Some(found) => Ok(found),
+        None => Err(Error::from_kind(ErrorKind::PrematureEndOfFile)),
+    }
 }
 
-fn write_form(rt: &(impl Abort + AllocGlobal), form: Form, message: &Message) -> Result<()> {
-    let array = SegmentArray::new(message.segments);
+// The segments of a framed text that is kept.
+fn held_of(rt: &(impl Abort + AllocGlobal), segments: &[&[u8]]) -> Result<BufferSegments<Vec<u8>>> {
+    let mut text: Vec<u8> = Vec::new(rt.alloc());
+    write(rt, Writer::Framed, &mut text, &SegmentArray::new(segments))?;
+    BufferSegments::new(rt.alloc(), text, DEFAULT_READER_OPTIONS)
+}
+
+fn write_form(
+    rt: &(impl Abort + AllocGlobal),
+    writer: Writer,
+    form: Form,
+    message: &Message,
+) -> Result<()> {
+    let segments = message.segments;
     match form {
-        Form::Array => write_message(rt, message, &array),
-        Form::Reference => write_message(rt, message, &&vectors_of(rt.alloc(), message.segments)?),
-        Form::Slices => write_message(rt, message, &slices_of(rt.alloc(), message.segments)?),
-        Form::Vectors => write_message(rt, message, &vectors_of(rt.alloc(), message.segments)?),
-        Form::Owned => write_message(rt, message, &owned_of(rt.alloc(), message.packed)?),
+        Form::Array => write_message(rt, writer, message, &SegmentArray::new(segments)),
+        Form::Reference => write_message(rt, writer, message, &&vectors_of(rt.alloc(), segments)?),
+        Form::Slices => write_message(rt, writer, message, &slices_of(rt.alloc(), segments)?),
+        Form::Vectors => write_message(rt, writer, message, &vectors_of(rt.alloc(), segments)?),
+        Form::Owned => write_message(rt, writer, message, &owned_of(rt.alloc(), message.packed)?),
+        Form::Held => write_message(rt, writer, message, &held_of(rt, segments)?),
     }
 }
 
 #[test]
 fn messages_in_each_form(rt: HostRuntime) -> Result<()> {
-    for form in [
-        Form::Array,
-        Form::Reference,
-        Form::Slices,
-        Form::Vectors,
-        Form::Owned,
-    ] {
-        retried!(write_each(&rt, form))?;
+    for writer in &WRITERS {
+        for form in &FORMS {
+            for message in &MESSAGES {
+                retried!(write_form(&rt, *writer, *form, message))?;
+            }
+        }
     }
-    Ok(())
-}
-
-fn write_each(rt: &(impl Abort + AllocGlobal), form: Form) -> Result<()> {
-    for message in MESSAGES {
-        write_form(rt, form, &message)?;
-    }
-    Ok(())
-}
-
-// Row flatten, byte by byte.
-#[test]
-fn a_flattened_message(rt: HostRuntime) -> Result<()> {
-    retried!(flatten(&rt))
-}
-
-fn flatten(rt: &(impl Abort + AllocGlobal)) -> Result<()> {
-    let segments: [&[u8]; 2] = [
-        &[123, 0, 0, 0, 0, 0, 0, 0],
-        &[4, 0, 0, 0, 0, 0, 0, 0, 5, 0, 0, 0, 0, 0, 0, 0],
-    ];
-    let array = SegmentArray::new(&segments);
-    assert!(rt; is_writable(&array));
-    let text = segments_to_words(rt.alloc(), &array)?;
-    assert_eq!(rt;
-        text.as_slice(),
-        [
-            1, 0, 0, 0, 1, 0, 0, 0, 2, 0, 0, 0, 0, 0, 0, 0, 123, 0, 0, 0, 0, 0, 0, 0, 4, 0, 0, 0,
-            0, 0, 0, 0, 5, 0, 0, 0, 0, 0, 0, 0
-        ]
-        .as_slice()
-    );
     Ok(())
 }
 
 #[test]
 fn as_many_segments_as_a_reader_accepts(rt: HostRuntime) -> Result<()> {
-    retried!(write_empty_segments(&rt))
-}
-
-// 511 empty segments: a table of 256 words, of which only the first isn't zero.
-fn write_empty_segments(rt: &(impl Abort + AllocGlobal)) -> Result<()> {
-    let segments: [&[u8]; 511] = [&[]; 511];
-    let array = SegmentArray::new(&segments);
-    assert!(rt; is_writable(&array));
-    assert_eq!(rt; serialized_size_in_words(&array)?, 256);
-    let mut framed: Vec<u8> = Vec::new(rt.alloc());
-    write_segments(rt.alloc(), &mut framed, &array)?;
-    assert_eq!(rt; framed.len(), 2048);
-    assert!(rt; framed.as_slice().starts_with(&[254, 1, 0, 0]));
-    assert!(rt; framed.as_slice().ends_with(&[0; 2044]));
-    let mut packed: Vec<u8> = Vec::new(rt.alloc());
-    write_segments(rt.alloc(), &mut PackedWrite::new(&mut packed), &array)?;
-    assert_eq!(rt; packed.as_slice(), [3, 254, 1, 0, 254].as_slice());
-    let mut source = framed.as_slice();
-    let found = try_read_segments(rt.alloc(), &mut source, DEFAULT_READER_OPTIONS)?;
-    assert!(rt; found.is_some_and(|found| has_segments(&found, &segments)));
-    assert!(rt; source.is_empty());
-    let mut source = packed.as_slice();
-    let found = try_read_packed_segments(rt.alloc(), &mut source, DEFAULT_READER_OPTIONS)?;
-    assert!(rt; found.is_some_and(|found| has_segments(&found, &segments)));
-    assert!(rt; source.is_empty());
+    for writer in &WRITERS {
+        retried!(write_empty_segments(&rt, *writer))?;
+    }
     Ok(())
 }
 
+// 511 empty segments: a table of 256 words, of which only the first isn't zero. Readers' rows have
+// these texts, too.
+fn write_empty_segments(rt: &(impl Abort + AllocGlobal), writer: Writer) -> Result<()> {
+    let mut text: Vec<u8> = Vec::new(rt.alloc());
+    write(rt, writer, &mut text, &SegmentArray::new(&NO_WORDS))?;
+    let is_written = match writer.format() {
+        Format::Framed => {
+            text.len() == 2048
+                && text.as_slice().starts_with(&[254, 1, 0, 0])
+                && text.as_slice().ends_with(&[0; 2044])
+        }
+        Format::Packed => text.as_slice() == [3, 254, 1, 0, 254].as_slice(),
+    };
+    assert!(rt; is_written, "{writer:?}");
+    Ok(())
+}
+
+// A table has a word of its own even where there are no segments.
 #[test]
-fn messages_after_one_another(rt: HostRuntime) -> Result<()> {
-    retried!(write_and_read_back(&rt))
+fn the_sizes_of_empty_segments(rt: HostRuntime) {
+    assert!(rt; has_size(&SegmentArray::new(&NO_WORDS), 256));
+    assert!(rt; serialized_size_in_words(&SegmentArray::new(&[])).is_ok_and(|size| size == 1));
 }
 
 // What is written is read back as it was, and then there is no message.
-fn write_and_read_back(rt: &(impl Abort + AllocGlobal)) -> Result<()> {
-    let mut framed: Vec<u8> = Vec::new(rt.alloc());
-    let mut packed: Vec<u8> = Vec::new(rt.alloc());
-    append_each(rt, &mut framed)?;
-    append_each(rt, &mut PackedWrite::new(&mut packed))?;
-    let mut plain = framed.as_slice();
-    let mut short = packed.as_slice();
-    for message in MESSAGES {
-        let name = message.name;
-        let found = try_read_segments(rt.alloc(), &mut plain, DEFAULT_READER_OPTIONS)?;
-        assert!(rt;
-            found.is_some_and(|found| has_segments(&found, message.segments)),
-            "{name}"
-        );
-        let found = try_read_packed_segments(rt.alloc(), &mut short, DEFAULT_READER_OPTIONS)?;
-        assert!(rt;
-            found.is_some_and(|found| has_segments(&found, message.segments)),
-            "{name}"
-        );
+#[test]
+fn messages_after_one_another(rt: HostRuntime) -> Result<()> {
+    for format in &FORMATS {
+        retried!(append_and_read(&rt, *format))?;
     }
-    let found = try_read_segments(rt.alloc(), &mut plain, DEFAULT_READER_OPTIONS)?;
-    assert!(rt; found.is_none());
-    let found = try_read_packed_segments(rt.alloc(), &mut short, DEFAULT_READER_OPTIONS)?;
-    assert!(rt; found.is_none());
     Ok(())
+}
+
+fn append_and_read(rt: &(impl Abort + AllocGlobal), format: Format) -> Result<()> {
+    let mut text: Vec<u8> = Vec::new(rt.alloc());
+    append_each(rt, format, &MESSAGES, &mut text)?;
+    read_each(rt, format, &MESSAGES, &text)
 }
 
 // Appends all messages to one sink.
-fn append_each<W: Write>(rt: &(impl Abort + AllocGlobal), sink: &mut W) -> Result<()> {
-    for message in MESSAGES {
-        let array = SegmentArray::new(message.segments);
-        assert!(rt; is_writable(&array));
-        write_segments(rt.alloc(), sink, &array)?;
+fn append_each(
+    rt: &(impl Abort + AllocGlobal),
+    format: Format,
+    messages: &[Message],
+    text: &mut Vec<u8>,
+) -> Result<()> {
+    let writer = match format {
+        Format::Framed => Writer::Framed,
+        Format::Packed => Writer::Packed,
+    };
+    for message in messages {
+        write(rt, writer, text, &SegmentArray::new(message.segments))?;
     }
     Ok(())
 }
 
-#[test]
-fn the_table_of_no_segments(rt: HostRuntime) -> Result<()> {
-    assert_eq!(rt; serialized_size_in_words(&SegmentArray::new(&[]))?, 1);
+fn read_each(
+    rt: &(impl Abort + AllocGlobal),
+    format: Format,
+    messages: &[Message],
+    text: &[u8],
+) -> Result<()> {
+    let call = (format, Padding::Zero, Reader::Copying);
+    let mut source = text;
+    for message in messages {
+        let wanted = Wanted::Segments(message.segments);
+        let returned = is_returned(rt.alloc(), call, &mut source, DEFAULT_LIMIT, wanted)?;
+        assert_call(rt, returned, call, At::row(message.name));
+    }
+    let ended = is_returned(rt.alloc(), call, &mut source, DEFAULT_LIMIT, Wanted::End)?;
+    assert_call(rt, ended, call, At::row("the end"));
     Ok(())
 }
