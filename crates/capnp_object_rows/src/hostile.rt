@@ -1,102 +1,78 @@
 //! Objects of messages, by each view and walk, from segments that anyone may have written.
-use crate::roots::{REFUSED, ROOTS, Walked};
-use capnp_frame::message::{ReaderOptions, ReaderSegments, SegmentArray};
+use crate::fixtures::{
+    Walked, arena_of, expect, is_canonical, kind_of, refusals_of, root_as_any, root_as_data,
+    root_as_text, size_of,
+};
+use crate::roots::{REFUSED, ROOTS, Refused, Root};
 use capnp_frame::{ErrorKind, Result};
 use capnp_rows::limits::{DEFAULT_LIMIT, NO_LIMIT};
 use capnp_rows::retried;
-use capnp_wire::any_struct::StructReader;
-use capnp_wire::arena::ReaderArena;
-use capnp_wire::{any_pointer, primitive_list, text};
 use std::alloc::Global;
 use std::process::Abort;
 
-fn arena_of<'a>(
-    segments: &'a [&'a [u8]],
-    limit: Option<usize>,
-    nesting: i32,
-) -> ReaderArena<SegmentArray<'a>> {
-    let mut options = ReaderOptions::new();
-    let _ = options
-        .traversal_limit_in_words(limit)
-        .nesting_limit(nesting);
-    ReaderArena::new(SegmentArray::new(segments), options)
-}
-
-fn as_text<S: ReaderSegments>(arena: &ReaderArena<S>) -> Result<text::Reader<'_>> {
-    arena.get_root()?.get_as()
-}
-
-fn as_data<S: ReaderSegments>(arena: &ReaderArena<S>) -> Result<&[u8]> {
-    arena.get_root()?.get_as()
-}
-
-fn as_words<S: ReaderSegments>(arena: &ReaderArena<S>) -> Result<primitive_list::Reader<'_, u64>> {
-    arena.get_root()?.get_as()
-}
-
-fn as_struct<S: ReaderSegments>(arena: &ReaderArena<S>) -> Result<StructReader<'_, S>> {
-    arena.get_root()?.get_as()
-}
-
-fn as_any<S: ReaderSegments>(arena: &ReaderArena<S>) -> Result<any_pointer::Reader<'_, S>> {
-    arena.get_root()?.get_as()
-}
-
-fn refusal<T: Drop>(returned: Result<T>) -> Option<ErrorKind> {
-    returned.err().map(|error| error.kind)
-}
-
-fn size_of<S: ReaderSegments>(arena: &ReaderArena<S>) -> Walked<u64> {
-    let root = arena.get_root().map_err(|error| error.kind)?;
-    let size = root.target_size().map_err(|error| error.kind)?;
-    Ok(size.word_count)
-}
-
-fn is_canonical<S: ReaderSegments>(arena: &ReaderArena<S>) -> Walked<bool> {
-    arena.is_canonical().map_err(|error| error.kind)
-}
-
-// The refusals as text, as data, as a list of words and as a struct, each of an arena of which nothing
-// has been read.
-fn refusals_of(segments: &[&[u8]], limit: Option<usize>, nesting: i32) -> [Option<ErrorKind>; 4] {
-    [
-        refusal(as_text(&arena_of(segments, limit, nesting))),
-        refusal(as_data(&arena_of(segments, limit, nesting))),
-        refusal(as_words(&arena_of(segments, limit, nesting))),
-        refusal(as_struct(&arena_of(segments, limit, nesting))),
-    ]
-}
-
 #[test]
 fn roots(rt: HostRuntime) {
-    for (segments, limit, refusals, text, data, size, canonical) in ROOTS {
-        let found = refusals_of(segments, limit, 64);
-        assert_eq!(rt; found, refusals, "{segments:?}, {limit:?}");
-        let arena = arena_of(segments, limit, 64);
-        assert!(rt;
-            as_text(&arena).is_ok_and(|found| found.as_bytes() == text) == refusals[0].is_none()
-        );
-        let arena = arena_of(segments, limit, 64);
-        assert!(rt; as_data(&arena).is_ok_and(|found| found == data) == refusals[1].is_none());
-        assert!(rt; as_any(&arena).is_ok());
-        // Each walk counts by itself what it enters, whatever was read before.
-        for _ in 0..2 {
-            assert_eq!(rt; size_of(&arena), size, "{segments:?}, {limit:?}");
-            assert_eq!(rt; is_canonical(&arena), canonical, "{segments:?}, {limit:?}");
-        }
+    for row in &ROOTS {
+        expect_root(&rt, row);
+        expect_walks(&rt, row);
+    }
+}
+
+// What there is of a view where there is one.
+fn bytes_of<'a>(view: Result<&'a [u8]>) -> Option<&'a [u8]> {
+    match view {
+        Ok(bytes) => Some(bytes),
+        Err(_) => None,
+    }
+}
+
+fn expect_root(rt: &impl Abort, row: &Root) {
+    let (segments, limit, refusals, text, data, _, _) = *row;
+    let found = refusals_of(segments, limit, 64);
+    expect(rt, (segments, limit), found, refusals);
+    let arena = arena_of(segments, limit, 64);
+    let wanted = if refusals[0].is_none() {
+        Some(text)
+    } else {
+        None
+    };
+    expect(rt, segments, bytes_of(root_as_text(&arena)), wanted);
+    let arena = arena_of(segments, limit, 64);
+    let wanted = if refusals[1].is_none() {
+        Some(data)
+    } else {
+        None
+    };
+    expect(rt, segments, bytes_of(root_as_data(&arena)), wanted);
+}
+
+// Each walk counts by itself what it enters, whatever was read before.
+fn expect_walks(rt: &impl Abort, row: &Root) {
+    let (segments, limit, _, _, _, size, canonical) = *row;
+    let arena = arena_of(segments, limit, 64);
+    let _ = root_as_data(&arena);
+    assert!(rt; root_as_any(&arena).is_ok());
+    for _ in 0..2 {
+        let found = (size_of(&arena), is_canonical(&arena));
+        expect(rt, (segments, limit), found, (size, canonical));
     }
 }
 
 #[test]
 fn refused_roots(rt: HostRuntime) {
-    for (segments, nesting, kind, canonical) in REFUSED {
-        let found = refusals_of(segments, DEFAULT_LIMIT, nesting);
-        assert_eq!(rt; found, [Some(kind); 4], "{segments:?}, {nesting}");
-        let arena = arena_of(segments, DEFAULT_LIMIT, nesting);
-        assert_eq!(rt; as_any(&arena).is_ok(), arena.get_root().is_ok());
-        assert_eq!(rt; size_of(&arena), Err(kind), "{segments:?}, {nesting}");
-        assert_eq!(rt; is_canonical(&arena), canonical, "{segments:?}, {nesting}");
+    for row in &REFUSED {
+        expect_refused(&rt, row);
     }
+}
+
+fn expect_refused(rt: &impl Abort, row: &Refused) {
+    let (segments, nesting, kind, canonical) = *row;
+    let found = refusals_of(segments, DEFAULT_LIMIT, nesting);
+    expect(rt, (segments, nesting), found, [Some(kind); 4]);
+    let arena = arena_of(segments, DEFAULT_LIMIT, nesting);
+    assert!(rt; root_as_any(&arena).is_ok() == arena.get_root().is_ok());
+    let found = (size_of(&arena), is_canonical(&arena));
+    expect(rt, (segments, nesting), found, (Err(kind), canonical));
 }
 
 // Row read-limit: each read is counted against the traversal limit, and a refused one counts
@@ -107,19 +83,17 @@ fn what_is_read_is_counted(rt: HostRuntime) -> Result<()> {
     let segments: [&[u8]; 1] = [b"\x01\0\0\0\x72\0\0\0Hello, World!\0\0\0"];
     let arena = arena_of(&segments, Some(3), 64);
     for _ in 0..3 {
-        assert!(rt; !as_any(&arena)?.is_null());
-        assert_eq!(rt; size_of(&arena), Ok(2));
-        assert_eq!(rt; is_canonical(&arena), Ok(true));
+        assert!(rt; !root_as_any(&arena)?.is_null());
+        let walked = (size_of(&arena), is_canonical(&arena));
+        expect(&rt, "walks", walked, (Ok(2), Ok(true)));
     }
-    let text = as_text(&arena)?;
-    assert_eq!(rt; text.as_bytes(), b"Hello, World!".as_slice());
+    let text = root_as_text(&arena)?;
+    expect(&rt, "a text", text, b"Hello, World!".as_slice());
     for _ in 0..3 {
-        assert_eq!(rt;
-            refusal(as_text(&arena)),
-            Some(ErrorKind::ReadLimitExceeded)
-        );
+        let refused = kind_of(root_as_text(&arena));
+        expect(&rt, "again", refused, Some(ErrorKind::ReadLimitExceeded));
     }
-    assert_eq!(rt; size_of(&arena), Ok(2));
+    expect(&rt, "a walk", size_of(&arena), Ok(2));
     Ok(())
 }
 
@@ -213,6 +187,6 @@ fn walk(
 ) {
     let segments = [bytes];
     let arena = arena_of(&segments, limit, 64);
-    assert_eq!(rt; size_of(&arena), size);
-    assert_eq!(rt; is_canonical(&arena), canonical);
+    let found = (size_of(&arena), is_canonical(&arena));
+    expect(rt, limit, found, (size, canonical));
 }

@@ -1,18 +1,22 @@
 //! Canonical words of hostile messages, and new messages whose root is set to theirs.
+use crate::building::expect_segments;
+use crate::fixtures::expect;
 use crate::hostile::{chain, doublings, shared_lists};
 use capnp_build::allocator::Allocator;
 use capnp_frame::message::{ReaderOptions, ReaderSegments, SegmentArray};
 use capnp_frame::{ErrorKind, Result, Word};
 use capnp_message::{Builder, HeapAllocator, Reader};
 use capnp_rows::limits::{DEFAULT_LIMIT, NO_LIMIT};
+use capnp_rows::messages::has_segments;
 use capnp_rows::retried;
 use capnp_wire::any_pointer;
 use std::alloc::Global;
 use std::process::Abort;
 
-type Source<'a> = Reader<SegmentArray<'a>>;
+pub type Source<'a> = Reader<SegmentArray<'a>>;
 
-fn reader_of<'a>(segments: &'a [&'a [u8]], limit: Option<usize>) -> Source<'a> {
+/// A message that is read within a traversal limit.
+pub fn reader_of<'a>(segments: &'a [&'a [u8]], limit: Option<usize>) -> Source<'a> {
     let mut options = ReaderOptions::new();
     let _ = options.traversal_limit_in_words(limit);
     Reader::new(SegmentArray::new(segments), options)
@@ -27,12 +31,14 @@ fn refusal<T: Drop>(returned: Result<T>) -> Result<Option<ErrorKind>> {
     }
 }
 
-fn set<A: Allocator>(message: &mut Builder<A>, reader: &Source<'_>) -> Result<()> {
+/// Makes the root of one message that of another.
+pub fn set<A: Allocator>(message: &mut Builder<A>, reader: &Source<'_>) -> Result<()> {
     let root: any_pointer::Reader<'_, SegmentArray<'_>> = reader.get_root()?;
     message.set_root::<any_pointer::Owned, any_pointer::Reader<'_, SegmentArray<'_>>>(root)
 }
 
-fn set_canonical<A: Allocator>(message: &mut Builder<A>, reader: &Source<'_>) -> Result<()> {
+/// The same in canonical form.
+pub fn set_canonical<A: Allocator>(message: &mut Builder<A>, reader: &Source<'_>) -> Result<()> {
     let root: any_pointer::Reader<'_, SegmentArray<'_>> = reader.get_root()?;
     message.set_root_canonical::<any_pointer::Owned, any_pointer::Reader<'_, SegmentArray<'_>>>(
         root,
@@ -41,12 +47,7 @@ fn set_canonical<A: Allocator>(message: &mut Builder<A>, reader: &Source<'_>) ->
 
 /// Whether the one word of the message is a null root; where there was no root to set, there is none.
 pub fn is_null<A: Allocator>(message: &Builder<A>) -> bool {
-    message.is_empty()
-        || message.size_in_words() == 1
-            && message
-                .get_segment(0)
-                .is_some_and(|segment| segment == [0; 8].as_slice())
-            && message.get_segment(1).is_none()
+    message.is_empty() || message.size_in_words() == 1 && has_segments(message, &[&[0; 8]])
 }
 
 // Messages that are refused: by `canonicalize`, by `set_root`, and by `set_root_canonical`.
@@ -58,14 +59,14 @@ fn refuse(
 ) -> Result<()> {
     let alloc = rt.alloc();
     let reader = reader_of(segments, limit);
-    assert_eq!(rt; refusal(reader.canonicalize(alloc))?, Some(canonical));
+    let found = refusal(reader.canonicalize(alloc))?;
+    expect(rt, segments, found, Some(canonical));
     let mut message: Builder<HeapAllocator> = Builder::new_default(alloc);
-    assert_eq!(rt; refusal(set(&mut message, &reader))?, Some(as_it_stands));
+    let found = refusal(set(&mut message, &reader))?;
+    expect(rt, segments, found, Some(as_it_stands));
     assert!(rt; is_null(&message));
-    assert_eq!(rt;
-        refusal(set_canonical(&mut message, &reader))?,
-        Some(in_canonical_form)
-    );
+    let found = refusal(set_canonical(&mut message, &reader))?;
+    expect(rt, segments, found, Some(in_canonical_form));
     assert!(rt; is_null(&message));
     Ok(())
 }
@@ -96,8 +97,8 @@ const ROOTS: [(&[&[u8]], ErrorKind); 10] = [
 
 #[test]
 fn refused_roots(rt: HostRuntime) -> Result<()> {
-    for (segments, kind) in ROOTS {
-        retried!(refuse(&rt, segments, DEFAULT_LIMIT, [kind; 3]))?;
+    for (segments, kind) in &ROOTS {
+        retried!(refuse(&rt, segments, DEFAULT_LIMIT, [*kind; 3]))?;
     }
     Ok(())
 }
@@ -111,26 +112,31 @@ pub fn joined(alloc: Global, words: &[Word]) -> Result<Vec<u8>> {
     Ok(bytes)
 }
 
+/// The bytes of the canonical words of a message.
+pub fn canonical_bytes_of(alloc: Global, reader: &Source<'_>) -> Result<Vec<u8>> {
+    joined(alloc, &reader.canonicalize(alloc)?)
+}
+
+const NOTHINGS: &[u8] = b"\x01\0\0\0\xf8\xff\xff\xff";
+
+const EMPTY_STRUCTS: &[u8] = b"\x01\0\0\0\x07\0\0\0\0\0\0\x04\0\0\0\0";
+
 // Without a limit both lists are canonical, and are their own canonical words.
 #[test]
 fn many_elements_of_no_words(rt: HostRuntime) -> Result<()> {
-    retried!(make_lists(&rt))
+    retried!(make_list(&rt, NOTHINGS))?;
+    retried!(make_list(&rt, EMPTY_STRUCTS))
 }
 
-fn make_lists(rt: &(impl Abort + AllocGlobal)) -> Result<()> {
-    for bytes in [
-        b"\x01\0\0\0\xf8\xff\xff\xff".as_slice(),
-        b"\x01\0\0\0\x07\0\0\0\0\0\0\x04\0\0\0\0",
-    ] {
-        let segments = [bytes];
-        let reader = reader_of(&segments, NO_LIMIT);
-        assert!(rt; reader.is_canonical()?);
-        let words = joined(rt.alloc(), &reader.canonicalize(rt.alloc())?)?;
-        assert_eq!(rt; words.as_slice(), bytes);
-        let mut message: Builder<HeapAllocator> = Builder::new_default(rt.alloc());
-        set(&mut message, &reader)?;
-        assert_eq!(rt; message.get_segment(0), Some(bytes));
-    }
+fn make_list(rt: &(impl Abort + AllocGlobal), bytes: &[u8]) -> Result<()> {
+    let segments = [bytes];
+    let reader = reader_of(&segments, NO_LIMIT);
+    assert!(rt; reader.is_canonical()?);
+    let words = canonical_bytes_of(rt.alloc(), &reader)?;
+    expect(rt, "canonical words", words.as_slice(), bytes);
+    let mut message: Builder<HeapAllocator> = Builder::new_default(rt.alloc());
+    set(&mut message, &reader)?;
+    expect_segments(rt, "as it stands", &message, &segments);
     Ok(())
 }
 
@@ -146,19 +152,22 @@ fn follow_chains(rt: &(impl Abort + AllocGlobal)) -> Result<()> {
     let bytes = chain(alloc, 64)?;
     let segments = [bytes.as_slice()];
     let reader = reader_of(&segments, DEFAULT_LIMIT);
-    let words = joined(alloc, &reader.canonicalize(alloc)?)?;
-    assert_eq!(rt; words.len(), 512);
-    for (index, word) in words.chunks(8).enumerate() {
-        let wanted = if index < 63 {
-            b"\0\0\0\0\0\0\x01\0".as_slice()
-        } else {
-            b"\xfc\xff\xff\xff\0\0\0\0".as_slice()
-        };
-        assert_eq!(rt; word, wanted, "word {index}");
-    }
+    let words = canonical_bytes_of(alloc, &reader)?;
+    let wanted = trimmed_chain(alloc)?;
+    expect(rt, "canonical words", words.as_slice(), wanted.as_slice());
     assert!(rt; !reader.is_canonical()?);
     let bytes = chain(alloc, 65)?;
     refuse(rt, &[bytes.as_slice()], DEFAULT_LIMIT, [DEEP; 3])
+}
+
+/// 63 structs of one pointer, each to the next, and an empty one: the canonical form of 64.
+pub fn trimmed_chain(alloc: Global) -> Result<Vec<u8>> {
+    let mut bytes = Vec::new(alloc);
+    for _ in 0..63 {
+        bytes.extend_from_slice(b"\0\0\0\0\0\0\x01\0")?;
+    }
+    bytes.extend_from_slice(b"\xfc\xff\xff\xff\0\0\0\0")?;
+    Ok(bytes)
 }
 
 // A tree of 2^40 - 1 structs in 81 words ends at the limit. At the default one, of 8,388,608 words, it

@@ -5,9 +5,13 @@
 #[cfg(test)]
 mod builder_memory;
 #[cfg(test)]
+mod building;
+#[cfg(test)]
 mod calls;
 #[cfg(test)]
 mod data_sections;
+#[cfg(test)]
+mod fixtures;
 #[cfg(test)]
 mod hostile;
 #[cfg(test)]

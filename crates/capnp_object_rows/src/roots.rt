@@ -1,10 +1,7 @@
 //! Roots of messages, whole and hostile, as segments and results.
+use crate::fixtures::Walked;
 use capnp_frame::ErrorKind;
 use capnp_rows::limits::{DEFAULT_LIMIT, NO_LIMIT};
-use std::result;
-
-/// What a walk over all that the root leads to returns.
-pub type Walked<T> = result::Result<T, ErrorKind>;
 
 /// Segments and a traversal limit; and of an arena of which nothing has been read the refusals as
 /// text, as data, as a list of words and as a struct, the bytes of the text and of the data, the words

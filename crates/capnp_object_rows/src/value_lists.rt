@@ -1,10 +1,9 @@
 //! Lists of structs, of numbers and of lists that are set at the root of a message, by bytes worked from
 //! the encoding document, "Lists" and "Canonicalization".
-use crate::values::{compare_by_each, compare_canonical};
-use capnp_frame::{ErrorKind, Result};
+use crate::values::{compare_by_each, compare_canonical, expect_too_large};
+use capnp_frame::Result;
 use capnp_values::{Field, NoFields, Null, NumberList, PointerList, StructList, StructValue};
 use capnp_wire::primitive_element::PrimitiveElement;
-use capnp_wire::traits::SetterInput;
 use capnp_wire::{any_struct, list_list, primitive_list, struct_list, text};
 use std::process::Abort;
 
@@ -172,10 +171,10 @@ fn lists_of_lists_stand_at_the_root(rt: HostRuntime) -> Result<()> {
 
 // 2^16 data words, and 2^29 elements, are too many for a tag and for a pointer.
 #[test]
-fn too_many_elements_are_refused(rt: HostRuntime) -> Result<()> {
+fn too_many_elements_are_refused(rt: HostRuntime) {
     let large = [StructValue::new([0; 65536], NoFields)];
     let list = StructList::new(&large);
-    let refusal = SetterInput::<struct_list::Owned>::measure(&list, true).err();
-    assert!(rt; refusal.is_some_and(|error| error.kind == ErrorKind::AllocationTooLarge(65536)));
-    Ok(())
+    expect_too_large::<struct_list::Owned, StructList<'_, StructValue<65536, NoFields>>>(
+        &rt, &list,
+    );
 }

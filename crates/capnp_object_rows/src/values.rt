@@ -1,5 +1,7 @@
 //! Composed values that are set at the root of a message, by bytes worked from the encoding document,
 //! "Structs", "Lists" and "Canonicalization".
+use crate::building::{expect_segments, far_message};
+use crate::fixtures::{Walked, expect};
 use capnp_build::allocator::Allocator;
 use capnp_frame::message::ReaderSegments;
 use capnp_frame::{ErrorKind, Result};
@@ -91,29 +93,45 @@ fn compare<T, V: SetterInput<T>, A: Allocator>(
     segment: u32,
     expected: &[u8],
 ) -> Result<()> {
-    retried!(message.set_root::<T, Borrowed<'_, V>>(Borrowed::new(value)))?;
-    assert!(rt;
-        message
-            .get_segment(segment)
-            .is_some_and(|bytes| bytes == expected)
-    );
+    retried!(set::<T, V, A>(message, value))?;
+    expect(rt, segment, message.get_segment(segment), Some(expected));
     Ok(())
 }
 
-// The same by each allocator. A heap whose first segment has the root alone has the value in the next
-// one, after a landing pad that is as the root's pointer would be.
+fn set<T, V: SetterInput<T>, A: Allocator>(message: &mut Builder<A>, value: &V) -> Result<()> {
+    message.set_root::<T, Borrowed<'_, V>>(Borrowed::new(value))
+}
+
+/// The same by each allocator.
 pub(crate) fn compare_by_each<T, V: SetterInput<T>>(
+    rt: &(impl Abort + AllocGlobal),
+    value: &V,
+    expected: &[u8],
+) -> Result<()> {
+    compare_in_heaps::<T, V>(rt, value, expected)?;
+    compare_in_regions::<T, V>(rt, value, expected)
+}
+
+// A heap whose first segment has the root alone has the value in the next one, after a landing pad that
+// is as the root's pointer would be.
+fn compare_in_heaps<T, V: SetterInput<T>>(
     rt: &(impl Abort + AllocGlobal),
     value: &V,
     expected: &[u8],
 ) -> Result<()> {
     let mut message = Builder::new_default(rt.alloc());
     compare::<T, V, HeapAllocator>(rt, &mut message, value, 0, expected)?;
-    let small = HeapAllocator::new(rt.alloc()).first_segment_words(1);
-    let mut message = Builder::new(rt.alloc(), small);
+    let mut message = far_message(rt.alloc());
     let near = expected.len() == 8;
     let segment = if near { 0 } else { 1 };
-    compare::<T, V, HeapAllocator>(rt, &mut message, value, segment, expected)?;
+    compare::<T, V, HeapAllocator>(rt, &mut message, value, segment, expected)
+}
+
+fn compare_in_regions<T, V: SetterInput<T>>(
+    rt: &(impl Abort + AllocGlobal),
+    value: &V,
+    expected: &[u8],
+) -> Result<()> {
     let mut region = [7; 96];
     let mut single = SingleSegmentAllocator::new(&mut region);
     let mut message = Builder::new(rt.alloc(), &mut single);
@@ -143,7 +161,11 @@ fn lists_of_pointers_stand_at_the_root(rt: HostRuntime) -> Result<()> {
     let two = ["Ann", "Bo"];
     let group = StructValue::new([7], Field::new(PointerList::new(&two), NoFields));
     compare_by_each::<any_struct::Owned, Group<'_>>(&rt, &group, GROUP)?;
-    compare_canonical::<any_struct::Owned, Group<'_>>(&rt, &group, GROUP)?;
+    compare_canonical::<any_struct::Owned, Group<'_>>(&rt, &group, GROUP)
+}
+
+#[test]
+fn lists_of_nulls_stand_at_the_root(rt: HostRuntime) -> Result<()> {
     let nulls = [Null, Null];
     let list = PointerList::new(&nulls);
     compare_canonical::<text_list::Owned, PointerList<'_, text::Owned, Null>>(&rt, &list, NULLS)?;
@@ -158,13 +180,16 @@ pub(crate) fn compare_canonical<T, V: SetterInput<T>>(
     expected: &[u8],
 ) -> Result<()> {
     let mut message = Builder::new_default(rt.alloc());
-    retried!(message.set_root_canonical::<T, Borrowed<'_, V>>(Borrowed::new(value)))?;
-    assert!(rt;
-        message
-            .get_segment(0)
-            .is_some_and(|bytes| bytes == expected)
-    );
+    retried!(set_canonical::<T, V>(&mut message, value))?;
+    expect_segments(rt, "canonical form", &message, &[expected]);
     Ok(())
+}
+
+fn set_canonical<T, V: SetterInput<T>>(
+    message: &mut Builder<HeapAllocator>,
+    value: &V,
+) -> Result<()> {
+    message.set_root_canonical::<T, Borrowed<'_, V>>(Borrowed::new(value))
 }
 
 #[test]
@@ -177,14 +202,29 @@ fn canonical_forms_are_trimmed(rt: HostRuntime) -> Result<()> {
     )
 }
 
+// The words that are measured, or why there are none.
+fn measured<T, V: SetterInput<T>>(value: &V, canonical: bool) -> Walked<u32> {
+    match value.measure(canonical) {
+        Ok(words) => Ok(words),
+        Err(error) => Err(error.kind),
+    }
+}
+
+/// What is told of a struct of more data words than a pointer can tell.
+pub(crate) fn expect_too_large<T, V: SetterInput<T>>(rt: &impl Abort, value: &V) {
+    let refused = Err(ErrorKind::AllocationTooLarge(65536));
+    expect(rt, "65,536 words", measured::<T, V>(value, true), refused);
+}
+
 // A pointer can tell 65,535 data words.
 #[test]
-fn too_many_words_are_refused(rt: HostRuntime) -> Result<()> {
-    let most = StructValue::new([0; 65535], NoFields);
-    assert!(rt; SetterInput::<any_struct::Owned>::measure(&most, false).is_ok_and(|n| n == 65535));
-    assert!(rt; SetterInput::<any_struct::Owned>::measure(&most, true).is_ok_and(|n| n == 0));
-    let more = StructValue::new([0; 65536], NoFields);
-    let refusal = SetterInput::<any_struct::Owned>::measure(&more, true).err();
-    assert!(rt; refusal.is_some_and(|error| error.kind == ErrorKind::AllocationTooLarge(65536)));
-    Ok(())
+fn too_many_words_are_refused(rt: HostRuntime) {
+    let most: StructValue<65535, NoFields> = StructValue::new([0; 65535], NoFields);
+    let found = [
+        measured::<any_struct::Owned, StructValue<65535, NoFields>>(&most, false),
+        measured::<any_struct::Owned, StructValue<65535, NoFields>>(&most, true),
+    ];
+    expect(&rt, "65,535 words", found, [Ok(65535), Ok(0)]);
+    let more: StructValue<65536, NoFields> = StructValue::new([0; 65536], NoFields);
+    expect_too_large::<any_struct::Owned, StructValue<65536, NoFields>>(&rt, &more);
 }

@@ -1,10 +1,7 @@
 //! Whatever a pointer leads to, as the view of its kind (encoding document, "Structs" and "Lists").
-use capnp_frame::Result;
-use capnp_frame::message::{ReaderOptions, ReaderSegments, SegmentArray};
-use capnp_rows::refusals::refusal;
+use crate::fixtures::{Arena, Numbered, arena_of, expect, root_as};
+use capnp_frame::message::{ReaderSegments, SegmentArray};
 use capnp_wire::any_object;
-use capnp_wire::arena::ReaderArena;
-use std::test::Fail;
 
 #[derive(Clone, Copy, Debug, PartialEq, Eq)]
 enum Kind {
@@ -57,20 +54,7 @@ const REFUSED: [(&[u8], i32, usize, u8); 8] = [
     (b"\x01\0\0\0\x16\0\0\0\0\0\0\0\0\0\0\0\0\0\0\0\0\0\0\0", 64, 1, 20),
 ];
 
-fn arena_of<'a>(
-    segments: &'a [&'a [u8]],
-    nesting: i32,
-    limit: usize,
-) -> ReaderArena<SegmentArray<'a>> {
-    let mut options = ReaderOptions::new();
-    options.traversal_limit_in_words(Some(limit));
-    options.nesting_limit(nesting);
-    ReaderArena::new(SegmentArray::new(segments), options)
-}
-
-fn root_of<'a, S: ReaderSegments>(arena: &'a ReaderArena<S>) -> Result<any_object::Reader<'a, S>> {
-    arena.get_root()?.get_as()
-}
+type Object<'a> = any_object::Reader<'a, SegmentArray<'a>>;
 
 fn outline<S: ReaderSegments>(view: any_object::Reader<'_, S>) -> (Kind, u32, u32, u64) {
     match view {
@@ -101,37 +85,46 @@ fn outline<S: ReaderSegments>(view: any_object::Reader<'_, S>) -> (Kind, u32, u3
     }
 }
 
-#[test]
-fn objects_of_each_kind(rt: HostRuntime) -> std::result::Result<(), Fail> {
-    for (segment, wanted) in OBJECTS {
-        let segments = [segment];
-        let arena = arena_of(&segments, 64, 1000);
-        assert_eq!(rt; outline(root_of(&arena)?), wanted, "at {segment:?}");
+// What the root leads to, or the number of its refusal.
+fn root_outline(arena: &Arena<'_>) -> Numbered<(Kind, u32, u32, u64)> {
+    match root_as::<SegmentArray<'_>, Object<'_>>(arena) {
+        Ok(view) => Ok(outline(view)),
+        Err(error) => Err(error.kind.number()),
     }
-    Ok(())
+}
+
+#[test]
+fn objects_of_each_kind(rt: HostRuntime) {
+    for (segment, wanted) in &OBJECTS {
+        let segments = [*segment];
+        let found = root_outline(&arena_of(&segments, Some(1000), 64));
+        expect(&rt, *segment, found, Ok(*wanted));
+    }
 }
 
 #[test]
 fn objects_that_are_refused(rt: HostRuntime) {
-    for (segment, nesting, limit, wanted) in REFUSED {
-        let segments = [segment];
-        let arena = arena_of(&segments, nesting, limit);
-        assert_eq!(rt; refusal(root_of(&arena)), wanted, "at {segment:?}");
+    for (segment, nesting, limit, wanted) in &REFUSED {
+        let segments = [*segment];
+        let found = root_outline(&arena_of(&segments, Some(*limit), *nesting));
+        expect(&rt, (*segment, *nesting, *limit), found, Err(*wanted));
     }
 }
 
 // An object is counted once for each time it is asked for, and not again when its elements are read; null
 // is counted not at all.
 #[test]
-fn objects_are_counted_once(rt: HostRuntime) -> std::result::Result<(), Fail> {
+fn objects_are_counted_once(rt: HostRuntime) {
     let segments = [b"\x01\0\0\0\x1a\0\0\0\x05\xfa\x07\0\0\0\0\0".as_slice()];
-    let arena = arena_of(&segments, 1, 2);
-    for _ in 0..2 {
-        assert_eq!(rt; outline(root_of(&arena)?), (Kind::Numbers, 3, 8, 7));
-    }
-    assert_eq!(rt; refusal(root_of(&arena)), 20);
+    let arena = arena_of(&segments, Some(2), 1);
+    let found = [
+        root_outline(&arena),
+        root_outline(&arena),
+        root_outline(&arena),
+    ];
+    let bytes = Ok((Kind::Numbers, 3, 8, 7));
+    expect(&rt, "bytes", found, [bytes, bytes, Err(20)]);
     let segments = [b"\0\0\0\0\0\0\0\0".as_slice()];
-    let arena = arena_of(&segments, 0, 0);
-    assert_eq!(rt; outline(root_of(&arena)?), (Kind::Null, 0, 0, 0));
-    Ok(())
+    let null = root_outline(&arena_of(&segments, Some(0), 0));
+    expect(&rt, "null", null, Ok((Kind::Null, 0, 0, 0)));
 }

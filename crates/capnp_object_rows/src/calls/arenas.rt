@@ -1,13 +1,14 @@
 //! Messages that are built, by their bytes.
+use crate::building::expect_segments;
+use crate::fixtures::{Arena, expect, plain_arena};
 use capnp_build::allocator::Allocator;
 use capnp_build::arena::builder_arena::BuilderArena;
+use capnp_build::owned_builder::OwnedBuilder;
 use capnp_build::{any_pointer, any_struct, data, primitive_list, text};
-use capnp_frame::message::{ReaderOptions, ReaderSegments, SegmentArray};
+use capnp_frame::message::{ReaderSegments, SegmentArray};
 use capnp_frame::{Error, ErrorKind, Result};
-use capnp_rows::refusals::allocation_refusal;
-use capnp_wire::arena::ReaderArena;
+use capnp_rows::refusals::{allocation_refusal, refusal};
 use std::alloc::Global;
-use std::test::Fail;
 
 /// Segments of a given number of words, or as many as are asked.
 #[derive(Drop)]
@@ -51,106 +52,119 @@ impl Allocator for WordsAllocator {
     ghost accounts = { λ s. ([], tt) };
 }
 
-pub fn arena_of(alloc: Global, words: u32) -> BuilderArena<WordsAllocator> {
+/// A message over such segments.
+pub type Words = BuilderArena<WordsAllocator>;
+
+/// A message over nine segments at most, each of a given number of words.
+pub fn arena_of(alloc: Global, words: u32) -> Words {
+    arena_of_segments(alloc, words, 9)
+}
+
+fn arena_of_segments(alloc: Global, words: u32, segments_left: u32) -> Words {
     let allocator = WordsAllocator {
         alloc,
         words,
-        segments_left: 9,
+        segments_left,
     };
     BuilderArena::new(alloc, allocator)
+}
+
+/// Makes a text the root.
+pub fn set_text(arena: &mut Words, text: &str) -> Result<()> {
+    arena.set_root::<text::Owned, &str>(&text)
+}
+
+/// How a view of the root is refused.
+pub fn view_refusal<K: OwnedBuilder>(arena: &mut Words) -> u8 {
+    refusal(arena.get_root::<K>())
+}
+
+fn init_refusal<K: OwnedBuilder>(arena: &mut Words, length: u32) -> (u8, u32) {
+    allocation_refusal(arena.initn_root::<K>(length))
 }
 
 const HELLO: &[u8] = b"\x05\0\0\0\x72\0\0\0\0\0\0\0\0\0\0\0Hello, World!\0\0\0";
 
 #[test]
-fn text_in_one_segment(rt: HostRuntime) -> std::result::Result<(), Fail> {
+fn text_in_one_segment(rt: HostRuntime) -> Result<()> {
     let mut arena = arena_of(rt.alloc(), 1024);
-    arena.set_root::<text::Owned, &str>(&"hello")?;
-    arena.set_root::<text::Owned, &str>(&"Hello, World!")?;
-    assert_eq!(rt; arena.size_in_words(), 4);
-    let segment = arena.get_segment(0).ok_or("no segment")?;
-    assert_eq!(rt; segment, HELLO);
+    set_text(&mut arena, "hello")?;
+    set_text(&mut arena, "Hello, World!")?;
+    expect(&rt, "words", arena.size_in_words(), 4);
+    expect_segments(&rt, "both", &arena, &[HELLO]);
     Ok(())
 }
 
 #[test]
-fn text_that_is_got(rt: HostRuntime) -> std::result::Result<(), Fail> {
+fn text_that_is_got(rt: HostRuntime) -> Result<()> {
     let mut arena = arena_of(rt.alloc(), 1024);
-    arena.set_root::<text::Owned, &str>(&"Hello, World!")?;
+    set_text(&mut arena, "Hello, World!")?;
     let mut view = arena.get_root::<text::Owned>()?;
     if view.len() > 12 {
         view.write(7, b"Earth?");
     }
-    assert_eq!(rt; view.len(), 13);
-    assert_eq!(rt; view.as_bytes(), b"Hello, Earth?".as_slice());
+    let found = (view.len(), view.as_bytes());
+    expect(&rt, "Earth", found, (13, b"Hello, Earth?".as_slice()));
     Ok(())
 }
 
 #[test]
-fn text_that_is_read(rt: HostRuntime) -> std::result::Result<(), Fail> {
+fn text_that_is_read(rt: HostRuntime) -> Result<()> {
     let mut arena = arena_of(rt.alloc(), 1024);
-    arena.set_root::<text::Owned, &str>(&"hello")?;
-    assert_eq!(rt;
-        allocation_refusal(arena.get_root::<primitive_list::Owned<u64>>()),
-        (22, 0)
-    );
+    set_text(&mut arena, "hello")?;
+    let refused = view_refusal::<primitive_list::Owned<u64>>(&mut arena);
+    expect(&rt, "no list", refused, 22);
     let reader = arena.get_root_as_reader();
     let read: capnp_wire::text::Reader<'_> = reader.get_as()?;
-    assert_eq!(rt; read.as_bytes(), b"hello".as_slice());
+    expect(&rt, "the text", read.as_bytes(), b"hello".as_slice());
     Ok(())
 }
 
+const FAR: &[u8] = b"\x02\0\0\0\x01\0\0\0";
+
+const PADDED: &[u8] = b"\x01\0\0\0\x6a\0\0\0hello world!\0\0\0\0";
+
 #[test]
-fn text_in_a_second_segment(rt: HostRuntime) -> std::result::Result<(), Fail> {
+fn text_in_a_second_segment(rt: HostRuntime) -> Result<()> {
     let mut arena = arena_of(rt.alloc(), 1);
     let mut view = arena.initn_root::<text::Owned>(12)?;
     view.write(0, b"hello world!");
-    let first = arena.get_segment(0).ok_or("no segment")?;
-    assert_eq!(rt; first, b"\x02\0\0\0\x01\0\0\0".as_slice());
-    let second = arena.get_segment(1).ok_or("no segment")?;
-    assert_eq!(rt;
-        second,
-        b"\x01\0\0\0\x6a\0\0\0hello world!\0\0\0\0".as_slice()
-    );
+    expect_segments(&rt, "far", &arena, &[FAR, PADDED]);
     Ok(())
 }
 
 #[test]
-fn canonical_in_one_segment_alone(rt: HostRuntime) -> std::result::Result<(), Fail> {
+fn canonical_in_one_segment_alone(rt: HostRuntime) -> Result<()> {
     let mut arena = arena_of(rt.alloc(), 1);
-    arena.set_root::<text::Owned, &str>(&"hello")?;
-    assert_eq!(rt;
-        allocation_refusal(arena.set_root_canonical::<text::Owned, &str>(&"a")),
-        (25, 0)
-    );
-    let null = arena.get_segment(0).ok_or("no segment")?;
-    assert_eq!(rt; null, b"\0\0\0\0\0\0\0\0".as_slice());
+    set_text(&mut arena, "hello")?;
+    let refused = refusal(arena.set_root_canonical::<text::Owned, &str>(&"a"));
+    expect(&rt, "two segments", refused, 25);
+    assert!(rt; is_null(&arena, 8));
     Ok(())
 }
 
+// Whether the first segment is so many zeros.
+fn is_null(arena: &Words, length: usize) -> bool {
+    match arena.get_segment(0) {
+        Some(segment) => segment.len() == length && segment.iter().all(|byte| *byte == 0),
+        None => false,
+    }
+}
+
 #[test]
-fn lengths_that_are_refused(rt: HostRuntime) -> std::result::Result<(), Fail> {
+fn lengths_that_are_refused(rt: HostRuntime) {
     let mut arena = arena_of(rt.alloc(), 1024);
-    assert_eq!(rt;
-        allocation_refusal(arena.initn_root::<any_struct::Owned>(65536)),
-        (15, 65536)
-    );
-    assert_eq!(rt; arena.size_in_words(), 1);
-    assert_eq!(rt;
-        allocation_refusal(arena.initn_root::<data::Owned>(536870912)),
-        (15, 67108864)
-    );
-    assert_eq!(rt;
-        allocation_refusal(arena.initn_root::<primitive_list::Owned<u64>>(536870912)),
-        (15, 536870912)
-    );
-    assert_eq!(rt;
-        allocation_refusal(arena.initn_root::<text::Owned>(536870911)),
-        (15, 67108864)
-    );
-    let null = arena.get_segment(0).ok_or("no segment")?;
-    assert_eq!(rt; null, b"\0\0\0\0\0\0\0\0".as_slice());
-    Ok(())
+    let found = init_refusal::<any_struct::Owned>(&mut arena, 65536);
+    expect(&rt, "a struct", found, (15, 65536));
+    expect(&rt, "words", arena.size_in_words(), 1);
+    let found = [
+        init_refusal::<data::Owned>(&mut arena, 536870912),
+        init_refusal::<primitive_list::Owned<u64>>(&mut arena, 536870912),
+        init_refusal::<text::Owned>(&mut arena, 536870911),
+    ];
+    let wanted = [(15, 67108864), (15, 536870912), (15, 67108864)];
+    expect(&rt, "lists", found, wanted);
+    assert!(rt; is_null(&arena, 8));
 }
 
 // A struct of two data words, of which the last is zero, and a text, after a far pointer.
@@ -159,72 +173,65 @@ const SOURCE: &[&[u8]] = &[
     b"\0\0\0\0\x02\0\x01\0\x07\0\0\0\0\0\0\0\0\0\0\0\0\0\0\0\x05\0\0\0\x12\0\0\0\xff\0\0\0\0\0\0\0A\0\0\0\0\0\0\0",
 ];
 
-#[test]
-fn objects_with_pointers(rt: HostRuntime) -> std::result::Result<(), Fail> {
-    let source = ReaderArena::new(SegmentArray::new(SOURCE), ReaderOptions::new());
-    let reader = source.get_root()?;
-    let mut arena = arena_of(rt.alloc(), 1024);
+// The root of that message.
+fn set_tree(arena: &mut Words, source: &Arena<'_>) -> Result<()> {
+    let root = source.get_root()?;
     arena.set_root::<any_pointer::Owned, capnp_wire::any_pointer::Reader<'_, SegmentArray<'_>>>(
-        &reader,
-    )?;
+        &root,
+    )
+}
+
+fn set_canonical_tree(arena: &mut Words, source: &Arena<'_>) -> Result<()> {
+    let root = source.get_root()?;
+    arena.set_root_canonical::<
+        any_pointer::Owned,
+        capnp_wire::any_pointer::Reader<'_, SegmentArray<'_>>,
+    >(&root)
+}
+
+// The struct with another second word, and the text.
+const CHANGED: &[u8] =
+    b"\0\0\0\0\x02\0\x01\0\x07\0\0\0\0\0\0\0\x09\0\0\0\0\0\0\0\x01\0\0\0\x12\0\0\0A\0\0\0\0\0\0\0";
+
+#[test]
+fn objects_with_pointers(rt: HostRuntime) -> Result<()> {
+    let mut arena = arena_of(rt.alloc(), 1024);
+    set_tree(&mut arena, &plain_arena(SOURCE))?;
     let mut view = arena.get_root::<any_struct::Owned>()?;
     if view.data_words() > 1 {
         view.set_word(1, 9);
     }
-    let segment = arena.get_segment(0).ok_or("no segment")?;
-    assert_eq!(rt;
-        segment,
-        b"\0\0\0\0\x02\0\x01\0\x07\0\0\0\0\0\0\0\x09\0\0\0\0\0\0\0\x01\0\0\0\x12\0\0\0A\0\0\0\0\0\0\0".as_slice()
-    );
+    expect_segments(&rt, "changed", &arena, &[CHANGED]);
     Ok(())
 }
 
 #[test]
-fn objects_after_a_landing_pad(rt: HostRuntime) -> std::result::Result<(), Fail> {
-    let source = ReaderArena::new(SegmentArray::new(SOURCE), ReaderOptions::new());
-    let reader = source.get_root()?;
+fn objects_after_a_landing_pad(rt: HostRuntime) -> Result<()> {
     let mut small = arena_of(rt.alloc(), 1);
-    small.set_root::<any_pointer::Owned, capnp_wire::any_pointer::Reader<'_, SegmentArray<'_>>>(
-        &reader,
-    )?;
-    let first = small.get_segment(0).ok_or("no segment")?;
-    assert_eq!(rt; first, b"\x02\0\0\0\x01\0\0\0".as_slice());
+    set_tree(&mut small, &plain_arena(SOURCE))?;
+    expect(&rt, "the root", small.get_segment(0), Some(FAR));
     Ok(())
 }
 
+const CANONICAL: &[u8] =
+    b"\0\0\0\0\x01\0\x01\0\x07\0\0\0\0\0\0\0\x01\0\0\0\x12\0\0\0A\0\0\0\0\0\0\0";
+
 #[test]
-fn canonical_form(rt: HostRuntime) -> std::result::Result<(), Fail> {
-    let source = ReaderArena::new(SegmentArray::new(SOURCE), ReaderOptions::new());
-    let reader = source.get_root()?;
+fn canonical_form(rt: HostRuntime) -> Result<()> {
     let mut whole = arena_of(rt.alloc(), 1024);
-    whole.set_root_canonical::<
-        any_pointer::Owned,
-        capnp_wire::any_pointer::Reader<'_, SegmentArray<'_>>,
-    >(&reader)?;
-    let canonical = whole.get_segment(0).ok_or("no segment")?;
-    assert_eq!(rt;
-        canonical,
-        b"\0\0\0\0\x01\0\x01\0\x07\0\0\0\0\0\0\0\x01\0\0\0\x12\0\0\0A\0\0\0\0\0\0\0".as_slice()
-    );
+    set_canonical_tree(&mut whole, &plain_arena(SOURCE))?;
+    expect_segments(&rt, "trimmed", &whole, &[CANONICAL]);
     Ok(())
 }
 
 #[test]
-fn segments_that_are_refused(rt: HostRuntime) -> std::result::Result<(), Fail> {
-    let allocator = WordsAllocator {
-        alloc: rt.alloc(),
-        words: 2,
-        segments_left: 1,
-    };
-    let mut arena = BuilderArena::new(rt.alloc(), allocator);
-    arena.set_root::<text::Owned, &str>(&"hello")?;
-    assert_eq!(rt;
-        allocation_refusal(arena.set_root::<text::Owned, &str>(&"a longer text")),
-        (12, 0)
-    );
-    let null = arena.get_segment(0).ok_or("no segment")?;
-    assert_eq!(rt; null, b"\0\0\0\0\0\0\0\0\0\0\0\0\0\0\0\0".as_slice());
+fn segments_that_are_refused(rt: HostRuntime) -> Result<()> {
+    let mut arena = arena_of_segments(rt.alloc(), 2, 1);
+    set_text(&mut arena, "hello")?;
+    let refused = refusal(set_text(&mut arena, "a longer text"));
+    expect(&rt, "no segment left", refused, 12);
+    assert!(rt; is_null(&arena, 16));
     let home = arena.into_allocator();
-    assert_eq!(rt; home.segments_left, 0);
+    expect(&rt, "segments left", home.segments_left, 0);
     Ok(())
 }

@@ -1,21 +1,21 @@
 //! Messages in canonical form, and others.
-use crate::hostile_messages::joined;
+use crate::fixtures::{Numbered, expect};
+use crate::hostile_messages::{Source, canonical_bytes_of, joined, reader_of};
+use capnp_frame::Result;
 use capnp_frame::message::{ReaderOptions, SegmentArray};
 use capnp_message::laws::canonicalize_twice;
 use capnp_message::reader::Reader;
 use capnp_rows::limits::DEFAULT_LIMIT;
 use capnp_rows::refusals::numbered;
 use capnp_wire::text;
-use std::test::Fail;
+use std::process::Abort;
 
-type Is = std::result::Result<bool, u8>;
-
-type Form = std::result::Result<&'static [u8], u8>;
+type Form = Numbered<&'static [u8]>;
 
 // Segments, a traversal limit, whether they are canonical, and their canonical words; a refusal by its
 // number.
 #[rattlefmt::skip]
-const EXPECTED: [(&[&[u8]], Option<usize>, Is, Form); 22] = [
+const EXPECTED: [(&[&[u8]], Option<usize>, Numbered<bool>, Form); 22] = [
     // "Hello, World!", within two words and not within one
     (&[b"\x01\0\0\0\x72\0\0\0Hello, World!\0\0\0"], DEFAULT_LIMIT,
         Ok(true), Ok(b"\x01\0\0\0\x72\0\0\0Hello, World!\0\0\0")),
@@ -66,72 +66,81 @@ const EXPECTED: [(&[&[u8]], Option<usize>, Is, Form); 22] = [
 
 // Each is asked twice: the walks leave what is read of the message as it was.
 #[test]
-fn canonical_words(rt: HostRuntime) -> std::result::Result<(), Fail> {
-    for (segments, limit, is_canonical, form) in EXPECTED {
-        let mut options = ReaderOptions::new();
-        options.traversal_limit_in_words(limit);
-        let reader = Reader::new(SegmentArray::new(segments), options);
+fn canonical_words(rt: HostRuntime) {
+    for (segments, limit, is_canonical, form) in &EXPECTED {
+        let reader = reader_of(segments, *limit);
         for _time in 0..2u32 {
-            assert_eq!(rt;
-                numbered(reader.is_canonical()),
-                is_canonical,
-                "at {segments:?}"
-            );
-            match numbered(reader.canonicalize(rt.alloc())) {
-                Ok(words) => {
-                    let bytes = joined(rt.alloc(), &words)?;
-                    assert_eq!(rt; Ok(bytes.as_slice()), form, "words at {segments:?}");
-                }
-                Err(number) => assert_eq!(rt; Err(number), form, "refused at {segments:?}"),
-            }
+            let found = numbered(reader.is_canonical());
+            expect(&rt, *segments, found, *is_canonical);
+            expect_form(&rt, segments, &reader, *form);
         }
     }
-    Ok(())
 }
 
+fn expect_form(
+    rt: &(impl Abort + AllocGlobal),
+    segments: &[&[u8]],
+    reader: &Source<'_>,
+    form: Form,
+) {
+    match canonical_bytes_of(rt.alloc(), reader) {
+        Ok(words) => expect(rt, segments, Ok(words.as_slice()), form),
+        Err(error) => expect(rt, segments, Err(error.kind.number()), form),
+    }
+}
+
+const HELLO_FAR: [&[u8]; 2] = [
+    b"\x02\0\0\0\x01\0\0\0",
+    b"\x01\0\0\0\x6a\0\0\0hello world!\0\0\0\0",
+];
+
 #[test]
-fn canonical_twice(rt: HostRuntime) -> std::result::Result<(), Fail> {
-    let segments: [&[u8]; 2] = [
-        b"\x02\0\0\0\x01\0\0\0",
-        b"\x01\0\0\0\x6a\0\0\0hello world!\0\0\0\0",
-    ];
+fn canonical_twice(rt: HostRuntime) -> Result<()> {
     let returned = canonicalize_twice(
         rt.alloc(),
-        SegmentArray::new(&segments),
+        SegmentArray::new(&HELLO_FAR),
         ReaderOptions::new(),
     )?;
     assert!(rt; returned.is_canonical);
     let words = joined(rt.alloc(), &returned.words)?;
-    assert_eq!(rt; words.as_slice(), segments[1]);
+    expect(&rt, "once", words.as_slice(), HELLO_FAR[1]);
     let again = joined(rt.alloc(), &returned.again)?;
-    assert_eq!(rt; again.as_slice(), segments[1]);
+    expect(&rt, "twice", again.as_slice(), HELLO_FAR[1]);
     Ok(())
 }
 
-// The root's text is after landing pads of one and of two words; another may be read once within its
-// limit.
+// The text at the root.
+fn root_text<'a>(reader: &'a Source<'_>) -> Result<&'a [u8]> {
+    let text: text::Reader<'_> = reader.get_root()?;
+    Ok(text.as_bytes())
+}
+
+const FAR: [&[u8]; 1] = [b"\x0a\0\0\0\0\0\0\0\x01\0\0\0\x12\0\0\0\x41\0\0\0\0\0\0\0"];
+
+const WIDE: [&[u8]; 3] = [
+    b"\x06\0\0\0\x01\0\0\0",
+    b"\x02\0\0\0\x02\0\0\0\x01\0\0\0\x12\0\0\0",
+    b"\x41\0\0\0\0\0\0\0",
+];
+
+// The root's text is after landing pads of one and of two words.
 #[test]
-fn roots(rt: HostRuntime) -> std::result::Result<(), Fail> {
-    let far: [&[u8]; 1] = [b"\x0a\0\0\0\0\0\0\0\x01\0\0\0\x12\0\0\0\x41\0\0\0\0\0\0\0"];
-    let reader = Reader::new(SegmentArray::new(&far), ReaderOptions::new());
-    let text: text::Reader<'_> = reader.get_root()?;
-    assert_eq!(rt; text.as_bytes(), b"A".as_slice());
-    assert_eq!(rt; reader.size_in_words(), 3);
+fn roots(rt: HostRuntime) -> Result<()> {
+    let reader = Reader::new(SegmentArray::new(&FAR), ReaderOptions::new());
+    expect(&rt, "far", root_text(&reader)?, b"A".as_slice());
+    expect(&rt, "words", reader.size_in_words(), 3);
+    let reader = reader_of(&WIDE, DEFAULT_LIMIT);
+    expect(&rt, "wide", root_text(&reader)?, b"A".as_slice());
+    Ok(())
+}
 
-    let wide: [&[u8]; 3] = [
-        b"\x06\0\0\0\x01\0\0\0",
-        b"\x02\0\0\0\x02\0\0\0\x01\0\0\0\x12\0\0\0",
-        b"\x41\0\0\0\0\0\0\0",
-    ];
-    let reader = Reader::new(SegmentArray::new(&wide), ReaderOptions::new());
-    let text: text::Reader<'_> = reader.get_root()?;
-    assert_eq!(rt; text.as_bytes(), b"A".as_slice());
-
+// A text of two words may be read once within three.
+#[test]
+fn a_typed_root(rt: HostRuntime) -> Result<()> {
     let hello: [&[u8]; 1] = [b"\x01\0\0\0\x72\0\0\0Hello, World!\0\0\0"];
-    let mut options = ReaderOptions::new();
-    options.traversal_limit_in_words(Some(3));
-    let typed = Reader::new(SegmentArray::new(&hello), options).into_typed::<text::Owned>();
-    assert_eq!(rt; typed.get()?.as_bytes(), b"Hello, World!".as_slice());
-    assert_eq!(rt; numbered(typed.get()).is_err(), true);
+    let typed = reader_of(&hello, Some(3)).into_typed::<text::Owned>();
+    let text = typed.get()?.as_bytes();
+    expect(&rt, "once", text, b"Hello, World!".as_slice());
+    assert!(rt; typed.get().is_err());
     Ok(())
 }

@@ -1,16 +1,12 @@
 //! Segments that are in canonical form, and others.
+use crate::fixtures::{Numbered, arena_of, by_number, expect, is_canonical};
 use crate::hostile;
-use capnp_frame::message::{ReaderOptions, SegmentArray};
+use capnp_frame::Result;
 use capnp_rows::limits::DEFAULT_LIMIT;
-use capnp_rows::refusals::numbered;
-use capnp_wire::arena::ReaderArena;
-use std::test::Fail;
-
-type Expected = std::result::Result<bool, u8>;
 
 // Segments, a traversal limit, and whether they are canonical, or the refusal's number.
 #[rattlefmt::skip]
-const EXPECTED: [(&[&[u8]], Option<usize>, Expected); 30] = [
+const EXPECTED: [(&[&[u8]], Option<usize>, Numbered<bool>); 30] = [
     // "Hello, World!"
     (&[b"\x01\0\0\0\x72\0\0\0Hello, World!\0\0\0"],             DEFAULT_LIMIT, Ok(true)),
     (&[b"\x01\0\0\0\x72\0\0\0Hello, World!\0\0\0"],             Some(1), Err(20)),
@@ -62,40 +58,36 @@ const EXPECTED: [(&[&[u8]], Option<usize>, Expected); 30] = [
 // Each is asked twice: the walk leaves what is read of the message as it was.
 #[test]
 fn canonical_forms(rt: HostRuntime) {
-    for (segments, limit, wanted) in EXPECTED {
-        let mut options = ReaderOptions::new();
-        options.traversal_limit_in_words(limit);
-        let arena = ReaderArena::new(SegmentArray::new(segments), options);
-        assert_eq!(rt; numbered(arena.is_canonical()), wanted, "at {segments:?}");
-        assert_eq!(rt;
-            numbered(arena.is_canonical()),
-            wanted,
-            "again at {segments:?}"
-        );
+    for (segments, limit, wanted) in &EXPECTED {
+        let arena = arena_of(segments, *limit, 64);
+        let found = [
+            by_number(is_canonical(&arena)),
+            by_number(is_canonical(&arena)),
+        ];
+        expect(&rt, (*segments, *limit), found, [*wanted, *wanted]);
     }
 }
 
+fn is_canonical_segment(segment: &[u8], limit: Option<usize>) -> Numbered<bool> {
+    let segments = [segment];
+    by_number(is_canonical(&arena_of(&segments, limit, 64)))
+}
+
 #[test]
-fn deep_trees(rt: HostRuntime) -> std::result::Result<(), Fail> {
+fn deep_trees(rt: HostRuntime) -> Result<()> {
     let within = hostile::chain(rt.alloc(), 64)?;
+    let found = is_canonical_segment(&within, DEFAULT_LIMIT);
+    expect(&rt, "64 structs", found, Ok(false));
     let past = hostile::chain(rt.alloc(), 65)?;
-    let segments = [within.as_slice()];
-    let arena = ReaderArena::new(SegmentArray::new(&segments), ReaderOptions::new());
-    assert_eq!(rt; numbered(arena.is_canonical()), Ok(false));
-    let segments = [past.as_slice()];
-    let arena = ReaderArena::new(SegmentArray::new(&segments), ReaderOptions::new());
-    assert_eq!(rt; numbered(arena.is_canonical()), Err(19));
+    let found = is_canonical_segment(&past, DEFAULT_LIMIT);
+    expect(&rt, "65 structs", found, Err(19));
     Ok(())
 }
 
 // 65,536 lists of 65,536 bits, of which all but the first stand where another does.
 #[test]
-fn shared_lists(rt: HostRuntime) -> std::result::Result<(), Fail> {
+fn shared_lists(rt: HostRuntime) -> Result<()> {
     let bytes = hostile::shared_lists(rt.alloc())?;
-    let mut options = ReaderOptions::new();
-    options.traversal_limit_in_words(None);
-    let segments = [bytes.as_slice()];
-    let arena = ReaderArena::new(SegmentArray::new(&segments), options);
-    assert_eq!(rt; numbered(arena.is_canonical()), Ok(false));
+    expect(&rt, "lists", is_canonical_segment(&bytes, None), Ok(false));
     Ok(())
 }

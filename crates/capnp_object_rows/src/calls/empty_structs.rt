@@ -1,25 +1,26 @@
 //! Lists of structs of no words, of which there may be many in two words.
-use capnp_frame::message::{ReaderOptions, SegmentArray};
-use capnp_wire::arena::ReaderArena;
+use crate::fixtures::{Arena, arena_of, expect};
+use capnp_frame::Result;
 use capnp_wire::canonical::{canonical_bytes, canonical_size};
-use std::test::Fail;
 
 // A list of 1,073,741,823 structs: the walks over it have no step to take for one of them.
 const EMPTY_STRUCTS: &[u8] = b"\x01\0\0\0\x07\0\0\0\xfc\xff\xff\xff\0\0\0\0";
 
-#[test]
-fn structs_of_no_words(rt: HostRuntime) -> std::result::Result<(), Fail> {
-    let mut options = ReaderOptions::new();
-    options.traversal_limit_in_words(None);
-    let segments = [EMPTY_STRUCTS];
-    let arena = ReaderArena::new(SegmentArray::new(&segments), options);
+// The words of the tree, those of its canonical form, and whether the segment is that.
+fn walks(arena: &Arena<'_>) -> Result<(u64, u64, bool)> {
     let root = arena.get_root()?;
+    let size = root.target_size()?.word_count;
+    Ok((size, canonical_size(&root)? as u64, arena.is_canonical()?))
+}
+
+#[test]
+fn structs_of_no_words(rt: HostRuntime) -> Result<()> {
+    let segments = [EMPTY_STRUCTS];
+    let arena = arena_of(&segments, None, 64);
     for _time in 0..100u32 {
-        assert_eq!(rt; root.target_size()?.word_count, 1);
-        assert_eq!(rt; canonical_size(&root)?, 2);
-        assert!(rt; arena.is_canonical()?);
-        let bytes = canonical_bytes(rt.alloc(), &root)?;
-        assert_eq!(rt; &bytes[..], EMPTY_STRUCTS);
+        expect(&rt, "walks", walks(&arena)?, (1, 2, true));
+        let bytes = canonical_bytes(rt.alloc(), &arena.get_root()?)?;
+        expect(&rt, "form", bytes.as_slice(), EMPTY_STRUCTS);
     }
     Ok(())
 }

@@ -1,4 +1,6 @@
 //! What builders give back to their allocators: each segment once, with the words that were used of it.
+use crate::building::{init_words, is_null_root, set_text};
+use crate::fixtures::expect;
 use capnp_build::allocator::Allocator;
 use capnp_build::segment_space::SegmentSpace;
 use capnp_frame::Result;
@@ -7,7 +9,6 @@ use capnp_message::heap_allocator::{AllocationStrategy, HeapAllocator};
 use capnp_wire::text;
 use std::alloc::Global;
 use std::process::Abort;
-use std::test::Fail;
 
 /// A heap that notes of each segment that comes back its words, and how many of them were used.
 #[derive(Drop)]
@@ -64,59 +65,66 @@ fn noting_heap(alloc: Global) -> Noting {
 // of one are used; then, after its landing pad each, a list of five words in another segment, and
 // one of nine in a third; at last another word in the first.
 fn build<A: Allocator>(message: &mut Builder<A>) -> Result<()> {
-    message.set_root::<text::Owned, &str>("Hello, World!")?;
-    message.set_root::<text::Owned, &str>("hello")?;
-    message.initn_root::<capnp_build::primitive_list::Owned<u64>>(5)?;
-    message.initn_root::<capnp_build::primitive_list::Owned<u64>>(9)?;
-    message.set_root::<text::Owned, &str>("hello")
+    set_text(message, "Hello, World!")?;
+    set_text(message, "hello")?;
+    init_words(message, 5)?;
+    init_words(message, 9)?;
+    set_text(message, "hello")
 }
 
 const BACK: [(usize, u32); 3] = [(8, 5), (8, 6), (10, 10)];
 
 fn assert_given_back(rt: &impl Abort, allocator: &Noting, wanted: &[(usize, u32)]) {
-    assert_eq!(rt; allocator.handed_out as usize, wanted.len());
-    assert_eq!(rt; allocator.back.len(), wanted.len());
+    let counts = (allocator.handed_out as usize, allocator.back.len());
+    expect(rt, "how many", counts, (wanted.len(), wanted.len()));
     for segment in wanted {
-        assert!(rt; allocator.back.contains(segment), "{segment:?}");
+        expect(rt, *segment, allocator.back.contains(segment), true);
     }
 }
 
-// A message that is dropped, one that is read and dropped, and one whose allocator is taken.
+// A message that is dropped.
 #[test]
-fn each_segment_comes_back(rt: HostRuntime) -> std::result::Result<(), Fail> {
+fn each_segment_comes_back(rt: HostRuntime) -> Result<()> {
     let mut allocator = noting_heap(rt.alloc());
     let mut message = Builder::new(rt.alloc(), &mut allocator);
     build(&mut message)?;
     drop(message);
     assert_given_back(&rt, &allocator, &BACK);
+    Ok(())
+}
 
+// One that is read and dropped.
+#[test]
+fn each_segment_comes_back_from_a_reader(rt: HostRuntime) -> Result<()> {
     let mut allocator = noting_heap(rt.alloc());
     let mut message = Builder::new(rt.alloc(), &mut allocator);
     build(&mut message)?;
     let reader = message.into_reader();
-    assert_eq!(rt;
-        reader.get_root::<text::Reader<'_>>()?.as_bytes(),
-        b"hello".as_slice()
-    );
+    let text: text::Reader<'_> = reader.get_root()?;
+    expect(&rt, "the text", text.as_bytes(), b"hello".as_slice());
     drop(reader);
     assert_given_back(&rt, &allocator, &BACK);
+    Ok(())
+}
 
+// One whose allocator is taken.
+#[test]
+fn each_segment_comes_back_with_the_allocator(rt: HostRuntime) -> Result<()> {
     let mut message = Builder::new(rt.alloc(), noting_heap(rt.alloc()));
     build(&mut message)?;
-    assert_eq!(rt; message.size_in_words(), 21);
+    expect(&rt, "words", message.size_in_words(), 21);
     assert_given_back(&rt, &message.into_allocator(), &BACK);
     Ok(())
 }
 
 // Of a message of no segments none comes back; where only the root was looked at, its word was used.
 #[test]
-fn little_comes_back(rt: HostRuntime) -> std::result::Result<(), Fail> {
+fn little_comes_back(rt: HostRuntime) -> Result<()> {
     let mut allocator = noting_heap(rt.alloc());
     drop(Builder::new(rt.alloc(), &mut allocator));
     assert_given_back(&rt, &allocator, &[]);
     let mut message = Builder::new(rt.alloc(), &mut allocator);
-    let root = message.get_root::<capnp_build::any_pointer::Owned>()?;
-    assert!(rt; root.is_null());
+    assert!(rt; is_null_root(&mut message)?);
     drop(message);
     assert_given_back(&rt, &allocator, &[(8, 1)]);
     Ok(())

@@ -1,16 +1,15 @@
 //! Lists of structs, of pointers, of text, of data and of lists, by their elements (encoding document,
 //! "Lists").
 use crate::calls::objects::HELLO;
+use crate::fixtures::{Arena, Numbered, arena_of, expect, has_text, root_as, root_refusal};
 use capnp_frame::Result;
-use capnp_frame::message::{ReaderOptions, ReaderSegments, SegmentArray};
+use capnp_frame::message::SegmentArray;
 use capnp_rows::refusals::refusal;
-use capnp_wire::arena::ReaderArena;
-use capnp_wire::traits::Owned;
+use capnp_wire::traits::{FromPointerReader, Owned};
 use capnp_wire::{
-    any_pointer_list, any_struct, data_list, list_list, primitive_list, struct_list, text,
+    any_pointer, any_pointer_list, any_struct, data_list, list_list, primitive_list, struct_list,
     text_list,
 };
-use std::test::Fail;
 
 // Two structs of a data word and a pointer: 10 with the text "hi", and 20 with null.
 const CONTACTS: &[u8] = b"\x01\0\0\0\x27\0\0\0\x08\0\0\0\x01\0\x01\0\
@@ -37,134 +36,221 @@ const ROOTS: [(&[u8], [u8; 2]); 6] = [
     (b"\x01\0\0\0\x0f\0\0\0\x08\0\0\0\x01\0\0\0\0\0\0\0\0\0\0\0", [17, 17]),
 ];
 
-fn arena_of<'a>(
-    segments: &'a [&'a [u8]],
-    limit: usize,
-    nesting: i32,
-) -> ReaderArena<SegmentArray<'a>> {
-    let mut options = ReaderOptions::new();
-    options.traversal_limit_in_words(Some(limit));
-    options.nesting_limit(nesting);
-    ReaderArena::new(SegmentArray::new(segments), options)
+// The root as a type of a schema says.
+fn typed_root<'a, T: Owned<'a, SegmentArray<'a>>>(arena: &'a Arena<'a>) -> Result<T::Reader> {
+    root_as::<SegmentArray<'a>, T::Reader>(arena)
 }
 
-// The root as a type of a schema says.
-fn root_as<'a, S: ReaderSegments, T: Owned<'a, S>>(arena: &'a ReaderArena<S>) -> Result<T::Reader> {
-    arena.get_root()?.get_as()
-}
+type Structs<'a> = struct_list::Reader<'a, SegmentArray<'a>>;
+
+type Pointers<'a> = any_pointer_list::Reader<'a, SegmentArray<'a>>;
 
 #[test]
 fn roots_that_are_lists(rt: HostRuntime) {
-    for (segment, wanted) in ROOTS {
-        let segments = [segment];
-        let arena = arena_of(&segments, 100, 64);
+    for (segment, wanted) in &ROOTS {
+        let segments = [*segment];
+        let arena = arena_of(&segments, Some(100), 64);
         let refusals = [
-            refusal(root_as::<SegmentArray<'_>, struct_list::Owned>(&arena)),
-            refusal(root_as::<SegmentArray<'_>, any_pointer_list::Owned>(&arena)),
+            root_refusal::<SegmentArray<'_>, Structs<'_>>(&arena),
+            root_refusal::<SegmentArray<'_>, Pointers<'_>>(&arena),
         ];
-        assert_eq!(rt; refusals, wanted, "at {segment:?}");
+        expect(&rt, *segment, refusals, *wanted);
+    }
+}
+
+// Of an element its data words, its pointers, its first data word, and whether its pointer is null.
+fn outline(list: &Structs<'_>, index: u32) -> Option<(u16, u16, u64, bool)> {
+    if index >= list.len() {
+        return None;
+    }
+    let element = list.get(index);
+    Some((
+        element.data_words(),
+        element.pointers(),
+        element.get_word(0),
+        element.get_pointer(0).is_null(),
+    ))
+}
+
+// Whether this is the text of an element.
+fn has_text_at(list: &Structs<'_>, index: u32, wanted: &[u8]) -> Option<Numbered<bool>> {
+    if index >= list.len() {
+        return None;
+    }
+    Some(has_text(&list.get(index).get_pointer(0), wanted))
+}
+
+// The tag and four words are counted, and then the text's word.
+#[test]
+fn structs_of_a_list(rt: HostRuntime) -> Result<()> {
+    let segments = [CONTACTS];
+    let arena = arena_of(&segments, Some(6), 2);
+    let list: Structs<'_> = typed_root::<struct_list::Owned>(&arena)?;
+    expect(
+        &rt,
+        CONTACTS,
+        [outline(&list, 0), outline(&list, 1), outline(&list, 2)],
+        [Some((1, 1, 10, false)), Some((1, 1, 20, true)), None],
+    );
+    let once = has_text_at(&list, 0, b"hi");
+    expect(&rt, "once", once, Some(Ok(true)));
+    let twice = has_text_at(&list, 0, b"hi");
+    expect(&rt, "twice", twice, Some(Err(20)));
+    Ok(())
+}
+
+#[test]
+fn no_structs(rt: HostRuntime) -> Result<()> {
+    let segments = [NULL];
+    let arena = arena_of(&segments, Some(0), 64);
+    let structs: Structs<'_> = typed_root::<struct_list::Owned>(&arena)?;
+    let pointers: Pointers<'_> = typed_root::<any_pointer_list::Owned>(&arena)?;
+    expect(&rt, NULL, (structs.len(), pointers.len()), (0, 0));
+    Ok(())
+}
+
+// Whether a pointer of a list leads to these bytes, as data.
+fn has_data_at(list: &Pointers<'_>, index: u32, wanted: &[u8]) -> Option<Numbered<bool>> {
+    if index >= list.len() {
+        return None;
+    }
+    Some(has_bytes(list.get(index).get_as::<&[u8]>(), wanted))
+}
+
+fn has_bytes(data: Result<&[u8]>, wanted: &[u8]) -> Numbered<bool> {
+    match data {
+        Ok(bytes) => Ok(bytes == wanted),
+        Err(error) => Err(error.kind.number()),
+    }
+}
+
+// What one leads to as a struct, by its data words.
+fn data_words_at(list: &Pointers<'_>, index: u32) -> Option<Numbered<u16>> {
+    if index >= list.len() {
+        return None;
+    }
+    Some(data_words(&list.get(index)))
+}
+
+fn data_words<'a>(pointer: &any_pointer::Reader<'a, SegmentArray<'a>>) -> Numbered<u16> {
+    match pointer.get_as::<any_struct::StructReader<'a, SegmentArray<'a>>>() {
+        Ok(fields) => Ok(fields.data_words()),
+        Err(error) => Err(error.kind.number()),
     }
 }
 
 #[test]
-fn structs_of_a_list(rt: HostRuntime) -> std::result::Result<(), Fail> {
-    let segments = [CONTACTS];
-    let arena = arena_of(&segments, 6, 2);
-    let list = root_as::<SegmentArray<'_>, struct_list::Owned>(&arena)?;
-    assert_eq!(rt; list.len(), 2);
-    let first = list.get(0);
-    assert_eq!(rt; (first.data_words(), first.pointers()), (1, 1));
-    assert_eq!(rt; first.get_word(0), 10);
-    let second = list.get(1);
-    assert_eq!(rt; second.get_word(0), 20);
-    assert!(rt; second.get_pointer(0).is_null());
-    // the tag and four words are counted, and then the text's word
-    assert_eq!(rt;
-        first
-            .get_pointer(0)
-            .get_as::<text::Reader<'_>>()?
-            .as_bytes(),
-        b"hi".as_slice()
-    );
-    assert_eq!(rt;
-        refusal(first.get_pointer(0).get_as::<text::Reader<'_>>()),
-        20
-    );
-    Ok(())
-}
-
-#[test]
-fn no_structs(rt: HostRuntime) -> std::result::Result<(), Fail> {
-    let segments = [NULL];
-    let arena = arena_of(&segments, 0, 64);
-    let structs = root_as::<SegmentArray<'_>, struct_list::Owned>(&arena)?;
-    assert_eq!(rt; structs.len(), 0);
-    let pointers = root_as::<SegmentArray<'_>, any_pointer_list::Owned>(&arena)?;
-    assert_eq!(rt; pointers.len(), 0);
-    Ok(())
-}
-
-#[test]
-fn pointers_of_a_list(rt: HostRuntime) -> std::result::Result<(), Fail> {
+fn pointers_of_a_list(rt: HostRuntime) -> Result<()> {
     let segments = [POINTERS];
-    let arena = arena_of(&segments, 100, 2);
-    let list = root_as::<SegmentArray<'_>, any_pointer_list::Owned>(&arena)?;
-    assert_eq!(rt; list.len(), 3);
+    let arena = arena_of(&segments, Some(100), 2);
+    let list: Pointers<'_> = typed_root::<any_pointer_list::Owned>(&arena)?;
+    assert!(rt; list.len() == 3);
     assert!(rt; list.get(0).is_null());
-    assert_eq!(rt; list.get(1).get_as::<&[u8]>()?, b"a\0".as_slice());
-    let empty = list
-        .get(2)
-        .get_as::<any_struct::StructReader<'_, SegmentArray<'_>>>()?;
-    assert_eq!(rt; empty.data_words(), 0);
+    let found = has_data_at(&list, 1, b"a\0");
+    expect(&rt, "the text", found, Some(Ok(true)));
+    expect(&rt, "the struct", data_words_at(&list, 2), Some(Ok(0)));
     Ok(())
 }
 
+// Whether this is a text of a list.
+fn is_text(
+    list: &text_list::Reader<'_, SegmentArray<'_>>,
+    index: u32,
+    wanted: &[u8],
+) -> Option<Numbered<bool>> {
+    if index >= list.len() {
+        return None;
+    }
+    match list.get(index) {
+        Ok(text) => Some(Ok(text.as_bytes() == wanted)),
+        Err(error) => Some(Err(error.kind.number())),
+    }
+}
+
 #[test]
-fn texts_of_a_list(rt: HostRuntime) -> std::result::Result<(), Fail> {
+fn texts_of_a_list(rt: HostRuntime) -> Result<()> {
     let segments = [POINTERS];
-    let arena = arena_of(&segments, 100, 2);
-    let texts = root_as::<SegmentArray<'_>, text_list::Owned>(&arena)?;
-    assert_eq!(rt; texts.len(), 3);
-    assert_eq!(rt; texts.get(0)?.as_bytes(), b"".as_slice());
-    assert_eq!(rt; texts.get(1)?.as_bytes(), b"a".as_slice());
-    assert_eq!(rt; refusal(texts.get(2)), 22);
-    let data = root_as::<SegmentArray<'_>, data_list::Owned>(&arena)?;
-    assert_eq!(rt; data.len(), 3);
-    assert_eq!(rt; data.get(1)?, b"a\0".as_slice());
+    let arena = arena_of(&segments, Some(100), 2);
+    let texts = typed_root::<text_list::Owned>(&arena)?;
+    let found = [
+        is_text(&texts, 0, b""),
+        is_text(&texts, 1, b"a"),
+        is_text(&texts, 2, b""),
+    ];
+    let wanted = [Some(Ok(true)), Some(Ok(true)), Some(Err(22))];
+    expect(&rt, "texts", (texts.len(), found), (3, wanted));
     Ok(())
 }
 
+// Whether these bytes are data of a list.
+fn is_data(
+    list: &data_list::Reader<'_, SegmentArray<'_>>,
+    index: u32,
+    wanted: &[u8],
+) -> Option<Numbered<bool>> {
+    if index >= list.len() {
+        return None;
+    }
+    Some(has_bytes(list.get(index), wanted))
+}
+
 #[test]
-fn lists_of_a_list(rt: HostRuntime) -> std::result::Result<(), Fail> {
+fn data_of_a_list(rt: HostRuntime) -> Result<()> {
+    let segments = [POINTERS];
+    let arena = arena_of(&segments, Some(100), 2);
+    let data = typed_root::<data_list::Owned>(&arena)?;
+    let found = (data.len(), is_data(&data, 1, b"a\0"));
+    expect(&rt, "data", found, (3, Some(Ok(true))));
+    Ok(())
+}
+
+type Numbers = list_list::Owned<primitive_list::Owned<u64>>;
+
+type NumberLists<'a> = <Numbers as Owned<'a, SegmentArray<'a>>>::Reader;
+
+// How many numbers the first list has, and its first number.
+fn first_numbers(lists: &NumberLists<'_>) -> Option<Numbered<(u32, u64)>> {
+    if lists.len() == 0 {
+        return None;
+    }
+    match lists.get(0) {
+        Ok(numbers) if numbers.len() > 0 => Some(Ok((numbers.len(), numbers.get(0)))),
+        Ok(_) => None,
+        Err(error) => Some(Err(error.kind.number())),
+    }
+}
+
+#[test]
+fn lists_of_a_list(rt: HostRuntime) -> Result<()> {
     let segments = [NUMBERS];
-    let arena = arena_of(&segments, 2, 2);
-    type Numbers = list_list::Owned<primitive_list::Owned<u64>>;
-    let lists = root_as::<SegmentArray<'_>, Numbers>(&arena)?;
-    assert_eq!(rt; lists.len(), 1);
-    let numbers = lists.get(0)?;
-    assert_eq!(rt; numbers.len(), 1);
-    assert_eq!(rt; numbers.get(0), 7);
-    assert_eq!(rt; refusal(lists.get(0)), 20);
+    let arena = arena_of(&segments, Some(2), 2);
+    let lists = typed_root::<Numbers>(&arena)?;
+    expect(&rt, "how many", lists.len(), 1);
+    expect(&rt, "once", first_numbers(&lists), Some(Ok((1, 7))));
+    expect(&rt, "twice", first_numbers(&lists), Some(Err(20)));
     Ok(())
 }
 
 // The nesting depth that is left below a list is one less than at its pointer.
 #[test]
-fn elements_below_the_nesting_limit(rt: HostRuntime) -> std::result::Result<(), Fail> {
+fn structs_below_the_nesting_limit(rt: HostRuntime) -> Result<()> {
     let segments = [CONTACTS];
-    let arena = arena_of(&segments, 100, 1);
-    let structs = root_as::<SegmentArray<'_>, struct_list::Owned>(&arena)?;
-    assert_eq!(rt; structs.len(), 2);
-    assert_eq!(rt; structs.get(0).get_word(0), 10);
-    assert_eq!(rt;
-        refusal(structs.get(0).get_pointer(0).get_as::<&[u8]>()),
-        19
-    );
+    let arena = arena_of(&segments, Some(100), 1);
+    let list: Structs<'_> = typed_root::<struct_list::Owned>(&arena)?;
+    assert!(rt; list.len() == 2);
+    expect(&rt, CONTACTS, list.get(0).get_word(0), 10);
+    let refused = refusal(list.get(0).get_pointer(0).get_as::<&[u8]>());
+    expect(&rt, "below", refused, 19);
+    Ok(())
+}
+
+#[test]
+fn data_below_the_nesting_limit(rt: HostRuntime) -> Result<()> {
     let segments = [POINTERS];
-    let arena = arena_of(&segments, 100, 1);
-    let data = root_as::<SegmentArray<'_>, data_list::Owned>(&arena)?;
-    assert_eq!(rt; data.len(), 3);
-    assert_eq!(rt; refusal(data.get(1)), 19);
-    assert_eq!(rt; data.get(0)?.len(), 0);
+    let arena = arena_of(&segments, Some(100), 1);
+    let data = typed_root::<data_list::Owned>(&arena)?;
+    let found = [is_data(&data, 1, b"a\0"), is_data(&data, 0, b"")];
+    let wanted = [Some(Err(19)), Some(Ok(true))];
+    expect(&rt, "data", (data.len(), found), (3, wanted));
     Ok(())
 }

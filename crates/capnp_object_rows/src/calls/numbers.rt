@@ -1,12 +1,13 @@
 //! Lists of numbers, of bools and of nothing by their elements (encoding document, "Lists").
 use crate::calls::objects::HELLO;
+use crate::fixtures::{Arena, expect, plain_arena, root_refusal};
 use capnp_frame::Result;
-use capnp_frame::message::{DEFAULT_READER_OPTIONS, ReaderSegments, SegmentArray};
-use capnp_rows::refusals::refusal;
-use capnp_wire::arena::ReaderArena;
+use capnp_frame::message::SegmentArray;
+use capnp_wire::primitive_element::PrimitiveElement;
 use capnp_wire::primitive_list;
 use capnp_wire::traits::Owned;
-use std::test::Fail;
+use std::fmt::Debug;
+use std::process::Abort;
 
 // Eleven bools, by their bits from the lowest of each byte on.
 const BOOLS: &[u8] = b"\x01\0\0\0\x59\0\0\0\xa5\x03\0\0\0\0\0\0";
@@ -35,100 +36,62 @@ const ROOTS: [(&[u8], [u8; 6]); 6] = [
     (WORDS,    [22, 22, 22, 22, 22, 0]),
 ];
 
-fn arena_of<'a>(segments: &'a [&'a [u8]]) -> ReaderArena<SegmentArray<'a>> {
-    ReaderArena::new(SegmentArray::new(segments), DEFAULT_READER_OPTIONS)
-}
-
-// The root as a type of a schema says.
-fn root_as<'a, S: ReaderSegments, T: Owned<'a, S>>(arena: &'a ReaderArena<S>) -> Result<T::Reader> {
-    arena.get_root()?.get_as()
+// The refusal of the root as the type of a schema for a list.
+fn list_refusal<T: PrimitiveElement>(arena: &Arena<'_>) -> u8 {
+    root_refusal::<
+        SegmentArray<'_>,
+        <primitive_list::Owned<T> as Owned<'_, SegmentArray<'_>>>::Reader,
+    >(arena)
 }
 
 #[test]
 fn lists_by_their_widths(rt: HostRuntime) {
-    for (segment, wanted) in ROOTS {
-        let segments = [segment];
-        let arena = arena_of(&segments);
+    for (segment, wanted) in &ROOTS {
+        let segments = [*segment];
+        let arena = plain_arena(&segments);
         let refusals = [
-            refusal(root_as::<SegmentArray<'_>, primitive_list::Owned<()>>(&arena)),
-            refusal(root_as::<SegmentArray<'_>, primitive_list::Owned<bool>>(&arena)),
-            refusal(root_as::<SegmentArray<'_>, primitive_list::Owned<u8>>(&arena)),
-            refusal(root_as::<SegmentArray<'_>, primitive_list::Owned<i16>>(&arena)),
-            refusal(root_as::<SegmentArray<'_>, primitive_list::Owned<f32>>(&arena)),
-            refusal(root_as::<SegmentArray<'_>, primitive_list::Owned<u64>>(&arena)),
+            list_refusal::<()>(&arena),
+            list_refusal::<bool>(&arena),
+            list_refusal::<u8>(&arena),
+            list_refusal::<i16>(&arena),
+            list_refusal::<f32>(&arena),
+            list_refusal::<u64>(&arena),
         ];
-        assert_eq!(rt; refusals, wanted, "at {segment:?}");
+        expect(&rt, *segment, refusals, *wanted);
     }
 }
 
-#[test]
-fn bools_of_a_list(rt: HostRuntime) -> std::result::Result<(), Fail> {
-    let segments = [BOOLS];
-    let arena = arena_of(&segments);
-    let list = root_as::<SegmentArray<'_>, primitive_list::Owned<bool>>(&arena)?;
-    assert_eq!(rt; list.len(), 11);
-    let wanted = [
-        true, false, true, false, false, true, false, true, true, true, false,
-    ];
-    for index in 0..11 {
-        assert_eq!(rt; list.get(index), wanted[index as usize], "at {index}");
+// How many elements a list has, and some of them by their indices.
+fn expect_elements<T: PrimitiveElement + PartialEq + Debug + Copy>(
+    rt: &impl Abort,
+    segment: &[u8],
+    count: u32,
+    rows: &[(u32, T)],
+) -> Result<()> {
+    let segments = [segment];
+    let arena = plain_arena(&segments);
+    let list: primitive_list::Reader<'_, T> = arena.get_root()?.get_as()?;
+    expect(rt, segment, list.len(), count);
+    for (index, wanted) in rows {
+        assert!(rt; *index < list.len());
+        expect(rt, (segment, *index), list.get(*index), *wanted);
     }
     Ok(())
 }
 
-#[test]
-fn numbers_of_a_list(rt: HostRuntime) -> std::result::Result<(), Fail> {
-    let segments = [PAIRS];
-    let arena = arena_of(&segments);
-    let (list, signed) = (
-        root_as::<SegmentArray<'_>, primitive_list::Owned<u16>>(&arena)?,
-        root_as::<SegmentArray<'_>, primitive_list::Owned<i16>>(&arena)?,
-    );
-    assert_eq!(rt; (list.len(), signed.len()), (5, 5));
-    assert_eq!(rt; (list.get(1), list.get(2), list.get(4)), (2, 65535, 0x8005));
-    assert_eq!(rt;
-        (signed.get(1), signed.get(2), signed.get(4)),
-        (2, -1, -0x7ffb)
-    );
-    Ok(())
-}
+#[rattlefmt::skip]
+const ELEVEN: [(u32, bool); 11] = [
+    (0, true), (1, false), (2, true), (3, false), (4, false), (5, true), (6, false), (7, true),
+    (8, true), (9, true), (10, false),
+];
 
 #[test]
-fn four_bytes_of_a_list(rt: HostRuntime) -> std::result::Result<(), Fail> {
-    let segments = [QUADS];
-    let arena = arena_of(&segments);
-    let list = root_as::<SegmentArray<'_>, primitive_list::Owned<i32>>(&arena)?;
-    assert_eq!(rt; list.len(), 3);
-    assert_eq!(rt; (list.get(0), list.get(2)), (0x3f80_0000, 7));
-    Ok(())
-}
-
-#[test]
-fn words_of_a_list(rt: HostRuntime) -> std::result::Result<(), Fail> {
-    let segments = [WORDS];
-    let arena = arena_of(&segments);
-    let list = root_as::<SegmentArray<'_>, primitive_list::Owned<u64>>(&arena)?;
-    assert_eq!(rt; list.len(), 2);
-    assert_eq!(rt; list.get(1), (1 << 63) + 7);
-    Ok(())
-}
-
-#[test]
-fn doubles_of_a_list(rt: HostRuntime) -> std::result::Result<(), Fail> {
-    let segments = [WORDS];
-    let arena = arena_of(&segments);
-    let floats = root_as::<SegmentArray<'_>, primitive_list::Owned<f64>>(&arena)?;
-    assert_eq!(rt; floats.len(), 2);
-    assert_eq!(rt; floats.get(0), 1.5);
-    Ok(())
-}
-
-#[test]
-fn floats_of_a_list(rt: HostRuntime) -> std::result::Result<(), Fail> {
-    let segments = [QUADS];
-    let arena = arena_of(&segments);
-    let floats = root_as::<SegmentArray<'_>, primitive_list::Owned<f32>>(&arena)?;
-    assert_eq!(rt; floats.len(), 3);
-    assert_eq!(rt; (floats.get(0), floats.get(1)), (1.0, -2.0));
-    Ok(())
+fn elements_of_lists(rt: HostRuntime) -> Result<()> {
+    expect_elements::<bool>(&rt, BOOLS, 11, &ELEVEN)?;
+    expect_elements::<u16>(&rt, PAIRS, 5, &[(1, 2), (2, 65535), (4, 0x8005)])?;
+    expect_elements::<i16>(&rt, PAIRS, 5, &[(1, 2), (2, -1), (4, -0x7ffb)])?;
+    expect_elements::<i32>(&rt, QUADS, 3, &[(0, 0x3f80_0000), (2, 7)])?;
+    expect_elements::<f32>(&rt, QUADS, 3, &[(0, 1.0), (1, -2.0)])?;
+    expect_elements::<u64>(&rt, WORDS, 2, &[(1, (1 << 63) + 7)])?;
+    expect_elements::<f64>(&rt, WORDS, 2, &[(0, 1.5)])
 }

@@ -1,13 +1,15 @@
 //! Pointers of the encoding document's shapes, whole and broken.
+use crate::fixtures::{
+    Arena, Numbered, arena_of, by_number, expect, plain_arena, refusal_numbers, root_as,
+    root_as_data, root_as_struct, root_as_words, size_of,
+};
 use capnp_frame::Result;
 use capnp_frame::message::{ReaderOptions, ReaderSegments, SegmentArray};
 use capnp_frame::serialize::try_read_segments;
 use capnp_rows::limits::DEFAULT_LIMIT;
-use capnp_rows::refusals::refusal;
-use capnp_wire::any_struct::{self, StructReader};
 use capnp_wire::arena::ReaderArena;
-use capnp_wire::traits::Owned;
-use capnp_wire::{any_pointer, data, primitive_list, text};
+use capnp_wire::traits::{FromPointerReader, Owned};
+use capnp_wire::{any_pointer, any_struct, data, primitive_list, text};
 use std::test::Fail;
 
 pub const HELLO: &[u8] = b"\x01\0\0\0\x72\0\0\0Hello, World!\0\0\0";
@@ -53,7 +55,7 @@ const ROOTS: [(&[&[u8]], [u8; 4]); 25] = [
 
 // Segments, a traversal limit, and the words of the tree, or the refusal's number.
 #[rattlefmt::skip]
-const SIZES: [(&[&[u8]], Option<usize>, std::result::Result<u64, u8>); 9] = [
+const SIZES: [(&[&[u8]], Option<usize>, Numbered<u64>); 9] = [
     (&[HELLO],                                                  Some(2), Ok(2)),
     (&[HELLO],                                                  Some(1), Err(20)),
     (&[b"\0\0\0\0\0\0\0\0"],                                    Some(0), Ok(0)),
@@ -70,52 +72,19 @@ const SIZES: [(&[&[u8]], Option<usize>, std::result::Result<u64, u8>); 9] = [
     (&[b"\x01\0\0\0\x07\0\0\0\0\0\0\x04\0\0\0\0"],              DEFAULT_LIMIT, Err(20)),
 ];
 
-pub fn root_as_text<S: ReaderSegments>(arena: &ReaderArena<S>) -> Result<text::Reader<'_>> {
-    arena.get_root()?.get_as()
-}
-
-pub fn root_as_data<S: ReaderSegments>(arena: &ReaderArena<S>) -> Result<&[u8]> {
-    arena.get_root()?.get_as()
-}
-
-pub fn root_as_words<S: ReaderSegments>(
-    arena: &ReaderArena<S>,
-) -> Result<primitive_list::Reader<'_, u64>> {
-    arena.get_root()?.get_as()
-}
-
-pub fn root_as_struct<S: ReaderSegments>(arena: &ReaderArena<S>) -> Result<StructReader<'_, S>> {
-    arena.get_root()?.get_as()
-}
-
 #[test]
 fn roots(rt: HostRuntime) {
-    for (segments, wanted) in ROOTS {
-        let arena = ReaderArena::new(SegmentArray::new(segments), ReaderOptions::new());
-        let refusals = [
-            refusal(root_as_text(&arena)),
-            refusal(root_as_data(&arena)),
-            refusal(root_as_words(&arena)),
-            refusal(root_as_struct(&arena)),
-        ];
-        assert_eq!(rt; refusals, wanted, "at {segments:?}");
+    for (segments, wanted) in &ROOTS {
+        let found = refusal_numbers(segments, DEFAULT_LIMIT);
+        expect(&rt, *segments, found, *wanted);
     }
 }
 
 #[test]
 fn sizes(rt: HostRuntime) {
-    for (segments, limit, wanted) in SIZES {
-        let mut options = ReaderOptions::new();
-        options.traversal_limit_in_words(limit);
-        let arena = ReaderArena::new(SegmentArray::new(segments), options);
-        let size = match arena.get_root() {
-            Ok(root) => match root.target_size() {
-                Ok(size) => Ok(size.word_count),
-                Err(error) => Err(error.kind.number()),
-            },
-            Err(error) => Err(error.kind.number()),
-        };
-        assert_eq!(rt; size, wanted, "at {segments:?}");
+    for (segments, limit, wanted) in &SIZES {
+        let found = by_number(size_of(&arena_of(segments, *limit, 64)));
+        expect(&rt, (*segments, *limit), found, *wanted);
     }
 }
 
@@ -126,72 +95,77 @@ fn a_text_from_a_stream(rt: HostRuntime) -> std::result::Result<(), Fail> {
     let read = try_read_segments(rt.alloc(), &mut source, ReaderOptions::new())?;
     let segments = read.ok_or("no message")?;
     let arena = ReaderArena::new(segments, ReaderOptions::new());
-    assert_eq!(rt; arena.nesting_limit(), 64);
-    let text = root_as_text(&arena)?;
-    assert_eq!(rt; text.as_bytes(), b"Hello, World!".as_slice());
-    assert_eq!(rt; text.len(), 13);
+    expect(&rt, "nesting", arena.nesting_limit(), 64);
+    let text = text_of(&arena)?;
+    expect(&rt, "text", text, (b"Hello, World!".as_slice(), 13));
     let data = root_as_data(&arena)?;
-    assert_eq!(rt; data, b"Hello, World!\0".as_slice());
+    expect(&rt, "data", data, b"Hello, World!\0".as_slice());
     Ok(())
 }
 
+// The bytes of the text at the root, and how many there are.
+fn text_of<S: ReaderSegments>(arena: &ReaderArena<S>) -> Result<(&[u8], usize)> {
+    let text: text::Reader<'_> = root_as(arena)?;
+    Ok((text.as_bytes(), text.len()))
+}
+
+// A struct of two data words and a pointer.
+const FIELDS: &[u8] = b"\0\0\0\0\x02\0\x01\0\x05\0\0\0\0\0\0\0\0\0\0\0\0\0\0\x80\0\0\0\0\0\0\0\0";
+
 #[test]
-fn fields_of_a_struct(rt: HostRuntime) -> std::result::Result<(), Fail> {
-    let segment: &[u8] =
-        b"\0\0\0\0\x02\0\x01\0\x05\0\0\0\0\0\0\0\0\0\0\0\0\0\0\x80\0\0\0\0\0\0\0\0";
-    let segments = [segment];
-    let arena = ReaderArena::new(SegmentArray::new(&segments), ReaderOptions::new());
+fn fields_of_a_struct(rt: HostRuntime) -> Result<()> {
+    let segments = [FIELDS];
+    let arena = plain_arena(&segments);
     let fields = root_as_struct(&arena)?;
-    assert_eq!(rt; (fields.data_words(), fields.pointers()), (2, 1));
-    assert_eq!(rt;
-        (fields.get_word(0), fields.get_word(1), fields.get_word(2)),
-        (5, 1 << 63, 0)
-    );
-    assert!(rt; fields.get_pointer(0).is_null());
-    assert!(rt; fields.get_pointer(1).is_null());
-    assert_eq!(rt; fields.get_pointer(1).target_size()?.word_count, 0);
+    let sizes = (fields.data_words(), fields.pointers());
+    expect(&rt, "sizes", sizes, (2, 1));
+    let words = [fields.get_word(0), fields.get_word(1), fields.get_word(2)];
+    expect(&rt, "words", words, [5, 1 << 63, 0]);
+    let past = fields.get_pointer(1);
+    let null = [fields.get_pointer(0).is_null(), past.is_null()];
+    expect(&rt, "null pointers", null, [true, true]);
+    expect(&rt, "past the last", past.target_size()?.word_count, 0);
     Ok(())
 }
 
 #[test]
-fn elements_of_a_list(rt: HostRuntime) -> std::result::Result<(), Fail> {
+fn elements_of_a_list(rt: HostRuntime) -> Result<()> {
     let segment: &[u8] = b"\x01\0\0\0\x15\0\0\0\x07\0\0\0\0\0\0\0\0\0\0\0\0\0\0\x80";
     let segments = [segment];
-    let arena = ReaderArena::new(SegmentArray::new(&segments), ReaderOptions::new());
+    let arena = plain_arena(&segments);
     let list = root_as_words(&arena)?;
-    assert_eq!(rt; list.len(), 2);
-    assert_eq!(rt; (list.get(0), list.get(1)), (7, 1 << 63));
+    assert!(rt; list.len() == 2);
+    expect(&rt, segment, (list.get(0), list.get(1)), (7, 1 << 63));
     Ok(())
 }
 
-// The root as a type of a schema says.
-fn root_as<'a, S: ReaderSegments, T: Owned<'a, S>>(arena: &'a ReaderArena<S>) -> Result<T::Reader> {
-    arena.get_root()?.get_as()
+// A null root as a type of a schema says.
+fn typed_root<'a, T: Owned<'a, SegmentArray<'a>>>(arena: &'a Arena<'a>) -> Result<T::Reader> {
+    root_as::<SegmentArray<'a>, T::Reader>(arena)
+}
+
+fn has_null_root(arena: &Arena<'_>) -> Result<bool> {
+    Ok(typed_root::<any_pointer::Owned>(arena)?.is_null())
+}
+
+// How much there is of a null root, as a text, as data, as a list and as a struct.
+fn lengths(arena: &Arena<'_>) -> Result<[usize; 4]> {
+    Ok([
+        typed_root::<text::Owned>(arena)?.len(),
+        typed_root::<data::Owned>(arena)?.len(),
+        typed_root::<primitive_list::Owned<u64>>(arena)?.len() as usize,
+        typed_root::<any_struct::Owned>(arena)?.pointers() as usize,
+    ])
 }
 
 #[test]
-fn types_of_schemas(rt: HostRuntime) -> std::result::Result<(), Fail> {
-    let arena = ReaderArena::new(
-        SegmentArray::new(&[b"\0\0\0\0\0\0\0\0"]),
-        ReaderOptions::new(),
-    );
-    assert_eq!(rt; arena.size_in_words(), 1);
-    assert!(rt; root_as::<SegmentArray<'_>, any_pointer::Owned>(&arena)?.is_null());
-    assert_eq!(rt; root_as::<SegmentArray<'_>, text::Owned>(&arena)?.len(), 0);
-    assert_eq!(rt;
-        root_as::<SegmentArray<'_>, data::Owned>(&arena)?,
-        b"".as_slice()
-    );
-    assert_eq!(rt;
-        root_as::<SegmentArray<'_>, primitive_list::Owned<u64>>(&arena)?.len(),
-        0
-    );
-    assert_eq!(rt;
-        root_as::<SegmentArray<'_>, any_struct::Owned>(&arena)?.pointers(),
-        0
-    );
-    assert_eq!(rt; arena.get_segments().len(), 1);
-    let segments = arena.into_segments();
-    assert_eq!(rt; segments.len(), 1);
+fn types_of_schemas(rt: HostRuntime) -> Result<()> {
+    let segments: [&[u8]; 1] = [b"\0\0\0\0\0\0\0\0"];
+    let arena = ReaderArena::new(SegmentArray::new(&segments), ReaderOptions::new());
+    assert!(rt; has_null_root(&arena)?);
+    expect(&rt, "null", lengths(&arena)?, [0; 4]);
+    expect(&rt, "words", arena.size_in_words(), 1);
+    expect(&rt, "segments", arena.get_segments().len(), 1);
+    expect(&rt, "segments", arena.into_segments().len(), 1);
     Ok(())
 }

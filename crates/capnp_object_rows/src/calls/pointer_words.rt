@@ -1,32 +1,32 @@
 //! What pointer words lead to, by words worked from the encoding document, "Structs", "Lists" and
 //! "Inter-Segment Pointers".
-use capnp_wire::pointer_word::{NearShape, StructSize, near_shape};
-use std::test::Fail;
+use crate::fixtures::expect;
+use capnp_wire::pointer_word::{NearShape, near_shape};
 
 #[test]
-fn shapes_of_pointer_words(rt: HostRuntime) -> std::result::Result<(), Fail> {
-    let size = StructSize {
-        data_words: 2,
-        pointers: 1,
-    };
-    assert!(rt; is_struct(0x0001_0002_0000_0000, size));
-    assert!(rt; is_struct(0x0001_0002_ffff_fffc, size));
-    assert_eq!(rt; numbers_of(0x72_0000_0001), Some((8, 14)));
-    assert_eq!(rt; numbers_of(0x4d_0000_0001), Some((64, 9)));
-    assert!(rt; matches!(near_shape(0x2e_0000_0001), Some(NearShape::Pointers(5))));
-    assert!(rt; matches!(near_shape(0x37_0000_0001), Some(NearShape::Structs(6))));
-    assert!(rt; near_shape(0x0a).is_none());
-    assert!(rt; near_shape(0x03).is_none());
-    Ok(())
+fn shapes_of_pointer_words(rt: HostRuntime) {
+    let structs = [
+        struct_of(0x0001_0002_0000_0000),
+        struct_of(0x0001_0002_ffff_fffc),
+    ];
+    expect(&rt, "structs", structs, [Some((2, 1)), Some((2, 1))]);
+    let lists = [
+        numbers_of(0x72_0000_0001),
+        numbers_of(0x4d_0000_0001),
+        pointers_of(0x2e_0000_0001),
+        structs_of(0x37_0000_0001),
+    ];
+    let wanted = [Some((8, 14)), Some((64, 9)), Some((64, 5)), Some((64, 6))];
+    expect(&rt, "lists", lists, wanted);
+    let others = [near_shape(0x0a).is_none(), near_shape(0x03).is_none()];
+    expect(&rt, "far, and a capability", others, [true, true]);
 }
 
-// The word leads to a struct of this size.
-fn is_struct(word: u64, size: StructSize) -> bool {
-    match near_shape(word) {
-        Some(NearShape::Struct(there)) => {
-            there.data_words == size.data_words && there.pointers == size.pointers
-        }
-        _ => false,
+// The data words and the pointers of a struct.
+fn struct_of(word: u64) -> Option<(u16, u16)> {
+    match near_shape(word)? {
+        NearShape::Struct(size) => Some((size.data_words, size.pointers)),
+        _ => None,
     }
 }
 
@@ -34,6 +34,22 @@ fn is_struct(word: u64, size: StructSize) -> bool {
 fn numbers_of(word: u64) -> Option<(u64, u32)> {
     match near_shape(word)? {
         NearShape::Numbers(size, count) => Some((size.bits(), count)),
+        _ => None,
+    }
+}
+
+// The bits of each pointer of a list, and how many there are.
+fn pointers_of(word: u64) -> Option<(u64, u32)> {
+    match near_shape(word)? {
+        NearShape::Pointers(count) => Some((64, count)),
+        _ => None,
+    }
+}
+
+// The bits of a word, and how many words the structs of a list take.
+fn structs_of(word: u64) -> Option<(u64, u32)> {
+    match near_shape(word)? {
+        NearShape::Structs(words) => Some((64, words)),
         _ => None,
     }
 }

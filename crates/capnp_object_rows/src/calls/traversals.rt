@@ -1,16 +1,10 @@
 //! What views count against the traversal limit, and when it is met.
-use crate::calls::objects::{HELLO, root_as_data, root_as_struct, root_as_text, root_as_words};
-use capnp_frame::message::{ReaderOptions, SegmentArray};
+use crate::calls::objects::HELLO;
+use crate::fixtures::{
+    Arena, arena_of, expect, refusal_numbers, root_as_any, root_as_struct, root_as_text, text_at,
+};
+use capnp_frame::Result;
 use capnp_rows::refusals::refusal;
-use capnp_wire::arena::ReaderArena;
-use capnp_wire::{any_pointer, text};
-use std::test::Fail;
-
-fn arena_of<'a>(segments: &'a [&'a [u8]], limit: usize) -> ReaderArena<SegmentArray<'a>> {
-    let mut options = ReaderOptions::new();
-    options.traversal_limit_in_words(Some(limit));
-    ReaderArena::new(SegmentArray::new(segments), options)
-}
 
 const LETTER: &[u8] = b"\x01\0\0\0\x12\0\0\0A\0\0\0\0\0\0\0";
 
@@ -38,61 +32,55 @@ const TRAVERSALS: [(&[&[u8]], usize, [u8; 4]); 13] = [
 
 #[test]
 fn what_a_view_counts(rt: HostRuntime) {
-    for (segments, limit, wanted) in TRAVERSALS {
-        let refusals = [
-            refusal(root_as_text(&arena_of(segments, limit))),
-            refusal(root_as_data(&arena_of(segments, limit))),
-            refusal(root_as_words(&arena_of(segments, limit))),
-            refusal(root_as_struct(&arena_of(segments, limit))),
-        ];
-        assert_eq!(rt; refusals, wanted, "at {segments:?}, {limit} words");
+    for (segments, limit, wanted) in &TRAVERSALS {
+        let found = refusal_numbers(segments, Some(*limit));
+        expect(&rt, (*segments, *limit), found, *wanted);
     }
+}
+
+// Whether the root is null, as it is looked at and as a view of any kind, and its words.
+fn outline(arena: &Arena<'_>) -> Result<(bool, bool, u64)> {
+    let root = arena.get_root()?;
+    Ok((
+        root.is_null(),
+        root_as_any(arena)?.is_null(),
+        root.target_size()?.word_count,
+    ))
 }
 
 // Each read is counted against the traversal limit; a pointer that is only looked at, and a size,
 // are not.
 #[test]
-fn what_is_counted(rt: HostRuntime) -> std::result::Result<(), Fail> {
+fn what_is_counted(rt: HostRuntime) -> Result<()> {
     let segments = [LETTER];
-    let arena = arena_of(&segments, 3);
+    let arena = arena_of(&segments, Some(3), 64);
     for _ in 0..3 {
         for _ in 0..4 {
-            let root = arena.get_root()?;
-            assert!(rt; !root.is_null());
-            assert_eq!(rt; root.target_size()?.word_count, 1);
-            assert!(rt;
-                !root
-                    .get_as::<any_pointer::Reader<'_, SegmentArray<'_>>>()?
-                    .is_null()
-            );
+            expect(&rt, "the root", outline(&arena)?, (false, false, 1));
         }
-        assert_eq!(rt; root_as_text(&arena)?.as_bytes(), b"A".as_slice());
+        expect(&rt, "the text", root_as_text(&arena)?, b"A".as_slice());
     }
-    assert_eq!(rt; refusal(root_as_text(&arena)), 20);
+    expect(&rt, "past the limit", refusal(root_as_text(&arena)), 20);
     Ok(())
 }
 
+// A struct of two pointers, to a text of two words and to one of a word.
+const TWO_TEXTS: &[u8] =
+    b"\0\0\0\0\0\0\x02\0\x05\0\0\0\x72\0\0\0\x09\0\0\0\x12\0\0\0Hello, World!\0\0\0A\0\0\0\0\0\0\0";
+
 // A read that is refused counts nothing: what still has room is read after it.
 #[test]
-fn a_refused_read_counts_nothing(rt: HostRuntime) -> std::result::Result<(), Fail> {
-    // a struct of two pointers, to a text of two words and to one of a word
-    let segment: &[u8] =
-        b"\0\0\0\0\0\0\x02\0\x05\0\0\0\x72\0\0\0\x09\0\0\0\x12\0\0\0Hello, World!\0\0\0A\0\0\0\0\0\0\0";
-    let segments = [segment];
-    let arena = arena_of(&segments, 3);
+fn a_refused_read_counts_nothing(rt: HostRuntime) -> Result<()> {
+    let segments = [TWO_TEXTS];
+    let arena = arena_of(&segments, Some(3), 64);
     let fields = root_as_struct(&arena)?;
     for _ in 0..3 {
-        assert!(rt; !fields.get_pointer(0).is_null());
-        assert_eq!(rt;
-            refusal(fields.get_pointer(0).get_as::<text::Reader<'_>>()),
-            20
-        );
+        let long = fields.get_pointer(0);
+        assert!(rt; !long.is_null());
+        expect(&rt, "the long one", text_at(&long), Err(20));
     }
-    let letter: text::Reader<'_> = fields.get_pointer(1).get_as()?;
-    assert_eq!(rt; letter.as_bytes(), b"A".as_slice());
-    assert_eq!(rt;
-        refusal(fields.get_pointer(1).get_as::<text::Reader<'_>>()),
-        20
-    );
+    let short = fields.get_pointer(1);
+    expect(&rt, "the short one", text_at(&short), Ok(b"A".as_slice()));
+    expect(&rt, "the same again", text_at(&short), Err(20));
     Ok(())
 }

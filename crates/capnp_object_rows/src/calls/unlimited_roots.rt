@@ -1,8 +1,8 @@
 //! Roots of segments that are read without a traversal limit, at any depth.
+use crate::fixtures::{Numbered, expect, text_at};
+use capnp_frame::Result;
 use capnp_frame::message::SegmentArray;
-use capnp_rows::refusals::refusal;
-use capnp_wire::{any_pointer, text};
-use std::test::Fail;
+use capnp_wire::any_pointer;
 
 // "Hello, World!", and "A" after landing pads of one and of two words.
 #[rattlefmt::skip]
@@ -14,20 +14,18 @@ const TEXTS: [(&[&[u8]], &[u8]); 3] = [
 ];
 
 #[test]
-fn texts_at_the_root(rt: HostRuntime) -> std::result::Result<(), Fail> {
-    for (segments, bytes) in TEXTS {
+fn texts_at_the_root(rt: HostRuntime) {
+    for (segments, bytes) in &TEXTS {
         let array = SegmentArray::new(segments);
         let root = any_pointer::Reader::root_of(&array);
-        assert!(rt; !root.is_null(), "{segments:?}");
-        let found: text::Reader<'_> = root.get_as()?;
-        assert_eq!(rt; found.as_bytes(), bytes, "{segments:?}");
+        let found = (root.is_null(), text_at(&root));
+        expect(&rt, *segments, found, (false, Ok(*bytes)));
     }
-    Ok(())
 }
 
 // Segments, and the words of the root's tree, or the refusal's number.
 #[rattlefmt::skip]
-const SIZES: [(&[&[u8]], std::result::Result<u64, u8>); 7] = [
+const SIZES: [(&[&[u8]], Numbered<u64>); 7] = [
     // no segment: null
     (&[], Ok(0)),
     (&[b"\0\0\0\0\0\0\0\0"], Ok(0)),
@@ -41,29 +39,30 @@ const SIZES: [(&[&[u8]], std::result::Result<u64, u8>); 7] = [
     (&[b"\x02\0\0\0\x07\0\0\0"], Err(18)),
 ];
 
+fn size_of(segments: &[&[u8]]) -> Numbered<u64> {
+    let array = SegmentArray::new(segments);
+    match any_pointer::Reader::root_of(&array).target_size() {
+        Ok(size) => Ok(size.word_count),
+        Err(error) => Err(error.kind.number()),
+    }
+}
+
 #[test]
 fn sizes_without_a_limit(rt: HostRuntime) {
-    for (segments, wanted) in SIZES {
-        let array = SegmentArray::new(segments);
-        let root = any_pointer::Reader::root_of(&array);
-        match root.target_size() {
-            Ok(size) => assert_eq!(rt; Ok(size.word_count), wanted, "{segments:?}"),
-            Err(error) => assert_eq!(rt; Err(error.kind.number()), wanted, "{segments:?}"),
-        }
+    for (segments, wanted) in &SIZES {
+        expect(&rt, *segments, size_of(segments), *wanted);
     }
 }
 
 // A hundred structs of one pointer, each to the next word's one, and a null pointer in the last: deeper
 // than the 64 that a reader's options allow.
 #[test]
-fn a_tree_deeper_than_the_default(rt: HostRuntime) -> std::result::Result<(), Fail> {
+fn a_tree_deeper_than_the_default(rt: HostRuntime) {
     let mut words = [[0, 0, 0, 0, 0, 0, 1, 0]; 101];
     words[100] = [0; 8];
     let segments = [words.as_flattened()];
+    expect(&rt, "the tree", size_of(&segments), Ok(100));
     let array = SegmentArray::new(&segments);
     let root = any_pointer::Reader::root_of(&array);
-    assert_eq!(rt; root.target_size()?.word_count, 100);
-    let view = root.get_as::<text::Reader<'_>>();
-    assert_eq!(rt; refusal(view), 22);
-    Ok(())
+    expect(&rt, "no text", text_at(&root), Err(22));
 }

@@ -1,14 +1,15 @@
 //! Lists that are read as what their elements became: structs, numbers and pointers (encoding document,
 //! "Lists").
 use crate::calls::objects::HELLO;
+use crate::fixtures::{Arena, Numbered, arena_of, expect, root_as, root_refusal, text_at};
 use capnp_frame::Result;
-use capnp_frame::message::{ReaderOptions, ReaderSegments, SegmentArray};
-use capnp_rows::refusals::refusal;
-use capnp_wire::arena::ReaderArena;
+use capnp_frame::message::SegmentArray;
+use capnp_wire::primitive_element::PrimitiveElement;
 use capnp_wire::text;
 use capnp_wire::traits::FromPointerReader;
 use capnp_wire::upgraded::{ListList, NumberList, PointerList, StructList};
-use std::test::Fail;
+use std::fmt::Debug;
+use std::process::Abort;
 
 // Three nothings, bits, and numbers of 1, 2, 4 and 8 bytes.
 const NOTHINGS: &[u8] = b"\x01\0\0\0\x18\0\0\0";
@@ -80,116 +81,139 @@ const ROWS: [(&[u8], (u16, u16), [u64; 3]); 8] = [
     (BOTH,     (1, 2), [9, 8, 7]),
 ];
 
-fn arena_of<'a>(
-    segments: &'a [&'a [u8]],
-    limit: usize,
-    nesting: i32,
-) -> ReaderArena<SegmentArray<'a>> {
-    let mut options = ReaderOptions::new();
-    options.traversal_limit_in_words(Some(limit));
-    options.nesting_limit(nesting);
-    ReaderArena::new(SegmentArray::new(segments), options)
-}
+type Structs<'a> = StructList<'a, SegmentArray<'a>>;
 
-fn root_as<'a, S: ReaderSegments, T: FromPointerReader<'a, S>>(
-    arena: &'a ReaderArena<S>,
-) -> Result<T> {
-    arena.get_root()?.get_as()
+type Pointers<'a> = PointerList<'a, SegmentArray<'a>>;
+
+type Texts<'a> = ListList<'a, SegmentArray<'a>, text::Reader<'a>>;
+
+fn number_refusal<T: PrimitiveElement>(arena: &Arena<'_>) -> u8 {
+    root_refusal::<SegmentArray<'_>, NumberList<'_, T>>(arena)
 }
 
 #[test]
 fn lists_as_what_they_became(rt: HostRuntime) {
-    for (segment, wanted) in ROOTS {
-        let segments = [segment];
-        let arena = arena_of(&segments, 1000, 64);
+    for (segment, wanted) in &ROOTS {
+        let segments = [*segment];
+        let arena = arena_of(&segments, Some(1000), 64);
         let refusals = [
-            refusal(root_as::<SegmentArray<'_>, StructList<'_, SegmentArray<'_>>>(&arena)),
-            refusal(root_as::<SegmentArray<'_>, PointerList<'_, SegmentArray<'_>>>(&arena)),
-            refusal(root_as::<SegmentArray<'_>, NumberList<'_, ()>>(&arena)),
-            refusal(root_as::<SegmentArray<'_>, NumberList<'_, bool>>(&arena)),
-            refusal(root_as::<SegmentArray<'_>, NumberList<'_, u8>>(&arena)),
-            refusal(root_as::<SegmentArray<'_>, NumberList<'_, i16>>(&arena)),
-            refusal(root_as::<SegmentArray<'_>, NumberList<'_, f32>>(&arena)),
-            refusal(root_as::<SegmentArray<'_>, NumberList<'_, u64>>(&arena)),
+            root_refusal::<SegmentArray<'_>, Structs<'_>>(&arena),
+            root_refusal::<SegmentArray<'_>, Pointers<'_>>(&arena),
+            number_refusal::<()>(&arena),
+            number_refusal::<bool>(&arena),
+            number_refusal::<u8>(&arena),
+            number_refusal::<i16>(&arena),
+            number_refusal::<f32>(&arena),
+            number_refusal::<u64>(&arena),
         ];
-        assert_eq!(rt; refusals, wanted, "at {segment:?}");
+        expect(&rt, *segment, refusals, *wanted);
     }
+}
+
+// Of an element its data words and pointers, its first data word, the second two bytes of that, and
+// whether its third pointer is null.
+fn outline(list: &Structs<'_>, index: u32) -> Option<((u16, u16), u64, u16, bool)> {
+    if index >= list.len() {
+        return None;
+    }
+    let element = list.get(index);
+    Some((
+        (element.data_words(), element.pointers()),
+        element.get_word(0),
+        element.get_data_field::<u16>(1),
+        element.get_pointer(2).is_null(),
+    ))
 }
 
 // Past the data word that a number is, all is zero, and so are the bits above the number.
 #[test]
-fn elements_as_structs(rt: HostRuntime) -> std::result::Result<(), Fail> {
-    for (segment, sizes, words) in ROWS {
-        let segments = [segment];
-        let arena = arena_of(&segments, 1000, 64);
-        let list = root_as::<SegmentArray<'_>, StructList<'_, SegmentArray<'_>>>(&arena)?;
-        assert_eq!(rt; list.len(), 3);
+fn elements_as_structs(rt: HostRuntime) -> Result<()> {
+    for (segment, sizes, words) in &ROWS {
+        let segments = [*segment];
+        let arena = arena_of(&segments, Some(1000), 64);
+        let list: Structs<'_> = root_as(&arena)?;
+        expect(&rt, *segment, list.len(), 3);
         for index in 0..3 {
-            let element = list.get(index);
             let word = words[index as usize];
-            assert_eq!(rt;
-                (element.data_words(), element.pointers()),
-                sizes,
-                "at {segment:?}"
-            );
-            assert_eq!(rt; element.get_word(0), word, "at {segment:?}");
-            assert_eq!(rt;
-                element.get_data_field::<u16>(1),
-                (word / 65536 % 65536) as u16
-            );
-            assert!(rt; element.get_pointer(2).is_null());
+            let wanted = Some((*sizes, word, (word / 65536 % 65536) as u16, true));
+            expect(&rt, (*segment, index), outline(&list, index), wanted);
         }
     }
     Ok(())
 }
 
-#[test]
-fn first_fields_of_structs(rt: HostRuntime) -> std::result::Result<(), Fail> {
-    let segments = [DATA];
-    let arena = arena_of(&segments, 1000, 64);
-    let bytes = root_as::<SegmentArray<'_>, NumberList<'_, u8>>(&arena)?;
-    assert_eq!(rt; bytes.len(), 3);
-    assert_eq!(rt; (bytes.get(0), bytes.get(1), bytes.get(2)), (1, 0xf1, 0));
-    let pairs = root_as::<SegmentArray<'_>, NumberList<'_, i16>>(&arena)?;
-    assert_eq!(rt; pairs.len(), 3);
-    assert_eq!(rt;
-        (pairs.get(0), pairs.get(1), pairs.get(2)),
-        (0x0201, -0x0d0f, 0)
-    );
-    let words = root_as::<SegmentArray<'_>, NumberList<'_, u64>>(&arena)?;
-    assert_eq!(rt; words.len(), 3);
-    assert_eq!(rt;
-        (words.get(0), words.get(2)),
-        (0x0807_0605_0403_0201, 1 << 56)
-    );
-    let segments = [HELLO];
-    let arena = arena_of(&segments, 1000, 64);
-    let letters = root_as::<SegmentArray<'_>, NumberList<'_, u8>>(&arena)?;
-    assert_eq!(rt; letters.len(), 14);
-    assert_eq!(rt; (letters.get(4), letters.get(13)), (b'o', 0));
+// How many first fields a list has, and some of them by their indices.
+fn expect_numbers<T: PrimitiveElement + PartialEq + Debug + Copy>(
+    rt: &impl Abort,
+    segment: &[u8],
+    count: u32,
+    rows: &[(u32, T)],
+) -> Result<()> {
+    let segments = [segment];
+    let arena = arena_of(&segments, Some(1000), 64);
+    let list: NumberList<'_, T> = arena.get_root()?.get_as()?;
+    expect(rt, segment, list.len(), count);
+    for (index, wanted) in rows {
+        assert!(rt; *index < list.len());
+        expect(rt, (segment, *index), list.get(*index), *wanted);
+    }
     Ok(())
 }
 
+#[test]
+fn first_fields_of_structs(rt: HostRuntime) -> Result<()> {
+    expect_numbers::<u8>(&rt, DATA, 3, &[(0, 1), (1, 0xf1), (2, 0)])?;
+    expect_numbers::<i16>(&rt, DATA, 3, &[(0, 0x0201), (1, -0x0d0f), (2, 0)])?;
+    expect_numbers::<u64>(&rt, DATA, 3, &[(0, 0x0807_0605_0403_0201), (2, 1 << 56)])?;
+    expect_numbers::<u8>(&rt, HELLO, 14, &[(4, b'o'), (13, 0)])
+}
+
+// Whether this is a text of a list.
+fn is_text(list: &Texts<'_>, index: u32, wanted: &[u8]) -> Option<Numbered<bool>> {
+    if index >= list.len() {
+        return None;
+    }
+    match list.get(index) {
+        Ok(text) => Some(Ok(text.as_bytes() == wanted)),
+        Err(error) => Some(Err(error.kind.number())),
+    }
+}
+
+// Lists of pointers whose second one leads to a text, that text, and the words of the list.
+const TEXTS: [(&[u8], &[u8], usize); 2] = [(POINTERS, b"a", 3), (BOTH, b"b", 10)];
+
 // A list of pointers is counted once, and what a pointer leads to each time.
 #[test]
-fn first_pointers_of_structs(rt: HostRuntime) -> std::result::Result<(), Fail> {
-    for (segment, letter, words) in [(POINTERS, b"a", 3), (BOTH, b"b", 10)] {
-        let segments = [segment];
-        let arena = arena_of(&segments, words + 1, 2);
-        let texts = root_as::<SegmentArray<'_>, ListList<'_, SegmentArray<'_>, text::Reader<'_>>>(
-            &arena,
-        )?;
-        assert_eq!(rt; texts.len(), 3);
-        assert_eq!(rt; texts.get(0)?.len(), 0);
-        assert_eq!(rt; texts.get(1)?.as_bytes(), letter.as_slice());
-        assert_eq!(rt; refusal(texts.get(1)), 20);
-        assert_eq!(rt; texts.get(2)?.len(), 0);
+fn first_pointers_of_structs(rt: HostRuntime) -> Result<()> {
+    for (segment, letter, words) in &TEXTS {
+        let segments = [*segment];
+        let arena = arena_of(&segments, Some(*words + 1), 2);
+        let texts: Texts<'_> = root_as(&arena)?;
+        expect(&rt, *segment, texts.len(), 3);
+        let found = [
+            is_text(&texts, 0, b""),
+            is_text(&texts, 1, letter),
+            is_text(&texts, 1, letter),
+            is_text(&texts, 2, b""),
+        ];
+        let wanted = [
+            Some(Ok(true)),
+            Some(Ok(true)),
+            Some(Err(20)),
+            Some(Ok(true)),
+        ];
+        expect(&rt, *segment, found, wanted);
     }
+    Ok(())
+}
+
+#[test]
+fn first_pointers_below_the_nesting_limit(rt: HostRuntime) -> Result<()> {
     let segments = [POINTERS];
-    let arena = arena_of(&segments, 1000, 1);
-    let structs = root_as::<SegmentArray<'_>, StructList<'_, SegmentArray<'_>>>(&arena)?;
-    assert_eq!(rt; structs.len(), 3);
+    let arena = arena_of(&segments, Some(1000), 1);
+    let structs: Structs<'_> = root_as(&arena)?;
+    assert!(rt; structs.len() == 3);
     let below = structs.get(1).get_pointer(0);
-    assert_eq!(rt; refusal(below.get_as::<text::Reader<'_>>()), 19);
+    expect(&rt, POINTERS, text_at(&below), Err(19));
     Ok(())
 }

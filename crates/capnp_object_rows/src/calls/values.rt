@@ -1,15 +1,17 @@
 //! Values that are measured and written, and canonical forms.
-use capnp_frame::message::{ReaderOptions, SegmentArray};
-use capnp_wire::any_struct::{self, StructReader};
-use capnp_wire::arena::ReaderArena;
+use crate::fixtures::{Arena, Numbered, expect, is_canonical, plain_arena, root_as_struct};
+use crate::hostile::chain;
+use crate::hostile_messages::trimmed_chain;
+use capnp_frame::Result;
+use capnp_frame::message::SegmentArray;
 use capnp_wire::canonical::canonical_bytes;
-use capnp_wire::text;
 use capnp_wire::traits::SetterInput;
-use std::test::Fail;
+use capnp_wire::{any_struct, text};
+use std::alloc::Global;
 
 // Segments, and the canonical form of their root, or the refusal's number.
 #[rattlefmt::skip]
-const FORMS: [(&[&[u8]], std::result::Result<&[u8], u8>); 10] = [
+const FORMS: [(&[&[u8]], Numbered<&[u8]>); 10] = [
     // padding of bytes, one bit, a list of no structs, null, an empty struct
     (&[b"\x01\0\0\0\x0a\0\0\0\x41\0\0\0\0\0\0\x01"],        Ok(b"\x01\0\0\0\x0a\0\0\0\x41\0\0\0\0\0\0\0")),
     (&[b"\x01\0\0\0\x09\0\0\0\xff\0\0\0\0\0\0\x80"],        Ok(b"\x01\0\0\0\x09\0\0\0\x01\0\0\0\0\0\0\0")),
@@ -30,126 +32,173 @@ const FORMS: [(&[&[u8]], std::result::Result<&[u8], u8>); 10] = [
     (&[b"\x04\0\0\0\0\0\0\0"],                              Err(17)),
 ];
 
+fn form_of(alloc: Global, arena: &Arena<'_>) -> Result<Vec<u8>> {
+    canonical_bytes(alloc, &arena.get_root()?)
+}
+
 #[test]
-fn canonical_forms(rt: HostRuntime) -> std::result::Result<(), Fail> {
-    for (segments, expected) in FORMS {
-        let arena = ReaderArena::new(SegmentArray::new(segments), ReaderOptions::new());
-        match canonical_bytes(rt.alloc(), &arena.get_root()?) {
+fn canonical_forms(rt: HostRuntime) {
+    for (segments, wanted) in &FORMS {
+        let arena = plain_arena(segments);
+        match form_of(rt.alloc(), &arena) {
             Ok(bytes) => {
-                assert_eq!(rt; Ok(&bytes[..]), expected);
-                let form = [&bytes[..]];
-                let canonical = ReaderArena::new(SegmentArray::new(&form), ReaderOptions::new());
-                assert!(rt; canonical.is_canonical()?);
+                expect(&rt, *segments, Ok(bytes.as_slice()), *wanted);
+                let form = [bytes.as_slice()];
+                let canonical = is_canonical(&plain_arena(&form));
+                expect(&rt, *segments, canonical, Ok(true));
             }
-            Err(error) => assert_eq!(rt; Err(error.kind.number()), expected),
+            Err(error) => expect(&rt, *segments, Err(error.kind.number()), *wanted),
         }
     }
-    Ok(())
 }
 
 // 64 structs of one pointer, each held by the one before; the last pointer is null, and is left out.
 #[test]
-fn a_chain_of_structs(rt: HostRuntime) -> std::result::Result<(), Fail> {
-    let mut words = Vec::new(rt.alloc());
-    let mut least = Vec::new(rt.alloc());
-    for _struct in 0..63 {
-        words.extend_from_slice(b"\0\0\0\0\0\0\x01\0")?;
-        least.extend_from_slice(b"\0\0\0\0\0\0\x01\0")?;
-    }
-    words.extend_from_slice(b"\0\0\0\0\0\0\x01\0\0\0\0\0\0\0\0\0")?;
-    least.extend_from_slice(b"\xfc\xff\xff\xff\0\0\0\0")?;
+fn a_chain_of_structs(rt: HostRuntime) -> Result<()> {
+    let words = chain(rt.alloc(), 64)?;
+    let least = trimmed_chain(rt.alloc())?;
     let segments = [words.as_slice()];
-    let arena = ReaderArena::new(SegmentArray::new(&segments), ReaderOptions::new());
-    let form = canonical_bytes(rt.alloc(), &arena.get_root()?)?;
-    assert_eq!(rt; &form[..], &least[..]);
+    let form = form_of(rt.alloc(), &plain_arena(&segments))?;
+    expect(&rt, "64 structs", form.as_slice(), least.as_slice());
     Ok(())
 }
 
 #[test]
-fn values(rt: HostRuntime) -> std::result::Result<(), Fail> {
+fn a_text_as_a_value(rt: HostRuntime) -> Result<()> {
     let text = "Hello, World!";
     let mut block = [0; 16];
-    assert_eq!(rt; SetterInput::<text::Owned>::measure(&text, false)?, 2);
+    assert!(rt; SetterInput::<text::Owned>::measure(&text, false)? == 2);
     let copied = SetterInput::<text::Owned>::write(&text, false, &mut block, 0, 0);
-    assert_eq!(rt; copied.pointer.to_le_bytes(), *b"\x01\0\0\0\x72\0\0\0");
-    assert_eq!(rt; &block[..], b"Hello, World!\0\0\0".as_slice());
-
-    // a tree as it stands keeps its trailing words
-    let words: &[u8] = b"\0\0\0\0\x02\0\x01\0\x05\0\0\0\0\0\0\0\0\0\0\0\0\0\0\0\0\0\0\0\0\0\0\0";
-    let segments = [words];
-    let arena = ReaderArena::new(SegmentArray::new(&segments), ReaderOptions::new());
-    let root = arena.get_root()?;
-    let mut copy = [0; 24];
-    assert_eq!(rt; root.measure(false)?, 3);
-    assert_eq!(rt; root.measure(true)?, 1);
-    let copied = root.write(false, &mut copy, 0, 0);
-    assert_eq!(rt; copied.pointer.to_le_bytes(), *b"\0\0\0\0\x02\0\x01\0");
-    assert_eq!(rt; &copy[..], &words[8..]);
+    expect(
+        &rt,
+        "pointer",
+        copied.pointer.to_le_bytes(),
+        *b"\x01\0\0\0\x72\0\0\0",
+    );
+    expect(
+        &rt,
+        "block",
+        block.as_slice(),
+        b"Hello, World!\0\0\0".as_slice(),
+    );
     Ok(())
 }
 
-// A struct of two words and a null pointer, two pointers to one struct, and null.
+// A struct of two words and a null pointer.
+const LOOSE: &[u8] = b"\0\0\0\0\x02\0\x01\0\x05\0\0\0\0\0\0\0\0\0\0\0\0\0\0\0\0\0\0\0\0\0\0\0";
+
+// A tree as it stands keeps its trailing words.
 #[test]
-fn structs_as_values(rt: HostRuntime) -> std::result::Result<(), Fail> {
-    let words: &[u8] = b"\0\0\0\0\x02\0\x01\0\x05\0\0\0\0\0\0\0\0\0\0\0\0\0\0\0\0\0\0\0\0\0\0\0";
-    let segments = [words];
-    let arena = ReaderArena::new(SegmentArray::new(&segments), ReaderOptions::new());
-    let fields: StructReader<'_, _> = arena.get_root()?.get_as()?;
+fn a_tree_as_a_value(rt: HostRuntime) -> Result<()> {
+    let segments = [LOOSE];
+    let arena = plain_arena(&segments);
+    let root = arena.get_root()?;
+    let mut copy = [0; 24];
+    assert!(rt; root.measure(false)? == 3);
+    assert!(rt; root.measure(true)? == 1);
+    let copied = root.write(false, &mut copy, 0, 0);
+    expect(
+        &rt,
+        "pointer",
+        copied.pointer.to_le_bytes(),
+        *b"\0\0\0\0\x02\0\x01\0",
+    );
+    expect(&rt, "block", copy.as_slice(), &LOOSE[8..]);
+    Ok(())
+}
+
+#[test]
+fn a_struct_as_a_value(rt: HostRuntime) -> Result<()> {
+    let segments = [LOOSE];
+    let arena = plain_arena(&segments);
+    let fields = root_as_struct(&arena)?;
     let mut block = [0; 24];
-    assert_eq!(rt;
-        SetterInput::<any_struct::Owned>::measure(&fields, false)?,
-        3
-    );
-    assert_eq!(rt;
-        SetterInput::<any_struct::Owned>::measure(&fields, true)?,
-        1
-    );
+    assert!(rt; SetterInput::<any_struct::Owned>::measure(&fields, false)? == 3);
     let copied = fields.write(false, &mut block, 0, 0);
-    assert_eq!(rt; copied.pointer.to_le_bytes(), *b"\0\0\0\0\x02\0\x01\0");
-    assert_eq!(rt; &block[..], &words[8..]);
-    let mut least = [0; 8];
-    let copied = fields.write(true, &mut least, 0, 0);
-    assert_eq!(rt; copied.pointer.to_le_bytes(), *b"\0\0\0\0\x01\0\0\0");
-    assert_eq!(rt; &least[..], &words[8..16]);
-
-    let shared: &[u8] =
-        b"\0\0\0\0\0\0\x02\0\x04\0\0\0\x01\0\0\0\0\0\0\0\x01\0\0\0\x09\0\0\0\0\0\0\0";
-    let segments = [shared];
-    let arena = ReaderArena::new(SegmentArray::new(&segments), ReaderOptions::new());
-    let fields: StructReader<'_, _> = arena.get_root()?.get_as()?;
-    let mut block = [0; 32];
-    assert_eq!(rt; fields.measure(true)?, 4);
-    let copied = fields.write(true, &mut block, 0, 0);
-    assert_eq!(rt; copied.pointer.to_le_bytes(), *b"\0\0\0\0\0\0\x02\0");
-    assert_eq!(rt;
-        &block[..],
-        b"\x04\0\0\0\x01\0\0\0\x04\0\0\0\x01\0\0\0\x09\0\0\0\0\0\0\0\x09\0\0\0\0\0\0\0".as_slice()
+    expect(
+        &rt,
+        "pointer",
+        copied.pointer.to_le_bytes(),
+        *b"\0\0\0\0\x02\0\x01\0",
     );
+    expect(&rt, "block", block.as_slice(), &LOOSE[8..]);
+    Ok(())
+}
 
+#[test]
+fn a_trimmed_struct_as_a_value(rt: HostRuntime) -> Result<()> {
+    let segments = [LOOSE];
+    let arena = plain_arena(&segments);
+    let fields = root_as_struct(&arena)?;
+    let mut least = [0; 8];
+    assert!(rt; SetterInput::<any_struct::Owned>::measure(&fields, true)? == 1);
+    let copied = fields.write(true, &mut least, 0, 0);
+    expect(
+        &rt,
+        "pointer",
+        copied.pointer.to_le_bytes(),
+        *b"\0\0\0\0\x01\0\0\0",
+    );
+    expect(&rt, "block", least.as_slice(), &LOOSE[8..16]);
+    Ok(())
+}
+
+// Two pointers to one struct, and what these are as a tree.
+const SHARED: &[u8] = b"\0\0\0\0\0\0\x02\0\x04\0\0\0\x01\0\0\0\0\0\0\0\x01\0\0\0\x09\0\0\0\0\0\0\0";
+
+const APART: &[u8] =
+    b"\x04\0\0\0\x01\0\0\0\x04\0\0\0\x01\0\0\0\x09\0\0\0\0\0\0\0\x09\0\0\0\0\0\0\0";
+
+#[test]
+fn a_shared_struct_as_a_value(rt: HostRuntime) -> Result<()> {
+    let segments = [SHARED];
+    let arena = plain_arena(&segments);
+    let fields = root_as_struct(&arena)?;
+    let mut block = [0; 32];
+    assert!(rt; fields.measure(true)? == 4);
+    let copied = fields.write(true, &mut block, 0, 0);
+    expect(
+        &rt,
+        "pointer",
+        copied.pointer.to_le_bytes(),
+        *b"\0\0\0\0\0\0\x02\0",
+    );
+    expect(&rt, "block", block.as_slice(), APART);
+    Ok(())
+}
+
+#[test]
+fn null_as_a_struct_value(rt: HostRuntime) -> Result<()> {
     let segments: [&[u8]; 1] = [b"\0\0\0\0\0\0\0\0"];
-    let arena = ReaderArena::new(SegmentArray::new(&segments), ReaderOptions::new());
-    let fields: StructReader<'_, _> = arena.get_root()?.get_as()?;
+    let arena = plain_arena(&segments);
+    let fields = root_as_struct(&arena)?;
     let mut block = [];
-    assert_eq!(rt; fields.measure(false)?, 0);
-    assert_eq!(rt;
-        fields.write(false, &mut block, 0, 0).pointer.to_le_bytes(),
-        *b"\xfc\xff\xff\xff\0\0\0\0"
+    assert!(rt; fields.measure(false)? == 0);
+    let copied = fields.write(false, &mut block, 0, 0);
+    expect(
+        &rt,
+        "pointer",
+        copied.pointer.to_le_bytes(),
+        *b"\xfc\xff\xff\xff\0\0\0\0",
     );
     Ok(())
 }
 
 // A text in a block, after a word that stays, and before one that does.
 #[test]
-fn inside_a_block(rt: HostRuntime) -> std::result::Result<(), Fail> {
+fn inside_a_block(rt: HostRuntime) -> Result<()> {
     let text = "Hello, World!";
     let mut block = [0; 40];
     block[..8].copy_from_slice(b"in front");
     let copied = SetterInput::<text::Owned>::write(&text, false, &mut block, 1, 2);
-    assert_eq!(rt; copied.pointer.to_le_bytes(), *b"\x05\0\0\0\x72\0\0\0");
-    assert_eq!(rt; copied.next, 4);
-    assert_eq!(rt;
-        &block[..],
-        b"in front\0\0\0\0\0\0\0\0Hello, World!\0\0\0\0\0\0\0\0\0\0\0".as_slice()
+    expect(&rt, "the next word", copied.next, 4);
+    expect(
+        &rt,
+        "pointer",
+        copied.pointer.to_le_bytes(),
+        *b"\x05\0\0\0\x72\0\0\0",
     );
+    let wanted = b"in front\0\0\0\0\0\0\0\0Hello, World!\0\0\0\0\0\0\0\0\0\0\0";
+    expect(&rt, "block", block.as_slice(), wanted.as_slice());
     Ok(())
 }
