@@ -2,6 +2,7 @@
 //!
 //! Each is proved once, and a test that calls these is quick to prove: an assertion of two values
 //! with a message takes some three seconds wherever it stands, a call of one of these a tenth of that.
+//! They stand in each crate that calls them, since no library may end the process.
 use capnp_frame::{ErrorKind, Result};
 use std::process::Abort;
 

@@ -1,5 +1,5 @@
 //! Worked rows over framing and packing, their calls, and what all tests share: messages, sources and
-//! sinks, limits, refusals, assertions, and what a test does where a growth is refused.
+//! sinks, limits, refusals, and what a test does where a growth is refused.
 //!
 //! Expected values come from the [encoding document] and from rows worked by hand, never from what
 //! the calls return. `rt try --test --fail-alloc N` refuses one growth of each test: a body that
@@ -9,7 +9,8 @@
 //! [encoding document]: https://capnproto.org/encoding.html
 #![tactic(auto)]
 
-pub mod assertions;
+#[cfg(test)]
+mod assertions;
 #[cfg(test)]
 mod chunk_rows;
 #[cfg(test)]

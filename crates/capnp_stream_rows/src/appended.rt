@@ -1,4 +1,5 @@
 //! Messages that are written one after the other and read back.
+use crate::assertions::{At, assert_bytes, assert_calls, assert_count, assert_holds, assert_kind};
 use crate::faults::FORMATS;
 use crate::framed_rows::{FLATTEN, THREE};
 use crate::packed_rows::PACKED_THREE;
@@ -10,9 +11,6 @@ use capnp_frame::io::Write;
 use capnp_frame::message::{ReaderOptions, SegmentArray};
 use capnp_frame::serialize::OwnedSegments;
 use capnp_frame::{ErrorKind, Result};
-use capnp_rows::assertions::{
-    At, assert_bytes, assert_calls, assert_count, assert_holds, assert_kind,
-};
 use capnp_rows::limits::{DEFAULT_LIMIT, NO_LIMIT};
 use capnp_rows::messages::{has_segments, is_writable};
 use capnp_rows::refusals::kind_of;

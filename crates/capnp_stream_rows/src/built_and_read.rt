@@ -1,4 +1,5 @@
 //! Messages that are built, written and read back.
+use crate::assertions::{At, assert_bytes, assert_count, assert_kind};
 use crate::built_messages::{size_of, words_of, write};
 use crate::faults::FORMATS;
 use crate::packed;
@@ -12,7 +13,6 @@ use capnp::streams::Format;
 use capnp::{primitive_list, serialize, text};
 use capnp_frame::serialize::Padding;
 use capnp_frame::{ErrorKind, Result};
-use capnp_rows::assertions::{At, assert_bytes, assert_count, assert_kind};
 use capnp_rows::refusals::kind_of;
 use capnp_rows::retried;
 use std::alloc::Global;

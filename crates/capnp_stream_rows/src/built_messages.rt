@@ -1,13 +1,11 @@
 //! Messages that are built, and written in both formats.
+use crate::assertions::{At, assert_bytes, assert_calls, assert_count, assert_holds, assert_kind};
 use crate::framed_rows::{HELLO, HELLO_FAR};
 use capnp::message::{Builder, HeapAllocator, ReaderSegments};
 use capnp::streams::Format;
 use capnp::{serialize, serialize_packed, text};
 use capnp_frame::io::Write;
 use capnp_frame::{ErrorKind, Result};
-use capnp_rows::assertions::{
-    At, assert_bytes, assert_calls, assert_count, assert_holds, assert_kind,
-};
 use capnp_rows::refusals::kind_of;
 use capnp_rows::retried;
 use capnp_rows::sinks::FaultySink;

@@ -1,4 +1,5 @@
 //! Canonical forms as they are written.
+use crate::assertions::{At, assert_bytes, assert_count, assert_kind};
 use crate::packed;
 use capnp::message::{DEFAULT_READER_OPTIONS, Reader, SegmentArray};
 use capnp::serialize::write_canonical_message;
@@ -6,7 +7,6 @@ use capnp_frame::io::Write;
 use capnp_frame::message::ReaderSegments;
 use capnp_frame::serialize::Padding;
 use capnp_frame::{ErrorKind, Result};
-use capnp_rows::assertions::{At, assert_bytes, assert_count, assert_kind};
 use capnp_rows::refusals::kind_of;
 use capnp_rows::retried;
 use std::process::Abort;

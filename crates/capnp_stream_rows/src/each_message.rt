@@ -1,4 +1,5 @@
 //! What is written of each message of a stream in the other format, by both rules of padding.
+use crate::assertions::{At, assert_bytes, assert_count, assert_kind};
 use crate::padding_rows::{PACKED_TWO, TWO};
 use crate::transcodings::transcoded;
 use capnp::message::DEFAULT_READER_OPTIONS;
@@ -6,7 +7,6 @@ use capnp::streams::{StoppedAt, write_each_message};
 use capnp::{Way, transcode_lenient};
 use capnp_frame::serialize::Padding;
 use capnp_frame::{ErrorKind, Result};
-use capnp_rows::assertions::{At, assert_bytes, assert_count, assert_kind};
 use capnp_rows::refusals::kind_of;
 use capnp_rows::retried;
 use std::alloc::Global;

@@ -1,4 +1,5 @@
 //! Sources that fail at their nth call.
+use crate::assertions::{At, assert_bytes, assert_calls, assert_holds, assert_refused};
 use crate::flat::RULES;
 use crate::framed;
 use crate::samples::{SAMPLES, Sample, TWO_SEGMENTS};
@@ -9,7 +10,6 @@ use capnp_frame::message::DEFAULT_READER_OPTIONS;
 use capnp_frame::serialize::Padding;
 use capnp_frame::{ErrorKind, Result};
 use capnp_pack::PackedRead;
-use capnp_rows::assertions::{At, assert_bytes, assert_calls, assert_holds, assert_refused};
 use capnp_rows::limits::DEFAULT_LIMIT;
 use capnp_rows::retried;
 use capnp_rows::sources::{Faulty, Trickle};

@@ -1,4 +1,5 @@
 //! Messages in a slice, by each call that finds them there.
+use crate::assertions::{At, assert_count};
 use crate::flat_calls::{
     hold, hold_without_memory, take, take_message, take_message_without_memory, take_without_memory,
 };
@@ -9,7 +10,6 @@ use capnp::message::Reader;
 use capnp_frame::message::{ReaderOptions, ReaderSegments};
 use capnp_frame::serialize::Padding;
 use capnp_frame::{ErrorKind, Result};
-use capnp_rows::assertions::{At, assert_count};
 use capnp_rows::limits::{DEFAULT_LIMIT, NO_LIMIT};
 use capnp_rows::messages::has_segments;
 use capnp_rows::retried;

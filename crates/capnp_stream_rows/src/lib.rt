@@ -5,6 +5,8 @@
 #[cfg(test)]
 mod appended;
 #[cfg(test)]
+mod assertions;
+#[cfg(test)]
 mod built_and_read;
 #[cfg(test)]
 mod built_messages;

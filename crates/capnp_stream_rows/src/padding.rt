@@ -1,4 +1,5 @@
 //! Streams and buffers with tables whose padding isn't zero, by both rules.
+use crate::assertions::{At, assert_count};
 use crate::flat::RULES;
 use crate::framed_rows::{CUT, TWO_SEGMENTS};
 use crate::packed_rows::NO_WORDS;
@@ -10,7 +11,6 @@ use crate::streams::{READERS, Reader, Stream, Wanted, assert_call, is_returned, 
 use capnp::streams::Format;
 use capnp_frame::serialize::Padding;
 use capnp_frame::{ErrorKind, Result};
-use capnp_rows::assertions::{At, assert_count};
 use capnp_rows::limits::{DEFAULT_LIMIT, NO_LIMIT};
 use capnp_rows::retried;
 use capnp_rows::sources::Trickle;

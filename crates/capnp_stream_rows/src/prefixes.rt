@@ -1,4 +1,5 @@
 //! Messages that are cut: no prefix of a text is a message, and each fails with one kind.
+use crate::assertions::{At, assert_count};
 use crate::flat::{FORMS, Form, RULES, assert_form, find};
 use crate::samples::{SAMPLES, Sample};
 use crate::streams::{Call, READERS, Reader, Wanted, assert_call, is_returned};
@@ -6,7 +7,6 @@ use capnp::streams::Format;
 use capnp_frame::message::DEFAULT_READER_OPTIONS;
 use capnp_frame::serialize::Padding;
 use capnp_frame::{ErrorKind, Result};
-use capnp_rows::assertions::{At, assert_count};
 use capnp_rows::limits::DEFAULT_LIMIT;
 use capnp_rows::retried;
 use capnp_rows::sources::Trickle;

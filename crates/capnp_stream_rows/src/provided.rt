@@ -1,4 +1,5 @@
 //! Messages that are read into caller-provided buffers of each length.
+use crate::assertions::{At, assert_count};
 use crate::flat::RULES;
 use crate::framed_rows::{CUT, FLATTEN};
 use crate::packed_rows::NO_WORDS;
@@ -6,7 +7,6 @@ use crate::streams::{Call, READERS, Reader, Wanted, assert_call, is_returned};
 use capnp::streams::Format;
 use capnp_frame::serialize::Padding;
 use capnp_frame::{ErrorKind, Result};
-use capnp_rows::assertions::{At, assert_count};
 use capnp_rows::limits::{DEFAULT_LIMIT, NO_LIMIT};
 use capnp_rows::retried;
 use capnp_rows::sources::Trickle;

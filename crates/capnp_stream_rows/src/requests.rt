@@ -1,9 +1,9 @@
 //! What the readers of framed messages ask their source for.
+use crate::assertions::{At, assert_calls};
 use crate::streams::{READERS, Wanted, assert_call, is_read};
 use capnp::streams::Format;
 use capnp_frame::Result;
 use capnp_frame::serialize::Padding;
-use capnp_rows::assertions::{At, assert_calls};
 use capnp_rows::limits::NO_LIMIT;
 use capnp_rows::retried;
 use capnp_rows::sources::Counting;

@@ -1,8 +1,8 @@
 //! Roots of messages that are read in place.
+use crate::assertions::{At, assert_refused};
 use crate::framed_rows::{HELLO, HELLO_FAR};
 use capnp::message::{DEFAULT_READER_OPTIONS, Reader, ReaderOptions, ReaderSegments};
 use capnp::{ErrorKind, Result, data, serialize, text};
-use capnp_rows::assertions::{At, assert_refused};
 use capnp_rows::retried;
 use capnp_rows::sources::Trickle;
 use std::process::Abort;

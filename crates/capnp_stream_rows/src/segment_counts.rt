@@ -1,12 +1,12 @@
 //! The number of segments that writers take: as many as a reader accepts, and none more.
 use crate::appended::{are_read, read_back};
+use crate::assertions::{At, assert_bytes, assert_holds, assert_kind};
 use crate::faults::FORMATS;
 use crate::writers::{WRITERS, Writer, write};
 use capnp::streams::Format;
 use capnp_frame::message::SegmentArray;
 use capnp_frame::serialize::serialized_size_in_words;
 use capnp_frame::{ErrorKind, Result};
-use capnp_rows::assertions::{At, assert_bytes, assert_holds, assert_kind};
 use capnp_rows::messages::is_writable;
 use capnp_rows::refusals::kind_of;
 use capnp_rows::retried;

@@ -1,4 +1,5 @@
 //! As many segments as a reader accepts, of 0, 1 and 2 words in turn: each is where it begins.
+use crate::assertions::{At, assert_count};
 use crate::faults::FORMATS;
 use crate::flat::{FORMS, Form, RULES, assert_form, find, left_by};
 use crate::streams::{Call, Reader, Wanted, assert_call, is_returned};
@@ -6,7 +7,6 @@ use capnp::streams::Format;
 use capnp_frame::Result;
 use capnp_frame::message::ReaderOptions;
 use capnp_frame::serialize::{NoAllocBufferSegments, NoAllocSegmentTableInfo, Padding, describes};
-use capnp_rows::assertions::{At, assert_count};
 use capnp_rows::limits::DEFAULT_LIMIT;
 use capnp_rows::messages::has_segments;
 use capnp_rows::retried;

@@ -1,4 +1,5 @@
 //! Messages after one another, by each call that reads the next one of a stream.
+use crate::assertions::{At, assert_count};
 use crate::framed_rows::FRAMED;
 use crate::packed_rows::PACKED;
 use crate::{framed, packed};
@@ -8,7 +9,6 @@ use capnp_frame::io::{BufRead, Read};
 use capnp_frame::message::{ReaderOptions, ReaderSegments};
 use capnp_frame::serialize::{OwnedSegments, Padding};
 use capnp_frame::{ErrorKind, Result};
-use capnp_rows::assertions::{At, assert_count};
 use capnp_rows::messages::has_segments;
 use capnp_rows::retried;
 use capnp_rows::sources::Trickle;

@@ -1,12 +1,10 @@
 //! Messages that are taken from one format to the other, while a device fails.
+use crate::assertions::{At, assert_bytes, assert_calls, assert_count, assert_holds, assert_kind};
 use crate::samples::{FAR, FLATTEN, HELLO, Sample};
 use capnp::message::DEFAULT_READER_OPTIONS;
 use capnp::{Way, transcode};
 use capnp_frame::io::{BufRead, Write};
 use capnp_frame::{ErrorKind, Result};
-use capnp_rows::assertions::{
-    At, assert_bytes, assert_calls, assert_count, assert_holds, assert_kind,
-};
 use capnp_rows::refusals::kind_of;
 use capnp_rows::retried;
 use capnp_rows::sinks::FaultySink;

@@ -1,4 +1,5 @@
 //! What is written of messages, by the calls over a sink and by those into memory.
+use crate::assertions::{At, assert_holds};
 use crate::faults::FORMATS;
 use crate::packed;
 use crate::packed_rows::NO_WORDS;
@@ -8,7 +9,6 @@ use capnp::streams::Format;
 use capnp_frame::message::{DEFAULT_READER_OPTIONS, ReaderSegments, SegmentArray};
 use capnp_frame::serialize::{BufferSegments, OwnedSegments, Padding, serialized_size_in_words};
 use capnp_frame::{Error, ErrorKind, Result};
-use capnp_rows::assertions::{At, assert_holds};
 use capnp_rows::limits::DEFAULT_LIMIT;
 use capnp_rows::messages::{MESSAGES, Message, has_segments, is_framed, is_writable};
 use capnp_rows::retried;
