@@ -44,10 +44,10 @@ impl<const D: usize, F> StructValue<D, F> {
     }
 }
 
-// Puts bits into a field of a width, which lies within one word. At an offset that is known this is a
-// few instructions, once it is inlined.
+/// Puts bits into a field of a width, which lies within one word. At an offset that is known this is a
+/// few instructions, once it is inlined.
 #[inline(always)]
-fn put_field(words: &mut [u64], width: u64, offset: u32, bits: u64)
+pub fn put_field(words: &mut [u64], width: u64, offset: u32, bits: u64)
     requires within { width * (offset + 1) ≤ 64 * length words.old }
     requires one_word { width + width * offset % 64 ≤ 64 }
     requires few { bits < 2 ^ width }

@@ -9,7 +9,7 @@
 #![tactic(auto)]
 
 pub mod borrowed;
-mod data_section;
+pub mod data_section;
 pub mod element;
 pub mod fields;
 mod items;
@@ -21,7 +21,7 @@ pub mod null;
 pub mod number_list;
 pub mod pointer_list;
 mod rows;
-mod sections;
+pub mod sections;
 pub mod sources;
 pub mod struct_list;
 pub mod struct_value;

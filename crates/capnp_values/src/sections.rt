@@ -19,7 +19,7 @@ pub(crate) fn fits(words: &[u64], fields: u32) -> bool
 }
 
 /// A number of eight bytes is below 2^64.
-pub(crate) fn words_fit(words: &[u64])
+pub fn words_fit(words: &[u64])
     ensures { All (λ word. word < 2 ^ 64) words.now }
 {}
 
@@ -46,7 +46,7 @@ pub(crate) fn kept_data(words: &[u64], canonical: bool) -> usize
 }
 
 /// Puts words into a block of just these.
-pub(crate) fn put_words(words: &[u64], block: &mut [u8])
+pub fn put_words(words: &[u64], block: &mut [u8])
     requires { length block.old ≡ 8 * length words.now }
     ensures { words_of block.new ≡ words.now }
 {
