@@ -1,0 +1,149 @@
+-- What is said of a segment once an object is written, or the root is set.
+use Rattle.std.proofs.Common.{◌≡◌, ℕ, ◌+◌, ◌-◌, ◌*◌, ◌/◌, ◌^◌, ◌<◌, ◌≤◌, List, [], ◌∷◌, ◌++◌, length, take, drop, Some, None, Ok, refl, sym, ◌∙◌, ap, subst, arith, length-append, length-take, length-drop}
+use Rattle.std.specs.Prelude.{replicate}
+use Rattle.std.proofs.Math.Seq.{take-append_seam}
+use Rattle.std.proofs.lemmas.List.{append-nil, take_all, take-take, length-replicate}
+use Rattle.capnp_wire.specs.Pointer.{words_of}
+use Rattle.capnp_wire.specs.Reached.{Root}
+use Rattle.capnp_wire.proofs.words.WordLemmas.{length-words_of}
+use Rattle.capnp_wire.proofs.words.PutLemmas.{words_split}
+use Rattle.capnp_orphans.specs.Orphans.{link, IsOrphan}
+use Rattle.capnp_orphans.specs.Segments.{Segment, IsSegment, body_of, Appends, AppendsObject, PutsRoot, IsWrittenAfter}
+use Rattle.capnp_orphans.specs.Adding.{Keeps, Adds, SetsRoot, AddsRoot}
+use Rattle.capnp_orphans.specs.OrphanLaws.{still_orphan}
+
+drop_front : (xs ys : List ℕ) → 0 < length xs → drop 1 (xs ++ ys) ≡ drop 1 xs ++ ys
+drop_front [] ys some = absurd (omega (arith, some))
+drop_front (x ∷ xs) ys some = refl
+
+-- the words after those of a segment
+pub body_after : (segment : Segment) (block : List ℕ) (new : List ℕ) → IsSegment segment → new ≡ segment.bytes ++ block → drop 1 (words_of new) ≡ body_of segment ++ words_of block
+body_after segment block new is new_is =
+    let k : ℕ = length segment.bytes / 8 in
+    let long : length segment.bytes ≡ 8 * (length segment.bytes / 8) = omega (arith, is.whole) in
+    ap (λ (l : List ℕ). drop 1 (words_of l)) new_is ∙ ap (λ (l : List ℕ). drop 1 l) (words_split k segment.bytes block long)
+    ∙ drop_front (words_of segment.bytes) (words_of block) (omega (arith, length-words_of segment.bytes, is.rooted))
+
+pub length-body_of : (segment : Segment) → IsSegment segment → length segment.bytes / 8 ≡ 1 + length (body_of segment)
+length-body_of segment is = omega (arith, length-words_of segment.bytes, length-drop 1 (words_of segment.bytes), is.rooted)
+
+-- all orphans hold what they held
+pub keeps_after : (old new : Segment) (words : ℕ) → IsSegment old → Appends words old new → Keeps old new
+keeps_after old new words is appends word form held h =
+    subst (λ (l : List ℕ). IsOrphan l word form held) (sym (body_after old appends.block new.bytes is appends.bytes_are))
+    (still_orphan (body_of old) (words_of appends.block) word form held h)
+
+-- a segment that an object is appended to is one
+pub still_segment : (old new : Segment) (words : ℕ) → IsSegment old → length old.bytes / 8 + words < 2 ^ 29 → Appends words old new → IsSegment new
+still_segment old new words is few appends =
+    let long : length new.bytes ≡ length old.bytes + 8 * words =
+    ap (λ (l : List ℕ). length l) appends.bytes_are ∙ length-append old.bytes appends.block ∙ ap (λ (n : ℕ). length old.bytes + n) appends.len in
+    record { whole = omega (arith, long, is.whole); rooted = omega (arith, long, is.rooted); few = omega (arith, long, is.whole, few) }
+
+-- The root's word is the pointer to an orphan.
+pub sets_root : (old new : Segment) (word : ℕ) → PutsRoot (link word 0) old new → SetsRoot word old new
+sets_root old new word is = record {
+  body_is = ap (λ (l : List ℕ). drop 1 l) is.words_are;
+  root_is = λ form held h.
+      let whole : link word 0 ∷ (body_of old ++ []) ≡ words_of new.bytes = ap (λ (l : List ℕ). link word 0 ∷ l) (append-nil (body_of old)) ∙ sym is.words_are in
+      let there = h.leads (link word 0) [] 0 (omega arith) refl in
+      (there.0, subst (λ (l : List ℕ). Root (l ∷ []) form held there.0) whole there.1);
+  len = is.len;
+  most = is.most;
+}
+
+-- what is held then
+pub adds_one : {T : Type 0} (holds : List ℕ → List ℕ → ℕ → Type 0) (words : ℕ) (old new : Segment) (word : T → ℕ) (number : ℕ) (object : T) → IsSegment old → AppendsObject holds words old new (Ok number)
+    → word object ≡ number → Adds (holds (body_of old)) old new word (Ok object)
+adds_one holds words old new word number object is appends same = record {
+  keeps = keeps_after old new words is appends.appended;
+  orphan = subst (λ (n : ℕ). holds (body_of old) (body_of new) n) (sym same) appends.holds_is;
+}
+
+-- an object is appended
+pub appended : (holds : List ℕ → List ℕ → ℕ → Type 0) (words : ℕ) (old new : Segment) (block : List ℕ) (word : ℕ) → IsSegment old → new.bytes ≡ old.bytes ++ block → length block ≡ 8 * words
+    → new.most ≡ old.most → ((body : List ℕ) → length old.bytes / 8 ≡ 1 + length body → holds body (body ++ words_of block) word) → AppendsObject holds words old new (Ok word)
+appended holds words old new block word is bytes_are len most h = record {
+  appended = record { block = block; len = len; bytes_are = bytes_are };
+  holds_is = subst (λ (l : List ℕ). holds (body_of old) l word) (sym (body_after old block new.bytes is bytes_are)) (h (body_of old) (length-body_of old is));
+  unchanged = tt;
+  kind = tt;
+  granted = λ room. refl;
+  most = most;
+}
+
+-- to the bytes of a vector, which has grown
+pub vector_appended : (holds : List ℕ → List ℕ → ℕ → Type 0) (words from n m size : ℕ) (old grown lent new : List ℕ) (word : ℕ) → IsSegment (record { bytes = old; most = None }) → from ≡ length old
+    → n ≡ from + 8 * words → m ≡ n - length old → grown ≡ take n old ++ replicate m 0 → lent ≡ grown → size ≡ length lent → IsWrittenAfter from holds word lent new
+    → AppendsObject holds words (record { bytes = old; most = None }) (record { bytes = take size (new ++ drop (length new) grown); most = None }) (Ok word)
+vector_appended holds words from n m size old grown lent new word is from_is n_is m_is grown_is lent_is size_is written =
+    let all : take n old ≡ old = take_all n old (omega (arith, n_is, from_is)) in
+    let grown_is_2 : grown ≡ old ++ replicate m 0 = grown_is ∙ ap (λ (l : List ℕ). l ++ replicate m 0) all in
+    let grown_long : length grown ≡ n = ap (λ (l : List ℕ). length l) grown_is_2 ∙ omega (arith, length-append old (replicate m 0), length-replicate {A = ℕ} m 0, m_is, n_is, from_is) in
+    let lent_long : length lent ≡ n = ap (λ (l : List ℕ). length l) lent_is ∙ grown_long in
+    let new_long : length new ≡ size = written.len ∙ sym size_is in
+    let front : take from lent ≡ old =
+    ap (λ (l : List ℕ). take from l) (lent_is ∙ grown_is_2) ∙ ap (λ (k : ℕ). take k (old ++ replicate m 0)) from_is ∙ take-append_seam old (replicate m 0) in
+    let whole : new ≡ old ++ written.block = written.bytes_are ∙ ap (λ (l : List ℕ). l ++ written.block) front in
+    let kept : take size (new ++ drop (length new) grown) ≡ new = ap (λ (k : ℕ). take k (new ++ drop (length new) grown)) (sym new_long) ∙ take-append_seam new (drop (length new) grown) in
+    let len : length written.block ≡ 8 * words = omega (arith, ap (λ (l : List ℕ). length l) whole, length-append old written.block, written.len, lent_long, n_is, from_is) in
+    appended holds words (record { bytes = old; most = None }) (record { bytes = take size (new ++ drop (length new) grown); most = None }) written.block word is (kept ∙ whole) len refl
+    (λ body start. written.holds_is body (ap (λ (k : ℕ). k / 8) from_is ∙ start))
+
+-- to the used bytes of a region
+pub region_appended : (holds : List ℕ → List ℕ → ℕ → Type 0) (words used k : ℕ) (old : Segment) (region zeros new : List ℕ) (word : ℕ) → IsSegment old
+    → record { bytes = take used region; most = Some (length region) } ≡ old → used + 8 * words ≤ length region → length zeros ≡ k → k ≡ 8 * words
+    → IsWrittenAfter used holds word (take used (take (used + 8 * words) region) ++ (zeros ++ drop k (drop used (take (used + 8 * words) region)))) new
+    → AppendsObject holds words old (record { bytes = take (used + 8 * words) (new ++ drop (used + 8 * words) region); most = Some (length (new ++ drop (used + 8 * words) region)) }) (Ok word)
+region_appended holds words used k old region zeros new word is old_is within zeros_long k_is written =
+    let end : ℕ = used + 8 * words in
+    let part : List ℕ = take (used + 8 * words) region in
+    let part_long : length (take (used + 8 * words) region) ≡ used + 8 * words = omega (arith, length-take (used + 8 * words) region, within) in
+    let front_long : length (take used (take (used + 8 * words) region)) ≡ used = omega (arith, length-take used (take (used + 8 * words) region), part_long) in
+    let rest : List ℕ = zeros ++ drop k (drop used (take (used + 8 * words) region)) in
+    let cleared_long : length (take used (take (used + 8 * words) region) ++ (zeros ++ drop k (drop used (take (used + 8 * words) region)))) ≡ used + 8 * words =
+    omega (
+      arith,
+      length-append (take used (take (used + 8 * words) region)) (zeros ++ drop k (drop used (take (used + 8 * words) region))),
+      length-append zeros (drop k (drop used (take (used + 8 * words) region))),
+      length-drop k (drop used (take (used + 8 * words) region)),
+      length-drop used (take (used + 8 * words) region),
+      front_long,
+      part_long,
+      zeros_long,
+      k_is,
+    ) in
+    let new_long : length new ≡ used + 8 * words = written.len ∙ cleared_long in
+    let front : take used (take used (take (used + 8 * words) region) ++ rest) ≡ take used region =
+    ap (λ (n : ℕ). take n (take used (take (used + 8 * words) region) ++ rest)) (sym front_long) ∙ take-append_seam (take used (take (used + 8 * words) region)) rest
+    ∙ take-take used (used + 8 * words) region (omega arith) in
+    let bytes_are : take used region ≡ old.bytes = ap (λ (s : Segment). s.bytes) old_is in
+    let whole : new ≡ old.bytes ++ written.block = written.bytes_are ∙ ap (λ (l : List ℕ). l ++ written.block) (front ∙ bytes_are) in
+    let kept : take (used + 8 * words) (new ++ drop (used + 8 * words) region) ≡ new =
+    ap (λ (n : ℕ). take n (new ++ drop (used + 8 * words) region)) (sym new_long) ∙ take-append_seam new (drop (used + 8 * words) region) in
+    let used_long : length old.bytes ≡ used = ap (λ (l : List ℕ). length l) (sym bytes_are) ∙ omega (arith, length-take used region, within) in
+    let len : length written.block ≡ 8 * words = omega (arith, ap (λ (l : List ℕ). length l) whole, length-append old.bytes written.block, new_long, used_long) in
+    let all_long : length (new ++ drop (used + 8 * words) region) ≡ length region =
+    omega (arith, length-append new (drop (used + 8 * words) region), length-drop (used + 8 * words) region, new_long, within) in
+    appended holds words old (record { bytes = take (used + 8 * words) (new ++ drop (used + 8 * words) region); most = Some (length (new ++ drop (used + 8 * words) region)) }) written.block word is (kept ∙ whole) len
+    (ap (λ (n : ℕ). Some n) all_long ∙ ap (λ (s : Segment). s.most) old_is)
+    (λ body start. written.holds_is body (ap (λ (n : ℕ). n / 8) (sym used_long) ∙ start))
+
+-- what is added becomes the root
+pub adds_root : (takes : ℕ → Type 0) (holds : List ℕ → ℕ → Type 0) (old between new : Segment) (word : ℕ) → Keeps old between → holds (body_of between) word
+    → ((words : ℕ) × takes words × Appends words old between) → between.most ≡ old.most → SetsRoot word between new → AddsRoot takes holds old new (Ok tt)
+adds_root takes holds old between new word keeps held long most sets = record {
+  keeps = λ w form inner h. subst (λ (l : List ℕ). IsOrphan l w form inner) (sym sets.body_is) (keeps w form inner h);
+  root_is = (
+    word,
+    subst (λ (l : List ℕ). holds l word) (sym sets.body_is) held,
+    λ form inner h. sets.root_is form inner (subst (λ (l : List ℕ). IsOrphan l word form inner) sets.body_is h),
+  );
+  long = (
+    long.0,
+    long.1,
+    sets.len ∙ ap (λ (l : List ℕ). length l) long.2.bytes_are ∙ length-append old.bytes long.2.block ∙ ap (λ (n : ℕ). length old.bytes + n) long.2.len,
+  );
+  unchanged = tt;
+  most = sets.most ∙ most;
+}

@@ -1,0 +1,6 @@
+-- The lemmas, by subject.
+pub mod LinkLemmas
+pub mod OrphanLemmas
+pub mod StructListLemmas
+pub mod WrittenLemmas
+pub mod AddingLemmas

@@ -1,0 +1,122 @@
+-- Objects that are written over a block at the end of a segment.
+use Rattle.std.proofs.Common.{◌≡◌, ℕ, ◌+◌, ◌-◌, ◌*◌, ◌^◌, ◌<◌, ◌≤◌, ◌==◌, if◌then◌else◌, false, List, [], ◌∷◌, ◌++◌, length, take, drop, refl, sym, ◌∙◌, ap, subst, arith, length-append, length-take, length-drop}
+use Rattle.std.specs.Prelude.{All}
+use Rattle.std.proofs.Math.Seq.{take-append_seam}
+use Rattle.std.proofs.lemmas.List.{append-nil}
+use Rattle.capnp_wire.specs.Pointer.{words_of}
+use Rattle.capnp_wire.specs.Tree.{Form, struct, structs, pointers, Trees, none, tree, count, total_words}
+use Rattle.capnp_wire.specs.Layout.{pointer, struct_pointer, list_pointer, minus_one, layout, body, HasRoom, AllHaveRoom}
+use Rattle.capnp_wire.specs.Copy.{IsCopied}
+use Rattle.capnp_wire.specs.Values.{HasWords}
+use Rattle.capnp_wire.specs.declared.layout.copy.Copied.{Copied}
+use Rattle.capnp_wire.proofs.words.PutLemmas.{words_split}
+use Rattle.capnp_wire.proofs.trees.PlacedLemmas.{alone}
+use Rattle.capnp_wire.proofs.layouts.FreeLemmas.{whole_written}
+use Rattle.capnp_orphans.specs.declared.draft.StructDraft.{StructDraft}
+use Rattle.capnp_orphans.specs.Orphans.{links, IsOrphan}
+use Rattle.capnp_orphans.specs.Held.{HoldsValue, HoldsStruct, HoldsPointers, HoldsStructs, rows_of, elements, AreSized}
+use Rattle.capnp_orphans.proofs.OrphanLemmas.{struct_is_orphan, pointers_are_orphan, value_is_orphan}
+use Rattle.capnp_orphans.proofs.StructListLemmas.{structs_are_orphan}
+
+empty : (xs : List ℕ) → length xs ≡ 0 → xs ≡ []
+empty [] e = refl
+empty (x ∷ xs) e = absurd (omega (arith, e))
+
+-- a last part is written over
+pub last_part : (m : ℕ) (xs w : List ℕ) → take m xs ++ (w ++ drop (length xs - m) (drop m xs)) ≡ take m xs ++ w
+last_part m xs w =
+    let end : drop (length xs - m) (drop m xs) ≡ [] = empty (drop (length xs - m) (drop m xs)) (omega (arith, length-drop (length xs - m) (drop m xs), length-drop m xs)) in
+    ap (λ (l : List ℕ). take m xs ++ (w ++ l)) end ∙ ap (λ (l : List ℕ). take m xs ++ l) (append-nil w)
+
+pub last_long : (m n : ℕ) (xs w : List ℕ) → m ≤ length xs → length w ≡ n → n ≡ length xs - m → length (take m xs ++ (w ++ drop n (drop m xs))) ≡ length xs
+last_long m n xs w within long n_is =
+    omega (arith, length-append (take m xs) (w ++ drop n (drop m xs)), length-append w (drop n (drop m xs)), length-take m xs, length-drop n (drop m xs), length-drop m xs, within, long, n_is)
+
+after_front : (m : ℕ) (front rest w : List ℕ) → length front ≡ m
+    → take m (front ++ rest) ++ (w ++ drop (length (front ++ rest) - m) (drop m (front ++ rest))) ≡ front ++ w
+after_front m front rest w long =
+    last_part m (front ++ rest) w
+    ∙ ap (λ (l : List ℕ). l ++ w) (ap (λ (n : ℕ). take n (front ++ rest)) (sym long) ∙ take-append_seam front rest)
+
+-- a block of two parts
+pub two_parts : (k : ℕ) (front rest w xs ys : List ℕ) → length front ≡ 8 * k → words_of front ≡ xs → words_of w ≡ ys
+    → words_of (take (8 * k) (front ++ rest) ++ (w ++ drop (length (front ++ rest) - 8 * k) (drop (8 * k) (front ++ rest)))) ≡ xs ++ ys
+two_parts k front rest w xs ys long first second =
+    ap words_of (after_front (8 * k) front rest w long) ∙ words_split k front w long
+    ∙ ap (λ (l : List ℕ). l ++ words_of w) first ∙ ap (λ (l : List ℕ). xs ++ l) second
+
+head_is : (x y : ℕ) (xs ys : List ℕ) → x ∷ xs ≡ y ∷ ys → x ≡ y
+head_is x y xs ys e = cc
+
+tail_is : (x y : ℕ) (xs ys : List ℕ) → x ∷ xs ≡ y ∷ ys → xs ≡ ys
+tail_is x y xs ys e = cc
+
+-- a value over a block of its words
+pub record ValueWritten (has_tree : Trees → Type 0) (number : ℕ) (block : List ℕ) (words : ℕ) : Type 0 where
+  pub form : Form
+  pub held : Trees
+  pub tree_is : has_tree (tree form held none)
+  pub rooms : AllHaveRoom (tree form held none)
+  pub size : words ≡ total_words (tree form held none)
+  pub pointer_is : number ≡ pointer form (count held) 0
+  pub body_is : words_of block ≡ body (tree form held none)
+
+pub value_written : (has_tree : Trees → Type 0) (words : ℕ) (old block : List ℕ) (copied : Copied) → HasWords has_tree false words → ((trees : Trees) → has_tree trees → count trees ≡ 1)
+    → length (words_of old) ≡ words → ((trees : Trees) → has_tree trees → IsCopied trees (0 - 0) 0 (words_of old) (words_of block) copied)
+    → ((trees : Trees) → has_tree trees → length (body trees) ≡ total_words trees) → ValueWritten has_tree copied.pointer block words
+value_written has_tree words old block copied w one long is sizes =
+    let a = alone w.trees (one w.trees w.tree_is) in
+    let all : copied.pointer ∷ words_of block ≡ layout (tree a.0 a.1 none) =
+    whole_written w.trees (words_of old) (words_of block) copied (sizes w.trees w.tree_is ∙ sym w.words_are ∙ sym long) (is w.trees w.tree_is) ∙ ap layout a.2 in
+    record {
+      form = a.0;
+      held = a.1;
+      tree_is = subst has_tree a.2 w.tree_is;
+      rooms = subst AllHaveRoom a.2 w.rooms;
+      size = w.words_are ∙ ap total_words a.2;
+      pointer_is = head_is _ _ _ _ all;
+      body_is = tail_is _ _ _ _ all;
+    }
+
+-- it is an orphan
+pub value_held : (has_tree : Trees → Type 0) (body block : List ℕ) (start words w number : ℕ) (v : ValueWritten has_tree number block words) → start ≡ 1 + length body → start + words < 2 ^ 29
+    → ((form : Form) (n : ℕ) → HasRoom form n → number ≡ pointer form n 0 → w ≡ pointer form n start) → HoldsValue has_tree (body ++ words_of block) w
+value_held has_tree body block start words w number v is room moved =
+    let word_is : w ≡ pointer v.form (count v.held) start = moved v.form (count v.held) v.rooms.0 v.pointer_is in (
+      v.form,
+      v.held,
+      v.tree_is,
+      subst (λ (x : ℕ). IsOrphan (body ++ words_of block) x v.form v.held) (sym word_is)
+          (subst (λ (l : List ℕ). IsOrphan (body ++ l) (pointer v.form (count v.held) start) v.form v.held) (sym v.body_is)
+          (value_is_orphan body v.form v.held start is v.rooms (omega (arith, room, v.size)))),
+    )
+
+-- so is a struct
+pub struct_held : (body words adopted block : List ℕ) (start d p w : ℕ) → start ≡ 1 + length body → length words ≡ d → length adopted ≡ p → d < 2 ^ 16 → p < 2 ^ 16 → All (λ x. x < 2 ^ 64) words
+    → start + d + p < 2 ^ 29 → words_of block ≡ words ++ links adopted (start + length words) → w ≡ struct_pointer (if d + p == 0 then minus_one else start) d p
+    → HoldsStruct body words adopted (body ++ words_of block) w
+struct_held body words adopted block start d p w is words_long adopted_long few_words few_pointers all room block_is word_is held are =
+    let own_is : w ≡ pointer (struct words) (length adopted) start =
+    word_is ∙ ap (λ (n : ℕ). struct_pointer (if n + p == 0 then minus_one else start) n p) (sym words_long)
+    ∙ ap (λ (n : ℕ). struct_pointer (if length words + n == 0 then minus_one else start) (length words) n) (sym adopted_long) in
+    subst (λ (x : ℕ). IsOrphan (body ++ words_of block) x (struct words) held) (sym own_is)
+    (subst (λ (l : List ℕ). IsOrphan (body ++ l) (pointer (struct words) (length adopted) start) (struct words) held) (sym block_is)
+    (struct_is_orphan body words adopted held start is (omega (arith, words_long, few_words)) (omega (arith, adopted_long, few_pointers)) all (omega (arith, words_long, adopted_long, room)) are))
+
+-- a list of pointers
+pub pointers_held : (body words block : List ℕ) (start n w : ℕ) → start ≡ 1 + length body → length words ≡ n → start + n < 2 ^ 29 → words_of block ≡ links words start
+    → w ≡ list_pointer start 6 n → HoldsPointers body words (body ++ words_of block) w
+pointers_held body words block start n w is long room block_is word_is held are =
+    let own_is : w ≡ pointer pointers (length words) start = word_is ∙ ap (λ (k : ℕ). list_pointer start 6 k) (sym long) in
+    subst (λ (x : ℕ). IsOrphan (body ++ words_of block) x pointers held) (sym own_is)
+    (subst (λ (l : List ℕ). IsOrphan (body ++ l) (pointer pointers (length words) start) pointers held) (sym block_is)
+    (pointers_are_orphan body words held start is (omega (arith, long, room)) are))
+
+-- a list of structs
+pub structs_held : {T : Type 0} {D P : ℕ} (body block : List ℕ) (xs : List (StructDraft T D P)) (start w : ℕ) → start ≡ 1 + length body → D < 2 ^ 16 → P < 2 ^ 16 → length xs < 2 ^ 29
+    → start + 1 + length xs * (D + P) < 2 ^ 29 → AreSized xs → words_of block ≡ struct_pointer (length xs) D P ∷ elements xs (start + 1) → w ≡ list_pointer start 7 (length xs * (D + P))
+    → HoldsStructs body xs (body ++ words_of block) w
+structs_held {T} {D} {P} body block xs start w is few_words few_pointers many room sized block_is word_is held are =
+    subst (λ (x : ℕ). IsOrphan (body ++ words_of block) x (structs D P (rows_of xs)) held) (sym word_is)
+    (subst (λ (l : List ℕ). IsOrphan (body ++ l) (list_pointer start 7 (length xs * (D + P))) (structs D P (rows_of xs)) held) (sym block_is)
+    (structs_are_orphan body xs held start is few_words few_pointers many room sized are))

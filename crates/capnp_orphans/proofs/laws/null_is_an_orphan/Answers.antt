@@ -1,0 +1,6 @@
+-- The law, as OrphanLemmas proves it.
+use Rattle.capnp_orphans.proofs.OrphanLemmas.{null_is_orphan}
+use Rattle.capnp_orphans.proofs.laws.null_is_an_orphan.Goals as goal
+
+pub returns : goal.returns
+returns c = null_is_orphan

@@ -1,0 +1,13 @@
+-- The structs so far are put.
+use Rattle.std.proofs.Common.{◌≡◌, ◌*◌, ◌+◌, take}
+use Rattle.capnp_wire.specs.Pointer.{words_of}
+use Rattle.capnp_wire.specs.Block.{put}
+use Rattle.capnp_orphans.specs.Held.{elements, AreSized}
+use Rattle.capnp_orphans.proofs.struct_list.put_elements.Given as goal
+
+abbrev pub invariant-loop-index : goal.invariant-loop-index
+invariant-loop-index g l = record {
+  at_is : l.at ≡ l.index * (g.row.D + g.row.P);
+  sized : AreSized (take l.index (g.S.DraftSource.drafts l.source));
+  words_are : words_of l.block ≡ put 0 (elements (take l.index (g.S.DraftSource.drafts l.source)) l.place) (words_of l.fn.block);
+}

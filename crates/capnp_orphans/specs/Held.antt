@@ -1,0 +1,88 @@
+-- What orphans hold (src/draft.rt, src/orphanage.rt). In each fact `body` is the body of the segment, `old` the body before the
+-- orphan was written, and `word` the orphan's.
+use Rattle.std.specs.Prelude.{◌≡◌, ◌⊎◌, ⊤, ℕ, ◌+◌, ◌*◌, ◌^◌, ◌<◌, ◌≤◌, List, [], ◌∷◌, ◌++◌, length, All}
+use Rattle.capnp_frame.specs.declared.error.ErrorKind.{ErrorKind}
+use Rattle.capnp_frame.specs.declared.error.ErrorKind.TheVariants.{AllocationTooLarge}
+use Rattle.capnp_wire.specs.Tree.{Form, struct, structs, pointers, Trees, none, tree}
+use Rattle.capnp_orphans.specs.declared.orphan.Orphan.{Orphan}
+use Rattle.capnp_orphans.specs.declared.draft.StructDraft.{StructDraft}
+use Rattle.capnp_orphans.specs.Orphans.{links, IsOrphan, AreOrphans}
+
+abbrev pub word_of : {T : Type 0} → Orphan T → ℕ
+word_of orphan = orphan.word
+
+-- it is the tree of a value
+abbrev pub HoldsValue : (Trees → Type 0) → List ℕ → ℕ → Type 0
+HoldsValue has_tree body word = (form : Form) × (held : Trees) × has_tree (tree form held none) × IsOrphan body word form held
+
+-- it is a struct of these data words, which holds what the orphans are that it has adopted
+abbrev pub HoldsStruct : List ℕ → List ℕ → List ℕ → List ℕ → ℕ → Type 0
+HoldsStruct old words adopted body word = (held : Trees) → AreOrphans old adopted held → IsOrphan body word (struct words) held
+
+-- it is a list of the pointers to these orphans
+abbrev pub HoldsPointers : List ℕ → List ℕ → List ℕ → ℕ → Type 0
+HoldsPointers old adopted body word = (held : Trees) → AreOrphans old adopted held → IsOrphan body word pointers held
+
+-- the data words of structs, in order
+abbrev pub rows_of : {T : Type 0} {D P : ℕ} → List (StructDraft T D P) → List (List ℕ)
+rows_of [] = []
+rows_of (draft ∷ drafts) = draft.words ∷ rows_of drafts
+
+-- the orphans that structs have adopted, in order
+abbrev pub adopted_by : {T : Type 0} {D P : ℕ} → List (StructDraft T D P) → List ℕ
+adopted_by [] = []
+adopted_by (draft ∷ drafts) = draft.pointers ++ adopted_by drafts
+
+-- it is the list of these structs
+abbrev pub HoldsStructs : {T : Type 0} {D P : ℕ} → List ℕ → List (StructDraft T D P) → List ℕ → ℕ → Type 0
+HoldsStructs {D = D} {P = P} old drafts body word =
+    (held : Trees) → AreOrphans old (adopted_by drafts) held → IsOrphan body word (structs D P (rows_of drafts)) held
+
+-- the words of structs, the one after the other from a place on
+abbrev pub elements : {T : Type 0} {D P : ℕ} → List (StructDraft T D P) → ℕ → List ℕ
+elements [] place = []
+elements {D = D} {P = P} (draft ∷ drafts) place = (draft.words ++ links draft.pointers (place + D)) ++ elements drafts (place + D + P)
+
+-- the arrays of drafts are of their types
+abbrev pub AreSized : {T : Type 0} {D P : ℕ} → List (StructDraft T D P) → Type 0
+AreSized [] = ⊤
+AreSized {D = D} {P = P} (draft ∷ drafts) = ((length draft.words ≡ D) × (length draft.pointers ≡ P) × All (λ w. w < 2 ^ 64) draft.words) × AreSized drafts
+
+-- Orphans in order are these values, each of which is such a tree.
+abbrev pub AreValues : {A : Type 0} → (A → Trees → Type 0) → List ℕ → List A → List ℕ → Type 0
+AreValues has_tree body [] [] = ⊤
+AreValues has_tree body [] (word ∷ words) = ⊥
+AreValues has_tree body (value ∷ values) [] = ⊥
+AreValues has_tree body (value ∷ values) (word ∷ words) = HoldsValue (has_tree value) body word × AreValues has_tree body values words
+
+-- trees in order are those of these values
+abbrev pub AreTrees : {A : Type 0} → (A → Trees → Type 0) → List A → Trees → Type 0
+AreTrees has_tree [] trees = trees ≡ none
+AreTrees has_tree (value ∷ values) none = ⊥
+AreTrees has_tree (value ∷ values) (tree form held rest) = has_tree value (tree form held none) × AreTrees has_tree values rest
+
+-- the sections of a struct fit its pointer
+abbrev pub FitsPointer : ℕ → ℕ → Type 0
+FitsPointer d p = (d < 2 ^ 16) × (p < 2 ^ 16)
+
+abbrev pub ExceedsPointer : ℕ → ℕ → ErrorKind → Type 0
+ExceedsPointer d p kind = (2 ^ 16 ≤ d ⊎ 2 ^ 16 ≤ p) × (kind ≡ AllocationTooLarge (2 ^ 16))
+
+-- the words of a struct, and why it has none
+abbrev pub TakesStruct : ℕ → ℕ → ℕ → Type 0
+TakesStruct d p words = FitsPointer d p × (words ≡ d + p)
+
+-- the words of a list of a given number of pointers, and why it has none
+abbrev pub TakesPointers : ℕ → ℕ → Type 0
+TakesPointers n words = (n < 2 ^ 29) × (words ≡ n)
+
+abbrev pub ManyPointers : ℕ → ErrorKind → Type 0
+ManyPointers n kind = (2 ^ 29 ≤ n) × (kind ≡ AllocationTooLarge (2 ^ 29))
+
+-- the words of a list of a given number of structs, its tag among them, and why it has none
+abbrev pub TakesStructs : ℕ → ℕ → ℕ → ℕ → Type 0
+TakesStructs d p n words = FitsPointer d p × (n < 2 ^ 29) × (words ≡ 1 + n * (d + p)) × (words < 2 ^ 29)
+
+abbrev pub ManyStructs : ℕ → ℕ → ℕ → ErrorKind → Type 0
+ManyStructs d p n kind = ExceedsPointer d p kind
+    ⊎ (FitsPointer d p × (2 ^ 29 ≤ n ⊎ 2 ^ 29 ≤ 1 + n * (d + p)) × (kind ≡ AllocationTooLarge (2 ^ 29)))

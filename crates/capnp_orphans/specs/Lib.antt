@@ -1,0 +1,6 @@
+-- What a segment holds that is built from the bottom up.
+pub mod Orphans
+pub mod Segments
+pub mod Held
+pub mod Adding
+pub mod OrphanLaws

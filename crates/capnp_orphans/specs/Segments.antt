@@ -1,0 +1,62 @@
+-- Segments that grow at their end (src/segment.rt).
+use Rattle.std.specs.Prelude.{◌≡◌, ℕ, ◌+◌, ◌*◌, ◌/◌, ◌%◌, ◌^◌, ◌<◌, ◌≤◌, List, ◌∷◌, ◌++◌, Option, MatchOption, length, take, drop, replicate, Result, IfOk, IfErr, IsOk, OnOk, OnErr}
+use Rattle.capnp_frame.specs.declared.error.Error.{Error}
+use Rattle.capnp_frame.specs.declared.error.ErrorKind.{ErrorKind}
+use Rattle.capnp_frame.specs.declared.error.ErrorKind.TheVariants.{OutOfMemory, AllocationTooLarge}
+use Rattle.capnp_wire.specs.Pointer.{words_of}
+
+-- what is seen of a segment: its bytes, and how many it can have at most, where that is known
+pub record Segment : Type 0 where
+  pub bytes : List ℕ
+  pub most : Option ℕ
+
+-- the words after the root's
+abbrev pub body_of : Segment → List ℕ
+body_of segment = drop 1 (words_of segment.bytes)
+
+-- it has whole words, the root's at least, and as few as a pointer can reach
+pub record IsSegment (segment : Segment) : Type 0 where
+  pub whole : length segment.bytes % 8 ≡ 0
+  pub rooted : 8 ≤ length segment.bytes
+  pub few : length segment.bytes < 2 ^ 32
+
+-- the root's word alone, which is null
+abbrev pub with_root_alone : Segment → Segment
+with_root_alone segment = record { bytes = replicate 8 0; most = segment.most }
+
+-- A given number of words are appended; all others stay, the root's among them.
+pub record Appends (words : ℕ) (old new : Segment) : Type 0 where
+  pub block : List ℕ
+  pub len : length block ≡ 8 * words
+  pub bytes_are : new.bytes ≡ old.bytes ++ block
+
+-- for a given number of words more there is room for sure
+abbrev pub GrantsWords : ℕ → Segment → Type 0
+GrantsWords words segment = MatchOption segment.most ⊥ (λ most. length segment.bytes + 8 * words ≤ most)
+
+-- why it does not take as many: it is full, or memory is refused
+abbrev pub RefusesWords : ℕ → Segment → ErrorKind → Type 0
+RefusesWords words segment kind = MatchOption segment.most (kind ≡ OutOfMemory)
+    (λ most. (most < length segment.bytes + 8 * words) × (kind ≡ AllocationTooLarge words))
+
+-- An object of a given number of words is appended, of which this holds by the bodies before and after it and by its word.
+pub record AppendsObject (holds : List ℕ → List ℕ → ℕ → Type 0) (words : ℕ) (old new : Segment) (result : Result ℕ Error) : Type 0 where
+  pub appended : OnOk result (Appends words old new)
+  pub holds_is : IfOk result (λ word. holds (body_of old) (body_of new) word)
+  pub unchanged : OnErr result (new ≡ old)
+  pub kind : IfErr result (λ error. RefusesWords words old error.kind)
+  pub granted : GrantsWords words old → IsOk result
+  pub most : new.most ≡ old.most
+
+-- the root's word is another one
+pub record PutsRoot (word : ℕ) (old new : Segment) : Type 0 where
+  pub words_are : words_of new.bytes ≡ word ∷ body_of old
+  pub len : length new.bytes ≡ length old.bytes
+  pub most : new.most ≡ old.most
+
+-- a block over the bytes after some, which are just it, and what holds of it once it follows a body
+pub record IsWrittenAfter (from : ℕ) (holds : List ℕ → List ℕ → ℕ → Type 0) (word : ℕ) (old new : List ℕ) : Type 0 where
+  pub block : List ℕ
+  pub bytes_are : new ≡ take from old ++ block
+  pub len : length new ≡ length old
+  pub holds_is : (body : List ℕ) → from / 8 ≡ 1 + length body → holds body (body ++ words_of block) word

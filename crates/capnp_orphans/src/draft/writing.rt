@@ -1,0 +1,62 @@
+//! Structs as objects.
+ghost use Rattle.std.specs.Prelude.{◌≡◌, ◌+◌, ◌<◌, ◌^◌, ◌==◌, if◌then◌else◌, length, All};
+ghost use Rattle.capnp_wire.specs.Layout.{struct_pointer, minus_one};
+
+use crate::draft::StructDraft;
+use crate::object::Object;
+use crate::written::put_struct;
+use capnp_frame::{Error, ErrorKind, Result};
+use capnp_values::sections::words_fit;
+use capnp_wire::pointer_word::struct_word;
+
+// The data words, and then the pointers. 2^16 of either and more fail with `AllocationTooLarge`.
+impl<T, const D: usize, const P: usize> Object for StructDraft<T, D, P> {
+    ghost use Rattle.capnp_orphans.specs.Held.{HoldsStruct, TakesStruct, ExceedsPointer};
+
+    ghost holds = { λ draft old new word. HoldsStruct old draft.words draft.pointers new word };
+
+    ghost takes = { λ draft words. TakesStruct D P words };
+
+    ghost refuses = { λ draft kind. ExceedsPointer D P kind };
+
+    #[inline(always)]
+    fn measure(&self) -> Result<u32> {
+        if D >= 1 << 16 || P >= 1 << 16 {
+            return Err(Error::from_kind(ErrorKind::AllocationTooLarge(1 << 16)));
+        }
+        Ok((D + P) as u32)
+    }
+
+    #[inline(always)]
+    fn write(&self, start: u32, block: &mut [u8]) -> u64 {
+        draft_fits(self);
+        put_struct(&self.words, &self.pointers, start, block);
+        struct_orphan(start, D, P)
+    }
+}
+
+/// The arrays of a draft are of its type.
+#[inline(always)]
+pub(crate) fn draft_fits<T, const D: usize, const P: usize>(draft: &StructDraft<T, D, P>)
+    ensures words { length draft.now.words ≡ D }
+    ensures pointers { length draft.now.pointers ≡ P }
+    ensures few { All (λ word. word < 2 ^ 64) draft.now.words }
+{
+    words_fit(&draft.words);
+}
+
+// The word of a struct that begins there, as an orphan.
+#[inline(always)]
+fn struct_orphan(start: u32, words: usize, pointers: usize) -> u64
+    requires start { start < 2 ^ 29 }
+    requires words { words < 2 ^ 16 }
+    requires pointers { pointers < 2 ^ 16 }
+    ensures { result ≡ struct_pointer (if words + pointers == 0 then minus_one else start) words pointers }
+{
+    let offset = if words + pointers == 0 {
+        (1 << 30) - 1
+    } else {
+        start as u64
+    };
+    struct_word(offset, words as u16, pointers as u16)
+}

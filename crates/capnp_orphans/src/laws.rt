@@ -1,0 +1,30 @@
+//! Facts about orphans. `specs/OrphanLaws.antt` has those about the trees of any kind of value, for
+//! proofs.
+ghost use Rattle.std.specs.Prelude.{ℕ, List, ◌++◌};
+ghost use Rattle.capnp_wire.specs.Tree.{Form, Trees, null, none};
+ghost use Rattle.capnp_orphans.specs.Orphans.{AreOrphans, IsOrphan};
+ghost use Rattle.capnp_orphans.specs.Segments.{Segment, body_of};
+ghost use Rattle.capnp_orphans.specs.Adding.{Keeps};
+
+/// What a segment holds, it holds after words are appended, too.
+pub fn orphans_stay()
+    ensures { (body more : List ℕ) (word : ℕ) (form : Form) (held : Trees) →
+        IsOrphan body word form held → IsOrphan (body ++ more) word form held }
+{}
+
+/// Null is an orphan of every segment.
+pub fn null_is_an_orphan()
+    ensures { (body : List ℕ) → IsOrphan body 0 null none }
+{}
+
+/// What stays through two steps.
+pub fn steps_keep_orphans()
+    ensures { (first second third : Segment) → Keeps first second → Keeps second third →
+        Keeps first third }
+{}
+
+/// Orphans in order stay, where each stays.
+pub fn orphans_in_order_stay()
+    ensures { (old new : Segment) (words : List ℕ) (trees : Trees) → Keeps old new →
+        AreOrphans (body_of old) words trees → AreOrphans (body_of new) words trees }
+{}

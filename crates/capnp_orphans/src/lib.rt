@@ -1,0 +1,31 @@
+//! Messages of one segment that are built from the bottom up.
+//!
+//! An [`Orphanage`] is a segment that grows at its end. Each object is written once, when all that
+//! it holds is there, and is an [`Orphan`] until a pointer leads to it: that of another object,
+//! which adopts it, or the root. So pointers lead back ([encoding document], "Structs" and "Lists";
+//! an offset may be negative), and no word is changed once it is written, but for the root's.
+//!
+//! Whether a pointer is null, which member of a union is set, how long a list and how deep a tree
+//! is, may all be known at run time only; types stay as they are.
+//!
+//! [encoding document]: https://capnproto.org/encoding.html
+#![tactic(auto)]
+
+pub mod draft;
+pub mod draft_source;
+pub mod laws;
+pub mod object;
+pub mod orphan;
+pub mod orphanage;
+pub mod pointer_list;
+pub mod region;
+pub mod segment;
+pub mod struct_list;
+pub mod value;
+mod written;
+
+pub use draft::StructDraft;
+pub use draft_source::DraftSource;
+pub use orphan::Orphan;
+pub use orphanage::Orphanage;
+pub use region::Region;

@@ -1,0 +1,38 @@
+//! Objects that an orphanage writes.
+ghost use Rattle.std.specs.Prelude.{◌≡◌, ℕ, ◌+◌, ◌/◌, ◌%◌, ◌^◌, ◌<◌, List, ◌++◌, length, replicate, Ok, MatchResult};
+ghost use Rattle.std.specs.Result.{IsErrAnd};
+ghost use Rattle.capnp_frame.specs.declared.error.ErrorKind.{ErrorKind};
+ghost use Rattle.capnp_wire.specs.Pointer.{words_of};
+
+use capnp_frame::Result;
+
+/// An object that is written after what stands in a segment.
+pub trait Object {
+    /// What holds of it once it is written, by the words after the root's before and after it, and
+    /// by its word as an orphan.
+    ghost holds: { Self → List ℕ → List ℕ → ℕ → Type 0 };
+
+    /// It has this many words.
+    ghost takes: { Self → ℕ → Type 0 };
+
+    /// It can't be written, and this says why.
+    ghost refuses: { Self → ErrorKind → Type 0 };
+
+    /// How many words it has.
+    fn measure(&self) -> Result<u32>
+        ensures returned { MatchResult result (takes self.now)
+            (λ error. refuses self.now error.kind) }
+        ensures found { (words : ℕ) → takes self.now words → result ≡ Ok words }
+        ensures exact { (kind : ErrorKind) → refuses self.now kind →
+            IsErrAnd result (λ error. error.kind ≡ kind) };
+
+    /// Writes it over a block of just its words, which are zero and begin at a word of the segment.
+    /// Returns its word as an orphan.
+    fn write(&self, start: u32, block: &mut [u8]) -> u64
+        requires whole { length block.old % 8 ≡ 0 }
+        requires takes { takes self.now (length block.old / 8) }
+        requires zero { block.old ≡ replicate (length block.old) 0 }
+        requires few { start + length block.old / 8 < 2 ^ 29 }
+        ensures { (body : List ℕ) → start ≡ 1 + length body →
+            holds self.now body (body ++ words_of block.new) result };
+}

@@ -1,0 +1,64 @@
+//! Objects that no pointer needs to lead to yet.
+ghost use Rattle.std.specs.Prelude.{◌≡◌, ◌<◌, ◌^◌};
+ghost use Rattle.capnp_orphans.specs.Orphans.{link};
+
+use std::marker::PhantomData;
+
+/// An object of an orphanage, of a type of a schema; or null.
+///
+/// It may be adopted more than once, and become the root, too: then several pointers lead to it,
+/// and a reader meets it, and counts its words, once for each of them. One of another orphanage, or
+/// of before the last `clear`, does no harm: its pointer leads to whatever stands there, or to
+/// nothing, and a reader shows that, or refuses it.
+#[derive_where(Clone, Copy)]
+pub struct Orphan<T> {
+    /// The pointer to it, with the word of the segment where it begins in place of the offset.
+    pub word: u64,
+
+    /// Its type in a schema.
+    pub schema: PhantomData<T>,
+}
+
+impl<T> Orphan<T> {
+    /// Null.
+    #[inline(always)]
+    pub fn null() -> Orphan<T>
+        ensures { result.word ≡ 0 }
+    {
+        Orphan::of_word(0)
+    }
+
+    /// The same object as one of another type of a schema. A view tests what it is got from, so a
+    /// wrong type is refused where the object is read.
+    #[inline(always)]
+    pub fn of_type<U>(self) -> Orphan<U>
+        ensures { result.word ≡ self.word }
+    {
+        Orphan::of_word(self.word)
+    }
+
+    /// The orphan of a word.
+    #[inline(always)]
+    pub(crate) fn of_word(word: u64) -> Orphan<T>
+        ensures { result.word ≡ word }
+    {
+        Orphan {
+            word,
+            schema: PhantomData,
+        }
+    }
+}
+
+/// The pointer to an orphan that stands at a word of the segment.
+#[inline(always)]
+pub(crate) fn link(word: u64, place: u32) -> u64
+    requires { place < 2 ^ 29 }
+    ensures { result ≡ link word place }
+{
+    let low = word % (1 << 32);
+    let high = word / (1 << 32);
+    if word % 4 + high == 0 {
+        return word;
+    }
+    high * (1 << 32) + (low + (1 << 32) - 4 * (place as u64 + 1)) % (1 << 32)
+}

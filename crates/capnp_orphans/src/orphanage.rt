@@ -1,0 +1,241 @@
+//! The segment in which objects are written.
+ghost use Rattle.std.specs.Prelude.{◌≡◌, ◌<◌, ◌≤◌, None, Some, length, map, replicate, IfOk, IsOk, MatchResult, false};
+ghost use Rattle.capnp_frame.specs.declared.error.ErrorKind.TheVariants.{OutOfMemory, AllocationTooLarge};
+ghost use Rattle.capnp_wire.specs.Values.{HasWords, LacksWords, IsTextTree, LongText, IsBytes, ManyBytes};
+ghost use Rattle.capnp_values.specs.NumberLists.{IsNumberList, ManyNumbers};
+ghost use Rattle.capnp_orphans.specs.Segments.{body_of, with_root_alone};
+ghost use Rattle.capnp_orphans.specs.Held.{word_of, HoldsValue, HoldsStruct, HoldsPointers, HoldsStructs, TakesStruct, ExceedsPointer, TakesPointers, ManyPointers, TakesStructs, ManyStructs};
+ghost use Rattle.capnp_orphans.specs.Adding.{Adds, Writes, Fails, SetsRoot, AddsRoot};
+
+use crate::draft::StructDraft;
+use crate::draft_source::DraftSource;
+use crate::object::Object;
+use crate::orphan::{Orphan, link};
+use crate::pointer_list::PointerList;
+use crate::region::Region;
+use crate::segment::GrowingSegment;
+use crate::struct_list::StructList;
+use crate::value::Value;
+use capnp_frame::message::ReaderSegments;
+use capnp_frame::{Error, ErrorKind, Result};
+use capnp_values::NumberList;
+use capnp_wire::primitive_element::PrimitiveElement;
+use capnp_wire::traits::SetterInput;
+use capnp_wire::{data, list_list, primitive_list, struct_list, text};
+use std::alloc::Global;
+use std::marker::Model;
+
+/// A message of one segment, whose objects are written one after the other, each once. Its first
+/// word is the root's, which is null until it is set.
+///
+/// It is read in place, and written: `Reader::new(&objects, options)`, and
+/// `serialize::write_message_segments(alloc, &mut sink, &objects)`, or that of `serialize_packed`.
+/// Once it is cleared it serves for the next message, without new memory.
+///
+/// ```
+/// let mut objects = Orphanage::new(alloc)?;
+/// let name = objects.text("Alice")?;
+/// let mut person = StructDraft::<any_struct::Owned, 1, 2>::new();
+/// person.set_data_field::<u32>(0, 123);
+/// person.adopt(0, name);
+/// objects.add_root(&person)?;
+/// ```
+#[derive(Drop)]
+pub struct Orphanage<S: GrowingSegment = Vec<u8>> {
+    segment: S,
+}
+
+// Clauses see what they see of the segment.
+impl<S: GrowingSegment> Model for Orphanage<S> {
+    ghost use Rattle.capnp_orphans.specs.Segments.{Segment, IsSegment};
+
+    ghost Value = { Segment };
+
+    ghost view = { λ objects. S.state objects.segment };
+
+    ghost invariant = { λ objects. IsSegment (S.state objects.segment) };
+}
+
+impl Orphanage<Vec<u8>> {
+    /// One that takes memory as it grows. The root is null.
+    pub fn new(alloc: Global) -> Result<Orphanage<Vec<u8>>>
+        ensures { MatchResult result
+            (λ objects. (objects.bytes ≡ replicate 8 0) × (objects.most ≡ None))
+            (λ error. error.kind ≡ OutOfMemory) }
+    {
+        let mut segment = Vec::new(alloc);
+        segment.resize(8, 0)?;
+        Ok(Orphanage { segment })
+    }
+}
+
+impl<'a> Orphanage<Region<'a>> {
+    /// One in a region that its caller lends, which takes no memory. The root is null. A region of
+    /// fewer than 8 bytes fails with `AllocationTooLarge`.
+    pub fn in_region(region: &'a mut [u8]) -> Result<Orphanage<Region<'a>>>
+        ensures { MatchResult result
+            (λ objects. (objects.bytes ≡ replicate 8 0) × (objects.most ≡ Some (length region.old)))
+            (λ error. (length region.old < 8) × (error.kind ≡ AllocationTooLarge 1)) }
+    {
+        let segment = Region::new(region)?;
+        Ok(Orphanage { segment })
+    }
+}
+
+impl<S: GrowingSegment> Orphanage<S> {
+    /// Lets all objects go, and keeps the memory. The root is null.
+    pub fn clear(&mut self)
+        ensures { self.new ≡ with_root_alone self.old }
+    {
+        self.segment.clear();
+    }
+
+    /// The bytes of the segment.
+    pub fn bytes(&self) -> &[u8]
+        ensures { result.now ≡ self.now.bytes }
+    {
+        self.segment.bytes()
+    }
+
+    // Writes an object.
+    #[inline(always)]
+    fn write<T, O: Object>(&mut self, object: &O) -> Result<Orphan<T>>
+        ensures adds { Adds (O.holds object.now (body_of self.old)) self.old self.new word_of result }
+        ensures writes { Writes (O.takes object.now) (O.refuses object.now) self.old self.new result }
+    {
+        let words = object.measure()?;
+        let used = (self.segment.bytes().len() / 8) as u32;
+        if words >= (1 << 29) - used {
+            return Err(Error::from_kind(ErrorKind::AllocationTooLarge(words)));
+        }
+        let word = self.segment.append(object, words)?;
+        Ok(Orphan::of_word(word))
+    }
+
+    /// Writes a value that a pointer can be set to: a composed one, or what a view shows.
+    ///
+    /// A value of 2^29 words and more, or for which there is no room, fails with
+    /// `AllocationTooLarge`; one that can't be read, as `measure` of the value does.
+    pub fn set<T, V: SetterInput<T>>(&mut self, value: &V) -> Result<Orphan<T>>
+        ensures adds { Adds (HoldsValue (V.has_tree value.now)) self.old self.new word_of result }
+        ensures writes { Writes (HasWords (V.has_tree value.now) false)
+            (LacksWords (V.has_tree value.now) (V.refuses value.now) false) self.old self.new result }
+    {
+        self.write(&Value::<T, V>::new(value))
+    }
+
+    /// Writes a text, with a zero byte at its end.
+    pub fn text(&mut self, text: &str) -> Result<Orphan<text::Owned>>
+        ensures adds { Adds (HoldsValue (IsTextTree text.now)) self.old self.new word_of result }
+        ensures writes { Writes (HasWords (IsTextTree text.now) false)
+            (LacksWords (IsTextTree text.now) (LongText text.now) false) self.old self.new result }
+    {
+        self.set::<text::Owned, &str>(&text)
+    }
+
+    /// Writes data: some bytes.
+    pub fn data(&mut self, bytes: &[u8]) -> Result<Orphan<data::Owned>>
+        ensures adds { Adds (HoldsValue (IsBytes bytes.now)) self.old self.new word_of result }
+        ensures writes { Writes (HasWords (IsBytes bytes.now) false)
+            (LacksWords (IsBytes bytes.now) (ManyBytes bytes.now) false) self.old self.new result }
+    {
+        self.set::<data::Owned, &[u8]>(&bytes)
+    }
+
+    /// Writes a list of numbers of any width, or of bools.
+    pub fn numbers<N: PrimitiveElement + Copy>(
+        &mut self,
+        items: &[N],
+    ) -> Result<Orphan<primitive_list::Owned<N>>>
+        ensures adds { Adds (HoldsValue (IsNumberList N.code (map N.bits_of items.now))) self.old self.new
+            word_of result }
+        ensures writes { Writes (HasWords (IsNumberList N.code (map N.bits_of items.now)) false)
+            (LacksWords (IsNumberList N.code (map N.bits_of items.now))
+            (ManyNumbers (length items.now)) false) self.old self.new result }
+    {
+        let list = NumberList::new(items);
+        self.set::<primitive_list::Owned<N>, NumberList<'_, N>>(&list)
+    }
+
+    /// Writes a struct.
+    pub fn add<T, const D: usize, const P: usize>(
+        &mut self,
+        draft: &StructDraft<T, D, P>,
+    ) -> Result<Orphan<T>>
+        ensures adds { Adds (HoldsStruct (body_of self.old) draft.now.words draft.now.pointers) self.old
+            self.new word_of result }
+        ensures writes { Writes (TakesStruct D P) (ExceedsPointer D P) self.old self.new result }
+    {
+        self.write(draft)
+    }
+
+    /// Writes a list of the pointers to some orphans: of texts, of data, of lists or of structs
+    /// that stand each for itself.
+    pub fn pointer_list<T>(&mut self, items: &[Orphan<T>]) -> Result<Orphan<list_list::Owned<T>>>
+        ensures adds { Adds (HoldsPointers (body_of self.old) (map word_of items.now)) self.old self.new
+            word_of result }
+        ensures writes { Writes (TakesPointers (length items.now)) (ManyPointers (length items.now))
+            self.old self.new result }
+    {
+        self.write(&PointerList::new(items))
+    }
+
+    /// Writes a list of structs.
+    pub fn struct_list<T, const D: usize, const P: usize>(
+        &mut self,
+        items: &[StructDraft<T, D, P>],
+    ) -> Result<Orphan<struct_list::Owned>>
+        ensures adds { Adds (HoldsStructs (body_of self.old) items.now) self.old self.new word_of result }
+        ensures writes { Writes (TakesStructs D P (length items.now)) (ManyStructs D P (length items.now))
+            self.old self.new result }
+    {
+        self.made_struct_list::<T, D, P, &[StructDraft<T, D, P>]>(&items)
+    }
+
+    /// Writes a list of structs that a source makes, one by one.
+    pub fn made_struct_list<T, const D: usize, const P: usize, M: DraftSource<T, D, P>>(
+        &mut self,
+        source: &M,
+    ) -> Result<Orphan<struct_list::Owned>>
+        ensures adds { Adds (HoldsStructs (body_of self.old) (M.drafts source.now)) self.old self.new
+            word_of result }
+        ensures writes { Writes (TakesStructs D P (length (M.drafts source.now)))
+            (ManyStructs D P (length (M.drafts source.now))) self.old self.new result }
+    {
+        self.write(&StructList::<T, D, P, M>::new(source))
+    }
+
+    /// Makes the root lead to an orphan, or null.
+    pub fn set_root<T>(&mut self, root: Orphan<T>)
+        ensures { SetsRoot root.word self.old self.new }
+    {
+        self.segment.set_root_word(link(root.word, 0));
+    }
+
+    /// Writes a struct, as the root. After a failure the root is as it was.
+    pub fn add_root<T, const D: usize, const P: usize>(
+        &mut self,
+        draft: &StructDraft<T, D, P>,
+    ) -> Result<()>
+        ensures adds { AddsRoot (TakesStruct D P)
+            (HoldsStruct (body_of self.old) draft.now.words draft.now.pointers) self.old self.new result }
+        ensures fails { Fails (TakesStruct D P) (ExceedsPointer D P) self.old result }
+    {
+        let root = self.add(draft)?;
+        self.set_root(root);
+        Ok(())
+    }
+}
+
+impl<S: GrowingSegment> ReaderSegments for Orphanage<S> {
+    ghost use Rattle.std.specs.Prelude.{◌∷◌, []};
+
+    ghost segments = { λ objects. objects.bytes ∷ [] };
+
+    fn get_segment(&self, id: u32) -> Option<&[u8]> {
+        match id {
+            0 => Some(self.segment.bytes()),
+            _ => None,
+        }
+    }
+}

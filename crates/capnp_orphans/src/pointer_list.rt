@@ -1,0 +1,62 @@
+//! Lists of pointers as objects.
+ghost use Rattle.std.specs.Prelude.{◌≡◌, ◌+◌, ◌*◌, ◌<◌, ◌^◌, length, map};
+ghost use Rattle.capnp_wire.specs.Pointer.{words_of};
+ghost use Rattle.capnp_orphans.specs.Orphans.{links};
+ghost use Rattle.capnp_orphans.specs.Held.{word_of};
+
+use crate::object::Object;
+use crate::orphan::{Orphan, link};
+use capnp_frame::{Error, ErrorKind, Result};
+use capnp_wire::pointer_word::{list_word, put_word};
+
+/// A list of the pointers to some orphans (encoding document, "Lists").
+#[derive(Drop)]
+pub(crate) struct PointerList<'a, T> {
+    items: &'a [Orphan<T>],
+}
+
+impl<'a, T> PointerList<'a, T> {
+    /// The list of the pointers to these orphans.
+    pub(crate) fn new(items: &'a [Orphan<T>]) -> PointerList<'a, T>
+        ensures { result.items.now ≡ items.now }
+    {
+        PointerList { items }
+    }
+}
+
+// 2^29 pointers and more fail with `AllocationTooLarge`.
+impl<'a, T> Object for PointerList<'a, T> {
+    ghost use Rattle.std.specs.Prelude.{length, map};
+    ghost use Rattle.capnp_orphans.specs.Held.{HoldsPointers, TakesPointers, ManyPointers, word_of};
+
+    ghost holds = { λ list old new word. HoldsPointers old (map word_of list.items.now) new word };
+
+    ghost takes = { λ list words. TakesPointers (length list.items.now) words };
+
+    ghost refuses = { λ list kind. ManyPointers (length list.items.now) kind };
+
+    fn measure(&self) -> Result<u32> {
+        let count = self.items.len();
+        if count >= 1 << 29 {
+            return Err(Error::from_kind(ErrorKind::AllocationTooLarge(1 << 29)));
+        }
+        Ok(count as u32)
+    }
+
+    fn write(&self, start: u32, block: &mut [u8]) -> u64 {
+        put_orphans(self.items, start, block);
+        list_word(start as u64, 6, self.items.len() as u64)
+    }
+}
+
+// Puts the pointers to orphans into a block of just these, which begins at a word of the segment.
+#[inline(always)]
+fn put_orphans<T>(items: &[Orphan<T>], place: u32, block: &mut [u8])
+    requires room { length block.old ≡ 8 * length items.now }
+    requires few { place + length items.now < 2 ^ 29 }
+    ensures { words_of block.new ≡ links (map word_of items.now) place }
+{
+    for index in 0..items.len() {
+        put_word(block, index, link(items[index].word, place + index as u32));
+    }
+}

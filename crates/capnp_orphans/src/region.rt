@@ -1,0 +1,85 @@
+//! A region of the caller's, as a segment that grows.
+ghost use Rattle.std.specs.Prelude.{◌≡◌, ◌<◌, ◌≤◌, take, length, replicate, Some, MatchResult};
+ghost use Rattle.capnp_frame.specs.declared.error.ErrorKind.TheVariants.{AllocationTooLarge};
+
+use crate::object::Object;
+use crate::segment::{GrowingSegment, put_root, write_after};
+use capnp_frame::{Error, ErrorKind, Result};
+use std::marker::Model;
+
+/// A region that its caller lends, of which the first bytes are used. It takes no memory. What the
+/// region held before does not matter.
+#[derive(Drop)]
+pub struct Region<'a> {
+    bytes: &'a mut [u8],
+    used: usize,
+}
+
+impl<'a> Model for Region<'a> {
+    ghost use Rattle.std.specs.Prelude.{◌≤◌, length, take, Some};
+    ghost use Rattle.capnp_orphans.specs.Segments.{Segment};
+
+    ghost Value = { Segment };
+
+    ghost view = { λ region. record {
+      bytes = take region.used region.bytes.now;
+      most = Some (length region.bytes.now);
+    } };
+
+    ghost invariant = { λ region. region.used ≤ length region.bytes.now };
+}
+
+impl<'a> Region<'a> {
+    /// A region whose first word is used, and zero. One of fewer than 8 bytes fails with
+    /// `AllocationTooLarge`.
+    pub(crate) fn new(bytes: &'a mut [u8]) -> Result<Region<'a>>
+        ensures { MatchResult result
+            (λ region. (region.bytes ≡ replicate 8 0) × (region.most ≡ Some (length bytes.old)))
+            (λ error. (length bytes.old < 8) × (error.kind ≡ AllocationTooLarge 1)) }
+    {
+        if bytes.len() < 8 {
+            return Err(Error::from_kind(ErrorKind::AllocationTooLarge(1)));
+        }
+        zero_first(bytes);
+        Ok(Region { bytes, used: 8 })
+    }
+}
+
+impl<'a> GrowingSegment for Region<'a> {
+    ghost state = { λ region. region };
+
+    fn bytes(&self) -> &[u8] {
+        &self.bytes[..self.used]
+    }
+
+    fn append<O: Object>(&mut self, object: &O, words: u32) -> Result<u64> {
+        let end = self.used + 8 * words as usize;
+        if end > self.bytes.len() {
+            return Err(Error::from_kind(ErrorKind::AllocationTooLarge(words)));
+        }
+        let part = &mut self.bytes[..end];
+        part[self.used..].fill(0);
+        let word = write_after(part, self.used, object);
+        self.used = end;
+        Ok(word)
+    }
+
+    fn set_root_word(&mut self, word: u64) {
+        put_root(&mut self.bytes[..self.used], word);
+    }
+
+    fn clear(&mut self) {
+        zero_first(self.bytes);
+        self.used = 8;
+    }
+}
+
+// Makes the first word zero.
+#[inline(always)]
+fn zero_first(bytes: &mut [u8])
+    requires { 8 ≤ length bytes.old }
+    ensures zero { take 8 bytes.new ≡ replicate 8 0 }
+    ensures len { length bytes.new ≡ length bytes.old }
+{
+    bytes[..8].fill(0);
+}

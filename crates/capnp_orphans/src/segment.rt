@@ -1,0 +1,87 @@
+//! Segments that grow at their end.
+ghost use Rattle.std.specs.Prelude.{◌≡◌, ◌+◌, ◌-◌, ◌*◌, ◌/◌, ◌%◌, ◌^◌, ◌<◌, ◌≤◌, None, length, drop, replicate, ◌∷◌};
+ghost use Rattle.capnp_wire.specs.Pointer.{words_of};
+ghost use Rattle.capnp_orphans.specs.Segments.{Segment, IsSegment, AppendsObject, PutsRoot, IsWrittenAfter, with_root_alone};
+
+use crate::object::Object;
+use capnp_frame::Result;
+use capnp_wire::pointer_word::put_word;
+
+/// The bytes of a segment, of which none is changed but the root's word, and to which objects are
+/// appended.
+pub trait GrowingSegment: Drop {
+    /// What clauses see of it.
+    ghost state: { Self → Segment };
+
+    /// The bytes.
+    fn bytes(&self) -> &[u8]
+        ensures { result.now ≡ (state self.now).bytes };
+
+    /// Writes an object of a given number of words after the bytes. Returns its word as an orphan.
+    fn append<O: Object>(&mut self, object: &O, words: u32) -> Result<u64>
+        requires segment { IsSegment (state self.old) }
+        requires takes { O.takes object.now words }
+        requires few { length (state self.old).bytes / 8 + words < 2 ^ 29 }
+        ensures { AppendsObject (O.holds object.now) words (state self.old) (state self.new) result };
+
+    /// Sets the root's word.
+    fn set_root_word(&mut self, word: u64)
+        requires { IsSegment (state self.old) }
+        ensures { PutsRoot word (state self.old) (state self.new) };
+
+    /// Lets all go but the root's word, which is made zero.
+    fn clear(&mut self)
+        requires { IsSegment (state self.old) }
+        ensures { state self.new ≡ with_root_alone (state self.old) };
+}
+
+impl GrowingSegment for Vec<u8> {
+    ghost use Rattle.std.specs.Prelude.{None};
+
+    ghost state = { λ vector. record { bytes = vector.items; most = None } };
+
+    fn bytes(&self) -> &[u8] {
+        self.as_slice()
+    }
+
+    fn append<O: Object>(&mut self, object: &O, words: u32) -> Result<u64> {
+        let from = self.len();
+        self.resize(from + 8 * words as usize, 0)?;
+        Ok(write_after(self, from, object))
+    }
+
+    fn set_root_word(&mut self, word: u64) {
+        put_root(self, word);
+    }
+
+    fn clear(&mut self) {
+        self.truncate(8);
+        self.fill(0);
+    }
+}
+
+/// Writes an object over the last bytes, which are zero and just its words. Returns its word as an
+/// orphan.
+#[inline(always)]
+pub(crate) fn write_after<O: Object>(bytes: &mut [u8], from: usize, object: &O) -> u64
+    requires within { from ≤ length bytes.old }
+    requires from { from % 8 ≡ 0 }
+    requires whole { length bytes.old % 8 ≡ 0 }
+    requires few { length bytes.old < 2 ^ 32 }
+    requires takes { O.takes object.now ((length bytes.old - from) / 8) }
+    requires zero { drop from bytes.old ≡ replicate (length bytes.old - from) 0 }
+    ensures { IsWrittenAfter from (O.holds object.now) result bytes.old bytes.new }
+{
+    let start = (from / 8) as u32;
+    object.write(start, &mut bytes[from..])
+}
+
+/// Puts a word at the start of a segment.
+#[inline(always)]
+pub(crate) fn put_root(bytes: &mut [u8], word: u64)
+    requires { 8 ≤ length bytes.old }
+    ensures words { words_of bytes.new ≡ word ∷ drop 1 (words_of bytes.old) }
+    ensures len { length bytes.new ≡ length bytes.old }
+{
+    put_word(bytes, 0, word);
+}

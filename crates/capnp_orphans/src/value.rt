@@ -1,0 +1,51 @@
+//! Values as objects.
+ghost use Rattle.std.specs.Prelude.{◌≡◌};
+
+use crate::object::Object;
+use capnp_frame::Result;
+use capnp_wire::pointer_word::moved;
+use capnp_wire::traits::SetterInput;
+use std::marker::PhantomData;
+
+/// A value that a pointer can be set to, as an object.
+#[derive(Drop)]
+pub(crate) struct Value<'a, T, V> {
+    value: &'a V,
+    schema: PhantomData<T>,
+}
+
+impl<'a, T, V> Value<'a, T, V> {
+    /// The object of a value.
+    pub(crate) fn new(value: &'a V) -> Value<'a, T, V>
+        ensures { result.value.now ≡ value.now }
+    {
+        Value {
+            value,
+            schema: PhantomData,
+        }
+    }
+}
+
+impl<'a, T, V: SetterInput<T>> Object for Value<'a, T, V> {
+    ghost use Rattle.std.specs.Prelude.{false};
+    ghost use Rattle.capnp_wire.specs.Values.{HasWords, LacksWords};
+    ghost use Rattle.capnp_orphans.specs.Held.{HoldsValue};
+
+    ghost holds = { λ object old new word. HoldsValue (V.has_tree object.value.now) new word };
+
+    ghost takes = { λ object words. HasWords (V.has_tree object.value.now) false words };
+
+    ghost refuses = { λ object kind.
+        LacksWords (V.has_tree object.value.now) (V.refuses object.value.now) false kind };
+
+    #[inline(always)]
+    fn measure(&self) -> Result<u32> {
+        self.value.measure(false)
+    }
+
+    #[inline(always)]
+    fn write(&self, start: u32, block: &mut [u8]) -> u64 {
+        let copied = self.value.write(false, block, 0, 0);
+        moved(copied.pointer, start)
+    }
+}
