@@ -9,7 +9,7 @@
 #![tactic(auto)]
 
 pub mod borrowed;
-pub mod data_section;
+mod data_section;
 pub mod element;
 pub mod fields;
 mod items;
@@ -21,13 +21,14 @@ pub mod null;
 pub mod number_list;
 pub mod pointer_list;
 mod rows;
-pub mod sections;
+mod sections;
 pub mod sources;
 pub mod struct_list;
 pub mod struct_value;
 mod tagged;
 
 pub use borrowed::Borrowed;
+pub use data_section::put_field;
 pub use element::Element;
 pub use fields::{Field, Fields, NoFields};
 pub use made_pointer_list::MadePointerList;
@@ -35,6 +36,7 @@ pub use made_struct_list::MadeStructList;
 pub use null::Null;
 pub use number_list::NumberList;
 pub use pointer_list::PointerList;
+pub use sections::{put_words, words_fit};
 pub use sources::{StructSource, ValueSource};
 pub use struct_list::StructList;
 pub use struct_value::StructValue;
