@@ -23,6 +23,10 @@ HoldsStruct old words adopted body word = (held : Trees) → AreOrphans old adop
 abbrev pub HoldsPointers : List ℕ → List ℕ → List ℕ → ℕ → Type 0
 HoldsPointers old adopted body word = (held : Trees) → AreOrphans old adopted held → IsOrphan body word pointers held
 
+-- a struct of these data words, which has adopted the orphans of these words
+abbrev pub draft_of : {T : Type 0} {D P : ℕ} → List ℕ → List ℕ → StructDraft T D P
+draft_of words adopted = record { words = words; pointers = adopted; schema = record {} }
+
 -- the data words of structs, in order
 abbrev pub rows_of : {T : Type 0} {D P : ℕ} → List (StructDraft T D P) → List (List ℕ)
 rows_of [] = []

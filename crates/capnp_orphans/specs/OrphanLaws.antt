@@ -52,12 +52,18 @@ take_step {A} (x ∷ xs) (suc i) d within = ap (λ (l : List A). x ∷ l) (take_
 pub take_next : {A : Type 0} (xs : List A) (i : ℕ) (d : A) → i < length xs → take (i + 1) xs ≡ take i xs ++ slice_index_or xs i d ∷ []
 take_next xs i d within = let e : i + 1 ≡ suc i = omega arith in ap (λ (n : ℕ). take n xs) e ∙ take_step xs i d within
 
-one_more : {A : Type 0} (has_tree : A → Trees → Type 0) (body : List ℕ) (values : List A) (words : List ℕ) (value : A) (word : ℕ) → AreValues has_tree body values words
+-- one value more
+pub one_more : {A : Type 0} (has_tree : A → Trees → Type 0) (body : List ℕ) (values : List A) (words : List ℕ) (value : A) (word : ℕ) → AreValues has_tree body values words
     → HoldsValue (has_tree value) body word → AreValues has_tree body (values ++ value ∷ []) (words ++ word ∷ [])
 one_more has_tree body [] [] value word are is = (is, tt)
 one_more has_tree body [] (w ∷ words) value word are is = absurd are
 one_more has_tree body (y ∷ values) [] value word are is = absurd are
 one_more has_tree body (y ∷ values) (w ∷ words) value word are is = (are.0, one_more has_tree body values words value word are.1 is)
+
+pub one_value_more : {A : Type 0} (has_tree : A → Trees → Type 0) (old new : Segment) (values : List A) (words : List ℕ) (value : A) (word : ℕ) → Keeps old new
+    → AreValues has_tree (body_of old) values words → HoldsValue (has_tree value) (body_of new) word → AreValues has_tree (body_of new) (values ++ value ∷ []) (words ++ word ∷ [])
+one_value_more has_tree old new values words value word keeps are is =
+    one_more has_tree (body_of new) values words value word (kept_values has_tree old new values words keeps are) is
 
 -- The next value of a list, whose orphan is pushed: of a loop the step.
 pub next_value : {A B : Type 0} (has_tree : A → Trees → Type 0) (old new : Segment) (values : List A) (i : ℕ) (d : A) (word : B → ℕ) (items pushed : List B) (object : B) → i < length values

@@ -7,21 +7,20 @@ ghost use Rattle.capnp_values.specs.DataSections.{with_field};
 pub(crate) mod writing;
 
 use crate::orphan::Orphan;
-use capnp_values::data_section::put_field;
-use capnp_values::sections::words_fit;
+use capnp_values::{put_field, words_fit};
 use capnp_wire::primitive_element::PrimitiveElement;
 use std::marker::PhantomData;
 
 /// A struct of a type of a schema, of this many data words and pointers, that is not written yet
 /// (encoding document, "Structs").
 ///
-/// It may be written more than once, and what it has adopted is then held by each of the structs.
+/// It may be written more than once; what it has adopted is then held by each of the structs.
 ///
 /// ```
-/// let mut draft = StructDraft::<any_struct::Owned, 1, 1>::new();
-/// draft.set_data_field::<u32>(0, 123);
-/// draft.adopt(0, objects.text("Alice")?);
-/// let person = objects.add(&draft)?;
+/// let mut phone = StructDraft::<any_struct::Owned, 1, 1>::new();
+/// phone.set_data_field::<u16>(0, 1);
+/// phone.adopt(0, objects.text("555-1212")?);
+/// let phones = objects.struct_list(&[phone])?;
 /// ```
 #[derive_where(Clone, Copy)]
 pub struct StructDraft<T, const D: usize, const P: usize> {

@@ -1,10 +1,13 @@
 //! Facts about orphans. `specs/OrphanLaws.antt` has those about the trees of any kind of value, for
 //! proofs.
-ghost use Rattle.std.specs.Prelude.{ℕ, List, ◌++◌};
+ghost use Rattle.std.specs.Prelude.{ℕ, List, [], ◌∷◌, ◌++◌};
 ghost use Rattle.capnp_wire.specs.Tree.{Form, Trees, null, none};
 ghost use Rattle.capnp_orphans.specs.Orphans.{AreOrphans, IsOrphan};
 ghost use Rattle.capnp_orphans.specs.Segments.{Segment, body_of};
+ghost use Rattle.capnp_orphans.specs.Held.{AreTrees, AreValues, HoldsValue};
 ghost use Rattle.capnp_orphans.specs.Adding.{Keeps};
+
+use capnp_wire::traits::SetterInput;
 
 /// What a segment holds, it holds after words are appended, too.
 pub fn orphans_stay()
@@ -27,4 +30,26 @@ pub fn steps_keep_orphans()
 pub fn orphans_in_order_stay()
     ensures { (old new : Segment) (words : List ℕ) (trees : Trees) → Keeps old new →
         AreOrphans (body_of old) words trees → AreOrphans (body_of new) words trees }
+{}
+
+/// What orphans in order are of values, stays where each orphan stays.
+pub fn values_stay<T, V: SetterInput<T>>()
+    ensures { (old new : Segment) (values : List V) (words : List ℕ) → Keeps old new →
+        AreValues V.has_tree (body_of old) values words →
+        AreValues V.has_tree (body_of new) values words }
+{}
+
+/// One value more, of which the orphan is added: of a loop over values the step.
+pub fn next_value<T, V: SetterInput<T>>()
+    ensures { (old new : Segment) (values : List V) (words : List ℕ) (value : V) (word : ℕ) →
+        Keeps old new → AreValues V.has_tree (body_of old) values words →
+        HoldsValue (V.has_tree value) (body_of new) word →
+        AreValues V.has_tree (body_of new) (values ++ value ∷ []) (words ++ word ∷ []) }
+{}
+
+/// Orphans that are values are the trees of these.
+pub fn values_are_trees<T, V: SetterInput<T>>()
+    ensures { (body : List ℕ) (values : List V) (words : List ℕ) →
+        AreValues V.has_tree body values words →
+        (held : Trees) × AreOrphans body words held × AreTrees V.has_tree values held }
 {}

@@ -11,21 +11,23 @@
 //! [encoding document]: https://capnproto.org/encoding.html
 #![tactic(auto)]
 
-pub mod draft;
-pub mod draft_source;
+mod draft;
+mod draft_source;
 pub mod laws;
-pub mod object;
-pub mod orphan;
-pub mod orphanage;
-pub mod pointer_list;
-pub mod region;
-pub mod segment;
-pub mod struct_list;
-pub mod value;
+mod object;
+mod orphan;
+mod orphanage;
+mod pointer_list;
+mod region;
+mod segment;
+mod struct_list;
+mod value;
 mod written;
 
 pub use draft::StructDraft;
 pub use draft_source::DraftSource;
+pub use object::Object;
 pub use orphan::Orphan;
 pub use orphanage::Orphanage;
 pub use region::Region;
+pub use segment::GrowingSegment;

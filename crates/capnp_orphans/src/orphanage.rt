@@ -28,9 +28,13 @@ use std::marker::Model;
 /// A message of one segment, whose objects are written one after the other, each once. Its first
 /// word is the root's, which is null until it is set.
 ///
-/// It is read in place, and written: `Reader::new(&objects, options)`, and
-/// `serialize::write_message_segments(alloc, &mut sink, &objects)`, or that of `serialize_packed`.
-/// Once it is cleared it serves for the next message, without new memory.
+/// A call that writes an object returns its orphan, or fails and changes nothing. All orphans hold
+/// what they held, whatever is written later. The segment has fewer than 2^29 words: more fail with
+/// `AllocationTooLarge`, and no far pointer is needed.
+///
+/// The message is read in place, and written framed or packed by `write_message_segments`, which
+/// takes the orphanage as it is. Once it is cleared it serves for the next message, without new
+/// memory.
 ///
 /// ```
 /// let mut objects = Orphanage::new(alloc)?;
@@ -39,6 +43,7 @@ use std::marker::Model;
 /// person.set_data_field::<u32>(0, 123);
 /// person.adopt(0, name);
 /// objects.add_root(&person)?;
+/// let message = Reader::new(&objects, DEFAULT_READER_OPTIONS);
 /// ```
 #[derive(Drop)]
 pub struct Orphanage<S: GrowingSegment = Vec<u8>> {
@@ -57,7 +62,8 @@ impl<S: GrowingSegment> Model for Orphanage<S> {
 }
 
 impl Orphanage<Vec<u8>> {
-    /// One that takes memory as it grows. The root is null.
+    /// One that takes memory as it grows. The root is null. Where memory is refused, here or later,
+    /// a call fails with `OutOfMemory`.
     pub fn new(alloc: Global) -> Result<Orphanage<Vec<u8>>>
         ensures { MatchResult result
             (λ objects. (objects.bytes ≡ replicate 8 0) × (objects.most ≡ None))
@@ -71,7 +77,16 @@ impl Orphanage<Vec<u8>> {
 
 impl<'a> Orphanage<Region<'a>> {
     /// One in a region that its caller lends, which takes no memory. The root is null. A region of
-    /// fewer than 8 bytes fails with `AllocationTooLarge`.
+    /// fewer than 8 bytes fails with `AllocationTooLarge`, and so does whatever there is no room
+    /// for later.
+    ///
+    /// ```
+    /// let mut region = [0; 64];
+    /// let mut objects = Orphanage::in_region(&mut region)?;
+    /// let names = [objects.text("Alice")?, Orphan::null()];
+    /// let list = objects.pointer_list(&names)?;
+    /// objects.set_root(list);
+    /// ```
     pub fn in_region(region: &'a mut [u8]) -> Result<Orphanage<Region<'a>>>
         ensures { MatchResult result
             (λ objects. (objects.bytes ≡ replicate 8 0) × (objects.most ≡ Some (length region.old)))
@@ -83,7 +98,8 @@ impl<'a> Orphanage<Region<'a>> {
 }
 
 impl<S: GrowingSegment> Orphanage<S> {
-    /// Lets all objects go, and keeps the memory. The root is null.
+    /// Lets all objects go, and keeps the memory. The root is null, and an orphan of before is one
+    /// of another orphanage from now on.
     pub fn clear(&mut self)
         ensures { self.new ≡ with_root_alone self.old }
     {
@@ -100,8 +116,10 @@ impl<S: GrowingSegment> Orphanage<S> {
     // Writes an object.
     #[inline(always)]
     fn write<T, O: Object>(&mut self, object: &O) -> Result<Orphan<T>>
-        ensures adds { Adds (O.holds object.now (body_of self.old)) self.old self.new word_of result }
-        ensures writes { Writes (O.takes object.now) (O.refuses object.now) self.old self.new result }
+        ensures adds { Adds (O.holds object.now (body_of self.old)) self.old self.new
+            word_of result }
+        ensures writes { Writes (O.takes object.now) (O.refuses object.now) self.old self.new
+            result }
     {
         let words = object.measure()?;
         let used = (self.segment.bytes().len() / 8) as u32;
@@ -112,19 +130,25 @@ impl<S: GrowingSegment> Orphanage<S> {
         Ok(Orphan::of_word(word))
     }
 
-    /// Writes a value that a pointer can be set to: a composed one, or what a view shows.
+    /// Writes a value that a pointer can be set to: one that is composed (`capnp_values`), or what
+    /// a view of another message shows. What a pointer leads to there, a list too, is copied as the
+    /// view `any_pointer::Reader` of it.
     ///
     /// A value of 2^29 words and more, or for which there is no room, fails with
-    /// `AllocationTooLarge`; one that can't be read, as `measure` of the value does.
+    /// `AllocationTooLarge`; one that can't be read, as its view is refused.
     pub fn set<T, V: SetterInput<T>>(&mut self, value: &V) -> Result<Orphan<T>>
         ensures adds { Adds (HoldsValue (V.has_tree value.now)) self.old self.new word_of result }
         ensures writes { Writes (HasWords (V.has_tree value.now) false)
-            (LacksWords (V.has_tree value.now) (V.refuses value.now) false) self.old self.new result }
+            (LacksWords (V.has_tree value.now) (V.refuses value.now) false) self.old self.new
+            result }
     {
         self.write(&Value::<T, V>::new(value))
     }
 
-    /// Writes a text, with a zero byte at its end.
+    /// Writes a text, with a zero byte at its end ("Blobs").
+    ///
+    /// One of 2^29 - 1 bytes and more, or for which there is no room, fails with
+    /// `AllocationTooLarge`.
     pub fn text(&mut self, text: &str) -> Result<Orphan<text::Owned>>
         ensures adds { Adds (HoldsValue (IsTextTree text.now)) self.old self.new word_of result }
         ensures writes { Writes (HasWords (IsTextTree text.now) false)
@@ -133,7 +157,8 @@ impl<S: GrowingSegment> Orphanage<S> {
         self.set::<text::Owned, &str>(&text)
     }
 
-    /// Writes data: some bytes.
+    /// Writes data: some bytes ("Blobs"). 2^29 bytes and more, or as many as there is no room for,
+    /// fail with `AllocationTooLarge`.
     pub fn data(&mut self, bytes: &[u8]) -> Result<Orphan<data::Owned>>
         ensures adds { Adds (HoldsValue (IsBytes bytes.now)) self.old self.new word_of result }
         ensures writes { Writes (HasWords (IsBytes bytes.now) false)
@@ -142,13 +167,14 @@ impl<S: GrowingSegment> Orphanage<S> {
         self.set::<data::Owned, &[u8]>(&bytes)
     }
 
-    /// Writes a list of numbers of any width, or of bools.
+    /// Writes a list of numbers of any width, or of bools ("Lists"). 2^29 numbers and more, or as
+    /// many as there is no room for, fail with `AllocationTooLarge`.
     pub fn numbers<N: PrimitiveElement + Copy>(
         &mut self,
         items: &[N],
     ) -> Result<Orphan<primitive_list::Owned<N>>>
-        ensures adds { Adds (HoldsValue (IsNumberList N.code (map N.bits_of items.now))) self.old self.new
-            word_of result }
+        ensures adds { Adds (HoldsValue (IsNumberList N.code (map N.bits_of items.now)))
+            self.old self.new word_of result }
         ensures writes { Writes (HasWords (IsNumberList N.code (map N.bits_of items.now)) false)
             (LacksWords (IsNumberList N.code (map N.bits_of items.now))
             (ManyNumbers (length items.now)) false) self.old self.new result }
@@ -157,48 +183,53 @@ impl<S: GrowingSegment> Orphanage<S> {
         self.set::<primitive_list::Owned<N>, NumberList<'_, N>>(&list)
     }
 
-    /// Writes a struct.
+    /// Writes a struct ("Structs"). 2^16 data words or pointers and more, or a struct for which
+    /// there is no room, fail with `AllocationTooLarge`.
     pub fn add<T, const D: usize, const P: usize>(
         &mut self,
         draft: &StructDraft<T, D, P>,
     ) -> Result<Orphan<T>>
-        ensures adds { Adds (HoldsStruct (body_of self.old) draft.now.words draft.now.pointers) self.old
-            self.new word_of result }
+        ensures adds { Adds (HoldsStruct (body_of self.old) draft.now.words draft.now.pointers)
+            self.old self.new word_of result }
         ensures writes { Writes (TakesStruct D P) (ExceedsPointer D P) self.old self.new result }
     {
         self.write(draft)
     }
 
-    /// Writes a list of the pointers to some orphans: of texts, of data, of lists or of structs
-    /// that stand each for itself.
+    /// Writes a list of the pointers to some orphans ("Lists"): of texts, of data, of lists, or of
+    /// structs that stand each for itself. 2^29 orphans and more, or as many as there is no room
+    /// for, fail with `AllocationTooLarge`.
     pub fn pointer_list<T>(&mut self, items: &[Orphan<T>]) -> Result<Orphan<list_list::Owned<T>>>
-        ensures adds { Adds (HoldsPointers (body_of self.old) (map word_of items.now)) self.old self.new
-            word_of result }
+        ensures adds { Adds (HoldsPointers (body_of self.old) (map word_of items.now))
+            self.old self.new word_of result }
         ensures writes { Writes (TakesPointers (length items.now)) (ManyPointers (length items.now))
             self.old self.new result }
     {
         self.write(&PointerList::new(items))
     }
 
-    /// Writes a list of structs.
+    /// Writes a list of structs, one after the other ("Lists"). 2^29 structs or words and more,
+    /// structs that `add` refuses, and a list for which there is no room fail with
+    /// `AllocationTooLarge`.
     pub fn struct_list<T, const D: usize, const P: usize>(
         &mut self,
         items: &[StructDraft<T, D, P>],
     ) -> Result<Orphan<struct_list::Owned>>
-        ensures adds { Adds (HoldsStructs (body_of self.old) items.now) self.old self.new word_of result }
-        ensures writes { Writes (TakesStructs D P (length items.now)) (ManyStructs D P (length items.now))
-            self.old self.new result }
+        ensures adds { Adds (HoldsStructs (body_of self.old) items.now) self.old self.new
+            word_of result }
+        ensures writes { Writes (TakesStructs D P (length items.now))
+            (ManyStructs D P (length items.now)) self.old self.new result }
     {
         self.made_struct_list::<T, D, P, &[StructDraft<T, D, P>]>(&items)
     }
 
-    /// Writes a list of structs that a source makes, one by one.
+    /// Writes a list of structs that a source makes, one by one. It is refused as `struct_list` is.
     pub fn made_struct_list<T, const D: usize, const P: usize, M: DraftSource<T, D, P>>(
         &mut self,
         source: &M,
     ) -> Result<Orphan<struct_list::Owned>>
-        ensures adds { Adds (HoldsStructs (body_of self.old) (M.drafts source.now)) self.old self.new
-            word_of result }
+        ensures adds { Adds (HoldsStructs (body_of self.old) (M.drafts source.now))
+            self.old self.new word_of result }
         ensures writes { Writes (TakesStructs D P (length (M.drafts source.now)))
             (ManyStructs D P (length (M.drafts source.now))) self.old self.new result }
     {
@@ -212,13 +243,15 @@ impl<S: GrowingSegment> Orphanage<S> {
         self.segment.set_root_word(link(root.word, 0));
     }
 
-    /// Writes a struct, as the root. After a failure the root is as it was.
+    /// Writes a struct and makes it the root. It fails as `add` does, and then the root is as it
+    /// was.
     pub fn add_root<T, const D: usize, const P: usize>(
         &mut self,
         draft: &StructDraft<T, D, P>,
     ) -> Result<()>
         ensures adds { AddsRoot (TakesStruct D P)
-            (HoldsStruct (body_of self.old) draft.now.words draft.now.pointers) self.old self.new result }
+            (HoldsStruct (body_of self.old) draft.now.words draft.now.pointers) self.old self.new
+            result }
         ensures fails { Fails (TakesStruct D P) (ExceedsPointer D P) self.old result }
     {
         let root = self.add(draft)?;

@@ -22,7 +22,8 @@ pub trait GrowingSegment: Drop {
         requires segment { IsSegment (state self.old) }
         requires takes { O.takes object.now words }
         requires few { length (state self.old).bytes / 8 + words < 2 ^ 29 }
-        ensures { AppendsObject (O.holds object.now) words (state self.old) (state self.new) result };
+        ensures { AppendsObject (O.holds object.now) words (state self.old) (state self.new)
+            result };
 
     /// Sets the root's word.
     fn set_root_word(&mut self, word: u64)

@@ -8,7 +8,7 @@ use crate::draft_source::DraftSource;
 use crate::object::Object;
 use crate::written::put_struct;
 use capnp_frame::{Error, ErrorKind, Result};
-use capnp_values::sections::put_words;
+use capnp_values::put_words;
 use capnp_wire::pointer_word::{list_word, struct_word};
 use std::marker::PhantomData;
 

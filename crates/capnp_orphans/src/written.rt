@@ -4,7 +4,7 @@ ghost use Rattle.capnp_wire.specs.Pointer.{words_of};
 ghost use Rattle.capnp_orphans.specs.Orphans.{links};
 
 use crate::orphan::link;
-use capnp_values::sections::put_words;
+use capnp_values::put_words;
 use capnp_wire::pointer_word::put_word;
 
 /// Puts the pointers to orphans of these words into a block of just these, which begins at a word

@@ -6,7 +6,7 @@ use crate::draft::StructDraft;
 use crate::object::Object;
 use crate::written::put_struct;
 use capnp_frame::{Error, ErrorKind, Result};
-use capnp_values::sections::words_fit;
+use capnp_values::words_fit;
 use capnp_wire::pointer_word::struct_word;
 
 // The data words, and then the pointers. 2^16 of either and more fail with `AllocationTooLarge`.
@@ -51,7 +51,8 @@ fn struct_orphan(start: u32, words: usize, pointers: usize) -> u64
     requires start { start < 2 ^ 29 }
     requires words { words < 2 ^ 16 }
     requires pointers { pointers < 2 ^ 16 }
-    ensures { result ≡ struct_pointer (if words + pointers == 0 then minus_one else start) words pointers }
+    ensures { result ≡ struct_pointer (if words + pointers == 0 then minus_one else start)
+        words pointers }
 {
     let offset = if words + pointers == 0 {
         (1 << 30) - 1
