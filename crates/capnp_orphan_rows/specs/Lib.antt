@@ -1,0 +1,3 @@
+-- What callers build.
+pub mod Squares
+pub mod Uses

@@ -1,0 +1,11 @@
+-- Structs that are made one by one (src/built.rt, src/refusals.rt).
+use Rattle.std.specs.Prelude.{ℕ, ◌*◌, [], ◌∷◌}
+use Rattle.capnp_wire.specs.declared.any_struct.Owned.{Owned}
+use Rattle.capnp_orphans.specs.declared.draft.StructDraft.{StructDraft}
+use Rattle.capnp_orphans.specs.Held.{draft_of}
+
+abbrev pub square : ℕ → StructDraft Owned 1 0
+square n = draft_of (n * n ∷ []) []
+
+abbrev pub empty : StructDraft Owned 0 0
+empty = draft_of [] []

@@ -1,0 +1,144 @@
+//! What is refused: the error that the page says, and what stood before still stands.
+use capnp::message::{DEFAULT_READER_OPTIONS, Reader};
+use capnp_frame::{ErrorKind, Result};
+use capnp_orphans::{DraftSource, Orphan, Orphanage, StructDraft};
+use capnp_rows::growths::lacks_memory;
+use capnp_rows::retried;
+use capnp_wire::{any_struct, text};
+use std::marker::PhantomData;
+use std::process::Abort;
+
+// A given number of structs of no words, or of one.
+#[derive(Drop)]
+struct Many {
+    count: usize,
+}
+
+impl DraftSource<any_struct::Owned, 0, 0> for Many {
+    ghost use Rattle.std.specs.Prelude.{replicate};
+    ghost use Rattle.capnp_orphan_rows.specs.Squares.{empty};
+
+    ghost drafts = { λ many. replicate many.count empty };
+
+    fn len(&self) -> usize {
+        self.count
+    }
+
+    fn get(&self, _index: usize) -> StructDraft<any_struct::Owned, 0, 0> {
+        StructDraft {
+            words: [],
+            pointers: [],
+            schema: PhantomData,
+        }
+    }
+}
+
+impl DraftSource<any_struct::Owned, 1, 0> for Many {
+    ghost use Rattle.std.specs.Prelude.{replicate};
+    ghost use Rattle.capnp_orphan_rows.specs.Squares.{square};
+
+    ghost drafts = { λ many. replicate many.count (square 0) };
+
+    fn len(&self) -> usize {
+        self.count
+    }
+
+    fn get(&self, _index: usize) -> StructDraft<any_struct::Owned, 1, 0> {
+        StructDraft {
+            words: [0],
+            pointers: [],
+            schema: PhantomData,
+        }
+    }
+}
+
+fn refusal<T: Drop>(returned: Result<T>) -> Option<ErrorKind> {
+    returned.err().map(|error| error.kind)
+}
+
+const MANY_WORDS: Option<ErrorKind> = Some(ErrorKind::AllocationTooLarge(1 << 29));
+
+const LARGE_STRUCT: Option<ErrorKind> = Some(ErrorKind::AllocationTooLarge(1 << 16));
+
+// The orphan's text stands where the root leads, and it is as it was.
+fn shows(rt: &impl Abort, objects: &Orphanage, wanted: &str) -> Result<()> {
+    let message = Reader::new(objects, DEFAULT_READER_OPTIONS);
+    let text: text::Reader<'_> = message.get_root()?;
+    assert_eq!(rt; text.as_bytes(), wanted.as_bytes());
+    Ok(())
+}
+
+// An orphanage whose root is this text.
+fn rooted(rt: &impl AllocGlobal, text: &str) -> Result<Orphanage> {
+    let mut objects = Orphanage::new(rt.alloc())?;
+    let root = objects.text(text)?;
+    objects.set_root(root);
+    Ok(objects)
+}
+
+fn alice(rt: &impl AllocGlobal) -> Result<Orphanage> {
+    retried!(rooted(rt, "Alice"))
+}
+
+#[test]
+fn what_is_too_large_changes_nothing(rt: HostRuntime) -> Result<()> {
+    let mut objects = alice(&rt)?;
+    let empty = Many { count: 1 << 29 };
+    let returned = objects.made_struct_list::<any_struct::Owned, 0, 0, Many>(&empty);
+    assert_eq!(rt; refusal(returned), MANY_WORDS);
+    let single = Many {
+        count: (1 << 29) - 1,
+    };
+    let returned = objects.made_struct_list::<any_struct::Owned, 1, 0, Many>(&single);
+    assert_eq!(rt; refusal(returned), MANY_WORDS);
+    let returned = objects.add(&StructDraft::<any_struct::Owned, 65536, 0>::new());
+    assert_eq!(rt; refusal(returned), LARGE_STRUCT);
+    let returned = objects.add_root(&StructDraft::<any_struct::Owned, 0, 65536>::new());
+    assert_eq!(rt; refusal(returned), LARGE_STRUCT);
+    assert_eq!(rt; objects.bytes().len(), 16);
+    shows(&rt, &objects, "Alice")
+}
+
+// An orphan of an orphanage with more words.
+fn strange_orphan(rt: &impl AllocGlobal) -> Result<Orphan<text::Owned>> {
+    let mut others = rooted(rt, "a text of some words")?;
+    others.text("Bob")
+}
+
+fn with_strange(rt: &impl AllocGlobal, strange: Orphan<text::Owned>) -> Result<Orphanage> {
+    let mut objects = Orphanage::new(rt.alloc())?;
+    let mut draft = StructDraft::<any_struct::Owned, 0, 2>::new();
+    draft.adopt(0, objects.text("Alice")?);
+    draft.adopt(1, strange);
+    objects.add_root(&draft)?;
+    Ok(objects)
+}
+
+// The pointer of an orphan of another orphanage leads past the end, and is refused where it is read.
+#[test]
+fn orphans_of_others_do_no_harm(rt: HostRuntime) -> Result<()> {
+    let strange: Orphan<text::Owned> = retried!(strange_orphan(&rt))?;
+    let objects = retried!(with_strange(&rt, strange))?;
+    let message = Reader::new(&objects, DEFAULT_READER_OPTIONS);
+    let root: any_struct::StructReader<'_, &Orphanage> = message.get_root()?;
+    let alice: text::Reader<'_> = root.get_pointer(0).get_as()?;
+    assert_eq!(rt; alice.as_bytes(), b"Alice".as_slice());
+    let bob: Result<text::Reader<'_>> = root.get_pointer(1).get_as();
+    assert_eq!(rt; refusal(bob), Some(ErrorKind::PointerOutOfBounds));
+    Ok(())
+}
+
+// `rt try --test --fail-alloc N` refuses the Nth growth: the call returns `OutOfMemory`, what stood
+// before still stands, and the same call succeeds when it is made again.
+#[test]
+fn refused_memory_is_taken_later(rt: HostRuntime) -> Result<()> {
+    let mut objects = alice(&rt)?;
+    let returned = objects.data(&[1; 4096]);
+    if returned.is_err() {
+        assert!(rt; lacks_memory(&returned));
+        assert_eq!(rt; objects.bytes().len(), 16);
+        objects.data(&[1; 4096])?;
+    }
+    assert_eq!(rt; objects.bytes().len(), 16 + 4096);
+    shows(&rt, &objects, "Alice")
+}
