@@ -1,0 +1,33 @@
+//! A binary tree of as many nodes as are asked for, up to a full row of leaves.
+use crate::digest::Digest;
+use crate::random::Random;
+use capnp_frame::Result;
+use capnp_orphans::{Orphan, Orphanage, StructDraft};
+use capnp_wire::any_struct;
+use std::alloc::Global;
+
+pub fn digest_of(alloc: Global, seed: u32, count: u32) -> Result<u64> {
+    let mut random = Random::new(seed);
+    let mut objects = Orphanage::new(alloc)?;
+    let depth = count.checked_ilog2().unwrap_or(0);
+    let root = tree(&mut objects, &mut random, depth)?;
+    objects.set_root(root);
+    let mut digest = Digest::new();
+    digest.add_bytes(objects.bytes());
+    Ok(digest.value())
+}
+
+// A tree of a depth: its left part is written first, then its right part, then the node.
+fn tree(
+    objects: &mut Orphanage,
+    random: &mut Random,
+    depth: u32,
+) -> Result<Orphan<any_struct::Owned>> {
+    let mut node = StructDraft::<any_struct::Owned, 1, 2>::new();
+    node.set_data_field(0, random.next());
+    if depth > 0 {
+        node.adopt(0, tree(objects, random, depth - 1)?);
+        node.adopt(1, tree(objects, random, depth - 1)?);
+    }
+    objects.add(&node)
+}
