@@ -36,10 +36,10 @@ fn main(rt: HostRuntime) -> Result<()> {
         }
     }
     let part = env::args(&rt)?.nth(4);
-    let piece = env::args(&rt)?.nth(5);
+    let detail = env::args(&rt)?.nth(5);
     for name in ["roots", "trickle"] {
         if job == name || job == "all" {
-            let parts = (part.as_deref(), piece.as_deref());
+            let parts = (part.as_deref(), detail.as_deref());
             let digest = digest_of_parts(rt.alloc(), name, seed, count, parts)?;
             println!(rt; "{name} {digest}")?;
         }

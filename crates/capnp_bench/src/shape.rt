@@ -31,43 +31,43 @@ impl Shape {
         Shape { kind, children }
     }
 
-    /// The pointer to an object of this many levels that begins some words after it.
-    pub fn pointer(self, offset: u64, levels: u32) -> u64 {
+    /// The pointer to an object of this depth that begins some words after it.
+    pub fn pointer(self, offset: u64, depth: u32) -> u64 {
         match self.kind {
-            Kind::Pointers if levels == 0 => list_pointer(offset, 2, LETTERS + 1),
+            Kind::Pointers if depth == 0 => list_pointer(offset, 2, LETTERS + 1),
             Kind::Pointers => list_pointer(offset, 6, self.children),
             Kind::Structs => list_pointer(offset, 7, self.children.wrapping_mul(2)),
-            Kind::Struct if levels == 1 => {
+            Kind::Struct if depth == 1 => {
                 struct_pointer(offset, self.children.wrapping_add(1), 0)
             }
             Kind::Struct => struct_pointer(offset, 1, self.children),
         }
     }
 
-    /// Adds an object of this many levels and all that it leads to.
-    pub fn push(self, words: &mut Vec<u8>, random: &mut Random, levels: u32) -> Result<()> {
-        if levels == 0 {
+    /// Adds an object of this depth and all that it leads to.
+    pub fn push(self, words: &mut Vec<u8>, random: &mut Random, depth: u32) -> Result<()> {
+        if depth == 0 {
             return match self.kind {
                 Kind::Pointers => push_text(words, random, LETTERS),
                 _ => Ok(()),
             };
         }
-        self.push_own(words, random, levels)?;
+        self.push_own(words, random, depth)?;
         for _ in 0..self.children {
-            self.push(words, random, levels - 1)?;
+            self.push(words, random, depth - 1)?;
         }
         Ok(())
     }
 
     /// Adds the words of an object alone.
-    fn push_own(self, words: &mut Vec<u8>, random: &mut Random, levels: u32) -> Result<()> {
+    fn push_own(self, words: &mut Vec<u8>, random: &mut Random, depth: u32) -> Result<()> {
         match self.kind {
             Kind::Struct => push_word(words, 1 + random.below(1000))?,
-            Kind::Structs if levels == 1 => push_word(words, struct_pointer(self.children, 2, 0))?,
+            Kind::Structs if depth == 1 => push_word(words, struct_pointer(self.children, 2, 0))?,
             Kind::Structs => push_word(words, struct_pointer(self.children, 1, 1))?,
             Kind::Pointers => {}
         }
-        let below = self.words(levels.saturating_sub(1));
+        let below = self.words(depth.saturating_sub(1));
         for child in 0..self.children {
             if let Kind::Structs = self.kind {
                 push_word(words, 1 + random.below(1000))?;
@@ -76,17 +76,17 @@ impl Shape {
                 .wrapping_sub(1)
                 .wrapping_mul(self.stride())
                 .wrapping_add(child.wrapping_mul(below));
-            push_word(words, self.slot(random, after, levels))?;
+            push_word(words, self.slot(random, after, depth))?;
         }
         Ok(())
     }
 
-    /// A pointer to an object of the level below, or in the lowest structs a number.
-    fn slot(self, random: &mut Random, after: u64, levels: u32) -> u64 {
+    /// A pointer to an object of the depth below, or in the lowest structs a number.
+    fn slot(self, random: &mut Random, after: u64, depth: u32) -> u64 {
         match self.kind {
-            Kind::Pointers => self.pointer(after, levels.saturating_sub(1)),
-            _ if levels == 1 => 1 + random.below(1000),
-            _ => self.pointer(after, levels.saturating_sub(1)),
+            Kind::Pointers => self.pointer(after, depth.saturating_sub(1)),
+            _ if depth == 1 => 1 + random.below(1000),
+            _ => self.pointer(after, depth.saturating_sub(1)),
         }
     }
 
@@ -98,13 +98,13 @@ impl Shape {
         }
     }
 
-    /// How many words an object of this many levels and all that it leads to take.
-    fn words(self, levels: u32) -> u64 {
+    /// How many words an object of this depth and all that it leads to take.
+    fn words(self, depth: u32) -> u64 {
         let (mut words, before) = match self.kind {
             Kind::Pointers => (1_u64, 0),
             _ => (0, 1),
         };
-        for _ in 0..levels {
+        for _ in 0..depth {
             words = self
                 .children
                 .wrapping_mul(words.wrapping_add(self.stride()))

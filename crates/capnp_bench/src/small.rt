@@ -7,11 +7,11 @@ use crate::shape::{Kind, Shape};
 use capnp::Result;
 use std::alloc::Global;
 
-/// How many messages of a kind have each number of levels, from one to four.
-const OF_A_LEVEL: u32 = 5;
+/// How many messages of a kind have each depth, from one to four.
+const OF_A_DEPTH: u32 = 5;
 
 /// How many messages of a kind there are.
-pub const MESSAGES: u32 = 4 * OF_A_LEVEL;
+pub const MESSAGES: u32 = 4 * OF_A_DEPTH;
 
 /// What a root is.
 #[derive(Clone, Copy)]
@@ -53,7 +53,7 @@ impl SmallMessage {
     }
 }
 
-/// Messages with such roots, of one to four levels.
+/// Messages with such roots, of depths from one to four.
 pub fn messages(alloc: Global, root: Root, seed: u32) -> Result<Vec<SmallMessage>> {
     let mut random = Random::new(seed);
     let mut messages = Vec::new(alloc);
@@ -65,14 +65,14 @@ pub fn messages(alloc: Global, root: Root, seed: u32) -> Result<Vec<SmallMessage
 
 /// The message of an index. A far root leads to an object of each other kind in turn.
 fn message(alloc: Global, root: Root, index: u32, random: &mut Random) -> Result<SmallMessage> {
-    let levels = 1 + index / OF_A_LEVEL % 4;
+    let depth = 1 + index / OF_A_DEPTH % 4;
     let mut first = Vec::new(alloc);
     let mut second = Vec::new(alloc);
     let mut object = Vec::new(alloc);
     match root {
         Root::Far => {
             push_word(&mut first, far_pointer(1, 0, false))?;
-            let pointer = push_object(&mut object, random, root_in_turn(index), levels)?;
+            let pointer = push_object(&mut object, random, root_in_turn(index), depth)?;
             push_word(&mut second, pointer)?;
             second.extend_from_slice(&object)?;
             object.clear();
@@ -80,11 +80,11 @@ fn message(alloc: Global, root: Root, index: u32, random: &mut Random) -> Result
         Root::DoubleFar => {
             push_word(&mut first, far_pointer(1, 0, true))?;
             push_word(&mut second, far_pointer(2, 0, false))?;
-            let pointer = push_object(&mut object, random, root_in_turn(index), levels)?;
+            let pointer = push_object(&mut object, random, root_in_turn(index), depth)?;
             push_word(&mut second, pointer)?;
         }
         _ => {
-            let pointer = push_object(&mut object, random, root, levels)?;
+            let pointer = push_object(&mut object, random, root, depth)?;
             push_word(&mut first, pointer)?;
             first.extend_from_slice(&object)?;
             object.clear();
@@ -96,7 +96,7 @@ fn message(alloc: Global, root: Root, index: u32, random: &mut Random) -> Result
 }
 
 fn root_in_turn(index: u32) -> Root {
-    match index % OF_A_LEVEL {
+    match index % OF_A_DEPTH {
         0 => Root::Tree(Kind::Struct),
         1 => Root::Tree(Kind::Pointers),
         2 => Root::Tree(Kind::Structs),
@@ -106,15 +106,15 @@ fn root_in_turn(index: u32) -> Root {
 }
 
 /// Adds an object without its pointer, and returns the pointer to it from the word before it.
-/// Numbers and texts lead to nothing: in place of levels they have up to 4, 16, 64 and 256 bytes,
+/// Numbers and texts lead to nothing: in the place of depths they have up to 4, 16, 64 and 256 bytes,
 /// numbers in whole words.
-fn push_object(words: &mut Vec<u8>, random: &mut Random, root: Root, levels: u32) -> Result<u64> {
-    let most = 1_u32 << (2 * levels.min(4));
+fn push_object(words: &mut Vec<u8>, random: &mut Random, root: Root, depth: u32) -> Result<u64> {
+    let most = 1_u32 << (2 * depth.min(4));
     match root {
         Root::Tree(kind) => {
-            let shape = Shape::new(kind, 1 + random.below(6_u32.saturating_sub(levels)));
-            shape.push(words, random, levels)?;
-            Ok(shape.pointer(0, levels))
+            let shape = Shape::new(kind, 1 + random.below(6_u32.saturating_sub(depth)));
+            shape.push(words, random, depth)?;
+            Ok(shape.pointer(0, depth))
         }
         Root::Numbers => {
             let count = 1 + random.below(most) / 8;

@@ -16,7 +16,7 @@ pub struct Trickle<'a> {
 }
 
 impl<'a> Trickle<'a> {
-    /// These bytes, at most so many at a time.
+    /// These bytes, at most a given number at a time.
     pub fn new(bytes: &'a [u8], most: usize) -> Trickle<'a> {
         Trickle {
             bytes,

@@ -77,7 +77,7 @@ fn more_segments_than_a_reader_accepts(rt: HostRuntime) -> Result<()> {
     retried!(refuse_more(&rt))
 }
 
-// A message of the root's segment and of so many others.
+// A message of the root's segment and of a given number of others.
 fn build_many(alloc: Global, texts: usize) -> Result<Builder<HeapAllocator>> {
     let heap = HeapAllocator::new(alloc)
         .first_segment_words(1)

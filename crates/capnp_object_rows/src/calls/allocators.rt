@@ -57,16 +57,16 @@ fn heap_sizes_of_one_strategy(rt: HostRuntime) -> Result<()> {
     Ok(())
 }
 
-// The words of the next segment of a scratch region, and whether that is lent.
+// The words of the next segment of a scratch region, and whether that is caller-provided.
 fn next_scratch(
     scratch: &mut ScratchSpaceHeapAllocator<'_>,
     minimum_size: u32,
 ) -> Result<(usize, bool)> {
     let segment = scratch.allocate_segment(minimum_size)?;
-    Ok((words(&segment), is_lent(&segment)))
+    Ok((words(&segment), is_provided(&segment)))
 }
 
-fn is_lent(segment: &ScratchSegment<'_>) -> bool {
+fn is_provided(segment: &ScratchSegment<'_>) -> bool {
     match segment {
         ScratchSegment::Lent(_) => true,
         ScratchSegment::Owned(_) => false,
@@ -80,13 +80,18 @@ fn scratch(rt: HostRuntime) -> Result<()> {
     let provided = scratch.allocate_segment(3)?;
     expect(
         &rt,
-        "lent",
-        (words(&provided), is_lent(&provided)),
+        "provided",
+        (words(&provided), is_provided(&provided)),
         (3, true),
     );
     let owned = next_scratch(&mut scratch, 1)?;
     expect(&rt, "owned", owned, (1024, false));
-    expect(&rt, "the lent one", provided.bytes(), [0; 24].as_slice());
+    expect(
+        &rt,
+        "the provided one",
+        provided.bytes(),
+        [0; 24].as_slice(),
+    );
     Ok(())
 }
 

@@ -143,7 +143,7 @@ fn canonical_in_one_segment_alone(rt: HostRuntime) -> Result<()> {
     Ok(())
 }
 
-// Whether the first segment is so many zeros.
+// Whether the first segment is a given number of zeros.
 fn is_null(arena: &Words, length: usize) -> bool {
     match arena.get_segment(0) {
         Some(segment) => segment.len() == length && segment.iter().all(|byte| *byte == 0),

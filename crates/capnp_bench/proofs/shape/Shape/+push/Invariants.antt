@@ -1,4 +1,4 @@
 use Rattle.capnp_bench.proofs.shape.Shape.+push.Given as goal
 
 abbrev pub decreases-push : goal.decreases-push
-decreases-push l = l.levels
+decreases-push l = l.depth
