@@ -20,7 +20,7 @@ pub record PacksWords (words : List (List ℕ)) (text : List ℕ) : Type 0 where
 abbrev pub PacksTo : List (List ℕ) → List ℕ → List (List ℕ) → Type 0
 PacksTo words text left = (more : List ℕ) → PacksWords left more → PacksWords words (text ++ more)
 
--- the packed words up to where these are left are handed on after what a buffer held, but for what it keeps
+-- the packed words, up to where the others are left, are handed on after what a buffer held, but for what it keeps
 abbrev pub HandsTo : Appending → List (List ℕ) → List (List ℕ) → List ℕ → List ℕ → Option (List ℕ) → Option (List ℕ) → Type 0
 HandsTo appends words left old new before after = (text : List ℕ) × PacksTo words text left
     × IfKnown before after (Hands appends old text new)

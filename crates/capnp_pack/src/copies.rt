@@ -1,4 +1,4 @@
-//! Copies of a few words, or of a few bytes, with no call and no loop.
+//! Copies and zeros, of a few words or bytes, with no call and no loop.
 ghost use Rattle.std.specs.Prelude.{◌≡◌, ◌≤◌, ◌*◌, length, take, replicate};
 
 use std::simd::prelude::*;

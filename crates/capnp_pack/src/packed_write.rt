@@ -129,8 +129,8 @@ fn pack<W: Write>(sink: &mut W, chunk: &[u8]) -> Result<()>
     flush(sink, &bytes, used)
 }
 
-// Packs the next groups: those that need nothing but the buffer, and then one that goes as it stands
-// where there is room for it, or else the buffer is handed on.
+// Packs the next groups: those that need nothing but the buffer, and then a literal one where there
+// is room for it, or else the buffer is handed on.
 #[inline(always)]
 fn pack_next<W: Write>(
     sink: &mut W,
@@ -150,7 +150,8 @@ fn pack_next<W: Write>(
         (W.written sink.old) (W.written sink.new)) result }
     ensures granted { (text : List ℕ) (more : ℕ) → PacksWords words.now text →
         W.grants sink.old (used + (length text + more)) →
-        IsOkAnd result (λ packed. GrantsTo (W.grants sink.new) (drop packed.words words.now) packed.used more) }
+        IsOkAnd result (λ packed.
+        GrantsTo (W.grants sink.new) (drop packed.words words.now) packed.used more) }
 {
     let packed = pack_buffered(bytes, used, words);
     if packed.words == words.len() {

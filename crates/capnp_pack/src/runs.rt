@@ -46,8 +46,12 @@ pub(crate) fn literal_run(words: &[[u8; 8]]) -> usize
     let most = words.len().min(255);
     let mut count = 0;
     while count < most && zeros(&words[count]) <= 1 {
-        count += 1;
-        count += full_eights(&words[count..most]);
+        // Eights are looked for where two words go as they stand, and then once in eight words.
+        if count % 8 == 1 {
+            count += full_eights(&words[count..most]).max(1);
+        } else {
+            count += 1;
+        }
     }
     count
 }

@@ -19,8 +19,8 @@ pub(crate) struct Taken {
 
 // Fills the front of a buffer by the groups at the front of what is shown.
 //
-// A source that shows few bytes at a time takes a way of its own, with nothing to set up, and most
-// of what it shows is no group.
+// A source that shows few bytes at a time takes a way of its own, with nothing to set up. What it
+// shows is seldom a whole group, so that is asked first.
 #[inline(always)]
 pub(crate) fn unpack_shown(shown: &[u8], buffer: &mut [u8]) -> Taken
     ensures { Unpacked shown.now buffer.new result.used result.filled }
@@ -69,7 +69,7 @@ fn unpack_groups(shown: &[u8], buffer: &mut [u8]) -> Taken
     Taken { used, filled }
 }
 
-// Where few bytes are shown, each group by itself.
+// Zeros and marked groups at the end of what is shown, each by itself.
 #[inline(never)]
 fn unpack_short_groups(shown: &[u8], buffer: &mut [u8]) -> Taken
     ensures { Unpacked shown.now buffer.new result.used result.filled }
