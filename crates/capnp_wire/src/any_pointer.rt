@@ -36,6 +36,7 @@ impl<'a, S: ReaderSegments> SetterInput<Owned> for Reader<'a, S> {
 
     ghost one = { λ reader trees is. one_value (pointer_of S.segments reader) trees is };
 
+    #[inline(always)]
     fn measure(&self, canonical: bool) -> Result<u32> {
         match self.place {
             None => Ok(0),
@@ -60,6 +61,7 @@ impl<'a, S: ReaderSegments> SetterInput<Owned> for Reader<'a, S> {
 
 /// Writes the tree that a pointer leads to into a block of bytes or of words, from the word `next` on.
 /// The pointer to it stands just before the word `following`.
+#[inline(always)]
 pub(crate) fn write_into<S: ReaderSegments, T: BlockItem>(
     reader: &Reader<'_, S>,
     canonical: bool,

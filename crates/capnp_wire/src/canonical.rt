@@ -19,6 +19,7 @@ use std::alloc::Global;
 /// The words of the canonical form of what a pointer leads to, with the root pointer.
 ///
 /// It is refused where a walk over the tree stops, and by `CanonicalTooLarge` above 2^29 words.
+#[inline(always)]
 pub fn canonical_size<S: ReaderSegments>(reader: &any_pointer::Reader<'_, S>) -> Result<u32>
     ensures returned { let pointer = pointer_of S.segments reader.now in MatchResult result
         (λ words. (following : ℕ) × HasWords (LeadsToTree pointer) true following × (words ≡ following + 1))

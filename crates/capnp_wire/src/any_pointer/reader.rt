@@ -64,7 +64,7 @@ impl<'a, S: ReaderSegments> Reader<'a, S> {
     ///
     /// It is refused where the walk over these objects stops: as a view of one of them is, or by
     /// `ReadLimitExceeded` where they come to more words than the traversal limit. The walk counts
-    /// from 0, and what is read of the message by views stays as it was. A size past 64 bits     ///
+    /// from 0, and what is read of the message by views stays as it was. A size past 64 bits
     /// fails with `AllocationTooLarge(4294967295)`.
     pub fn target_size(&self) -> Result<MessageSize>
         ensures returned { let pointer = pointer_of S.segments self.now in MatchResult result

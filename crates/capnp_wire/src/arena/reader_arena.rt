@@ -72,7 +72,7 @@ impl<S: ReaderSegments> ReaderArena<S> {
     /// root tree.
     ///
     /// A message of more than one segment is not canonical, nor is one with a far pointer. It
-    /// /// fails with `InvalidSegmentId(0)` without a segment, and else where the walk over its
+    /// fails with `InvalidSegmentId(0)` without a segment, and else where the walk over its
     /// objects is, before it meets what is not canonical: as a view of one of them, or by
     /// `ReadLimitExceeded` where they come to more words than the traversal limit. The walk counts
     /// from 0, takes no memory, and what is read of the message by views stays as it was.

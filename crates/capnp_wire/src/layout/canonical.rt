@@ -214,7 +214,9 @@ impl CanonicalWalk {
     }
 }
 
-/// Whether the one segment of a message is the canonical form of its root tree.
+/// Whether the one segment of a message is the canonical form of its root tree. It is a call, so that
+/// what has more segments is told from it by a few instructions.
+#[inline(never)]
 pub(crate) fn is_canonical<S: ReaderSegments>(
     segments: &S,
     segment: &[u8],

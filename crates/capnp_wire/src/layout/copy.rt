@@ -23,6 +23,7 @@ pub struct Copied {
 
 /// Copies the object that the pointer at a place leads to, with all below it, into a block from the
 /// word `next` on. The pointer to the copy stands just before the word `following`.
+#[inline(always)]
 pub(crate) fn copy<S: ReaderSegments, T: BlockItem>(
     segments: &S,
     place: Place,
@@ -45,7 +46,7 @@ pub(crate) fn copy<S: ReaderSegments, T: BlockItem>(
             if let Some(pointer) = word(found, place.word)
                 && !has_short_way(pointer)
             {
-                return copy_any(
+                return copy_object(
                     segments, found, place, nesting, canonical, block, following, next,
                 );
             }
@@ -132,38 +133,10 @@ pub(crate) fn copy_target<S: ReaderSegments, T: BlockItem>(
     }
 }
 
-// The same whatever the pointer leads to, by a call.
+// The same whatever the pointer leads to.
 #[inline(never)]
 #[cycle(copy)]
 fn copy_object<S: ReaderSegments, T: BlockItem>(
-    segments: &S,
-    segment: &[u8],
-    place: Place,
-    nesting: u32,
-    canonical: bool,
-    block: &mut [T],
-    following: usize,
-    next: usize,
-) -> Copied
-    requires there { CanCopy (message_of (S.segments segments.now)) (place ∷ []) nesting canonical
-        next (length (T.as_words block.old)) }
-    requires content { slice_get (message_of (S.segments segments.now)) place.segment
-        ≡ Some (words_of segment.now) }
-    requires following { following ≤ next }
-    requires small { length (T.as_words block.old) < 2 ^ 29 }
-    ensures copied { Copies (message_of (S.segments segments.now)) place canonical
-        (next - following) next (T.as_words block.old) (T.as_words block.new) result }
-    ensures len { length (T.as_words block.new) ≡ length (T.as_words block.old) }
-{
-    copy_any(
-        segments, segment, place, nesting, canonical, block, following, next,
-    )
-}
-
-// The same where it stands.
-#[inline(always)]
-#[cycle(copy)]
-fn copy_any<S: ReaderSegments, T: BlockItem>(
     segments: &S,
     segment: &[u8],
     place: Place,

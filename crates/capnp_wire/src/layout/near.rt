@@ -19,9 +19,11 @@ use crate::layout::pointer::{NearShape, PointerWord, StructSize};
 use crate::layout::pointer_run::PointerRun;
 use crate::layout::rows::PointerRows;
 
-// Most pointers of most messages are null, or lead to structs, or to lists of numbers, which hold no
-// pointers, or of pointers. So a walk over many of them asks here first, of the segment that it has in
-// hand: it then needs no call for a pointer, and what it meets holds at most one run of pointers.
+// Most pointers of most messages are null, or lead to structs, to lists of numbers, which hold no
+// pointers, or to lists of pointers. So what goes over many of them asks here first, of the segment
+// that it has in hand: it then needs no call for a pointer, and what it meets holds at most one run of
+// pointers. Copies always ask for lists of pointers, walks at the root alone, since in their loops one
+// more short way is dearer than the calls that it saves, and tests for canonical form never.
 
 // The pointer to a struct of no words, with the offset -1: the struct begins where its pointer does.
 const EMPTY_STRUCT: u64 = 0xffff_fffc;

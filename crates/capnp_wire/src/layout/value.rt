@@ -17,6 +17,7 @@ use capnp_frame::message::ReaderSegments;
 use capnp_frame::{Error, ErrorKind, Result};
 
 /// The words of the tree at a place, after its pointer, as it stands or in canonical form.
+#[inline(always)]
 pub(crate) fn measure<S: ReaderSegments>(
     segments: &S,
     place: Place,

@@ -120,6 +120,12 @@ impl Walk {
         if let Some(_) = bare_pointer(segment, place.word, nesting) {
             return Ok(());
         }
+        let Some(pointer) = word(segment, place.word) else {
+            return self.walk_object(segments, segment, place, nesting, canonical);
+        };
+        if !has_short_way(pointer) {
+            return self.walk_object(segments, segment, place, nesting, canonical);
+        }
         if let Some(list) = near_pointers(segment, place, nesting) {
             self.pass_pointers(&list)?;
             let below = nesting - 1;
@@ -132,13 +138,8 @@ impl Walk {
                 canonical,
             );
         }
-        if let Some(pointer) = word(segment, place.word) {
-            words_fit(segment);
-            if has_short_way(pointer) {
-                return self.walk_run(segments, segment, place, 1, nesting, canonical);
-            }
-        }
-        self.walk_object(segments, segment, place, nesting, canonical)
+        words_fit(segment);
+        self.walk_run(segments, segment, place, 1, nesting, canonical)
     }
 
     // The same from a segment in hand, whatever the pointer leads to.
@@ -224,7 +225,7 @@ impl Walk {
         Ok(())
     }
 
-    // The same up to what holds one run of others: that is entered alone, and these are returned.
+    // The same up to a struct that holds others: that is entered alone, and its pointers are returned.
     #[inline(always)]
     #[cycle(walk)]
     fn next_parent<'a, S: ReaderSegments>(

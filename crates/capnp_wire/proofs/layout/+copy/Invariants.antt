@@ -6,23 +6,20 @@ use Rattle.capnp_wire.specs.Rows.{places_in}
 use Rattle.capnp_wire.proofs.layouts.CopyLemmas.{Copying}
 use Rattle.capnp_wire.proofs.layout.+copy.Given as goal
 
-abbrev pub decreases-copy::copy_any : goal.decreases-copy::copy_any
-decreases-copy::copy_any g l = 6 * l.nesting
-
 abbrev pub decreases-copy::copy_object : goal.decreases-copy::copy_object
-decreases-copy::copy_object g l = 6 * l.nesting + 1
+decreases-copy::copy_object g l = 5 * l.nesting
 
 abbrev pub decreases-copy::copy_target : goal.decreases-copy::copy_target
-decreases-copy::copy_target g l = 6 * l.nesting + 2
+decreases-copy::copy_target g l = 5 * l.nesting + 1
 
 abbrev pub decreases-copy_rows::copy_rows : goal.decreases-copy_rows::copy_rows
-decreases-copy_rows::copy_rows g l = 6 * l.nesting + 3
+decreases-copy_rows::copy_rows g l = 5 * l.nesting + 2
 
 abbrev pub decreases-copy_rows::copy_run : goal.decreases-copy_rows::copy_run
-decreases-copy_rows::copy_run g l = 6 * l.nesting + 4
+decreases-copy_rows::copy_run g l = 5 * l.nesting + 3
 
 abbrev pub decreases-copy_rows::copy_pointers : goal.decreases-copy_rows::copy_pointers
-decreases-copy_rows::copy_pointers g l = 6 * l.nesting + 5
+decreases-copy_rows::copy_pointers g l = 5 * l.nesting + 4
 
 abbrev pub invariant-copy_rows::copy_rows-pointers : goal.invariant-copy_rows::copy_rows-pointers
 invariant-copy_rows::copy_rows-pointers g l =
