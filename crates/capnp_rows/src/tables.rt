@@ -28,6 +28,11 @@ const PADDED: &[u8] = &[
 
 const ONE: &[u8] = &[0, 0, 0, 0, 1, 0, 0, 0, 1, 2, 3, 4, 5, 6, 7, 8, 9];
 
+// Segments of 1, 0 and 1 words.
+const THREE: &[u8] = &[
+    2, 0, 0, 0, 1, 0, 0, 0, 0, 0, 0, 0, 1, 0, 0, 0, 1, 2, 3, 4, 5, 6, 7, 8, 0, 0, 0, 0, 0, 0, 0, 0,
+];
+
 // A buffer, the numbers of a table, and the segments, where the table has these numbers.
 #[derive(Drop)]
 struct Described {
@@ -49,7 +54,7 @@ const NONE: Described = Described {
 };
 
 #[rattlefmt::skip]
-const DESCRIBED: [Described; 13] = [
+const DESCRIBED: [Described; 14] = [
     Described { segments: Some(&SEGMENTS), ..NONE },
     Described { name: "flatten alone", buffer: FLATTEN_ALONE, segments: Some(&SEGMENTS), ..NONE },
     Described { name: "flatten, a byte short", buffer: CUT, ..NONE },
@@ -67,6 +72,14 @@ const DESCRIBED: [Described; 13] = [
         table: 8,
         total: 8,
         segments: Some(&[&[1, 2, 3, 4, 5, 6, 7, 8]]),
+    },
+    Described {
+        name: "segments of 1, 0 and 1 words",
+        buffer: THREE,
+        count: 3,
+        table: 16,
+        total: 16,
+        segments: Some(&[&[1, 2, 3, 4, 5, 6, 7, 8], &[], &[0; 8]]),
     },
     Described {
         name: "another padding",
@@ -118,7 +131,8 @@ fn is_described(row: &Described) -> bool {
 #[test]
 fn segments_of_known_lengths(rt: HostRuntime) -> Result<()> {
     retried!(cut_by_lengths(&rt))?;
-    retried!(hold(&rt))
+    retried!(hold(&rt))?;
+    retried!(keep(&rt))
 }
 
 fn cut_by_lengths(rt: &(impl Abort + AllocGlobal)) -> Result<()> {
@@ -133,6 +147,14 @@ fn cut_by_lengths(rt: &(impl Abort + AllocGlobal)) -> Result<()> {
 fn hold(rt: &(impl Abort + AllocGlobal)) -> Result<()> {
     let found = BufferSegments::new(rt.alloc(), FLATTEN.as_slice(), DEFAULT_READER_OPTIONS)?;
     assert_flatten(rt, found);
+    Ok(())
+}
+
+// The buffer is the vector that was kept.
+fn keep(rt: &(impl Abort + AllocGlobal)) -> Result<()> {
+    let vector = FLATTEN.to_vec(rt.alloc())?;
+    let found = BufferSegments::new(rt.alloc(), vector, DEFAULT_READER_OPTIONS)?;
+    assert_bytes(rt, &found.into_buffer(), &FLATTEN, At::row("flatten, kept"));
     Ok(())
 }
 
