@@ -8,7 +8,7 @@ use capnp::appended::{ReadBack, read_messages, write_and_read_back, write_messag
 use capnp::message::Reader;
 use capnp::streams::Format;
 use capnp_frame::io::Write;
-use capnp_frame::message::{ReaderOptions, SegmentArray};
+use capnp_frame::message::{DEFAULT_READER_OPTIONS, ReaderOptions, SegmentArray};
 use capnp_frame::serialize::OwnedSegments;
 use capnp_frame::{ErrorKind, Result};
 use capnp_rows::limits::{DEFAULT_LIMIT, NO_LIMIT};
@@ -70,7 +70,7 @@ const NO_LIMIT_OF_WORDS: ReaderOptions = ReaderOptions {
     nesting_limit: 64,
 };
 
-/// Writes two messages and reads them back.
+/// Writes two messages and reads them back, under no limit of words.
 pub fn read_back(
     rt: &(impl Abort + AllocGlobal),
     format: Format,
@@ -118,7 +118,9 @@ fn write_and_read(rt: &(impl Abort + AllocGlobal), format: Format) -> Result<()>
 
 fn write_two(rt: &(impl Abort + AllocGlobal), format: Format) -> Result<()> {
     let at = name_of(format);
-    let done = read_back(rt, format, FLATTEN, TWO)?;
+    let messages = [SegmentArray::new(FLATTEN), SegmentArray::new(TWO)];
+    assert!(rt; is_writable(&messages[0]) && is_writable(&messages[1]));
+    let done = write_and_read_back(rt.alloc(), format, &messages, DEFAULT_READER_OPTIONS)?;
     assert_holds(
         rt,
         !done.text.is_empty() && text_of(format).starts_with(&done.text),

@@ -145,5 +145,8 @@ fn set_and_read(rt: &(impl Abort + AllocGlobal), format: Format) -> Result<()> {
     let root: text::Reader = reader.get_root()?;
     assert!(rt; root.as_bytes() == b"hello".as_slice());
     assert!(rt; reader.get_segments().get_segment(1).is_none());
+    assert!(rt; !message.is_empty());
+    let again = write_and_read_back(rt.alloc(), format, &message, DEFAULT_READER_OPTIONS)?;
+    assert!(rt; again.get_segments().get_segment(1).is_none());
     Ok(())
 }

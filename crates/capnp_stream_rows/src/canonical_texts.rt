@@ -1,6 +1,7 @@
 //! Canonical forms as they are written.
 use crate::assertions::{At, assert_bytes, assert_count, assert_kind};
 use crate::packed;
+use crate::roots::assert_text;
 use capnp::message::{DEFAULT_READER_OPTIONS, Reader, SegmentArray};
 use capnp::serialize::write_canonical_message;
 use capnp_frame::io::Write;
@@ -88,6 +89,7 @@ fn write_packed(rt: &(impl Abort + AllocGlobal)) -> Result<()> {
     let mut source = PACKED_HELLO;
     let options = DEFAULT_READER_OPTIONS;
     let reader = packed::needed_message(rt.alloc(), Padding::Zero, &mut source, options)?;
+    assert_text(rt, &reader, b"Hello, World!")?;
     let mut sink: Vec<u8> = Vec::new(rt.alloc());
     assert_kind(rt, write(rt, &mut sink, &reader)?, None, at);
     assert_bytes(rt, sink.as_slice(), HELLO, at);

@@ -43,7 +43,7 @@ const LENGTHS_TABLE: &[u8] = &[
 const NO_PADDING: &[u8] = &[1, 0, 0, 0, 2, 0, 0, 0, 3, 0, 0, 0];
 
 #[rattlefmt::skip]
-pub const FLAT_ROWS: [FlatRow; 19] = [
+pub const FLAT_ROWS: [FlatRow; 20] = [
     FlatRow {
         name: "flatten, two-segments and an empty segment",
         bytes: THREE,
@@ -57,6 +57,12 @@ pub const FLAT_ROWS: [FlatRow; 19] = [
         ],
         limit: DEFAULT_LIMIT,
         returned: FlatResult::Segments(&[&[], &[1, 2, 3, 4, 5, 6, 7, 8]], 8),
+    },
+    FlatRow {
+        name: "an empty segment",
+        bytes: &[0; 8],
+        limit: DEFAULT_LIMIT,
+        returned: FlatResult::Segments(&[&[]], 0),
     },
     FlatRow {
         name: "short-front",

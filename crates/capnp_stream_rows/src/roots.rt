@@ -7,8 +7,12 @@ use capnp_rows::retried;
 use capnp_rows::sources::Trickle;
 use std::process::Abort;
 
-// The root is this text.
-fn assert_text<S: ReaderSegments>(rt: &impl Abort, reader: &Reader<S>, text: &[u8]) -> Result<()> {
+/// The root is this text.
+pub fn assert_text<S: ReaderSegments>(
+    rt: &impl Abort,
+    reader: &Reader<S>,
+    text: &[u8],
+) -> Result<()> {
     let root: text::Reader = reader.get_root()?;
     assert!(rt; root.as_bytes() == text);
     Ok(())
@@ -35,6 +39,7 @@ fn read_root(rt: &(impl Abort + AllocGlobal)) -> Result<()> {
     let mut slice = HELLO;
     let options = DEFAULT_READER_OPTIONS;
     let reader = serialize::read_message_from_flat_slice(rt.alloc(), &mut slice, options)?;
+    assert!(rt; slice.is_empty());
     assert_text(rt, &reader, b"Hello, World!")
 }
 
