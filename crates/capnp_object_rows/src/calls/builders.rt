@@ -177,9 +177,12 @@ fn struct_refusal<A: Allocator>(message: &mut Builder<A>) -> (u8, u32) {
     allocation_refusal(message.get_root::<any_struct::Owned>())
 }
 
+// A refusal before them takes no word but the root's.
 #[test]
 fn roots_one_after_another(rt: HostRuntime) -> Result<()> {
     let mut message = Builder::new_default(rt.alloc());
+    let refused = init_refusal::<data::Owned, HeapAllocator>(&mut message, 536_870_912);
+    expect(&rt, "refused", refused, (15, 67_108_864));
     set_text(&mut message, "hello")?;
     set_text(&mut message, "Hello, World!")?;
     expect(&rt, "words", message.size_in_words(), 4);
