@@ -1,65 +1,115 @@
-use crate::choppy::taking;
+use crate::choppy::{ChoppyWriter, taking};
 use capnp::ErrorKind;
 use capnp::devices::Output;
 use capnp::io::Write;
+use std::alloc::Global;
 use std::io;
 use std::test::*;
 
-fn is_device_failed(returned: capnp::Result<()>) -> bool {
-    returned.is_err_and(|error| error.kind == ErrorKind::DeviceFailed)
+// Writes four chunks and what is pending of them. Returns how often the device failed.
+fn write_to<D: io::Write>(alloc: Global, capacity: usize, device: &mut D) -> capnp::Result<u64> {
+    let mut output = Output::new(alloc, capacity, device)?;
+    write_chunks(&mut output)?;
+    output.flush()?;
+    Ok(output.failures())
 }
+
+fn write_chunks<W: Write>(output: &mut W) -> capnp::Result<()> {
+    output.write_all(b"abc")?;
+    output.write_all(b"")?;
+    output.write_all(b"defgh")?;
+    output.write_all(b"i")
+}
+
+// How many bytes are collected, and how many writes are interrupted.
+const INTERRUPTED: [(usize, u64); 5] = [(0, 3), (4, 3), (64, 3), (0, 1000), (64, 1000)];
 
 #[test]
 fn parts_and_interruptions_lose_nothing(rt: HostRuntime) -> Result<(), Fail> {
-    for (capacity, interruptions) in [(0, 3), (4, 3), (64, 3), (0, 1000), (64, 1000)] {
+    for &(capacity, interruptions) in &INTERRUPTED {
         let mut device = taking(rt.alloc(), 2);
         device.interruptions = interruptions;
-        let mut output = Output::new(rt.alloc(), capacity, &mut device)?;
-        for chunk in ["abc", "", "defgh", "i"] {
-            output.write_all(chunk.as_bytes())?;
-        }
-        output.flush()?;
-        assert_eq!(rt; output.failures(), 0);
-        drop(output);
-        assert_eq!(rt;
-            device.got.as_slice(),
-            b"abcdefghi".as_slice(),
+        assert!(rt; write_to(rt.alloc(), capacity, &mut device)? == 0);
+        assert!(rt;
+            device.got.as_slice() == b"abcdefghi".as_slice(),
             "with {capacity} bytes"
         );
     }
     Ok(())
 }
 
-#[test]
-fn a_fault_of_a_write_is_returned(rt: HostRuntime) -> Result<(), Fail> {
-    let mut device = taking(rt.alloc(), 4);
-    device.bad_write = 2;
-    let mut unbuffered = Output::new(rt.alloc(), 0, &mut device)?;
-    assert!(rt; is_device_failed(unbuffered.write_all(b"abcdef")));
-    assert_eq!(rt; unbuffered.failures(), 1);
-    drop(unbuffered);
-    assert_eq!(rt; device.got.as_slice(), b"abcd".as_slice());
+// The call that a fault is returned from.
+#[derive(Clone, Copy, PartialEq, Eq)]
+enum Fault {
+    None,
+    Write,
+    Flush,
+}
 
-    let mut full = Output::new(rt.alloc(), 0, taking(rt.alloc(), 0))?;
-    assert!(rt; is_device_failed(full.write_all(b"abcdef")));
+// A sink that collects a given number of bytes, over a device that takes a given number at once, and
+// whose nth write fails, or each flush; where the fault is returned, and what the device has then.
+#[derive(Drop)]
+struct Faulty {
+    capacity: usize,
+    most: usize,
+    bad_write: u64,
+    fails_to_flush: bool,
+    fault: Fault,
+    got: &'static [u8],
+}
+
+const FAULTY: Faulty = Faulty {
+    capacity: 0,
+    most: 4,
+    bad_write: 0,
+    fails_to_flush: false,
+    fault: Fault::Write,
+    got: b"",
+};
+
+#[rattlefmt::skip]
+const FAULTS: [Faulty; 4] = [
+    Faulty { bad_write: 2, got: b"abcd", ..FAULTY },
+    Faulty { most: 0, ..FAULTY },
+    Faulty { capacity: 64, bad_write: 2, fault: Fault::Flush, got: b"abcd", ..FAULTY },
+    Faulty { capacity: 64, fails_to_flush: true, fault: Fault::Flush, got: b"abcdef", ..FAULTY },
+];
+
+#[test]
+fn a_fault_is_returned(rt: HostRuntime) -> Result<(), Fail> {
+    for row in &FAULTS {
+        let mut device = taking(rt.alloc(), row.most);
+        device.bad_write = row.bad_write;
+        device.fails_to_flush = row.fails_to_flush;
+        let (fault, failures) = fault_of(rt.alloc(), row.capacity, &mut device)?;
+        assert!(rt; fault == row.fault && failures == 1);
+        assert!(rt; device.got.as_slice() == row.got);
+    }
     Ok(())
 }
 
-#[test]
-fn a_fault_of_the_last_flush_is_returned(rt: HostRuntime) -> Result<(), Fail> {
-    let mut device = taking(rt.alloc(), 4);
-    device.bad_write = 2;
-    let mut output = Output::new(rt.alloc(), 64, &mut device)?;
-    output.write_all(b"abcdef")?;
-    assert!(rt; is_device_failed(output.flush()));
-    assert_eq!(rt; output.failures(), 1);
+// The call that is refused, and how often the device failed.
+fn fault_of(
+    alloc: Global,
+    capacity: usize,
+    device: &mut ChoppyWriter,
+) -> capnp::Result<(Fault, u64)> {
+    let mut output = Output::new(alloc, capacity, device)?;
+    let fault = if is_device_failed(output.write_all(b"abcdef")) {
+        Fault::Write
+    } else if is_device_failed(output.flush()) {
+        Fault::Flush
+    } else {
+        Fault::None
+    };
+    Ok((fault, output.failures()))
+}
 
-    let mut stuck = taking(rt.alloc(), 4);
-    stuck.fails_to_flush = true;
-    let mut output = Output::new(rt.alloc(), 64, &mut stuck)?;
-    output.write_all(b"abcdef")?;
-    assert!(rt; is_device_failed(output.flush()));
-    Ok(())
+fn is_device_failed(returned: capnp::Result<()>) -> bool {
+    match returned {
+        Ok(()) => false,
+        Err(error) => error.kind == ErrorKind::DeviceFailed,
+    }
 }
 
 /// Takes what it is given. Its first flushes are interrupted.
@@ -85,20 +135,19 @@ impl io::Write for Unflushed {
     }
 }
 
+// How many bytes are collected, and how many flushes are interrupted.
+const FLUSHES: [(usize, u64); 3] = [(0, 1), (64, 1), (64, 1000)];
+
 #[test]
 fn an_interrupted_flush_is_made_again(rt: HostRuntime) -> Result<(), Fail> {
-    for (capacity, interruptions) in [(0, 1), (64, 1), (64, 1000)] {
+    for &(capacity, interruptions) in &FLUSHES {
         let mut device = Unflushed {
             got: Vec::new(rt.alloc()),
             interruptions,
             flushes: 0,
         };
-        let mut output = Output::new(rt.alloc(), capacity, &mut device)?;
-        output.write_all(b"abc")?;
-        output.flush()?;
-        assert_eq!(rt; output.failures(), 0);
-        drop(output);
-        assert_eq!(rt; device.got.as_slice(), b"abc".as_slice());
+        assert!(rt; write_to(rt.alloc(), capacity, &mut device)? == 0);
+        assert!(rt; device.got.as_slice() == b"abcdefghi".as_slice());
         assert!(rt; device.flushes > interruptions);
     }
     Ok(())

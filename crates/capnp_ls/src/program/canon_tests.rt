@@ -1,8 +1,8 @@
 //! Canonical forms that the program writes.
 use crate::choppy::taking;
-use crate::program::run;
-use crate::program::tests::{refusal, words};
-use capnp::devices::Output;
+use crate::program::tests::{Ended, Row, WHOLE, assert_run, end_of, run_to};
+use std::alloc::{AllocError, Global};
+use std::process::Abort;
 use std::test::*;
 
 // "Hello, World!", which is canonical.
@@ -42,43 +42,55 @@ const FORMS: [(&[u8], &[u8]); 12] = [
 
 #[test]
 fn forms_of_framed_messages(rt: HostRuntime) -> Result<(), Fail> {
-    let words = words(rt.alloc(), &["canon"])?;
-    let mut all = Vec::new(rt.alloc());
+    for &(message, form) in &FORMS {
+        assert_canon(&rt, message, Ended::Whole, form, 0)?;
+    }
+    Ok(())
+}
+
+// What `canon` prints of framed messages, where it stops, and how many bytes it leaves.
+fn assert_canon(
+    rt: &(impl Abort + AllocGlobal),
+    input: &[u8],
+    wanted: Ended,
+    forms: &[u8],
+    unread: usize,
+) -> Result<(), AllocError> {
+    let mut source = input;
+    let mut sink = Vec::new(rt.alloc());
+    let ended = end_of(rt.alloc(), &["canon"], &mut source, &mut sink)?;
+    assert!(rt;
+        ended == wanted && sink.as_slice() == forms,
+        "{ended:?} of {input:?}"
+    );
+    assert!(rt; source.len() == unread, "of {input:?}");
+    Ok(())
+}
+
+#[test]
+fn forms_of_messages_after_one_another(rt: HostRuntime) -> Result<(), Fail> {
+    let mut messages = Vec::new(rt.alloc());
     let mut forms = Vec::new(rt.alloc());
-    for (message, form) in FORMS {
-        let mut source = message;
-        let mut sink = Vec::new(rt.alloc());
-        let returned = run(rt.alloc(), &words, &mut source, &mut sink);
-        assert!(rt; returned.is_ok(), "{message:?}");
-        assert_eq!(rt; sink.as_slice(), form, "{message:?}");
-        all.extend_from_slice(message)?;
+    for &(message, form) in &FORMS {
+        messages.extend_from_slice(message)?;
         forms.extend_from_slice(form)?;
     }
-    let mut source = all.as_slice();
-    let mut sink = Vec::new(rt.alloc());
-    assert!(rt; run(rt.alloc(), &words, &mut source, &mut sink).is_ok());
-    assert_eq!(rt; sink.as_slice(), forms.as_slice());
-    assert!(rt; source.is_empty());
+    assert_canon(&rt, &messages, Ended::Whole, &forms, 0)?;
     Ok(())
 }
 
 // Packed messages: "Hello, World!", and a struct of two words and a null pointer. Their forms are
 // framed.
+const PACKED: Row = Row {
+    words: &["canon", "--packed"],
+    input: b"\x10\x03\x11\x01\x72\xffHello, W\0\x1forld!\x10\x04\x50\x02\x01\x01\x05\0\x01",
+    printed: b"\0\0\0\0\x03\0\0\0\x01\0\0\0\x72\0\0\0Hello, World!\0\0\0\0\0\0\0\x02\0\0\0\0\0\0\0\x01\0\0\0\x05\0\0\0\0\0\0\0",
+    ..WHOLE
+};
+
 #[test]
 fn forms_of_packed_messages(rt: HostRuntime) -> Result<(), Fail> {
-    let words = words(rt.alloc(), &["canon", "--packed"])?;
-    let mut source: &[u8] =
-        b"\x10\x03\x11\x01\x72\xffHello, W\0\x1forld!\x10\x04\x50\x02\x01\x01\x05\0\x01";
-    let mut sink = Vec::new(rt.alloc());
-    assert!(rt; run(rt.alloc(), &words, &mut source, &mut sink).is_ok());
-    assert!(rt; source.is_empty());
-    assert_eq!(rt; sink.len(), 56);
-    let forms = sink.as_slice();
-    assert_eq!(rt; forms.get(..32), Some(HELLO));
-    assert_eq!(rt;
-        forms.get(32..),
-        Some(b"\0\0\0\0\x02\0\0\0\0\0\0\0\x01\0\0\0\x05\0\0\0\0\0\0\0".as_slice())
-    );
+    assert_run(&rt, &PACKED)?;
     Ok(())
 }
 
@@ -107,63 +119,60 @@ const STOPS: [(&[u8], u8); 12] = [
     (b"\0\0\0\0\x02\0\0\0\x01\0\0\0\x07\0\0\0\x04\0\0\0\x01\0\0\0", 17),
 ];
 
-// Each stands after a message that has a form, and another follows it: the first form is written, and
-// nothing is written after it.
 #[test]
 fn stops_where_no_form_stands(rt: HostRuntime) -> Result<(), Fail> {
-    let words = words(rt.alloc(), &["canon"])?;
-    for (message, number) in STOPS {
-        let mut bytes = HELLO.to_vec(rt.alloc())?;
-        bytes.extend_from_slice(message)?;
-        if number > 5 {
-            bytes.extend_from_slice(HELLO)?;
-        }
-        let mut source = bytes.as_slice();
-        let mut sink = Vec::new(rt.alloc());
-        let returned = run(rt.alloc(), &words, &mut source, &mut sink);
-        assert_eq!(rt; refusal(returned), Some((1, number)), "{message:?}");
-        assert_eq!(rt; sink.as_slice(), HELLO, "{message:?}");
-        // A message is read as a whole before it is looked into.
-        if number > 5 {
-            assert_eq!(rt; source, HELLO, "{message:?}");
-        }
+    for &(message, number) in &STOPS {
+        stop_between(&rt, message, number)?;
     }
     Ok(())
+}
+
+// Each stands after a message that has a form, and another follows it: the first form is written, and
+// nothing is written after it. A message is read as a whole before it is looked into.
+fn stop_between(
+    rt: &(impl Abort + AllocGlobal),
+    message: &[u8],
+    number: u8,
+) -> Result<(), AllocError> {
+    let mut input = HELLO.to_vec(rt.alloc())?;
+    input.extend_from_slice(message)?;
+    let following: &[u8] = if number > 5 { HELLO } else { &[] };
+    input.extend_from_slice(following)?;
+    assert_canon(rt, &input, Ended::At(1, number), HELLO, following.len())
+}
+
+fn two_messages(alloc: Global) -> Result<Vec<u8>, AllocError> {
+    let mut bytes = HELLO.to_vec(alloc)?;
+    bytes.extend_from_slice(HELLO)?;
+    Ok(bytes)
 }
 
 // A slice of 40 bytes takes one form of 32, and the table of another.
 #[test]
 fn stops_where_a_form_has_no_room(rt: HostRuntime) -> Result<(), Fail> {
-    let words = words(rt.alloc(), &["canon"])?;
-    let mut bytes = HELLO.to_vec(rt.alloc())?;
-    bytes.extend_from_slice(HELLO)?;
+    let bytes = two_messages(rt.alloc())?;
     let mut source = bytes.as_slice();
     let mut room = [0; 40];
     let mut sink = room.as_mut_slice();
-    let returned = run(rt.alloc(), &words, &mut source, &mut sink);
-    assert_eq!(rt; refusal(returned), Some((1, 2)));
-    assert!(rt; sink.is_empty());
-    let written = room.as_slice();
-    assert_eq!(rt; written.get(..32), Some(HELLO));
-    assert_eq!(rt; written.get(32..), HELLO.get(..8));
+    let ended = end_of(rt.alloc(), &["canon"], &mut source, &mut sink)?;
+    assert!(rt; ended == Ended::At(1, 2) && sink.is_empty());
+    assert!(rt; Some(room.as_slice()) == bytes.get(..40));
     Ok(())
 }
 
-// The device fails at its nth write of the four chunks of two messages.
+// The device fails at its nth write of the four chunks of two messages: the message there, and how
+// many bytes were taken.
+const WRITES: [(u64, u64, usize); 4] = [(1, 0, 0), (2, 0, 8), (3, 1, 32), (4, 1, 40)];
+
 #[test]
 fn stops_at_the_message_of_a_failed_write(rt: HostRuntime) -> Result<(), Fail> {
-    let words = words(rt.alloc(), &["canon"])?;
-    let mut bytes = HELLO.to_vec(rt.alloc())?;
-    bytes.extend_from_slice(HELLO)?;
-    for (bad_write, message, taken) in [(1, 0, 0), (2, 0, 8), (3, 1, 32), (4, 1, 40)] {
+    let bytes = two_messages(rt.alloc())?;
+    for &(bad_write, message, taken) in &WRITES {
         let mut device = taking(rt.alloc(), 64);
         device.bad_write = bad_write;
-        let mut sink = Output::new(rt.alloc(), 0, &mut device)?;
-        let mut source = bytes.as_slice();
-        let returned = run(rt.alloc(), &words, &mut source, &mut sink);
-        assert_eq!(rt; refusal(returned), Some((message, 13)), "write {bad_write}");
-        drop(sink);
-        assert_eq!(rt; device.got.len(), taken, "write {bad_write}");
+        let ended = run_to(rt.alloc(), &["canon"], &bytes, &mut device)?;
+        assert!(rt; ended == Ended::At(message, 13), "write {bad_write}");
+        assert!(rt; device.got.len() == taken, "write {bad_write}");
     }
     Ok(())
 }

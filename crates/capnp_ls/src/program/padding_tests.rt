@@ -1,70 +1,66 @@
-use crate::program::run;
-use crate::program::tests::{LINES, PACKED, STREAM, refusal, words};
+//! Messages with a padding that isn't zero.
+use crate::program::tests::{
+    Ended, FRAMED, LINE, PACKED, Row, STREAM, THREE_LINES, WHOLE, assert_runs,
+};
 use std::test::*;
 
-// The same message, its padding four nines, framed and packed.
-const PADDED: [u8; 24] = [
+// The first message of the stream, its padding four nines, framed and packed.
+const PADDED: &[u8] = &[
     1, 0, 0, 0, 0, 0, 0, 0, 1, 0, 0, 0, 9, 9, 9, 9, 1, 2, 3, 4, 5, 6, 7, 8,
 ];
 
-const PACKED_PADDED: [u8; 18] = [1, 1, 0xf1, 1, 9, 9, 9, 9, 255, 1, 2, 3, 4, 5, 6, 7, 8, 0];
+const PACKED_PADDED: &[u8] = &[1, 1, 0xf1, 1, 9, 9, 9, 9, 255, 1, 2, 3, 4, 5, 6, 7, 8, 0];
 
 // The text that `unpack` and `pack` write of it has zero padding.
+#[rattlefmt::skip]
+const LENIENT: [Row; 10] = [
+    Row { words: &["list", "--lenient"], input: PADDED, printed: LINE, ..WHOLE },
+    Row { words: &["list", "--lenient"], input: &STREAM, printed: THREE_LINES, ..WHOLE },
+    Row { words: &["list", "--lenient"], ..WHOLE },
+    Row { words: &["list", "--packed", "--lenient"], input: PACKED_PADDED, printed: LINE, ..WHOLE },
+    Row { words: &["list", "--packed", "--lenient"], input: PACKED, printed: LINE, ..WHOLE },
+    Row { words: &["list", "--packed", "--lenient"], ..WHOLE },
+    Row { words: &["pack", "--lenient"], input: PADDED, printed: PACKED, ..WHOLE },
+    Row { words: &["pack", "--lenient"], input: FRAMED, printed: PACKED, ..WHOLE },
+    Row { words: &["unpack", "--lenient"], input: PACKED_PADDED, printed: FRAMED, ..WHOLE },
+    Row { words: &["unpack", "--lenient"], input: PACKED, printed: FRAMED, ..WHOLE },
+];
+
 #[test]
 fn messages_of_any_padding(rt: HostRuntime) -> Result<(), Fail> {
-    let rows: [(&[&str], &[u8], &[u8]); 10] = [
-        (&["list", "--lenient"], &PADDED, LINES[1].as_bytes()),
-        (&["list", "--lenient"], &STREAM, LINES[3].as_bytes()),
-        (&["list", "--lenient"], &[], &[]),
-        (
-            &["list", "--packed", "--lenient"],
-            &PACKED_PADDED,
-            LINES[1].as_bytes(),
-        ),
-        (
-            &["list", "--packed", "--lenient"],
-            &PACKED,
-            LINES[1].as_bytes(),
-        ),
-        (&["list", "--packed", "--lenient"], &[], &[]),
-        (&["pack", "--lenient"], &PADDED, &PACKED),
-        (&["pack", "--lenient"], &STREAM[..24], &PACKED),
-        (&["unpack", "--lenient"], &PACKED_PADDED, &STREAM[..24]),
-        (&["unpack", "--lenient"], &PACKED, &STREAM[..24]),
-    ];
-    for (texts, input, output) in rows {
-        let words = words(rt.alloc(), texts)?;
-        let mut source = input;
-        let mut sink = Vec::new(rt.alloc());
-        assert!(rt;
-            run(rt.alloc(), &words, &mut source, &mut sink).is_ok(),
-            "{texts:?}"
-        );
-        assert_eq!(rt; sink.as_slice(), output, "{texts:?}");
-        assert!(rt; source.is_empty(), "{texts:?}");
-    }
+    assert_runs(&rt, &LENIENT)?;
     Ok(())
 }
 
+const REFUSED: Row = Row {
+    words: &[],
+    input: PADDED,
+    ended: Ended::At(0, 26),
+    printed: &[],
+    unread: 8,
+};
+
+const PACKED_REFUSED: Row = Row {
+    words: &[],
+    input: PACKED_PADDED,
+    ended: Ended::At(0, 26),
+    printed: &[],
+    unread: 10,
+};
+
 // Nothing is printed of the message, and the source stands right after its table.
+#[rattlefmt::skip]
+const STRICT: [Row; 6] = [
+    Row { words: &["list"], ..REFUSED },
+    Row { words: &["list", "--packed"], ..PACKED_REFUSED },
+    Row { words: &["pack"], ..REFUSED },
+    Row { words: &["unpack"], ..PACKED_REFUSED },
+    Row { words: &["canon"], ..REFUSED },
+    Row { words: &["canon", "--packed"], ..PACKED_REFUSED },
+];
+
 #[test]
 fn other_paddings_stop_a_run(rt: HostRuntime) -> Result<(), Fail> {
-    let rows: [(&[&str], &[u8], usize); 6] = [
-        (&["list"], &PADDED, 8),
-        (&["list", "--packed"], &PACKED_PADDED, 10),
-        (&["pack"], &PADDED, 8),
-        (&["unpack"], &PACKED_PADDED, 10),
-        (&["canon"], &PADDED, 8),
-        (&["canon", "--packed"], &PACKED_PADDED, 10),
-    ];
-    for (texts, input, unread) in rows {
-        let words = words(rt.alloc(), texts)?;
-        let mut source = input;
-        let mut sink = Vec::new(rt.alloc());
-        let returned = run(rt.alloc(), &words, &mut source, &mut sink);
-        assert_eq!(rt; refusal(returned), Some((0, 26)), "{texts:?}");
-        assert!(rt; sink.is_empty(), "{texts:?}");
-        assert_eq!(rt; source.len(), unread, "{texts:?}");
-    }
+    assert_runs(&rt, &STRICT)?;
     Ok(())
 }

@@ -1,8 +1,9 @@
-use crate::choppy::{giving, taking};
+//! What a run prints of an input, and where it stops.
+use crate::choppy::{ChoppyWriter, giving, taking};
 use crate::program::run;
 use crate::stop::Stop;
-use capnp::ErrorKind;
 use capnp::devices::{Input, Output};
+use capnp::io::{BufRead, Write};
 use std::alloc::{AllocError, Global};
 use std::process::Abort;
 use std::test::*;
@@ -16,14 +17,71 @@ pub(crate) const STREAM: [u8; 56] = [
 ];
 
 // Their lines, and the lines before each message.
-pub(crate) const LINES: [&str; 4] = [
-    "",
-    "0 2 1 0 1\n",
-    "0 2 1 0 1\n1 1 0 0\n",
-    "0 2 1 0 1\n1 1 0 0\n2 1 2 2\n",
+pub(crate) const LINE: &[u8] = b"0 2 1 0 1\n";
+
+const TWO_LINES: &[u8] = b"0 2 1 0 1\n1 1 0 0\n";
+
+pub(crate) const THREE_LINES: &[u8] = b"0 2 1 0 1\n1 1 0 0\n2 1 2 2\n";
+
+const LINES: [&[u8]; 4] = [b"", LINE, TWO_LINES, THREE_LINES];
+
+// The first two of them.
+const TWO: &[u8] = &[
+    1, 0, 0, 0, 0, 0, 0, 0, 1, 0, 0, 0, 0, 0, 0, 0, 1, 2, 3, 4, 5, 6, 7, 8, 0, 0, 0, 0, 0, 0, 0, 0,
 ];
 
-pub(crate) fn words(alloc: Global, texts: &[&str]) -> Result<Vec<String>, AllocError> {
+// The first of them, framed and packed.
+pub(crate) const FRAMED: &[u8] = &[
+    1, 0, 0, 0, 0, 0, 0, 0, 1, 0, 0, 0, 0, 0, 0, 0, 1, 2, 3, 4, 5, 6, 7, 8,
+];
+
+pub(crate) const PACKED: &[u8] = &[1, 1, 1, 1, 255, 1, 2, 3, 4, 5, 6, 7, 8, 0];
+
+/// How a run ends.
+#[derive(Clone, Copy, Debug, PartialEq, Eq)]
+pub(crate) enum Ended {
+    Whole,
+    Usage,
+    /// At this message, by the number of a refusal's kind.
+    At(u64, u8),
+}
+
+/// The words of a command, what it reads, how the run ends, what it prints, and how many bytes stay
+/// unread.
+#[derive(Drop)]
+pub(crate) struct Row {
+    pub words: &'static [&'static str],
+    pub input: &'static [u8],
+    pub ended: Ended,
+    pub printed: &'static [u8],
+    pub unread: usize,
+}
+
+/// A run that reads all.
+pub(crate) const WHOLE: Row = Row {
+    words: &[],
+    input: &[],
+    ended: Ended::Whole,
+    printed: &[],
+    unread: 0,
+};
+
+/// Runs the command of these words.
+pub(crate) fn end_of<R: BufRead, W: Write>(
+    alloc: Global,
+    texts: &[&str],
+    source: &mut R,
+    sink: &mut W,
+) -> Result<Ended, AllocError> {
+    let words = words_of(alloc, texts)?;
+    Ok(match run(alloc, &words, source, sink) {
+        Ok(()) => Ended::Whole,
+        Err(Stop::Usage) => Ended::Usage,
+        Err(Stop::Refused { message, error }) => Ended::At(message, error.kind.number()),
+    })
+}
+
+fn words_of(alloc: Global, texts: &[&str]) -> Result<Vec<String>, AllocError> {
     let mut words = Vec::new(alloc);
     for text in texts {
         words.push(String::from_str(alloc, text)?)?;
@@ -31,220 +89,251 @@ pub(crate) fn words(alloc: Global, texts: &[&str]) -> Result<Vec<String>, AllocE
     Ok(words)
 }
 
-// The message and the number of a refusal's kind.
-pub(crate) fn refusal(returned: Result<(), Stop>) -> Option<(u64, u8)> {
-    match returned {
-        Err(Stop::Refused { message, error }) => Some((message, error.kind.number())),
-        _ => None,
-    }
-}
-
-#[test]
-fn messages_are_listed(rt: HostRuntime) -> Result<(), Fail> {
-    let words = words(rt.alloc(), &["list"])?;
-    for (bytes, messages) in [
-        (&STREAM[..0], 0),
-        (&STREAM[..24], 1),
-        (&STREAM[..32], 2),
-        (&STREAM[..], 3),
-    ] {
-        let mut source = bytes;
-        let mut sink = Vec::new(rt.alloc());
-        assert!(rt; run(rt.alloc(), &words, &mut source, &mut sink).is_ok());
-        assert_eq!(rt; sink.as_slice(), LINES[messages].as_bytes());
-        assert!(rt; source.is_empty());
+/// Each row's run prints what it has to, stops where it has to, and leaves so much.
+pub(crate) fn assert_runs(rt: &(impl Abort + AllocGlobal), rows: &[Row]) -> Result<(), AllocError> {
+    for row in rows {
+        assert_run(rt, row)?;
     }
     Ok(())
 }
 
-// What stands after the first message stops the run: cut, of too many segments, too large, or of a
-// padding that isn't zero.
-#[test]
-fn lines_before_a_refusal_stay(rt: HostRuntime) -> Result<(), Fail> {
-    let words = words(rt.alloc(), &["list"])?;
-    let refused: [(&[u8], u8, usize); 5] = [
-        (&[0, 0, 0, 0], 1, 0),
-        (&[0, 0, 0, 0, 1, 0, 0, 0, 1], 1, 0),
-        (&[255, 1, 0, 0, 7, 7, 7, 7, 5], 5, 1),
-        (&[0, 0, 0, 0, 1, 0, 128, 0, 5], 8, 1),
-        (&[1, 0, 0, 0, 0, 0, 0, 0, 0, 0, 0, 0, 0, 0, 0, 1, 5], 26, 1),
-    ];
-    for (others, number, unread) in refused {
-        let mut bytes = STREAM[..24].to_vec(rt.alloc())?;
-        bytes.extend_from_slice(others)?;
-        let mut source = bytes.as_slice();
-        let mut sink = Vec::new(rt.alloc());
-        let returned = run(rt.alloc(), &words, &mut source, &mut sink);
-        assert_eq!(rt; refusal(returned), Some((1, number)));
-        assert_eq!(rt; sink.as_slice(), LINES[1].as_bytes());
-        assert_eq!(rt; source.len(), unread, "kind {number}");
-    }
+pub(crate) fn assert_run(rt: &(impl Abort + AllocGlobal), row: &Row) -> Result<(), AllocError> {
+    let mut source = row.input;
+    let mut sink = Vec::new(rt.alloc());
+    let ended = end_of(rt.alloc(), row.words, &mut source, &mut sink)?;
+    let is_printed = sink.as_slice() == row.printed;
+    let unread = source.len();
+    let (words, input) = (row.words, row.input);
+    assert!(rt;
+        ended == row.ended && is_printed && unread == row.unread,
+        "{words:?} of {input:?}: {ended:?}, {sink:?}, {unread} bytes unread"
+    );
     Ok(())
 }
 
-#[test]
-fn other_words_read_nothing(rt: HostRuntime) -> Result<(), Fail> {
-    let others: [&[&str]; 22] = [
-        &[],
-        &["lists"],
-        &["list", "list"],
-        &["list", ""],
-        &["list", "--packed", "x"],
-        &["list", "--packed", "--packed"],
-        &["list", "--lenient", "--packed"],
-        &["list", "--lenient", "--lenient"],
-        &["list", "--packed", "--lenient", "--lenient"],
-        &["--lenient", "list"],
-        &["--lenient", "pack"],
-        &["--packed", "list"],
-        &["pack", "--packed"],
-        &["pack", "--packed", "--lenient"],
-        &["unpack", "--packed"],
-        &["unpack", "--lenient", "--lenient"],
-        &["canon", "--lenient"],
-        &["canon", "--packed", "--lenient"],
-        &["canon", "canon"],
-        &["canon", "--packed", "--packed"],
-        &["canonical"],
-        &["LIST"],
-    ];
-    for texts in others {
-        let words = words(rt.alloc(), texts)?;
-        let mut source = STREAM.as_slice();
-        let mut sink = Vec::new(rt.alloc());
-        let returned = run(rt.alloc(), &words, &mut source, &mut sink);
-        assert!(rt; matches!(&returned, Err(Stop::Usage)), "{texts:?}");
-        assert!(rt; returned.is_err_and(|stop| stop.status() == 2), "{texts:?}");
-        assert_eq!(rt; source.len(), STREAM.len());
-        assert!(rt; sink.is_empty());
-    }
-    Ok(())
-}
-
-// Segments [] and [1, 2, 3, 4, 5, 6, 7, 8], packed.
-pub(crate) const PACKED: [u8; 14] = [1, 1, 1, 1, 255, 1, 2, 3, 4, 5, 6, 7, 8, 0];
+#[rattlefmt::skip]
+const OUTPUTS: [Row; 11] = [
+    Row { words: &["list"], ..WHOLE },
+    Row { words: &["list"], input: FRAMED, printed: LINE, ..WHOLE },
+    Row { words: &["list"], input: TWO, printed: TWO_LINES, ..WHOLE },
+    Row { words: &["list"], input: &STREAM, printed: THREE_LINES, ..WHOLE },
+    Row { words: &["list", "--packed"], input: PACKED, printed: LINE, ..WHOLE },
+    Row {
+        words: &["list", "--packed"],
+        input: &[0, 0, 17, 4, 1, 0, 1, 0, 0],
+        printed: b"0 1 0 0\n1 5 1 1 0 0 0 0\n",
+        ..WHOLE
+    },
+    Row { words: &["list", "--packed"], ..WHOLE },
+    Row { words: &["pack"], input: FRAMED, printed: PACKED, ..WHOLE },
+    Row { words: &["pack"], ..WHOLE },
+    Row { words: &["unpack"], input: PACKED, printed: FRAMED, ..WHOLE },
+    Row { words: &["unpack"], ..WHOLE },
+];
 
 #[test]
 fn each_command_prints_its_output(rt: HostRuntime) -> Result<(), Fail> {
-    let rows: [(&[&str], &[u8], &[u8]); 7] = [
-        (&["list", "--packed"], &PACKED, b"0 2 1 0 1\n"),
-        (
-            &["list", "--packed"],
-            &[0, 0, 17, 4, 1, 0, 1, 0, 0],
-            b"0 1 0 0\n1 5 1 1 0 0 0 0\n",
-        ),
-        (&["list", "--packed"], &[], &[]),
-        (&["pack"], &STREAM[..24], &PACKED),
-        (&["pack"], &[], &[]),
-        (&["unpack"], &PACKED, &STREAM[..24]),
-        (&["unpack"], &[], &[]),
-    ];
-    for (texts, input, output) in rows {
-        let words = words(rt.alloc(), texts)?;
-        let mut source = input;
-        let mut sink = Vec::new(rt.alloc());
-        assert!(rt;
-            run(rt.alloc(), &words, &mut source, &mut sink).is_ok(),
-            "{texts:?}"
-        );
-        assert_eq!(rt; sink.as_slice(), output, "{texts:?}");
-        assert!(rt; source.is_empty(), "{texts:?}");
-    }
+    assert_runs(&rt, &OUTPUTS)?;
     Ok(())
 }
+
+// What stands after the first message stops a list: cut, of too many segments, too large, or of a
+// padding that isn't zero. What is printed before a refusal stays.
+#[rattlefmt::skip]
+const STOPS: [Row; 9] = [
+    Row {
+        words: &["list"],
+        input: &[1, 0, 0, 0, 0, 0, 0, 0, 1, 0, 0, 0, 0, 0, 0, 0, 1, 2, 3, 4, 5, 6, 7, 8, 0, 0, 0, 0],
+        ended: Ended::At(1, 1),
+        printed: LINE,
+        unread: 0,
+    },
+    Row {
+        words: &["list"],
+        input: &[
+            1, 0, 0, 0, 0, 0, 0, 0, 1, 0, 0, 0, 0, 0, 0, 0, 1, 2, 3, 4, 5, 6, 7, 8,
+            0, 0, 0, 0, 1, 0, 0, 0, 1,
+        ],
+        ended: Ended::At(1, 1),
+        printed: LINE,
+        unread: 0,
+    },
+    Row {
+        words: &["list"],
+        input: &[
+            1, 0, 0, 0, 0, 0, 0, 0, 1, 0, 0, 0, 0, 0, 0, 0, 1, 2, 3, 4, 5, 6, 7, 8,
+            255, 1, 0, 0, 7, 7, 7, 7, 5,
+        ],
+        ended: Ended::At(1, 5),
+        printed: LINE,
+        unread: 1,
+    },
+    Row {
+        words: &["list"],
+        input: &[
+            1, 0, 0, 0, 0, 0, 0, 0, 1, 0, 0, 0, 0, 0, 0, 0, 1, 2, 3, 4, 5, 6, 7, 8,
+            0, 0, 0, 0, 1, 0, 128, 0, 5,
+        ],
+        ended: Ended::At(1, 8),
+        printed: LINE,
+        unread: 1,
+    },
+    Row {
+        words: &["list"],
+        input: &[
+            1, 0, 0, 0, 0, 0, 0, 0, 1, 0, 0, 0, 0, 0, 0, 0, 1, 2, 3, 4, 5, 6, 7, 8,
+            1, 0, 0, 0, 0, 0, 0, 0, 0, 0, 0, 0, 0, 0, 0, 1, 5,
+        ],
+        ended: Ended::At(1, 26),
+        printed: LINE,
+        unread: 1,
+    },
+    Row { words: &["pack"], input: &[0; 12], ended: Ended::At(1, 1), printed: &[0, 0], unread: 0 },
+    Row {
+        words: &["unpack"],
+        input: &[0, 0, 16, 1, 0, 0, 170],
+        ended: Ended::At(2, 10),
+        printed: &[0, 0, 0, 0, 0, 0, 0, 0, 0, 0, 0, 0, 1, 0, 0, 0, 0, 0, 0, 0, 0, 0, 0, 0],
+        unread: 0,
+    },
+    Row {
+        words: &["list", "--packed"],
+        input: &[0, 0, 0, 1],
+        ended: Ended::At(1, 11),
+        printed: b"0 1 0 0\n",
+        unread: 0,
+    },
+    Row { words: &["unpack"], input: &[255], ended: Ended::At(0, 10), printed: &[], unread: 0 },
+];
 
 #[test]
 fn output_before_a_refusal_stays(rt: HostRuntime) -> Result<(), Fail> {
-    let rows: [(&[&str], &[u8], (u64, u8), &[u8]); 4] = [
-        (&["pack"], &[0; 12], (1, 1), &[0, 0]),
-        (
-            &["unpack"],
-            &[0, 0, 16, 1, 0, 0, 170],
-            (2, 10),
-            &[
-                0, 0, 0, 0, 0, 0, 0, 0, 0, 0, 0, 0, 1, 0, 0, 0, 0, 0, 0, 0, 0, 0, 0, 0,
-            ],
-        ),
-        (&["list", "--packed"], &[0, 0, 0, 1], (1, 11), b"0 1 0 0\n"),
-        (&["unpack"], &[255], (0, 10), &[]),
-    ];
-    for (texts, input, refused, output) in rows {
-        let words = words(rt.alloc(), texts)?;
-        let mut source = input;
-        let mut sink = Vec::new(rt.alloc());
-        let returned = run(rt.alloc(), &words, &mut source, &mut sink);
-        assert_eq!(rt; refusal(returned), Some(refused), "{texts:?}");
-        assert_eq!(rt; sink.as_slice(), output, "{texts:?}");
+    assert_runs(&rt, &STOPS)?;
+    Ok(())
+}
+
+const OTHERS: [&[&str]; 22] = [
+    &[],
+    &["lists"],
+    &["list", "list"],
+    &["list", ""],
+    &["list", "--packed", "x"],
+    &["list", "--packed", "--packed"],
+    &["list", "--lenient", "--packed"],
+    &["list", "--lenient", "--lenient"],
+    &["list", "--packed", "--lenient", "--lenient"],
+    &["--lenient", "list"],
+    &["--lenient", "pack"],
+    &["--packed", "list"],
+    &["pack", "--packed"],
+    &["pack", "--packed", "--lenient"],
+    &["unpack", "--packed"],
+    &["unpack", "--lenient", "--lenient"],
+    &["canon", "--lenient"],
+    &["canon", "--packed", "--lenient"],
+    &["canon", "canon"],
+    &["canon", "--packed", "--packed"],
+    &["canonical"],
+    &["LIST"],
+];
+
+#[test]
+fn other_words_read_nothing(rt: HostRuntime) -> Result<(), Fail> {
+    for &words in &OTHERS {
+        let row = Row {
+            words,
+            input: &STREAM,
+            ended: Ended::Usage,
+            printed: &[],
+            unread: 56,
+        };
+        assert_run(&rt, &row)?;
     }
     Ok(())
 }
 
-// The device fails at its nth read of at most 8 bytes, one of the 8 that the stream and its end take.
+// The device fails at its nth read of at most 8 bytes, one of the 8 that the stream and its end take;
+// at last at none.
+const READS: [(u64, Ended, &[u8]); 9] = [
+    (1, Ended::At(0, 13), b""),
+    (2, Ended::At(0, 13), b""),
+    (3, Ended::At(0, 13), b""),
+    (4, Ended::At(1, 13), LINE),
+    (5, Ended::At(2, 13), TWO_LINES),
+    (6, Ended::At(2, 13), TWO_LINES),
+    (7, Ended::At(2, 13), TWO_LINES),
+    (8, Ended::At(3, 13), THREE_LINES),
+    (0, Ended::Whole, THREE_LINES),
+];
+
 #[test]
 fn a_failed_read_stops_after_the_messages_done(rt: HostRuntime) -> Result<(), Fail> {
-    let words = words(rt.alloc(), &["list"])?;
-    let done = [0, 0, 0, 1, 2, 2, 2, 3];
-    for (bad_read, messages) in (1..).zip(done) {
+    for &(bad_read, wanted, lines) in &READS {
         let mut device = giving(&STREAM, 8);
         device.bad_read = bad_read;
         let mut source = Input::new(rt.alloc(), device)?;
         let mut sink = Vec::new(rt.alloc());
-        let returned = run(rt.alloc(), &words, &mut source, &mut sink);
-        assert_eq!(rt; refusal(returned), Some((messages, 13)), "read {bad_read}");
-        assert_eq!(rt; sink.as_slice(), LINES[messages as usize % 4].as_bytes());
-    }
-    let mut source = Input::new(rt.alloc(), giving(&STREAM, 8))?;
-    let mut sink = Vec::new(rt.alloc());
-    assert!(rt; run(rt.alloc(), &words, &mut source, &mut sink).is_ok());
-    assert_eq!(rt; sink.as_slice(), LINES[3].as_bytes());
-    Ok(())
-}
-
-#[test]
-fn a_failed_write_stops_at_its_message(rt: HostRuntime) -> Result<(), Fail> {
-    let words = words(rt.alloc(), &["list"])?;
-    for bad_write in 1..=3 {
-        let mut device = taking(rt.alloc(), 64);
-        device.bad_write = bad_write;
-        let mut sink = Output::new(rt.alloc(), 0, &mut device)?;
-        let mut source = STREAM.as_slice();
-        let returned = run(rt.alloc(), &words, &mut source, &mut sink);
-        assert_eq!(rt; refusal(returned), Some((bad_write - 1, 13)));
-        drop(sink);
-        assert_eq!(rt;
-            device.got.as_slice(),
-            LINES[bad_write as usize - 1].as_bytes()
+        let ended = end_of(rt.alloc(), &["list"], &mut source, &mut sink)?;
+        assert!(rt;
+            ended == wanted && sink.as_slice() == lines,
+            "read {bad_read}"
         );
     }
     Ok(())
+}
+
+const WRITES: [(u64, Ended, &[u8]); 3] = [
+    (1, Ended::At(0, 13), b""),
+    (2, Ended::At(1, 13), LINE),
+    (3, Ended::At(2, 13), TWO_LINES),
+];
+
+#[test]
+fn a_failed_write_stops_at_its_message(rt: HostRuntime) -> Result<(), Fail> {
+    for &(bad_write, wanted, lines) in &WRITES {
+        let mut device = taking(rt.alloc(), 64);
+        device.bad_write = bad_write;
+        assert!(rt; run_to(rt.alloc(), &["list"], &STREAM, &mut device)? == wanted);
+        assert!(rt; device.got.as_slice() == lines, "write {bad_write}");
+    }
+    Ok(())
+}
+
+/// How a run ends that writes to a device.
+pub(crate) fn run_to(
+    alloc: Global,
+    words: &[&str],
+    input: &[u8],
+    device: &mut ChoppyWriter,
+) -> Result<Ended, Fail> {
+    let mut sink = Output::new(alloc, 0, device)?;
+    let mut source = input;
+    let ended = end_of(alloc, words, &mut source, &mut sink)?;
+    Ok(ended)
 }
 
 // `rt try --test --fail-alloc N` refuses one growth: the run then stops at its message by 12, and a
 // second one lists them all.
 #[test]
 fn a_refused_growth_stops_at_its_message(rt: HostRuntime) -> Result<(), Fail> {
-    let words = words(rt.alloc(), &["list"]).or_else(|_| words(rt.alloc(), &["list"]))?;
-    list_or_lack_memory(&rt, &words).or_else(|_| list_or_lack_memory(&rt, &words))?;
+    if list_or_lack_memory(&rt).is_err() {
+        list_or_lack_memory(&rt)?;
+    }
     Ok(())
 }
 
-fn list_or_lack_memory(
-    rt: &(impl Abort + AllocGlobal),
-    words: &[String],
-) -> Result<(), AllocError> {
+fn list_or_lack_memory(rt: &(impl Abort + AllocGlobal)) -> Result<(), AllocError> {
     let mut source = STREAM.as_slice();
     let mut sink = Vec::new(rt.alloc());
-    let returned = run(rt.alloc(), words, &mut source, &mut sink);
-    if returned.is_ok() {
-        assert_eq!(rt; sink.as_slice(), LINES[3].as_bytes());
-        return Ok(());
+    match end_of(rt.alloc(), &["list"], &mut source, &mut sink)? {
+        Ended::Whole => {
+            assert!(rt; sink.as_slice() == THREE_LINES);
+            Ok(())
+        }
+        Ended::At(message, 12) if message < 3 => {
+            assert!(rt; sink.as_slice() == LINES[message as usize]);
+            Err(AllocError)
+        }
+        _ => panic!(rt; "neither a list nor a growth that was refused"),
     }
-    let stopped = refusal(returned);
-    assert!(rt; stopped.is_some_and(|(message, number)| message < 3 && number == 12));
-    if let Some((message, _)) = stopped
-        && let Some(lines) = LINES.get(message as usize)
-    {
-        assert_eq!(rt; sink.as_slice(), lines.as_bytes());
-    }
-    Err(AllocError)
 }

@@ -1,6 +1,5 @@
 //! Streams of many messages, and messages of many segments.
-use crate::program::run;
-use crate::program::tests::{refusal, words};
+use crate::program::tests::{Ended, end_of};
 use std::alloc::{AllocError, Global};
 use std::process::Abort;
 use std::test::*;
@@ -11,14 +10,12 @@ fn assert_prints(
     texts: &[&str],
     input: &[u8],
     output: &[u8],
-) -> Result<(), Fail> {
-    let words = words(rt.alloc(), texts)?;
+) -> Result<(), AllocError> {
     let mut source = input;
     let mut sink = Vec::new(rt.alloc());
-    let returned = run(rt.alloc(), &words, &mut source, &mut sink);
-    assert!(rt; returned.is_ok(), "{texts:?}");
-    assert!(rt; source.is_empty(), "{texts:?}");
-    assert!(rt; sink.as_slice() == output, "{texts:?}");
+    let ended = end_of(rt.alloc(), texts, &mut source, &mut sink)?;
+    let is_whole = ended == Ended::Whole && source.is_empty();
+    assert!(rt; is_whole && sink.as_slice() == output, "{texts:?}");
     Ok(())
 }
 
@@ -35,19 +32,34 @@ fn repeated(alloc: Global, text: &[u8], count: usize) -> Result<Vec<u8>, AllocEr
 fn a_thousand_messages_and_one(rt: HostRuntime) -> Result<(), Fail> {
     let framed = repeated(rt.alloc(), b"\0\0\0\0\x01\0\0\0\0\0\0\0\0\0\0\0", 1001)?;
     let packed = repeated(rt.alloc(), b"\x10\x01\0\0", 1001)?;
-    let mut lines = String::new(rt.alloc());
-    for index in 0..1001u32 {
-        lines.push_str(&format!(in rt.alloc(); "{index} 1 1 1\n")?)?;
-    }
-    let lines = lines.as_bytes();
-    assert_prints(&rt, &["list"], &framed, lines)?;
-    assert_prints(&rt, &["list", "--packed"], &packed, lines)?;
-    assert_prints(&rt, &["list", "--lenient"], &framed, lines)?;
-    assert_prints(&rt, &["list", "--packed", "--lenient"], &packed, lines)?;
+    let lines = thousand_lines(rt.alloc())?;
+    assert_lists(&rt, &framed, &packed, &lines)?;
     assert_prints(&rt, &["pack"], &framed, &packed)?;
     assert_prints(&rt, &["unpack"], &packed, &framed)?;
     assert_prints(&rt, &["canon"], &framed, &framed)?;
-    assert_prints(&rt, &["canon", "--packed"], &packed, &framed)
+    assert_prints(&rt, &["canon", "--packed"], &packed, &framed)?;
+    Ok(())
+}
+
+fn thousand_lines(alloc: Global) -> Result<Vec<u8>, AllocError> {
+    let mut lines = Vec::new(alloc);
+    for index in 0..1001u32 {
+        lines.extend_from_slice(format!(in alloc; "{index} 1 1 1\n")?.as_bytes())?;
+    }
+    Ok(lines)
+}
+
+// What each `list` prints of the same messages.
+fn assert_lists(
+    rt: &(impl Abort + AllocGlobal),
+    framed: &[u8],
+    packed: &[u8],
+    lines: &[u8],
+) -> Result<(), AllocError> {
+    assert_prints(rt, &["list"], framed, lines)?;
+    assert_prints(rt, &["list", "--lenient"], framed, lines)?;
+    assert_prints(rt, &["list", "--packed"], packed, lines)?;
+    assert_prints(rt, &["list", "--packed", "--lenient"], packed, lines)
 }
 
 // A message of a given number of segments, from two on: a root's word, the text "hello world!" after
@@ -78,43 +90,60 @@ const FORM: &[u8] = b"\0\0\0\0\x03\0\0\0\x01\0\0\0\x6a\0\0\0hello world!\0\0\0\0
 fn messages_of_many_segments(rt: HostRuntime) -> Result<(), Fail> {
     for segments in [9, 10, 511] {
         let framed = no_room(rt.alloc(), segments)?;
-        let mut line = format!(in rt.alloc(); "0 {segments} 4 1")?;
-        for _ in 2..segments {
-            line.push_str(" 0")?;
-        }
-        line.push_str(" 3\n")?;
-        assert_prints(&rt, &["list"], &framed, line.as_bytes())?;
-        assert_prints(&rt, &["list", "--lenient"], &framed, line.as_bytes())?;
+        let line = line_of(rt.alloc(), segments)?;
         assert_prints(&rt, &["canon"], &framed, FORM)?;
-        let words = words(rt.alloc(), &["pack"])?;
-        let mut packed = Vec::new(rt.alloc());
-        let mut source = framed.as_slice();
-        let returned = run(rt.alloc(), &words, &mut source, &mut packed);
-        assert!(rt; returned.is_ok(), "{segments} segments");
+        let packed = pack(&rt, &framed)?;
         assert_prints(&rt, &["unpack"], &packed, &framed)?;
-        assert_prints(&rt, &["list", "--packed"], &packed, line.as_bytes())?;
         assert_prints(&rt, &["canon", "--packed"], &packed, FORM)?;
+        assert_lists(&rt, &framed, &packed, &line)?;
     }
     Ok(())
 }
+
+fn line_of(alloc: Global, segments: u32) -> Result<Vec<u8>, AllocError> {
+    let mut line = format!(in alloc; "0 {segments} 4 1")?
+        .as_bytes()
+        .to_vec(alloc)?;
+    for _ in 2..segments {
+        line.extend_from_slice(b" 0")?;
+    }
+    line.extend_from_slice(b" 3\n")?;
+    Ok(line)
+}
+
+// What `pack` writes of a framed message.
+fn pack(rt: &(impl Abort + AllocGlobal), framed: &[u8]) -> Result<Vec<u8>, AllocError> {
+    let mut packed = Vec::new(rt.alloc());
+    let mut source = framed;
+    let ended = end_of(rt.alloc(), &["pack"], &mut source, &mut packed)?;
+    assert!(rt; ended == Ended::Whole);
+    Ok(packed)
+}
+
+// How much of a message of 8,200 words is there where it is cut.
+const CUTS: [usize; 6] = [8, 9, 32776, 65543, 65544, 65607];
 
 // A message of 8,200 words is skipped in two parts and a rest. Where it is cut the run stops.
 #[test]
 fn a_long_message(rt: HostRuntime) -> Result<(), Fail> {
     let mut framed = b"\0\0\0\0\x08\x20\0\0".to_vec(rt.alloc())?;
-    let bytes = vec![in rt.alloc(); 7u8; 65600]?;
-    framed.extend_from_slice(&bytes)?;
+    framed.extend_from_slice(&vec![in rt.alloc(); 7u8; 65600]?)?;
     assert_prints(&rt, &["list"], &framed, b"0 1 8200 8200\n")?;
     assert_prints(&rt, &["list", "--lenient"], &framed, b"0 1 8200 8200\n")?;
-    let words = words(rt.alloc(), &["list"])?;
-    for length in [8, 9, 32776, 65543, 65544, 65607] {
-        let Some(mut source) = framed.get(..length) else {
-            return Err(Fail::new(format_args!("{length} bytes are not there")));
-        };
-        let mut sink = Vec::new(rt.alloc());
-        let returned = run(rt.alloc(), &words, &mut source, &mut sink);
-        assert_eq!(rt; refusal(returned), Some((0, 1)), "of {length} bytes");
-        assert!(rt; sink.is_empty(), "of {length} bytes");
+    for length in &CUTS {
+        list_cut(&rt, framed.get(..*length).unwrap_or(&[]))?;
     }
+    Ok(())
+}
+
+fn list_cut(rt: &(impl Abort + AllocGlobal), framed: &[u8]) -> Result<(), AllocError> {
+    let mut source = framed;
+    let mut sink = Vec::new(rt.alloc());
+    let ended = end_of(rt.alloc(), &["list"], &mut source, &mut sink)?;
+    let length = framed.len();
+    assert!(rt;
+        ended == Ended::At(0, 1) && sink.is_empty(),
+        "of {length} bytes"
+    );
     Ok(())
 }
