@@ -84,7 +84,9 @@ fn write_to(
     assert_holds(rt, is_whole == (at.number > chunks), at);
     assert_calls(rt, sink.failures, u64::from(!is_whole), at);
     assert_calls(rt, sink.calls, at.number.min(chunks), at);
-    assert_bytes(rt, written(&sink), text.get(..end).unwrap_or(&text), at);
+    let written = written(&sink);
+    assert_count(rt, written.len(), end, at);
+    assert_bytes(rt, written, text.get(..end).unwrap_or(&[]), at);
     Ok(())
 }
 
@@ -202,12 +204,10 @@ fn write_into(
     assert_kind(rt, returned, refused, at);
     assert_holds(rt, refused.is_some() || fits == whole, at);
     assert_count(rt, left, room.saturating_sub(fits), at);
-    assert_filled(
-        rt,
-        &space,
-        text_of(rt, segments)?.get(..fits).unwrap_or(&[]),
-        at,
-    );
+    let text = text_of(rt, segments)?;
+    let front = text.get(..fits).unwrap_or(&[]);
+    assert_count(rt, front.len(), fits, at);
+    assert_filled(rt, &space, front, at);
     Ok(())
 }
 
