@@ -243,7 +243,9 @@ fn read_in_order(rt: &impl Abort, text: &[u8], at: At<'_>) -> Result<()> {
     for _ in 0..24 {
         if filled < 24 {
             let count = unpack_some(&mut source, &mut words[filled..])?;
-            assert!(rt; count > 0 && count <= 24 - filled);
+            let is_within = count > 0 && count <= 24 - filled;
+            assert_holds(rt, is_within, at);
+            assert!(rt; is_within);
             filled += count;
         }
     }

@@ -19,6 +19,8 @@ mod chunks;
 mod framing;
 pub mod growths;
 #[cfg(test)]
+mod kept_adapters;
+#[cfg(test)]
 mod large;
 #[cfg(test)]
 mod lengths;

@@ -54,7 +54,7 @@ const NONE: Described = Described {
 };
 
 #[rattlefmt::skip]
-const DESCRIBED: [Described; 14] = [
+const DESCRIBED: [Described; 15] = [
     Described { segments: Some(&SEGMENTS), ..NONE },
     Described { name: "flatten alone", buffer: FLATTEN_ALONE, segments: Some(&SEGMENTS), ..NONE },
     Described { name: "flatten, a byte short", buffer: CUT, ..NONE },
@@ -65,6 +65,7 @@ const DESCRIBED: [Described; 14] = [
     Described { name: "flatten, a table of 8 bytes", table: 8, ..NONE },
     Described { name: "flatten, 16 bytes", total: 16, ..NONE },
     Described { name: "flatten, 40 bytes", total: 40, ..NONE },
+    Described { name: "flatten, 3 segments of 16 bytes", count: 3, total: 16, ..NONE },
     Described {
         name: "one segment",
         buffer: ONE,

@@ -1,0 +1,79 @@
+//! One adapter that is kept through refusals: it goes on as if there had been none.
+use crate::assertions::{At, assert_bytes, assert_calls, assert_count, assert_kind};
+use crate::refusals::kind_of;
+use crate::retried;
+use crate::sinks::FaultySink;
+use crate::sources::{Faulty, Trickle};
+use capnp_frame::io::{Read, Write};
+use capnp_frame::{ErrorKind, Result};
+use capnp_pack::{PackedRead, PackedWrite};
+use std::process::Abort;
+
+// Chunks, and the kind of each one's refusal.
+type Chunk = (&'static [u8], Option<ErrorKind>);
+
+// A part of a word is refused, and then the sink refuses a chunk, which is its second.
+const CHUNKS: [Chunk; 5] = [
+    (&[5, 0, 0, 0, 0, 0, 0, 0], None),
+    (&[1; 7], Some(ErrorKind::NotWholeWords)),
+    (&[6, 0, 0, 0, 0, 0, 0, 0], Some(ErrorKind::DeviceFailed)),
+    (&[7, 0, 0, 0, 0, 0, 0, 0], None),
+    (&[0, 0, 0, 0, 0, 0, 0, 8], None),
+];
+
+#[test]
+fn one_adapter_of_a_sink(rt: HostRuntime) -> Result<()> {
+    retried!(write_chunks(&rt))
+}
+
+fn write_chunks(rt: &(impl Abort + AllocGlobal)) -> Result<()> {
+    let at = At::row("one adapter of a sink");
+    let mut sink = FaultySink::new(Vec::new(rt.alloc()), 2);
+    write_each(rt, &mut PackedWrite::new(&mut sink))?;
+    assert_bytes(rt, sink.written.as_slice(), &[1, 5, 1, 7, 0x80, 8], at);
+    assert_calls(rt, sink.calls, 4, at);
+    Ok(())
+}
+
+fn write_each<W: Write>(rt: &impl Abort, packed: &mut W) -> Result<()> {
+    for (number, (chunk, kind)) in (0..).zip(&CHUNKS) {
+        let returned = kind_of(packed.write_all(*chunk))?;
+        assert_kind(rt, returned, *kind, At::new("a chunk", number));
+    }
+    Ok(())
+}
+
+// How many bytes are asked for, by `read_exact`, the kind of the refusal, and the first byte that is
+// read.
+type Request = (usize, Option<ErrorKind>, u8);
+
+// A part of a word is refused, and then the source fails, at its second call.
+const REQUESTS: [Request; 5] = [
+    (8, None, 5),
+    (7, Some(ErrorKind::NotWholeWords), 0xaa),
+    (8, Some(ErrorKind::DeviceFailed), 0xaa),
+    (8, None, 6),
+    (16, None, 7),
+];
+
+#[test]
+fn one_adapter_of_a_source(rt: HostRuntime) -> Result<()> {
+    let at = At::row("one adapter of a source");
+    let mut source = Faulty::new(Trickle::new(&[1, 5, 1, 6, 1, 7, 1, 8], 24), 2);
+    read_each(&rt, &mut PackedRead::new(&mut source))?;
+    assert_bytes(&rt, source.source.bytes, &[], at);
+    assert_calls(&rt, source.failures, 1, at);
+    Ok(())
+}
+
+fn read_each<R: Read>(rt: &impl Abort, packed: &mut R) -> Result<()> {
+    for (number, &(length, kind, first)) in (0..).zip(&REQUESTS) {
+        let at = At::new("a request", number);
+        let mut words = [0xaa; 16];
+        let returned = kind_of(packed.read_exact(&mut words[..length.min(16)]))?;
+        assert_kind(rt, returned, kind, at);
+        assert_bytes(rt, &words[..1], &[first], at);
+    }
+    assert_count(rt, packed.read(&mut [0; 8])?, 0, At::row("the end"));
+    Ok(())
+}
