@@ -15,6 +15,8 @@ mod hash;
 mod html;
 mod json;
 mod landing;
+#[cfg(test)]
+mod listed_tests;
 mod listing;
 mod markup;
 mod messages;

@@ -28,7 +28,8 @@ fn object(word: u64, shape: Shape) -> Found {
     })
 }
 
-fn expect_text(text: &str, wanted: &str) -> Result<(), Fail> {
+/// Looks whether a text is the one that is wanted.
+pub fn expect_text(text: &str, wanted: &str) -> Result<(), Fail> {
     if text == wanted {
         return Ok(());
     }
@@ -77,6 +78,61 @@ fn shows_nodes_under_each_label(rt: HostRuntime) -> Result<(), Fail> {
         "{\"depth\":10,\"label\":\"element\",\"index\":10,\"kind\":\"struct\",\
 \"data\":9,\"pointers\":10,\"segment\":11,\"word\":12}",
         "element 10: struct, data 9, pointers 10, at 11:12",
+    )
+}
+
+// Kinds of refusals, and what is said of each.
+#[rattlefmt::skip]
+const REFUSED: [(ErrorKind, &str); 12] = [
+    (ErrorKind::FailedToFillTheWholeBuffer,
+     "the input ends within a message (FailedToFillTheWholeBuffer)"),
+    (ErrorKind::InvalidNumberOfSegments(512),
+     "the segment table has a number of segments that is not from 1 to 511 \
+(InvalidNumberOfSegments(512))"),
+    (ErrorKind::MessageEndsPrematurely(10, 9),
+     "the input ends before the message does (MessageEndsPrematurely(10, 9))"),
+    (ErrorKind::MessageTooLarge(18_446_744_073_709_551_615),
+     "the message has more words than --words allows (MessageTooLarge(18446744073709551615))"),
+    (ErrorKind::AllocationTooLarge(536_870_912),
+     "an object is larger than a segment may be (AllocationTooLarge(536870912))"),
+    (ErrorKind::PointerOutOfBounds,
+     "a pointer leads outside of its segment (PointerOutOfBounds)"),
+    (ErrorKind::InvalidSegmentId(0),
+     "a pointer leads to a segment that is not there (InvalidSegmentId(0))"),
+    (ErrorKind::InvalidSegmentId(4_294_967_295),
+     "a pointer leads to a segment that is not there (InvalidSegmentId(4294967295))"),
+    (ErrorKind::NestingLimitExceeded,
+     "objects are nested deeper than --nesting allows (NestingLimitExceeded)"),
+    (ErrorKind::ReadLimitExceeded,
+     "the objects have more words than --words allows (ReadLimitExceeded)"),
+    (ErrorKind::CapabilityRefused, "a pointer leads to a capability (CapabilityRefused)"),
+    (ErrorKind::WrongPointerKind,
+     "a pointer leads to another kind of object (WrongPointerKind)"),
+];
+
+#[test]
+fn shows_nodes_that_are_refused(rt: HostRuntime) -> Result<(), Fail> {
+    for (kind, said) in &REFUSED {
+        expect_refused(rt, *kind, said)?;
+    }
+    Ok(())
+}
+
+fn expect_refused(rt: HostRuntime, kind: ErrorKind, said: &str) -> Result<(), Fail> {
+    let mut json = String::from_str(
+        rt.alloc(),
+        "{\"depth\":10,\"label\":\"root\",\"kind\":\"refused\",\"why\":\"",
+    )?;
+    json.push_str(said)?;
+    json.push_str("\"}")?;
+    let mut line = String::from_str(rt.alloc(), "root: refused, since ")?;
+    line.push_str(said)?;
+    expect(
+        rt,
+        Label::Root,
+        Found::Refused(kind),
+        json.as_str(),
+        line.as_str(),
     )
 }
 

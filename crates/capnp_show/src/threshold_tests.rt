@@ -75,7 +75,9 @@ const MARKED: &[(&str, &str)] = &[
 
 // Arrows by the object's number, the left and the top of the cell where they begin and of the one
 // where they end: straight to the next cell of the row, which is 172 further, and else by four turns.
-// Those side by side lie apart by the number, in 8 colours.
+// Those side by side lie apart by the number, in 8 colours. The fourth, by hand: a cell is 142
+// wide and 26 high, so it begins at 104 + 142 = 246 and 48 + 13 = 61, turns at 246 + 4 + 3 * 3 = 259,
+// at 88 - 3 - 3 * 3 = 76, at 276 - 9 = 267 and at 88 + 13 = 101, and ends at 276 - 2 = 274.
 const ARROWS: &[(u64, [u64; 4], &str)] = &[
     (
         0,
