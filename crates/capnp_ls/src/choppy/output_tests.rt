@@ -47,7 +47,8 @@ enum Fault {
 }
 
 // A sink that collects a given number of bytes, over a device that takes a given number at once, and
-// whose nth write fails, or each flush; where the fault is returned, and what the device has then, where that is known.
+// whose nth write fails, or each flush; where the fault is returned, and what the device has then,
+// where that is known.
 #[derive(Drop)]
 struct Faulty {
     capacity: usize,
