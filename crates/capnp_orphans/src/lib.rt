@@ -13,6 +13,7 @@
 
 mod draft;
 mod draft_source;
+mod drafts;
 pub mod laws;
 mod object;
 mod orphan;
@@ -26,6 +27,7 @@ mod written;
 
 pub use draft::StructDraft;
 pub use draft_source::DraftSource;
+pub use drafts::{Draft, Drafts};
 pub use object::Object;
 pub use orphan::Orphan;
 pub use orphanage::Orphanage;
