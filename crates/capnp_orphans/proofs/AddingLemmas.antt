@@ -8,7 +8,7 @@ use Rattle.capnp_wire.specs.Reached.{Root}
 use Rattle.capnp_wire.proofs.words.WordLemmas.{length-words_of}
 use Rattle.capnp_wire.proofs.words.PutLemmas.{words_split}
 use Rattle.capnp_orphans.specs.Orphans.{link, IsOrphan}
-use Rattle.capnp_orphans.specs.Segments.{Segment, IsSegment, body_of, Appends, AppendsObject, PutsRoot, IsWrittenAfter}
+use Rattle.capnp_orphans.specs.Segments.{Segment, IsSegment, body_of, Appends, AppendsObject, ExceedsMost, PutsRoot, IsWrittenAfter}
 use Rattle.capnp_orphans.specs.Adding.{Keeps, Adds, SetsRoot, AddsRoot}
 use Rattle.capnp_orphans.specs.OrphanLaws.{still_orphan}
 
@@ -30,7 +30,7 @@ length-body_of segment is = omega (arith, length-words_of segment.bytes, length-
 -- all orphans hold what they held
 pub keeps_after : (old new : Segment) (words : ℕ) → IsSegment old → Appends words old new → Keeps old new
 keeps_after old new words is appends word form held h =
-    subst (λ (l : List ℕ). IsOrphan l word form held) (sym (body_after old appends.block new.bytes is appends.bytes_are))
+    subst (λ (l : List ℕ). IsOrphan l word form held) (sym appends.body_is)
     (still_orphan (body_of old) (words_of appends.block) word form held h)
 
 -- a segment that an object is appended to is one
@@ -44,12 +44,14 @@ still_segment old new words is few appends =
 pub sets_root : (old new : Segment) (word : ℕ) → PutsRoot (link word 0) old new → SetsRoot word old new
 sets_root old new word is = record {
   body_is = ap (λ (l : List ℕ). drop 1 l) is.words_are;
+  words_are = is.words_are;
   root_is = λ form held h.
       let whole : link word 0 ∷ (body_of old ++ []) ≡ words_of new.bytes = ap (λ (l : List ℕ). link word 0 ∷ l) (append-nil (body_of old)) ∙ sym is.words_are in
       let there = h.leads (link word 0) [] 0 (omega arith) refl in
       (there.0, subst (λ (l : List ℕ). Root (l ∷ []) form held there.0) whole there.1);
   len = is.len;
   most = is.most;
+  memory = is.memory;
 }
 
 -- what is held then
@@ -62,21 +64,25 @@ adds_one holds words old new word number object is appends same = record {
 
 -- an object is appended
 pub appended : (holds : List ℕ → List ℕ → ℕ → Type 0) (words : ℕ) (old new : Segment) (block : List ℕ) (word : ℕ) → IsSegment old → new.bytes ≡ old.bytes ++ block → length block ≡ 8 * words
-    → new.most ≡ old.most → ((body : List ℕ) → length old.bytes / 8 ≡ 1 + length body → holds body (body ++ words_of block) word) → AppendsObject holds words old new (Ok word)
-appended holds words old new block word is bytes_are len most h = record {
-  appended = record { block = block; len = len; bytes_are = bytes_are };
+    → new.most ≡ old.most → ¬ (ExceedsMost words old) → old.capacity ≤ new.capacity → length new.bytes ≤ new.capacity
+    → ((body : List ℕ) → length old.bytes / 8 ≡ 1 + length body → holds body (body ++ words_of block) word) → AppendsObject holds words old new (Ok word)
+appended holds words old new block word is bytes_are len most room memory held h = record {
+  appended = record { block = block; len = len; bytes_are = bytes_are; body_is = body_after old block new.bytes is bytes_are };
   holds_is = subst (λ (l : List ℕ). holds (body_of old) l word) (sym (body_after old block new.bytes is bytes_are)) (h (body_of old) (length-body_of old is));
   unchanged = tt;
   kind = tt;
   granted = λ room. refl;
+  lacks = room;
   most = most;
+  memory = memory;
+  held = held;
 }
 
 -- to the bytes of a vector, which has grown
-pub vector_appended : (holds : List ℕ → List ℕ → ℕ → Type 0) (words from n m size : ℕ) (old grown seen new : List ℕ) (word : ℕ) → IsSegment (record { bytes = old; most = None }) → from ≡ length old
-    → n ≡ from + 8 * words → m ≡ n - length old → grown ≡ take n old ++ replicate m 0 → seen ≡ grown → size ≡ length seen → IsWrittenAfter from holds word seen new
-    → AppendsObject holds words (record { bytes = old; most = None }) (record { bytes = take size (new ++ drop (length new) grown); most = None }) (Ok word)
-vector_appended holds words from n m size old grown seen new word is from_is n_is m_is grown_is seen_is size_is written =
+pub vector_appended : (holds : List ℕ → List ℕ → ℕ → Type 0) (words from n m size cap more : ℕ) (old grown seen new : List ℕ) (word : ℕ) → IsSegment (record { bytes = old; most = None; capacity = cap })
+    → cap ≤ more → n ≤ more → from ≡ length old → n ≡ from + 8 * words → m ≡ n - length old → grown ≡ take n old ++ replicate m 0 → seen ≡ grown → size ≡ length seen → IsWrittenAfter from holds word seen new
+    → AppendsObject holds words (record { bytes = old; most = None; capacity = cap }) (record { bytes = take size (new ++ drop (length new) grown); most = None; capacity = more }) (Ok word)
+vector_appended holds words from n m size cap more old grown seen new word is grows room from_is n_is m_is grown_is seen_is size_is written =
     let all : take n old ≡ old = take_all n old (omega (arith, n_is, from_is)) in
     let grown_is_2 : grown ≡ old ++ replicate m 0 = grown_is ∙ ap (λ (l : List ℕ). l ++ replicate m 0) all in
     let grown_long : length grown ≡ n = ap (λ (l : List ℕ). length l) grown_is_2 ∙ omega (arith, length-append old (replicate m 0), length-replicate {A = ℕ} m 0, m_is, n_is, from_is) in
@@ -87,14 +93,19 @@ vector_appended holds words from n m size old grown seen new word is from_is n_i
     let whole : new ≡ old ++ written.block = written.bytes_are ∙ ap (λ (l : List ℕ). l ++ written.block) front in
     let kept : take size (new ++ drop (length new) grown) ≡ new = ap (λ (k : ℕ). take k (new ++ drop (length new) grown)) (sym new_long) ∙ take-append_seam new (drop (length new) grown) in
     let len : length written.block ≡ 8 * words = omega (arith, ap (λ (l : List ℕ). length l) whole, length-append old written.block, written.len, seen_long, n_is, from_is) in
-    appended holds words (record { bytes = old; most = None }) (record { bytes = take size (new ++ drop (length new) grown); most = None }) written.block word is (kept ∙ whole) len refl
+    appended holds words (record { bytes = old; most = None; capacity = cap }) (record { bytes = take size (new ++ drop (length new) grown); most = None; capacity = more }) written.block word is (kept ∙ whole) len refl
+    (λ no. no) grows (omega (arith, ap (λ (l : List ℕ). length l) kept, new_long, size_is, seen_long, room))
     (λ body start. written.holds_is body (ap (λ (k : ℕ). k / 8) from_is ∙ start))
+
+-- a region of which the first bytes are used
+abbrev pub grown_region : ℕ → List ℕ → Segment
+grown_region used region = record { bytes = take used region; most = Some (length region); capacity = length region }
 
 -- to the used bytes of a region
 pub region_appended : (holds : List ℕ → List ℕ → ℕ → Type 0) (words used k : ℕ) (old : Segment) (region zeros new : List ℕ) (word : ℕ) → IsSegment old
-    → record { bytes = take used region; most = Some (length region) } ≡ old → used + 8 * words ≤ length region → length zeros ≡ k → k ≡ 8 * words
+    → record { bytes = take used region; most = Some (length region); capacity = length region } ≡ old → used + 8 * words ≤ length region → length zeros ≡ k → k ≡ 8 * words
     → IsWrittenAfter used holds word (take used (take (used + 8 * words) region) ++ (zeros ++ drop k (drop used (take (used + 8 * words) region)))) new
-    → AppendsObject holds words old (record { bytes = take (used + 8 * words) (new ++ drop (used + 8 * words) region); most = Some (length (new ++ drop (used + 8 * words) region)) }) (Ok word)
+    → AppendsObject holds words old (grown_region (used + 8 * words) (new ++ drop (used + 8 * words) region)) (Ok word)
 region_appended holds words used k old region zeros new word is old_is within zeros_long k_is written =
     let end : ℕ = used + 8 * words in
     let part : List ℕ = take (used + 8 * words) region in
@@ -125,19 +136,29 @@ region_appended holds words used k old region zeros new word is old_is within ze
     let len : length written.block ≡ 8 * words = omega (arith, ap (λ (l : List ℕ). length l) whole, length-append old.bytes written.block, new_long, used_long) in
     let all_long : length (new ++ drop (used + 8 * words) region) ≡ length region =
     omega (arith, length-append new (drop (used + 8 * words) region), length-drop (used + 8 * words) region, new_long, within) in
-    appended holds words old (record { bytes = take (used + 8 * words) (new ++ drop (used + 8 * words) region); most = Some (length (new ++ drop (used + 8 * words) region)) }) written.block word is (kept ∙ whole) len
-    (ap (λ (n : ℕ). Some n) all_long ∙ ap (λ (s : Segment). s.most) old_is)
+    let capacity_is : old.capacity ≡ length region = sym (ap (λ (s : Segment). s.capacity) old_is) in
+    let room : ¬ (ExceedsMost words old) = subst (λ (s : Segment). ¬ (ExceedsMost words s)) old_is (λ no. absurd (omega (arith, no, within, length-take used region))) in
+    appended holds words old (grown_region (used + 8 * words) (new ++ drop (used + 8 * words) region)) written.block word is (kept ∙ whole) len
+    (ap (λ (n : ℕ). Some n) all_long ∙ ap (λ (s : Segment). s.most) old_is) room (omega (arith, capacity_is, all_long))
+    (omega (arith, ap (λ (l : List ℕ). length l) kept, new_long, all_long, within))
     (λ body start. written.holds_is body (ap (λ (n : ℕ). n / 8) (sym used_long) ∙ start))
 
 -- what is added becomes the root
 pub adds_root : (takes : ℕ → Type 0) (holds : List ℕ → ℕ → Type 0) (old between new : Segment) (word : ℕ) → Keeps old between → holds (body_of between) word
-    → ((words : ℕ) × takes words × Appends words old between) → between.most ≡ old.most → SetsRoot word between new → AddsRoot takes holds old new (Ok tt)
-adds_root takes holds old between new word keeps held long most sets = record {
+    → ((words : ℕ) × takes words × Appends words old between) → between.most ≡ old.most → old.capacity ≤ between.capacity → length between.bytes ≤ between.capacity → SetsRoot word between new
+    → AddsRoot takes holds old new (Ok tt)
+adds_root takes holds old between new word keeps held long most memory filled sets = record {
   keeps = λ w form inner h. subst (λ (l : List ℕ). IsOrphan l w form inner) (sym sets.body_is) (keeps w form inner h);
   root_is = (
     word,
     subst (λ (l : List ℕ). holds l word) (sym sets.body_is) held,
     λ form inner h. sets.root_is form inner (subst (λ (l : List ℕ). IsOrphan l word form inner) sets.body_is h),
+    sets.words_are ∙ ap (λ (l : List ℕ). link word 0 ∷ l) (sym sets.body_is),
+  );
+  appended = (
+    long.0,
+    long.1,
+    (words_of long.2.block, omega (arith, length-words_of long.2.block, long.2.len), sets.body_is ∙ long.2.body_is),
   );
   long = (
     long.0,
@@ -146,4 +167,6 @@ adds_root takes holds old between new word keeps held long most sets = record {
   );
   unchanged = tt;
   most = sets.most ∙ most;
+  memory = omega (arith, memory, sets.memory);
+  held = omega (arith, filled, sets.memory, sets.len);
 }

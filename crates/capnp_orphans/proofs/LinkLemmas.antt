@@ -1,5 +1,5 @@
 -- Pointers to orphans: what is read where they stand.
-use Rattle.std.proofs.Common.{◌≡◌, ℕ, zero, suc, ◌+◌, ◌-◌, ◌*◌, ◌/◌, ◌%◌, ◌^◌, ◌<◌, ◌≤◌, List, [], ◌∷◌, ◌++◌, length, map, Some, None, Option, slice_index_or, slice_get, refl, ◌∙◌, ap, arith}
+use Rattle.std.proofs.Common.{◌≡◌, ℕ, zero, suc, ◌+◌, ◌-◌, ◌*◌, ◌/◌, ◌%◌, ◌^◌, ◌<◌, ◌≤◌, List, [], ◌∷◌, ◌++◌, length, Some, None, Option, slice_get, refl, ◌∙◌, ap, arith}
 use Rattle.capnp_wire.specs.Tree.{Form, null, struct, numbers, pointers, structs}
 use Rattle.capnp_wire.specs.Object.{is_null}
 use Rattle.capnp_wire.specs.Layout.{pointer, struct_pointer, list_pointer, minus_one, own, HasRoom}
@@ -87,11 +87,6 @@ links_get (word ∷ words) place zero x is =
     let same : word ≡ x = cc in
     ap (λ (w : ℕ). Some (link w place)) same ∙ ap (λ (n : ℕ). Some (link x n)) (omega arith)
 links_get (word ∷ words) place (suc i) x is = links_get words (place + 1) i x is ∙ ap (λ (n : ℕ). Some (link x n)) (omega arith)
-
-pub get_map : {A : Type 0} (f : A → ℕ) (xs : List A) (i : ℕ) (d : A) → i < length xs → slice_get (map f xs) i ≡ Some (f (slice_index_or xs i d))
-get_map f [] i d within = absurd (omega (arith, within))
-get_map f (x ∷ xs) zero d within = refl
-get_map f (x ∷ xs) (suc i) d within = get_map f xs i d (omega arith)
 
 pub length-links_at : (words : List ℕ) (place : ℕ) → length (links words place) ≡ length words
 length-links_at [] place = refl

@@ -1,6 +1,7 @@
 -- An object that holds orphans, and is written after them, is one orphan more.
-use Rattle.std.proofs.Common.{◌≡◌, ℕ, zero, suc, ◌+◌, ◌^◌, ◌<◌, ◌≤◌, List, [], ◌∷◌, ◌++◌, length, Some, None, Option, slice_get, refl, sym, ◌∙◌, ap, subst, arith, append_assoc}
+use Rattle.std.proofs.Common.{◌≡◌, ℕ, ◌+◌, ◌^◌, ◌<◌, ◌≤◌, List, [], ◌∷◌, ◌++◌, length, Some, slice_get, refl, sym, ◌∙◌, ap, subst, arith, append_assoc}
 use Rattle.std.specs.Prelude.{All}
+use Rattle.std.proofs.lemmas.Option.{slice_get_within}
 use Rattle.capnp_wire.specs.Tree.{Form, null, struct, pointers, Trees, none, tree, count, total_words, own_words}
 use Rattle.capnp_wire.specs.Object.{PointsTo, is_null, places}
 use Rattle.capnp_wire.specs.Reached.{At, nowhere, at}
@@ -32,18 +33,13 @@ orphans_stand first body more (word ∷ words) (tree form held rest) place are r
     (one.0 + rest_too.0, at_both ((first ∷ (body ++ more)) ∷ []) (record { segment = 0; word = place } ∷ []) (places 0 (place + 1) (length words)) (tree form held none) rest one.0 rest_too.0 one.1 rest_too.1)
 
 -- the words that were appended to a segment
-pub appended : (first : ℕ) (body own_words more : List ℕ) (start : ℕ) → start ≡ 1 + length body → Holds (first ∷ ((body ++ own_words) ++ more)) start own_words
-appended first body own_words more start is = record {
+pub words_appended : (first : ℕ) (body own_words more : List ℕ) (start : ℕ) → start ≡ 1 + length body → Holds (first ∷ ((body ++ own_words) ++ more)) start own_words
+words_appended first body own_words more start is = record {
   front = first ∷ body;
   rest = more;
   parts = ap (λ (l : List ℕ). first ∷ l) (append_assoc body own_words more);
   begins = omega (arith, is);
 }
-
-pub get_within : (xs : List ℕ) (i x : ℕ) → slice_get xs i ≡ Some x → i < length xs
-get_within [] i x is = absurd (let no : ◌≡◌ {A = Option ℕ} None (Some x) = is in cc)
-get_within (y ∷ xs) zero x is = omega arith
-get_within (y ∷ xs) (suc i) x is = omega (arith, get_within xs i x is)
 
 -- a struct of some words that holds orphans is one orphan more
 pub struct_is_orphan : (body words ps : List ℕ) (held : Trees) (start : ℕ) → start ≡ 1 + length body → length words < 2 ^ 16 → length ps < 2 ^ 16 → All (λ w. w < 2 ^ 64) words
@@ -54,10 +50,10 @@ struct_is_orphan body words ps held start is few_words few_pointers all room are
       let ls : List ℕ = links ps (start + length words) in
       let segment : List ℕ = first ∷ ((body ++ (words ++ links ps (start + length words))) ++ more) in
       let long : length (links ps (start + length words)) ≡ length ps = length-links_at ps (start + length words) in
-      let there : Holds segment start (words ++ ls) = appended first body (words ++ ls) more start is in
+      let there : Holds segment start (words ++ ls) = words_appended first body (words ++ ls) more start is in
       let stand' : slice_get segment place ≡ Some (link (pointer (struct words) (length ls) start) place) =
       subst (λ (n : ℕ). slice_get segment place ≡ Some (link (pointer (struct words) n start) place)) (sym long) stand in
-      let read = read_link segment place start (struct words) ls low (omega arith) (omega (arith, get_within segment place _ stand)) (few_words, subst (λ (n : ℕ). n < 2 ^ 16) (sym long) few_pointers, all) stand' there in
+      let read = read_link segment place start (struct words) ls low (omega arith) (omega (arith, slice_get_within segment place _ stand)) (few_words, subst (λ (n : ℕ). n < 2 ^ 16) (sym long) few_pointers, all) stand' there in
       let own_links : Holds segment (start + length words) ls = holds_right segment start (length words) words ls refl there in
       let onward : segment ≡ first ∷ (body ++ ((words ++ ls) ++ more)) = ap (λ (l : List ℕ). first ∷ l) (append_assoc body (words ++ ls) more) in
       let held_there = orphans_stand first body ((words ++ ls) ++ more) ps held (start + length words) are (omega arith)
@@ -77,10 +73,10 @@ pointers_are_orphan body words held start is room are = record {
       let ls : List ℕ = links words start in
       let segment : List ℕ = first ∷ ((body ++ links words start) ++ more) in
       let long : length (links words start) ≡ length words = length-links_at words start in
-      let there : Holds segment start ls = appended first body ls more start is in
+      let there : Holds segment start ls = words_appended first body ls more start is in
       let stand' : slice_get segment place ≡ Some (link (pointer pointers (length ls) start) place) =
       subst (λ (n : ℕ). slice_get segment place ≡ Some (link (pointer pointers n start) place)) (sym long) stand in
-      let read = read_link segment place start pointers ls low (omega arith) (omega (arith, get_within segment place _ stand)) (omega (arith, long, room)) stand' there in
+      let read = read_link segment place start pointers ls low (omega arith) (omega (arith, slice_get_within segment place _ stand)) (omega (arith, long, room)) stand' there in
       let onward : segment ≡ first ∷ (body ++ (ls ++ more)) = ap (λ (l : List ℕ). first ∷ l) (append_assoc body ls more) in
       let held_there = orphans_stand first body (ls ++ more) words held start are (omega arith) (subst (λ (l : List ℕ). Holds l start ls) onward there) in
       let held_here : At (segment ∷ []) (places 0 start (length words)) held held_there.0 =
@@ -96,7 +92,7 @@ pub value_is_orphan : (body : List ℕ) (form : Form) (held : Trees) (start : �
 value_is_orphan body form held start is rooms room = record {
   leads = λ first more place low stand.
       let segment : List ℕ = first ∷ ((body ++ body_of (tree form held none)) ++ more) in
-      let there : Holds segment start (body_of (tree form held none)) = appended first body (body_of (tree form held none)) more start is in
+      let there : Holds segment start (body_of (tree form held none)) = words_appended first body (body_of (tree form held none)) more start is in
       let long : length (links_of form held) ≡ count held = length-links form held rooms.0 in
       let own_long : length (own form (links_of form held)) ≡ own_words form (count held) = length-own_of form held rooms.0 in
       let front : Holds segment start (own form (links_of form held) ++ body_of held) = holds_left segment start (own form (links_of form held) ++ body_of held) (body_of none) there in
@@ -104,7 +100,7 @@ value_is_orphan body form held start is rooms room = record {
       let inner_there : Holds segment (start + own_words form (count held)) (body_of held) = holds_right segment start (own_words form (count held)) (own form (links_of form held)) (body_of held) own_long front in
       let stand' : slice_get segment place ≡ Some (link (pointer form (length (links_of form held)) start) place) =
       subst (λ (n : ℕ). slice_get segment place ≡ Some (link (pointer form n start) place)) (sym long) stand in
-      let read = read_link segment place start form (links_of form held) low (omega arith) (omega (arith, get_within segment place _ stand)) (subst (λ (n : ℕ). HasRoom form n) (sym long) rooms.0) stand' own_there in
+      let read = read_link segment place start form (links_of form held) low (omega arith) (omega (arith, slice_get_within segment place _ stand)) (subst (λ (n : ℕ). HasRoom form n) (sym long) rooms.0) stand' own_there in
       let linked : Linked segment start (slots form (count held)) (links_of form held) = subst (λ (n : ℕ). Linked segment start (slots form n) (links_of form held)) long read.linked in
       let object : PointsTo (segment ∷ []) (record { segment = 0; word = place }) (record { form = form; held = placed 0 start (slots form (count held)); traversed = read.traversed }) =
       subst (λ (n : ℕ). PointsTo (segment ∷ []) (record { segment = 0; word = place }) (record { form = form; held = placed 0 start (slots form n); traversed = read.traversed })) long read.object in

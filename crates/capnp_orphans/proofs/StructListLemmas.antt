@@ -1,7 +1,8 @@
 -- Lists of structs that hold orphans.
 use Rattle.std.proofs.Common.{◌≡◌, ℕ, suc, ◌+◌, ◌*◌, ◌^◌, ◌<◌, ◌≤◌, List, [], ◌∷◌, ◌++◌, length, take, drop, Some, slice_get, slice_index_or, refl, sym, ◌∙◌, ap, subst, arith, append_assoc, length-append}
 use Rattle.std.specs.Prelude.{All}
-use Rattle.std.proofs.lemmas.List.{append-nil, length-take, take_all}
+use Rattle.std.proofs.lemmas.List.{append-nil, length-take, take_all, take_more}
+use Rattle.std.proofs.lemmas.Option.{slice_get_within}
 use Rattle.std.proofs.lemmas.List.Elements.{All-nil, All-cons}
 use Rattle.std.proofs.Math.Seq.{take-append_seam, drop-append_seam}
 use Rattle.capnp_wire.specs.Pointer.{words_of}
@@ -21,9 +22,8 @@ use Rattle.capnp_values.proofs.SectionLemmas.{data_put}
 use Rattle.capnp_orphans.specs.declared.draft.StructDraft.{StructDraft}
 use Rattle.capnp_orphans.specs.Orphans.{link, links, IsOrphan, AreOrphans}
 use Rattle.capnp_orphans.specs.Held.{rows_of, adopted_by, elements, AreSized}
-use Rattle.capnp_orphans.specs.OrphanLaws.{take_next}
 use Rattle.capnp_orphans.proofs.LinkLemmas.{length-links_at, read_link}
-use Rattle.capnp_orphans.proofs.OrphanLemmas.{orphans_stand, appended, get_within}
+use Rattle.capnp_orphans.proofs.OrphanLemmas.{orphans_stand, words_appended}
 
 pub length-rows_of : {T : Type 0} {D P : ℕ} (xs : List (StructDraft T D P)) → length (rows_of xs) ≡ length xs
 length-rows_of [] = refl
@@ -65,7 +65,7 @@ sized_append (y ∷ xs) x sized words pointers small = (sized.0, sized_append xs
 pub sized_more : {T : Type 0} {D P : ℕ} (xs : List (StructDraft T D P)) (i : ℕ) (x : StructDraft T D P) → i < length xs → x ≡ slice_index_or xs i x → AreSized (take i xs) → length x.words ≡ D
     → length x.pointers ≡ P → All (λ w. w < 2 ^ 64) x.words → AreSized (take (i + 1) xs)
 sized_more {T} {D} {P} xs i x within is sized words pointers small =
-    let whole : take (i + 1) xs ≡ take i xs ++ x ∷ [] = take_next xs i x within ∙ ap (λ (y : StructDraft T D P). take i xs ++ y ∷ []) (sym is) in
+    let whole : take (i + 1) xs ≡ take i xs ++ x ∷ [] = take_more xs i x within ∙ ap (λ (y : StructDraft T D P). take i xs ++ y ∷ []) (sym is) in
     subst (λ (l : List (StructDraft T D P)). AreSized l) (sym whole) (sized_append (take i xs) x sized words pointers small)
 
 pub all_sized : {T : Type 0} {D P : ℕ} (xs : List (StructDraft T D P)) (i : ℕ) → length xs ≤ i → AreSized (take i xs) → AreSized xs
@@ -84,7 +84,7 @@ element_put {T} {D} {P} xs i from k place x block part old within at_is x_is siz
     length-elements (take i xs) place sized ∙ ap (λ (n : ℕ). n * (D + P)) front_many ∙ sym at_is in
     let past : 0 + length (elements (take i xs) place) ≡ from = omega (arith, front_long) in
     let all : elements (take (i + 1) xs) place ≡ elements (take i xs) place ++ words =
-    ap (λ (l : List (StructDraft T D P)). elements l place) (take_next xs i x within)
+    ap (λ (l : List (StructDraft T D P)). elements l place) (take_more xs i x within)
     ∙ ap (λ (y : StructDraft T D P). elements (take i xs ++ y ∷ []) place) (sym x_is)
     ∙ elements_more (take i xs) x place
     ∙ ap (λ (n : ℕ). elements (take i xs) place ++ (x.words ++ links x.pointers (place + n + D))) (ap (λ (n : ℕ). n * (D + P)) front_many ∙ sym at_is) in
@@ -177,7 +177,7 @@ structs_are_orphan {T} {D} {P} body xs held start is few_words few_pointers many
       let segment : List ℕ = first ∷ ((body ++ (struct_pointer (length xs) D P ∷ elements xs (start + 1))) ++ more) in
       let rows_many : length (rows_of xs) ≡ length xs = length-rows_of xs in
       let long : length (element_links xs (start + 1)) ≡ length xs * P = length-element_links xs (start + 1) sized in
-      let there : Holds segment start own_words = appended first body own_words more start is in
+      let there : Holds segment start own_words = words_appended first body own_words more start is in
       let own_is : struct_pointer (length xs) D P ∷ elements xs (start + 1) ≡ struct_pointer (length (rows_of xs)) D P ∷ woven P (rows_of xs) (element_links xs (start + 1)) =
       ap (λ (l : List ℕ). struct_pointer (length xs) D P ∷ l) (elements_woven xs (start + 1) sized)
       ∙ ap (λ (n : ℕ). struct_pointer n D P ∷ woven P (rows_of xs) (element_links xs (start + 1))) (sym rows_many) in
@@ -185,7 +185,7 @@ structs_are_orphan {T} {D} {P} body xs held start is few_words few_pointers many
       subst (λ (n : ℕ). slice_get segment place ≡ Some (link (list_pointer start 7 (n * (D + P))) place)) (sym rows_many) stand in
       let size_is : length (rows_of xs) * (D + P) ≡ length xs * (D + P) = ap (λ (n : ℕ). n * (D + P)) rows_many in
       let held_many : length (element_links xs (start + 1)) ≡ length (rows_of xs) * P = long ∙ ap (λ (n : ℕ). n * P) (sym rows_many) in
-      let read = read_link segment place start (structs D P rows) ls low (omega (arith, room)) (omega (arith, get_within segment place _ stand))
+      let read = read_link segment place start (structs D P rows) ls low (omega (arith, room)) (omega (arith, slice_get_within segment place _ stand))
       (few_words, few_pointers, omega (arith, rows_many, many), omega (arith, size_is, room), held_many, rows_fit xs sized) stand' (holds_same segment start own_words _ own_is there) in
       let onward : segment ≡ first ∷ (body ++ (own_words ++ more)) = ap (λ (l : List ℕ). first ∷ l) (append_assoc body own_words more) in
       let rest : Holds segment (start + 1) (elements xs (start + 1)) = holds_right segment start 1 (struct_pointer (length xs) D P ∷ []) (elements xs (start + 1)) refl there in

@@ -95,28 +95,42 @@ value_held has_tree body block start words w number v is room moved =
 pub struct_held : (body words adopted block : List ℕ) (start d p w : ℕ) → start ≡ 1 + length body → length words ≡ d → length adopted ≡ p → d < 2 ^ 16 → p < 2 ^ 16 → All (λ x. x < 2 ^ 64) words
     → start + d + p < 2 ^ 29 → words_of block ≡ words ++ links adopted (start + length words) → w ≡ struct_pointer (if d + p == 0 then minus_one else start) d p
     → HoldsStruct body words adopted (body ++ words_of block) w
-struct_held body words adopted block start d p w is words_long adopted_long few_words few_pointers all room block_is word_is held are =
+struct_held body words adopted block start d p w is words_long adopted_long few_words few_pointers all room block_is word_is =
     let own_is : w ≡ pointer (struct words) (length adopted) start =
     word_is ∙ ap (λ (n : ℕ). struct_pointer (if n + p == 0 then minus_one else start) n p) (sym words_long)
     ∙ ap (λ (n : ℕ). struct_pointer (if length words + n == 0 then minus_one else start) (length words) n) (sym adopted_long) in
-    subst (λ (x : ℕ). IsOrphan (body ++ words_of block) x (struct words) held) (sym own_is)
-    (subst (λ (l : List ℕ). IsOrphan (body ++ l) (pointer (struct words) (length adopted) start) (struct words) held) (sym block_is)
-    (struct_is_orphan body words adopted held start is (omega (arith, words_long, few_words)) (omega (arith, adopted_long, few_pointers)) all (omega (arith, words_long, adopted_long, room)) are))
+    record {
+      tree_is = λ held are.
+          subst (λ (x : ℕ). IsOrphan (body ++ words_of block) x (struct words) held) (sym own_is)
+          (subst (λ (l : List ℕ). IsOrphan (body ++ l) (pointer (struct words) (length adopted) start) (struct words) held) (sym block_is)
+          (struct_is_orphan body words adopted held start is (omega (arith, words_long, few_words)) (omega (arith, adopted_long, few_pointers)) all (omega (arith, words_long, adopted_long, room)) are));
+      words_are = ap (λ (l : List ℕ). body ++ l) block_is ∙ ap (λ (n : ℕ). body ++ (words ++ links adopted (n + length words))) is;
+      word_is = own_is ∙ ap (λ (n : ℕ). pointer (struct words) (length adopted) n) is;
+    }
 
 -- a list of pointers
 pub pointers_held : (body words block : List ℕ) (start n w : ℕ) → start ≡ 1 + length body → length words ≡ n → start + n < 2 ^ 29 → words_of block ≡ links words start
     → w ≡ list_pointer start 6 n → HoldsPointers body words (body ++ words_of block) w
-pointers_held body words block start n w is long room block_is word_is held are =
+pointers_held body words block start n w is long room block_is word_is =
     let own_is : w ≡ pointer pointers (length words) start = word_is ∙ ap (λ (k : ℕ). list_pointer start 6 k) (sym long) in
-    subst (λ (x : ℕ). IsOrphan (body ++ words_of block) x pointers held) (sym own_is)
-    (subst (λ (l : List ℕ). IsOrphan (body ++ l) (pointer pointers (length words) start) pointers held) (sym block_is)
-    (pointers_are_orphan body words held start is (omega (arith, long, room)) are))
+    record {
+      tree_is = λ held are.
+          subst (λ (x : ℕ). IsOrphan (body ++ words_of block) x pointers held) (sym own_is)
+          (subst (λ (l : List ℕ). IsOrphan (body ++ l) (pointer pointers (length words) start) pointers held) (sym block_is)
+          (pointers_are_orphan body words held start is (omega (arith, long, room)) are));
+      words_are = ap (λ (l : List ℕ). body ++ l) block_is ∙ ap (λ (n : ℕ). body ++ links words n) is;
+      word_is = own_is ∙ ap (λ (n : ℕ). list_pointer n 6 (length words)) is;
+    }
 
 -- a list of structs
 pub structs_held : {T : Type 0} {D P : ℕ} (body block : List ℕ) (xs : List (StructDraft T D P)) (start w : ℕ) → start ≡ 1 + length body → D < 2 ^ 16 → P < 2 ^ 16 → length xs < 2 ^ 29
     → start + 1 + length xs * (D + P) < 2 ^ 29 → AreSized xs → words_of block ≡ struct_pointer (length xs) D P ∷ elements xs (start + 1) → w ≡ list_pointer start 7 (length xs * (D + P))
     → HoldsStructs body xs (body ++ words_of block) w
-structs_held {T} {D} {P} body block xs start w is few_words few_pointers many room sized block_is word_is held are =
-    subst (λ (x : ℕ). IsOrphan (body ++ words_of block) x (structs D P (rows_of xs)) held) (sym word_is)
-    (subst (λ (l : List ℕ). IsOrphan (body ++ l) (list_pointer start 7 (length xs * (D + P))) (structs D P (rows_of xs)) held) (sym block_is)
-    (structs_are_orphan body xs held start is few_words few_pointers many room sized are))
+structs_held {T} {D} {P} body block xs start w is few_words few_pointers many room sized block_is word_is = record {
+  tree_is = λ held are.
+      subst (λ (x : ℕ). IsOrphan (body ++ words_of block) x (structs D P (rows_of xs)) held) (sym word_is)
+      (subst (λ (l : List ℕ). IsOrphan (body ++ l) (list_pointer start 7 (length xs * (D + P))) (structs D P (rows_of xs)) held) (sym block_is)
+      (structs_are_orphan body xs held start is few_words few_pointers many room sized are));
+  words_are = ap (λ (l : List ℕ). body ++ l) block_is ∙ ap (λ (n : ℕ). body ++ (struct_pointer (length xs) D P ∷ elements xs n)) (omega (arith, is));
+  word_is = word_is ∙ ap (λ (n : ℕ). list_pointer n 7 (length xs * (D + P))) is;
+}

@@ -1,15 +1,16 @@
 -- What the calls keep that write objects (src/orphanage.rt). In each record `old` and `new` are the segment before the call and
 -- after it.
-use Rattle.std.specs.Prelude.{◌≡◌, ◌⊎◌, ℕ, ◌+◌, ◌*◌, ◌/◌, ◌^◌, ◌<◌, ◌≤◌, [], ◌∷◌, List, length, Result, IfOk, IfErr, IsOk, OnOk, OnErr}
+use Rattle.std.specs.Prelude.{◌≡◌, ◌⊎◌, ℕ, ◌+◌, ◌*◌, ◌/◌, ◌^◌, ◌<◌, ◌≤◌, [], ◌∷◌, ◌++◌, List, length, Result, IfOk, IfErr, IsOk, OnOk, OnErr}
 use Rattle.std.specs.Result.{IsErrAnd}
 use Rattle.capnp_frame.specs.declared.error.Error.{Error}
 use Rattle.capnp_frame.specs.declared.error.ErrorKind.{ErrorKind}
 use Rattle.capnp_frame.specs.declared.error.ErrorKind.TheVariants.{AllocationTooLarge}
+use Rattle.capnp_wire.specs.Pointer.{words_of}
 use Rattle.capnp_wire.specs.Object.{message_of}
 use Rattle.capnp_wire.specs.Tree.{Form, Trees}
 use Rattle.capnp_wire.specs.Reached.{Root}
-use Rattle.capnp_orphans.specs.Orphans.{IsOrphan}
-use Rattle.capnp_orphans.specs.Segments.{Segment, body_of, Appends, GrantsWords, RefusesWords}
+use Rattle.capnp_orphans.specs.Orphans.{link, IsOrphan}
+use Rattle.capnp_orphans.specs.Segments.{Segment, body_of, Appends, GrantsWords, ExceedsMost, RefusesWords}
 
 -- what was an orphan of a tree, is one still
 abbrev pub Keeps : Segment → Segment → Type 0
@@ -22,10 +23,14 @@ pub record Adds {T : Type 0} (holds : List ℕ → ℕ → Type 0) (old new : Se
   -- what the new one holds
   pub orphan : IfOk result (λ object. holds (body_of new) (word object))
 
--- there is no room for a given number of words: a segment has fewer than 2 ^ 29, and may be full, or memory is refused
+-- there is no room for a given number of words: a segment has fewer than 2 ^ 29; with them it would, but there is no memory for them
 abbrev pub LacksRoom : ℕ → Segment → ErrorKind → Type 0
 LacksRoom words segment kind = ((2 ^ 29 ≤ length segment.bytes / 8 + words) × (kind ≡ AllocationTooLarge words))
-    ⊎ RefusesWords words segment kind
+    ⊎ ((length segment.bytes / 8 + words < 2 ^ 29) × RefusesWords words segment kind)
+
+-- there is none for sure: a segment has fewer than 2 ^ 29 words, and a region no more than it has
+abbrev pub IsFull : ℕ → Segment → Type 0
+IsFull words segment = (2 ^ 29 ≤ length segment.bytes / 8 + words) ⊎ ExceedsMost words segment
 
 -- there is for sure
 abbrev pub HasRoom : ℕ → Segment → Type 0
@@ -37,8 +42,10 @@ pub record Fails {T : Type 0} (takes : ℕ → Type 0) (refuses : ErrorKind → 
   pub kind : IfErr result (λ error. refuses error.kind ⊎ ((words : ℕ) × takes words × LacksRoom words old error.kind))
   -- what is refused is not written
   pub exact : (kind : ErrorKind) → refuses kind → IsErrAnd result (λ error. error.kind ≡ kind)
-  -- an object is written where there is room
+  -- an object is written where there is room in the memory that is there
   pub fits : (words : ℕ) → takes words → HasRoom words old → IsOk result
+  -- it is refused by its words where there can be none
+  pub full : (words : ℕ) → takes words → IsFull words old → IsErrAnd result (λ error. error.kind ≡ AllocationTooLarge words)
 
 -- What one call writes that adds an object.
 pub record Writes {T : Type 0} (takes : ℕ → Type 0) (refuses : ErrorKind → Type 0) (old new : Segment) (result : Result T Error) : Type 0 where
@@ -48,26 +55,37 @@ pub record Writes {T : Type 0} (takes : ℕ → Type 0) (refuses : ErrorKind →
   pub unchanged : OnErr result (new ≡ old)
   pub fails : Fails takes refuses old result
   pub most : new.most ≡ old.most
+  -- the memory that is there stays, and holds the bytes
+  pub memory : old.capacity ≤ new.capacity
+  pub held : OnOk result (length new.bytes ≤ new.capacity)
 
 -- What setting the root to an orphan keeps: to that of a given word.
 pub record SetsRoot (word : ℕ) (old new : Segment) : Type 0 where
   -- all words stay but the root's, so all orphans hold what they held
   pub body_is : body_of new ≡ body_of old
+  -- the root's word is the pointer to the orphan, whatever that holds
+  pub words_are : words_of new.bytes ≡ link word 0 ∷ body_of old
   -- the root is the orphan's tree
   pub root_is : (form : Form) (held : Trees) → IsOrphan (body_of old) word form held
       → (traversed : ℕ) × Root (message_of (new.bytes ∷ [])) form held traversed
   pub len : length new.bytes ≡ length old.bytes
   pub most : new.most ≡ old.most
+  pub memory : new.capacity ≡ old.capacity
 
 -- What adding an object as the root keeps, of the words that `takes` says.
 pub record AddsRoot (takes : ℕ → Type 0) (holds : List ℕ → ℕ → Type 0) (old new : Segment) (result : Result (Unit {0}) Error) : Type 0 where
   -- all orphans hold what they held, also after a failure
   pub keeps : Keeps old new
-  -- the root is the tree of an orphan of which this holds
+  -- the root is the tree of an orphan of which this holds, and its word the pointer to it, whatever that holds
   pub root_is : OnOk result ((word : ℕ) × holds (body_of new) word
-      × ((form : Form) (held : Trees) → IsOrphan (body_of new) word form held → (traversed : ℕ) × Root (message_of (new.bytes ∷ [])) form held traversed))
-  -- just the object's words are appended
+      × ((form : Form) (held : Trees) → IsOrphan (body_of new) word form held → (traversed : ℕ) × Root (message_of (new.bytes ∷ [])) form held traversed)
+      × (words_of new.bytes ≡ link word 0 ∷ body_of new))
+  -- just the object's words are appended, and of the others only the root's may change
+  pub appended : OnOk result ((words : ℕ) × takes words × ((block : List ℕ) × (length block ≡ words) × (body_of new ≡ body_of old ++ block)))
   pub long : OnOk result ((words : ℕ) × takes words × (length new.bytes ≡ length old.bytes + 8 * words))
   -- after a failure nothing has changed, and the root is as it was
   pub unchanged : OnErr result (new ≡ old)
   pub most : new.most ≡ old.most
+  -- the memory that is there stays, and holds the bytes
+  pub memory : old.capacity ≤ new.capacity
+  pub held : OnOk result (length new.bytes ≤ new.capacity)

@@ -1,9 +1,10 @@
 -- What orphans hold (src/draft.rt, src/orphanage.rt). In each fact `body` is the body of the segment, `old` the body before the
 -- orphan was written, and `word` the orphan's.
-use Rattle.std.specs.Prelude.{◌≡◌, ◌⊎◌, ⊤, ℕ, ◌+◌, ◌*◌, ◌^◌, ◌<◌, ◌≤◌, List, [], ◌∷◌, ◌++◌, length, All}
+use Rattle.std.specs.Prelude.{◌≡◌, ◌⊎◌, ⊤, ℕ, ◌+◌, ◌-◌, ◌*◌, ◌^◌, ◌<◌, ◌≤◌, min, List, [], ◌∷◌, ◌++◌, length, All}
 use Rattle.capnp_frame.specs.declared.error.ErrorKind.{ErrorKind}
 use Rattle.capnp_frame.specs.declared.error.ErrorKind.TheVariants.{AllocationTooLarge}
 use Rattle.capnp_wire.specs.Tree.{Form, struct, structs, pointers, Trees, none, tree}
+use Rattle.capnp_wire.specs.Layout.{pointer, struct_pointer, list_pointer}
 use Rattle.capnp_orphans.specs.declared.orphan.Orphan.{Orphan}
 use Rattle.capnp_orphans.specs.declared.draft.StructDraft.{StructDraft}
 use Rattle.capnp_orphans.specs.Orphans.{links, IsOrphan, AreOrphans}
@@ -15,13 +16,21 @@ word_of orphan = orphan.word
 abbrev pub HoldsValue : (Trees → Type 0) → List ℕ → ℕ → Type 0
 HoldsValue has_tree body word = (form : Form) × (held : Trees) × has_tree (tree form held none) × IsOrphan body word form held
 
--- it is a struct of these data words, which holds what the orphans are that it has adopted
-abbrev pub HoldsStruct : List ℕ → List ℕ → List ℕ → List ℕ → ℕ → Type 0
-HoldsStruct old words adopted body word = (held : Trees) → AreOrphans old adopted held → IsOrphan body word (struct words) held
+-- It is a struct of these data words, written right after the old body, which has adopted the orphans of these words.
+pub record HoldsStruct (old words adopted body : List ℕ) (word : ℕ) : Type 0 where
+  -- it holds what these are
+  pub tree_is : (held : Trees) → AreOrphans old adopted held → IsOrphan body word (struct words) held
+  -- whatever they are, its words are these
+  pub words_are : body ≡ old ++ (words ++ links adopted (1 + length old + length words))
+  pub word_is : word ≡ pointer (struct words) (length adopted) (1 + length old)
 
--- it is a list of the pointers to these orphans
-abbrev pub HoldsPointers : List ℕ → List ℕ → List ℕ → ℕ → Type 0
-HoldsPointers old adopted body word = (held : Trees) → AreOrphans old adopted held → IsOrphan body word pointers held
+-- It is a list of the pointers to these orphans, written right after the old body.
+pub record HoldsPointers (old adopted body : List ℕ) (word : ℕ) : Type 0 where
+  -- it holds what these are
+  pub tree_is : (held : Trees) → AreOrphans old adopted held → IsOrphan body word pointers held
+  -- whatever they are, its words are these
+  pub words_are : body ≡ old ++ links adopted (1 + length old)
+  pub word_is : word ≡ list_pointer (1 + length old) 6 (length adopted)
 
 -- a struct of these data words, which has adopted the orphans of these words
 abbrev pub draft_of : {T : Type 0} {D P : ℕ} → List ℕ → List ℕ → StructDraft T D P
@@ -37,15 +46,18 @@ abbrev pub adopted_by : {T : Type 0} {D P : ℕ} → List (StructDraft T D P) �
 adopted_by [] = []
 adopted_by (draft ∷ drafts) = draft.pointers ++ adopted_by drafts
 
--- it is the list of these structs
-abbrev pub HoldsStructs : {T : Type 0} {D P : ℕ} → List ℕ → List (StructDraft T D P) → List ℕ → ℕ → Type 0
-HoldsStructs {D = D} {P = P} old drafts body word =
-    (held : Trees) → AreOrphans old (adopted_by drafts) held → IsOrphan body word (structs D P (rows_of drafts)) held
-
 -- the words of structs, the one after the other from a place on
 abbrev pub elements : {T : Type 0} {D P : ℕ} → List (StructDraft T D P) → ℕ → List ℕ
 elements [] place = []
 elements {D = D} {P = P} (draft ∷ drafts) place = (draft.words ++ links draft.pointers (place + D)) ++ elements drafts (place + D + P)
+
+-- It is the list of these structs, written right after the old body: their tag, and then their words.
+pub record HoldsStructs {T : Type 0} {D P : ℕ} (old : List ℕ) (drafts : List (StructDraft T D P)) (body : List ℕ) (word : ℕ) : Type 0 where
+  -- it holds what the orphans are that they have adopted
+  pub tree_is : (held : Trees) → AreOrphans old (adopted_by drafts) held → IsOrphan body word (structs D P (rows_of drafts)) held
+  -- whatever these are, its words are these
+  pub words_are : body ≡ old ++ (struct_pointer (length drafts) D P ∷ elements drafts (2 + length old))
+  pub word_is : word ≡ list_pointer (1 + length old) 7 (length drafts * (D + P))
 
 -- the arrays of drafts are of their types
 abbrev pub AreSized : {T : Type 0} {D P : ℕ} → List (StructDraft T D P) → Type 0
@@ -81,7 +93,7 @@ abbrev pub TakesPointers : ℕ → ℕ → Type 0
 TakesPointers n words = (n < 2 ^ 29) × (words ≡ n)
 
 abbrev pub ManyPointers : ℕ → ErrorKind → Type 0
-ManyPointers n kind = (2 ^ 29 ≤ n) × (kind ≡ AllocationTooLarge (2 ^ 29))
+ManyPointers n kind = (2 ^ 29 ≤ n) × (kind ≡ AllocationTooLarge (min n (2 ^ 32 - 1)))
 
 -- the words of a list of a given number of structs, its tag among them, and why it has none
 abbrev pub TakesStructs : ℕ → ℕ → ℕ → ℕ → Type 0
@@ -89,4 +101,5 @@ TakesStructs d p n words = FitsPointer d p × (n < 2 ^ 29) × (words ≡ 1 + n *
 
 abbrev pub ManyStructs : ℕ → ℕ → ℕ → ErrorKind → Type 0
 ManyStructs d p n kind = ExceedsPointer d p kind
-    ⊎ (FitsPointer d p × (2 ^ 29 ≤ n ⊎ 2 ^ 29 ≤ 1 + n * (d + p)) × (kind ≡ AllocationTooLarge (2 ^ 29)))
+    ⊎ (FitsPointer d p × (2 ^ 29 ≤ n) × (kind ≡ AllocationTooLarge (min n (2 ^ 32 - 1))))
+    ⊎ (FitsPointer d p × (n < 2 ^ 29) × (2 ^ 29 ≤ 1 + n * (d + p)) × (kind ≡ AllocationTooLarge (min (1 + n * (d + p)) (2 ^ 32 - 1))))

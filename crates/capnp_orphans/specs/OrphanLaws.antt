@@ -1,7 +1,7 @@
 -- What callers conclude of orphans, for their own proofs.
-use Rattle.std.specs.Prelude.{◌≡◌, ℕ, zero, suc, ◌+◌, ◌<◌, List, [], ◌∷◌, ◌++◌, length, take, map, slice_index_or, Result, Ok, Err, IfOk, refl}
-use Rattle.std.proofs.Common.{sym, ◌∙◌, ap, subst, arith, append_assoc, slice_get, Some}
-use Rattle.std.proofs.lemmas.List.{map-append}
+use Rattle.std.specs.Prelude.{◌≡◌, ℕ, ◌+◌, ◌<◌, List, [], ◌∷◌, ◌++◌, length, take, map, slice_index_or, Result, Ok, Err, IfOk, refl}
+use Rattle.std.proofs.Common.{sym, ◌∙◌, ap, subst, append_assoc, slice_get, Some}
+use Rattle.std.proofs.lemmas.List.{map-append, take_more}
 use Rattle.capnp_frame.specs.declared.error.Error.{Error}
 use Rattle.capnp_wire.specs.Tree.{Form, struct, structs, pointers, Trees, none, tree}
 use Rattle.capnp_wire.specs.Object.{message_of}
@@ -43,15 +43,6 @@ kept_values has_tree old new (value ∷ values) [] keeps are = absurd are
 kept_values has_tree old new (value ∷ values) (word ∷ words) keeps are =
     (kept_value (has_tree value) old new word keeps are.0, kept_values has_tree old new values words keeps are.1)
 
-take_step : {A : Type 0} (xs : List A) (i : ℕ) (d : A) → i < length xs → take (suc i) xs ≡ take i xs ++ slice_index_or xs i d ∷ []
-take_step [] i d within = absurd (omega (arith, within))
-take_step (x ∷ xs) zero d within = refl
-take_step {A} (x ∷ xs) (suc i) d within = ap (λ (l : List A). x ∷ l) (take_step xs i d (omega arith))
-
--- the first elements of a list, and one more
-pub take_next : {A : Type 0} (xs : List A) (i : ℕ) (d : A) → i < length xs → take (i + 1) xs ≡ take i xs ++ slice_index_or xs i d ∷ []
-take_next xs i d within = let e : i + 1 ≡ suc i = omega arith in ap (λ (n : ℕ). take n xs) e ∙ take_step xs i d within
-
 -- one value more
 pub one_more : {A : Type 0} (has_tree : A → Trees → Type 0) (body : List ℕ) (values : List A) (words : List ℕ) (value : A) (word : ℕ) → AreValues has_tree body values words
     → HoldsValue (has_tree value) body word → AreValues has_tree body (values ++ value ∷ []) (words ++ word ∷ [])
@@ -73,7 +64,7 @@ next_value {A} {B} has_tree old new values i d word items pushed object within k
     let words_are : map word pushed ≡ map word items ++ word object ∷ [] = ap (λ (l : List B). map word l) is ∙ map-append word items (object ∷ []) in
     let more : AreValues has_tree (body_of new) (take i values ++ slice_index_or values i d ∷ []) (map word items ++ word object ∷ []) =
     one_more has_tree (body_of new) (take i values) (map word items) (slice_index_or values i d) (word object) (kept_values has_tree old new (take i values) (map word items) keeps are) one in
-    subst (λ (l : List A). AreValues has_tree (body_of new) l (map word pushed)) (sym (take_next values i d within))
+    subst (λ (l : List A). AreValues has_tree (body_of new) l (map word pushed)) (sym (take_more values i d within))
     (subst (λ (l : List ℕ). AreValues has_tree (body_of new) (take i values ++ slice_index_or values i d ∷ []) l) (sym words_are) more)
 
 -- the trees of values
@@ -89,18 +80,18 @@ their_trees has_tree body (value ∷ values) (word ∷ words) are =
 -- what is added is a value, once it is known what the orphans are that it has adopted: a struct, a list of pointers, of structs
 pub struct_value : {T : Type 0} (old new words adopted : List ℕ) (held : Trees) (has_tree : Trees → Type 0) (word : T → ℕ) (result : Result T Error) → AreOrphans old adopted held
     → has_tree (tree (struct words) held none) → IfOk result (λ object. HoldsStruct old words adopted new (word object)) → IfOk result (λ object. HoldsValue has_tree new (word object))
-struct_value old new words adopted held has_tree word (Ok object) are is h = (struct words, held, is, h held are)
+struct_value old new words adopted held has_tree word (Ok object) are is h = (struct words, held, is, h.tree_is held are)
 struct_value old new words adopted held has_tree word (Err error) are is h = tt
 
 pub pointers_value : {T : Type 0} (old new adopted : List ℕ) (held : Trees) (has_tree : Trees → Type 0) (word : T → ℕ) (result : Result T Error) → AreOrphans old adopted held
     → has_tree (tree pointers held none) → IfOk result (λ object. HoldsPointers old adopted new (word object)) → IfOk result (λ object. HoldsValue has_tree new (word object))
-pointers_value old new adopted held has_tree word (Ok object) are is h = (pointers, held, is, h held are)
+pointers_value old new adopted held has_tree word (Ok object) are is h = (pointers, held, is, h.tree_is held are)
 pointers_value old new adopted held has_tree word (Err error) are is h = tt
 
 pub structs_value : {T S : Type 0} {D P : ℕ} (old new : List ℕ) (drafts : List (StructDraft S D P)) (held : Trees) (has_tree : Trees → Type 0) (word : T → ℕ) (result : Result T Error)
     → AreOrphans old (adopted_by drafts) held → has_tree (tree (structs D P (rows_of drafts)) held none) → IfOk result (λ object. HoldsStructs old drafts new (word object))
     → IfOk result (λ object. HoldsValue has_tree new (word object))
-structs_value {D = D} {P = P} old new drafts held has_tree word (Ok object) are is h = (structs D P (rows_of drafts), held, is, h held are)
+structs_value {D = D} {P = P} old new drafts held has_tree word (Ok object) are is h = (structs D P (rows_of drafts), held, is, h.tree_is held are)
 structs_value old new drafts held has_tree word (Err error) are is h = tt
 
 -- the root is the value that it is set to

@@ -1,14 +1,16 @@
 -- Segments that grow at their end (src/segment.rt).
 use Rattle.std.specs.Prelude.{◌≡◌, ℕ, ◌+◌, ◌*◌, ◌/◌, ◌%◌, ◌^◌, ◌<◌, ◌≤◌, List, ◌∷◌, ◌++◌, Option, MatchOption, length, take, drop, replicate, Result, IfOk, IfErr, IsOk, OnOk, OnErr}
+use Rattle.std.specs.Result.{IsErrAnd}
 use Rattle.capnp_frame.specs.declared.error.Error.{Error}
 use Rattle.capnp_frame.specs.declared.error.ErrorKind.{ErrorKind}
 use Rattle.capnp_frame.specs.declared.error.ErrorKind.TheVariants.{OutOfMemory, AllocationTooLarge}
 use Rattle.capnp_wire.specs.Pointer.{words_of}
 
--- what is seen of a segment: its bytes, and how many it can have at most, where that is known
+-- what is seen of a segment: its bytes, how many it can have at most, where that is known, and how many in the memory that it has
 pub record Segment : Type 0 where
   pub bytes : List ℕ
   pub most : Option ℕ
+  pub capacity : ℕ
 
 -- the words after the root's
 abbrev pub body_of : Segment → List ℕ
@@ -20,24 +22,29 @@ pub record IsSegment (segment : Segment) : Type 0 where
   pub rooted : 8 ≤ length segment.bytes
   pub few : length segment.bytes < 2 ^ 32
 
--- the root's word alone, which is null
+-- the root's word alone, which is null, in the memory that was there
 abbrev pub with_root_alone : Segment → Segment
-with_root_alone segment = record { bytes = replicate 8 0; most = segment.most }
+with_root_alone segment = record { bytes = replicate 8 0; most = segment.most; capacity = segment.capacity }
 
 -- A given number of words are appended; all others stay, the root's among them.
 pub record Appends (words : ℕ) (old new : Segment) : Type 0 where
   pub block : List ℕ
   pub len : length block ≡ 8 * words
   pub bytes_are : new.bytes ≡ old.bytes ++ block
+  pub body_is : body_of new ≡ body_of old ++ words_of block
 
--- for a given number of words more there is room for sure
+-- for a given number of words more there is room in the memory that it has
 abbrev pub GrantsWords : ℕ → Segment → Type 0
-GrantsWords words segment = MatchOption segment.most ⊥ (λ most. length segment.bytes + 8 * words ≤ most)
+GrantsWords words segment = length segment.bytes + 8 * words ≤ segment.capacity
 
--- why it does not take as many: it is full, or memory is refused
+-- it can't have as many
+abbrev pub ExceedsMost : ℕ → Segment → Type 0
+ExceedsMost words segment = MatchOption segment.most ⊥ (λ most. most < length segment.bytes + 8 * words)
+
+-- why it does not take as many: a region is full, or on the heap more memory was needed, and refused
 abbrev pub RefusesWords : ℕ → Segment → ErrorKind → Type 0
-RefusesWords words segment kind = MatchOption segment.most (kind ≡ OutOfMemory)
-    (λ most. (most < length segment.bytes + 8 * words) × (kind ≡ AllocationTooLarge words))
+RefusesWords words segment kind = (segment.capacity < length segment.bytes + 8 * words)
+    × MatchOption segment.most (kind ≡ OutOfMemory) (λ most. (most < length segment.bytes + 8 * words) × (kind ≡ AllocationTooLarge words))
 
 -- An object of a given number of words is appended, of which this holds by the bodies before and after it and by its word.
 pub record AppendsObject (holds : List ℕ → List ℕ → ℕ → Type 0) (words : ℕ) (old new : Segment) (result : Result ℕ Error) : Type 0 where
@@ -46,13 +53,17 @@ pub record AppendsObject (holds : List ℕ → List ℕ → ℕ → Type 0) (wor
   pub unchanged : OnErr result (new ≡ old)
   pub kind : IfErr result (λ error. RefusesWords words old error.kind)
   pub granted : GrantsWords words old → IsOk result
+  pub lacks : ExceedsMost words old → IsErrAnd result (λ error. error.kind ≡ AllocationTooLarge words)
   pub most : new.most ≡ old.most
+  pub memory : old.capacity ≤ new.capacity
+  pub held : OnOk result (length new.bytes ≤ new.capacity)
 
 -- the root's word is another one
 pub record PutsRoot (word : ℕ) (old new : Segment) : Type 0 where
   pub words_are : words_of new.bytes ≡ word ∷ body_of old
   pub len : length new.bytes ≡ length old.bytes
   pub most : new.most ≡ old.most
+  pub memory : new.capacity ≡ old.capacity
 
 -- a block over the bytes after some, which are just it, and what holds of it once it follows a body
 pub record IsWrittenAfter (from : ℕ) (holds : List ℕ → List ℕ → ℕ → Type 0) (word : ℕ) (old new : List ℕ) : Type 0 where

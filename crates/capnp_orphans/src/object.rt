@@ -1,10 +1,11 @@
 //! Objects that an orphanage writes.
-ghost use Rattle.std.specs.Prelude.{◌≡◌, ℕ, ◌+◌, ◌/◌, ◌%◌, ◌^◌, ◌<◌, List, ◌++◌, length, replicate, Ok, MatchResult};
+ghost use Rattle.std.specs.Prelude.{◌≡◌, ℕ, ◌+◌, ◌-◌, ◌/◌, ◌%◌, ◌^◌, ◌<◌, List, ◌++◌, min, length, replicate, Ok, MatchResult};
 ghost use Rattle.std.specs.Result.{IsErrAnd};
 ghost use Rattle.capnp_frame.specs.declared.error.ErrorKind.{ErrorKind};
+ghost use Rattle.capnp_frame.specs.declared.error.ErrorKind.TheVariants.{AllocationTooLarge};
 ghost use Rattle.capnp_wire.specs.Pointer.{words_of};
 
-use capnp_frame::Result;
+use capnp_frame::{Error, ErrorKind, Result};
 
 /// An object that is written after what stands in a segment.
 pub trait Object {
@@ -35,4 +36,17 @@ pub trait Object {
         requires few { start + length block.old / 8 < 2 ^ 29 }
         ensures { (body : List ℕ) → start ≡ 1 + length body →
             holds self.now body (body ++ words_of block.new) result };
+}
+
+/// The refusal of an object of too many elements or words, which it tells as far as 32 bits hold
+/// them.
+pub(crate) fn too_many(number: usize) -> Error
+    ensures { result.kind ≡ AllocationTooLarge (min number (2 ^ 32 - 1)) }
+{
+    let told = if number < u32::MAX as usize {
+        number as u32
+    } else {
+        u32::MAX
+    };
+    Error::from_kind(ErrorKind::AllocationTooLarge(told))
 }

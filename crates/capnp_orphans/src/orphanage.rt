@@ -29,12 +29,16 @@ use std::marker::Model;
 /// word is the root's, which is null until it is set.
 ///
 /// A call that writes an object returns its orphan, or fails and changes nothing. All orphans hold
-/// what they held, whatever is written later. The segment has fewer than 2^29 words: more fail with
-/// `AllocationTooLarge`, and no far pointer is needed.
+/// what they held, whatever is written later.
+///
+/// A segment has fewer than 2^29 words, so no far pointer is needed, and in a region no more than
+/// that has. An object with whose words it would have more fails with `AllocationTooLarge` of its
+/// words. On the heap a call fails with `OutOfMemory` where the memory that is there has no room for
+/// them, and more is refused.
 ///
 /// The message is read in place, and written framed or packed by `write_message_segments`, which
-/// takes the orphanage as it is. Once it is cleared it serves for the next message, without new
-/// memory.
+/// takes the orphanage as it is. Once it is cleared it serves for the next message: as far as the
+/// memory that is there has room, no call is refused.
 ///
 /// ```
 /// let mut objects = Orphanage::new(alloc)?;
@@ -44,6 +48,7 @@ use std::marker::Model;
 /// person.adopt(0, name);
 /// objects.add_root(&person)?;
 /// let message = Reader::new(&objects, DEFAULT_READER_OPTIONS);
+/// serialize::write_message_segments(alloc, &mut stream, &objects)?;
 /// ```
 #[derive(Drop)]
 pub struct Orphanage<S: GrowingSegment = Vec<u8>> {
@@ -89,7 +94,8 @@ impl<'a> Orphanage<Region<'a>> {
     /// ```
     pub fn in_region(region: &'a mut [u8]) -> Result<Orphanage<Region<'a>>>
         ensures { MatchResult result
-            (λ objects. (objects.bytes ≡ replicate 8 0) × (objects.most ≡ Some (length region.old)))
+            (λ objects. (objects.bytes ≡ replicate 8 0) × (objects.most ≡ Some (length region.old))
+            × (objects.capacity ≡ length region.old))
             (λ error. (length region.old < 8) × (error.kind ≡ AllocationTooLarge 1)) }
     {
         let segment = Region::new(region)?;
@@ -134,8 +140,8 @@ impl<S: GrowingSegment> Orphanage<S> {
     /// a view of another message shows. What a pointer leads to there, a list too, is copied as the
     /// view `any_pointer::Reader` of it.
     ///
-    /// A value of 2^29 words and more, or for which there is no room, fails with
-    /// `AllocationTooLarge`; one that can't be read, as its view is refused.
+    /// A value of 2^29 words and more fails with `AllocationTooLarge` of its words, at most
+    /// 2^32 - 1; one that can't be read, as its view is refused.
     pub fn set<T, V: SetterInput<T>>(&mut self, value: &V) -> Result<Orphan<T>>
         ensures adds { Adds (HoldsValue (V.has_tree value.now)) self.old self.new word_of result }
         ensures writes { Writes (HasWords (V.has_tree value.now) false)
@@ -147,8 +153,7 @@ impl<S: GrowingSegment> Orphanage<S> {
 
     /// Writes a text, with a zero byte at its end ("Blobs").
     ///
-    /// One of 2^29 - 1 bytes and more, or for which there is no room, fails with
-    /// `AllocationTooLarge`.
+    /// One of 2^29 - 1 bytes and more fails with `AllocationTooLarge` of its words, at most 2^32 - 1.
     pub fn text(&mut self, text: &str) -> Result<Orphan<text::Owned>>
         ensures adds { Adds (HoldsValue (IsTextTree text.now)) self.old self.new word_of result }
         ensures writes { Writes (HasWords (IsTextTree text.now) false)
@@ -157,8 +162,8 @@ impl<S: GrowingSegment> Orphanage<S> {
         self.set::<text::Owned, &str>(&text)
     }
 
-    /// Writes data: some bytes ("Blobs"). 2^29 bytes and more, or as many as there is no room for,
-    /// fail with `AllocationTooLarge`.
+    /// Writes data: some bytes ("Blobs"). 2^29 bytes and more fail with `AllocationTooLarge` of
+    /// their words, at most 2^32 - 1.
     pub fn data(&mut self, bytes: &[u8]) -> Result<Orphan<data::Owned>>
         ensures adds { Adds (HoldsValue (IsBytes bytes.now)) self.old self.new word_of result }
         ensures writes { Writes (HasWords (IsBytes bytes.now) false)
@@ -167,8 +172,8 @@ impl<S: GrowingSegment> Orphanage<S> {
         self.set::<data::Owned, &[u8]>(&bytes)
     }
 
-    /// Writes a list of numbers of any width, or of bools ("Lists"). 2^29 numbers and more, or as
-    /// many as there is no room for, fail with `AllocationTooLarge`.
+    /// Writes a list of numbers of any width, or of bools ("Lists"). 2^29 numbers and more fail with
+    /// `AllocationTooLarge` of how many they are, at most 2^32 - 1.
     pub fn numbers<N: PrimitiveElement + Copy>(
         &mut self,
         items: &[N],
@@ -183,8 +188,11 @@ impl<S: GrowingSegment> Orphanage<S> {
         self.set::<primitive_list::Owned<N>, NumberList<'_, N>>(&list)
     }
 
-    /// Writes a struct ("Structs"). 2^16 data words or pointers and more, or a struct for which
-    /// there is no room, fail with `AllocationTooLarge`.
+    /// Writes a struct ("Structs"). 2^16 data words or pointers and more fail with
+    /// `AllocationTooLarge(65536)`.
+    ///
+    /// An orphan of another orphanage is adopted like one of this: its pointer is written, and leads
+    /// to whatever stands there.
     pub fn add<T, const D: usize, const P: usize>(
         &mut self,
         draft: &StructDraft<T, D, P>,
@@ -197,8 +205,8 @@ impl<S: GrowingSegment> Orphanage<S> {
     }
 
     /// Writes a list of the pointers to some orphans ("Lists"): of texts, of data, of lists, or of
-    /// structs that stand each for itself. 2^29 orphans and more, or as many as there is no room
-    /// for, fail with `AllocationTooLarge`.
+    /// structs that stand each for itself. 2^29 orphans and more fail with `AllocationTooLarge` of
+    /// how many they are, at most 2^32 - 1.
     pub fn pointer_list<T>(&mut self, items: &[Orphan<T>]) -> Result<Orphan<list_list::Owned<T>>>
         ensures adds { Adds (HoldsPointers (body_of self.old) (map word_of items.now))
             self.old self.new word_of result }
@@ -208,9 +216,11 @@ impl<S: GrowingSegment> Orphanage<S> {
         self.write(&PointerList::new(items))
     }
 
-    /// Writes a list of structs, one after the other ("Lists"). 2^29 structs or words and more,
-    /// structs that `add` refuses, and a list for which there is no room fail with
-    /// `AllocationTooLarge`.
+    /// Writes a list of structs, one after the other ("Lists").
+    ///
+    /// It fails with `AllocationTooLarge`: of 65536 where `add` refuses the structs, of how many
+    /// they are where these are 2^29 and more, and of the words of the list, its tag among them,
+    /// where these are; at most of 2^32 - 1.
     pub fn struct_list<T, const D: usize, const P: usize>(
         &mut self,
         items: &[StructDraft<T, D, P>],

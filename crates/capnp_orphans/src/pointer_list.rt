@@ -4,9 +4,9 @@ ghost use Rattle.capnp_wire.specs.Pointer.{words_of};
 ghost use Rattle.capnp_orphans.specs.Orphans.{links};
 ghost use Rattle.capnp_orphans.specs.Held.{word_of};
 
-use crate::object::Object;
+use crate::object::{Object, too_many};
 use crate::orphan::{Orphan, link};
-use capnp_frame::{Error, ErrorKind, Result};
+use capnp_frame::Result;
 use capnp_wire::pointer_word::{list_word, put_word};
 
 /// A list of the pointers to some orphans (encoding document, "Lists").
@@ -24,7 +24,7 @@ impl<'a, T> PointerList<'a, T> {
     }
 }
 
-// 2^29 pointers and more fail with `AllocationTooLarge`.
+// 2^29 pointers and more fail with `AllocationTooLarge` of their number.
 impl<'a, T> Object for PointerList<'a, T> {
     ghost use Rattle.std.specs.Prelude.{length, map};
     ghost use Rattle.capnp_orphans.specs.Held.{HoldsPointers, TakesPointers, ManyPointers, word_of};
@@ -38,7 +38,7 @@ impl<'a, T> Object for PointerList<'a, T> {
     fn measure(&self) -> Result<u32> {
         let count = self.items.len();
         if count >= 1 << 29 {
-            return Err(Error::from_kind(ErrorKind::AllocationTooLarge(1 << 29)));
+            return Err(too_many(count));
         }
         Ok(count as u32)
     }

@@ -24,6 +24,7 @@ impl<'a> Model for Region<'a> {
     ghost view = { λ region. record {
       bytes = take region.used region.bytes.now;
       most = Some (length region.bytes.now);
+      capacity = length region.bytes.now;
     } };
 
     ghost invariant = { λ region. region.used ≤ length region.bytes.now };
@@ -34,7 +35,8 @@ impl<'a> Region<'a> {
     /// `AllocationTooLarge`.
     pub(crate) fn new(bytes: &'a mut [u8]) -> Result<Region<'a>>
         ensures { MatchResult result
-            (λ region. (region.bytes ≡ replicate 8 0) × (region.most ≡ Some (length bytes.old)))
+            (λ region. (region.bytes ≡ replicate 8 0) × (region.most ≡ Some (length bytes.old))
+            × (region.capacity ≡ length bytes.old))
             (λ error. (length bytes.old < 8) × (error.kind ≡ AllocationTooLarge 1)) }
     {
         if bytes.len() < 8 {

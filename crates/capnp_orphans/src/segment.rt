@@ -39,7 +39,11 @@ pub trait GrowingSegment: Drop {
 impl GrowingSegment for Vec<u8> {
     ghost use Rattle.std.specs.Prelude.{None};
 
-    ghost state = { λ vector. record { bytes = vector.items; most = None } };
+    ghost state = { λ vector. record {
+      bytes = vector.items;
+      most = None;
+      capacity = vector.cap;
+    } };
 
     fn bytes(&self) -> &[u8] {
         self.as_slice()
@@ -47,7 +51,9 @@ impl GrowingSegment for Vec<u8> {
 
     fn append<O: Object>(&mut self, object: &O, words: u32) -> Result<u64> {
         let from = self.len();
-        self.resize(from + 8 * words as usize, 0)?;
+        let added = 8 * words as usize;
+        self.reserve(added)?;
+        self.resize(from + added, 0)?;
         Ok(write_after(self, from, object))
     }
 

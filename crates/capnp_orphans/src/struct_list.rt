@@ -5,7 +5,7 @@ ghost use Rattle.capnp_orphans.specs.Held.{AreSized, elements};
 
 use crate::draft::writing::draft_fits;
 use crate::draft_source::DraftSource;
-use crate::object::Object;
+use crate::object::{Object, too_many};
 use crate::written::put_struct;
 use capnp_frame::{Error, ErrorKind, Result};
 use capnp_values::put_words;
@@ -31,8 +31,8 @@ impl<'a, T, const D: usize, const P: usize, S: DraftSource<T, D, P>> StructList<
     }
 }
 
-// 2^29 structs or words and more fail with `AllocationTooLarge`, as do structs that no pointer can
-// tell.
+// 2^29 structs or words and more fail with `AllocationTooLarge` of their number, and structs that no
+// pointer can tell with `AllocationTooLarge(65536)`.
 impl<'a, T, const D: usize, const P: usize, S: DraftSource<T, D, P>> Object
     for StructList<'a, T, D, P, S> {
     ghost use Rattle.std.specs.Prelude.{length};
@@ -50,11 +50,11 @@ impl<'a, T, const D: usize, const P: usize, S: DraftSource<T, D, P>> Object
         }
         let count = self.source.len();
         if count >= 1 << 29 {
-            return Err(Error::from_kind(ErrorKind::AllocationTooLarge(1 << 29)));
+            return Err(too_many(count));
         }
         let words = 1 + count * (D + P);
         if words >= 1 << 29 {
-            return Err(Error::from_kind(ErrorKind::AllocationTooLarge(1 << 29)));
+            return Err(too_many(words));
         }
         Ok(words as u32)
     }

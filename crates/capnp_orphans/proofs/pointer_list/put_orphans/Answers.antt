@@ -1,12 +1,14 @@
 -- Each pointer is put after those before it.
 use Rattle.std.proofs.Common.{◌≡◌, ◌∙◌, ℕ, Some, length, map, sym, ap, arith}
 use Rattle.std.proofs.lemmas.List.{length-map}
+use Rattle.std.proofs.lemmas.Option.{slice_get-map, slice_get-get_or}
+use Rattle.std.specs.Prelude.{option_map}
 use Rattle.capnp_wire.specs.Pointer.{words_of}
 use Rattle.capnp_wire.proofs.words.WordLemmas.{length-words_of}
 use Rattle.capnp_values.proofs.SectionLemmas.{next_put, all_put}
 use Rattle.capnp_orphans.specs.Orphans.{links}
 use Rattle.capnp_orphans.specs.Held.{word_of}
-use Rattle.capnp_orphans.proofs.LinkLemmas.{links_get, get_map, length-links_at}
+use Rattle.capnp_orphans.proofs.LinkLemmas.{links_get, length-links_at}
 use Rattle.capnp_orphans.proofs.pointer_list.put_orphans.Goals as goal
 
 pub put_word-requires : goal.put_word-requires
@@ -16,7 +18,7 @@ pub loop-index-preserved : goal.loop-index-preserved
 loop-index-preserved g c =
     let words = map word_of c.args.items.now in
     let all : length (links (map word_of c.args.items.now) c.args.place) ≡ length c.args.items.now = length-links_at (map word_of c.args.items.now) c.args.place ∙ length-map c.args.items.now word_of in
-    let there = get_map word_of c.args.items.now c.loop-index.index _ c.loop-index-test.true in
+    let there = slice_get-map word_of c.args.items.now c.loop-index.index ∙ ap (option_map word_of) (slice_get-get_or c.args.items.now c.loop-index.index _ c.loop-index-test.true) in
     next_put c.loop-index.index c.link.result (words_of c.loop-index.block) _ (words_of c.args.block.now) (links (map word_of c.args.items.now) c.args.place)
     (links_get (map word_of c.args.items.now) c.args.place c.loop-index.index _ there ∙ ap (λ (n : ℕ). Some n) (sym c.link.ensures))
     (omega (arith, all, c.loop-index-test.true)) (omega (arith, c.requires.room, all, length-words_of c.args.block.now)) c.put_word.ensures.words c.loop-index.invariant
