@@ -23,7 +23,7 @@ pub record Adds {T : Type 0} (holds : List ℕ → ℕ → Type 0) (old new : Se
   -- what the new one holds
   pub orphan : IfOk result (λ object. holds (body_of new) (word object))
 
--- there is no room for a given number of words: a segment has fewer than 2 ^ 29; with them it would, but there is no memory for them
+-- there is no room for a given number of words: a segment has fewer than 2 ^ 29, or it has no memory for as many
 abbrev pub LacksRoom : ℕ → Segment → ErrorKind → Type 0
 LacksRoom words segment kind = ((2 ^ 29 ≤ length segment.bytes / 8 + words) × (kind ≡ AllocationTooLarge words))
     ⊎ ((length segment.bytes / 8 + words < 2 ^ 29) × RefusesWords words segment kind)
