@@ -23,7 +23,7 @@ pub fn digest_of(alloc: Global, seed: u32, count: u32) -> Result<u64> {
     Ok(digest.value())
 }
 
-// A quarter of the records have a list, of at most twelve numbers.
+// A quarter of the records have a list, of at most eleven numbers.
 fn record(objects: &mut Orphanage, random: &mut Random, id: u32) -> Result<()> {
     let mut draft = StructDraft::<any_struct::Owned, 3, 2>::new();
     draft.set_data_field(0, id as u64);
