@@ -1,6 +1,7 @@
 //! Objects of each kind, as they are built.
 use capnp_frame::Result;
 use capnp_orphans::{DraftSource, GrowingSegment, Orphan, Orphanage, StructDraft};
+use capnp_values::{Field, NoFields, StructValue};
 use capnp_wire::{any_pointer, any_struct, primitive_list, text};
 use std::marker::PhantomData;
 
@@ -22,6 +23,7 @@ pub enum Built {
     Structs,
     MadeStructs,
     NoStructs,
+    Value,
 }
 
 /// The object, which is to be the root.
@@ -45,6 +47,7 @@ pub fn build<S: GrowingSegment>(
         Built::Structs => structs(objects),
         Built::MadeStructs => Ok(objects.made_struct_list(&Squares)?.of_type()),
         Built::NoStructs => no_structs(objects),
+        Built::Value => value(objects),
     }
 }
 
@@ -97,6 +100,18 @@ fn structs<S: GrowingSegment>(objects: &mut Orphanage<S>) -> Result<Orphan<any_p
 fn no_structs<S: GrowingSegment>(objects: &mut Orphanage<S>) -> Result<Orphan<any_pointer::Owned>> {
     let none: [StructDraft<any_struct::Owned, 2, 1>; 0] = [];
     Ok(objects.struct_list(&none)?.of_type())
+}
+
+type Phone<'a> = StructValue<1, Field<text::Owned, &'a str, NoFields>>;
+
+// A struct that is composed, in one block.
+fn value<S: GrowingSegment>(objects: &mut Orphanage<S>) -> Result<Orphan<any_pointer::Owned>> {
+    let phone: Phone<'_> = StructValue::new([7], Field::new("hi", NoFields));
+    Ok(
+        objects
+            .set::<any_struct::Owned, Phone<'_>>(&phone)?
+            .of_type(),
+    )
 }
 
 // Structs whose numbers are 0, 1 and 4.

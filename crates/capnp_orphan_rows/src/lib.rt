@@ -6,5 +6,9 @@ mod built;
 #[cfg(test)]
 mod calls;
 #[cfg(test)]
+mod kept_memory;
+#[cfg(test)]
 mod refusals;
+#[cfg(test)]
+mod regions;
 mod uses;

@@ -1,10 +1,11 @@
 //! What is refused: the error that the page says, and what stood before still stands.
+use crate::built::{Built, build};
 use capnp::message::{DEFAULT_READER_OPTIONS, Reader};
 use capnp_frame::{ErrorKind, Result};
 use capnp_orphans::{DraftSource, Orphan, Orphanage, StructDraft};
 use capnp_rows::growths::lacks_memory;
 use capnp_rows::retried;
-use capnp_wire::{any_struct, text};
+use capnp_wire::{any_pointer, any_struct, text};
 use std::marker::PhantomData;
 use std::process::Abort;
 
@@ -52,13 +53,24 @@ impl DraftSource<any_struct::Owned, 1, 0> for Many {
     }
 }
 
-fn refusal<T: Drop>(returned: Result<T>) -> Option<ErrorKind> {
+/// Why a call was refused, if it was.
+pub(crate) fn refusal<T: Drop>(returned: Result<T>) -> Option<ErrorKind> {
     returned.err().map(|error| error.kind)
 }
 
-const MANY_WORDS: Option<ErrorKind> = Some(ErrorKind::AllocationTooLarge(1 << 29));
+const KINDS: [Built; 7] = [
+    Built::Text,
+    Built::Data,
+    Built::Doubles,
+    Built::Struct,
+    Built::Texts,
+    Built::MadeStructs,
+    Built::Value,
+];
 
-const LARGE_STRUCT: Option<ErrorKind> = Some(ErrorKind::AllocationTooLarge(1 << 16));
+fn too_large(number: u32) -> Option<ErrorKind> {
+    Some(ErrorKind::AllocationTooLarge(number))
+}
 
 // The orphan's text stands where the root leads, and it is as it was.
 fn shows(rt: &impl Abort, objects: &Orphanage, wanted: &str) -> Result<()> {
@@ -83,18 +95,20 @@ fn alice(rt: &impl AllocGlobal) -> Result<Orphanage> {
 #[test]
 fn what_is_too_large_changes_nothing(rt: HostRuntime) -> Result<()> {
     let mut objects = alice(&rt)?;
-    let empty = Many { count: 1 << 29 };
-    let returned = objects.made_struct_list::<any_struct::Owned, 0, 0, Many>(&empty);
-    assert_eq!(rt; refusal(returned), MANY_WORDS);
-    let single = Many {
-        count: (1 << 29) - 1,
-    };
+    for (count, number) in [(1 << 29, 1 << 29), (1 << 30, 1 << 30), (1 << 32, u32::MAX)] {
+        let empty = Many { count };
+        let returned = objects.made_struct_list::<any_struct::Owned, 0, 0, Many>(&empty);
+        assert_eq!(rt; refusal(returned), too_large(number));
+    }
+    // With the tag they have 2^29 words, which is told, and not how many they are.
+    let count = (1 << 29) - 1;
+    let single = Many { count };
     let returned = objects.made_struct_list::<any_struct::Owned, 1, 0, Many>(&single);
-    assert_eq!(rt; refusal(returned), MANY_WORDS);
+    assert_eq!(rt; refusal(returned), too_large(1 << 29));
     let returned = objects.add(&StructDraft::<any_struct::Owned, 65536, 0>::new());
-    assert_eq!(rt; refusal(returned), LARGE_STRUCT);
+    assert_eq!(rt; refusal(returned), too_large(1 << 16));
     let returned = objects.add_root(&StructDraft::<any_struct::Owned, 0, 65536>::new());
-    assert_eq!(rt; refusal(returned), LARGE_STRUCT);
+    assert_eq!(rt; refusal(returned), too_large(1 << 16));
     assert_eq!(rt; objects.bytes().len(), 16);
     shows(&rt, &objects, "Alice")
 }
@@ -128,6 +142,36 @@ fn orphans_of_others_do_no_harm(rt: HostRuntime) -> Result<()> {
     Ok(())
 }
 
+// A view of what is refused is refused alike, and nothing is written.
+#[test]
+fn a_refused_view_changes_nothing(rt: HostRuntime) -> Result<()> {
+    let strange: Orphan<text::Owned> = retried!(strange_orphan(&rt))?;
+    let others = retried!(with_strange(&rt, strange))?;
+    let message = Reader::new(&others, DEFAULT_READER_OPTIONS);
+    let view: any_pointer::Reader<'_, &Orphanage> = message.get_root()?;
+    let mut objects = alice(&rt)?;
+    let returned = objects.set::<any_pointer::Owned, any_pointer::Reader<'_, &Orphanage>>(&view);
+    assert_eq!(rt; refusal(returned), Some(ErrorKind::PointerOutOfBounds));
+    assert_eq!(rt; objects.bytes().len(), 16);
+    shows(&rt, &objects, "Alice")
+}
+
+// Where an orphan of before the last `clear` stood, other objects stand.
+fn with_cleared(rt: &impl AllocGlobal) -> Result<Orphanage> {
+    let mut objects = Orphanage::new(rt.alloc())?;
+    let before = objects.text("Alice")?;
+    objects.clear();
+    objects.text("Bob")?;
+    objects.set_root(before);
+    Ok(objects)
+}
+
+#[test]
+fn orphans_of_before_do_no_harm(rt: HostRuntime) -> Result<()> {
+    let objects = retried!(with_cleared(&rt))?;
+    shows(&rt, &objects, "Bob\0\0")
+}
+
 // `rt try --test --fail-alloc N` refuses the Nth growth: the call returns `OutOfMemory`, what stood
 // before still stands, and the same call succeeds when it is made again.
 #[test]
@@ -140,5 +184,21 @@ fn refused_memory_is_taken_later(rt: HostRuntime) -> Result<()> {
         objects.data(&[1; 4096])?;
     }
     assert_eq!(rt; objects.bytes().len(), 16 + 4096);
+    shows(&rt, &objects, "Alice")
+}
+
+// Each object in turn after those before it: where a growth is refused, what stood before still stands,
+// and the same object is built when it is asked for again.
+#[test]
+fn each_growth_is_taken_later(rt: HostRuntime) -> Result<()> {
+    let mut objects = alice(&rt)?;
+    for built in &KINDS {
+        let returned = build(&mut objects, *built);
+        if returned.is_err() {
+            assert!(rt; lacks_memory(&returned));
+            shows(&rt, &objects, "Alice")?;
+            build(&mut objects, *built)?;
+        }
+    }
     shows(&rt, &objects, "Alice")
 }

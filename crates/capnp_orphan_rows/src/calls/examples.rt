@@ -1,12 +1,13 @@
 //! The examples that stand at the public items of `capnp_orphans`.
-use capnp::any_struct;
 use capnp::message::{DEFAULT_READER_OPTIONS, Reader};
+use capnp::{any_struct, serialize};
 use capnp_frame::Result;
 use capnp_orphans::{Orphan, Orphanage, StructDraft};
 
 #[test]
 fn a_person_is_built(rt: HostRuntime) -> Result<()> {
     let alloc = rt.alloc();
+    let mut stream = Vec::new(alloc);
     let mut objects = Orphanage::new(alloc)?;
     let name = objects.text("Alice")?;
     let mut person = StructDraft::<any_struct::Owned, 1, 2>::new();
@@ -14,6 +15,8 @@ fn a_person_is_built(rt: HostRuntime) -> Result<()> {
     person.adopt(0, name);
     objects.add_root(&person)?;
     let message = Reader::new(&objects, DEFAULT_READER_OPTIONS);
+    serialize::write_message_segments(alloc, &mut stream, &objects)?;
+    assert_eq!(rt; stream.len(), 8 * 6);
     let root: any_struct::StructReader<'_, &Orphanage> = message.get_root()?;
     assert_eq!(rt; root.get_data_field::<u32>(0), 123);
     let mut phone = StructDraft::<any_struct::Owned, 1, 1>::new();

@@ -8,7 +8,7 @@ use std::process::Abort;
 // What is built, and the bytes of the segment: the root's word, then the objects, each after what it
 // holds.
 #[rattlefmt::skip]
-const ROWS: [(Built, &[u8]); 15] = [
+const ROWS: [(Built, &[u8]); 16] = [
     (Built::Null, b"\0\0\0\0\0\0\0\0"),
     // A list of 3 bytes, which begins at word 1.
     (Built::Text, b"\x01\0\0\0\x1a\0\0\0hi\0\0\0\0\0\0"),
@@ -31,6 +31,8 @@ const ROWS: [(Built, &[u8]); 15] = [
     (Built::Structs, b"\x05\0\0\0\x27\0\0\0a\0\0\0\0\0\0\0\x08\0\0\0\x01\0\x01\0\x01\0\0\0\0\0\0\0\0\0\0\0\0\0\0\0\x02\0\0\0\0\0\0\0\xe9\xff\xff\xff\x12\0\0\0"),
     (Built::MadeStructs, b"\x01\0\0\0\x1f\0\0\0\x0c\0\0\0\x01\0\0\0\0\0\0\0\0\0\0\0\x01\0\0\0\0\0\0\0\x04\0\0\0\0\0\0\0"),
     (Built::NoStructs, b"\x01\0\0\0\x07\0\0\0\0\0\0\0\x02\0\x01\0"),
+    // The struct comes before its text.
+    (Built::Value, b"\0\0\0\0\x01\0\x01\0\x07\0\0\0\0\0\0\0\x01\0\0\0\x1a\0\0\0hi\0\0\0\0\0\0"),
 ];
 
 // Builds it in a region of a given number of bytes.
