@@ -1,5 +1,5 @@
 //! Objects that no pointer needs to lead to yet.
-ghost use Rattle.std.specs.Prelude.{◌≡◌, ◌<◌, ◌^◌};
+ghost use Rattle.std.specs.Prelude.{◌≡◌, ◌<◌, ◌^◌, ℕ};
 ghost use Rattle.capnp_orphans.specs.Orphans.{link};
 
 use std::marker::PhantomData;
@@ -46,6 +46,34 @@ impl<T> Orphan<T> {
             word,
             schema: PhantomData,
         }
+    }
+}
+
+/// What has the word of an orphan.
+pub(crate) trait OrphanWord {
+    /// The word.
+    ghost word: { Self → ℕ };
+
+    /// The word.
+    fn word(&self) -> u64
+        ensures { result ≡ word self.now };
+}
+
+impl<T> OrphanWord for Orphan<T> {
+    ghost word = { λ orphan. orphan.word };
+
+    #[inline(always)]
+    fn word(&self) -> u64 {
+        self.word
+    }
+}
+
+impl OrphanWord for u64 {
+    ghost word = { λ word. word };
+
+    #[inline(always)]
+    fn word(&self) -> u64 {
+        *self
     }
 }
 

@@ -1,13 +1,11 @@
 //! Lists of pointers as objects.
-ghost use Rattle.std.specs.Prelude.{◌≡◌, ◌+◌, ◌*◌, ◌<◌, ◌^◌, length, map};
-ghost use Rattle.capnp_wire.specs.Pointer.{words_of};
-ghost use Rattle.capnp_orphans.specs.Orphans.{links};
-ghost use Rattle.capnp_orphans.specs.Held.{word_of};
+ghost use Rattle.std.specs.Prelude.{◌≡◌};
 
 use crate::object::{Object, too_many};
-use crate::orphan::{Orphan, link};
+use crate::orphan::Orphan;
+use crate::written::put_links;
 use capnp_frame::Result;
-use capnp_wire::pointer_word::{list_word, put_word};
+use capnp_wire::pointer_word::list_word;
 
 /// A list of the pointers to some orphans (encoding document, "Lists").
 #[derive(Drop)]
@@ -44,19 +42,7 @@ impl<'a, T> Object for PointerList<'a, T> {
     }
 
     fn write(&self, start: u32, block: &mut [u8]) -> u64 {
-        put_orphans(self.items, start, block);
+        put_links(self.items, start, block);
         list_word(start as u64, 6, self.items.len() as u64)
-    }
-}
-
-// Puts the pointers to orphans into a block of just these, which begins at a word of the segment.
-#[inline(always)]
-fn put_orphans<T>(items: &[Orphan<T>], place: u32, block: &mut [u8])
-    requires room { length block.old ≡ 8 * length items.now }
-    requires few { place + length items.now < 2 ^ 29 }
-    ensures { words_of block.new ≡ links (map word_of items.now) place }
-{
-    for index in 0..items.len() {
-        put_word(block, index, link(items[index].word, place + index as u32));
     }
 }

@@ -1,22 +1,25 @@
 //! Words that are put into blocks.
-ghost use Rattle.std.specs.Prelude.{◌≡◌, ◌+◌, ◌*◌, ◌^◌, ◌<◌, ◌++◌, length};
+ghost use Rattle.std.specs.Prelude.{◌≡◌, ◌+◌, ◌*◌, ◌^◌, ◌<◌, ◌++◌, length, map};
 ghost use Rattle.capnp_wire.specs.Pointer.{words_of};
 ghost use Rattle.capnp_orphans.specs.Orphans.{links};
 
-use crate::orphan::link;
+use crate::orphan::{OrphanWord, link};
 use capnp_values::put_words;
 use capnp_wire::pointer_word::put_word;
 
-/// Puts the pointers to orphans of these words into a block of just these, which begins at a word
-/// of the segment.
+/// Puts the pointers to orphans into a block of just these, which begins at a word of the segment.
 #[inline(always)]
-pub(crate) fn put_links(words: &[u64], place: u32, block: &mut [u8])
-    requires room { length block.old ≡ 8 * length words.now }
-    requires few { place + length words.now < 2 ^ 29 }
-    ensures { words_of block.new ≡ links words.now place }
+pub(crate) fn put_links<W: OrphanWord>(items: &[W], place: u32, block: &mut [u8])
+    requires room { length block.old ≡ 8 * length items.now }
+    requires few { place + length items.now < 2 ^ 29 }
+    ensures { words_of block.new ≡ links (map W.word items.now) place }
 {
-    for index in 0..words.len() {
-        put_word(block, index, link(words[index], place + index as u32));
+    for index in 0..items.len() {
+        put_word(
+            block,
+            index,
+            link(items[index].word(), place + index as u32),
+        );
     }
 }
 

@@ -7,5 +7,5 @@ use Rattle.capnp_orphans.proofs.pointer_list.PointerListObject.write.Goals as go
 
 pub returns : goal.returns
 returns g c body start_is =
-    pointers_held body (map word_of c.args.self.now.items.now) c.put_orphans.new.block c.args.start (length c.args.self.now.items.now) c.list_word.result start_is
-    (length-map c.args.self.now.items.now word_of) (omega (arith, c.requires.few, c.requires.takes.1)) c.put_orphans.ensures c.list_word.ensures
+    pointers_held body (map word_of c.args.self.now.items.now) c.put_links.new.block c.args.start (length c.args.self.now.items.now) c.list_word.result start_is
+    (length-map c.args.self.now.items.now word_of) (omega (arith, c.requires.few, c.requires.takes.1)) c.put_links.ensures c.list_word.ensures
