@@ -7,6 +7,13 @@ struct Point {
   y @1 :Int32;
 }
 
+struct Tree {
+  # A binary tree of numbers.
+  value @0 :Int64;
+  left @1 :Tree;
+  right @2 :Tree;
+}
+
 enum Color {
   # Colors of a lamp.
   red @0;

@@ -3,7 +3,7 @@
 use crate::names::{constant, default_name, enum_type, module, snake, variant};
 use crate::owners::owner_of;
 use crate::schema::{Base, Body, Node, Place, Request, Slot, Struct};
-use crate::setters::{has_setter, setter_name};
+use crate::setters::{field_name, has_setter};
 use crate::shown::Site;
 use anyhow::{Result, bail};
 use std::alloc::Global;
@@ -179,10 +179,12 @@ fn add_setters(alloc: Global, setters: &mut Names, site: Site<'_>, body: &Struct
         return Ok(());
     };
     for field in body.fields.as_slice() {
-        if has_setter(alloc, &owner, site, field)? {
+        if has_setter(&owner, site, field) {
             let mut of = String::from_str(alloc, owner.groups.as_str())?;
             of.push_str(field.name.as_str())?;
-            setters.add(alloc, setter_name(alloc, &owner, field)?, of.as_str())?;
+            let mut name = String::from_str(alloc, "set_")?;
+            name.push_str(field_name(alloc, &owner, field)?.as_str())?;
+            setters.add(alloc, name, of.as_str())?;
         }
     }
     Ok(())

@@ -1,11 +1,11 @@
 //! Enums.
+use crate::builder_templates::ENUM_NUMBER;
 use crate::code::{Code, Holes};
 use crate::names::{enum_type, scope_name, variant};
 use crate::paths::path_to;
 use crate::schema::{Base, Body, Field, Node, Request, Slot};
 use crate::shown::Site;
 use crate::templates::{ENUM_END, ENUM_HEAD};
-use crate::value_templates::ENUM_NUMBER;
 use std::alloc::{AllocError, Global};
 use std::fmt::Write;
 

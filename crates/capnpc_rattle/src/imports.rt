@@ -12,13 +12,17 @@ const DEFINITIONS: &[(&str, &[&str])] = &[
             "◌<◌",
             "◌==◌",
             "◌↔◌",
+            "◌≢◌",
             "if◌then◌else◌",
             "IsTrue",
             "bit_xor",
             "from_bits",
             "to_bits",
             "length",
+            "map",
             "replicate",
+            "slice_index_or",
+            "slice_set",
         ],
     ),
     ("std.specs.Float", &["binary32", "binary64"]),
@@ -30,6 +34,23 @@ const DEFINITIONS: &[(&str, &[&str])] = &[
         "capnp_constant.specs.Constants",
         &["segments_of", "root_of"],
     ),
+    (
+        "capnp_orphans.specs.Adding",
+        &["Adds", "AddsRoot", "Fails", "Writes"],
+    ),
+    (
+        "capnp_orphans.specs.Held",
+        &[
+            "word_of",
+            "HoldsStruct",
+            "HoldsStructs",
+            "TakesStruct as StructWords",
+            "TakesStructs",
+            "ExceedsPointer",
+            "ManyStructs",
+        ],
+    ),
+    ("capnp_orphans.specs.Segments", &["body_of"]),
     ("capnp_values.specs.DataSections", &["with_field"]),
     ("capnp_wire.specs.Fields", &["field"]),
     ("capnp_wire.specs.ListViews", &["element_of"]),
@@ -91,21 +112,22 @@ const VIEWS: &[(&str, &str)] = &[
 const TRAITS: &[(&str, &str)] = &[
     ("self", "traits::"),
     ("FromPointerReader", "FromPointerReader"),
-    ("SetterInput", "SetterInput<"),
 ];
 
-/// What is imported of the values.
-const VALUES: &[(&str, &str)] = &[
-    ("Field", "Field::new("),
-    ("NoFields", "NoFields;"),
-    ("Null", "Field::new(Null,"),
-    ("StructValue", "StructValue"),
+/// What is imported of the orphans.
+const ORPHANS: &[(&str, &str)] = &[
+    ("Draft", "Draft<"),
+    ("Drafts", "Drafts::"),
+    ("GrowingSegment", "GrowingSegment>"),
+    ("Orphan", "Orphan<"),
+    ("Orphanage", "Orphanage<"),
+    ("StructDraft", "StructDraft<"),
 ];
 
 /// Whether clauses cite something by this name.
 pub fn is_definition(name: &str) -> bool {
     for (_, names) in DEFINITIONS {
-        if names.contains(&name) {
+        if names.iter().any(|cited| word_of(cited) == name) {
             return true;
         }
     }
@@ -132,11 +154,14 @@ pub fn push_definitions(alloc: Global, code: &mut Code, text: &str) -> Result<()
 }
 
 // The word by which a name is cited.
-fn word_of(name: &'static str) -> &'static str {
+fn word_of<'a>(name: &'a str) -> &'a str {
     if name == "if◌then◌else◌" {
         return "then";
     }
-    name.trim_matches('◌')
+    match name.split_once(" as ") {
+        Some((_, word)) => word,
+        None => name.trim_matches('◌'),
+    }
 }
 
 // Whether a word stands in code, outside of its comments.
@@ -196,7 +221,7 @@ pub fn push_imports(
             "capnp_wire::primitive_element::PrimitiveElement",
         )?;
     }
-    push_group(alloc, &mut lines, "capnp_values", VALUES, text)?;
+    push_group(alloc, &mut lines, "capnp_orphans", ORPHANS, text)?;
     push_group(alloc, &mut lines, "capnp_wire::traits", TRAITS, text)?;
     push_group(alloc, &mut lines, "capnp_wire", VIEWS, text)?;
     lines.sort()?;

@@ -4,9 +4,12 @@
 //! It reads a `CodeGeneratorRequest` from standard input, and writes `NAME_capnp.rt` for each file that is
 //! asked for, in the folder in which it runs, or in that of its first argument; to standard output where
 //! that is `-`. Nothing is written before all of it is made. Where its second argument is `readers`, or the
-//! environment has that as `CAPNPC_RATTLE`, it writes readers alone, and else values, too.
+//! environment has that as `CAPNPC_RATTLE`, it writes readers alone, and else builders, too.
 #![tactic(auto)]
 
+mod builder_getters;
+mod builder_templates;
+mod builders;
 mod checked;
 mod code;
 mod constants;
@@ -19,22 +22,21 @@ mod input;
 mod names;
 mod numbers;
 mod output;
+mod owned_types;
 mod owners;
 mod paths;
 mod pointer_setters;
 mod request;
 mod schema;
+mod set_words;
 mod setters;
 mod shown;
 mod signatures;
-mod slots;
 mod structs;
 mod taken;
 mod templates;
 mod types;
 mod unions;
-mod value_templates;
-mod values;
 mod views;
 mod words;
 

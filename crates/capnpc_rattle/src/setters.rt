@@ -1,13 +1,13 @@
 //! The setters of fields in the data section.
-use crate::code::{Code, Holes, fill};
-use crate::enums::{enum_name, enumerants_of};
-use crate::names::{snake, variant};
+use crate::builder_templates::{NUMBER_SETTER, VOID_SETTER};
+use crate::code::{Code, Holes};
+use crate::enums::enum_name;
+use crate::names::snake;
 use crate::numbers::{Number, NumberKind, default_bits, literal, number_of};
 use crate::owners::Owner;
 use crate::schema::{Base, Field, Place, Slot};
+use crate::set_words::{number_clause, words_clause, words_with};
 use crate::shown::Site;
-use crate::slots::owned_of;
-use crate::value_templates::{DATA_SETTER, ENUM_CLAUSE, NUMBER_CLAUSE};
 use std::alloc::{AllocError, Global};
 use std::fmt::Write;
 
@@ -23,22 +23,14 @@ pub fn is_data(field: &Field) -> bool {
 }
 
 /// Whether a field has a setter: not nothing that is no member of a union, and no interface.
-pub fn has_setter(
-    alloc: Global,
-    owner: &Owner<'_>,
-    site: Site<'_>,
-    field: &Field,
-) -> Result<bool, AllocError> {
+pub fn has_setter(owner: &Owner<'_>, site: Site<'_>, field: &Field) -> bool {
     let Slot::At(place) = &field.slot else {
-        return Ok(false);
+        return false;
     };
-    if !is_data(field) {
-        return Ok(owned_of(alloc, place.of)?.is_some());
+    if is_data(field) && place.of.base == Base::Void {
+        return !owner.tags.is_empty() || (site.discriminant().is_some() && field.member.is_some());
     }
-    if place.of.base != Base::Void {
-        return Ok(true);
-    }
-    Ok(!tags_of(alloc, owner, site, field)?.is_empty())
+    place.of.base != Base::Interface
 }
 
 /// The numbers of unions that are set with a field: those of the groups around it, and its own.
@@ -57,26 +49,26 @@ pub fn tags_of(
     Ok(tags)
 }
 
-/// The words with these numbers of unions, as a clause names them.
-pub fn words_with(alloc: Global, tags: &[(u32, u16)]) -> Result<String, AllocError> {
-    let mut words = String::from_str(alloc, "self.value.words")?;
-    for (offset, number) in tags {
-        let before = words.as_str();
-        words = format!(in alloc; "(with_field {before} 16 {offset} {number})")?;
-    }
-    Ok(words)
-}
-
-/// The calls that set them.
-pub fn calls_of(alloc: Global, tags: &[(u32, u16)]) -> Result<String, AllocError> {
+/// The code that sets these numbers, a line for each, and then a field by this call.
+pub fn code_of(alloc: Global, tags: &[(u32, u16)], call: &str) -> Result<String, AllocError> {
     let mut text = String::new(alloc);
     for (offset, number) in tags {
-        write!(text, ".with_data_field::<u16>({offset}, {number})")?;
+        if !text.is_empty() {
+            text.push('\n')?;
+        }
+        write!(
+            text,
+            "self.draft.set_data_field::<u16>({offset}, {number});"
+        )?;
     }
+    if !text.is_empty() && !call.is_empty() {
+        text.push('\n')?;
+    }
+    text.push_str(call)?;
     Ok(text)
 }
 
-/// Adds what the schema says of a field; where it says nothing, its name.
+/// Adds what the schema says of a field that is set; where it says nothing, its name.
 pub fn push_comment(code: &mut Code, field: &Field, comment: &str) -> Result<(), AllocError> {
     if !code.text.is_empty() {
         code.add_gap()?;
@@ -89,10 +81,9 @@ pub fn push_comment(code: &mut Code, field: &Field, comment: &str) -> Result<(),
     }
 }
 
-/// The name of a setter.
-pub fn setter_name(alloc: Global, owner: &Owner<'_>, field: &Field) -> Result<String, AllocError> {
-    let mut name = String::from_str(alloc, "set_")?;
-    name.push_str(owner.prefix.as_str())?;
+/// The name of a field among those of its struct: with the names of the groups around it in front.
+pub fn field_name(alloc: Global, owner: &Owner<'_>, field: &Field) -> Result<String, AllocError> {
+    let mut name = String::from_str(alloc, owner.prefix.as_str())?;
     name.push_str(snake(alloc, field.name.as_str())?.as_str())?;
     Ok(name)
 }
@@ -109,66 +100,75 @@ pub fn push_data_setter(
     let Slot::At(place) = &field.slot else {
         return Ok(());
     };
-    let tags = tags_of(alloc, owner, site, field)?;
-    let set = match number_of(place.of.base) {
-        Some(number) => number_set(alloc, site, number, place, tags.as_slice())?,
-        None if tags.is_empty() => return Ok(()),
-        None => nothing_set(alloc, tags.as_slice())?,
-    };
+    if !has_setter(owner, site, field) {
+        return Ok(());
+    }
     push_comment(code, field, comment)?;
-    let holes = Holes::new(alloc)
-        .holding("name", setter_name(alloc, owner, field)?)?
-        .with("path", owner.path.as_str())?
-        .holding("parameter", set.parameter)?
-        .holding("clause", set.clause)?
-        .holding("code", set.code)?;
-    code.add(DATA_SETTER, &holes)
+    let tags = tags_of(alloc, owner, site, field)?;
+    let name = field_name(alloc, owner, field)?;
+    match number_of(place.of.base) {
+        Some(number) => push_number_setter(
+            alloc,
+            code,
+            site,
+            number,
+            place,
+            name.as_str(),
+            tags.as_slice(),
+        ),
+        None => push_void_setter(alloc, code, name.as_str(), tags.as_slice()),
+    }
 }
 
-/// What a setter of the data section takes, what a clause says of it, and its code.
-#[derive(Drop)]
-struct Set {
-    parameter: String,
-    clause: String,
-    code: String,
-}
-
-// How a union is set to nothing.
-fn nothing_set(alloc: Global, tags: &[(u32, u16)]) -> Result<Set, AllocError> {
+// Adds the setter of nothing, by which a union has it as its member.
+fn push_void_setter(
+    alloc: Global,
+    code: &mut Code,
+    name: &str,
+    tags: &[(u32, u16)],
+) -> Result<(), AllocError> {
     let words = words_with(alloc, tags)?;
-    let words = words.as_str();
-    let calls = calls_of(alloc, tags)?;
-    let calls = calls.as_str();
-    Ok(Set {
-        parameter: String::new(alloc),
-        clause: format!(in alloc; "result.value.words ≡ {words}")?,
-        code: format!(in alloc; "self.value{calls}")?,
-    })
+    let holes = Holes::new(alloc)
+        .with("name", name)?
+        .holding("clause", words_clause(alloc, words.as_str())?)?
+        .holding("code", code_of(alloc, tags, "")?)?;
+    code.add(VOID_SETTER, &holes)
 }
 
-// How a number, a bool or an enum is set.
-fn number_set(
+// Adds the setter of a number, a bool or an enum.
+fn push_number_setter(
+    alloc: Global,
+    code: &mut Code,
+    site: Site<'_>,
+    number: Number,
+    place: &Place,
+    name: &str,
+    tags: &[(u32, u16)],
+) -> Result<(), AllocError> {
+    let words = words_with(alloc, tags)?;
+    let call = call_of(alloc, number, place)?;
+    let holes = Holes::new(alloc)
+        .with("name", name)?
+        .holding("type", type_of(alloc, site, number, place)?)?
+        .holding(
+            "clause",
+            number_clause(alloc, site, number, place, words.as_str())?,
+        )?
+        .holding("code", code_of(alloc, tags, call.as_str())?)?;
+    code.add(NUMBER_SETTER, &holes)
+}
+
+// The type of a number, a bool or an enum.
+fn type_of(
     alloc: Global,
     site: Site<'_>,
     number: Number,
     place: &Place,
-    tags: &[(u32, u16)],
-) -> Result<Set, AllocError> {
-    let words = words_with(alloc, tags)?;
-    let calls = calls_of(alloc, tags)?;
-    let calls = calls.as_str();
-    let type_name = match place.of.base {
-        Base::Enum(id) => enum_name(alloc, site, id)?,
-        _ => String::from_str(alloc, number.type_name)?,
-    };
-    let type_name = type_name.as_str();
-    let call = call_of(alloc, number, place)?;
-    let call = call.as_str();
-    Ok(Set {
-        parameter: format!(in alloc; ", value: {type_name}")?,
-        clause: clause_of(alloc, site, number, place, words.as_str())?,
-        code: format!(in alloc; "self.value{calls}{call}")?,
-    })
+) -> Result<String, AllocError> {
+    match place.of.base {
+        Base::Enum(id) => enum_name(alloc, site, id),
+        _ => String::from_str(alloc, number.type_name),
+    }
 }
 
 // The call that sets a number.
@@ -180,90 +180,29 @@ fn call_of(alloc: Global, number: Number, place: &Place) -> Result<String, Alloc
     };
     let default = default_bits(&place.default);
     if default == 0 {
-        return format!(in alloc; ".with_data_field({offset}, {value})");
+        return format!(in alloc; "self.draft.set_data_field({offset}, {value});");
     }
     if number.kind == NumberKind::Float {
-        let (bits, all) = if number.width == 32 {
-            ("u32", " as u32")
-        } else {
-            ("u64", "")
-        };
-        return format!(in alloc;
-            ".with_data_field_mask::<{bits}>({offset}, PrimitiveElement::to_bits(value){all}, {default})"
-        );
+        return float_call(alloc, number, offset, default);
     }
     let default = literal(alloc, number, default)?;
     let default = default.as_str();
-    format!(in alloc; ".with_data_field_mask({offset}, {value}, {default})")
+    format!(in alloc; "self.draft.set_data_field_mask({offset}, {value}, {default});")
 }
 
-// The bits of a number, as a clause names them.
-fn bits_of(alloc: Global, number: Number, value: &str, default: u64) -> Result<String, AllocError> {
-    let width = number.width;
-    let bits = match number.kind {
-        NumberKind::Bool => format!(in alloc; "(if {value} then 1 else 0)")?,
-        NumberKind::Unsigned => String::from_str(alloc, value)?,
-        NumberKind::Signed => format!(in alloc; "(cast_unsigned w{width} {value})")?,
-        NumberKind::Float => format!(in alloc; "(to_bits binary{width} {value})")?,
-    };
-    if default == 0 {
-        return Ok(bits);
-    }
-    let bits = bits.as_str();
-    format!(in alloc; "(bit_xor {bits} {default})")
-}
-
-// What a clause says of the words in which a number is set.
-fn clause_of(
+// The call that sets a float that has a default, by its bits, since a default may be no number.
+fn float_call(
     alloc: Global,
-    site: Site<'_>,
     number: Number,
-    place: &Place,
-    words: &str,
+    offset: u32,
+    default: u64,
 ) -> Result<String, AllocError> {
-    let (width, offset) = (number.width, place.offset);
-    let default = default_bits(&place.default);
-    let Base::Enum(id) = place.of.base else {
-        let bits = bits_of(alloc, number, "value", default)?;
-        let bits = bits.as_str();
-        let holes = Holes::new(alloc).holding(
-            "words",
-            format!(in alloc; "with_field {words} {width} {offset} {bits}")?,
-        )?;
-        return fill(alloc, NUMBER_CLAUSE, &holes);
+    let (bits, all) = if number.width == 32 {
+        ("u32", " as u32")
+    } else {
+        ("u64", "")
     };
-    let holes = Holes::new(alloc)
-        .with("words", words)?
-        .holding("cases", enum_cases(alloc, site, id, number, place)?)?;
-    fill(alloc, ENUM_CLAUSE, &holes)
-}
-
-// The cases of a clause over an enum: the bits that are set for each enumerant.
-fn enum_cases(
-    alloc: Global,
-    site: Site<'_>,
-    id: u64,
-    number: Number,
-    place: &Place,
-) -> Result<String, AllocError> {
-    let offset = place.offset;
-    let default = default_bits(&place.default);
-    let name = enum_name(alloc, site, id)?;
-    let name = name.as_str();
-    let said = "result.value.words ≡ with_field words 16";
-    let mut cases = String::new(alloc);
-    let mut count: u32 = 0;
-    for enumerant in enumerants_of(site.request, id) {
-        let variant = variant(alloc, enumerant.as_str())?;
-        let value = format!(in alloc; "{count}")?;
-        let bits = bits_of(alloc, number, value.as_str(), default)?;
-        write!(cases, "  | {name}.{variant} ↦ {said} {offset} {bits}\n")?;
-        count = count.saturating_add(1);
-    }
-    let bits = bits_of(alloc, number, "unknown", default)?;
-    write!(
-        cases,
-        "  | {name}.NotInSchema unknown ↦ {said} {offset} {bits}"
-    )?;
-    Ok(cases)
+    format!(in alloc;
+        "let bits = PrimitiveElement::to_bits(value){all};\nself.draft.set_data_field_mask::<{bits}>({offset}, bits, {default});"
+    )
 }

@@ -1,4 +1,5 @@
 //! Structs and groups.
+use crate::builders::push_builder;
 use crate::code::Code;
 use crate::constants::push_constants;
 use crate::defaults::push_defaults;
@@ -10,7 +11,6 @@ use crate::schema::{Node, Request, Struct};
 use crate::shown::{Site, shown_of};
 use crate::templates::{FROM_POINTER, GROUP_IMPL, GROUP_READER, READER, READER_IMPL};
 use crate::unions::{Members, push_members, push_which};
-use crate::values::push_values;
 use std::alloc::{AllocError, Global};
 
 /// Opens the module of a struct, or of a group, and adds all of it but the modules in it.
@@ -72,7 +72,7 @@ fn push_reader(
         code.add_lines(FROM_POINTER)?;
     }
     if site.request.has_values {
-        push_values(alloc, code, site, body)?;
+        push_builder(alloc, code, site, body)?;
     }
     push_defaults(alloc, code, site, body)
 }

@@ -1,8 +1,11 @@
 //! Types of `sample.capnp`, made by `capnpc-rattle`: change that file, and make them again.
-ghost use Rattle.std.specs.Prelude.{◌≡◌, ◌≤◌, ◌<◌, ◌==◌, ◌↔◌, if◌then◌else◌, IsTrue, bit_xor, from_bits, to_bits, length, replicate};
+ghost use Rattle.std.specs.Prelude.{◌≡◌, ◌≤◌, ◌<◌, ◌==◌, ◌↔◌, ◌≢◌, if◌then◌else◌, IsTrue, bit_xor, from_bits, to_bits, length, map, replicate, slice_index_or, slice_set};
 ghost use Rattle.std.specs.Float.{binary64};
-ghost use Rattle.std.specs.Int.{w32, cast_signed, cast_unsigned};
+ghost use Rattle.std.specs.Int.{w32, w64, cast_signed, cast_unsigned};
 ghost use Rattle.capnp_constant.specs.Constants.{segments_of, root_of};
+ghost use Rattle.capnp_orphans.specs.Adding.{Adds, AddsRoot, Fails, Writes};
+ghost use Rattle.capnp_orphans.specs.Held.{word_of, HoldsStruct, HoldsStructs, TakesStruct as StructWords, TakesStructs, ExceedsPointer, ManyStructs};
+ghost use Rattle.capnp_orphans.specs.Segments.{body_of};
 ghost use Rattle.capnp_values.specs.DataSections.{with_field};
 ghost use Rattle.capnp_wire.specs.Fields.{field};
 ghost use Rattle.capnp_wire.specs.ListViews.{element_of};
@@ -38,7 +41,7 @@ pub fn get_corner() -> Result<point::Reader<'static, Words<16>>>
 pub mod point {
     use capnp_frame::Result;
     use capnp_frame::message::ReaderSegments;
-    use capnp_values::{NoFields, StructValue};
+    use capnp_orphans::{Draft, Drafts, GrowingSegment, Orphan, Orphanage, StructDraft};
     use capnp_wire::any_struct::StructReader;
     use capnp_wire::traits::{self, FromPointerReader};
     use capnp_wire::{any_pointer, upgraded};
@@ -147,46 +150,376 @@ pub mod point {
         }
     }
 
-    /// A struct of this type that is made field by field, as `value`.
-    #[derive(Drop)]
-    pub struct Setter<V> {
-        /// What the struct is.
-        pub value: V,
+    /// A list of such structs, as a type of the schema.
+    pub struct OwnedList;
+
+    impl<'a, S: ReaderSegments + 'a> traits::Owned<'a, S> for OwnedList {
+        type Reader = ListReader<'a, S>;
     }
 
-    impl Setter<StructValue<1, NoFields>> {
+    /// A struct of this type before it is written. What is not set has its default.
+    #[derive(Clone, Copy)]
+    pub struct Builder {
+        /// Its data words, and what its pointers lead to.
+        pub draft: StructDraft<Owned, 1, 0>,
+    }
+
+    impl Builder {
         /// One in which nothing is set, so that each field has its default.
-        pub fn new() -> Self
-            ensures { result.value.words ≡ replicate 1 0 }
+        pub fn new() -> Builder
+            ensures words { result.draft.words ≡ replicate 1 0 }
+            ensures pointers { result.draft.pointers ≡ replicate 0 0 }
         {
-            let fields = NoFields;
-            Setter {
-                value: StructValue::new([0; 1], fields),
+            Builder {
+                draft: StructDraft::new(),
             }
+        }
+
+        /// Writes it, as an object that a pointer can lead to.
+        pub fn add<S: GrowingSegment>(&self, objects: &mut Orphanage<S>) -> Result<Orphan<Owned>>
+            ensures adds { Adds (HoldsStruct (body_of objects.old) self.now.draft.words
+                self.now.draft.pointers) objects.old objects.new word_of result }
+            ensures writes { Writes (StructWords 1 0) (ExceedsPointer 1 0)
+                objects.old objects.new result }
+        {
+            objects.add(&self.draft)
+        }
+
+        /// Writes it as the root of the message.
+        pub fn add_root<S: GrowingSegment>(&self, objects: &mut Orphanage<S>) -> Result<()>
+            ensures adds { AddsRoot (StructWords 1 0) (HoldsStruct (body_of objects.old)
+                self.now.draft.words self.now.draft.pointers) objects.old objects.new result }
+            ensures fails { Fails (StructWords 1 0) (ExceedsPointer 1 0)
+                objects.old result }
+        {
+            objects.add_root(&self.draft)
+        }
+
+        /// Writes a list of such structs.
+        pub fn add_list<S: GrowingSegment>(
+            elements: &[Builder],
+            objects: &mut Orphanage<S>,
+        ) -> Result<Orphan<OwnedList>>
+            ensures adds { Adds (HoldsStructs (body_of objects.old)
+                (map (λ element. element.draft) elements.now)) objects.old objects.new word_of result }
+            ensures writes { let count = length elements.now in
+                Writes (TakesStructs 1 0 count) (ManyStructs 1 0 count)
+                objects.old objects.new result }
+        {
+            let list = objects.made_struct_list(&Drafts::new(elements))?;
+            Ok(list.of_type())
         }
     }
 
-    impl<F> Setter<StructValue<1, F>> {
+    impl Draft<Owned, 1, 0> for Builder {
+        ghost draft = { λ builder. builder.draft };
+
+        fn draft(&self) -> StructDraft<Owned, 1, 0> {
+            self.draft
+        }
+    }
+
+    impl Builder {
         /// Sets the field `x`.
-        pub fn set_x(self, value: i32) -> Self
-            ensures words { result.value.words
-                ≡ with_field self.value.words 32 0 (cast_unsigned w32 value) }
-            ensures fields { result.value.fields ≡ self.value.fields }
+        pub fn set_x(&mut self, value: i32)
+            ensures words { self.new.draft.words
+                ≡ with_field self.old.draft.words 32 0 (cast_unsigned w32 value) }
+            ensures pointers { self.new.draft.pointers ≡ self.old.draft.pointers }
         {
-            Setter {
-                value: self.value.with_data_field(0, value),
-            }
+            self.draft.set_data_field(0, value);
+        }
+
+        /// The field `x`, as it is set.
+        pub fn get_x(&self) -> i32
+            ensures { let fields = self.now.draft in
+                result ≡ cast_signed w32 (field fields.words 32 0) }
+        {
+            self.draft.get_data_field(0)
         }
 
         /// Sets the field `y`.
-        pub fn set_y(self, value: i32) -> Self
-            ensures words { result.value.words
-                ≡ with_field self.value.words 32 1 (cast_unsigned w32 value) }
-            ensures fields { result.value.fields ≡ self.value.fields }
+        pub fn set_y(&mut self, value: i32)
+            ensures words { self.new.draft.words
+                ≡ with_field self.old.draft.words 32 1 (cast_unsigned w32 value) }
+            ensures pointers { self.new.draft.pointers ≡ self.old.draft.pointers }
         {
-            Setter {
-                value: self.value.with_data_field(1, value),
+            self.draft.set_data_field(1, value);
+        }
+
+        /// The field `y`, as it is set.
+        pub fn get_y(&self) -> i32
+            ensures { let fields = self.now.draft in
+                result ≡ cast_signed w32 (field fields.words 32 1) }
+        {
+            self.draft.get_data_field(1)
+        }
+    }
+}
+
+/// A binary tree of numbers.
+pub mod tree {
+    use capnp_frame::Result;
+    use capnp_frame::message::ReaderSegments;
+    use capnp_orphans::{Draft, Drafts, GrowingSegment, Orphan, Orphanage, StructDraft};
+    use capnp_wire::any_struct::StructReader;
+    use capnp_wire::traits::{self, FromPointerReader};
+    use capnp_wire::{any_pointer, upgraded};
+
+    /// The type of the schema.
+    pub struct Owned;
+
+    impl<'a, S: ReaderSegments + 'a> traits::Owned<'a, S> for Owned {
+        type Reader = Reader<'a, S>;
+    }
+
+    /// A struct of this type in a message. What its writer left out reads as the default.
+    #[derive(Drop)]
+    pub struct Reader<'a, S: ReaderSegments> {
+        /// The struct whose fields these are.
+        pub fields: StructReader<'a, S>,
+    }
+
+    impl<'a, S: ReaderSegments> Reader<'a, S> {
+        /// The field `value`.
+        pub fn get_value(&self) -> i64
+            ensures { let fields = struct_of S.segments self.now.fields in
+                result ≡ cast_signed w64 (field fields.words 64 0) }
+        {
+            self.fields.get_data_field(0)
+        }
+
+        /// The field `left`.
+        pub fn get_left(&self) -> Result<super::tree::Reader<'a, S>>
+            ensures { let fields = struct_of S.segments self.now.fields in
+                let pointer = pointer_in fields 0 in
+                IsViewOf pointer
+                (λ view. IsStruct pointer (struct_of S.segments view.fields))
+                (Accepts pointer TakesStruct) (Refuses pointer DeclinesStruct)
+                (Declines pointer DeclinesStruct) result }
+        {
+            FromPointerReader::get_from_pointer(self.fields.get_pointer(0))
+        }
+
+        /// Whether `left` is there, and is not null.
+        pub fn has_left(&self) -> bool
+            ensures { let fields = struct_of S.segments self.now.fields in
+                IsTrue result ↔ (Denotes (pointer_in fields 0) nothing → ⊥) }
+        {
+            self.fields.has_pointer(0)
+        }
+
+        /// The field `right`.
+        pub fn get_right(&self) -> Result<super::tree::Reader<'a, S>>
+            ensures { let fields = struct_of S.segments self.now.fields in
+                let pointer = pointer_in fields 1 in
+                IsViewOf pointer
+                (λ view. IsStruct pointer (struct_of S.segments view.fields))
+                (Accepts pointer TakesStruct) (Refuses pointer DeclinesStruct)
+                (Declines pointer DeclinesStruct) result }
+        {
+            FromPointerReader::get_from_pointer(self.fields.get_pointer(1))
+        }
+
+        /// Whether `right` is there, and is not null.
+        pub fn has_right(&self) -> bool
+            ensures { let fields = struct_of S.segments self.now.fields in
+                IsTrue result ↔ (Denotes (pointer_in fields 1) nothing → ⊥) }
+        {
+            self.fields.has_pointer(1)
+        }
+    }
+
+    impl<'a, S: ReaderSegments> FromPointerReader<'a, S> for Reader<'a, S> {
+        ghost shows = { λ pointer view. IsStruct pointer (struct_of S.segments view.fields) };
+
+        ghost accepts = { λ pointer. Accepts pointer TakesStruct };
+
+        ghost refuses = { λ pointer kind. Refuses pointer DeclinesStruct kind };
+
+        ghost declines = { λ pointer kind. Declines pointer DeclinesStruct kind };
+
+        fn get_from_pointer(reader: any_pointer::Reader<'a, S>) -> Result<Self>
+            ensures { let pointer = pointer_of S.segments reader.entry in IsViewOf pointer
+                (λ view. IsStruct pointer (struct_of S.segments view.fields))
+                (Accepts pointer TakesStruct) (Refuses pointer DeclinesStruct)
+                (Declines pointer DeclinesStruct) result }
+        {
+            match StructReader::get_from_pointer(reader) {
+                Ok(fields) => Ok(Reader { fields }),
+                Err(error) => Err(error),
             }
+        }
+    }
+
+    /// A list of such structs in a message; their first fields alone, where an older writer had these.
+    #[derive(Drop)]
+    pub struct ListReader<'a, S: ReaderSegments> {
+        /// The list whose elements these are.
+        pub elements: upgraded::StructList<'a, S>,
+    }
+
+    impl<'a, S: ReaderSegments> ListReader<'a, S> {
+        /// The number of elements.
+        pub fn len(&self) -> u32
+            ensures { result ≡ length (upgraded_structs_of S.segments self.now.elements).rows }
+        {
+            self.elements.len()
+        }
+
+        /// The element of this index.
+        pub fn get(&self, index: u32) -> Reader<'a, S>
+            requires { index < length (upgraded_structs_of S.segments self.now.elements).rows }
+            ensures { struct_of S.segments result.fields
+                ≡ element_of (upgraded_structs_of S.segments self.now.elements) index }
+        {
+            Reader {
+                fields: self.elements.get(index),
+            }
+        }
+    }
+
+    impl<'a, S: ReaderSegments> FromPointerReader<'a, S> for ListReader<'a, S> {
+        ghost shows = { λ pointer view.
+            IsUpgradedStructs pointer (upgraded_structs_of S.segments view.elements) };
+
+        ghost accepts = { λ pointer. Accepts pointer TakesRows };
+
+        ghost refuses = { λ pointer kind. Refuses pointer DeclinesRows kind };
+
+        ghost declines = { λ pointer kind. Declines pointer DeclinesRows kind };
+
+        fn get_from_pointer(reader: any_pointer::Reader<'a, S>) -> Result<Self>
+            ensures { let pointer = pointer_of S.segments reader.entry in IsViewOf pointer
+                (λ view. IsUpgradedStructs pointer (upgraded_structs_of S.segments view.elements))
+                (Accepts pointer TakesRows) (Refuses pointer DeclinesRows)
+                (Declines pointer DeclinesRows) result }
+        {
+            match upgraded::StructList::get_from_pointer(reader) {
+                Ok(elements) => Ok(ListReader { elements }),
+                Err(error) => Err(error),
+            }
+        }
+    }
+
+    /// A list of such structs, as a type of the schema.
+    pub struct OwnedList;
+
+    impl<'a, S: ReaderSegments + 'a> traits::Owned<'a, S> for OwnedList {
+        type Reader = ListReader<'a, S>;
+    }
+
+    /// A struct of this type before it is written. What is not set has its default.
+    #[derive(Clone, Copy)]
+    pub struct Builder {
+        /// Its data words, and what its pointers lead to.
+        pub draft: StructDraft<Owned, 1, 2>,
+    }
+
+    impl Builder {
+        /// One in which nothing is set, so that each field has its default.
+        pub fn new() -> Builder
+            ensures words { result.draft.words ≡ replicate 1 0 }
+            ensures pointers { result.draft.pointers ≡ replicate 2 0 }
+        {
+            Builder {
+                draft: StructDraft::new(),
+            }
+        }
+
+        /// Writes it, as an object that a pointer can lead to.
+        pub fn add<S: GrowingSegment>(&self, objects: &mut Orphanage<S>) -> Result<Orphan<Owned>>
+            ensures adds { Adds (HoldsStruct (body_of objects.old) self.now.draft.words
+                self.now.draft.pointers) objects.old objects.new word_of result }
+            ensures writes { Writes (StructWords 1 2) (ExceedsPointer 1 2)
+                objects.old objects.new result }
+        {
+            objects.add(&self.draft)
+        }
+
+        /// Writes it as the root of the message.
+        pub fn add_root<S: GrowingSegment>(&self, objects: &mut Orphanage<S>) -> Result<()>
+            ensures adds { AddsRoot (StructWords 1 2) (HoldsStruct (body_of objects.old)
+                self.now.draft.words self.now.draft.pointers) objects.old objects.new result }
+            ensures fails { Fails (StructWords 1 2) (ExceedsPointer 1 2)
+                objects.old result }
+        {
+            objects.add_root(&self.draft)
+        }
+
+        /// Writes a list of such structs.
+        pub fn add_list<S: GrowingSegment>(
+            elements: &[Builder],
+            objects: &mut Orphanage<S>,
+        ) -> Result<Orphan<OwnedList>>
+            ensures adds { Adds (HoldsStructs (body_of objects.old)
+                (map (λ element. element.draft) elements.now)) objects.old objects.new word_of result }
+            ensures writes { let count = length elements.now in
+                Writes (TakesStructs 1 2 count) (ManyStructs 1 2 count)
+                objects.old objects.new result }
+        {
+            let list = objects.made_struct_list(&Drafts::new(elements))?;
+            Ok(list.of_type())
+        }
+    }
+
+    impl Draft<Owned, 1, 2> for Builder {
+        ghost draft = { λ builder. builder.draft };
+
+        fn draft(&self) -> StructDraft<Owned, 1, 2> {
+            self.draft
+        }
+    }
+
+    impl Builder {
+        /// Sets the field `value`.
+        pub fn set_value(&mut self, value: i64)
+            ensures words { self.new.draft.words
+                ≡ with_field self.old.draft.words 64 0 (cast_unsigned w64 value) }
+            ensures pointers { self.new.draft.pointers ≡ self.old.draft.pointers }
+        {
+            self.draft.set_data_field(0, value);
+        }
+
+        /// The field `value`, as it is set.
+        pub fn get_value(&self) -> i64
+            ensures { let fields = self.now.draft in
+                result ≡ cast_signed w64 (field fields.words 64 0) }
+        {
+            self.draft.get_data_field(0)
+        }
+
+        /// Sets the field `left`.
+        pub fn set_left(&mut self, value: Orphan<super::tree::Owned>)
+            ensures words { self.new.draft.words
+                ≡ self.old.draft.words }
+            ensures pointers { self.new.draft.pointers
+                ≡ slice_set self.old.draft.pointers 0 value.word }
+        {
+            self.draft.adopt(0, value);
+        }
+
+        /// Whether `left` is set, and not to null.
+        pub fn has_left(&self) -> bool
+            ensures { IsTrue result ↔ (slice_index_or self.now.draft.pointers 0 0 ≢ 0) }
+        {
+            self.draft.has_pointer(0)
+        }
+
+        /// Sets the field `right`.
+        pub fn set_right(&mut self, value: Orphan<super::tree::Owned>)
+            ensures words { self.new.draft.words
+                ≡ self.old.draft.words }
+            ensures pointers { self.new.draft.pointers
+                ≡ slice_set self.old.draft.pointers 1 value.word }
+        {
+            self.draft.adopt(1, value);
+        }
+
+        /// Whether `right` is set, and not to null.
+        pub fn has_right(&self) -> bool
+            ensures { IsTrue result ↔ (slice_index_or self.now.draft.pointers 1 0 ≢ 0) }
+        {
+            self.draft.has_pointer(1)
         }
     }
 }
@@ -245,10 +578,10 @@ pub mod sample {
     use capnp_constant::{OrDefault, Words};
     use capnp_frame::Result;
     use capnp_frame::message::ReaderSegments;
-    use capnp_values::{Field, NoFields, Null, StructValue};
+    use capnp_orphans::{Draft, Drafts, GrowingSegment, Orphan, Orphanage, StructDraft};
     use capnp_wire::any_struct::StructReader;
     use capnp_wire::primitive_element::PrimitiveElement;
-    use capnp_wire::traits::{self, FromPointerReader, SetterInput};
+    use capnp_wire::traits::{self, FromPointerReader};
     use capnp_wire::{any_pointer, text, upgraded};
 
     /// The type of the schema.
@@ -643,690 +976,355 @@ pub mod sample {
         }
     }
 
-    /// A struct of this type that is made field by field, as `value`.
-    #[derive(Drop)]
-    pub struct Setter<V> {
-        /// What the struct is.
-        pub value: V,
+    /// A list of such structs, as a type of the schema.
+    pub struct OwnedList;
+
+    impl<'a, S: ReaderSegments + 'a> traits::Owned<'a, S> for OwnedList {
+        type Reader = ListReader<'a, S>;
     }
 
-    /// One whose pointers are set to values of these types.
-    pub type With<P0, P1, P2, P3, P4, P5, P6, P7, T8, P8> = Setter<
-        StructValue<
-            4,
-            Field<
-                text::Owned,
-                P0,
-                Field<
-                    capnp_wire::data::Owned,
-                    P1,
-                    Field<
-                        capnp_wire::struct_list::Owned,
-                        P2,
-                        Field<
-                            capnp_wire::primitive_list::Owned<u32>,
-                            P3,
-                            Field<
-                                capnp_wire::any_struct::Owned,
-                                P4,
-                                Field<
-                                    text::Owned,
-                                    P5,
-                                    Field<
-                                        text::Owned,
-                                        P6,
-                                        Field<
-                                            capnp_wire::any_struct::Owned,
-                                            P7,
-                                            Field<T8, P8, NoFields>,
-                                        >,
-                                    >,
-                                >,
-                            >,
-                        >,
-                    >,
-                >,
-            >,
-        >,
-    >;
+    /// A struct of this type before it is written. What is not set has its default.
+    #[derive(Clone, Copy)]
+    pub struct Builder {
+        /// Its data words, and what its pointers lead to.
+        pub draft: StructDraft<Owned, 4, 9>,
+    }
 
-    impl With<Null, Null, Null, Null, Null, Null, Null, Null, any_pointer::Owned, Null> {
+    impl Builder {
         /// One in which nothing is set, so that each field has its default.
-        pub fn new() -> Self
-            ensures { result.value.words ≡ replicate 4 0 }
+        pub fn new() -> Builder
+            ensures words { result.draft.words ≡ replicate 4 0 }
+            ensures pointers { result.draft.pointers ≡ replicate 9 0 }
         {
-            let fields = NoFields;
-            let fields = Field::new(Null, fields);
-            let fields = Field::new(Null, fields);
-            let fields = Field::new(Null, fields);
-            let fields = Field::new(Null, fields);
-            let fields = Field::new(Null, fields);
-            let fields = Field::new(Null, fields);
-            let fields = Field::new(Null, fields);
-            let fields = Field::new(Null, fields);
-            let fields = Field::new(Null, fields);
-            Setter {
-                value: StructValue::new([0; 4], fields),
+            Builder {
+                draft: StructDraft::new(),
             }
+        }
+
+        /// Writes it, as an object that a pointer can lead to.
+        pub fn add<S: GrowingSegment>(&self, objects: &mut Orphanage<S>) -> Result<Orphan<Owned>>
+            ensures adds { Adds (HoldsStruct (body_of objects.old) self.now.draft.words
+                self.now.draft.pointers) objects.old objects.new word_of result }
+            ensures writes { Writes (StructWords 4 9) (ExceedsPointer 4 9)
+                objects.old objects.new result }
+        {
+            objects.add(&self.draft)
+        }
+
+        /// Writes it as the root of the message.
+        pub fn add_root<S: GrowingSegment>(&self, objects: &mut Orphanage<S>) -> Result<()>
+            ensures adds { AddsRoot (StructWords 4 9) (HoldsStruct (body_of objects.old)
+                self.now.draft.words self.now.draft.pointers) objects.old objects.new result }
+            ensures fails { Fails (StructWords 4 9) (ExceedsPointer 4 9)
+                objects.old result }
+        {
+            objects.add_root(&self.draft)
+        }
+
+        /// Writes a list of such structs.
+        pub fn add_list<S: GrowingSegment>(
+            elements: &[Builder],
+            objects: &mut Orphanage<S>,
+        ) -> Result<Orphan<OwnedList>>
+            ensures adds { Adds (HoldsStructs (body_of objects.old)
+                (map (λ element. element.draft) elements.now)) objects.old objects.new word_of result }
+            ensures writes { let count = length elements.now in
+                Writes (TakesStructs 4 9 count) (ManyStructs 4 9 count)
+                objects.old objects.new result }
+        {
+            let list = objects.made_struct_list(&Drafts::new(elements))?;
+            Ok(list.of_type())
         }
     }
 
-    impl<F> Setter<StructValue<4, F>> {
+    impl Draft<Owned, 4, 9> for Builder {
+        ghost draft = { λ builder. builder.draft };
+
+        fn draft(&self) -> StructDraft<Owned, 4, 9> {
+            self.draft
+        }
+    }
+
+    impl Builder {
         /// Sets the field `count`:
         /// How many there are.
-        pub fn set_count(self, value: u16) -> Self
-            ensures words { result.value.words
-                ≡ with_field self.value.words 16 0 value }
-            ensures fields { result.value.fields ≡ self.value.fields }
+        pub fn set_count(&mut self, value: u16)
+            ensures words { self.new.draft.words
+                ≡ with_field self.old.draft.words 16 0 value }
+            ensures pointers { self.new.draft.pointers ≡ self.old.draft.pointers }
         {
-            Setter {
-                value: self.value.with_data_field(0, value),
-            }
+            self.draft.set_data_field(0, value);
+        }
+
+        /// The field `count`, as it is set.
+        pub fn get_count(&self) -> u16
+            ensures { let fields = self.now.draft in
+                result ≡ field fields.words 16 0 }
+        {
+            self.draft.get_data_field(0)
         }
 
         /// Sets the field `balance`.
-        pub fn set_balance(self, value: i32) -> Self
-            ensures words { result.value.words
-                ≡ with_field self.value.words 32 1 (bit_xor (cast_unsigned w32 value) 4294967291) }
-            ensures fields { result.value.fields ≡ self.value.fields }
+        pub fn set_balance(&mut self, value: i32)
+            ensures words { self.new.draft.words
+                ≡ with_field self.old.draft.words 32 1 (bit_xor (cast_unsigned w32 value) 4294967291) }
+            ensures pointers { self.new.draft.pointers ≡ self.old.draft.pointers }
         {
-            Setter {
-                value: self.value.with_data_field_mask(1, value, -5),
-            }
+            self.draft.set_data_field_mask(1, value, -5);
+        }
+
+        /// The field `balance`, as it is set.
+        pub fn get_balance(&self) -> i32
+            ensures { let fields = self.now.draft in
+                result ≡ cast_signed w32 (bit_xor (field fields.words 32 1) 4294967291) }
+        {
+            self.draft.get_data_field_mask(1, -5)
         }
 
         /// Sets the field `isReady`.
-        pub fn set_is_ready(self, value: bool) -> Self
-            ensures words { result.value.words
-                ≡ with_field self.value.words 1 16 (if value then 1 else 0) }
-            ensures fields { result.value.fields ≡ self.value.fields }
+        pub fn set_is_ready(&mut self, value: bool)
+            ensures words { self.new.draft.words
+                ≡ with_field self.old.draft.words 1 16 (if value then 1 else 0) }
+            ensures pointers { self.new.draft.pointers ≡ self.old.draft.pointers }
         {
-            Setter {
-                value: self.value.with_data_field(16, value),
-            }
+            self.draft.set_data_field(16, value);
         }
 
-        /// Sets the field `color`.
-        pub fn set_color(self, value: Color) -> Self
-            ensures words { let words = self.value.words in
-                elim value [
-                  | Color.Red ↦ result.value.words ≡ with_field words 16 4 0
-                  | Color.Green ↦ result.value.words ≡ with_field words 16 4 1
-                  | Color.DeepBlue ↦ result.value.words ≡ with_field words 16 4 2
-                  | Color.NotInSchema unknown ↦ result.value.words ≡ with_field words 16 4 unknown
-                ] }
-            ensures fields { result.value.fields ≡ self.value.fields }
+        /// The field `isReady`, as it is set.
+        pub fn get_is_ready(&self) -> bool
+            ensures { let fields = self.now.draft in
+                result ≡ (field fields.words 1 16 == 1) }
         {
-            Setter {
-                value: self.value.with_data_field(4, value.to_number()),
-            }
+            self.draft.get_data_field(16)
         }
 
-        /// Sets the field `nothing`.
-        pub fn set_nothing(self) -> Self
-            ensures words { result.value.words ≡ (with_field self.value.words 16 7 0) }
-            ensures fields { result.value.fields ≡ self.value.fields }
-        {
-            Setter {
-                value: self.value.with_data_field::<u16>(7, 0),
-            }
-        }
-
-        /// Sets the field `size`.
-        pub fn set_size(self, value: u32) -> Self
-            ensures words { result.value.words
-                ≡ with_field (with_field self.value.words 16 7 1) 32 4 value }
-            ensures fields { result.value.fields ≡ self.value.fields }
-        {
-            Setter {
-                value: self
-                    .value
-                    .with_data_field::<u16>(7, 1)
-                    .with_data_field(4, value),
-            }
-        }
-
-        /// Sets the field `ratio`.
-        pub fn set_ratio(self, value: f64) -> Self
-            ensures words { result.value.words
-                ≡ with_field self.value.words 64 3 (bit_xor (to_bits binary64 value) 4602678819172646912) }
-            ensures fields { result.value.fields ≡ self.value.fields }
-        {
-            Setter {
-                value: self
-                    .value
-                    .with_data_field_mask::<u64>(
-                        3,
-                        PrimitiveElement::to_bits(value),
-                        4602678819172646912,
-                    ),
-            }
-        }
-    }
-
-    impl<
-        P0: Drop,
-        P1: Drop,
-        P2: Drop,
-        P3: Drop,
-        P4: Drop,
-        P5: Drop,
-        P6: Drop,
-        P7: Drop,
-        T8,
-        P8: Drop,
-    > With<P0, P1, P2, P3, P4, P5, P6, P7, T8, P8> {
         /// Sets the field `title`.
-        pub fn set_title<V: SetterInput<text::Owned>>(
-            self,
-            value: V,
-        ) -> With<V, P1, P2, P3, P4, P5, P6, P7, T8, P8>
-            ensures words { result.value.words ≡ self.value.words }
-            ensures set { result.value.fields.value ≡ value }
-            ensures after { result.value.fields.rest
-                ≡ self.value.fields.rest }
+        pub fn set_title(&mut self, value: Orphan<text::Owned>)
+            ensures words { self.new.draft.words
+                ≡ self.old.draft.words }
+            ensures pointers { self.new.draft.pointers
+                ≡ slice_set self.old.draft.pointers 0 value.word }
         {
-            let StructValue {
-                words,
-                fields: rest,
-            } = self.value;
-            let Field {
-                rest,
-                value: _,
-                schema: _,
-            } = rest;
-            let rest = Field::new(value, rest);
-            Setter {
-                value: StructValue::new(words, rest),
-            }
+            self.draft.adopt(0, value);
+        }
+
+        /// Whether `title` is set, and not to null.
+        pub fn has_title(&self) -> bool
+            ensures { IsTrue result ↔ (slice_index_or self.now.draft.pointers 0 0 ≢ 0) }
+        {
+            self.draft.has_pointer(0)
         }
 
         /// Sets the field `payload`.
-        pub fn set_payload<V: SetterInput<capnp_wire::data::Owned>>(
-            self,
-            value: V,
-        ) -> With<P0, V, P2, P3, P4, P5, P6, P7, T8, P8>
-            ensures words { result.value.words ≡ self.value.words }
-            ensures set { result.value.fields.rest.value ≡ value }
-            ensures before_0 { result.value.fields.value
-                ≡ self.value.fields.value }
-            ensures after { result.value.fields.rest.rest
-                ≡ self.value.fields.rest.rest }
+        pub fn set_payload(&mut self, value: Orphan<capnp_wire::data::Owned>)
+            ensures words { self.new.draft.words
+                ≡ self.old.draft.words }
+            ensures pointers { self.new.draft.pointers
+                ≡ slice_set self.old.draft.pointers 1 value.word }
         {
-            let StructValue {
-                words,
-                fields: rest,
-            } = self.value;
-            let Field {
-                value: value_0,
-                rest,
-                schema: _,
-            } = rest;
-            let Field {
-                rest,
-                value: _,
-                schema: _,
-            } = rest;
-            let rest = Field::new(value, rest);
-            let rest = Field::new(value_0, rest);
-            Setter {
-                value: StructValue::new(words, rest),
-            }
+            self.draft.adopt(1, value);
+        }
+
+        /// Whether `payload` is set, and not to null.
+        pub fn has_payload(&self) -> bool
+            ensures { IsTrue result ↔ (slice_index_or self.now.draft.pointers 1 0 ≢ 0) }
+        {
+            self.draft.has_pointer(1)
         }
 
         /// Sets the field `points`.
-        pub fn set_points<V: SetterInput<capnp_wire::struct_list::Owned>>(
-            self,
-            value: V,
-        ) -> With<P0, P1, V, P3, P4, P5, P6, P7, T8, P8>
-            ensures words { result.value.words ≡ self.value.words }
-            ensures set { result.value.fields.rest.rest.value ≡ value }
-            ensures before_0 { result.value.fields.value
-                ≡ self.value.fields.value }
-            ensures before_1 { result.value.fields.rest.value
-                ≡ self.value.fields.rest.value }
-            ensures after { result.value.fields.rest.rest.rest
-                ≡ self.value.fields.rest.rest.rest }
+        pub fn set_points(&mut self, value: Orphan<super::point::OwnedList>)
+            ensures words { self.new.draft.words
+                ≡ self.old.draft.words }
+            ensures pointers { self.new.draft.pointers
+                ≡ slice_set self.old.draft.pointers 2 value.word }
         {
-            let StructValue {
-                words,
-                fields: rest,
-            } = self.value;
-            let Field {
-                value: value_0,
-                rest,
-                schema: _,
-            } = rest;
-            let Field {
-                value: value_1,
-                rest,
-                schema: _,
-            } = rest;
-            let Field {
-                rest,
-                value: _,
-                schema: _,
-            } = rest;
-            let rest = Field::new(value, rest);
-            let rest = Field::new(value_1, rest);
-            let rest = Field::new(value_0, rest);
-            Setter {
-                value: StructValue::new(words, rest),
-            }
+            self.draft.adopt(2, value);
+        }
+
+        /// Whether `points` is set, and not to null.
+        pub fn has_points(&self) -> bool
+            ensures { IsTrue result ↔ (slice_index_or self.now.draft.pointers 2 0 ≢ 0) }
+        {
+            self.draft.has_pointer(2)
         }
 
         /// Sets the field `numbers`.
-        pub fn set_numbers<V: SetterInput<capnp_wire::primitive_list::Owned<u32>>>(
-            self,
-            value: V,
-        ) -> With<P0, P1, P2, V, P4, P5, P6, P7, T8, P8>
-            ensures words { result.value.words ≡ self.value.words }
-            ensures set { result.value.fields.rest.rest.rest.value ≡ value }
-            ensures before_0 { result.value.fields.value
-                ≡ self.value.fields.value }
-            ensures before_1 { result.value.fields.rest.value
-                ≡ self.value.fields.rest.value }
-            ensures before_2 { result.value.fields.rest.rest.value
-                ≡ self.value.fields.rest.rest.value }
-            ensures after { result.value.fields.rest.rest.rest.rest
-                ≡ self.value.fields.rest.rest.rest.rest }
+        pub fn set_numbers(&mut self, value: Orphan<capnp_wire::primitive_list::Owned<u32>>)
+            ensures words { self.new.draft.words
+                ≡ self.old.draft.words }
+            ensures pointers { self.new.draft.pointers
+                ≡ slice_set self.old.draft.pointers 3 value.word }
         {
-            let StructValue {
-                words,
-                fields: rest,
-            } = self.value;
-            let Field {
-                value: value_0,
-                rest,
-                schema: _,
-            } = rest;
-            let Field {
-                value: value_1,
-                rest,
-                schema: _,
-            } = rest;
-            let Field {
-                value: value_2,
-                rest,
-                schema: _,
-            } = rest;
-            let Field {
-                rest,
-                value: _,
-                schema: _,
-            } = rest;
-            let rest = Field::new(value, rest);
-            let rest = Field::new(value_2, rest);
-            let rest = Field::new(value_1, rest);
-            let rest = Field::new(value_0, rest);
-            Setter {
-                value: StructValue::new(words, rest),
-            }
+            self.draft.adopt(3, value);
+        }
+
+        /// Whether `numbers` is set, and not to null.
+        pub fn has_numbers(&self) -> bool
+            ensures { IsTrue result ↔ (slice_index_or self.now.draft.pointers 3 0 ≢ 0) }
+        {
+            self.draft.has_pointer(3)
         }
 
         /// Sets the field `origin`.
-        pub fn set_origin<V: SetterInput<capnp_wire::any_struct::Owned>>(
-            self,
-            value: super::point::Setter<V>,
-        ) -> With<P0, P1, P2, P3, V, P5, P6, P7, T8, P8>
-            ensures words { result.value.words ≡ self.value.words }
-            ensures set { result.value.fields.rest.rest.rest.rest.value ≡ value.value }
-            ensures before_0 { result.value.fields.value
-                ≡ self.value.fields.value }
-            ensures before_1 { result.value.fields.rest.value
-                ≡ self.value.fields.rest.value }
-            ensures before_2 { result.value.fields.rest.rest.value
-                ≡ self.value.fields.rest.rest.value }
-            ensures before_3 { result.value.fields.rest.rest.rest.value
-                ≡ self.value.fields.rest.rest.rest.value }
-            ensures after { result.value.fields.rest.rest.rest.rest.rest
-                ≡ self.value.fields.rest.rest.rest.rest.rest }
+        pub fn set_origin(&mut self, value: Orphan<super::point::Owned>)
+            ensures words { self.new.draft.words
+                ≡ self.old.draft.words }
+            ensures pointers { self.new.draft.pointers
+                ≡ slice_set self.old.draft.pointers 4 value.word }
         {
-            let StructValue {
-                words,
-                fields: rest,
-            } = self.value;
-            let Field {
-                value: value_0,
-                rest,
-                schema: _,
-            } = rest;
-            let Field {
-                value: value_1,
-                rest,
-                schema: _,
-            } = rest;
-            let Field {
-                value: value_2,
-                rest,
-                schema: _,
-            } = rest;
-            let Field {
-                value: value_3,
-                rest,
-                schema: _,
-            } = rest;
-            let Field {
-                rest,
-                value: _,
-                schema: _,
-            } = rest;
-            let rest = Field::new(value.value, rest);
-            let rest = Field::new(value_3, rest);
-            let rest = Field::new(value_2, rest);
-            let rest = Field::new(value_1, rest);
-            let rest = Field::new(value_0, rest);
-            Setter {
-                value: StructValue::new(words, rest),
-            }
+            self.draft.adopt(4, value);
+        }
+
+        /// Whether `origin` is set, and not to null.
+        pub fn has_origin(&self) -> bool
+            ensures { IsTrue result ↔ (slice_index_or self.now.draft.pointers 4 0 ≢ 0) }
+        {
+            self.draft.has_pointer(4)
+        }
+
+        /// Sets the field `color`.
+        pub fn set_color(&mut self, value: Color)
+            ensures words { let words = self.old.draft.words in
+                elim value [
+                  | Color.Red ↦ self.new.draft.words ≡ with_field words 16 4 0
+                  | Color.Green ↦ self.new.draft.words ≡ with_field words 16 4 1
+                  | Color.DeepBlue ↦ self.new.draft.words ≡ with_field words 16 4 2
+                  | Color.NotInSchema unknown ↦ self.new.draft.words ≡ with_field words 16 4 unknown
+                ] }
+            ensures pointers { self.new.draft.pointers ≡ self.old.draft.pointers }
+        {
+            self.draft.set_data_field(4, value.to_number());
+        }
+
+        /// The field `color`, as it is set.
+        pub fn get_color(&self) -> Color
+            ensures { let fields = self.now.draft in
+                let number = field fields.words 16 4 in
+                elim result [
+                  | Color.Red ↦ number ≡ 0
+                  | Color.Green ↦ number ≡ 1
+                  | Color.DeepBlue ↦ number ≡ 2
+                  | Color.NotInSchema unknown ↦ (unknown ≡ number) × (3 ≤ number)
+                ] }
+        {
+            Color::from_number(self.draft.get_data_field(4))
+        }
+
+        /// Sets the field `nothing`.
+        pub fn set_nothing(&mut self)
+            ensures words { self.new.draft.words
+                ≡ (with_field self.old.draft.words 16 7 0) }
+            ensures pointers { self.new.draft.pointers ≡ self.old.draft.pointers }
+        {
+            self.draft.set_data_field::<u16>(7, 0);
+        }
+
+        /// Sets the field `size`.
+        pub fn set_size(&mut self, value: u32)
+            ensures words { self.new.draft.words
+                ≡ with_field (with_field self.old.draft.words 16 7 1) 32 4 value }
+            ensures pointers { self.new.draft.pointers ≡ self.old.draft.pointers }
+        {
+            self.draft.set_data_field::<u16>(7, 1);
+            self.draft.set_data_field(4, value);
+        }
+
+        /// The field `size`, as it is set.
+        pub fn get_size(&self) -> u32
+            ensures { let fields = self.now.draft in
+                result ≡ field fields.words 32 4 }
+        {
+            self.draft.get_data_field(4)
         }
 
         /// Sets the field `label`.
-        pub fn set_label<V: SetterInput<text::Owned>>(
-            self,
-            value: V,
-        ) -> With<P0, P1, P2, P3, P4, V, P6, P7, T8, P8>
-            ensures words { result.value.words ≡ (with_field self.value.words 16 7 2) }
-            ensures set { result.value.fields.rest.rest.rest.rest.rest.value ≡ value }
-            ensures before_0 { result.value.fields.value
-                ≡ self.value.fields.value }
-            ensures before_1 { result.value.fields.rest.value
-                ≡ self.value.fields.rest.value }
-            ensures before_2 { result.value.fields.rest.rest.value
-                ≡ self.value.fields.rest.rest.value }
-            ensures before_3 { result.value.fields.rest.rest.rest.value
-                ≡ self.value.fields.rest.rest.rest.value }
-            ensures before_4 { result.value.fields.rest.rest.rest.rest.value
-                ≡ self.value.fields.rest.rest.rest.rest.value }
-            ensures after { result.value.fields.rest.rest.rest.rest.rest.rest
-                ≡ self.value.fields.rest.rest.rest.rest.rest.rest }
+        pub fn set_label(&mut self, value: Orphan<text::Owned>)
+            ensures words { self.new.draft.words
+                ≡ (with_field self.old.draft.words 16 7 2) }
+            ensures pointers { self.new.draft.pointers
+                ≡ slice_set self.old.draft.pointers 5 value.word }
         {
-            let StructValue {
-                words,
-                fields: rest,
-            } = self.value;
-            let Field {
-                value: value_0,
-                rest,
-                schema: _,
-            } = rest;
-            let Field {
-                value: value_1,
-                rest,
-                schema: _,
-            } = rest;
-            let Field {
-                value: value_2,
-                rest,
-                schema: _,
-            } = rest;
-            let Field {
-                value: value_3,
-                rest,
-                schema: _,
-            } = rest;
-            let Field {
-                value: value_4,
-                rest,
-                schema: _,
-            } = rest;
-            let Field {
-                rest,
-                value: _,
-                schema: _,
-            } = rest;
-            let rest = Field::new(value, rest);
-            let rest = Field::new(value_4, rest);
-            let rest = Field::new(value_3, rest);
-            let rest = Field::new(value_2, rest);
-            let rest = Field::new(value_1, rest);
-            let rest = Field::new(value_0, rest);
-            Setter {
-                value: StructValue::new(words, rest).with_data_field::<u16>(7, 2),
-            }
+            self.draft.set_data_field::<u16>(7, 2);
+            self.draft.adopt(5, value);
+        }
+
+        /// Whether `label` is set, and not to null.
+        pub fn has_label(&self) -> bool
+            ensures { IsTrue result ↔ (slice_index_or self.now.draft.pointers 5 0 ≢ 0) }
+        {
+            self.draft.has_pointer(5)
+        }
+
+        /// Sets the field `ratio`.
+        pub fn set_ratio(&mut self, value: f64)
+            ensures words { self.new.draft.words
+                ≡ with_field self.old.draft.words 64 3 (bit_xor (to_bits binary64 value) 4602678819172646912) }
+            ensures pointers { self.new.draft.pointers ≡ self.old.draft.pointers }
+        {
+            let bits = PrimitiveElement::to_bits(value);
+            self.draft
+                .set_data_field_mask::<u64>(3, bits, 4602678819172646912);
+        }
+
+        /// The field `ratio`, as it is set.
+        pub fn get_ratio(&self) -> f64
+            ensures { let fields = self.now.draft in
+                result ≡ from_bits binary64 (bit_xor (field fields.words 64 3) 4602678819172646912) }
+        {
+            let bits: u64 = self.draft.get_data_field_mask(3, 4602678819172646912);
+            PrimitiveElement::from_bits(bits)
         }
 
         /// Sets the field `note`.
-        pub fn set_note<V: SetterInput<text::Owned>>(
-            self,
-            value: V,
-        ) -> With<P0, P1, P2, P3, P4, P5, V, P7, T8, P8>
-            ensures words { result.value.words ≡ self.value.words }
-            ensures set { result.value.fields.rest.rest.rest.rest.rest.rest.value ≡ value }
-            ensures before_0 { result.value.fields.value
-                ≡ self.value.fields.value }
-            ensures before_1 { result.value.fields.rest.value
-                ≡ self.value.fields.rest.value }
-            ensures before_2 { result.value.fields.rest.rest.value
-                ≡ self.value.fields.rest.rest.value }
-            ensures before_3 { result.value.fields.rest.rest.rest.value
-                ≡ self.value.fields.rest.rest.rest.value }
-            ensures before_4 { result.value.fields.rest.rest.rest.rest.value
-                ≡ self.value.fields.rest.rest.rest.rest.value }
-            ensures before_5 { result.value.fields.rest.rest.rest.rest.rest.value
-                ≡ self.value.fields.rest.rest.rest.rest.rest.value }
-            ensures after { result.value.fields.rest.rest.rest.rest.rest.rest.rest
-                ≡ self.value.fields.rest.rest.rest.rest.rest.rest.rest }
+        pub fn set_note(&mut self, value: Orphan<text::Owned>)
+            ensures words { self.new.draft.words
+                ≡ self.old.draft.words }
+            ensures pointers { self.new.draft.pointers
+                ≡ slice_set self.old.draft.pointers 6 value.word }
         {
-            let StructValue {
-                words,
-                fields: rest,
-            } = self.value;
-            let Field {
-                value: value_0,
-                rest,
-                schema: _,
-            } = rest;
-            let Field {
-                value: value_1,
-                rest,
-                schema: _,
-            } = rest;
-            let Field {
-                value: value_2,
-                rest,
-                schema: _,
-            } = rest;
-            let Field {
-                value: value_3,
-                rest,
-                schema: _,
-            } = rest;
-            let Field {
-                value: value_4,
-                rest,
-                schema: _,
-            } = rest;
-            let Field {
-                value: value_5,
-                rest,
-                schema: _,
-            } = rest;
-            let Field {
-                rest,
-                value: _,
-                schema: _,
-            } = rest;
-            let rest = Field::new(value, rest);
-            let rest = Field::new(value_5, rest);
-            let rest = Field::new(value_4, rest);
-            let rest = Field::new(value_3, rest);
-            let rest = Field::new(value_2, rest);
-            let rest = Field::new(value_1, rest);
-            let rest = Field::new(value_0, rest);
-            Setter {
-                value: StructValue::new(words, rest),
-            }
+            self.draft.adopt(6, value);
+        }
+
+        /// Whether `note` is set, and not to null.
+        pub fn has_note(&self) -> bool
+            ensures { IsTrue result ↔ (slice_index_or self.now.draft.pointers 6 0 ≢ 0) }
+        {
+            self.draft.has_pointer(6)
         }
 
         /// Sets the field `target`.
-        pub fn set_target<V: SetterInput<capnp_wire::any_struct::Owned>>(
-            self,
-            value: super::point::Setter<V>,
-        ) -> With<P0, P1, P2, P3, P4, P5, P6, V, T8, P8>
-            ensures words { result.value.words ≡ self.value.words }
-            ensures set { result.value.fields.rest.rest.rest.rest.rest.rest.rest.value ≡ value.value }
-            ensures before_0 { result.value.fields.value
-                ≡ self.value.fields.value }
-            ensures before_1 { result.value.fields.rest.value
-                ≡ self.value.fields.rest.value }
-            ensures before_2 { result.value.fields.rest.rest.value
-                ≡ self.value.fields.rest.rest.value }
-            ensures before_3 { result.value.fields.rest.rest.rest.value
-                ≡ self.value.fields.rest.rest.rest.value }
-            ensures before_4 { result.value.fields.rest.rest.rest.rest.value
-                ≡ self.value.fields.rest.rest.rest.rest.value }
-            ensures before_5 { result.value.fields.rest.rest.rest.rest.rest.value
-                ≡ self.value.fields.rest.rest.rest.rest.rest.value }
-            ensures before_6 { result.value.fields.rest.rest.rest.rest.rest.rest.value
-                ≡ self.value.fields.rest.rest.rest.rest.rest.rest.value }
-            ensures after { result.value.fields.rest.rest.rest.rest.rest.rest.rest.rest
-                ≡ self.value.fields.rest.rest.rest.rest.rest.rest.rest.rest }
+        pub fn set_target(&mut self, value: Orphan<super::point::Owned>)
+            ensures words { self.new.draft.words
+                ≡ self.old.draft.words }
+            ensures pointers { self.new.draft.pointers
+                ≡ slice_set self.old.draft.pointers 7 value.word }
         {
-            let StructValue {
-                words,
-                fields: rest,
-            } = self.value;
-            let Field {
-                value: value_0,
-                rest,
-                schema: _,
-            } = rest;
-            let Field {
-                value: value_1,
-                rest,
-                schema: _,
-            } = rest;
-            let Field {
-                value: value_2,
-                rest,
-                schema: _,
-            } = rest;
-            let Field {
-                value: value_3,
-                rest,
-                schema: _,
-            } = rest;
-            let Field {
-                value: value_4,
-                rest,
-                schema: _,
-            } = rest;
-            let Field {
-                value: value_5,
-                rest,
-                schema: _,
-            } = rest;
-            let Field {
-                value: value_6,
-                rest,
-                schema: _,
-            } = rest;
-            let Field {
-                rest,
-                value: _,
-                schema: _,
-            } = rest;
-            let rest = Field::new(value.value, rest);
-            let rest = Field::new(value_6, rest);
-            let rest = Field::new(value_5, rest);
-            let rest = Field::new(value_4, rest);
-            let rest = Field::new(value_3, rest);
-            let rest = Field::new(value_2, rest);
-            let rest = Field::new(value_1, rest);
-            let rest = Field::new(value_0, rest);
-            Setter {
-                value: StructValue::new(words, rest),
-            }
+            self.draft.adopt(7, value);
+        }
+
+        /// Whether `target` is set, and not to null.
+        pub fn has_target(&self) -> bool
+            ensures { IsTrue result ↔ (slice_index_or self.now.draft.pointers 7 0 ≢ 0) }
+        {
+            self.draft.has_pointer(7)
         }
 
         /// Sets the field `anything`.
-        pub fn set_anything<T, V: SetterInput<T>>(
-            self,
-            value: V,
-        ) -> With<P0, P1, P2, P3, P4, P5, P6, P7, T, V>
-            ensures words { result.value.words ≡ self.value.words }
-            ensures set { result.value.fields.rest.rest.rest.rest.rest.rest.rest.rest.value ≡ value }
-            ensures before_0 { result.value.fields.value
-                ≡ self.value.fields.value }
-            ensures before_1 { result.value.fields.rest.value
-                ≡ self.value.fields.rest.value }
-            ensures before_2 { result.value.fields.rest.rest.value
-                ≡ self.value.fields.rest.rest.value }
-            ensures before_3 { result.value.fields.rest.rest.rest.value
-                ≡ self.value.fields.rest.rest.rest.value }
-            ensures before_4 { result.value.fields.rest.rest.rest.rest.value
-                ≡ self.value.fields.rest.rest.rest.rest.value }
-            ensures before_5 { result.value.fields.rest.rest.rest.rest.rest.value
-                ≡ self.value.fields.rest.rest.rest.rest.rest.value }
-            ensures before_6 { result.value.fields.rest.rest.rest.rest.rest.rest.value
-                ≡ self.value.fields.rest.rest.rest.rest.rest.rest.value }
-            ensures before_7 { result.value.fields.rest.rest.rest.rest.rest.rest.rest.value
-                ≡ self.value.fields.rest.rest.rest.rest.rest.rest.rest.value }
-            ensures after { result.value.fields.rest.rest.rest.rest.rest.rest.rest.rest.rest
-                ≡ self.value.fields.rest.rest.rest.rest.rest.rest.rest.rest.rest }
+        pub fn set_anything<T>(&mut self, value: Orphan<T>)
+            ensures words { self.new.draft.words
+                ≡ self.old.draft.words }
+            ensures pointers { self.new.draft.pointers
+                ≡ slice_set self.old.draft.pointers 8 value.word }
         {
-            let StructValue {
-                words,
-                fields: rest,
-            } = self.value;
-            let Field {
-                value: value_0,
-                rest,
-                schema: _,
-            } = rest;
-            let Field {
-                value: value_1,
-                rest,
-                schema: _,
-            } = rest;
-            let Field {
-                value: value_2,
-                rest,
-                schema: _,
-            } = rest;
-            let Field {
-                value: value_3,
-                rest,
-                schema: _,
-            } = rest;
-            let Field {
-                value: value_4,
-                rest,
-                schema: _,
-            } = rest;
-            let Field {
-                value: value_5,
-                rest,
-                schema: _,
-            } = rest;
-            let Field {
-                value: value_6,
-                rest,
-                schema: _,
-            } = rest;
-            let Field {
-                value: value_7,
-                rest,
-                schema: _,
-            } = rest;
-            let Field {
-                rest,
-                value: _,
-                schema: _,
-            } = rest;
-            let rest = Field::new(value, rest);
-            let rest = Field::new(value_7, rest);
-            let rest = Field::new(value_6, rest);
-            let rest = Field::new(value_5, rest);
-            let rest = Field::new(value_4, rest);
-            let rest = Field::new(value_3, rest);
-            let rest = Field::new(value_2, rest);
-            let rest = Field::new(value_1, rest);
-            let rest = Field::new(value_0, rest);
-            Setter {
-                value: StructValue::new(words, rest),
-            }
+            self.draft.adopt(8, value);
+        }
+
+        /// Whether `anything` is set, and not to null.
+        pub fn has_anything(&self) -> bool
+            ensures { IsTrue result ↔ (slice_index_or self.now.draft.pointers 8 0 ≢ 0) }
+        {
+            self.draft.has_pointer(8)
         }
     }
 
@@ -1367,7 +1365,6 @@ pub mod sample {
     /// What is seen of it.
     pub mod window {
         use capnp_frame::message::ReaderSegments;
-        use capnp_values::StructValue;
         use capnp_wire::any_struct::StructReader;
 
         /// The group, in a struct in a message.
@@ -1395,27 +1392,39 @@ pub mod sample {
             }
         }
 
-        impl<F> super::Setter<StructValue<4, F>> {
+        impl super::Builder {
             /// Sets the field `width`.
-            pub fn set_window_width(self, value: u16) -> Self
-                ensures words { result.value.words
-                    ≡ with_field self.value.words 16 5 value }
-                ensures fields { result.value.fields ≡ self.value.fields }
+            pub fn set_window_width(&mut self, value: u16)
+                ensures words { self.new.draft.words
+                    ≡ with_field self.old.draft.words 16 5 value }
+                ensures pointers { self.new.draft.pointers ≡ self.old.draft.pointers }
             {
-                super::Setter {
-                    value: self.value.with_data_field(5, value),
-                }
+                self.draft.set_data_field(5, value);
+            }
+
+            /// The field `width`, as it is set.
+            pub fn get_window_width(&self) -> u16
+                ensures { let fields = self.now.draft in
+                    result ≡ field fields.words 16 5 }
+            {
+                self.draft.get_data_field(5)
             }
 
             /// Sets the field `height`.
-            pub fn set_window_height(self, value: u16) -> Self
-                ensures words { result.value.words
-                    ≡ with_field self.value.words 16 6 value }
-                ensures fields { result.value.fields ≡ self.value.fields }
+            pub fn set_window_height(&mut self, value: u16)
+                ensures words { self.new.draft.words
+                    ≡ with_field self.old.draft.words 16 6 value }
+                ensures pointers { self.new.draft.pointers ≡ self.old.draft.pointers }
             {
-                super::Setter {
-                    value: self.value.with_data_field(6, value),
-                }
+                self.draft.set_data_field(6, value);
+            }
+
+            /// The field `height`, as it is set.
+            pub fn get_window_height(&self) -> u16
+                ensures { let fields = self.now.draft in
+                    result ≡ field fields.words 16 6 }
+            {
+                self.draft.get_data_field(6)
             }
         }
     }

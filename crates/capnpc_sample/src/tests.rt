@@ -1,6 +1,8 @@
 //! Messages that the C++ tool wrote of `sample.capnp`, read by the types that are made of it, and messages
 //! that these make.
-mod values;
+mod address_book;
+mod builders;
+mod trees;
 
 use crate::sample_capnp::{Color, LIMIT, get_corner, sample};
 use capnp_constant::OrDefault;

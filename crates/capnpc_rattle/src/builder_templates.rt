@@ -1,0 +1,142 @@
+//! The code that is written of builders, with `@name@` for what differs.
+
+/// A struct before it is written, and a list of such structs as a type of the schema.
+pub const BUILDER: &str = "
+/// A list of such structs, as a type of the schema.
+pub struct OwnedList;
+
+impl<'a, S: ReaderSegments + 'a> traits::Owned<'a, S> for OwnedList {
+    type Reader = ListReader<'a, S>;
+}
+
+/// A struct of this type before it is written. What is not set has its default.
+#[derive(Clone, Copy)]
+pub struct Builder {
+    /// Its data words, and what its pointers lead to.
+    pub draft: StructDraft<Owned, @words@, @pointers@>,
+}
+
+impl Builder {
+    /// One in which nothing is set, so that each field has its default.
+    pub fn new() -> Builder
+        ensures words { result.draft.words ≡ replicate @words@ 0 }
+        ensures pointers { result.draft.pointers ≡ replicate @pointers@ 0 }
+    {
+        Builder {
+            draft: StructDraft::new(),
+        }
+    }
+
+    /// Writes it, as an object that a pointer can lead to.
+    pub fn add<S: GrowingSegment>(&self, objects: &mut Orphanage<S>) -> Result<Orphan<Owned>>
+        ensures adds { Adds (HoldsStruct (body_of objects.old) self.now.draft.words
+            self.now.draft.pointers) objects.old objects.new word_of result }
+        ensures writes { Writes (StructWords @words@ @pointers@) (ExceedsPointer @words@ @pointers@)
+            objects.old objects.new result }
+    {
+        objects.add(&self.draft)
+    }
+
+    /// Writes it as the root of the message.
+    pub fn add_root<S: GrowingSegment>(&self, objects: &mut Orphanage<S>) -> Result<()>
+        ensures adds { AddsRoot (StructWords @words@ @pointers@) (HoldsStruct (body_of objects.old)
+            self.now.draft.words self.now.draft.pointers) objects.old objects.new result }
+        ensures fails { Fails (StructWords @words@ @pointers@) (ExceedsPointer @words@ @pointers@)
+            objects.old result }
+    {
+        objects.add_root(&self.draft)
+    }
+
+    /// Writes a list of such structs.
+    pub fn add_list<S: GrowingSegment>(
+        elements: &[Builder],
+        objects: &mut Orphanage<S>,
+    ) -> Result<Orphan<OwnedList>>
+        ensures adds { Adds (HoldsStructs (body_of objects.old)
+            (map (λ element. element.draft) elements.now)) objects.old objects.new word_of result }
+        ensures writes { let count = length elements.now in
+            Writes (TakesStructs @words@ @pointers@ count) (ManyStructs @words@ @pointers@ count)
+            objects.old objects.new result }
+    {
+        let list = objects.made_struct_list(&Drafts::new(elements))?;
+        Ok(list.of_type())
+    }
+}
+
+impl Draft<Owned, @words@, @pointers@> for Builder {
+    ghost draft = { λ builder. builder.draft };
+
+    fn draft(&self) -> StructDraft<Owned, @words@, @pointers@> {
+        self.draft
+    }
+}
+";
+
+/// What stands before the setters of the fields of a struct or a group.
+pub const ACCESSORS: &str = "
+impl @path@Builder {
+";
+
+/// The setter of a number, a bool or an enum.
+pub const NUMBER_SETTER: &str = "pub fn set_@name@(&mut self, value: @type@)
+    ensures words { @clause@ }
+    ensures pointers { self.new.draft.pointers ≡ self.old.draft.pointers }
+{
+    @code@
+}
+";
+
+/// The setter of nothing that is a member of a union.
+pub const VOID_SETTER: &str = "pub fn set_@name@(&mut self)
+    ensures words { @clause@ }
+    ensures pointers { self.new.draft.pointers ≡ self.old.draft.pointers }
+{
+    @code@
+}
+";
+
+/// What a clause says of the words that are set.
+pub const WORDS_CLAUSE: &str = "self.new.draft.words
+    ≡ @words@";
+
+/// What a clause says where an enum is set.
+pub const ENUM_CLAUSE: &str = "let words = @words@ in
+elim value [
+@cases@
+]";
+
+/// The setter of a pointer.
+pub const POINTER_SETTER: &str = "pub fn set_@name@@generic@(&mut self, value: Orphan<@owned@>)
+    ensures words { @clause@ }
+    ensures pointers { self.new.draft.pointers
+        ≡ slice_set self.old.draft.pointers @offset@ value.word }
+{
+    @code@
+}
+";
+
+/// Whether a pointer is set.
+pub const HAS_SET: &str = "
+/// Whether `@field@` is set, and not to null.
+pub fn has_@name@(&self) -> bool
+    ensures { IsTrue result ↔ (slice_index_or self.now.draft.pointers @offset@ 0 ≢ 0) }
+{
+    self.draft.has_pointer(@offset@)
+}
+";
+
+/// The number of an enumerant.
+pub const ENUM_NUMBER: &str = "
+impl @type@ {
+    /// Its number.
+    pub fn to_number(self) -> u16
+        ensures { elim self [
+        @cases@
+        ] }
+    {
+        match self {
+            @arms@
+        }
+    }
+}
+";

@@ -1,0 +1,104 @@
+//! What clauses say of the data words in which a field is set.
+use crate::builder_templates::{ENUM_CLAUSE, WORDS_CLAUSE};
+use crate::code::{Holes, fill, fill_with};
+use crate::enums::{enum_name, enumerants_of};
+use crate::names::variant;
+use crate::numbers::{Number, NumberKind, default_bits};
+use crate::schema::{Base, Place};
+use crate::shown::Site;
+use std::alloc::{AllocError, Global};
+use std::fmt::Write;
+
+/// The words in which these numbers of unions are set, as a clause names them.
+pub fn words_with(alloc: Global, tags: &[(u32, u16)]) -> Result<String, AllocError> {
+    let mut words = String::from_str(alloc, "self.old.draft.words")?;
+    for (offset, number) in tags {
+        let before = words.as_str();
+        words = format!(in alloc; "(with_field {before} 16 {offset} {number})")?;
+    }
+    Ok(words)
+}
+
+/// What a clause says of the words: that they are these.
+pub fn words_clause(alloc: Global, words: &str) -> Result<String, AllocError> {
+    fill_with(alloc, WORDS_CLAUSE, "words", words)
+}
+
+/// What a clause says of the words in which a number is set, too.
+pub fn number_clause(
+    alloc: Global,
+    site: Site<'_>,
+    number: Number,
+    place: &Place,
+    words: &str,
+) -> Result<String, AllocError> {
+    if let Base::Enum(id) = place.of.base {
+        let holes = Holes::new(alloc)
+            .with("words", words)?
+            .holding("cases", enum_cases(alloc, site, id, number, place)?)?;
+        return fill(alloc, ENUM_CLAUSE, &holes);
+    }
+    let (width, offset) = (number.width, place.offset);
+    let bits = bits_of(alloc, number, "value", default_bits(&place.default))?;
+    let bits = bits.as_str();
+    let words = format!(in alloc; "with_field {words} {width} {offset} {bits}")?;
+    words_clause(alloc, words.as_str())
+}
+
+// The bits of a number, as a clause names them.
+fn bits_of(alloc: Global, number: Number, value: &str, default: u64) -> Result<String, AllocError> {
+    let width = number.width;
+    let bits = match number.kind {
+        NumberKind::Bool => format!(in alloc; "(if {value} then 1 else 0)")?,
+        NumberKind::Unsigned => String::from_str(alloc, value)?,
+        NumberKind::Signed => format!(in alloc; "(cast_unsigned w{width} {value})")?,
+        NumberKind::Float => format!(in alloc; "(to_bits binary{width} {value})")?,
+    };
+    if default == 0 {
+        return Ok(bits);
+    }
+    let bits = bits.as_str();
+    format!(in alloc; "(bit_xor {bits} {default})")
+}
+
+// The cases of a clause over an enum: the bits that are set for each enumerant.
+fn enum_cases(
+    alloc: Global,
+    site: Site<'_>,
+    id: u64,
+    number: Number,
+    place: &Place,
+) -> Result<String, AllocError> {
+    let name = enum_name(alloc, site, id)?;
+    let name = name.as_str();
+    let mut cases = String::new(alloc);
+    let mut count: u32 = 0;
+    for enumerant in enumerants_of(site.request, id) {
+        let variant = variant(alloc, enumerant.as_str())?;
+        let value = format!(in alloc; "{count}")?;
+        write!(cases, "  | {name}.{variant} ↦ ")?;
+        push_set(alloc, &mut cases, number, place, value.as_str())?;
+        cases.push('\n')?;
+        count = count.saturating_add(1);
+    }
+    write!(cases, "  | {name}.NotInSchema unknown ↦ ")?;
+    push_set(alloc, &mut cases, number, place, "unknown")?;
+    Ok(cases)
+}
+
+// Adds that the field has the bits of a value, in a clause where `words` has the numbers of unions.
+fn push_set(
+    alloc: Global,
+    text: &mut String,
+    number: Number,
+    place: &Place,
+    value: &str,
+) -> Result<(), AllocError> {
+    let offset = place.offset;
+    let bits = bits_of(alloc, number, value, default_bits(&place.default))?;
+    let bits = bits.as_str();
+    write!(
+        text,
+        "self.new.draft.words ≡ with_field words 16 {offset} {bits}"
+    )
+}

@@ -1,0 +1,992 @@
+//! Types of `addressbook.capnp`, made by `capnpc-rattle`: change that file, and make them again.
+ghost use Rattle.std.specs.Prelude.{◌≡◌, ◌≤◌, ◌<◌, ◌↔◌, ◌≢◌, IsTrue, length, map, replicate, slice_index_or, slice_set};
+ghost use Rattle.capnp_orphans.specs.Adding.{Adds, AddsRoot, Fails, Writes};
+ghost use Rattle.capnp_orphans.specs.Held.{word_of, HoldsStruct, HoldsStructs, TakesStruct as StructWords, TakesStructs, ExceedsPointer, ManyStructs};
+ghost use Rattle.capnp_orphans.specs.Segments.{body_of};
+ghost use Rattle.capnp_values.specs.DataSections.{with_field};
+ghost use Rattle.capnp_wire.specs.Fields.{field};
+ghost use Rattle.capnp_wire.specs.ListViews.{element_of};
+ghost use Rattle.capnp_wire.specs.Object.{nothing};
+ghost use Rattle.capnp_wire.specs.Readers.{struct_of, pointer_of};
+ghost use Rattle.capnp_wire.specs.UpgradedReaders.{upgraded_structs_of};
+ghost use Rattle.capnp_wire.specs.UpgradedViews.{IsUpgradedStructs, TakesRows, DeclinesRows};
+ghost use Rattle.capnp_wire.specs.Views.{IsViewOf, IsStruct, IsText, Accepts, Refuses, Declines, Denotes, Reads, TakesStruct, TakesText, DeclinesStruct, DeclinesText, pointer_in};
+
+pub mod person {
+    use capnp_frame::Result;
+    use capnp_frame::message::ReaderSegments;
+    use capnp_orphans::{Draft, Drafts, GrowingSegment, Orphan, Orphanage, StructDraft};
+    use capnp_wire::any_struct::StructReader;
+    use capnp_wire::traits::{self, FromPointerReader};
+    use capnp_wire::{any_pointer, text, upgraded};
+
+    /// The type of the schema.
+    pub struct Owned;
+
+    impl<'a, S: ReaderSegments + 'a> traits::Owned<'a, S> for Owned {
+        type Reader = Reader<'a, S>;
+    }
+
+    /// A struct of this type in a message. What its writer left out reads as the default.
+    #[derive(Drop)]
+    pub struct Reader<'a, S: ReaderSegments> {
+        /// The struct whose fields these are.
+        pub fields: StructReader<'a, S>,
+    }
+
+    impl<'a, S: ReaderSegments> Reader<'a, S> {
+        /// The field `id`.
+        pub fn get_id(&self) -> u32
+            ensures { let fields = struct_of S.segments self.now.fields in
+                result ≡ field fields.words 32 0 }
+        {
+            self.fields.get_data_field(0)
+        }
+
+        /// The field `name`.
+        pub fn get_name(&self) -> Result<text::Reader<'a>>
+            ensures { let fields = struct_of S.segments self.now.fields in
+                let pointer = pointer_in fields 0 in
+                IsViewOf pointer
+                (λ view. Reads pointer (λ form. IsText form view.bytes.now))
+                (Accepts pointer TakesText) (Refuses pointer DeclinesText)
+                (Declines pointer DeclinesText) result }
+        {
+            FromPointerReader::get_from_pointer(self.fields.get_pointer(0))
+        }
+
+        /// Whether `name` is there, and is not null.
+        pub fn has_name(&self) -> bool
+            ensures { let fields = struct_of S.segments self.now.fields in
+                IsTrue result ↔ (Denotes (pointer_in fields 0) nothing → ⊥) }
+        {
+            self.fields.has_pointer(0)
+        }
+
+        /// The field `email`.
+        pub fn get_email(&self) -> Result<text::Reader<'a>>
+            ensures { let fields = struct_of S.segments self.now.fields in
+                let pointer = pointer_in fields 1 in
+                IsViewOf pointer
+                (λ view. Reads pointer (λ form. IsText form view.bytes.now))
+                (Accepts pointer TakesText) (Refuses pointer DeclinesText)
+                (Declines pointer DeclinesText) result }
+        {
+            FromPointerReader::get_from_pointer(self.fields.get_pointer(1))
+        }
+
+        /// Whether `email` is there, and is not null.
+        pub fn has_email(&self) -> bool
+            ensures { let fields = struct_of S.segments self.now.fields in
+                IsTrue result ↔ (Denotes (pointer_in fields 1) nothing → ⊥) }
+        {
+            self.fields.has_pointer(1)
+        }
+
+        /// The field `phones`.
+        pub fn get_phones(&self) -> Result<phone_number::ListReader<'a, S>>
+            ensures { let fields = struct_of S.segments self.now.fields in
+                let pointer = pointer_in fields 2 in
+                IsViewOf pointer
+                (λ view. IsUpgradedStructs pointer (upgraded_structs_of S.segments view.elements))
+                (Accepts pointer TakesRows) (Refuses pointer DeclinesRows)
+                (Declines pointer DeclinesRows) result }
+        {
+            FromPointerReader::get_from_pointer(self.fields.get_pointer(2))
+        }
+
+        /// Whether `phones` is there, and is not null.
+        pub fn has_phones(&self) -> bool
+            ensures { let fields = struct_of S.segments self.now.fields in
+                IsTrue result ↔ (Denotes (pointer_in fields 2) nothing → ⊥) }
+        {
+            self.fields.has_pointer(2)
+        }
+
+        /// The field `employment`.
+        pub fn get_employment(&self) -> employment::Reader<'_, 'a, S>
+            ensures { let fields = struct_of S.segments self.now.fields in
+                struct_of S.segments result.fields.now ≡ fields }
+        {
+            employment::Reader {
+                fields: &self.fields,
+            }
+        }
+    }
+
+    impl<'a, S: ReaderSegments> FromPointerReader<'a, S> for Reader<'a, S> {
+        ghost shows = { λ pointer view. IsStruct pointer (struct_of S.segments view.fields) };
+
+        ghost accepts = { λ pointer. Accepts pointer TakesStruct };
+
+        ghost refuses = { λ pointer kind. Refuses pointer DeclinesStruct kind };
+
+        ghost declines = { λ pointer kind. Declines pointer DeclinesStruct kind };
+
+        fn get_from_pointer(reader: any_pointer::Reader<'a, S>) -> Result<Self>
+            ensures { let pointer = pointer_of S.segments reader.entry in IsViewOf pointer
+                (λ view. IsStruct pointer (struct_of S.segments view.fields))
+                (Accepts pointer TakesStruct) (Refuses pointer DeclinesStruct)
+                (Declines pointer DeclinesStruct) result }
+        {
+            match StructReader::get_from_pointer(reader) {
+                Ok(fields) => Ok(Reader { fields }),
+                Err(error) => Err(error),
+            }
+        }
+    }
+
+    /// A list of such structs in a message; their first fields alone, where an older writer had these.
+    #[derive(Drop)]
+    pub struct ListReader<'a, S: ReaderSegments> {
+        /// The list whose elements these are.
+        pub elements: upgraded::StructList<'a, S>,
+    }
+
+    impl<'a, S: ReaderSegments> ListReader<'a, S> {
+        /// The number of elements.
+        pub fn len(&self) -> u32
+            ensures { result ≡ length (upgraded_structs_of S.segments self.now.elements).rows }
+        {
+            self.elements.len()
+        }
+
+        /// The element of this index.
+        pub fn get(&self, index: u32) -> Reader<'a, S>
+            requires { index < length (upgraded_structs_of S.segments self.now.elements).rows }
+            ensures { struct_of S.segments result.fields
+                ≡ element_of (upgraded_structs_of S.segments self.now.elements) index }
+        {
+            Reader {
+                fields: self.elements.get(index),
+            }
+        }
+    }
+
+    impl<'a, S: ReaderSegments> FromPointerReader<'a, S> for ListReader<'a, S> {
+        ghost shows = { λ pointer view.
+            IsUpgradedStructs pointer (upgraded_structs_of S.segments view.elements) };
+
+        ghost accepts = { λ pointer. Accepts pointer TakesRows };
+
+        ghost refuses = { λ pointer kind. Refuses pointer DeclinesRows kind };
+
+        ghost declines = { λ pointer kind. Declines pointer DeclinesRows kind };
+
+        fn get_from_pointer(reader: any_pointer::Reader<'a, S>) -> Result<Self>
+            ensures { let pointer = pointer_of S.segments reader.entry in IsViewOf pointer
+                (λ view. IsUpgradedStructs pointer (upgraded_structs_of S.segments view.elements))
+                (Accepts pointer TakesRows) (Refuses pointer DeclinesRows)
+                (Declines pointer DeclinesRows) result }
+        {
+            match upgraded::StructList::get_from_pointer(reader) {
+                Ok(elements) => Ok(ListReader { elements }),
+                Err(error) => Err(error),
+            }
+        }
+    }
+
+    /// A list of such structs, as a type of the schema.
+    pub struct OwnedList;
+
+    impl<'a, S: ReaderSegments + 'a> traits::Owned<'a, S> for OwnedList {
+        type Reader = ListReader<'a, S>;
+    }
+
+    /// A struct of this type before it is written. What is not set has its default.
+    #[derive(Clone, Copy)]
+    pub struct Builder {
+        /// Its data words, and what its pointers lead to.
+        pub draft: StructDraft<Owned, 1, 4>,
+    }
+
+    impl Builder {
+        /// One in which nothing is set, so that each field has its default.
+        pub fn new() -> Builder
+            ensures words { result.draft.words ≡ replicate 1 0 }
+            ensures pointers { result.draft.pointers ≡ replicate 4 0 }
+        {
+            Builder {
+                draft: StructDraft::new(),
+            }
+        }
+
+        /// Writes it, as an object that a pointer can lead to.
+        pub fn add<S: GrowingSegment>(&self, objects: &mut Orphanage<S>) -> Result<Orphan<Owned>>
+            ensures adds { Adds (HoldsStruct (body_of objects.old) self.now.draft.words
+                self.now.draft.pointers) objects.old objects.new word_of result }
+            ensures writes { Writes (StructWords 1 4) (ExceedsPointer 1 4)
+                objects.old objects.new result }
+        {
+            objects.add(&self.draft)
+        }
+
+        /// Writes it as the root of the message.
+        pub fn add_root<S: GrowingSegment>(&self, objects: &mut Orphanage<S>) -> Result<()>
+            ensures adds { AddsRoot (StructWords 1 4) (HoldsStruct (body_of objects.old)
+                self.now.draft.words self.now.draft.pointers) objects.old objects.new result }
+            ensures fails { Fails (StructWords 1 4) (ExceedsPointer 1 4)
+                objects.old result }
+        {
+            objects.add_root(&self.draft)
+        }
+
+        /// Writes a list of such structs.
+        pub fn add_list<S: GrowingSegment>(
+            elements: &[Builder],
+            objects: &mut Orphanage<S>,
+        ) -> Result<Orphan<OwnedList>>
+            ensures adds { Adds (HoldsStructs (body_of objects.old)
+                (map (λ element. element.draft) elements.now)) objects.old objects.new word_of result }
+            ensures writes { let count = length elements.now in
+                Writes (TakesStructs 1 4 count) (ManyStructs 1 4 count)
+                objects.old objects.new result }
+        {
+            let list = objects.made_struct_list(&Drafts::new(elements))?;
+            Ok(list.of_type())
+        }
+    }
+
+    impl Draft<Owned, 1, 4> for Builder {
+        ghost draft = { λ builder. builder.draft };
+
+        fn draft(&self) -> StructDraft<Owned, 1, 4> {
+            self.draft
+        }
+    }
+
+    impl Builder {
+        /// Sets the field `id`.
+        pub fn set_id(&mut self, value: u32)
+            ensures words { self.new.draft.words
+                ≡ with_field self.old.draft.words 32 0 value }
+            ensures pointers { self.new.draft.pointers ≡ self.old.draft.pointers }
+        {
+            self.draft.set_data_field(0, value);
+        }
+
+        /// The field `id`, as it is set.
+        pub fn get_id(&self) -> u32
+            ensures { let fields = self.now.draft in
+                result ≡ field fields.words 32 0 }
+        {
+            self.draft.get_data_field(0)
+        }
+
+        /// Sets the field `name`.
+        pub fn set_name(&mut self, value: Orphan<text::Owned>)
+            ensures words { self.new.draft.words
+                ≡ self.old.draft.words }
+            ensures pointers { self.new.draft.pointers
+                ≡ slice_set self.old.draft.pointers 0 value.word }
+        {
+            self.draft.adopt(0, value);
+        }
+
+        /// Whether `name` is set, and not to null.
+        pub fn has_name(&self) -> bool
+            ensures { IsTrue result ↔ (slice_index_or self.now.draft.pointers 0 0 ≢ 0) }
+        {
+            self.draft.has_pointer(0)
+        }
+
+        /// Sets the field `email`.
+        pub fn set_email(&mut self, value: Orphan<text::Owned>)
+            ensures words { self.new.draft.words
+                ≡ self.old.draft.words }
+            ensures pointers { self.new.draft.pointers
+                ≡ slice_set self.old.draft.pointers 1 value.word }
+        {
+            self.draft.adopt(1, value);
+        }
+
+        /// Whether `email` is set, and not to null.
+        pub fn has_email(&self) -> bool
+            ensures { IsTrue result ↔ (slice_index_or self.now.draft.pointers 1 0 ≢ 0) }
+        {
+            self.draft.has_pointer(1)
+        }
+
+        /// Sets the field `phones`.
+        pub fn set_phones(&mut self, value: Orphan<phone_number::OwnedList>)
+            ensures words { self.new.draft.words
+                ≡ self.old.draft.words }
+            ensures pointers { self.new.draft.pointers
+                ≡ slice_set self.old.draft.pointers 2 value.word }
+        {
+            self.draft.adopt(2, value);
+        }
+
+        /// Whether `phones` is set, and not to null.
+        pub fn has_phones(&self) -> bool
+            ensures { IsTrue result ↔ (slice_index_or self.now.draft.pointers 2 0 ≢ 0) }
+        {
+            self.draft.has_pointer(2)
+        }
+    }
+
+    pub mod employment {
+        use capnp_frame::Result;
+        use capnp_frame::message::ReaderSegments;
+        use capnp_orphans::Orphan;
+        use capnp_wire::any_struct::StructReader;
+        use capnp_wire::text;
+        use capnp_wire::traits::FromPointerReader;
+
+        /// The group, in a struct in a message.
+        #[derive(Drop)]
+        pub struct Reader<'b, 'a, S: ReaderSegments> {
+            /// The struct whose fields these are.
+            pub fields: &'b StructReader<'a, S>,
+        }
+
+        impl<'b, 'a, S: ReaderSegments> Reader<'b, 'a, S> {
+            /// The field `unemployed`.
+            pub fn get_unemployed(&self) {}
+
+            /// The field `employer`.
+            pub fn get_employer(&self) -> Result<text::Reader<'a>>
+                ensures { let fields = struct_of S.segments self.now.fields.now in
+                    let pointer = pointer_in fields 3 in
+                    IsViewOf pointer
+                    (λ view. Reads pointer (λ form. IsText form view.bytes.now))
+                    (Accepts pointer TakesText) (Refuses pointer DeclinesText)
+                    (Declines pointer DeclinesText) result }
+            {
+                FromPointerReader::get_from_pointer(self.fields.get_pointer(3))
+            }
+
+            /// Whether `employer` is there, and is not null.
+            pub fn has_employer(&self) -> bool
+                ensures { let fields = struct_of S.segments self.now.fields.now in
+                    IsTrue result ↔ (Denotes (pointer_in fields 3) nothing → ⊥) }
+            {
+                self.fields.has_pointer(3)
+            }
+
+            /// The field `school`.
+            pub fn get_school(&self) -> Result<text::Reader<'a>>
+                ensures { let fields = struct_of S.segments self.now.fields.now in
+                    let pointer = pointer_in fields 3 in
+                    IsViewOf pointer
+                    (λ view. Reads pointer (λ form. IsText form view.bytes.now))
+                    (Accepts pointer TakesText) (Refuses pointer DeclinesText)
+                    (Declines pointer DeclinesText) result }
+            {
+                FromPointerReader::get_from_pointer(self.fields.get_pointer(3))
+            }
+
+            /// Whether `school` is there, and is not null.
+            pub fn has_school(&self) -> bool
+                ensures { let fields = struct_of S.segments self.now.fields.now in
+                    IsTrue result ↔ (Denotes (pointer_in fields 3) nothing → ⊥) }
+            {
+                self.fields.has_pointer(3)
+            }
+
+            /// We assume that a person is only one of these.
+            pub fn get_self_employed(&self) {}
+
+            /// Which member of the union is there, and its value.
+            pub fn which(&self) -> Which<'a>
+                ensures { let fields = struct_of S.segments self.now.fields.now in
+                    let number = field fields.words 16 2 in
+                    elim result [
+                      | Which.Unemployed ↦ number ≡ 0
+                      | Which.Employer value ↦ (number ≡ 1) ×
+                          (let pointer = pointer_in fields 3 in
+                          IsViewOf pointer
+                          (λ view. Reads pointer (λ form. IsText form view.bytes.now))
+                          (Accepts pointer TakesText) (Refuses pointer DeclinesText)
+                          (Declines pointer DeclinesText) value)
+                      | Which.School value ↦ (number ≡ 2) ×
+                          (let pointer = pointer_in fields 3 in
+                          IsViewOf pointer
+                          (λ view. Reads pointer (λ form. IsText form view.bytes.now))
+                          (Accepts pointer TakesText) (Refuses pointer DeclinesText)
+                          (Declines pointer DeclinesText) value)
+                      | Which.SelfEmployed ↦ number ≡ 3
+                      | Which.NotInSchema unknown ↦ (unknown ≡ number) × (4 ≤ number)
+                    ] }
+            {
+                match self.fields.get_data_field::<u16>(2) {
+                    0 => Which::Unemployed,
+                    1 => Which::Employer(self.get_employer()),
+                    2 => Which::School(self.get_school()),
+                    3 => Which::SelfEmployed,
+                    unknown => Which::NotInSchema(unknown),
+                }
+            }
+        }
+
+        /// The members of the union.
+        #[derive(Drop)]
+        pub enum Which<'a> {
+            Unemployed,
+            Employer(Result<text::Reader<'a>>),
+            School(Result<text::Reader<'a>>),
+            SelfEmployed,
+            /// A number that the schema doesn't name.
+            NotInSchema(u16),
+        }
+
+        impl super::Builder {
+            /// Sets the field `unemployed`.
+            pub fn set_employment_unemployed(&mut self)
+                ensures words { self.new.draft.words
+                    ≡ (with_field self.old.draft.words 16 2 0) }
+                ensures pointers { self.new.draft.pointers ≡ self.old.draft.pointers }
+            {
+                self.draft.set_data_field::<u16>(2, 0);
+            }
+
+            /// Sets the field `employer`.
+            pub fn set_employment_employer(&mut self, value: Orphan<text::Owned>)
+                ensures words { self.new.draft.words
+                    ≡ (with_field self.old.draft.words 16 2 1) }
+                ensures pointers { self.new.draft.pointers
+                    ≡ slice_set self.old.draft.pointers 3 value.word }
+            {
+                self.draft.set_data_field::<u16>(2, 1);
+                self.draft.adopt(3, value);
+            }
+
+            /// Whether `employer` is set, and not to null.
+            pub fn has_employment_employer(&self) -> bool
+                ensures { IsTrue result ↔ (slice_index_or self.now.draft.pointers 3 0 ≢ 0) }
+            {
+                self.draft.has_pointer(3)
+            }
+
+            /// Sets the field `school`.
+            pub fn set_employment_school(&mut self, value: Orphan<text::Owned>)
+                ensures words { self.new.draft.words
+                    ≡ (with_field self.old.draft.words 16 2 2) }
+                ensures pointers { self.new.draft.pointers
+                    ≡ slice_set self.old.draft.pointers 3 value.word }
+            {
+                self.draft.set_data_field::<u16>(2, 2);
+                self.draft.adopt(3, value);
+            }
+
+            /// Whether `school` is set, and not to null.
+            pub fn has_employment_school(&self) -> bool
+                ensures { IsTrue result ↔ (slice_index_or self.now.draft.pointers 3 0 ≢ 0) }
+            {
+                self.draft.has_pointer(3)
+            }
+
+            /// Sets the field `selfEmployed`:
+            /// We assume that a person is only one of these.
+            pub fn set_employment_self_employed(&mut self)
+                ensures words { self.new.draft.words
+                    ≡ (with_field self.old.draft.words 16 2 3) }
+                ensures pointers { self.new.draft.pointers ≡ self.old.draft.pointers }
+            {
+                self.draft.set_data_field::<u16>(2, 3);
+            }
+        }
+    }
+
+    pub mod phone_number {
+        use capnp_frame::Result;
+        use capnp_frame::message::ReaderSegments;
+        use capnp_orphans::{Draft, Drafts, GrowingSegment, Orphan, Orphanage, StructDraft};
+        use capnp_wire::any_struct::StructReader;
+        use capnp_wire::traits::{self, FromPointerReader};
+        use capnp_wire::{any_pointer, text, upgraded};
+
+        /// The type of the schema.
+        pub struct Owned;
+
+        impl<'a, S: ReaderSegments + 'a> traits::Owned<'a, S> for Owned {
+            type Reader = Reader<'a, S>;
+        }
+
+        /// A struct of this type in a message. What its writer left out reads as the default.
+        #[derive(Drop)]
+        pub struct Reader<'a, S: ReaderSegments> {
+            /// The struct whose fields these are.
+            pub fields: StructReader<'a, S>,
+        }
+
+        impl<'a, S: ReaderSegments> Reader<'a, S> {
+            /// The field `number`.
+            pub fn get_number(&self) -> Result<text::Reader<'a>>
+                ensures { let fields = struct_of S.segments self.now.fields in
+                    let pointer = pointer_in fields 0 in
+                    IsViewOf pointer
+                    (λ view. Reads pointer (λ form. IsText form view.bytes.now))
+                    (Accepts pointer TakesText) (Refuses pointer DeclinesText)
+                    (Declines pointer DeclinesText) result }
+            {
+                FromPointerReader::get_from_pointer(self.fields.get_pointer(0))
+            }
+
+            /// Whether `number` is there, and is not null.
+            pub fn has_number(&self) -> bool
+                ensures { let fields = struct_of S.segments self.now.fields in
+                    IsTrue result ↔ (Denotes (pointer_in fields 0) nothing → ⊥) }
+            {
+                self.fields.has_pointer(0)
+            }
+
+            /// The field `type`.
+            pub fn get_type(&self) -> Type_
+                ensures { let fields = struct_of S.segments self.now.fields in
+                    let number = field fields.words 16 0 in
+                    elim result [
+                      | Type_.Mobile ↦ number ≡ 0
+                      | Type_.Home ↦ number ≡ 1
+                      | Type_.Work ↦ number ≡ 2
+                      | Type_.NotInSchema unknown ↦ (unknown ≡ number) × (3 ≤ number)
+                    ] }
+            {
+                Type_::from_number(self.fields.get_data_field(0))
+            }
+        }
+
+        impl<'a, S: ReaderSegments> FromPointerReader<'a, S> for Reader<'a, S> {
+            ghost shows = { λ pointer view. IsStruct pointer (struct_of S.segments view.fields) };
+
+            ghost accepts = { λ pointer. Accepts pointer TakesStruct };
+
+            ghost refuses = { λ pointer kind. Refuses pointer DeclinesStruct kind };
+
+            ghost declines = { λ pointer kind. Declines pointer DeclinesStruct kind };
+
+            fn get_from_pointer(reader: any_pointer::Reader<'a, S>) -> Result<Self>
+                ensures { let pointer = pointer_of S.segments reader.entry in IsViewOf pointer
+                    (λ view. IsStruct pointer (struct_of S.segments view.fields))
+                    (Accepts pointer TakesStruct) (Refuses pointer DeclinesStruct)
+                    (Declines pointer DeclinesStruct) result }
+            {
+                match StructReader::get_from_pointer(reader) {
+                    Ok(fields) => Ok(Reader { fields }),
+                    Err(error) => Err(error),
+                }
+            }
+        }
+
+        /// A list of such structs in a message; their first fields alone, where an older writer had these.
+        #[derive(Drop)]
+        pub struct ListReader<'a, S: ReaderSegments> {
+            /// The list whose elements these are.
+            pub elements: upgraded::StructList<'a, S>,
+        }
+
+        impl<'a, S: ReaderSegments> ListReader<'a, S> {
+            /// The number of elements.
+            pub fn len(&self) -> u32
+                ensures { result ≡ length (upgraded_structs_of S.segments self.now.elements).rows }
+            {
+                self.elements.len()
+            }
+
+            /// The element of this index.
+            pub fn get(&self, index: u32) -> Reader<'a, S>
+                requires { index < length (upgraded_structs_of S.segments self.now.elements).rows }
+                ensures { struct_of S.segments result.fields
+                    ≡ element_of (upgraded_structs_of S.segments self.now.elements) index }
+            {
+                Reader {
+                    fields: self.elements.get(index),
+                }
+            }
+        }
+
+        impl<'a, S: ReaderSegments> FromPointerReader<'a, S> for ListReader<'a, S> {
+            ghost shows = { λ pointer view.
+                IsUpgradedStructs pointer (upgraded_structs_of S.segments view.elements) };
+
+            ghost accepts = { λ pointer. Accepts pointer TakesRows };
+
+            ghost refuses = { λ pointer kind. Refuses pointer DeclinesRows kind };
+
+            ghost declines = { λ pointer kind. Declines pointer DeclinesRows kind };
+
+            fn get_from_pointer(reader: any_pointer::Reader<'a, S>) -> Result<Self>
+                ensures { let pointer = pointer_of S.segments reader.entry in IsViewOf pointer
+                    (λ view. IsUpgradedStructs pointer (upgraded_structs_of S.segments view.elements))
+                    (Accepts pointer TakesRows) (Refuses pointer DeclinesRows)
+                    (Declines pointer DeclinesRows) result }
+            {
+                match upgraded::StructList::get_from_pointer(reader) {
+                    Ok(elements) => Ok(ListReader { elements }),
+                    Err(error) => Err(error),
+                }
+            }
+        }
+
+        /// A list of such structs, as a type of the schema.
+        pub struct OwnedList;
+
+        impl<'a, S: ReaderSegments + 'a> traits::Owned<'a, S> for OwnedList {
+            type Reader = ListReader<'a, S>;
+        }
+
+        /// A struct of this type before it is written. What is not set has its default.
+        #[derive(Clone, Copy)]
+        pub struct Builder {
+            /// Its data words, and what its pointers lead to.
+            pub draft: StructDraft<Owned, 1, 1>,
+        }
+
+        impl Builder {
+            /// One in which nothing is set, so that each field has its default.
+            pub fn new() -> Builder
+                ensures words { result.draft.words ≡ replicate 1 0 }
+                ensures pointers { result.draft.pointers ≡ replicate 1 0 }
+            {
+                Builder {
+                    draft: StructDraft::new(),
+                }
+            }
+
+            /// Writes it, as an object that a pointer can lead to.
+            pub fn add<S: GrowingSegment>(
+                &self,
+                objects: &mut Orphanage<S>,
+            ) -> Result<Orphan<Owned>>
+                ensures adds { Adds (HoldsStruct (body_of objects.old) self.now.draft.words
+                    self.now.draft.pointers) objects.old objects.new word_of result }
+                ensures writes { Writes (StructWords 1 1) (ExceedsPointer 1 1)
+                    objects.old objects.new result }
+            {
+                objects.add(&self.draft)
+            }
+
+            /// Writes it as the root of the message.
+            pub fn add_root<S: GrowingSegment>(&self, objects: &mut Orphanage<S>) -> Result<()>
+                ensures adds { AddsRoot (StructWords 1 1) (HoldsStruct (body_of objects.old)
+                    self.now.draft.words self.now.draft.pointers) objects.old objects.new result }
+                ensures fails { Fails (StructWords 1 1) (ExceedsPointer 1 1)
+                    objects.old result }
+            {
+                objects.add_root(&self.draft)
+            }
+
+            /// Writes a list of such structs.
+            pub fn add_list<S: GrowingSegment>(
+                elements: &[Builder],
+                objects: &mut Orphanage<S>,
+            ) -> Result<Orphan<OwnedList>>
+                ensures adds { Adds (HoldsStructs (body_of objects.old)
+                    (map (λ element. element.draft) elements.now)) objects.old objects.new word_of result }
+                ensures writes { let count = length elements.now in
+                    Writes (TakesStructs 1 1 count) (ManyStructs 1 1 count)
+                    objects.old objects.new result }
+            {
+                let list = objects.made_struct_list(&Drafts::new(elements))?;
+                Ok(list.of_type())
+            }
+        }
+
+        impl Draft<Owned, 1, 1> for Builder {
+            ghost draft = { λ builder. builder.draft };
+
+            fn draft(&self) -> StructDraft<Owned, 1, 1> {
+                self.draft
+            }
+        }
+
+        impl Builder {
+            /// Sets the field `number`.
+            pub fn set_number(&mut self, value: Orphan<text::Owned>)
+                ensures words { self.new.draft.words
+                    ≡ self.old.draft.words }
+                ensures pointers { self.new.draft.pointers
+                    ≡ slice_set self.old.draft.pointers 0 value.word }
+            {
+                self.draft.adopt(0, value);
+            }
+
+            /// Whether `number` is set, and not to null.
+            pub fn has_number(&self) -> bool
+                ensures { IsTrue result ↔ (slice_index_or self.now.draft.pointers 0 0 ≢ 0) }
+            {
+                self.draft.has_pointer(0)
+            }
+
+            /// Sets the field `type`.
+            pub fn set_type(&mut self, value: Type_)
+                ensures words { let words = self.old.draft.words in
+                    elim value [
+                      | Type_.Mobile ↦ self.new.draft.words ≡ with_field words 16 0 0
+                      | Type_.Home ↦ self.new.draft.words ≡ with_field words 16 0 1
+                      | Type_.Work ↦ self.new.draft.words ≡ with_field words 16 0 2
+                      | Type_.NotInSchema unknown ↦ self.new.draft.words ≡ with_field words 16 0 unknown
+                    ] }
+                ensures pointers { self.new.draft.pointers ≡ self.old.draft.pointers }
+            {
+                self.draft.set_data_field(0, value.to_number());
+            }
+
+            /// The field `type`, as it is set.
+            pub fn get_type(&self) -> Type_
+                ensures { let fields = self.now.draft in
+                    let number = field fields.words 16 0 in
+                    elim result [
+                      | Type_.Mobile ↦ number ≡ 0
+                      | Type_.Home ↦ number ≡ 1
+                      | Type_.Work ↦ number ≡ 2
+                      | Type_.NotInSchema unknown ↦ (unknown ≡ number) × (3 ≤ number)
+                    ] }
+            {
+                Type_::from_number(self.draft.get_data_field(0))
+            }
+        }
+
+        #[derive(Clone, Copy, PartialEq, Eq, Debug)]
+        pub enum Type_ {
+            Mobile,
+            Home,
+            Work,
+            /// A number that the schema doesn't name.
+            NotInSchema(u16),
+        }
+
+        impl Type_ {
+            /// The enumerant of this number.
+            pub fn from_number(number: u16) -> Type_
+                ensures { elim result [
+                  | Type_.Mobile ↦ number ≡ 0
+                  | Type_.Home ↦ number ≡ 1
+                  | Type_.Work ↦ number ≡ 2
+                  | Type_.NotInSchema unknown ↦ (unknown ≡ number) × (3 ≤ number)
+                ] }
+            {
+                match number {
+                    0 => Type_::Mobile,
+                    1 => Type_::Home,
+                    2 => Type_::Work,
+                    unknown => Type_::NotInSchema(unknown),
+                }
+            }
+        }
+
+        impl Type_ {
+            /// Its number.
+            pub fn to_number(self) -> u16
+                ensures { elim self [
+                  | Type_.Mobile ↦ result ≡ 0
+                  | Type_.Home ↦ result ≡ 1
+                  | Type_.Work ↦ result ≡ 2
+                  | Type_.NotInSchema unknown ↦ result ≡ unknown
+                ] }
+            {
+                match self {
+                    Type_::Mobile => 0,
+                    Type_::Home => 1,
+                    Type_::Work => 2,
+                    Type_::NotInSchema(unknown) => unknown,
+                }
+            }
+        }
+    }
+}
+
+pub mod address_book {
+    use capnp_frame::Result;
+    use capnp_frame::message::ReaderSegments;
+    use capnp_orphans::{Draft, Drafts, GrowingSegment, Orphan, Orphanage, StructDraft};
+    use capnp_wire::any_struct::StructReader;
+    use capnp_wire::traits::{self, FromPointerReader};
+    use capnp_wire::{any_pointer, upgraded};
+
+    /// The type of the schema.
+    pub struct Owned;
+
+    impl<'a, S: ReaderSegments + 'a> traits::Owned<'a, S> for Owned {
+        type Reader = Reader<'a, S>;
+    }
+
+    /// A struct of this type in a message. What its writer left out reads as the default.
+    #[derive(Drop)]
+    pub struct Reader<'a, S: ReaderSegments> {
+        /// The struct whose fields these are.
+        pub fields: StructReader<'a, S>,
+    }
+
+    impl<'a, S: ReaderSegments> Reader<'a, S> {
+        /// The field `people`.
+        pub fn get_people(&self) -> Result<super::person::ListReader<'a, S>>
+            ensures { let fields = struct_of S.segments self.now.fields in
+                let pointer = pointer_in fields 0 in
+                IsViewOf pointer
+                (λ view. IsUpgradedStructs pointer (upgraded_structs_of S.segments view.elements))
+                (Accepts pointer TakesRows) (Refuses pointer DeclinesRows)
+                (Declines pointer DeclinesRows) result }
+        {
+            FromPointerReader::get_from_pointer(self.fields.get_pointer(0))
+        }
+
+        /// Whether `people` is there, and is not null.
+        pub fn has_people(&self) -> bool
+            ensures { let fields = struct_of S.segments self.now.fields in
+                IsTrue result ↔ (Denotes (pointer_in fields 0) nothing → ⊥) }
+        {
+            self.fields.has_pointer(0)
+        }
+    }
+
+    impl<'a, S: ReaderSegments> FromPointerReader<'a, S> for Reader<'a, S> {
+        ghost shows = { λ pointer view. IsStruct pointer (struct_of S.segments view.fields) };
+
+        ghost accepts = { λ pointer. Accepts pointer TakesStruct };
+
+        ghost refuses = { λ pointer kind. Refuses pointer DeclinesStruct kind };
+
+        ghost declines = { λ pointer kind. Declines pointer DeclinesStruct kind };
+
+        fn get_from_pointer(reader: any_pointer::Reader<'a, S>) -> Result<Self>
+            ensures { let pointer = pointer_of S.segments reader.entry in IsViewOf pointer
+                (λ view. IsStruct pointer (struct_of S.segments view.fields))
+                (Accepts pointer TakesStruct) (Refuses pointer DeclinesStruct)
+                (Declines pointer DeclinesStruct) result }
+        {
+            match StructReader::get_from_pointer(reader) {
+                Ok(fields) => Ok(Reader { fields }),
+                Err(error) => Err(error),
+            }
+        }
+    }
+
+    /// A list of such structs in a message; their first fields alone, where an older writer had these.
+    #[derive(Drop)]
+    pub struct ListReader<'a, S: ReaderSegments> {
+        /// The list whose elements these are.
+        pub elements: upgraded::StructList<'a, S>,
+    }
+
+    impl<'a, S: ReaderSegments> ListReader<'a, S> {
+        /// The number of elements.
+        pub fn len(&self) -> u32
+            ensures { result ≡ length (upgraded_structs_of S.segments self.now.elements).rows }
+        {
+            self.elements.len()
+        }
+
+        /// The element of this index.
+        pub fn get(&self, index: u32) -> Reader<'a, S>
+            requires { index < length (upgraded_structs_of S.segments self.now.elements).rows }
+            ensures { struct_of S.segments result.fields
+                ≡ element_of (upgraded_structs_of S.segments self.now.elements) index }
+        {
+            Reader {
+                fields: self.elements.get(index),
+            }
+        }
+    }
+
+    impl<'a, S: ReaderSegments> FromPointerReader<'a, S> for ListReader<'a, S> {
+        ghost shows = { λ pointer view.
+            IsUpgradedStructs pointer (upgraded_structs_of S.segments view.elements) };
+
+        ghost accepts = { λ pointer. Accepts pointer TakesRows };
+
+        ghost refuses = { λ pointer kind. Refuses pointer DeclinesRows kind };
+
+        ghost declines = { λ pointer kind. Declines pointer DeclinesRows kind };
+
+        fn get_from_pointer(reader: any_pointer::Reader<'a, S>) -> Result<Self>
+            ensures { let pointer = pointer_of S.segments reader.entry in IsViewOf pointer
+                (λ view. IsUpgradedStructs pointer (upgraded_structs_of S.segments view.elements))
+                (Accepts pointer TakesRows) (Refuses pointer DeclinesRows)
+                (Declines pointer DeclinesRows) result }
+        {
+            match upgraded::StructList::get_from_pointer(reader) {
+                Ok(elements) => Ok(ListReader { elements }),
+                Err(error) => Err(error),
+            }
+        }
+    }
+
+    /// A list of such structs, as a type of the schema.
+    pub struct OwnedList;
+
+    impl<'a, S: ReaderSegments + 'a> traits::Owned<'a, S> for OwnedList {
+        type Reader = ListReader<'a, S>;
+    }
+
+    /// A struct of this type before it is written. What is not set has its default.
+    #[derive(Clone, Copy)]
+    pub struct Builder {
+        /// Its data words, and what its pointers lead to.
+        pub draft: StructDraft<Owned, 0, 1>,
+    }
+
+    impl Builder {
+        /// One in which nothing is set, so that each field has its default.
+        pub fn new() -> Builder
+            ensures words { result.draft.words ≡ replicate 0 0 }
+            ensures pointers { result.draft.pointers ≡ replicate 1 0 }
+        {
+            Builder {
+                draft: StructDraft::new(),
+            }
+        }
+
+        /// Writes it, as an object that a pointer can lead to.
+        pub fn add<S: GrowingSegment>(&self, objects: &mut Orphanage<S>) -> Result<Orphan<Owned>>
+            ensures adds { Adds (HoldsStruct (body_of objects.old) self.now.draft.words
+                self.now.draft.pointers) objects.old objects.new word_of result }
+            ensures writes { Writes (StructWords 0 1) (ExceedsPointer 0 1)
+                objects.old objects.new result }
+        {
+            objects.add(&self.draft)
+        }
+
+        /// Writes it as the root of the message.
+        pub fn add_root<S: GrowingSegment>(&self, objects: &mut Orphanage<S>) -> Result<()>
+            ensures adds { AddsRoot (StructWords 0 1) (HoldsStruct (body_of objects.old)
+                self.now.draft.words self.now.draft.pointers) objects.old objects.new result }
+            ensures fails { Fails (StructWords 0 1) (ExceedsPointer 0 1)
+                objects.old result }
+        {
+            objects.add_root(&self.draft)
+        }
+
+        /// Writes a list of such structs.
+        pub fn add_list<S: GrowingSegment>(
+            elements: &[Builder],
+            objects: &mut Orphanage<S>,
+        ) -> Result<Orphan<OwnedList>>
+            ensures adds { Adds (HoldsStructs (body_of objects.old)
+                (map (λ element. element.draft) elements.now)) objects.old objects.new word_of result }
+            ensures writes { let count = length elements.now in
+                Writes (TakesStructs 0 1 count) (ManyStructs 0 1 count)
+                objects.old objects.new result }
+        {
+            let list = objects.made_struct_list(&Drafts::new(elements))?;
+            Ok(list.of_type())
+        }
+    }
+
+    impl Draft<Owned, 0, 1> for Builder {
+        ghost draft = { λ builder. builder.draft };
+
+        fn draft(&self) -> StructDraft<Owned, 0, 1> {
+            self.draft
+        }
+    }
+
+    impl Builder {
+        /// Sets the field `people`.
+        pub fn set_people(&mut self, value: Orphan<super::person::OwnedList>)
+            ensures words { self.new.draft.words
+                ≡ self.old.draft.words }
+            ensures pointers { self.new.draft.pointers
+                ≡ slice_set self.old.draft.pointers 0 value.word }
+        {
+            self.draft.adopt(0, value);
+        }
+
+        /// Whether `people` is set, and not to null.
+        pub fn has_people(&self) -> bool
+            ensures { IsTrue result ↔ (slice_index_or self.now.draft.pointers 0 0 ≢ 0) }
+        {
+            self.draft.has_pointer(0)
+        }
+    }
+}
