@@ -101,19 +101,23 @@ pub fn push_view(
     view: &View,
     words: &[u8],
 ) -> Result<(), AllocError> {
-    let type_name = view.type_name.as_str();
-    let type_name = format!(in alloc; "Result<{type_name}>")?;
-    let size = format!(in alloc; "{}", words.len())?;
-    let type_name = fill_with(alloc, type_name.as_str(), "size", size.as_str())?;
-    let signature = signature(alloc, code.depth, getter, "", type_name.as_str())?;
-    let fact = view.fact(alloc, "result")?;
     push_words(alloc, code, name, words)?;
+    let type_name = view_type(alloc, view, words.len())?;
+    let signature = signature(alloc, code.depth, getter, "", type_name.as_str())?;
     let holes = Holes::new(alloc)
+        .holding("signature", signature)?
         .with("title", title)?
         .with("name", name)?
-        .holding("signature", signature)?
-        .holding("fact", fact)?;
+        .holding("fact", view.fact(alloc, "result")?)?;
     code.add(GET_WORDS, &holes)
+}
+
+// The type of what the getter of a view of a given number of bytes returns.
+fn view_type(alloc: Global, view: &View, bytes: usize) -> Result<String, AllocError> {
+    let type_name = view.type_name.as_str();
+    let type_name = format!(in alloc; "Result<{type_name}>")?;
+    let size = format!(in alloc; "{bytes}")?;
+    fill_with(alloc, type_name.as_str(), "size", size.as_str())
 }
 
 // Adds the line of a constant; its value on one of its own where it is too wide.

@@ -36,21 +36,43 @@ pub fn shown_default(
     ) else {
         return Ok(None);
     };
-    Ok(Some(if is_plain(place.of) {
-        let holes = holes_of(alloc, field, place, "@value@", &stored, &default)?;
-        Shown {
-            type_name: fill_with(alloc, "Result<@view@>", "view", stored.type_name.as_str())?,
-            fact: fill(alloc, DEFAULT_FACT, &holes)?,
-            body: fill(alloc, DEFAULT_BODY, &holes)?,
-        }
+    if is_plain(place.of) {
+        Ok(Some(shown_plain(alloc, field, place, &stored, &default)?))
     } else {
-        let holes = holes_of(alloc, field, place, "view", &stored, &default)?;
-        Shown {
-            type_name: either_type(alloc, place, &stored, &default)?,
-            fact: fill(alloc, OR_DEFAULT_FACT, &holes)?,
-            body: fill(alloc, OR_DEFAULT_BODY, &holes)?,
-        }
-    }))
+        Ok(Some(shown_either(alloc, field, place, &stored, &default)?))
+    }
+}
+
+// What is returned where the views of the message and of the default have one type.
+fn shown_plain(
+    alloc: Global,
+    field: &Field,
+    place: &Place,
+    stored: &View,
+    default: &View,
+) -> Result<Shown, AllocError> {
+    let holes = holes_of(alloc, field, place, "@value@", stored, default)?;
+    Ok(Shown {
+        type_name: fill_with(alloc, "Result<@view@>", "view", stored.type_name.as_str())?,
+        fact: fill(alloc, DEFAULT_FACT, &holes)?,
+        body: fill(alloc, DEFAULT_BODY, &holes)?,
+    })
+}
+
+// What is returned where they have two.
+fn shown_either(
+    alloc: Global,
+    field: &Field,
+    place: &Place,
+    stored: &View,
+    default: &View,
+) -> Result<Shown, AllocError> {
+    let holes = holes_of(alloc, field, place, "view", stored, default)?;
+    Ok(Shown {
+        type_name: either_type(alloc, place, stored, default)?,
+        fact: fill(alloc, OR_DEFAULT_FACT, &holes)?,
+        body: fill(alloc, OR_DEFAULT_BODY, &holes)?,
+    })
 }
 
 // What stands in the clause and the code of the getter, which returns a view by this name.

@@ -131,14 +131,8 @@ pub fn enum_uses(alloc: Global, site: Site<'_>) -> Result<Vec<String>, AllocErro
             continue;
         }
         let path = path_to(alloc, site.request, site.node.id, *id)?;
-        let name = enum_name(alloc, site, *id)?;
-        let (path, name) = (path.as_str(), name.as_str());
-        let line = if enum_type(alloc, node.name.as_str())?.as_str() == name {
-            format!(in alloc; "use {path};")?
-        } else {
-            format!(in alloc; "use {path} as {name};")?
-        };
-        lines.push((order_of(alloc, path)?, line))?;
+        let line = enum_use(alloc, site, node, path.as_str())?;
+        lines.push((order_of(alloc, path.as_str())?, line))?;
     }
     lines.sort()?;
     let mut sorted = Vec::new(alloc);
@@ -146,6 +140,16 @@ pub fn enum_uses(alloc: Global, site: Site<'_>) -> Result<Vec<String>, AllocErro
         sorted.push(line)?;
     }
     Ok(sorted)
+}
+
+// The line that brings an enum of this path into the module of a struct.
+fn enum_use(alloc: Global, site: Site<'_>, node: &Node, path: &str) -> Result<String, AllocError> {
+    let name = enum_name(alloc, site, node.id)?;
+    let name = name.as_str();
+    if enum_type(alloc, node.name.as_str())?.as_str() == name {
+        return format!(in alloc; "use {path};");
+    }
+    format!(in alloc; "use {path} as {name};")
 }
 
 // A text by which paths are in the order of `rt fmt`: those that lead further out stand first.
@@ -171,30 +175,49 @@ pub fn push_enum(
     code.add_comment(node.comment.as_str())?;
     code.add_with(ENUM_HEAD, "type", type_name)?;
     code.depth = code.depth.saturating_add(1);
-    let mut arms = String::new(alloc);
+    push_variants(alloc, code, node, names)?;
+    code.depth = code.depth.saturating_sub(1);
+    let holes = Holes::new(alloc)
+        .with("type", type_name)?
+        .holding("cases", cases_of(alloc, request, node.id, type_name)?)?
+        .holding("arms", variant_arms(alloc, type_name, names)?)?;
+    code.add(ENUM_END, &holes)?;
+    if request.has_values {
+        push_to_number(alloc, code, type_name, names)?;
+    }
+    Ok(())
+}
+
+// Adds the variants of an enum, each with what the schema says of it.
+fn push_variants(
+    alloc: Global,
+    code: &mut Code,
+    node: &Node,
+    names: &[String],
+) -> Result<(), AllocError> {
     let mut index: usize = 0;
     for name in names {
         if let Some(comment) = node.member_comments.get(index) {
             code.add_comment(comment.as_str())?;
         }
         let variant = variant(alloc, name.as_str())?;
-        let variant = variant.as_str();
-        code.add_with("@name@,", "name", variant)?;
+        code.add_with("@name@,", "name", variant.as_str())?;
+        index = index.saturating_add(1);
+    }
+    Ok(())
+}
+
+// The arms that return a variant by its number.
+fn variant_arms(alloc: Global, type_name: &str, names: &[String]) -> Result<String, AllocError> {
+    let mut arms = String::new(alloc);
+    let mut index: usize = 0;
+    for name in names {
+        let variant = variant(alloc, name.as_str())?;
         write!(arms, "{index} => {type_name}::{variant},\n")?;
         index = index.saturating_add(1);
     }
     write!(arms, "unknown => {type_name}::NotInSchema(unknown),")?;
-    code.depth = code.depth.saturating_sub(1);
-    let cases = cases_of(alloc, request, node.id, type_name)?;
-    let holes = Holes::new(alloc)
-        .with("type", type_name)?
-        .holding("cases", cases)?
-        .holding("arms", arms)?;
-    code.add(ENUM_END, &holes)?;
-    if request.has_values {
-        push_to_number(alloc, code, type_name, names)?;
-    }
-    Ok(())
+    Ok(arms)
 }
 
 // Adds the number of an enumerant.
@@ -204,23 +227,38 @@ fn push_to_number(
     type_name: &str,
     names: &[String],
 ) -> Result<(), AllocError> {
+    let holes = Holes::new(alloc)
+        .with("type", type_name)?
+        .holding("cases", number_cases(alloc, type_name, names)?)?
+        .holding("arms", number_arms(alloc, type_name, names)?)?;
+    code.add(ENUM_NUMBER, &holes)
+}
+
+// The cases of a clause that says which number each variant has.
+fn number_cases(alloc: Global, type_name: &str, names: &[String]) -> Result<String, AllocError> {
     let mut cases = String::new(alloc);
-    let mut arms = String::new(alloc);
     let mut count: u32 = 0;
     for name in names {
         let variant = variant(alloc, name.as_str())?;
         write!(cases, "  | {type_name}.{variant} ↦ result ≡ {count}\n")?;
-        write!(arms, "{type_name}::{variant} => {count},\n")?;
         count = count.saturating_add(1);
     }
     write!(
         cases,
         "  | {type_name}.NotInSchema unknown ↦ result ≡ unknown"
     )?;
+    Ok(cases)
+}
+
+// The arms that return the number of a variant.
+fn number_arms(alloc: Global, type_name: &str, names: &[String]) -> Result<String, AllocError> {
+    let mut arms = String::new(alloc);
+    let mut count: u32 = 0;
+    for name in names {
+        let variant = variant(alloc, name.as_str())?;
+        write!(arms, "{type_name}::{variant} => {count},\n")?;
+        count = count.saturating_add(1);
+    }
     write!(arms, "{type_name}::NotInSchema(unknown) => unknown,")?;
-    let holes = Holes::new(alloc)
-        .with("type", type_name)?
-        .holding("cases", cases)?
-        .holding("arms", arms)?;
-    code.add(ENUM_NUMBER, &holes)
+    Ok(arms)
 }

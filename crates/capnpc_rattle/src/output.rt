@@ -4,7 +4,7 @@ use crate::file::code_of;
 use crate::names::{base_name, file_module};
 use crate::schema::Request;
 use anyhow::{Context, Result, bail};
-use std::alloc::Global;
+use std::alloc::{AllocError, Global};
 use std::fs;
 use std::rt::Files;
 
@@ -24,18 +24,29 @@ pub fn outputs_of(alloc: Global, request: &Request) -> Result<Vec<Output>> {
     for file in request.files.as_slice() {
         let schema = file.name.as_str();
         check_file(alloc, request, file.id).context(format_args!("{}", base_name(schema)))?;
-        let module = file_module(alloc, schema)?;
-        let module = module.as_str();
-        let name = format!(in alloc; "{module}.rt")?;
-        for output in outputs.as_slice() {
-            if output.name.as_str() == name.as_str() {
-                bail!("two schemas would be written to `{name}`");
-            }
-        }
+        let name = output_name(alloc, schema)?;
+        expect_new(outputs.as_slice(), name.as_str())?;
         let code = code_of(alloc, request, file.id)?;
         outputs.push(Output { name, code })?;
     }
     Ok(outputs)
+}
+
+// The name of the file that is written of a schema.
+fn output_name(alloc: Global, schema: &str) -> Result<String, AllocError> {
+    let module = file_module(alloc, schema)?;
+    let module = module.as_str();
+    format!(in alloc; "{module}.rt")
+}
+
+// Refuses the name of a file that is written already.
+fn expect_new(outputs: &[Output], name: &str) -> Result<()> {
+    for output in outputs {
+        if output.name.as_str() == name {
+            bail!("two schemas would be written to `{name}`");
+        }
+    }
+    Ok(())
 }
 
 /// Writes files into a folder.

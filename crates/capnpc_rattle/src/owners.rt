@@ -34,14 +34,7 @@ pub fn owner_of<'r>(alloc: Global, site: Site<'r>) -> Result<Option<Owner<'r>>, 
         if !body.is_group {
             tags.reverse();
             names.reverse();
-            return Ok(Some(Owner {
-                node,
-                body,
-                groups: groups_of(alloc, names.as_slice())?,
-                prefix: prefix_of(alloc, names.as_slice())?,
-                path: path_out(alloc, names.len())?,
-                tags,
-            }));
+            return Ok(Some(owner_by(alloc, node, body, names.as_slice(), tags)?));
         }
         let Some((parent, field, discriminant)) = parent_of(site, node) else {
             return Ok(None);
@@ -55,6 +48,24 @@ pub fn owner_of<'r>(alloc: Global, site: Site<'r>) -> Result<Option<Owner<'r>>, 
         node = parent;
     }
     Ok(None)
+}
+
+// A struct, by the names of the groups down to a site, the outermost first, and the numbers of unions.
+fn owner_by<'r>(
+    alloc: Global,
+    node: &'r Node,
+    body: &'r Struct,
+    names: &[String],
+    tags: Vec<(u32, u16)>,
+) -> Result<Owner<'r>, AllocError> {
+    Ok(Owner {
+        node,
+        body,
+        groups: groups_of(alloc, names)?,
+        prefix: prefix_of(alloc, names)?,
+        path: path_out(alloc, names.len())?,
+        tags,
+    })
 }
 
 // The node that a group is a field of, that field, and where the number of the node's union stands.

@@ -110,26 +110,41 @@ fn shown_number(
     base: Base,
 ) -> Result<Shown, AllocError> {
     let value = stored.clause(alloc)?;
-    let value = value.as_str();
-    let call = stored.call(alloc)?;
-    let Base::Enum(id) = base else {
-        return Ok(Shown {
-            type_name: String::from_str(alloc, stored.number.type_name)?,
-            fact: fill_with(alloc, "@value@ ≡ @bits@", "bits", value)?,
-            body: call,
-        });
-    };
-    let name = enum_name(alloc, site, id)?;
-    let cases = cases_of(alloc, site.request, id, name.as_str())?;
-    let call = call.as_str();
-    let holes = Holes::new(alloc)
-        .with("bits", value)?
-        .holding("cases", cases)?;
+    if let Base::Enum(id) = base {
+        return shown_enum(alloc, site, stored, id, value);
+    }
     Ok(Shown {
-        fact: fill(alloc, ENUM_FACT, &holes)?,
-        body: format!(in alloc; "{name}::from_number({call})")?,
-        type_name: name,
+        type_name: String::from_str(alloc, stored.number.type_name)?,
+        fact: fill_with(alloc, "@value@ ≡ @bits@", "bits", value.as_str())?,
+        body: stored.call(alloc)?,
     })
+}
+
+// An enum, whose number a clause names so.
+fn shown_enum(
+    alloc: Global,
+    site: Site<'_>,
+    stored: &Stored,
+    id: u64,
+    bits: String,
+) -> Result<Shown, AllocError> {
+    let name = enum_name(alloc, site, id)?;
+    let holes = Holes::new(alloc).holding("bits", bits)?;
+    let cases = cases_of(alloc, site.request, id, name.as_str())?;
+    let fact = fill(alloc, ENUM_FACT, &holes.holding("cases", cases)?)?;
+    let body = enum_body(alloc, stored, name.as_str())?;
+    Ok(Shown {
+        type_name: name,
+        fact,
+        body,
+    })
+}
+
+// The code that returns an enum of this name.
+fn enum_body(alloc: Global, stored: &Stored, name: &str) -> Result<String, AllocError> {
+    let call = stored.call(alloc)?;
+    let call = call.as_str();
+    format!(in alloc; "{name}::from_number({call})")
 }
 
 // A pointer.
