@@ -22,7 +22,7 @@ pub fn check_file(alloc: Global, request: &Request, file: u64) -> Result<()> {
         left.extend_from_slice(node.nested.as_slice())?;
         if let Body::Struct(body) = &node.body {
             check_fields(request, node, body)?;
-            if request.has_values && !body.is_group {
+            if request.has_builders && !body.is_group {
                 check_setters(alloc, request, id)?;
             }
             for field in body.fields.as_slice() {

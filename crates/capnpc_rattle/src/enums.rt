@@ -182,7 +182,7 @@ pub fn push_enum(
         .holding("cases", cases_of(alloc, request, node.id, type_name)?)?
         .holding("arms", variant_arms(alloc, type_name, names)?)?;
     code.add(ENUM_END, &holes)?;
-    if request.has_values {
+    if request.has_builders {
         push_to_number(alloc, code, type_name, names)?;
     }
     Ok(())

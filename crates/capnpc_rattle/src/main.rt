@@ -81,8 +81,8 @@ fn run(rt: HostRuntime) -> Result<()> {
         .get_root()
         .and_then(|root| root.get_as())
         .context("standard input is no request of the schema compiler")?;
-    let has_values = !is_for_readers(&rt, words.as_slice());
-    let request = request::read_request(alloc, &root, has_values).context(
+    let has_builders = !is_for_readers(&rt, words.as_slice());
+    let request = request::read_request(alloc, &root, has_builders).context(
         "standard input is no request of the schema compiler",
     )?;
     let outputs = outputs_of(alloc, &request)?;

@@ -9,11 +9,11 @@ use capnp_wire::text;
 use std::alloc::Global;
 use std::str::from_utf8;
 
-/// The request at the root of a message, of which values are written, too, or readers alone.
+/// The request at the root of a message, of which builders are written, too, or readers alone.
 pub fn read_request<S: ReaderSegments>(
     alloc: Global,
     root: &code_generator_request::Reader<'_, S>,
-    has_values: bool,
+    has_builders: bool,
 ) -> Result<Request> {
     let mut nodes = Vec::new(alloc);
     let list = root.get_nodes()?;
@@ -32,7 +32,7 @@ pub fn read_request<S: ReaderSegments>(
     let mut request = Request {
         nodes,
         files,
-        has_values,
+        has_builders,
     };
     add_comments(alloc, root, &mut request)?;
     Ok(request)

@@ -133,8 +133,8 @@ pub struct RequestedFile {
 pub struct Request {
     pub nodes: Vec<Node>,
     pub files: Vec<RequestedFile>,
-    /// Whether values are written, beside readers.
-    pub has_values: bool,
+    /// Whether builders are written, beside readers.
+    pub has_builders: bool,
 }
 
 impl Request {

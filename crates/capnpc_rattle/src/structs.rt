@@ -71,7 +71,7 @@ fn push_reader(
     if !body.is_group {
         code.add_lines(FROM_POINTER)?;
     }
-    if site.request.has_values {
+    if site.request.has_builders {
         push_builder(alloc, code, site, body)?;
     }
     push_defaults(alloc, code, site, body)
