@@ -95,6 +95,12 @@ pub const VOID_SETTER: &str = "pub fn set_@name@(&mut self)
 }
 ";
 
+/// The words before a setter, as a clause names them.
+pub const OLD_WORDS: &str = "self.old.draft.words";
+
+/// What a clause says of the words where they stay.
+pub const WORDS_STAY: &str = "self.new.draft.words ≡ self.old.draft.words";
+
 /// What a clause says of the words that are set.
 pub const WORDS_CLAUSE: &str = "self.new.draft.words
     ≡ @words@";

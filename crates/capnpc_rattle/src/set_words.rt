@@ -1,5 +1,5 @@
 //! What clauses say of the data words in which a field is set.
-use crate::builder_templates::{ENUM_CLAUSE, WORDS_CLAUSE};
+use crate::builder_templates::{ENUM_CLAUSE, OLD_WORDS, WORDS_CLAUSE, WORDS_STAY};
 use crate::code::{Holes, fill, fill_with};
 use crate::enums::{enum_name, enumerants_of};
 use crate::names::variant;
@@ -11,7 +11,7 @@ use std::fmt::Write;
 
 /// The words in which these numbers of unions are set, as a clause names them.
 pub fn words_with(alloc: Global, tags: &[(u32, u16)]) -> Result<String, AllocError> {
-    let mut words = String::from_str(alloc, "self.old.draft.words")?;
+    let mut words = String::from_str(alloc, OLD_WORDS)?;
     for (offset, number) in tags {
         let before = words.as_str();
         words = format!(in alloc; "(with_field {before} 16 {offset} {number})")?;
@@ -21,6 +21,9 @@ pub fn words_with(alloc: Global, tags: &[(u32, u16)]) -> Result<String, AllocErr
 
 /// What a clause says of the words: that they are these.
 pub fn words_clause(alloc: Global, words: &str) -> Result<String, AllocError> {
+    if words == OLD_WORDS {
+        return String::from_str(alloc, WORDS_STAY);
+    }
     fill_with(alloc, WORDS_CLAUSE, "words", words)
 }
 

@@ -275,8 +275,7 @@ pub mod person {
 
         /// Sets the field `name`.
         pub fn set_name(&mut self, value: Orphan<text::Owned>)
-            ensures words { self.new.draft.words
-                ≡ self.old.draft.words }
+            ensures words { self.new.draft.words ≡ self.old.draft.words }
             ensures pointers { self.new.draft.pointers
                 ≡ slice_set self.old.draft.pointers 0 value.word }
         {
@@ -292,8 +291,7 @@ pub mod person {
 
         /// Sets the field `email`.
         pub fn set_email(&mut self, value: Orphan<text::Owned>)
-            ensures words { self.new.draft.words
-                ≡ self.old.draft.words }
+            ensures words { self.new.draft.words ≡ self.old.draft.words }
             ensures pointers { self.new.draft.pointers
                 ≡ slice_set self.old.draft.pointers 1 value.word }
         {
@@ -309,8 +307,7 @@ pub mod person {
 
         /// Sets the field `phones`.
         pub fn set_phones(&mut self, value: Orphan<phone_number::OwnedList>)
-            ensures words { self.new.draft.words
-                ≡ self.old.draft.words }
+            ensures words { self.new.draft.words ≡ self.old.draft.words }
             ensures pointers { self.new.draft.pointers
                 ≡ slice_set self.old.draft.pointers 2 value.word }
         {
@@ -693,8 +690,7 @@ pub mod person {
         impl Builder {
             /// Sets the field `number`.
             pub fn set_number(&mut self, value: Orphan<text::Owned>)
-                ensures words { self.new.draft.words
-                    ≡ self.old.draft.words }
+                ensures words { self.new.draft.words ≡ self.old.draft.words }
                 ensures pointers { self.new.draft.pointers
                     ≡ slice_set self.old.draft.pointers 0 value.word }
             {
@@ -974,8 +970,7 @@ pub mod address_book {
     impl Builder {
         /// Sets the field `people`.
         pub fn set_people(&mut self, value: Orphan<super::person::OwnedList>)
-            ensures words { self.new.draft.words
-                ≡ self.old.draft.words }
+            ensures words { self.new.draft.words ≡ self.old.draft.words }
             ensures pointers { self.new.draft.pointers
                 ≡ slice_set self.old.draft.pointers 0 value.word }
         {

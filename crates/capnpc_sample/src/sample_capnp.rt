@@ -490,8 +490,7 @@ pub mod tree {
 
         /// Sets the field `left`.
         pub fn set_left(&mut self, value: Orphan<super::tree::Owned>)
-            ensures words { self.new.draft.words
-                ≡ self.old.draft.words }
+            ensures words { self.new.draft.words ≡ self.old.draft.words }
             ensures pointers { self.new.draft.pointers
                 ≡ slice_set self.old.draft.pointers 0 value.word }
         {
@@ -507,8 +506,7 @@ pub mod tree {
 
         /// Sets the field `right`.
         pub fn set_right(&mut self, value: Orphan<super::tree::Owned>)
-            ensures words { self.new.draft.words
-                ≡ self.old.draft.words }
+            ensures words { self.new.draft.words ≡ self.old.draft.words }
             ensures pointers { self.new.draft.pointers
                 ≡ slice_set self.old.draft.pointers 1 value.word }
         {
@@ -1100,8 +1098,7 @@ pub mod sample {
 
         /// Sets the field `title`.
         pub fn set_title(&mut self, value: Orphan<text::Owned>)
-            ensures words { self.new.draft.words
-                ≡ self.old.draft.words }
+            ensures words { self.new.draft.words ≡ self.old.draft.words }
             ensures pointers { self.new.draft.pointers
                 ≡ slice_set self.old.draft.pointers 0 value.word }
         {
@@ -1117,8 +1114,7 @@ pub mod sample {
 
         /// Sets the field `payload`.
         pub fn set_payload(&mut self, value: Orphan<capnp_wire::data::Owned>)
-            ensures words { self.new.draft.words
-                ≡ self.old.draft.words }
+            ensures words { self.new.draft.words ≡ self.old.draft.words }
             ensures pointers { self.new.draft.pointers
                 ≡ slice_set self.old.draft.pointers 1 value.word }
         {
@@ -1134,8 +1130,7 @@ pub mod sample {
 
         /// Sets the field `points`.
         pub fn set_points(&mut self, value: Orphan<super::point::OwnedList>)
-            ensures words { self.new.draft.words
-                ≡ self.old.draft.words }
+            ensures words { self.new.draft.words ≡ self.old.draft.words }
             ensures pointers { self.new.draft.pointers
                 ≡ slice_set self.old.draft.pointers 2 value.word }
         {
@@ -1151,8 +1146,7 @@ pub mod sample {
 
         /// Sets the field `numbers`.
         pub fn set_numbers(&mut self, value: Orphan<capnp_wire::primitive_list::Owned<u32>>)
-            ensures words { self.new.draft.words
-                ≡ self.old.draft.words }
+            ensures words { self.new.draft.words ≡ self.old.draft.words }
             ensures pointers { self.new.draft.pointers
                 ≡ slice_set self.old.draft.pointers 3 value.word }
         {
@@ -1168,8 +1162,7 @@ pub mod sample {
 
         /// Sets the field `origin`.
         pub fn set_origin(&mut self, value: Orphan<super::point::Owned>)
-            ensures words { self.new.draft.words
-                ≡ self.old.draft.words }
+            ensures words { self.new.draft.words ≡ self.old.draft.words }
             ensures pointers { self.new.draft.pointers
                 ≡ slice_set self.old.draft.pointers 4 value.word }
         {
@@ -1278,8 +1271,7 @@ pub mod sample {
 
         /// Sets the field `note`.
         pub fn set_note(&mut self, value: Orphan<text::Owned>)
-            ensures words { self.new.draft.words
-                ≡ self.old.draft.words }
+            ensures words { self.new.draft.words ≡ self.old.draft.words }
             ensures pointers { self.new.draft.pointers
                 ≡ slice_set self.old.draft.pointers 6 value.word }
         {
@@ -1295,8 +1287,7 @@ pub mod sample {
 
         /// Sets the field `target`.
         pub fn set_target(&mut self, value: Orphan<super::point::Owned>)
-            ensures words { self.new.draft.words
-                ≡ self.old.draft.words }
+            ensures words { self.new.draft.words ≡ self.old.draft.words }
             ensures pointers { self.new.draft.pointers
                 ≡ slice_set self.old.draft.pointers 7 value.word }
         {
@@ -1312,8 +1303,7 @@ pub mod sample {
 
         /// Sets the field `anything`.
         pub fn set_anything<T>(&mut self, value: Orphan<T>)
-            ensures words { self.new.draft.words
-                ≡ self.old.draft.words }
+            ensures words { self.new.draft.words ≡ self.old.draft.words }
             ensures pointers { self.new.draft.pointers
                 ≡ slice_set self.old.draft.pointers 8 value.word }
         {
