@@ -1,0 +1,150 @@
+"""Makes random schemas and messages, has the program that stands in crates/made build them by the types that
+the schema compiler makes, and compares them with those that the C++ tool makes of the same values as text.
+
+    compare.py FOLDER MESSAGES SEED SCHEMAS    FOLDER is a copy of the repository, which this may change"""
+import os
+import random
+import struct
+import subprocess
+import sys
+
+from makers import Maker
+from programs import Program, roots, taken_names
+from schemas import fields
+from values import Values, bytes_of, steps_text
+
+folder, count, seed, schema_count = sys.argv[1], *map(int, sys.argv[2:5])
+chance = random.Random(seed)
+sources = os.path.join(folder, "crates/made/src")
+
+
+def fail(what):
+    sys.exit("build-with-capnp: " + what)
+
+
+def tool(*words, stream=b""):
+    """What the C++ tool prints, or None where it ends with another status than 0, or complains."""
+    done = subprocess.run(["capnp", *words], input=stream, capture_output=True)
+    return None if done.returncode or done.stderr else done.stdout
+
+
+def write(path, text):
+    os.makedirs(os.path.dirname(path), exist_ok=True)
+    with open(path, "w") as file:
+        file.write(text)
+    return path
+
+
+def rt(crate, stream, *words):
+    """Runs a crate's program, and returns what is wrong, if anything."""
+    # The interpreter, which `rt try` asks first, reads no arguments.
+    done = subprocess.run(["rt", "try", "--steps", "1", "--seconds", "3600", "--", *words], input=stream,
+                          cwd=os.path.join(folder, "crates", crate), capture_output=True)
+    return done.returncode and done.stderr.decode()[-4000:]
+
+
+class Case:
+    """A schema, of which the C++ tool has one without any pointers, and messages of its structs."""
+
+    def __init__(self, index):
+        self.index = index
+        self.schema, self.path = self.take_schema()
+        self.messages = {made: [] for made in self.schema.structs}
+
+    def take_schema(self):
+        """A schema that the C++ tool takes: it refuses some orders of groups and unions."""
+        while True:
+            schema = Maker(chance).schema()
+            path = write("%s/told/schema%d.capnp" % (folder, self.index), schema.text(False))
+            if tool("compile", "-o-", path):
+                write("%s/schema%d.capnp" % (folder, self.index), schema.text(True))
+                return schema, path
+
+    def add_message(self):
+        made = chance.choice(self.schema.structs)
+        self.messages[made].append(Values(chance).root(made))
+
+    def description(self):
+        """All messages as the program reads them, those of one struct after another."""
+        for index, made in enumerate(self.schema.structs):
+            for steps in self.messages[made]:
+                yield bytes([chance.randrange(2), self.index, index]) + bytes_of(("struct", made), steps)
+
+    def convert(self, way, made, stream):
+        name = ".".join(part.name for part in [*made.scope, made])
+        return tool("convert", "--short", way, self.path, name, stream=stream)
+
+    def compare(self, built):
+        """Compares the messages with those that were built, in order, and returns how many differ."""
+        different = 0
+        for made, messages in self.messages.items():
+            pairs = [(("(%s)\n" % steps_text(steps)).encode(), *next(built)) for steps in messages]
+            if pairs and not self.is_same(made, *map(b"".join, zip(*pairs)), False):
+                different += max(1, sum(not self.is_same(made, *pair, True) for pair in pairs))
+        return different
+
+    def is_same(self, made, text, framed, canonical, prints):
+        """Whether messages are those that the text says, with these canonical forms; if not, it may print them."""
+        wanted = self.convert("text:binary", made, text)
+        if wanted is None and prints:
+            fail("the C++ tool does not take %s of %s: %s" % (made.name, self.path, text.decode()))
+        texts, forms = [[self.convert(way, made, stream) for stream in (wanted or b"", framed)]
+                        for way in ("binary:text", "binary:canonical")]
+        same = None not in texts + forms and texts[0] == texts[1] and forms == [canonical, canonical]
+        if prints and not same:
+            print("schema%d.capnp, %s: %s\nwanted %s\nfound  %s" % (self.index, made.name, text.decode(), *texts))
+            print("canonical forms, of the tool's, and of what was built:", *(form == canonical for form in forms))
+        return same
+
+
+def parts(output):
+    """The parts of the program's output, each with its length before it."""
+    at = 0
+    while at < len(output):
+        length = struct.unpack_from("<Q", output, at)[0]
+        yield output[at + 8:at + 8 + length]
+        at += 8 + length
+
+
+def write_types(cases):
+    """The types of all schemas, as the schema compiler makes them."""
+    names = ["schema%d.capnp" % case.index for case in cases]
+    request = subprocess.run(["capnp", "compile", "-o-", *names], cwd=folder, check=True, capture_output=True).stdout
+    os.makedirs(sources + "/schemas")
+    wrong = rt("capnpc_rattle", request, sources + "/schemas", "builders")
+    if wrong:
+        fail("the schema compiler ended: " + wrong)
+
+
+def write_program(cases):
+    taken = taken_names(os.path.join(folder, "crates/capnpc_rattle/src/taken.rt"))
+    write(sources + "/schemas.rt", roots(len(cases)))
+    for case in cases:
+        program = Program(case.schema, "schema%d_capnp" % case.index, taken)
+        write("%s/schemas/making_%d.rt" % (sources, case.index), program.text())
+
+
+def build(cases):
+    """What the program builds: framed messages, each with its canonical form."""
+    output = os.path.join(folder, "built")
+    wrong = rt("made", b"".join(part for case in cases for part in case.description()), output)
+    if wrong:
+        fail("the program ended: " + wrong)
+    with open(output, "rb") as file:
+        found = list(parts(file.read()))
+    return list(zip(found[::2], found[1::2]))
+
+
+cases = [Case(index) for index in range(schema_count)]
+for index in range(count):
+    cases[index % len(cases)].add_message()
+write_types(cases)
+write_program(cases)
+built = build(cases)
+left = iter(built)
+different = sum(case.compare(left) for case in cases)
+structs = [made for case in cases for made in case.schema.structs]
+print("build-with-capnp: %d messages of %d schemas with %d structs and %d fields, %d bytes: %s" % (
+    len(built), len(cases), len(structs), sum(len(list(fields(made.members))) for made in structs),
+    sum(len(framed) for framed, _ in built), "the same" if not different else "%d differ" % different))
+sys.exit(1 if different else 0)

@@ -1,0 +1,136 @@
+"""Makes random schemas."""
+from schemas import NUMBERS, Enum, Field, Group, Schema, Struct, fields, setter, snake
+from values import Values, is_pointer, text_of
+
+# Beside plain names: words of the language, of clauses, and names that the module of a struct has.
+FIELD_NAMES = """type struct match self fn in new add addRoot addList draft words pointers fields which value
+objects result data text list box where ghost requires ensures record elim let length map nothing field super
+crate mod pub use enum impl trait async await dyn move ref static true false loop while yield try macro old now
+reader builder owned orphan union group void bool id unknown""".split()
+STRUCT_NAMES = """Type Struct Match Self Fn Box Owned Reader Builder Result Which Option Some Ok Vec String Orphan
+Orphanage ListReader OwnedList Draft StructDraft Super Crate Std Prim Upgraded AnyPointerReader Global""".split()
+ENUM_NAMES = "Type Result Option Some Owned Builder Which Copy Debug T Orphan".split()
+ENUMERANTS = "self none below notInSchema some ok type red green deepBlue newOne struct".split()
+
+
+class Maker:
+    """Makes one schema. Of the struct that is made it has the names of fields and groups, of modules, and of
+    setters, and how many fields are left to be made."""
+
+    def __init__(self, chance):
+        self.chance, self.count = chance, 0
+        self.structs, self.enums = [], []
+
+    def schema(self):
+        modules = set()
+        self.enum([], modules)
+        outer = [self.struct([], modules) for _ in range(self.chance.randrange(1, 4))]
+        for made in self.structs:
+            self.fill(made)
+        return Schema(2**63 + self.chance.randrange(2**63), outer, self.structs, self.enums)
+
+    def name(self, special, plain, *taken):
+        """A name that is in none of some sets, and then in all."""
+        while True:
+            self.count += 1
+            name = self.chance.choice(special) if self.chance.random() < 0.3 else "%s%d" % (plain, self.count)
+            if all(snake(name) not in names for names in taken):
+                for names in taken:
+                    names.add(snake(name))
+                return name
+
+    def struct(self, scope, modules):
+        parameter = self.pointer(1, []) if self.chance.random() < 0.15 else None
+        made = Struct(self.name(STRUCT_NAMES, "Struct", modules), scope, parameter)
+        self.structs.append(made)
+        while len(scope) < 2 and self.chance.random() < 0.25:
+            made.structs.append(self.struct([*scope, made], made.modules))
+        if self.chance.random() < 0.2:
+            made.enums.append(self.enum([*scope, made], made.modules))
+        return made
+
+    def enum(self, scope, modules):
+        taken = set()
+        names = [self.name(ENUMERANTS, "name", taken) for _ in range(self.chance.randrange(1, 9))]
+        self.enums.append(Enum(self.name(ENUM_NAMES, "Enum", modules), names, scope))
+        return self.enums[-1]
+
+    def fill(self, made):
+        """Makes the members of a struct, whose fields are numbered in any order."""
+        self.names, self.modules, self.setters = set(), made.modules, set()
+        self.parameter = made.parameter
+        self.left = self.chance.choice([1, 4, 8, 8, 12, 20, 40])
+        made.members = self.members([], False, self.left)
+        numbered = [field for _, field in fields(made.members)]
+        self.chance.shuffle(numbered)
+        for number, field in enumerate(numbered):
+            field.number = number
+
+    def members(self, around, in_union, count):
+        """Fields, groups and unions, of which one may have no name."""
+        members, has_union = [], in_union
+        while len(members) < count and (self.left > 0 or len(members) < 2):
+            odds = self.chance.random()
+            if odds < 0.8 or len(around) > 2 or self.left < 3:
+                members.append(self.field(around, in_union))
+                continue
+            is_union, is_named = odds < 0.93, has_union or odds > 0.87
+            has_union = has_union or not is_named
+            name = self.name(FIELD_NAMES, "group", self.names, self.modules) if is_named else ""
+            group = Group(name, is_union, [])
+            group.members = self.members([*around, group], is_union, self.chance.randrange(2, 6))
+            members.append(group)
+        return members
+
+    def field(self, around, in_union):
+        self.left -= 1
+        kind = self.kind(in_union)
+        while True:
+            field = Field(self.name(FIELD_NAMES, "field", self.names), kind, self.default(kind))
+            if setter(around, field) not in self.setters:
+                self.setters.add(setter(around, field))
+                return field
+
+    def kind(self, in_union):
+        odds = self.chance.random()
+        if odds < 0.45:
+            return "number", self.chance.choice(NUMBERS)
+        if odds < 0.52:
+            return "enum", self.chance.choice(self.enums)
+        if odds < (0.56 if in_union else 0.53):
+            return "number", "Void"
+        if odds < 0.6:
+            return "any", self.pointer(0, self.structs)
+        if odds < 0.61:
+            return "interface", None
+        if self.parameter and odds < 0.8:
+            return "parameter", self.parameter
+        return self.pointer(0, self.structs)
+
+    def pointer(self, depth, structs):
+        """A type of pointers, over some structs."""
+        odds = self.chance.random()
+        if odds < 0.2:
+            return "text", None
+        if odds < 0.35:
+            return "data", None
+        if odds < 0.55 and depth == 0:
+            return "struct", self.chance.choice(structs)
+        return "list", self.element(depth + 1, structs)
+
+    def element(self, depth, structs):
+        odds = self.chance.random()
+        if odds < 0.4:
+            return "number", self.chance.choice([*NUMBERS, "Void"])
+        if odds < 0.45:
+            return "enum", self.chance.choice(self.enums)
+        if odds < 0.65 and structs:
+            return "struct", self.chance.choice(structs)
+        return self.pointer(depth, structs) if depth < 3 else ("text", None)
+
+    def default(self, kind):
+        """A default as the schema has it, or None."""
+        odds = 0.2 if is_pointer(kind) else 0.4
+        if self.chance.random() > odds or kind[0] in ("any", "parameter", "interface") or kind == ("number", "Void"):
+            return None
+        return text_of(kind, Values(self.chance).value(kind, 0))

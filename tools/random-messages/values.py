@@ -1,0 +1,189 @@
+"""Random values of a schema's types, as text and as the description that the program reads.
+
+A struct is a list of steps: a member and what it is set to, which of a group or a union are steps again. NULL is
+a pointer that is set to null, or not at all; a list is a list, a text is a `str`, data are `bytes`."""
+import struct
+
+from schemas import FLOATS, SIGNED, UNSIGNED, Field, fields, shown_number, some_number
+
+NULL = object()
+LETTERS = "abc XYZ\0\n\"'\\\x7f\u00e9\u4e2d\U0001f600"
+CODES = {8: "B", 16: "H", 32: "I", 64: "Q"}
+
+
+def is_pointer(kind):
+    return kind[0] not in ("number", "enum")
+
+
+def has_setter(around, field):
+    """A field that is nothing has a setter within a union alone, and one of an interface has none."""
+    if field.kind[0] == "interface":
+        return False
+    return field.kind != ("number", "Void") or any(part.is_union for part in around)
+
+
+def setters(made):
+    """The fields that can be set, each with the groups around it."""
+    return [(around, field) for around, field in fields(made.members) if has_setter(around, field)]
+
+
+def can_select(member):
+    """Whether a member of a union can be made its member by a setter."""
+    held = [([], member)] if isinstance(member, Field) else fields(member.members)
+    return any(field.kind[0] != "interface" for _, field in held)
+
+
+class Values:
+    def __init__(self, chance):
+        self.chance, self.left = chance, 0
+
+    def root(self, made):
+        self.left = 300  # about how many values a message has
+        return self.struct(made, self.chance.randrange(6))
+
+    def struct(self, made, depth):
+        self.left -= 1
+        return self.steps(made.members, depth, self.chance.choice([0.1, 0.5, 0.9, 1]))
+
+    def steps(self, members, depth, odds):
+        """Sets some members, in any order."""
+        found = []
+        for member in members:
+            if self.chance.random() < odds:
+                found.append((member, self.member(member, depth, odds)))
+        self.chance.shuffle(found)
+        return found
+
+    def member(self, member, depth, odds):
+        if isinstance(member, Field):
+            return self.null_or(member.kind, depth)
+        return self.union(member, depth, odds) if member.is_union else self.steps(member.members, depth, odds)
+
+    def union(self, union, depth, odds):
+        """Sets a member, or one and then another that takes its place. Where that is a group, the C++ tool clears
+        it first, which setters do not."""
+        members = [member for member in union.members if can_select(member)]
+        self.chance.shuffle(members)
+        chosen = members[:1]
+        if self.chance.random() < 0.2:
+            chosen += [member for member in members[1:] if isinstance(member, Field)][:1]
+        return [(member, self.chosen(member, depth, odds)) for member in chosen]
+
+    def chosen(self, member, depth, odds):
+        """What a member of a union is set to: no null pointer, since the text format has none there, and of a
+        group one field at least."""
+        if isinstance(member, Field):
+            return self.value(member.kind, depth)
+        if member.is_union:
+            return self.union(member, depth, odds)
+        members = [held for held in member.members if can_select(held)]
+        first = self.chance.choice(members)
+        others = self.steps([held for held in member.members if held is not first], depth, odds)
+        return [(first, self.chosen(first, depth, odds)), *others]
+
+    def null_or(self, kind, depth):
+        if kind[0] == "interface":
+            return NULL
+        if is_pointer(kind) and (self.left < 0 or self.chance.random() < 0.1 or depth == 0 and kind[0] == "struct"):
+            return NULL
+        return self.value(kind, depth)
+
+    def value(self, kind, depth):
+        self.left -= 1
+        form, of = kind
+        if form == "number":
+            return None if of == "Void" else some_number(self.chance, of)
+        if form == "enum":
+            return self.chance.choice(of.names)
+        if form == "text":
+            return "".join(self.chance.choice(LETTERS) for _ in range(self.length(30)))
+        if form == "data":
+            return bytes(self.chance.randrange(256) for _ in range(self.length(40)))
+        if form == "struct":
+            return self.struct(of, depth - 1) if depth > 0 else []
+        return self.list(of, depth) if form == "list" else self.value(of, depth)
+
+    def length(self, most):
+        return self.chance.choice([0, 1, 7, 8, most, self.chance.randrange(1, 900)])
+
+    def list(self, of, depth):
+        if not is_pointer(of):
+            return [self.value(of, depth) for _ in range(self.chance.choice([0, 1, 3, 17, 70]))]
+        most = 0 if self.left < 0 or depth <= 0 else 5
+        return [self.value(of, depth - 1) for _ in range(self.chance.randrange(most + 1))]
+
+
+def text_of(kind, value):
+    """A value as the text format has it."""
+    form, of = kind
+    if form in ("any", "parameter"):
+        return text_of(of, value)
+    if form == "list":
+        return "[%s]" % ", ".join(text_of(of, item) for item in value)
+    if form == "struct":
+        return "(%s)" % steps_text(value)
+    if form == "text":
+        escaped = ("\\x%02x" % ord(letter) if letter < " " or letter in "\"\\\x7f" else letter for letter in value)
+        return '"%s"' % "".join(escaped)
+    if form == "data":
+        return '"%s"' % "".join("\\x%02x" % byte for byte in value)
+    return "void" if value is None else value if form == "enum" else shown_number(value)
+
+
+def steps_text(steps):
+    parts = []
+    for member, value in steps:
+        if isinstance(member, Field):
+            parts += [] if value is NULL else ["%s = %s" % (member.name, text_of(member.kind, value))]
+        elif member.name:
+            parts.append("%s = (%s)" % (member.name, steps_text(value)))
+        else:
+            parts += [text for text in [steps_text(value)] if text]
+    return ", ".join(parts)
+
+
+def bytes_of(kind, value):
+    """A value as the program reads it."""
+    form, of = kind
+    if form in ("any", "parameter"):
+        return bytes_of(of, value)
+    if form == "list":
+        return struct.pack("<I", len(value)) + b"".join(bytes_of(of, item) for item in value)
+    if form == "struct":
+        return struct_bytes(of, value)
+    if form in ("text", "data"):
+        value = value.encode() if form == "text" else value
+        return struct.pack("<I", len(value)) + value
+    if form == "enum":
+        return struct.pack("<H", of.names.index(value))
+    return number_bytes(of, value)
+
+
+def number_bytes(name, value):
+    if name == "Void":
+        return b""
+    if name in FLOATS:
+        return struct.pack("<" + FLOATS[name], value)
+    width = 8 if name == "Bool" else UNSIGNED.get(name) or SIGNED[name]
+    return struct.pack("<" + CODES[width], int(value) % 2**width)
+
+
+def struct_bytes(made, steps):
+    """How many setters are called, and of each its number and what it takes."""
+    numbers = {field: number for number, (_, field) in enumerate(setters(made))}
+    calls = [call_bytes(numbers[field], field.kind, value) for field, value in leaves(steps) if field in numbers]
+    return struct.pack("<H", len(calls)) + b"".join(calls)
+
+
+def call_bytes(number, kind, value):
+    if not is_pointer(kind):
+        return bytes([number]) + bytes_of(kind, value)
+    return bytes([number]) + (b"\0" if value is NULL else b"\1" + bytes_of(kind, value))
+
+
+def leaves(steps):
+    for member, value in steps:
+        if isinstance(member, Field):
+            yield member, value
+        else:
+            yield from leaves(value)
