@@ -28,10 +28,6 @@ abbrev pub LacksRoom : ℕ → Segment → ErrorKind → Type 0
 LacksRoom words segment kind = ((2 ^ 29 ≤ length segment.bytes / 8 + words) × (kind ≡ AllocationTooLarge words))
     ⊎ ((length segment.bytes / 8 + words < 2 ^ 29) × RefusesWords words segment kind)
 
--- there is none for sure: a segment has fewer than 2 ^ 29 words, and a region no more than it has
-abbrev pub IsFull : ℕ → Segment → Type 0
-IsFull words segment = (2 ^ 29 ≤ length segment.bytes / 8 + words) ⊎ ExceedsMost words segment
-
 -- there is for sure
 abbrev pub HasRoom : ℕ → Segment → Type 0
 HasRoom words segment = (length segment.bytes / 8 + words < 2 ^ 29) × GrantsWords words segment
@@ -44,8 +40,9 @@ pub record Fails {T : Type 0} (takes : ℕ → Type 0) (refuses : ErrorKind → 
   pub exact : (kind : ErrorKind) → refuses kind → IsErrAnd result (λ error. error.kind ≡ kind)
   -- an object is written where there is room in the memory that is there
   pub fits : (words : ℕ) → takes words → HasRoom words old → IsOk result
-  -- it is refused by its words where there can be none
-  pub full : (words : ℕ) → takes words → IsFull words old → IsErrAnd result (λ error. error.kind ≡ AllocationTooLarge words)
+  -- it is refused by its words where a segment would have 2 ^ 29, or a region more than it has room for
+  pub long : (words : ℕ) → takes words → 2 ^ 29 ≤ length old.bytes / 8 + words → IsErrAnd result (λ error. error.kind ≡ AllocationTooLarge words)
+  pub full : (words : ℕ) → takes words → ExceedsMost words old → IsErrAnd result (λ error. error.kind ≡ AllocationTooLarge words)
 
 -- What one call writes that adds an object.
 pub record Writes {T : Type 0} (takes : ℕ → Type 0) (refuses : ErrorKind → Type 0) (old new : Segment) (result : Result T Error) : Type 0 where
