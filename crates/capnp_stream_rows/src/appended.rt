@@ -149,8 +149,10 @@ fn write_none(rt: &(impl Abort + AllocGlobal), format: Format) -> Result<()> {
 
 // A limit, how many messages are asked for, and the refusal with what is unread then, framed and
 // packed.
+type Refusal = (Option<usize>, usize, ErrorKind, usize, usize);
+
 #[rattlefmt::skip]
-const REFUSALS: [(Option<usize>, usize, ErrorKind, usize, usize); 4] = [
+const REFUSALS: [Refusal; 4] = [
     (Some(2), 3, ErrorKind::MessageTooLarge(3), 56, 22),
     (Some(0), 1, ErrorKind::MessageTooLarge(3), 56, 22),
     (NO_LIMIT, 4, ErrorKind::PrematureEndOfFile, 0, 0),
@@ -159,9 +161,11 @@ const REFUSALS: [(Option<usize>, usize, ErrorKind, usize, usize); 4] = [
 
 #[test]
 fn messages_that_are_not_there(rt: HostRuntime) -> Result<()> {
-    for &(limit, count, kind, framed, packed) in &REFUSALS {
-        retried!(read_too_many(&rt, Format::Framed, limit, count, (kind, framed)))?;
-        retried!(read_too_many(&rt, Format::Packed, limit, count, (kind, packed)))?;
+    for (number, row) in (0..).zip(&REFUSALS) {
+        for format in &FORMATS {
+            let at = At::new(name_of(*format).row, number);
+            retried!(read_too_many(&rt, *format, row, at))?;
+        }
     }
     Ok(())
 }
@@ -169,11 +173,13 @@ fn messages_that_are_not_there(rt: HostRuntime) -> Result<()> {
 fn read_too_many(
     rt: &(impl Abort + AllocGlobal),
     format: Format,
-    limit: Option<usize>,
-    count: usize,
-    (kind, unread): (ErrorKind, usize),
+    &(limit, count, kind, framed, packed): &Refusal,
+    at: At<'_>,
 ) -> Result<()> {
-    let at = name_of(format);
+    let unread = match format {
+        Format::Framed => framed,
+        Format::Packed => packed,
+    };
     let mut source = text_of(format);
     let returned = kind_of(read(rt, format, &mut source, count, limit))?;
     assert_kind(rt, returned, Some(kind), at);

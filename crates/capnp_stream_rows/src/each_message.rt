@@ -137,6 +137,14 @@ fn joined(alloc: Global, texts: &[&[u8]]) -> Result<Vec<u8>> {
     Ok(bytes)
 }
 
+// A row, and 1 where any padding is accepted.
+fn at(row: &Row, padding: Padding) -> At<'static> {
+    match padding {
+        Padding::Zero => At::new(row.name, 0),
+        Padding::Any => At::new(row.name, 1),
+    }
+}
+
 // A stop for want of memory is handed back.
 fn stop_of(returned: std::result::Result<(), StoppedAt>) -> Result<Option<(u64, ErrorKind)>> {
     match returned {
@@ -164,8 +172,8 @@ fn write_each(
         &mut source,
         &mut sink,
     ))?;
-    let at = At::row(row.name);
-    assert!(rt; stop == ended.stop, "{stop:?} at {}", row.name);
+    let at = at(row, padding);
+    assert!(rt; stop == ended.stop, "{stop:?} at {}, {}", at.row, at.number);
     assert_count(rt, source.len(), ended.unread, at);
     assert_bytes(rt, sink.as_slice(), ended.written, at);
     Ok(())
@@ -184,7 +192,7 @@ fn transcode_row(
         Padding::Zero => transcoded(rt, row.way, &mut source, &mut sink)?,
         Padding::Any => transcoded_leniently(rt, row.way, &mut source, &mut sink)?,
     };
-    let at = At::row(row.name);
+    let at = at(row, padding);
     let wanted = match ended.stop {
         Some((_, kind)) => Some(kind),
         None => None,

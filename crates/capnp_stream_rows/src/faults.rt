@@ -1,9 +1,10 @@
 //! Sources that fail at their nth call.
 use crate::assertions::{At, assert_bytes, assert_calls, assert_holds, assert_refused};
+use crate::calls_told::assert_call;
 use crate::flat::RULES;
 use crate::framed;
 use crate::samples::{SAMPLES, Sample, TWO_SEGMENTS};
-use crate::streams::{Call, READERS, Wanted, assert_call, is_returned};
+use crate::streams::{Call, READERS, Wanted, is_returned};
 use capnp::streams::Format;
 use capnp_frame::io::Read;
 use capnp_frame::message::DEFAULT_READER_OPTIONS;

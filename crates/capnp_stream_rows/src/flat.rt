@@ -1,5 +1,6 @@
 //! Messages in a slice, by each call that finds them there.
-use crate::assertions::{At, assert_count};
+use crate::assertions::At;
+use crate::calls_told::{assert_form, assert_left};
 use crate::flat_calls::{
     hold, hold_without_memory, take, take_message, take_message_without_memory, take_without_memory,
 };
@@ -118,12 +119,6 @@ pub fn find(
     Ok((returned, slice.len()))
 }
 
-/// A form returned what is wanted.
-pub fn assert_form(rt: &impl Abort, holds: bool, (form, rule): (Form, Padding), at: At<'_>) {
-    let At { row, number } = at;
-    assert!(rt; holds, "at {row}, {number}, {form:?}, {rule:?}");
-}
-
 /// How many bytes a form leaves: those that take a slice move it after a message.
 pub fn left_by(form: Form, whole: usize, following: usize) -> usize {
     match form {
@@ -162,17 +157,21 @@ fn find_row(rt: &(impl Abort + AllocGlobal), call: (Form, Padding), row: &FlatRo
     };
     let (returned, left) = find(rt, call, row.bytes, with_limit(row.limit), wanted)?;
     assert_form(rt, returned, call, at);
-    assert_count(rt, left, left_by(form, whole, following), at);
+    assert_left(rt, left, left_by(form, whole, following), call, at);
     Ok(())
 }
 
 // A table of 2,048 bytes: the low byte of its count, each byte of its lengths, a limit, and the result.
+type Table = (&'static str, u8, u8, Option<usize>, Wanted<'static>);
+
 #[rattlefmt::skip]
-const TABLES: [(u8, u8, Option<usize>, Wanted<'static>); 4] = [
-    (254, 0, DEFAULT_LIMIT, Ok(&NO_WORDS)),
-    (255, 0, DEFAULT_LIMIT, Err(ErrorKind::InvalidNumberOfSegments(512))),
-    (254, 255, DEFAULT_LIMIT, Err(ErrorKind::MessageTooLarge(2194728287745))),
-    (254, 255, NO_LIMIT, Err(ErrorKind::MessageEndsPrematurely(2194728287745, 0))),
+const TABLES: [Table; 4] = [
+    ("511 empty segments", 254, 0, DEFAULT_LIMIT, Ok(&NO_WORDS)),
+    ("512 segments", 255, 0, DEFAULT_LIMIT, Err(ErrorKind::InvalidNumberOfSegments(512))),
+    ("the longest lengths", 254, 255, DEFAULT_LIMIT,
+     Err(ErrorKind::MessageTooLarge(2194728287745))),
+    ("the longest lengths, without a limit", 254, 255, NO_LIMIT,
+     Err(ErrorKind::MessageEndsPrematurely(2194728287745, 0))),
 ];
 
 // As many segments as a reader accepts, all empty, with 3 bytes after them; then one segment more, and
@@ -181,8 +180,8 @@ const TABLES: [(u8, u8, Option<usize>, Wanted<'static>); 4] = [
 fn the_longest_tables(rt: HostRuntime) -> Result<()> {
     for rule in &RULES {
         for form in &FORMS {
-            for &(count, lengths, limit, wanted) in &TABLES {
-                retried!(find_table(&rt, (*form, *rule), count, lengths, limit, wanted))?;
+            for table in &TABLES {
+                retried!(find_table(&rt, (*form, *rule), table))?;
             }
         }
     }
@@ -192,10 +191,7 @@ fn the_longest_tables(rt: HostRuntime) -> Result<()> {
 fn find_table(
     rt: &(impl Abort + AllocGlobal),
     call: (Form, Padding),
-    count: u8,
-    lengths: u8,
-    limit: Option<usize>,
-    wanted: Wanted<'_>,
+    &(name, count, lengths, limit, wanted): &Table,
 ) -> Result<()> {
     let mut bytes = [lengths; 2051];
     bytes[0] = count;
@@ -207,8 +203,8 @@ fn find_table(
         Err(_) => 2051,
     };
     let (returned, left) = find(rt, call, &bytes, with_limit(limit), wanted)?;
-    let at = At::new("a table of 2,048 bytes, its count", u64::from(count));
+    let at = At::row(name);
     assert_form(rt, returned, call, at);
-    assert_count(rt, left, wanted_left, at);
+    assert_left(rt, left, wanted_left, call, at);
     Ok(())
 }

@@ -1,5 +1,6 @@
 //! Streams and buffers with tables whose padding isn't zero, by both rules.
-use crate::assertions::{At, assert_count};
+use crate::assertions::At;
+use crate::calls_told::{assert_call, assert_unread};
 use crate::flat::RULES;
 use crate::framed_rows::{CUT, TWO_SEGMENTS};
 use crate::packed_rows::NO_WORDS;
@@ -7,7 +8,7 @@ use crate::padding_rows::{
     FRAMED_PADDINGS, NOT_ZERO, PACKED_PADDINGS, PACKED_TWO, PaddedStream, TABLE, TWO,
 };
 use crate::provided::{Row, TOO_SMALL, read_into_each};
-use crate::streams::{READERS, Reader, Stream, Wanted, assert_call, is_returned, read_stream};
+use crate::streams::{READERS, Reader, Stream, Wanted, is_returned, read_stream};
 use capnp::streams::Format;
 use capnp_frame::serialize::Padding;
 use capnp_frame::{ErrorKind, Result};
@@ -140,6 +141,6 @@ fn read_longest(
     let returned = is_returned(rt.alloc(), call, &mut source, DEFAULT_LIMIT, wanted)?;
     let at = At::row("510 empty segments");
     assert_call(rt, returned, call, at);
-    assert_count(rt, source.bytes.len(), 3, at);
+    assert_unread(rt, source.bytes.len(), 3, call, at);
     Ok(())
 }

@@ -1,8 +1,9 @@
 //! Messages that are cut: no prefix of a text is a message, and each fails with one kind.
-use crate::assertions::{At, assert_count};
-use crate::flat::{FORMS, Form, RULES, assert_form, find};
+use crate::assertions::At;
+use crate::calls_told::{assert_call, assert_form, assert_left, both};
+use crate::flat::{FORMS, Form, RULES, find};
 use crate::samples::{SAMPLES, Sample};
-use crate::streams::{Call, READERS, Reader, Wanted, assert_call, is_returned};
+use crate::streams::{Call, READERS, Reader, Wanted, is_returned};
 use capnp::streams::Format;
 use capnp_frame::message::DEFAULT_READER_OPTIONS;
 use capnp_frame::serialize::Padding;
@@ -37,7 +38,8 @@ fn read_each(
     Ok(())
 }
 
-// A framed text is refused wherever it is cut, and all of it is consumed.
+// A framed text is refused wherever it is cut, and all of it is consumed. A row is told with both its
+// length and how many bytes the source shows.
 fn read_framed(
     rt: &(impl Abort + AllocGlobal),
     call: Call,
@@ -51,7 +53,7 @@ fn read_framed(
         };
         let mut source = Trickle::new(&sample.framed[..length], most);
         let returned = is_returned(rt.alloc(), call, &mut source, DEFAULT_LIMIT, wanted)?;
-        let at = At::new(sample.name, length as u64);
+        let at = At::new(sample.name, both(length, most));
         assert_call(rt, returned && source.bytes.is_empty(), call, at);
     }
     Ok(())
@@ -74,7 +76,8 @@ fn read_packed(
         };
         let mut source = Trickle::new(&sample.packed[..length], most);
         let returned = is_returned(rt.alloc(), call, &mut source, DEFAULT_LIMIT, wanted)?;
-        assert_call(rt, returned, call, At::new(sample.name, length as u64));
+        let at = At::new(sample.name, both(length, most));
+        assert_call(rt, returned, call, at);
     }
     Ok(())
 }
@@ -108,7 +111,7 @@ fn find_prefixes(
         let (returned, left) = find(rt, call, front, DEFAULT_READER_OPTIONS, Err(kind))?;
         let at = At::new(sample.name, length as u64);
         assert_form(rt, returned, call, at);
-        assert_count(rt, left, length, at);
+        assert_left(rt, left, length, call, at);
     }
     Ok(())
 }

@@ -1,9 +1,10 @@
 //! Messages that are read into caller-provided buffers of each length.
-use crate::assertions::{At, assert_count};
+use crate::assertions::At;
+use crate::calls_told::{assert_call, assert_unread, both};
 use crate::flat::RULES;
 use crate::framed_rows::{CUT, FLATTEN};
 use crate::packed_rows::NO_WORDS;
-use crate::streams::{Call, READERS, Reader, Wanted, assert_call, is_returned};
+use crate::streams::{Call, READERS, Reader, Wanted, is_returned};
 use capnp::streams::Format;
 use capnp_frame::serialize::Padding;
 use capnp_frame::{ErrorKind, Result};
@@ -107,9 +108,10 @@ pub fn read_into_each(
     rows: &[Row],
 ) -> Result<()> {
     for most in 1..=24 {
-        for row in rows {
+        for (number, row) in (0..).zip(rows) {
+            let at = At::new("the row, and how many bytes are shown", both(number, most));
             for reader in lending(row.0) {
-                read_into(rt, (format, rule, reader), row, most)?;
+                read_into(rt, (format, rule, reader), row, most, at)?;
             }
         }
     }
@@ -121,12 +123,12 @@ fn read_into(
     call: Call,
     &(_, bytes, limit, wanted, unread): &Row,
     most: usize,
+    at: At<'_>,
 ) -> Result<()> {
-    let at = At::new("a buffer", most as u64);
     let mut source = Trickle::new(bytes, most);
     let returned = is_returned(rt.alloc(), call, &mut source, limit, wanted)?;
     assert_call(rt, returned, call, at);
-    assert_count(rt, source.bytes.len(), unread, at);
+    assert_unread(rt, source.bytes.len(), unread, call, at);
     Ok(())
 }
 
@@ -134,6 +136,7 @@ fn read_into(
 // where 3 bytes stand after it.
 #[derive(Clone, Copy)]
 struct Table {
+    name: &'static str,
     count: u8,
     lengths: u8,
     limit: Option<usize>,
@@ -142,6 +145,7 @@ struct Table {
 }
 
 const NONE: Table = Table {
+    name: "511 empty segments",
     count: 254,
     lengths: 0,
     limit: DEFAULT_LIMIT,
@@ -153,12 +157,14 @@ const NONE: Table = Table {
 const TABLES: [Table; 3] = [
     NONE,
     Table {
+        name: "512 segments",
         count: 255,
         wanted: Wanted::Refused(ErrorKind::InvalidNumberOfSegments(512)),
         unread: 2043,
         ..NONE
     },
     Table {
+        name: "the longest lengths",
         lengths: 255,
         wanted: Wanted::Refused(ErrorKind::MessageTooLarge(2194728287745)),
         ..NONE
@@ -172,6 +178,7 @@ const PROVIDED_TABLES: [(usize, Table); 3] = [
     (
         2047,
         Table {
+            name: "511 empty segments, a byte short",
             wanted: TOO_SMALL,
             unread: 2043,
             ..NONE
@@ -180,6 +187,7 @@ const PROVIDED_TABLES: [(usize, Table); 3] = [
     (
         4096,
         Table {
+            name: "the longest lengths, without a limit",
             lengths: 255,
             limit: NO_LIMIT,
             wanted: TOO_SMALL,
@@ -220,8 +228,8 @@ fn read_table(
     bytes[3] = 0;
     let mut source = Trickle::new(&bytes, if most > 16 { 2051 } else { most });
     let returned = is_returned(rt.alloc(), call, &mut source, table.limit, table.wanted)?;
-    let at = At::new("a table of 2,048 bytes", most as u64);
+    let at = At::new(table.name, most as u64);
     assert_call(rt, returned, call, at);
-    assert_count(rt, source.bytes.len(), table.unread, at);
+    assert_unread(rt, source.bytes.len(), table.unread, call, at);
     Ok(())
 }

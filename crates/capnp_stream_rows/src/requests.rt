@@ -1,6 +1,7 @@
 //! What the readers of framed messages ask their source for.
 use crate::assertions::{At, assert_calls};
-use crate::streams::{READERS, Wanted, assert_call, is_read};
+use crate::calls_told::assert_call;
+use crate::streams::{READERS, Wanted, is_read};
 use capnp::streams::Format;
 use capnp_frame::Result;
 use capnp_frame::serialize::Padding;

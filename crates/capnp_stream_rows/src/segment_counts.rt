@@ -63,13 +63,21 @@ fn lists_of_many_segments(rt: HostRuntime) -> Result<()> {
 fn read_many(rt: &(impl Abort + AllocGlobal), format: Format) -> Result<()> {
     let done = read_back(rt, format, &WORDS, &[EMPTY])?;
     let are_read = are_read(&done.readers, &[&WORDS, &[EMPTY]]);
-    assert_holds(rt, are_read && done.end.is_none(), At::row("511 segments"));
+    let at = At::row(match format {
+        Format::Framed => "511 segments, framed",
+        Format::Packed => "511 segments, packed",
+    });
+    assert_holds(rt, are_read && done.end.is_none(), at);
     Ok(())
 }
 
 fn refuse_in_a_list(rt: &(impl Abort + AllocGlobal), format: Format) -> Result<()> {
     let returned = kind_of(read_back(rt, format, &[WORD], &MANY))?;
     let kind = ErrorKind::InvalidNumberOfSegments(600);
-    assert_kind(rt, returned, Some(kind), At::row("600 segments"));
+    let at = At::row(match format {
+        Format::Framed => "600 segments, framed",
+        Format::Packed => "600 segments, packed",
+    });
+    assert_kind(rt, returned, Some(kind), at);
     Ok(())
 }

@@ -1,8 +1,9 @@
 //! As many segments as a reader accepts, of 0, 1 and 2 words in turn: each is where it begins.
-use crate::assertions::{At, assert_count};
+use crate::assertions::At;
+use crate::calls_told::{assert_call, assert_form, assert_left};
 use crate::faults::FORMATS;
-use crate::flat::{FORMS, Form, RULES, assert_form, find, left_by};
-use crate::streams::{Call, Reader, Wanted, assert_call, is_returned};
+use crate::flat::{FORMS, Form, RULES, find, left_by};
+use crate::streams::{Call, Reader, Wanted, is_returned};
 use capnp::streams::Format;
 use capnp_frame::Result;
 use capnp_frame::message::ReaderOptions;
@@ -82,7 +83,7 @@ fn find_all(
     let (returned, left) = find(rt, call, text, ReaderOptions::new(), Ok(segments))?;
     let at = At::row("511 segments");
     assert_form(rt, returned, call, at);
-    assert_count(rt, left, left_by(call.0, text.len(), 0), at);
+    assert_left(rt, left, left_by(call.0, text.len(), 0), call, at);
     Ok(())
 }
 

@@ -1,5 +1,6 @@
 //! Messages after one another, by each call that reads the next one of a stream.
-use crate::assertions::{At, assert_count};
+use crate::assertions::At;
+use crate::calls_told::{assert_call, assert_unread};
 use crate::framed_rows::FRAMED;
 use crate::packed_rows::PACKED;
 use crate::{framed, packed};
@@ -235,16 +236,6 @@ fn is_wanted<S: ReaderSegments + Drop>(
     })
 }
 
-/// A call returned what is wanted.
-pub fn assert_call(rt: &impl Abort, holds: bool, call: Call, at: At<'_>) {
-    let (format, padding, reader) = call;
-    let At { row, number } = at;
-    assert!(rt;
-        holds,
-        "at {row}, {number}, {format:?}, {padding:?}, {reader:?}"
-    );
-}
-
 #[test]
 fn framed_streams(rt: HostRuntime) -> Result<()> {
     read_rows(&rt, Format::Framed, &FRAMED)
@@ -296,7 +287,7 @@ pub fn read_stream(
         let returned = is_returned(rt.alloc(), call, &mut source, stream.limit, *wanted)?;
         assert_call(rt, returned, call, at);
         let left = source.bytes.len();
-        assert_count(rt, left, unread.unwrap_or(left), at);
+        assert_unread(rt, left, unread.unwrap_or(left), call, at);
     }
     Ok(())
 }

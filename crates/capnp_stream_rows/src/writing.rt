@@ -1,9 +1,10 @@
 //! What is written of messages, by the calls over a sink and by those into memory.
 use crate::assertions::{At, assert_holds};
+use crate::calls_told::assert_call;
 use crate::faults::FORMATS;
 use crate::packed;
 use crate::packed_rows::NO_WORDS;
-use crate::streams::{Reader, Wanted, assert_call, is_returned};
+use crate::streams::{Reader, Wanted, is_returned};
 use crate::writers::{WRITERS, Writer, write};
 use capnp::streams::Format;
 use capnp_frame::message::{DEFAULT_READER_OPTIONS, ReaderSegments, SegmentArray};

@@ -1,0 +1,54 @@
+//! Assertions that tell the call at which they fail, beside the row.
+use crate::assertions::At;
+use crate::flat::Form;
+use crate::streams::Call;
+use capnp_frame::serialize::Padding;
+use std::process::Abort;
+
+/// Two numbers that a test counts through, in one: the second in its last two digits.
+pub fn both(first: usize, second: usize) -> u64 {
+    (first as u64)
+        .saturating_mul(100)
+        .saturating_add(second as u64)
+}
+
+/// A call returned what is wanted.
+pub fn assert_call(rt: &impl Abort, holds: bool, call: Call, at: At<'_>) {
+    let (format, padding, reader) = call;
+    let At { row, number } = at;
+    assert!(rt;
+        holds,
+        "at {row}, {number}, {format:?}, {padding:?}, {reader:?}"
+    );
+}
+
+/// A call leaves so many bytes unread.
+pub fn assert_unread(rt: &impl Abort, found: usize, wanted: usize, call: Call, at: At<'_>) {
+    let (format, padding, reader) = call;
+    let At { row, number } = at;
+    assert!(rt;
+        found == wanted,
+        "{found} for {wanted} at {row}, {number}, {format:?}, {padding:?}, {reader:?}"
+    );
+}
+
+/// A form returned what is wanted.
+pub fn assert_form(rt: &impl Abort, holds: bool, (form, rule): (Form, Padding), at: At<'_>) {
+    let At { row, number } = at;
+    assert!(rt; holds, "at {row}, {number}, {form:?}, {rule:?}");
+}
+
+/// A form leaves so many bytes of its slice.
+pub fn assert_left(
+    rt: &impl Abort,
+    found: usize,
+    wanted: usize,
+    (form, rule): (Form, Padding),
+    at: At<'_>,
+) {
+    let At { row, number } = at;
+    assert!(rt;
+        found == wanted,
+        "{found} for {wanted} at {row}, {number}, {form:?}, {rule:?}"
+    );
+}
