@@ -22,7 +22,7 @@ pub fn assert_call(rt: &impl Abort, holds: bool, call: Call, at: At<'_>) {
     );
 }
 
-/// A call leaves so many bytes unread.
+/// A call leaves this number of bytes unread.
 pub fn assert_unread(rt: &impl Abort, found: usize, wanted: usize, call: Call, at: At<'_>) {
     let (format, padding, reader) = call;
     let At { row, number } = at;
@@ -38,7 +38,7 @@ pub fn assert_form(rt: &impl Abort, holds: bool, (form, rule): (Form, Padding), 
     assert!(rt; holds, "at {row}, {number}, {form:?}, {rule:?}");
 }
 
-/// A form leaves so many bytes of its slice.
+/// A form leaves this number of bytes of its slice.
 pub fn assert_left(
     rt: &impl Abort,
     found: usize,
