@@ -60,14 +60,24 @@ fn refuse(
     let alloc = rt.alloc();
     let reader = reader_of(segments, limit);
     let found = refusal(reader.canonicalize(alloc))?;
-    expect(rt, segments, found, Some(canonical));
+    expect(rt, (segments, "canonicalize"), found, Some(canonical));
     let mut message: Builder<HeapAllocator> = Builder::new_default(alloc);
     let found = refusal(set(&mut message, &reader))?;
-    expect(rt, segments, found, Some(as_it_stands));
-    assert!(rt; is_null(&message));
+    expect(rt, (segments, "set_root"), found, Some(as_it_stands));
+    expect(rt, (segments, "set_root, null"), is_null(&message), true);
     let found = refusal(set_canonical(&mut message, &reader))?;
-    expect(rt, segments, found, Some(in_canonical_form));
-    assert!(rt; is_null(&message));
+    expect(
+        rt,
+        (segments, "set_root_canonical"),
+        found,
+        Some(in_canonical_form),
+    );
+    expect(
+        rt,
+        (segments, "set_root_canonical, null"),
+        is_null(&message),
+        true,
+    );
     Ok(())
 }
 
@@ -88,7 +98,7 @@ const ROOTS: [(&[&[u8]], ErrorKind); 10] = [
     // Landing pads that lead to landing pads.
     (&[b"\x02\0\0\0\x01\0\0\0", b"\x02\0\0\0\0\0\0\0"], ErrorKind::PointerOutOfBounds),
     (&[b"\x06\0\0\0\x01\0\0\0", b"\x06\0\0\0\0\0\0\0\x01\0\0\0\0\0\0\0"], ErrorKind::PointerOutOfBounds),
-    // Row misplaced: a struct that holds itself.
+    // A struct that holds itself.
     (&[b"\0\0\0\0\0\0\x01\0\xfc\xff\xff\xff\0\0\x01\0"], DEEP),
     // 536,870,911 nothings, and 16,777,216 empty structs.
     (&[b"\x01\0\0\0\xf8\xff\xff\xff"], LIMITED),
