@@ -40,10 +40,12 @@ mod unions;
 mod views;
 mod words;
 
-use crate::output::{outputs_of, write_outputs};
+use crate::output::{Output, outputs_of, write_outputs};
+use crate::schema::Request;
 use anyhow::{Context, Result};
 use capnp_frame::serialize::OwnedSegments;
 use capnp_schema::schema_capnp::code_generator_request;
+use std::alloc::Global;
 use std::env;
 use std::process::ExitCode;
 
@@ -68,6 +70,27 @@ fn is_for_readers(rt: &HostRuntime, words: &[String]) -> bool {
     }
 }
 
+// Reads the request from standard input.
+fn request_from(alloc: Global, rt: &HostRuntime, has_builders: bool) -> Result<Request> {
+    let message = input::read_message(alloc, &mut rt.stdin())?;
+    let root: code_generator_request::Reader<'_, OwnedSegments> = message
+        .get_root()
+        .and_then(|root| root.get_as())
+        .context("standard input is no request of the schema compiler")?;
+    request::read_request(alloc, &root, has_builders).context(
+        "standard input is no request of the schema compiler",
+    )
+}
+
+// Prints what is asked for.
+fn print_outputs(rt: &HostRuntime, outputs: &[Output]) -> Result<()> {
+    for output in outputs {
+        let code = output.code.as_str();
+        print!(rt; "{code}")?;
+    }
+    Ok(())
+}
+
 // Reads the request, and writes what it asks for.
 fn run(rt: HostRuntime) -> Result<()> {
     let alloc = rt.alloc();
@@ -76,22 +99,12 @@ fn run(rt: HostRuntime) -> Result<()> {
         Some(folder) => folder.as_str(),
         None => ".",
     };
-    let message = input::read_message(alloc, &mut rt.stdin())?;
-    let root: code_generator_request::Reader<'_, OwnedSegments> = message
-        .get_root()
-        .and_then(|root| root.get_as())
-        .context("standard input is no request of the schema compiler")?;
     let has_builders = !is_for_readers(&rt, words.as_slice());
-    let request = request::read_request(alloc, &root, has_builders).context(
-        "standard input is no request of the schema compiler",
-    )?;
+    let request = request_from(alloc, &rt, has_builders)?;
     let outputs = outputs_of(alloc, &request)?;
-    if folder != "-" {
-        return write_outputs(alloc, &rt, folder, outputs.as_slice());
+    if folder == "-" {
+        print_outputs(&rt, outputs.as_slice())
+    } else {
+        write_outputs(alloc, &rt, folder, outputs.as_slice())
     }
-    for output in outputs.as_slice() {
-        let code = output.code.as_str();
-        print!(rt; "{code}")?;
-    }
-    Ok(())
 }
