@@ -219,7 +219,7 @@ fn copy_shown<R: BufRead>(source: &mut R, buffer: &mut [u8]) -> Result<usize>
     Ok(count)
 }
 
-// TakesFrom the next byte of a group.
+// Takes the next byte of a group.
 fn required_byte<R: BufRead>(source: &mut R) -> Result<u8>
     ensures { TakesFrom R.Read source.old source.new (λ byte.
         IfKnown (R.unread source.old) (R.unread source.new) (λ raw left. raw ≡ byte ∷ left))
@@ -231,7 +231,7 @@ fn required_byte<R: BufRead>(source: &mut R) -> Result<u8>
     }
 }
 
-// TakesFrom the next byte, if there is one.
+// Takes the next byte, if there is one.
 fn next_byte<R: BufRead>(source: &mut R) -> Result<Option<u8>>
     ensures { TakesNext R.Read source.old source.new (λ byte.
         IfKnown (R.unread source.old) (R.unread source.new) (λ raw left. raw ≡ byte ∷ left))
