@@ -14,6 +14,7 @@ pub mod ReadyLemmas
 pub mod FieldLemmas
 pub mod RewriteLemmas
 pub mod ReadLemmas
+pub mod RootBytesLemmas
 pub mod PlaceLemmas
 pub mod FirstLemmas
 pub mod OutcomeLemmas
