@@ -1,6 +1,7 @@
 //! Canonical forms that the program writes.
 use crate::choppy::taking;
-use crate::program::tests::{Ended, Row, WHOLE, assert_run, end_of, run_to};
+use crate::program::tests::device_faults::run_to;
+use crate::program::tests::{Ended, Row, WHOLE, assert_run, end_of};
 use std::alloc::{AllocError, Global};
 use std::process::Abort;
 use std::test::*;

@@ -1,13 +1,12 @@
 //! What a run prints of an input, and where it stops.
-use crate::choppy::{ChoppyWriter, giving, taking};
 use crate::program::run;
 use crate::stop::Stop;
-use capnp::devices::{Input, Output};
 use capnp::io::{BufRead, Write};
 use std::alloc::{AllocError, Global};
 use std::process::Abort;
 use std::test::*;
 
+pub(crate) mod device_faults;
 mod long_streams;
 
 // Three messages: segments [] and [1, 2, 3, 4, 5, 6, 7, 8]; one empty segment; one of two words.
@@ -19,7 +18,7 @@ pub(crate) const STREAM: [u8; 56] = [
 // Their lines, and the lines before each message.
 pub(crate) const LINE: &[u8] = b"0 2 1 0 1\n";
 
-const TWO_LINES: &[u8] = b"0 2 1 0 1\n1 1 0 0\n";
+pub(crate) const TWO_LINES: &[u8] = b"0 2 1 0 1\n1 1 0 0\n";
 
 pub(crate) const THREE_LINES: &[u8] = b"0 2 1 0 1\n1 1 0 0\n2 1 2 2\n";
 
@@ -250,66 +249,6 @@ fn other_words_read_nothing(rt: HostRuntime) -> Result<(), Fail> {
         assert_run(&rt, &row)?;
     }
     Ok(())
-}
-
-// The device fails at its nth read of at most 8 bytes, one of the 8 that the stream and its end take;
-// at last at none.
-const READS: [(u64, Ended, &[u8]); 9] = [
-    (1, Ended::At(0, 13), b""),
-    (2, Ended::At(0, 13), b""),
-    (3, Ended::At(0, 13), b""),
-    (4, Ended::At(1, 13), LINE),
-    (5, Ended::At(2, 13), TWO_LINES),
-    (6, Ended::At(2, 13), TWO_LINES),
-    (7, Ended::At(2, 13), TWO_LINES),
-    (8, Ended::At(3, 13), THREE_LINES),
-    (0, Ended::Whole, THREE_LINES),
-];
-
-#[test]
-fn a_failed_read_stops_after_the_messages_done(rt: HostRuntime) -> Result<(), Fail> {
-    for &(bad_read, wanted, lines) in &READS {
-        let mut device = giving(&STREAM, 8);
-        device.bad_read = bad_read;
-        let mut source = Input::new(rt.alloc(), device)?;
-        let mut sink = Vec::new(rt.alloc());
-        let ended = end_of(rt.alloc(), &["list"], &mut source, &mut sink)?;
-        assert!(rt;
-            ended == wanted && sink.as_slice() == lines,
-            "read {bad_read}"
-        );
-    }
-    Ok(())
-}
-
-const WRITES: [(u64, Ended, &[u8]); 3] = [
-    (1, Ended::At(0, 13), b""),
-    (2, Ended::At(1, 13), LINE),
-    (3, Ended::At(2, 13), TWO_LINES),
-];
-
-#[test]
-fn a_failed_write_stops_at_its_message(rt: HostRuntime) -> Result<(), Fail> {
-    for &(bad_write, wanted, lines) in &WRITES {
-        let mut device = taking(rt.alloc(), 64);
-        device.bad_write = bad_write;
-        assert!(rt; run_to(rt.alloc(), &["list"], &STREAM, &mut device)? == wanted);
-        assert!(rt; device.got.as_slice() == lines, "write {bad_write}");
-    }
-    Ok(())
-}
-
-/// How a run ends that writes to a device.
-pub(crate) fn run_to(
-    alloc: Global,
-    words: &[&str],
-    input: &[u8],
-    device: &mut ChoppyWriter,
-) -> Result<Ended, Fail> {
-    let mut sink = Output::new(alloc, 0, device)?;
-    let mut source = input;
-    let ended = end_of(alloc, words, &mut source, &mut sink)?;
-    Ok(ended)
 }
 
 // `rt try --test --fail-alloc N` refuses one growth: the run then stops at its message by 12, and a
