@@ -23,6 +23,7 @@ pub extern "C" fn linsjoar_canonical_size(bytes: &[u8], words: &mut usize) -> u8
     ensures size { (segments : List (List ℕ)) (rest : List ℕ) →
         IsAtFront bytes.now segments rest → result ≡ 0 → FrontHasForm segments words.new }
     ensures returns { ReturnsFrontForm bytes.now (λ size. ⊤) result }
+    ensures stays { 0 < result → words.new ≡ 0 }
 {
     *words = 0;
     match measured(bytes) {
@@ -45,6 +46,7 @@ pub extern "C" fn linsjoar_canonical(bytes: &[u8], block: &mut [u8], words: &mut
         IsAtFront bytes.now segments rest → FrontHasForm segments size →
         length block.new < 8 * size → result ≡ 2 }
     ensures returns { ReturnsFrontForm bytes.now (λ size. 8 * size ≤ length block.new) result }
+    ensures stays { 0 < result → words.new ≡ 0 }
 {
     *words = 0;
     match written(bytes, block) {

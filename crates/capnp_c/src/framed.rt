@@ -36,6 +36,7 @@ pub extern "C" fn linsjoar_message(bytes: &[u8], message: &mut LinsjoarMessage) 
         IsAtFront bytes.now segments rest → result ≡ 0 }
     ensures refused { (kind : ErrorKind) → RefusesFlat by_fields Zero default_limit kind bytes.now →
         result ≡ kind_number kind }
+    ensures stays { 0 < result → (message.new.segments ≡ 0) × (message.new.start ≡ 0) × (message.new.end ≡ 0) }
 {
     *message = LinsjoarMessage {
         segments: 0,
@@ -71,6 +72,7 @@ pub extern "C" fn linsjoar_segment(bytes: &[u8], id: u32, words: &mut usize) -> 
         IsAtFront bytes.now segments rest → length segments ≤ id → result ≡ 18 }
     ensures refused { (kind : ErrorKind) → RefusesFlat by_fields Zero default_limit kind bytes.now →
         result ≡ kind_number kind }
+    ensures stays { 0 < result → words.new ≡ 0 }
 {
     *words = 0;
     match NoAllocBufferSegments::from_buffer(bytes, DEFAULT_READER_OPTIONS) {

@@ -29,6 +29,7 @@ pub extern "C" fn linsjoar_pack(words: &[u8], text: &mut [u8], written: &mut usi
         result ≡ 0 }
     ensures short { (packed : List ℕ) → Packs words.now packed → length text.new < length packed →
         result ≡ 2 }
+    ensures stays { 0 < result → written.new ≡ 0 }
 {
     laws::plain_sink_gets_the_packed_text();
     *written = 0;
@@ -71,6 +72,7 @@ pub extern "C" fn linsjoar_unpack(text: &[u8], words: &mut [u8], read: &mut usiz
         result ≡ 0 }
     ensures refused { (kind : ErrorKind) → RefusesChunk text.now (length words.new) kind →
         result ≡ kind_number kind }
+    ensures stays { 0 < result → read.new ≡ 0 }
 {
     *read = 0;
     let mut source = text;
