@@ -1,7 +1,7 @@
 //! Lists and converts the messages of Cap'n Proto that come on standard input.
 #![tactic(auto)]
 
-ghost use Rattle.std.specs.Prelude.{◌≡◌, [], OnOk, OnErr, IfErr, IsErrOf};
+ghost use Rattle.std.specs.Prelude.{◌≡◌, ◌⊎◌, [], OnOk, OnErr, IfErr, IsErrOf};
 ghost use Rattle.std.specs.Process.{exit_status};
 ghost use Rattle.std.specs.Io.KnownBytes.{Keeps};
 ghost use Rattle.capnp.specs.Passed.{Fails, ErrorKind};
@@ -54,13 +54,18 @@ fn flush_after<W: Write + Drop>(
     ensures flushed { OnOk result (pending sink.new ≡ []) }
     ensures stopped { IfErr returned (λ stop. IsErrOf result stop) }
     ensures fault { OnOk returned (IfErr result (λ stop. IsAtStart stop ErrorKind.DeviceFailed)) }
+    ensures emptied { (pending sink.new ≡ []) ⊎ Fails sink.old.failures.count sink.new.failures.count }
     ensures failed { OnOk returned (OnErr result
         (Fails sink.old.failures.count sink.new.failures.count)) }
     ensures kept { Keeps (taken_so_far W.contents sink.old) (taken_so_far W.contents sink.new) }
 {
-    let flushed = sink.flush();
-    returned?;
-    flushed.map_err(stop_at_start)
+    match sink.flush() {
+        Ok(()) => returned,
+        Err(error) => {
+            returned?;
+            Err(stop_at_start(error))
+        }
+    }
 }
 
 /// The status that the program ends with: 0, or that of its stop.
