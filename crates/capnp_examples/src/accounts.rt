@@ -1,8 +1,8 @@
 //! A type over structs, read from worked bytes.
-use capnp::ErrorKind;
-use capnp::message::{DEFAULT_READER_OPTIONS, Reader, SegmentArray};
+use crate::fixtures::{expect, message_of};
+use capnp::message::{DEFAULT_READER_OPTIONS, SegmentArray};
+use capnp::{ErrorKind, Result};
 use capnp_uses::account;
-use std::test::*;
 
 // A struct of one data word and one pointer, the number 7, and the text "Alice".
 const ALICE: &[u8] = b"\0\0\0\0\x01\0\x01\0\x07\0\0\0\0\0\0\0\x01\0\0\0\x32\0\0\0Alice\0\0\0";
@@ -13,24 +13,28 @@ const NO_FIELDS: &[u8] = b"\xfc\xff\xff\xff\0\0\0\0";
 // A list of one byte.
 const A_LIST: &[u8] = b"\x01\0\0\0\x0a\0\0\0\x01\0\0\0\0\0\0\0";
 
-#[test]
-fn an_account_is_read(rt: HostRuntime) -> Result<(), Fail> {
-    let segments = [ALICE];
-    let message = Reader::new(SegmentArray::new(&segments), DEFAULT_READER_OPTIONS);
-    let alice: account::Reader<'_, SegmentArray<'_>> = message.get_root()?;
-    assert_eq!(rt; alice.id(), 7);
-    assert_eq!(rt; alice.name()?.as_bytes(), b"Alice".as_slice());
-    Ok(())
+type Account<'a> = account::Reader<'a, SegmentArray<'a>>;
+
+// The number of an account, and whether this is its name.
+fn is_named(account: &Account<'_>, name: &[u8]) -> Result<(u64, bool)> {
+    Ok((account.id(), account.name()?.as_bytes() == name))
 }
 
+// Segments, and the number and the name of the account at the root. That of an older writer has
+// defaults.
+const ACCOUNTS_AT_ROOTS: [(&[u8], u64, &[u8]); 3] = [
+    (ALICE, 7, b"Alice"),
+    (NO_FIELDS, 0, b""),
+    (b"\0\0\0\0\0\0\0\0", 0, b""),
+];
+
 #[test]
-fn an_account_of_an_older_writer_has_defaults(rt: HostRuntime) -> Result<(), Fail> {
-    for bytes in [NO_FIELDS, b"\0\0\0\0\0\0\0\0"] {
-        let segments = [bytes];
-        let message = Reader::new(SegmentArray::new(&segments), DEFAULT_READER_OPTIONS);
-        let nobody: account::Reader<'_, SegmentArray<'_>> = message.get_root()?;
-        assert_eq!(rt; nobody.id(), 0);
-        assert!(rt; nobody.name()?.as_bytes().is_empty());
+fn an_account_is_read(rt: HostRuntime) -> Result<()> {
+    for (segment, number, name) in &ACCOUNTS_AT_ROOTS {
+        let segments = [*segment];
+        let message = message_of(&segments, DEFAULT_READER_OPTIONS);
+        let account: Account<'_> = message.get_root()?;
+        expect(&rt, *segment, is_named(&account, name)?, (*number, true));
     }
     Ok(())
 }
@@ -38,9 +42,11 @@ fn an_account_of_an_older_writer_has_defaults(rt: HostRuntime) -> Result<(), Fai
 #[test]
 fn a_list_is_no_account(rt: HostRuntime) {
     let segments = [A_LIST];
-    let message = Reader::new(SegmentArray::new(&segments), DEFAULT_READER_OPTIONS);
-    let read = message.get_root::<account::Reader<'_, SegmentArray<'_>>>();
-    assert!(rt; read.is_err_and(|error| error.kind == ErrorKind::WrongPointerKind));
+    let message = message_of(&segments, DEFAULT_READER_OPTIONS);
+    match message.get_root::<Account<'_>>() {
+        Ok(_) => expect(&rt, A_LIST, "an account", "a refusal"),
+        Err(error) => expect(&rt, A_LIST, error.kind, ErrorKind::WrongPointerKind),
+    }
 }
 
 // Two accounts after the tag of their list: 7 and "A", and 8 without a name.
@@ -51,14 +57,15 @@ const ACCOUNTS: &[u8] = b"\x01\0\0\0\x27\0\0\0\
     A\0\0\0\0\0\0\0";
 
 #[test]
-fn accounts_are_read(rt: HostRuntime) -> Result<(), Fail> {
+fn accounts_are_read(rt: HostRuntime) -> Result<()> {
     let segments = [ACCOUNTS];
-    let message = Reader::new(SegmentArray::new(&segments), DEFAULT_READER_OPTIONS);
+    let message = message_of(&segments, DEFAULT_READER_OPTIONS);
     let accounts: account::ListReader<'_, SegmentArray<'_>> = message.get_root()?;
-    assert_eq!(rt; accounts.len(), 2);
-    let (first, second) = (accounts.get(0), accounts.get(1));
-    assert_eq!(rt; (first.id(), second.id()), (7, 8));
-    assert_eq!(rt; first.name()?.as_bytes(), b"A".as_slice());
-    assert!(rt; second.name()?.as_bytes().is_empty());
+    assert!(rt; accounts.len() == 2);
+    let found = [
+        is_named(&accounts.get(0), b"A")?,
+        is_named(&accounts.get(1), b"")?,
+    ];
+    expect(&rt, "both", found, [(7, true), (8, true)]);
     Ok(())
 }

@@ -1,8 +1,8 @@
 //! A view that takes several kinds of objects, read from worked bytes.
+use crate::fixtures::{expect, message_of};
 use capnp::ErrorKind;
-use capnp::message::{DEFAULT_READER_OPTIONS, Reader, SegmentArray};
+use capnp::message::DEFAULT_READER_OPTIONS;
 use capnp_uses::any_numbers;
-use std::test::*;
 
 // Lists of two numbers, of 1, 2, 4 and 8 bytes, and of two bits.
 #[rattlefmt::skip]
@@ -14,34 +14,36 @@ const LISTS: [(&[u8], (u64, u64)); 5] = [
     (b"\x01\0\0\0\x11\0\0\0\x02\0\0\0\0\0\0\0", (0, 1)),
 ];
 
-#[test]
-fn numbers_of_each_width_are_read(rt: HostRuntime) -> Result<(), Fail> {
-    for (bytes, wanted) in LISTS {
-        let segments = [bytes];
-        let message = Reader::new(SegmentArray::new(&segments), DEFAULT_READER_OPTIONS);
-        let numbers: any_numbers::Reader<'_> = message.get_root()?;
-        assert_eq!(rt; numbers.len(), 2);
-        assert_eq!(rt; (numbers.get(0), numbers.get(1)), wanted, "at {bytes:?}");
+// How many numbers there are, and the first two of them, where there are two.
+fn numbers_of(segment: &[u8]) -> Result<(u32, Option<(u64, u64)>), ErrorKind> {
+    let segments = [segment];
+    let message = message_of(&segments, DEFAULT_READER_OPTIONS);
+    match message.get_root::<any_numbers::Reader<'_>>() {
+        Ok(numbers) if numbers.len() == 2 => Ok((2, Some((numbers.get(0), numbers.get(1))))),
+        Ok(numbers) => Ok((numbers.len(), None)),
+        Err(error) => Err(error.kind),
     }
-    let segments = [b"\0\0\0\0\0\0\0\0".as_slice()];
-    let message = Reader::new(SegmentArray::new(&segments), DEFAULT_READER_OPTIONS);
-    let numbers: any_numbers::Reader<'_> = message.get_root()?;
-    assert_eq!(rt; numbers.len(), 0);
-    Ok(())
+}
+
+#[test]
+fn numbers_of_each_width_are_read(rt: HostRuntime) {
+    for (segment, wanted) in &LISTS {
+        expect(&rt, *segment, numbers_of(segment), Ok((2, Some(*wanted))));
+    }
+    expect(&rt, "null", numbers_of(b"\0\0\0\0\0\0\0\0"), Ok((0, None)));
 }
 
 // A struct, a list of pointers, and one of structs.
+const OTHERS: [&[u8]; 3] = [
+    b"\xfc\xff\xff\xff\0\0\0\0",
+    b"\x01\0\0\0\x06\0\0\0",
+    b"\x01\0\0\0\x07\0\0\0\0\0\0\0\x01\0\0\0",
+];
+
 #[test]
 fn other_objects_are_no_numbers(rt: HostRuntime) {
-    let others: [&[u8]; 3] = [
-        b"\xfc\xff\xff\xff\0\0\0\0",
-        b"\x01\0\0\0\x06\0\0\0",
-        b"\x01\0\0\0\x07\0\0\0\0\0\0\0\x01\0\0\0",
-    ];
-    for bytes in others {
-        let segments = [bytes];
-        let message = Reader::new(SegmentArray::new(&segments), DEFAULT_READER_OPTIONS);
-        let read = message.get_root::<any_numbers::Reader<'_>>();
-        assert!(rt; read.is_err_and(|error| error.kind == ErrorKind::WrongPointerKind));
+    for segment in &OTHERS {
+        let refused = Err(ErrorKind::WrongPointerKind);
+        expect(&rt, *segment, numbers_of(segment), refused);
     }
 }

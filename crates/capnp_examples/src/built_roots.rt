@@ -1,82 +1,117 @@
 //! The callers that build a root: what they read back, and the words that stand then.
-use capnp::message::{Allocator, Builder, HeapAllocator, ReaderSegments, SingleSegmentAllocator};
-use capnp_rows::refusals::refusal;
+use crate::fixtures::{expect, roomy_message};
+use capnp::Result;
+use capnp::message::{Allocator, Builder, HeapAllocator, SingleSegmentAllocator};
+use capnp_rows::messages::has_segments;
+use capnp_rows::refusals::numbered;
 use capnp_uses::building::{
     a_struct_is_read_back, data_is_read_back, null_is_read_back, numbers_are_read_back,
     text_is_read_back, write_data, write_null, write_numbers, write_struct, write_text,
 };
 use std::alloc::Global;
-use std::test::Fail;
+use std::process::Abort;
 
-fn heap(alloc: Global, words: u16) -> HeapAllocator {
-    HeapAllocator::new(alloc).first_segment_words(words as u32)
+// A root that a caller builds.
+#[derive(Clone, Copy, Debug)]
+enum Root {
+    Text(&'static [u8]),
+    Data(&'static [u8]),
+    Numbers(u64, u64),
+    Struct(u64, u64),
+    Null,
 }
+
+// Whether what is built is read back.
+fn is_read_back<A: Allocator>(alloc: Global, message: &mut Builder<A>, root: Root) -> Result<bool> {
+    match root {
+        Root::Text(bytes) => Ok(text_is_read_back(alloc, message, bytes)?.as_slice() == bytes),
+        Root::Data(bytes) => Ok(data_is_read_back(alloc, message, bytes)?.as_slice() == bytes),
+        Root::Numbers(first, second) => {
+            let numbers = numbers_are_read_back(alloc, message, first, second)?;
+            Ok(numbers.as_slice() == [first, second].as_slice())
+        }
+        Root::Struct(first, second) => {
+            Ok(a_struct_is_read_back(message, first, second)? == (first, second))
+        }
+        Root::Null => null_is_read_back(message),
+    }
+}
+
+// Roots that are built one after another in one message.
+const ROOTS: [&[Root]; 6] = [
+    &[Root::Text(b"Hello, World!"), Root::Data(b"Hello, World!")],
+    &[Root::Text(b""), Root::Data(b"")],
+    &[Root::Text(b"\0"), Root::Data(b"\0")],
+    &[Root::Text(b"12345678"), Root::Data(b"12345678")],
+    &[Root::Numbers(7, u64::MAX), Root::Struct(u64::MAX, 7)],
+    &[Root::Null],
+];
 
 // After the root's word, and in a second segment.
 #[test]
-fn what_is_built_is_read_back(rt: HostRuntime) -> Result<(), Fail> {
-    let alloc = rt.alloc();
-    for words in [1024, 1] {
-        for bytes in [b"Hello, World!".as_slice(), b"", b"\0", b"12345678"] {
-            let mut message = Builder::new(alloc, heap(alloc, words));
-            let text = text_is_read_back(alloc, &mut message, bytes)?;
-            assert_eq!(rt; text.as_slice(), bytes, "{words} words");
-            let data = data_is_read_back(alloc, &mut message, bytes)?;
-            assert_eq!(rt; data.as_slice(), bytes, "{words} words");
+fn what_is_built_is_read_back(rt: HostRuntime) -> Result<()> {
+    for words in &[1024, 1] {
+        for roots in &ROOTS {
+            let mut message = roomy_message(rt.alloc(), *words);
+            read_each_back(&rt, &mut message, roots)?;
         }
-        let mut message = Builder::new(alloc, heap(alloc, words));
-        let numbers = numbers_are_read_back(alloc, &mut message, 7, u64::MAX)?;
-        assert_eq!(rt; numbers.as_slice(), [7, u64::MAX].as_slice());
-        let fields = a_struct_is_read_back(&mut message, u64::MAX, 7)?;
-        assert_eq!(rt; fields, (u64::MAX, 7));
-        let mut message = Builder::new(alloc, heap(alloc, words));
-        assert!(rt; null_is_read_back(&mut message)?);
-        assert!(rt; is_one_segment(&message, &[0; 8]));
     }
     Ok(())
 }
 
-// Whether the first segment is these bytes, and the only one.
-fn is_one_segment<A: Allocator>(message: &Builder<A>, bytes: &[u8]) -> bool {
-    message
-        .get_segment(0)
-        .is_some_and(|segment| segment == bytes)
-        && message.get_segment(1).is_none()
-}
-
-// A null root leaves zeros where another one stood.
-#[test]
-fn the_words_of_each_root(rt: HostRuntime) -> Result<(), Fail> {
-    let alloc = rt.alloc();
-    let mut message = Builder::new_default(alloc);
-    write_text(&mut message, b"hello")?;
-    assert!(rt; is_one_segment(&message, b"\x01\0\0\0\x32\0\0\0hello\0\0\0"));
-    let mut message = Builder::new_default(alloc);
-    write_data(&mut message, b"hello")?;
-    assert!(rt; is_one_segment(&message, b"\x01\0\0\0\x2a\0\0\0hello\0\0\0"));
-    let mut message = Builder::new_default(alloc);
-    write_numbers(&mut message, 10, 20)?;
-    assert!(rt;
-        is_one_segment(
-            &message,
-            b"\x01\0\0\0\x15\0\0\0\x0a\0\0\0\0\0\0\0\x14\0\0\0\0\0\0\0"
-        )
-    );
-    let mut message = Builder::new_default(alloc);
-    write_struct(&mut message, 10, 20)?;
-    assert!(rt;
-        is_one_segment(
-            &message,
-            b"\0\0\0\0\x02\0\0\0\x0a\0\0\0\0\0\0\0\x14\0\0\0\0\0\0\0"
-        )
-    );
-    write_null(&mut message)?;
-    assert!(rt; is_one_segment(&message, &[0; 24]));
-    let mut message = Builder::new_default(alloc);
-    write_null(&mut message)?;
-    assert!(rt; is_one_segment(&message, &[0; 8]));
+fn read_each_back(
+    rt: &(impl Abort + AllocGlobal),
+    message: &mut Builder<HeapAllocator>,
+    roots: &[Root],
+) -> Result<()> {
+    for root in roots {
+        expect(rt, *root, is_read_back(rt.alloc(), message, *root)?, true);
+    }
     Ok(())
 }
+
+fn write<A: Allocator>(message: &mut Builder<A>, root: Root) -> Result<()> {
+    match root {
+        Root::Text(bytes) => write_text(message, bytes),
+        Root::Data(bytes) => write_data(message, bytes),
+        Root::Numbers(first, second) => write_numbers(message, first, second),
+        Root::Struct(first, second) => write_struct(message, first, second),
+        Root::Null => write_null(message),
+    }
+}
+
+// Roots, and the one segment that is left of them. A null root leaves zeros where another one stood.
+#[rattlefmt::skip]
+const SEGMENTS: [(&[Root], &[u8]); 6] = [
+    (&[Root::Text(b"hello")], b"\x01\0\0\0\x32\0\0\0hello\0\0\0"),
+    (&[Root::Data(b"hello")], b"\x01\0\0\0\x2a\0\0\0hello\0\0\0"),
+    (&[Root::Numbers(10, 20)], b"\x01\0\0\0\x15\0\0\0\x0a\0\0\0\0\0\0\0\x14\0\0\0\0\0\0\0"),
+    (&[Root::Struct(10, 20)], b"\0\0\0\0\x02\0\0\0\x0a\0\0\0\0\0\0\0\x14\0\0\0\0\0\0\0"),
+    (&[Root::Struct(10, 20), Root::Null], &[0; 24]),
+    (&[Root::Null], &[0; 8]),
+];
+
+#[test]
+fn the_words_of_each_root(rt: HostRuntime) -> Result<()> {
+    for (roots, segment) in &SEGMENTS {
+        let mut message = Builder::new_default(rt.alloc());
+        for root in *roots {
+            write(&mut message, *root)?;
+        }
+        expect(&rt, *segment, has_segments(&message, &[*segment]), true);
+    }
+    let mut message = Builder::new_default(rt.alloc());
+    assert!(rt; null_is_read_back(&mut message)?);
+    assert!(rt; has_segments(&message, &[&[0; 8]]));
+    Ok(())
+}
+
+const IN_A_REGION: [Root; 4] = [
+    Root::Text(b"hello"),
+    Root::Data(b"hello"),
+    Root::Numbers(1, 2),
+    Root::Struct(1, 2),
+];
 
 // Regions of a given number of bytes, and the refusals of a text of five bytes, of as much data, of
 // two numbers and of a struct of two words: what does not fit after the root's word wants a word
@@ -90,24 +125,37 @@ const REGIONS: [(usize, [u8; 4]); 4] = [
 ];
 
 #[test]
-fn roots_in_a_region(rt: HostRuntime) -> Result<(), Fail> {
-    let alloc = rt.alloc();
-    for (length, refusals) in REGIONS {
-        assert!(rt; length <= 24);
+fn roots_in_a_region(rt: HostRuntime) -> Result<()> {
+    for (length, refusals) in &REGIONS {
         let mut room = [7; 24];
-        let region = &mut room[..length];
-        let mut message = Builder::new(alloc, SingleSegmentAllocator::new(region));
-        let text = refusal(text_is_read_back(alloc, &mut message, b"hello"));
-        message = Builder::new(alloc, message.into_allocator());
-        let data = refusal(data_is_read_back(alloc, &mut message, b"hello"));
-        message = Builder::new(alloc, message.into_allocator());
-        let numbers = refusal(numbers_are_read_back(alloc, &mut message, 1, 2));
-        message = Builder::new(alloc, message.into_allocator());
-        let fields = refusal(a_struct_is_read_back(&mut message, 1, 2));
-        assert_eq!(rt; [text, data, numbers, fields], refusals, "{length} bytes");
-        assert!(rt; null_is_read_back(&mut message)?);
-        drop(message);
-        assert!(rt; region.iter().all(|byte| *byte == 0), "{length} bytes");
+        assert!(rt; *length <= 24);
+        let region = &mut room[..*length];
+        for index in 0..4usize {
+            let found = root_in_a_region(rt.alloc(), region, IN_A_REGION[index])?;
+            let wanted = if refusals[index] == 0 {
+                Ok(true)
+            } else {
+                Err(refusals[index])
+            };
+            expect(&rt, (*length, index), found, wanted);
+            expect(&rt, *length, region.iter().all(|byte| *byte == 0), true);
+        }
     }
     Ok(())
+}
+
+// Whether a root that is built over a region is read back, or the number of its refusal; then a null
+// root is.
+fn root_in_a_region(
+    alloc: Global,
+    region: &mut [u8],
+    root: Root,
+) -> Result<std::result::Result<bool, u8>> {
+    let mut message = Builder::new(alloc, SingleSegmentAllocator::new(region));
+    let found = numbered(is_read_back(alloc, &mut message, root));
+    if null_is_read_back(&mut message)? {
+        Ok(found)
+    } else {
+        Ok(Ok(false))
+    }
 }

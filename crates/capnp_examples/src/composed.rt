@@ -1,10 +1,12 @@
 //! The callers that read back values that are composed, by worked bytes (encoding document, "Lists").
+use crate::fixtures::expect;
+use capnp::Result;
 use capnp::any_struct::StructReader;
-use capnp::message::{Builder, ReaderOptions, ReaderSegments};
+use capnp::message::{Builder, Reader, ReaderOptions};
 use capnp::serialize::OwnedSegments;
 use capnp::streams::Format;
+use capnp_rows::messages::has_segments;
 use capnp_uses::values::{contact_is_read_back, person_is_read_back, phone};
-use std::test::Fail;
 
 // A number, pointers to a text and to a struct of no data words, and what these lead to.
 #[rattlefmt::skip]
@@ -20,46 +22,50 @@ const CONTACT: &[u8] = b"\0\0\0\0\x01\0\x03\0\x09\0\0\0\0\0\0\0\
     \x01\0\0\0\0\0\0\0\x09\0\0\0\x22\0\0\0\x02\0\0\0\0\0\0\0\x05\0\0\0\x42\0\0\0\
     123\0\0\0\0\04567890\0";
 
+// The first data word of the struct at the root.
+fn first_word(reader: &Reader<OwnedSegments>) -> Result<u64> {
+    let fields: StructReader<'_, OwnedSegments> = reader.get_root()?;
+    Ok(fields.get_word(0))
+}
+
+const FORMATS: [Format; 2] = [Format::Framed, Format::Packed];
+
 #[test]
-fn people_are_read_back(rt: HostRuntime) -> Result<(), Fail> {
-    let options = ReaderOptions::new();
-    for format in [Format::Framed, Format::Packed] {
+fn people_are_read_back(rt: HostRuntime) -> Result<()> {
+    for format in &FORMATS {
         let mut message = Builder::new_default(rt.alloc());
         let reader = person_is_read_back(
             rt.alloc(),
-            format,
+            *format,
             &mut message,
             9,
             "Ann",
             "Bonn",
-            options,
+            ReaderOptions::new(),
         )?;
-        let person: StructReader<'_, OwnedSegments> = reader.get_root()?;
-        assert_eq!(rt; person.get_word(0), 9);
-        assert!(rt; message.get_segment(0).is_some_and(|bytes| bytes == PERSON));
+        expect(&rt, *format, first_word(&reader)?, 9);
+        assert!(rt; has_segments(&message, &[PERSON]));
     }
     Ok(())
 }
 
 #[test]
-fn contacts_are_read_back(rt: HostRuntime) -> Result<(), Fail> {
-    let options = ReaderOptions::new();
+fn contacts_are_read_back(rt: HostRuntime) -> Result<()> {
     let phones = [phone("123", 1), phone("4567890", 2)];
-    for format in [Format::Framed, Format::Packed] {
+    for format in &FORMATS {
         let mut message = Builder::new_default(rt.alloc());
         let reader = contact_is_read_back(
             rt.alloc(),
-            format,
+            *format,
             &mut message,
             9,
             "Ann",
             "a@b",
             &phones,
-            options,
+            ReaderOptions::new(),
         )?;
-        let contact: StructReader<'_, OwnedSegments> = reader.get_root()?;
-        assert_eq!(rt; contact.get_word(0), 9);
-        assert!(rt; message.get_segment(0).is_some_and(|bytes| bytes == CONTACT));
+        expect(&rt, *format, first_word(&reader)?, 9);
+        assert!(rt; has_segments(&message, &[CONTACT]));
     }
     Ok(())
 }

@@ -1,69 +1,61 @@
 //! Traversal limits of many words: what views and sizes count of them.
+use crate::fixtures::{Message, expect, limited, message_of};
+use capnp::message::Builder;
 use capnp_frame::Result;
-use capnp_frame::message::{DEFAULT_READER_OPTIONS, ReaderOptions, SegmentArray};
-use capnp_message::builder::Builder;
-use capnp_message::reader::Reader;
-use capnp_rows::refusals::{allocation_refusal, refusal};
+use capnp_frame::message::{DEFAULT_READER_OPTIONS, SegmentArray};
+use capnp_message::heap_allocator::HeapAllocator;
+use capnp_rows::messages::has_segments;
+use capnp_rows::refusals::{numbered, refusal};
 use capnp_wire::any_struct::StructReader;
 use capnp_wire::canonical::canonical_size;
 use capnp_wire::{any_pointer, data, text};
-use std::test::Fail;
-
-fn reader_of<'a>(segments: &'a [&'a [u8]], limit: Option<usize>) -> Reader<SegmentArray<'a>> {
-    let mut options = ReaderOptions::new();
-    options.traversal_limit_in_words(limit);
-    Reader::new(SegmentArray::new(segments), options)
-}
 
 // What is viewed as a text, though it is none.
-fn as_text(reader: &Reader<SegmentArray<'_>>) -> u8 {
+fn as_text(reader: &Message<'_>) -> u8 {
     let view: Result<text::Reader<'_>> = reader.get_root();
     refusal(view)
 }
+
+// Limits, and the refusals of three views as a text, one after the other.
+const VIEWS: [(Option<usize>, [u8; 3]); 5] = [
+    (Some(65_535), [20, 20, 20]),
+    (Some(65_536), [22, 20, 20]),
+    (Some(131_071), [22, 20, 20]),
+    (Some(131_072), [22, 22, 20]),
+    (None, [22, 22, 22]),
+];
 
 // 65,536 elements of no size are counted against the traversal limit one word each: a view of the
 // wrong kind counts them, and then there are none left.
 #[test]
 fn as_many_elements_as_the_limit(rt: HostRuntime) {
     let segments: [&[u8]; 1] = [b"\x01\0\0\0\0\0\x08\0"];
-    for (limit, views) in [
-        (Some(65_535), [20, 20, 20]),
-        (Some(65_536), [22, 20, 20]),
-        (Some(131_071), [22, 20, 20]),
-        (Some(131_072), [22, 22, 20]),
-        (None, [22, 22, 22]),
-    ] {
-        let reader = reader_of(&segments, limit);
+    for (limit, views) in &VIEWS {
+        let reader = message_of(&segments, limited(*limit));
         let found = [as_text(&reader), as_text(&reader), as_text(&reader)];
-        assert_eq!(rt; found, views, "{limit:?}");
+        expect(&rt, *limit, found, *views);
     }
 }
+
+// Pointers in the order in which they are viewed as texts, and the refusals.
+#[rattlefmt::skip]
+const POINTERS: [(u16, u8); 12] = [
+    (0, 22), (0, 22), (0, 22), (0, 22), (0, 22), (0, 22), (0, 22), (0, 22), (0, 20),
+    (1, 20), (2, 22), (2, 20),
+];
 
 // A struct of three pointers: to 536,870,911 elements of no size, to 6 and to 5. Within 2^32 words
 // are the struct's three, eight times the first list, and once the last.
 #[test]
-fn a_limit_past_four_bytes(rt: HostRuntime) -> std::result::Result<(), Fail> {
+fn a_limit_past_four_bytes(rt: HostRuntime) -> Result<()> {
     let segments: [&[u8]; 1] = [
         b"\0\0\0\0\0\0\x03\0\x09\0\0\0\xf8\xff\xff\xff\x05\0\0\0\x30\0\0\0\x01\0\0\0\x28\0\0\0",
     ];
-    let reader = reader_of(&segments, Some(1 << 32));
+    let reader = message_of(&segments, limited(Some(1 << 32)));
     let fields: StructReader<'_, SegmentArray<'_>> = reader.get_root()?;
-    for (pointer, wanted) in [
-        (0, 22),
-        (0, 22),
-        (0, 22),
-        (0, 22),
-        (0, 22),
-        (0, 22),
-        (0, 22),
-        (0, 22),
-        (0, 20),
-        (1, 20),
-        (2, 22),
-        (2, 20),
-    ] {
-        let view: Result<text::Reader<'_>> = fields.get_pointer(pointer).get_as();
-        assert_eq!(rt; refusal(view), wanted, "pointer {pointer}");
+    for (pointer, wanted) in &POINTERS {
+        let view: Result<text::Reader<'_>> = fields.get_pointer(*pointer).get_as();
+        expect(&rt, *pointer, refusal(view), *wanted);
     }
     assert!(rt; reader.is_canonical()?);
     Ok(())
@@ -87,46 +79,57 @@ const SIZES: [(&[&[u8]], Option<usize>, std::result::Result<u32, u8>); 12] = [
     (&[b"\0\0\0\0\0\0\x02\0\x04\0\0\0\x01\0\0\0\0\0\0\0\x01\0\0\0\x09\0\0\0\0\0\0\0"], Some(3), Err(20)),
 ];
 
+fn form_size(reader: &Message<'_>) -> Result<u32> {
+    let root: any_pointer::Reader<'_, SegmentArray<'_>> = reader.get_root()?;
+    canonical_size(&root)
+}
+
 // Each is asked thrice: a size counts from none, and counts nothing against the traversal limit.
 #[test]
-fn sizes_of_canonical_forms(rt: HostRuntime) -> std::result::Result<(), Fail> {
-    for (segments, limit, wanted) in SIZES {
-        let reader = reader_of(segments, limit);
+fn sizes_of_canonical_forms(rt: HostRuntime) {
+    for (segments, limit, wanted) in &SIZES {
+        let reader = message_of(segments, limited(*limit));
         for _ in 0..3u32 {
-            let root: any_pointer::Reader<'_, SegmentArray<'_>> = reader.get_root()?;
-            let size = canonical_size(&root).map_err(|error| error.kind.number());
-            assert_eq!(rt; size, wanted, "{segments:?}, {limit:?}");
+            let size = numbered(form_size(&reader));
+            expect(&rt, (*segments, *limit), size, *wanted);
         }
+    }
+}
+
+// Lists of bytes with no zero at their end, and these bytes.
+#[rattlefmt::skip]
+const UNTERMINATED: [(&[u8], &[u8]); 4] = [
+    (b"\x01\0\0\0\x1a\0\0\0abc\0\0\0\0\0", b"abc"),
+    (b"\x01\0\0\0\x42\0\0\0abcdefgh", b"abcdefgh"),
+    (b"\x01\0\0\0\x4a\0\0\0abcdefgh\xff\0\0\0\0\0\0\0", b"abcdefgh\xff"),
+    (b"\x01\0\0\0\x02\0\0\0", b""),
+];
+
+// As data and as text.
+#[test]
+fn data_that_ends_in_no_zero(rt: HostRuntime) -> Result<()> {
+    for (segment, bytes) in &UNTERMINATED {
+        let segments = [*segment];
+        let reader = message_of(&segments, limited(None));
+        let found: data::Reader<'_> = reader.get_root()?;
+        expect(&rt, *segment, found, *bytes);
+        expect(&rt, *segment, as_text(&reader), 23);
     }
     Ok(())
 }
 
-// Lists of bytes with no zero at their end, as data and as text.
+fn set_data(message: &mut Builder<HeapAllocator>, bytes: &[u8]) -> Result<()> {
+    message.set_root::<data::Owned, &[u8]>(bytes)
+}
+
 #[test]
-fn data_that_ends_in_no_zero(rt: HostRuntime) -> std::result::Result<(), Fail> {
-    let rows: [(&[u8], &[u8]); 4] = [
-        (b"\x01\0\0\0\x1a\0\0\0abc\0\0\0\0\0", b"abc"),
-        (b"\x01\0\0\0\x42\0\0\0abcdefgh", b"abcdefgh"),
-        (
-            b"\x01\0\0\0\x4a\0\0\0abcdefgh\xff\0\0\0\0\0\0\0",
-            b"abcdefgh\xff",
-        ),
-        (b"\x01\0\0\0\x02\0\0\0", b""),
-    ];
-    for (segment, bytes) in rows {
-        let segments = [segment];
-        let reader = reader_of(&segments, None);
-        let found: data::Reader<'_> = reader.get_root()?;
-        assert_eq!(rt; found, bytes);
-        assert_eq!(rt; as_text(&reader), 23);
-        let mut message = capnp::message::Builder::new_default(rt.alloc());
-        message.set_root::<capnp::data::Owned, &[u8]>(bytes)?;
-        assert_eq!(rt;
-            capnp::message::ReaderSegments::get_segment(&message, 0),
-            Some(segment)
-        );
+fn data_that_is_set(rt: HostRuntime) -> Result<()> {
+    for (segment, bytes) in &UNTERMINATED {
+        let mut message = Builder::new_default(rt.alloc());
+        set_data(&mut message, bytes)?;
+        expect(&rt, *segment, has_segments(&message, &[*segment]), true);
         let view = message.get_root::<capnp_build::data::Owned>()?;
-        assert_eq!(rt; view.as_bytes(), bytes);
+        expect(&rt, *segment, view.as_bytes(), *bytes);
     }
     Ok(())
 }
@@ -148,26 +151,30 @@ fn doublings() -> [u8; 648] {
 
 type Source<'a> = any_pointer::Reader<'a, SegmentArray<'a>>;
 
+fn size_refusal(reader: &Message<'_>) -> Result<u8> {
+    let root: Source<'_> = reader.get_root()?;
+    Ok(refusal(root.target_size()))
+}
+
 #[test]
-fn doublings_have_no_size_within_the_limit(rt: HostRuntime) -> std::result::Result<(), Fail> {
+fn doublings_have_no_size_within_the_limit(rt: HostRuntime) -> Result<()> {
     let bytes = doublings();
     let segments = [bytes.as_slice()];
-    let reader = Reader::new(SegmentArray::new(&segments), DEFAULT_READER_OPTIONS);
-    let root: Source<'_> = reader.get_root()?;
-    assert_eq!(rt; refusal(root.target_size()), 20);
+    let reader = message_of(&segments, DEFAULT_READER_OPTIONS);
+    expect(&rt, "doublings", size_refusal(&reader)?, 20);
     assert!(rt; !reader.is_canonical()?);
     Ok(())
 }
 
 #[test]
-fn doublings_are_not_set(rt: HostRuntime) -> std::result::Result<(), Fail> {
+fn doublings_are_not_set(rt: HostRuntime) -> Result<()> {
     let bytes = doublings();
     let segments = [bytes.as_slice()];
-    let reader = Reader::new(SegmentArray::new(&segments), DEFAULT_READER_OPTIONS);
+    let reader = message_of(&segments, DEFAULT_READER_OPTIONS);
     let mut message = Builder::new_default(rt.alloc());
     let set = message.set_root::<any_pointer::Owned, Source<'_>>(reader.get_root()?);
-    assert_eq!(rt; allocation_refusal(set), (20, 0));
-    assert_eq!(rt; message.size_in_words(), 1);
+    expect(&rt, "doublings", refusal(set), 20);
+    expect(&rt, "words", message.size_in_words(), 1);
     Ok(())
 }
 
@@ -175,6 +182,7 @@ fn doublings_are_not_set(rt: HostRuntime) -> std::result::Result<(), Fail> {
 fn doublings_have_no_canonical_form_within_the_limit(rt: HostRuntime) {
     let bytes = doublings();
     let segments = [bytes.as_slice()];
-    let reader = Reader::new(SegmentArray::new(&segments), DEFAULT_READER_OPTIONS);
-    assert_eq!(rt; refusal(reader.canonicalize(rt.alloc())), 20);
+    let reader = message_of(&segments, DEFAULT_READER_OPTIONS);
+    let refused = refusal(reader.canonicalize(rt.alloc()));
+    expect(&rt, "doublings", refused, 20);
 }

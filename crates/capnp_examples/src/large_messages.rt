@@ -1,12 +1,12 @@
 //! Messages of many words through each call that reads, writes and canonicalizes.
+use crate::fixtures::{Message, expect, message_of, roomy_message};
 use capnp::message::{
     Builder, DEFAULT_READER_OPTIONS, HeapAllocator, Reader, ReaderSegments, SegmentArray,
 };
 use capnp::serialize::{self, write_canonical_message};
-use capnp::{Way, any_pointer, data, serialize_packed, transcode};
+use capnp::{Result, Way, any_pointer, data, serialize_packed, transcode};
 use std::alloc::Global;
 use std::process::Abort;
-use std::test::Fail;
 
 // Words of a message of one segment: the root's, and those of its data.
 const SIZES: [u32; 3] = [513, 1025, 4097];
@@ -14,7 +14,7 @@ const SIZES: [u32; 3] = [513, 1025, 4097];
 type Source<'a> = any_pointer::Reader<'a, SegmentArray<'a>>;
 
 // The segment of a given number of words whose root is data of sevens.
-fn segment_of(rt: &(impl Abort + AllocGlobal), words: u32) -> Result<Vec<u8>, Fail> {
+fn segment_of(rt: &(impl Abort + AllocGlobal), words: u32) -> Result<Vec<u8>> {
     assert!(rt; 0 < words && words <= 1 << 20);
     let count = 8 * (words - 1);
     let mut segment = vec![in rt.alloc(); 7u8; 8 * words as usize]?;
@@ -23,18 +23,10 @@ fn segment_of(rt: &(impl Abort + AllocGlobal), words: u32) -> Result<Vec<u8>, Fa
     Ok(segment)
 }
 
-// A message whose first segment has room for all of them.
-fn roomy_message(alloc: Global) -> Builder<HeapAllocator> {
-    Builder::new(
-        alloc,
-        HeapAllocator::new(alloc).first_segment_words(1 << 20),
-    )
-}
-
 #[test]
-fn messages_of_many_words(rt: HostRuntime) -> Result<(), Fail> {
-    for words in SIZES {
-        let segment = segment_of(&rt, words)?;
+fn messages_of_many_words(rt: HostRuntime) -> Result<()> {
+    for words in &SIZES {
+        let segment = segment_of(&rt, *words)?;
         build_and_write(&rt, &segment)?;
         read_back(&rt, &segment)?;
         canonicalize(&rt, &segment)?;
@@ -44,17 +36,17 @@ fn messages_of_many_words(rt: HostRuntime) -> Result<(), Fail> {
 
 // Of 2^20 words by themselves, for the minute that a test has in a build with checks.
 #[test]
-fn a_message_of_a_million_words(rt: HostRuntime) -> Result<(), Fail> {
+fn a_message_of_a_million_words(rt: HostRuntime) -> Result<()> {
     build_and_write(&rt, &segment_of(&rt, 1 << 20)?)
 }
 
 #[test]
-fn a_form_of_a_million_words(rt: HostRuntime) -> Result<(), Fail> {
+fn a_form_of_a_million_words(rt: HostRuntime) -> Result<()> {
     canonicalize(&rt, &segment_of(&rt, 1 << 20)?)
 }
 
 #[test]
-fn a_million_words_are_read(rt: HostRuntime) -> Result<(), Fail> {
+fn a_million_words_are_read(rt: HostRuntime) -> Result<()> {
     let segment = segment_of(&rt, 1 << 20)?;
     let framed = framed_text(rt.alloc(), &segment)?;
     read_framed(&rt, &framed, &segment)?;
@@ -62,7 +54,7 @@ fn a_million_words_are_read(rt: HostRuntime) -> Result<(), Fail> {
 }
 
 #[test]
-fn a_million_words_are_packed(rt: HostRuntime) -> Result<(), Fail> {
+fn a_million_words_are_packed(rt: HostRuntime) -> Result<()> {
     let segment = segment_of(&rt, 1 << 20)?;
     let framed = framed_text(rt.alloc(), &segment)?;
     assert!(rt; pack(&rt, &framed)? == packed_million(rt.alloc())?);
@@ -70,13 +62,13 @@ fn a_million_words_are_packed(rt: HostRuntime) -> Result<(), Fail> {
 }
 
 #[test]
-fn a_million_packed_words_are_read(rt: HostRuntime) -> Result<(), Fail> {
+fn a_million_packed_words_are_read(rt: HostRuntime) -> Result<()> {
     let segment = segment_of(&rt, 1 << 20)?;
     read_packed(&rt, &packed_million(rt.alloc())?, &segment)
 }
 
 #[test]
-fn a_million_packed_words_are_unpacked(rt: HostRuntime) -> Result<(), Fail> {
+fn a_million_packed_words_are_unpacked(rt: HostRuntime) -> Result<()> {
     let segment = segment_of(&rt, 1 << 20)?;
     let framed = framed_text(rt.alloc(), &segment)?;
     unpack(&rt, &packed_million(rt.alloc())?, &framed)
@@ -85,7 +77,7 @@ fn a_million_packed_words_are_unpacked(rt: HostRuntime) -> Result<(), Fail> {
 // The packed text of a segment of 2^20 words whose root is data of sevens: the table's word, the root's
 // with its three zero bytes left out, and then literal runs: each a word by its tag and up to 255 words
 // as they stand, 256 words together. Of 2^20 - 1 words 4,095 runs are full, and the last has 255 words.
-fn packed_million(alloc: Global) -> Result<Vec<u8>, Fail> {
+fn packed_million(alloc: Global) -> Result<Vec<u8>> {
     let mut packed = [0x40, 0x10, 0xf1, 1, 0xc2, 0xff, 0xff, 3].to_vec(alloc)?;
     let words = [7u8; 255 * 8];
     for _ in 0..4095 {
@@ -98,26 +90,31 @@ fn packed_million(alloc: Global) -> Result<Vec<u8>, Fail> {
 }
 
 // What is built is the segment, and its framed text a word and the segment.
-fn build_and_write(rt: &(impl Abort + AllocGlobal), segment: &[u8]) -> Result<(), Fail> {
-    let alloc = rt.alloc();
-    let mut message = roomy_message(alloc);
-    message.set_root::<data::Owned, &[u8]>(segment.get(8..).unwrap_or(&[]))?;
+fn build_and_write(rt: &(impl Abort + AllocGlobal), segment: &[u8]) -> Result<()> {
+    let mut message = roomy_message(rt.alloc(), 1 << 20);
+    set_data(&mut message, segment.get(8..).unwrap_or(&[]))?;
     assert!(rt; !message.is_empty());
     let words = segment.len() / 8;
-    assert_eq!(rt; message.size_in_words(), words);
+    expect(rt, "words", message.size_in_words(), words);
     assert!(rt; message.get_segments_for_output().get_segment(1).is_none());
-    let mut framed: Vec<u8> = Vec::new(alloc);
-    serialize::write_message(alloc, &mut framed, &message)?;
-    assert_eq!(rt; framed.len() / 8, words.saturating_add(1));
-    assert!(rt; framed.starts_with(&((words as u64) << 32).to_le_bytes()));
-    assert!(rt; framed.ends_with(segment));
-    let text = serialize::write_message_to_words(alloc, &message)?;
-    assert!(rt; text == framed);
+    let text = framed_text(rt.alloc(), segment)?;
+    assert!(rt; written(rt.alloc(), &message)? == text);
+    assert!(rt; serialize::write_message_to_words(rt.alloc(), &message)? == text);
     Ok(())
 }
 
+fn set_data(message: &mut Builder<HeapAllocator>, bytes: &[u8]) -> Result<()> {
+    message.set_root::<data::Owned, &[u8]>(bytes)
+}
+
+fn written(alloc: Global, message: &Builder<HeapAllocator>) -> Result<Vec<u8>> {
+    let mut framed: Vec<u8> = Vec::new(alloc);
+    serialize::write_message(alloc, &mut framed, message)?;
+    Ok(framed)
+}
+
 // A framed text, and what is packed of it, by each reader.
-fn read_back(rt: &(impl Abort + AllocGlobal), segment: &[u8]) -> Result<(), Fail> {
+fn read_back(rt: &(impl Abort + AllocGlobal), segment: &[u8]) -> Result<()> {
     let framed = framed_text(rt.alloc(), segment)?;
     let packed = pack(rt, &framed)?;
     read_framed(rt, &framed, segment)?;
@@ -126,7 +123,7 @@ fn read_back(rt: &(impl Abort + AllocGlobal), segment: &[u8]) -> Result<(), Fail
     unpack(rt, &packed, &framed)
 }
 
-fn framed_text(alloc: Global, segment: &[u8]) -> Result<Vec<u8>, Fail> {
+fn framed_text(alloc: Global, segment: &[u8]) -> Result<Vec<u8>> {
     let mut framed = ((segment.len() as u64 / 8) << 32)
         .to_le_bytes()
         .to_vec(alloc)?;
@@ -134,7 +131,7 @@ fn framed_text(alloc: Global, segment: &[u8]) -> Result<Vec<u8>, Fail> {
     Ok(framed)
 }
 
-fn pack(rt: &(impl Abort + AllocGlobal), framed: &[u8]) -> Result<Vec<u8>, Fail> {
+fn pack(rt: &(impl Abort + AllocGlobal), framed: &[u8]) -> Result<Vec<u8>> {
     let mut source = framed;
     let mut packed: Vec<u8> = Vec::new(rt.alloc());
     transcode(
@@ -156,10 +153,18 @@ fn holds<S: ReaderSegments>(reader: &Reader<S>, segment: &[u8]) -> bool {
         && segments.get_segment(1).is_none()
 }
 
-fn read_framed(rt: &(impl Abort + AllocGlobal), framed: &[u8], segment: &[u8]) -> Result<(), Fail> {
+fn read_framed(rt: &(impl Abort + AllocGlobal), framed: &[u8], segment: &[u8]) -> Result<()> {
     let mut source = framed;
     let read = serialize::read_message(rt.alloc(), &mut source, DEFAULT_READER_OPTIONS)?;
     assert!(rt; holds(&read, segment));
+    read_framed_in_room(rt, framed, segment)
+}
+
+fn read_framed_in_room(
+    rt: &(impl Abort + AllocGlobal),
+    framed: &[u8],
+    segment: &[u8],
+) -> Result<()> {
     let mut room = vec![in rt.alloc(); 0u8; framed.len()]?;
     let mut source = framed;
     let read = serialize::read_message_no_alloc(&mut source, &mut room, DEFAULT_READER_OPTIONS)?;
@@ -167,29 +172,39 @@ fn read_framed(rt: &(impl Abort + AllocGlobal), framed: &[u8], segment: &[u8]) -
     Ok(())
 }
 
-fn read_slice(rt: &(impl Abort + AllocGlobal), framed: &[u8], segment: &[u8]) -> Result<(), Fail> {
+fn read_slice(rt: &(impl Abort + AllocGlobal), framed: &[u8], segment: &[u8]) -> Result<()> {
     let mut slice = framed;
     let options = DEFAULT_READER_OPTIONS;
     let read = serialize::read_message_from_flat_slice(rt.alloc(), &mut slice, options)?;
     assert!(rt; holds(&read, segment));
     let bytes: data::Reader<'_> = read.get_root()?;
-    assert_eq!(rt; Some(bytes), segment.get(8..));
+    assert!(rt; segment.ends_with(bytes));
+    expect(rt, "the root", bytes.len().saturating_add(8), segment.len());
     Ok(())
 }
 
-fn read_packed(rt: &(impl Abort + AllocGlobal), packed: &[u8], segment: &[u8]) -> Result<(), Fail> {
-    let options = DEFAULT_READER_OPTIONS;
+fn read_packed(rt: &(impl Abort + AllocGlobal), packed: &[u8], segment: &[u8]) -> Result<()> {
     let mut source = packed;
+    let options = DEFAULT_READER_OPTIONS;
     let read = serialize_packed::read_message(rt.alloc(), &mut source, options)?;
     assert!(rt; holds(&read, segment));
+    read_packed_in_room(rt, packed, segment)
+}
+
+fn read_packed_in_room(
+    rt: &(impl Abort + AllocGlobal),
+    packed: &[u8],
+    segment: &[u8],
+) -> Result<()> {
     let mut room = vec![in rt.alloc(); 0u8; segment.len().saturating_add(8)]?;
     let mut source = packed;
+    let options = DEFAULT_READER_OPTIONS;
     let read = serialize_packed::read_message_no_alloc(&mut source, &mut room, options)?;
     assert!(rt; holds(&read, segment));
     Ok(())
 }
 
-fn unpack(rt: &(impl Abort + AllocGlobal), packed: &[u8], framed: &[u8]) -> Result<(), Fail> {
+fn unpack(rt: &(impl Abort + AllocGlobal), packed: &[u8], framed: &[u8]) -> Result<()> {
     let mut source = packed;
     let mut back: Vec<u8> = Vec::new(rt.alloc());
     transcode(
@@ -204,23 +219,40 @@ fn unpack(rt: &(impl Abort + AllocGlobal), packed: &[u8], framed: &[u8]) -> Resu
 }
 
 // After a far pointer the segment's root has the segment as its canonical form, by each call.
-fn canonicalize(rt: &(impl Abort + AllocGlobal), segment: &[u8]) -> Result<(), Fail> {
-    let alloc = rt.alloc();
-    let words = segment.len() / 8;
+fn canonicalize(rt: &(impl Abort + AllocGlobal), segment: &[u8]) -> Result<()> {
     let far: [&[u8]; 2] = [b"\x02\0\0\0\x01\0\0\0", segment];
-    let reader = Reader::new(SegmentArray::new(&far), DEFAULT_READER_OPTIONS);
+    let reader = message_of(&far, DEFAULT_READER_OPTIONS);
     assert!(rt; !reader.is_canonical()?);
-    assert_eq!(rt; reader.canonicalize(alloc)?.len(), words);
-    assert_eq!(rt; reader.canonical_segment(alloc)?.as_slice(), segment);
+    let words = reader.canonicalize(rt.alloc())?.len();
+    expect(rt, "words", words, segment.len() / 8);
+    let form = reader.canonical_segment(rt.alloc())?;
+    assert!(rt; form.as_slice() == segment);
+    assert!(rt; canonical_text(rt.alloc(), &reader)?.ends_with(segment));
+    set_from(rt, &reader, segment)
+}
+
+fn canonical_text(alloc: Global, reader: &Message<'_>) -> Result<Vec<u8>> {
     let mut sink: Vec<u8> = Vec::new(alloc);
-    write_canonical_message(alloc, &mut sink, &reader)?;
-    assert!(rt; sink.ends_with(segment));
-    let mut message = roomy_message(alloc);
+    write_canonical_message(alloc, &mut sink, reader)?;
+    Ok(sink)
+}
+
+// Whether the first segment is this one.
+fn stands(message: &Builder<HeapAllocator>, segment: &[u8]) -> bool {
+    match message.get_segment(0) {
+        Some(first) => first == segment,
+        None => false,
+    }
+}
+
+// A root that is set to that of the message, as it stands and in canonical form.
+fn set_from(rt: &(impl Abort + AllocGlobal), reader: &Message<'_>, segment: &[u8]) -> Result<()> {
+    let mut message = roomy_message(rt.alloc(), 1 << 20);
     message.set_root::<any_pointer::Owned, Source<'_>>(reader.get_root()?)?;
-    assert_eq!(rt; message.get_segment(0), Some(segment));
-    let mut message = roomy_message(alloc);
+    assert!(rt; stands(&message, segment));
+    let mut message = roomy_message(rt.alloc(), 1 << 20);
     message.set_root_canonical::<any_pointer::Owned, Source<'_>>(reader.get_root()?)?;
-    assert_eq!(rt; message.get_segment(0), Some(segment));
+    assert!(rt; stands(&message, segment));
     let reader = message.into_reader();
     assert!(rt; reader.is_canonical()?);
     Ok(())

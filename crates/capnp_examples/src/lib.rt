@@ -17,6 +17,8 @@ mod entries;
 #[cfg(test)]
 mod examples;
 #[cfg(test)]
+mod fixtures;
+#[cfg(test)]
 mod large_limits;
 #[cfg(test)]
 mod large_messages;

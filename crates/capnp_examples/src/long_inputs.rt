@@ -1,80 +1,126 @@
 //! Chunks of many bytes, and streams of many messages.
+use crate::callers::told;
+use crate::fixtures::expect;
 use capnp::io::{Read, Write};
 use capnp::message::DEFAULT_READER_OPTIONS;
 use capnp::streams::Format;
-use capnp::{Way, transcode};
+use capnp::{Result, Way, transcode};
 use capnp_pack::{PackedRead, PackedWrite};
 use capnp_uses::record_log::read_log;
 use capnp_uses::streaming::every_message;
-use std::test::Fail;
+use std::alloc::{AllocError, Global};
 
-// 65,537 bytes, which a vector takes twice, and a caller-provided slice once.
+fn filled(alloc: Global, byte: u8, length: usize) -> std::result::Result<Vec<u8>, AllocError> {
+    vec![in alloc; byte; length]
+}
+
+fn append(sink: &mut Vec<u8>, chunk: &[u8]) -> Result<()> {
+    Write::write_all(sink, chunk)
+}
+
+// Fills a part, and returns how many bytes are left.
+fn take(bytes: &[u8], part: &mut [u8]) -> Result<usize> {
+    let mut source = bytes;
+    Read::read_exact(&mut source, part)?;
+    Ok(source.len())
+}
+
+// 65,537 bytes, which a vector takes twice.
 #[test]
-fn long_chunks(rt: HostRuntime) -> Result<(), Fail> {
-    let chunk = vec![in rt.alloc(); 7u8; 65537]?;
+fn long_chunks(rt: HostRuntime) -> Result<()> {
+    let chunk = filled(rt.alloc(), 7, 65537)?;
     let mut sink = Vec::new(rt.alloc());
-    Write::write_all(&mut sink, &chunk)?;
-    assert_eq!(rt; sink.len(), 65537);
-    Write::write_all(&mut sink, &chunk)?;
-    assert_eq!(rt; sink.len(), 131074);
+    append(&mut sink, &chunk)?;
+    expect(&rt, "once", sink.len(), 65537);
+    append(&mut sink, &chunk)?;
+    expect(&rt, "twice", sink.len(), 131074);
     assert!(rt; sink.starts_with(&chunk) && sink.ends_with(&chunk));
-    let mut room = vec![in rt.alloc(); 0u8; 65540]?;
-    let mut left = room.as_mut_slice();
-    Write::write_all(&mut left, &chunk)?;
-    assert_eq!(rt; left.len(), 3);
-    assert!(rt; room.starts_with(&chunk) && room.ends_with(&[7, 0, 0, 0]));
-    let mut source = sink.as_slice();
-    let mut read = vec![in rt.alloc(); 0u8; 65537]?;
-    Read::read_exact(&mut source, &mut read)?;
+    let mut read = filled(rt.alloc(), 0, 65537)?;
+    expect(&rt, "left", take(&sink, &mut read)?, 65537);
     assert!(rt; read == chunk);
-    assert_eq!(rt; source.len(), 65537);
     Ok(())
+}
+
+// Writes a chunk, and returns how much room is left.
+fn put(room: &mut [u8], chunk: &[u8]) -> Result<usize> {
+    let mut left = room;
+    Write::write_all(&mut left, chunk)?;
+    Ok(left.len())
+}
+
+// A caller-provided slice takes the same once.
+#[test]
+fn a_long_chunk_in_a_slice(rt: HostRuntime) -> Result<()> {
+    let chunk = filled(rt.alloc(), 7, 65537)?;
+    let mut room = filled(rt.alloc(), 0, 65540)?;
+    expect(&rt, "left", put(&mut room, &chunk)?, 3);
+    assert!(rt; room.starts_with(&chunk) && room.ends_with(&[7, 0, 0, 0]));
+    Ok(())
+}
+
+fn packed(alloc: Global, words: &[u8]) -> Result<Vec<u8>> {
+    let mut text = Vec::new(alloc);
+    PackedWrite::new(&mut text).write_all(words)?;
+    Ok(text)
+}
+
+// Unpacks into a part, and returns how many bytes of the text are left.
+fn unpack_into(text: &[u8], part: &mut [u8]) -> Result<usize> {
+    let mut source = text;
+    PackedRead::new(&mut source).read_exact(part)?;
+    Ok(source.len())
 }
 
 // 8,193 words without a zero byte: 32 runs of 256 words, each with a tag and a count, and a word.
 #[test]
-fn long_packed_chunks(rt: HostRuntime) -> Result<(), Fail> {
-    let words = vec![in rt.alloc(); 7u8; 65544]?;
-    let mut text = Vec::new(rt.alloc());
-    PackedWrite::new(&mut text).write_all(&words)?;
-    assert_eq!(rt; text.len(), 65610);
+fn long_packed_chunks(rt: HostRuntime) -> Result<()> {
+    let words = filled(rt.alloc(), 7, 65544)?;
+    let text = packed(rt.alloc(), &words)?;
+    expect(&rt, "the text", text.len(), 65610);
     assert!(rt; text.ends_with(&[255, 7, 7, 7, 7, 7, 7, 7, 7, 0]));
-    let mut read = vec![in rt.alloc(); 0u8; 65544]?;
-    let mut source = text.as_slice();
-    PackedRead::new(&mut source).read_exact(&mut read)?;
+    let mut read = filled(rt.alloc(), 0, 65544)?;
+    expect(&rt, "left", unpack_into(&text, &mut read)?, 0);
     assert!(rt; read == words);
-    assert!(rt; source.is_empty());
     Ok(())
 }
 
-// 1,001 messages of a null root, framed and packed.
-#[test]
-fn a_thousand_messages_and_one(rt: HostRuntime) -> Result<(), Fail> {
-    let alloc = rt.alloc();
-    let options = DEFAULT_READER_OPTIONS;
-    let mut framed = Vec::new(alloc);
-    let mut packed = Vec::new(alloc);
-    for _ in 0..1001 {
-        framed.extend_from_slice(&[0, 0, 0, 0, 1, 0, 0, 0, 0, 0, 0, 0, 0, 0, 0, 0])?;
-        packed.extend_from_slice(&[0x10, 1, 0, 0])?;
+fn repeated(alloc: Global, text: &[u8], times: usize) -> std::result::Result<Vec<u8>, AllocError> {
+    let mut stream = Vec::new(alloc);
+    for _ in 0..times {
+        stream.extend_from_slice(text)?;
     }
-    let read = every_message(alloc, Format::Framed, &framed, options);
-    assert_eq!(rt; (read.messages.len(), read.end), (1001, 16016));
-    assert!(rt; read.refusal.is_none());
-    let read = read_log(alloc, &packed, options);
-    assert_eq!(rt; (read.messages.len(), read.end), (1001, 4004));
-    assert!(rt; read.refusal.is_none());
+    Ok(stream)
+}
+
+fn transcoded(alloc: Global, way: Way, stream: &[u8]) -> Result<Vec<u8>> {
+    let mut source = stream;
     let mut text = Vec::new(alloc);
-    transcode(alloc, Way::Pack, &mut framed.as_slice(), &mut text, options)?;
-    assert!(rt; text == packed);
-    let mut text = Vec::new(alloc);
-    transcode(
-        alloc,
-        Way::Unpack,
-        &mut packed.as_slice(),
-        &mut text,
-        options,
-    )?;
-    assert!(rt; text == framed);
+    transcode(alloc, way, &mut source, &mut text, DEFAULT_READER_OPTIONS)?;
+    Ok(text)
+}
+
+// A message of a null root, framed and packed.
+const FRAMED: [u8; 16] = [0, 0, 0, 0, 1, 0, 0, 0, 0, 0, 0, 0, 0, 0, 0, 0];
+
+const PACKED: [u8; 4] = [0x10, 1, 0, 0];
+
+// 1,001 such messages.
+#[test]
+fn a_thousand_messages_and_one(rt: HostRuntime) -> Result<()> {
+    let framed = repeated(rt.alloc(), &FRAMED, 1001)?;
+    let read = every_message(rt.alloc(), Format::Framed, &framed, DEFAULT_READER_OPTIONS);
+    expect(&rt, "framed", told(&read), (1001, 16016, 0));
+    let packed = repeated(rt.alloc(), &PACKED, 1001)?;
+    let read = read_log(rt.alloc(), &packed, DEFAULT_READER_OPTIONS);
+    expect(&rt, "packed", told(&read), (1001, 4004, 0));
+    Ok(())
+}
+
+#[test]
+fn a_thousand_messages_are_transcoded(rt: HostRuntime) -> Result<()> {
+    let framed = repeated(rt.alloc(), &FRAMED, 1001)?;
+    let packed = repeated(rt.alloc(), &PACKED, 1001)?;
+    assert!(rt; transcoded(rt.alloc(), Way::Pack, &framed)? == packed);
+    assert!(rt; transcoded(rt.alloc(), Way::Unpack, &packed)? == framed);
     Ok(())
 }

@@ -1,16 +1,19 @@
 //! The callers over other limits than the default ones, and over what is refused.
+use crate::callers::told;
 use crate::examples::{HELLO, PACKED as PACKED_HELLO};
+use crate::fixtures::{expect, limited};
+use capnp::Result;
 use capnp::message::{DEFAULT_READER_OPTIONS, ReaderOptions, SegmentArray};
 use capnp::streams::Format;
-use capnp_rows::refusals::refusal;
+use capnp_rows::refusals::{numbered, refusal};
 use capnp_uses::canonical::canonical_words;
 use capnp_uses::packed_struct::read_packed_words;
 use capnp_uses::packing::{pack_words, unpack_words, words_are_unpacked};
 use capnp_uses::reading::{borrowed_message, first_message, root_text};
 use capnp_uses::record_log::{read_log, two_records_are_read_back};
-use capnp_uses::streaming::{StreamRead, every_message, next_message, skip_message};
+use capnp_uses::streaming::{every_message, next_message, skip_message};
 use std::alloc::{AllocError, Global};
-use std::test::Fail;
+use std::process::Abort;
 
 // Segments [] and [1, 2, 3, 4, 5, 6, 7, 8], framed, and packed: a message of one word, where HELLO has
 // three.
@@ -21,7 +24,7 @@ const FRAMED: [u8; 24] = [
 const PACKED: [u8; 14] = [1, 1, 1, 1, 255, 1, 2, 3, 4, 5, 6, 7, 8, 0];
 
 // Both messages, in a format.
-fn both(alloc: Global, format: Format) -> Result<Vec<u8>, AllocError> {
+fn both(alloc: Global, format: Format) -> std::result::Result<Vec<u8>, AllocError> {
     let (first, second): (&[u8], &[u8]) = match format {
         Format::Framed => (&FRAMED, &HELLO),
         Format::Packed => (&PACKED, &PACKED_HELLO),
@@ -29,21 +32,6 @@ fn both(alloc: Global, format: Format) -> Result<Vec<u8>, AllocError> {
     let mut stream = first.to_vec(alloc)?;
     stream.extend_from_slice(second)?;
     Ok(stream)
-}
-
-fn limited(limit: Option<usize>) -> ReaderOptions {
-    let mut options = ReaderOptions::new();
-    options.traversal_limit_in_words(limit);
-    options
-}
-
-// How many messages, where the last ends, and the refusal's number.
-fn told(read: StreamRead) -> (usize, usize, u8) {
-    let number = match read.refusal {
-        Some(error) => error.kind.number(),
-        None => 0,
-    };
-    (read.messages.len(), read.end, number)
 }
 
 // A limit, how many of both messages are read, and the refusal of the next.
@@ -55,61 +43,108 @@ const LIMITS: [(Option<usize>, usize, u8); 5] = [
     (Some(0), 0, 8),
 ];
 
+// Where the last of so many messages ends, framed and packed.
+const ENDS: [(usize, usize); 3] = [(0, 0), (24, 14), (56, 35)];
+
 #[test]
-fn streams_within_a_limit(rt: HostRuntime) -> Result<(), Fail> {
-    let alloc = rt.alloc();
-    let framed = both(alloc, Format::Framed)?;
-    let packed = both(alloc, Format::Packed)?;
-    for (limit, messages, number) in LIMITS {
-        let options = limited(limit);
-        let ends = match messages {
-            0 => (0, 0),
-            1 => (24, 14),
-            _ => (56, 35),
-        };
-        let read = every_message(alloc, Format::Framed, &framed, options);
-        assert_eq!(rt; told(read), (messages, ends.0, number), "{limit:?}");
-        let read = every_message(alloc, Format::Packed, &packed, options);
-        assert_eq!(rt; told(read), (messages, ends.1, number), "{limit:?}");
-        let read = read_log(alloc, &packed, options);
-        assert_eq!(rt; told(read), (messages, ends.1, number), "{limit:?}");
-        let mut source = framed.as_slice();
-        let next = next_message(alloc, Format::Framed, &mut source, options);
-        assert_eq!(rt;
-            refusal(next),
-            if messages == 0 { 8 } else { 0 },
-            "{limit:?}"
-        );
+fn streams_within_a_limit(rt: HostRuntime) -> std::result::Result<(), AllocError> {
+    let framed = both(rt.alloc(), Format::Framed)?;
+    let packed = both(rt.alloc(), Format::Packed)?;
+    for (limit, messages, number) in &LIMITS {
+        assert!(rt; *messages < 3);
+        let (framed_end, packed_end) = ENDS[*messages];
+        let options = limited(*limit);
+        let found = told_of(rt.alloc(), Format::Framed, &framed, options);
+        expect(&rt, *limit, found, (*messages, framed_end, *number));
+        let found = told_of(rt.alloc(), Format::Packed, &packed, options);
+        expect(&rt, *limit, found, (*messages, packed_end, *number));
+        let log = told(&read_log(rt.alloc(), &packed, options));
+        expect(&rt, *limit, log, (*messages, packed_end, *number));
+        let next = next_refusal(rt.alloc(), &framed, options);
+        expect(&rt, *limit, next, if *messages == 0 { 8 } else { 0 });
     }
     Ok(())
 }
 
+fn told_of(
+    alloc: Global,
+    format: Format,
+    stream: &[u8],
+    options: ReaderOptions,
+) -> (usize, usize, u8) {
+    told(&every_message(alloc, format, stream, options))
+}
+
+// The refusal of the next framed message.
+fn next_refusal(alloc: Global, stream: &[u8], options: ReaderOptions) -> u8 {
+    let mut source = stream;
+    refusal(next_message(alloc, Format::Framed, &mut source, options))
+}
+
+// Whether a message is skipped, and how many bytes are left, or the refusal's number.
+fn skip(
+    alloc: Global,
+    format: Format,
+    source: &mut &[u8],
+    options: ReaderOptions,
+) -> std::result::Result<(bool, usize), u8> {
+    let skipped = numbered(skip_message(alloc, format, source, options))?;
+    Ok((skipped, source.len()))
+}
+
+// Formats, the bytes of their second message, and the refusal where its last byte is missing.
+const SKIPPED: [(Format, usize, u8); 2] = [(Format::Framed, 32, 1), (Format::Packed, 21, 10)];
+
 // Each call goes over one message, and a refused one tells why; a stream that is cut has no end.
 #[test]
-fn messages_are_skipped(rt: HostRuntime) -> Result<(), Fail> {
-    let alloc = rt.alloc();
-    for (format, second, cut) in [(Format::Framed, 32, 1), (Format::Packed, 21, 10)] {
-        let stream = both(alloc, format)?;
-        let mut source = stream.as_slice();
-        for left in [second, 0] {
-            assert!(rt; skip_message(alloc, format, &mut source, DEFAULT_READER_OPTIONS)?);
-            assert_eq!(rt; source.len(), left, "{format:?}");
-        }
-        assert!(rt; !skip_message(alloc, format, &mut source, DEFAULT_READER_OPTIONS)?);
-        let mut source = stream.as_slice();
-        assert!(rt; skip_message(alloc, format, &mut source, limited(Some(1)))?);
-        let refused = skip_message(alloc, format, &mut source, limited(Some(2)));
-        assert_eq!(rt; refusal(refused), 8, "{format:?}");
-        let mut source = stream.as_slice();
-        let Some(shorter) = source.split_last() else {
-            continue;
-        };
-        source = shorter.1;
-        assert!(rt; skip_message(alloc, format, &mut source, DEFAULT_READER_OPTIONS)?);
-        let refused = skip_message(alloc, format, &mut source, DEFAULT_READER_OPTIONS);
-        assert_eq!(rt; refusal(refused), cut, "{format:?}");
+fn messages_are_skipped(rt: HostRuntime) -> std::result::Result<(), AllocError> {
+    for (format, second, cut) in &SKIPPED {
+        let stream = both(rt.alloc(), *format)?;
+        skip_each(&rt, *format, &stream, *second);
+        skip_past_a_limit(&rt, *format, &stream, *second);
+        skip_up_to_a_cut(&rt, *format, &stream, second.saturating_sub(1), *cut);
     }
     Ok(())
+}
+
+fn skip_each(rt: &(impl Abort + AllocGlobal), format: Format, stream: &[u8], second: usize) {
+    let mut source = stream;
+    let options = DEFAULT_READER_OPTIONS;
+    for wanted in &[(true, second), (true, 0), (false, 0)] {
+        let found = skip(rt.alloc(), format, &mut source, options);
+        expect(rt, format, found, Ok(*wanted));
+    }
+}
+
+fn skip_past_a_limit(
+    rt: &(impl Abort + AllocGlobal),
+    format: Format,
+    stream: &[u8],
+    second: usize,
+) {
+    let mut source = stream;
+    let found = skip(rt.alloc(), format, &mut source, limited(Some(1)));
+    expect(rt, format, found, Ok((true, second)));
+    let refused = skip(rt.alloc(), format, &mut source, limited(Some(2)));
+    expect(rt, format, refused, Err(8));
+}
+
+fn skip_up_to_a_cut(
+    rt: &(impl Abort + AllocGlobal),
+    format: Format,
+    stream: &[u8],
+    second: usize,
+    cut: u8,
+) {
+    let Some((_, shorter)) = stream.split_last() else {
+        return;
+    };
+    let mut source = shorter;
+    let options = DEFAULT_READER_OPTIONS;
+    let found = skip(rt.alloc(), format, &mut source, options);
+    expect(rt, format, found, Ok((true, second)));
+    let refused = skip(rt.alloc(), format, &mut source, options);
+    expect(rt, format, refused, Err(cut));
 }
 
 // Framed bytes, and their refusals: by a copying reader, in place, and of the canonical words and
@@ -131,21 +166,24 @@ const BYTES: [(&[u8], [u8; 4]); 12] = [
     (b"\0\0\0\0\x01\0\0\0\x04\0\0\0\0\0\0\0",           [0, 0, 17, 17]),
 ];
 
+// The refusal of the text of a message in place, or of the message.
+fn text_refusal(bytes: &[u8]) -> u8 {
+    match borrowed_message(bytes) {
+        Ok(message) => refusal(root_text(&message)),
+        Err(error) => error.kind.number(),
+    }
+}
+
 #[test]
 fn bytes_that_are_refused(rt: HostRuntime) {
-    let alloc = rt.alloc();
-    for (bytes, wanted) in BYTES {
-        let text = match borrowed_message(bytes) {
-            Ok(message) => refusal(root_text(&message)),
-            Err(error) => error.kind.number(),
-        };
+    for (bytes, wanted) in &BYTES {
         let refusals = [
-            refusal(first_message(alloc, bytes)),
+            refusal(first_message(rt.alloc(), bytes)),
             refusal(borrowed_message(bytes)),
-            refusal(canonical_words(alloc, bytes)),
-            text,
+            refusal(canonical_words(rt.alloc(), bytes)),
+            text_refusal(bytes),
         ];
-        assert_eq!(rt; refusals, wanted, "{bytes:?}");
+        expect(&rt, *bytes, refusals, *wanted);
     }
 }
 
@@ -162,56 +200,54 @@ const PACKED_TEXTS: [(&[u8], [u8; 2]); 6] = [
 ];
 
 #[test]
-fn packed_texts_that_are_refused(rt: HostRuntime) -> Result<(), Fail> {
-    let alloc = rt.alloc();
-    for (text, wanted) in PACKED_TEXTS {
+fn packed_texts_that_are_refused(rt: HostRuntime) {
+    for (text, wanted) in &PACKED_TEXTS {
         let mut words = [9; 16];
         let refusals = [
             refusal(unpack_words(text, &mut words)),
-            refusal(read_packed_words(alloc, text)),
+            refusal(read_packed_words(rt.alloc(), text)),
         ];
-        assert_eq!(rt; refusals, wanted, "{text:?}");
+        expect(&rt, *text, refusals, *wanted);
     }
-    assert_eq!(rt;
-        read_packed_words(alloc, &[0x10, 2, 0x10, 1, 1, 10])?,
-        (10, 0)
-    );
-    Ok(())
+    let words = numbered(read_packed_words(rt.alloc(), &[0x10, 2, 0x10, 1, 1, 10]));
+    expect(&rt, "one word", words, Ok((10, 0)));
 }
 
 // Records of one word within a limit of one.
 #[test]
-fn records_within_a_limit(rt: HostRuntime) -> Result<(), Fail> {
-    let alloc = rt.alloc();
-    let mut options = ReaderOptions::new();
-    options.traversal_limit_in_words(Some(1));
+fn records_within_a_limit(rt: HostRuntime) -> Result<()> {
     let slices = [[].as_slice(), &FRAMED[16..]];
     let record = SegmentArray::new(&slices);
-    let both = two_records_are_read_back(alloc, &record, &record, options)?;
-    assert_eq!(rt; told(both), (2, 28, 0));
+    let options = limited(Some(1));
+    let both = two_records_are_read_back(rt.alloc(), &record, &record, options)?;
+    let found = (both.messages.len(), both.end, both.refusal.is_none());
+    expect(&rt, "both", found, (2, 28, true));
     Ok(())
+}
+
+fn is_unpacked(alloc: Global, words: &[u8]) -> Result<bool> {
+    Ok(words_are_unpacked(alloc, words)?.as_slice() == words)
 }
 
 // Words that are all zero, and that have no zero byte: past the 256 of one run.
 #[test]
-fn long_runs_are_packed(rt: HostRuntime) -> Result<(), Fail> {
-    let alloc = rt.alloc();
-    assert!(rt; pack_words(alloc, &[])?.is_empty());
+fn long_runs_are_packed(rt: HostRuntime) -> Result<()> {
+    assert!(rt; pack_words(rt.alloc(), &[])?.is_empty());
     let zeros = [0; 2080];
-    let text = pack_words(alloc, &zeros)?;
-    assert_eq!(rt; text.as_slice(), [0, 255, 0, 3].as_slice());
-    assert_eq!(rt;
-        words_are_unpacked(alloc, &zeros)?.as_slice(),
-        zeros.as_slice()
-    );
+    let text = pack_words(rt.alloc(), &zeros)?;
+    expect(&rt, "zeros", text.as_slice(), [0, 255, 0, 3].as_slice());
+    assert!(rt; is_unpacked(rt.alloc(), &zeros)?);
+    Ok(())
+}
+
+// A word and 255 after it, and a word and 3 after it, each with a tag and a count.
+#[test]
+fn long_literal_runs_are_packed(rt: HostRuntime) -> Result<()> {
     let ones = [1; 2080];
-    let text = pack_words(alloc, &ones)?;
-    // A word and 255 after it, and a word and 3 after it, each with a tag and a count.
-    assert_eq!(rt; text.len(), 2084);
-    assert_eq!(rt; &text[8..18], [1, 255, 1, 1, 1, 1, 1, 1, 1, 1].as_slice());
-    assert_eq!(rt;
-        words_are_unpacked(alloc, &ones)?.as_slice(),
-        ones.as_slice()
-    );
+    let text = pack_words(rt.alloc(), &ones)?;
+    assert!(rt; text.len() == 2084);
+    let first = [1, 255, 1, 1, 1, 1, 1, 1, 1, 1];
+    expect(&rt, "ones", &text[8..18], first.as_slice());
+    assert!(rt; is_unpacked(rt.alloc(), &ones)?);
     Ok(())
 }

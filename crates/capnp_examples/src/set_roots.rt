@@ -1,11 +1,11 @@
 //! The callers that set a root to what another message holds, by the words that stand then.
-use capnp::any_pointer;
-use capnp::message::{Builder, HeapAllocator, Reader, ReaderOptions, ReaderSegments, SegmentArray};
-use capnp_rows::messages::shows;
+use crate::fixtures::{Message, expect, message_of, roomy_message};
+use capnp::message::{Builder, HeapAllocator, ReaderOptions, SegmentArray};
+use capnp::{Result, any_pointer};
+use capnp_rows::messages::has_segments;
 use capnp_rows::refusals::refusal;
 use capnp_uses::setting::{set_canonical, set_tree, set_tree_and_word};
-use std::alloc::Global;
-use std::test::Fail;
+use std::process::Abort;
 
 // A struct of two data words, of which the last is zero, and a text, after a far pointer: with the
 // landing pad five words are counted against the traversal limit.
@@ -40,44 +40,59 @@ const FORMS: [(&[&[u8]], [&[u8]; 3]); 3] = [
 
 type Source<'a> = any_pointer::Reader<'a, SegmentArray<'a>>;
 
+// How a root is set to that of another message.
+#[derive(Clone, Copy, Debug)]
+enum Way {
+    AsItStands,
+    WithAWord,
+    Canonical,
+}
+
+const WAYS: [Way; 3] = [Way::AsItStands, Way::WithAWord, Way::Canonical];
+
+fn set(message: &mut Builder<HeapAllocator>, reader: &Message<'_>, way: Way) -> Result<()> {
+    let root: Source<'_> = reader.get_root()?;
+    match way {
+        Way::AsItStands => set_tree(message, root),
+        Way::WithAWord => set_tree_and_word(message, root, 9),
+        Way::Canonical => set_canonical(message, root),
+    }
+}
+
 #[test]
-fn roots_of_other_messages(rt: HostRuntime) -> Result<(), Fail> {
-    for (segments, [as_it_stands, with_a_word, canonical]) in FORMS {
-        let reader = Reader::new(SegmentArray::new(segments), ReaderOptions::new());
-        let root: Source<'_> = reader.get_root()?;
+fn roots_of_other_messages(rt: HostRuntime) -> Result<()> {
+    for (segments, forms) in &FORMS {
+        let reader = message_of(segments, ReaderOptions::new());
+        expect_forms(&rt, &reader, forms)?;
+    }
+    Ok(())
+}
+
+fn expect_forms(
+    rt: &(impl Abort + AllocGlobal),
+    reader: &Message<'_>,
+    forms: &[&[u8]; 3],
+) -> Result<()> {
+    for index in 0..3usize {
         let mut message = Builder::new_default(rt.alloc());
-        set_tree(&mut message, root)?;
-        assert!(rt; shows(&message, 0, as_it_stands), "{segments:?}");
-        let root: Source<'_> = reader.get_root()?;
-        let mut message = Builder::new_default(rt.alloc());
-        set_tree_and_word(&mut message, root, 9)?;
-        assert!(rt; shows(&message, 0, with_a_word), "{segments:?}");
-        let root: Source<'_> = reader.get_root()?;
-        let mut message = Builder::new_default(rt.alloc());
-        set_canonical(&mut message, root)?;
-        assert!(rt; shows(&message, 0, canonical), "{segments:?}");
-        assert!(rt; message.get_segment(1).is_none(), "{segments:?}");
+        set(&mut message, reader, WAYS[index])?;
+        let stands = has_segments(&message, &[forms[index]]);
+        expect(rt, (WAYS[index], forms[index]), stands, true);
     }
     Ok(())
 }
 
 // In a segment of its own a tree stands after its landing pad, which is the root pointer that it had.
 #[test]
-fn roots_after_a_landing_pad(rt: HostRuntime) -> Result<(), Fail> {
-    for (segments, [as_it_stands, _, _]) in &FORMS[..2] {
-        let reader = Reader::new(SegmentArray::new(segments), ReaderOptions::new());
-        let root: Source<'_> = reader.get_root()?;
-        let mut message = far_message(rt.alloc());
-        set_tree(&mut message, root)?;
-        assert!(rt; shows(&message, 0, b"\x02\0\0\0\x01\0\0\0"));
-        assert!(rt; shows(&message, 1, as_it_stands));
+fn roots_after_a_landing_pad(rt: HostRuntime) -> Result<()> {
+    for (segments, forms) in &FORMS[..2] {
+        let reader = message_of(segments, ReaderOptions::new());
+        let mut message = roomy_message(rt.alloc(), 1);
+        set(&mut message, &reader, Way::AsItStands)?;
+        let wanted = [b"\x02\0\0\0\x01\0\0\0".as_slice(), forms[0]];
+        expect(&rt, *segments, has_segments(&message, &wanted), true);
     }
     Ok(())
-}
-
-// A message whose first segment has room for the root's word alone.
-fn far_message(alloc: Global) -> Builder<HeapAllocator> {
-    Builder::new(alloc, HeapAllocator::new(alloc).first_segment_words(1))
 }
 
 // Traversal limits of the message after a far pointer, nesting limits, and the refusals of all three.
@@ -90,34 +105,17 @@ const LIMITS: [(Option<usize>, i32, u8); 5] = [
 ];
 
 #[test]
-fn roots_past_a_limit(rt: HostRuntime) -> Result<(), Fail> {
-    for (limit, nesting, wanted) in LIMITS {
+fn roots_past_a_limit(rt: HostRuntime) {
+    for (limit, nesting, wanted) in &LIMITS {
         let mut options = ReaderOptions::new();
         options
-            .traversal_limit_in_words(limit)
-            .nesting_limit(nesting);
-        let reader = Reader::new(SegmentArray::new(FAR), options);
-        let root: Source<'_> = reader.get_root()?;
-        let mut message = Builder::new_default(rt.alloc());
-        assert_eq!(rt;
-            refusal(set_tree(&mut message, root)),
-            wanted,
-            "{limit:?}, {nesting}"
-        );
-        let root: Source<'_> = reader.get_root()?;
-        let mut message = Builder::new_default(rt.alloc());
-        assert_eq!(rt;
-            refusal(set_tree_and_word(&mut message, root, 9)),
-            wanted,
-            "{limit:?}"
-        );
-        let root: Source<'_> = reader.get_root()?;
-        let mut message = Builder::new_default(rt.alloc());
-        assert_eq!(rt;
-            refusal(set_canonical(&mut message, root)),
-            wanted,
-            "{limit:?}, {nesting}"
-        );
+            .traversal_limit_in_words(*limit)
+            .nesting_limit(*nesting);
+        let reader = message_of(FAR, options);
+        for way in &WAYS {
+            let mut message = Builder::new_default(rt.alloc());
+            let found = refusal(set(&mut message, &reader, *way));
+            expect(&rt, (*limit, *nesting, *way), found, *wanted);
+        }
     }
-    Ok(())
 }

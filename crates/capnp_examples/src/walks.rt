@@ -1,10 +1,10 @@
 //! What the traversal limit counts while a message is walked over: views alone, from where they were.
-use capnp::message::{Builder, Reader, ReaderOptions, SegmentArray};
+use crate::fixtures::{Message, expect, limited, message_of};
+use capnp::message::{Builder, SegmentArray};
 use capnp::serialize::write_canonical_message;
 use capnp::{Result, any_pointer, text};
 use capnp_rows::refusals::refusal;
 use std::alloc::Global;
-use std::test::Fail;
 
 #[derive(Clone, Copy, Debug)]
 enum Walk {
@@ -30,48 +30,57 @@ const WALKS: [Walk; 7] = [
 type Source<'a> = any_pointer::Reader<'a, SegmentArray<'a>>;
 
 // Walks over the words of the root's tree, and returns how many.
-fn walk_over(alloc: Global, reader: &Reader<SegmentArray<'_>>, kind: Walk) -> Result<usize> {
+fn walk_over(alloc: Global, reader: &Message<'_>, kind: Walk) -> Result<usize> {
     match kind {
         Walk::Canonicalize => Ok(reader.canonicalize(alloc)?.len()),
         Walk::CanonicalSegment => Ok(reader.canonical_segment(alloc)?.len() / 8),
         Walk::IsCanonical => Ok(if reader.is_canonical()? { 3 } else { 0 }),
-        Walk::TargetSize => {
-            let root: Source<'_> = reader.get_root()?;
-            Ok((root.target_size()?.word_count as usize).saturating_add(1))
-        }
-        Walk::WriteCanonical => {
-            let mut sink: Vec<u8> = Vec::new(alloc);
-            write_canonical_message(alloc, &mut sink, reader)?;
-            Ok((sink.len() / 8).saturating_sub(1))
-        }
-        Walk::SetRoot => {
-            let mut message = Builder::new_default(alloc);
-            message.set_root::<any_pointer::Owned, Source<'_>>(reader.get_root()?)?;
-            Ok(message.size_in_words())
-        }
-        Walk::SetRootCanonical => {
-            let mut message = Builder::new_default(alloc);
-            message.set_root_canonical::<any_pointer::Owned, Source<'_>>(reader.get_root()?)?;
-            Ok(message.size_in_words())
-        }
+        Walk::TargetSize => target_words(reader),
+        Walk::WriteCanonical => written_words(alloc, reader),
+        Walk::SetRoot => set_words(alloc, reader),
+        Walk::SetRootCanonical => set_canonical_words(alloc, reader),
     }
+}
+
+fn target_words(reader: &Message<'_>) -> Result<usize> {
+    let root: Source<'_> = reader.get_root()?;
+    Ok((root.target_size()?.word_count as usize).saturating_add(1))
+}
+
+fn written_words(alloc: Global, reader: &Message<'_>) -> Result<usize> {
+    let mut sink: Vec<u8> = Vec::new(alloc);
+    write_canonical_message(alloc, &mut sink, reader)?;
+    Ok((sink.len() / 8).saturating_sub(1))
+}
+
+fn set_words(alloc: Global, reader: &Message<'_>) -> Result<usize> {
+    let mut message = Builder::new_default(alloc);
+    message.set_root::<any_pointer::Owned, Source<'_>>(reader.get_root()?)?;
+    Ok(message.size_in_words())
+}
+
+fn set_canonical_words(alloc: Global, reader: &Message<'_>) -> Result<usize> {
+    let mut message = Builder::new_default(alloc);
+    message.set_root_canonical::<any_pointer::Owned, Source<'_>>(reader.get_root()?)?;
+    Ok(message.size_in_words())
+}
+
+fn view_refusal(reader: &Message<'_>) -> u8 {
+    refusal(reader.get_root::<text::Reader<'_>>())
 }
 
 // A text of two words, which may be viewed twice within four. A walk counts its own two from none: it
 // counts nothing against the traversal limit, gives nothing back, and goes on where all are used.
 #[test]
-fn walks_between_views(rt: HostRuntime) -> std::result::Result<(), Fail> {
+fn walks_between_views(rt: HostRuntime) -> Result<()> {
     let segments: [&[u8]; 1] = [b"\x01\0\0\0\x72\0\0\0Hello, World!\0\0\0"];
-    let mut options = ReaderOptions::new();
-    options.traversal_limit_in_words(Some(4));
-    for kind in WALKS {
-        let reader = Reader::new(SegmentArray::new(&segments), options);
-        for view in [0, 0, 20, 20] {
+    for kind in &WALKS {
+        let reader = message_of(&segments, limited(Some(4)));
+        for view in &[0, 0, 20, 20] {
             for _ in 0..3u32 {
-                assert_eq!(rt; walk_over(rt.alloc(), &reader, kind)?, 3, "{kind:?}");
+                expect(&rt, *kind, walk_over(rt.alloc(), &reader, *kind)?, 3);
             }
-            let text: Result<text::Reader<'_>> = reader.get_root();
-            assert_eq!(rt; refusal(text), view, "{kind:?}");
+            expect(&rt, *kind, view_refusal(&reader), *view);
         }
     }
     Ok(())
