@@ -100,9 +100,16 @@ fn the_words_of_each_root(rt: HostRuntime) -> Result<()> {
         }
         expect(&rt, *segment, has_segments(&message, &[*segment]), true);
     }
-    let mut message = Builder::new_default(rt.alloc());
-    assert!(rt; null_is_read_back(&mut message)?);
-    assert!(rt; has_segments(&message, &[&[0; 8]]));
+    Ok(())
+}
+
+#[test]
+fn the_word_of_a_null_root_that_is_read_back(rt: HostRuntime) -> Result<()> {
+    for words in &[1024, 1] {
+        let mut message = roomy_message(rt.alloc(), *words);
+        assert!(rt; null_is_read_back(&mut message)?);
+        expect(&rt, *words, has_segments(&message, &[&[0; 8]]), true);
+    }
     Ok(())
 }
 
@@ -145,7 +152,7 @@ fn roots_in_a_region(rt: HostRuntime) -> Result<()> {
 }
 
 // Whether a root that is built over a region is read back, or the number of its refusal; then a null
-// root is.
+// root is, there and in the next message over the region.
 fn root_in_a_region(
     alloc: Global,
     region: &mut [u8],
@@ -153,7 +160,9 @@ fn root_in_a_region(
 ) -> Result<std::result::Result<bool, u8>> {
     let mut message = Builder::new(alloc, SingleSegmentAllocator::new(region));
     let found = numbered(is_read_back(alloc, &mut message, root));
-    if null_is_read_back(&mut message)? {
+    let is_null = null_is_read_back(&mut message)?;
+    let mut next = Builder::new(alloc, message.into_allocator());
+    if is_null && null_is_read_back(&mut next)? {
         Ok(found)
     } else {
         Ok(Ok(false))
