@@ -43,7 +43,7 @@ const LIMITS: [(Option<usize>, usize, u8); 5] = [
     (Some(0), 0, 8),
 ];
 
-// Where the last of so many messages ends, framed and packed.
+// Where the last of none, one and both messages ends, framed and packed.
 const ENDS: [(usize, usize); 3] = [(0, 0), (24, 14), (56, 35)];
 
 #[test]
