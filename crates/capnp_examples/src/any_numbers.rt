@@ -19,8 +19,12 @@ fn numbers_of(segment: &[u8]) -> Result<(u32, Option<(u64, u64)>), ErrorKind> {
     let segments = [segment];
     let message = message_of(&segments, DEFAULT_READER_OPTIONS);
     match message.get_root::<any_numbers::Reader<'_>>() {
-        Ok(numbers) if numbers.len() == 2 => Ok((2, Some((numbers.get(0), numbers.get(1))))),
-        Ok(numbers) => Ok((numbers.len(), None)),
+        Ok(numbers) => {
+            if numbers.len() != 2 {
+                return Ok((numbers.len(), None));
+            }
+            Ok((2, Some((numbers.get(0), numbers.get(1)))))
+        }
         Err(error) => Err(error.kind),
     }
 }

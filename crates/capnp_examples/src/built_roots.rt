@@ -8,7 +8,6 @@ use capnp_uses::building::{
     a_struct_is_read_back, data_is_read_back, null_is_read_back, numbers_are_read_back,
     text_is_read_back, write_data, write_null, write_numbers, write_struct, write_text,
 };
-use std::alloc::Global;
 use std::process::Abort;
 
 // A root that a caller builds.
@@ -22,10 +21,21 @@ enum Root {
 }
 
 // Whether what is built is read back.
-fn is_read_back<A: Allocator>(alloc: Global, message: &mut Builder<A>, root: Root) -> Result<bool> {
+fn is_read_back<A: Allocator>(
+    rt: &(impl Abort + AllocGlobal),
+    message: &mut Builder<A>,
+    root: Root,
+) -> Result<bool> {
+    let alloc = rt.alloc();
     match root {
-        Root::Text(bytes) => Ok(text_is_read_back(alloc, message, bytes)?.as_slice() == bytes),
-        Root::Data(bytes) => Ok(data_is_read_back(alloc, message, bytes)?.as_slice() == bytes),
+        Root::Text(bytes) => {
+            assert!(rt; bytes.len() < 1 << 29);
+            Ok(text_is_read_back(alloc, message, bytes)?.as_slice() == bytes)
+        }
+        Root::Data(bytes) => {
+            assert!(rt; bytes.len() < 1 << 29);
+            Ok(data_is_read_back(alloc, message, bytes)?.as_slice() == bytes)
+        }
         Root::Numbers(first, second) => {
             let numbers = numbers_are_read_back(alloc, message, first, second)?;
             Ok(numbers.as_slice() == [first, second].as_slice())
@@ -65,15 +75,21 @@ fn read_each_back(
     roots: &[Root],
 ) -> Result<()> {
     for root in roots {
-        expect(rt, *root, is_read_back(rt.alloc(), message, *root)?, true);
+        expect(rt, *root, is_read_back(rt, message, *root)?, true);
     }
     Ok(())
 }
 
-fn write<A: Allocator>(message: &mut Builder<A>, root: Root) -> Result<()> {
+fn write<A: Allocator>(rt: &impl Abort, message: &mut Builder<A>, root: Root) -> Result<()> {
     match root {
-        Root::Text(bytes) => write_text(message, bytes),
-        Root::Data(bytes) => write_data(message, bytes),
+        Root::Text(bytes) => {
+            assert!(rt; bytes.len() < 1 << 29);
+            write_text(message, bytes)
+        }
+        Root::Data(bytes) => {
+            assert!(rt; bytes.len() < 1 << 29);
+            write_data(message, bytes)
+        }
         Root::Numbers(first, second) => write_numbers(message, first, second),
         Root::Struct(first, second) => write_struct(message, first, second),
         Root::Null => write_null(message),
@@ -96,7 +112,7 @@ fn the_words_of_each_root(rt: HostRuntime) -> Result<()> {
     for (roots, segment) in &SEGMENTS {
         let mut message = Builder::new_default(rt.alloc());
         for root in *roots {
-            write(&mut message, *root)?;
+            write(&rt, &mut message, *root)?;
         }
         expect(&rt, *segment, has_segments(&message, &[*segment]), true);
     }
@@ -138,7 +154,7 @@ fn roots_in_a_region(rt: HostRuntime) -> Result<()> {
         assert!(rt; *length <= 24);
         let region = &mut room[..*length];
         for index in 0..4usize {
-            let found = root_in_a_region(rt.alloc(), region, IN_A_REGION[index])?;
+            let found = root_in_a_region(&rt, region, IN_A_REGION[index])?;
             let wanted = if refusals[index] == 0 {
                 Ok(true)
             } else {
@@ -154,12 +170,14 @@ fn roots_in_a_region(rt: HostRuntime) -> Result<()> {
 // Whether a root that is built over a region is read back, or the number of its refusal; then a null
 // root is, there and in the next message over the region.
 fn root_in_a_region(
-    alloc: Global,
+    rt: &(impl Abort + AllocGlobal),
     region: &mut [u8],
     root: Root,
 ) -> Result<std::result::Result<bool, u8>> {
+    assert!(rt; region.len() <= 24);
+    let alloc = rt.alloc();
     let mut message = Builder::new(alloc, SingleSegmentAllocator::new(region));
-    let found = numbered(is_read_back(alloc, &mut message, root));
+    let found = numbered(is_read_back(rt, &mut message, root));
     let is_null = null_is_read_back(&mut message)?;
     let mut next = Builder::new(alloc, message.into_allocator());
     if is_null && null_is_read_back(&mut next)? {

@@ -109,17 +109,18 @@ fn words_of_the_document(rt: HostRuntime) -> Result<()> {
 }
 
 // A log of two records.
-fn log_of_two(alloc: Global, record: &SegmentArray<'_>) -> Result<Vec<u8>> {
+fn log_of_two(alloc: Global) -> Result<Vec<u8>> {
+    let slices = [[].as_slice(), &FRAMED[16..]];
+    let record = SegmentArray::new(&slices);
     let mut log = Vec::new(alloc);
-    append(alloc, &mut log, record)?;
-    append(alloc, &mut log, record)?;
+    append(alloc, &mut log, &record)?;
+    append(alloc, &mut log, &record)?;
     Ok(log)
 }
 
 #[test]
 fn a_log_that_is_cut(rt: HostRuntime) -> Result<()> {
-    let slices = [[].as_slice(), &FRAMED[16..]];
-    let log = log_of_two(rt.alloc(), &SegmentArray::new(&slices))?;
+    let log = log_of_two(rt.alloc())?;
     assert!(rt; log.len() == 28);
     expect(&rt, "first", &log[..14], PACKED.as_slice());
     expect(&rt, "second", &log[14..], PACKED.as_slice());

@@ -30,6 +30,7 @@ pub fn message_of<'a>(segments: &'a [&'a [u8]], options: ReaderOptions) -> Messa
 }
 
 /// A message whose first segment has room for a given number of words.
-pub fn roomy_message(alloc: Global, words: u32) -> Builder<HeapAllocator> {
-    Builder::new(alloc, HeapAllocator::new(alloc).first_segment_words(words))
+pub fn roomy_message(alloc: Global, words: u16) -> Builder<HeapAllocator> {
+    let heap = HeapAllocator::new(alloc);
+    Builder::new(alloc, heap.first_segment_words(words as u32))
 }

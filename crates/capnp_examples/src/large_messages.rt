@@ -1,5 +1,5 @@
 //! Messages of many words through each call that reads, writes and canonicalizes.
-use crate::fixtures::{Message, expect, message_of, roomy_message};
+use crate::fixtures::{Message, expect, message_of};
 use capnp::message::{
     Builder, DEFAULT_READER_OPTIONS, HeapAllocator, Reader, ReaderSegments, SegmentArray,
 };
@@ -89,16 +89,24 @@ fn packed_million(alloc: Global) -> Result<Vec<u8>> {
     Ok(packed)
 }
 
+// A message whose first segment has room for 2^20 words.
+fn large_message(alloc: Global) -> Builder<HeapAllocator> {
+    Builder::new(
+        alloc,
+        HeapAllocator::new(alloc).first_segment_words(1 << 20),
+    )
+}
+
 // What is built is the segment, and its framed text a word and the segment.
 fn build_and_write(rt: &(impl Abort + AllocGlobal), segment: &[u8]) -> Result<()> {
-    let mut message = roomy_message(rt.alloc(), 1 << 20);
+    let mut message = large_message(rt.alloc());
     set_data(&mut message, segment.get(8..).unwrap_or(&[]))?;
     assert!(rt; !message.is_empty());
     let words = segment.len() / 8;
     expect(rt, "words", message.size_in_words(), words);
     assert!(rt; message.get_segments_for_output().get_segment(1).is_none());
     let text = framed_text(rt.alloc(), segment)?;
-    assert!(rt; written(rt.alloc(), &message)? == text);
+    assert!(rt; written(rt, &message)? == text);
     assert!(rt; serialize::write_message_to_words(rt.alloc(), &message)? == text);
     Ok(())
 }
@@ -107,9 +115,10 @@ fn set_data(message: &mut Builder<HeapAllocator>, bytes: &[u8]) -> Result<()> {
     message.set_root::<data::Owned, &[u8]>(bytes)
 }
 
-fn written(alloc: Global, message: &Builder<HeapAllocator>) -> Result<Vec<u8>> {
-    let mut framed: Vec<u8> = Vec::new(alloc);
-    serialize::write_message(alloc, &mut framed, message)?;
+fn written(rt: &(impl Abort + AllocGlobal), message: &Builder<HeapAllocator>) -> Result<Vec<u8>> {
+    assert!(rt; !message.is_empty());
+    let mut framed: Vec<u8> = Vec::new(rt.alloc());
+    serialize::write_message(rt.alloc(), &mut framed, message)?;
     Ok(framed)
 }
 
@@ -247,10 +256,10 @@ fn stands(message: &Builder<HeapAllocator>, segment: &[u8]) -> bool {
 
 // A root that is set to that of the message, as it stands and in canonical form.
 fn set_from(rt: &(impl Abort + AllocGlobal), reader: &Message<'_>, segment: &[u8]) -> Result<()> {
-    let mut message = roomy_message(rt.alloc(), 1 << 20);
+    let mut message = large_message(rt.alloc());
     message.set_root::<any_pointer::Owned, Source<'_>>(reader.get_root()?)?;
     assert!(rt; stands(&message, segment));
-    let mut message = roomy_message(rt.alloc(), 1 << 20);
+    let mut message = large_message(rt.alloc());
     message.set_root_canonical::<any_pointer::Owned, Source<'_>>(reader.get_root()?)?;
     assert!(rt; stands(&message, segment));
     let reader = message.into_reader();

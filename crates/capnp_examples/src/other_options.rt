@@ -218,15 +218,16 @@ fn packed_texts_that_are_refused(rt: HostRuntime) {
 fn records_within_a_limit(rt: HostRuntime) -> Result<()> {
     let slices = [[].as_slice(), &FRAMED[16..]];
     let record = SegmentArray::new(&slices);
-    let options = limited(Some(1));
+    let mut options = ReaderOptions::new();
+    options.traversal_limit_in_words(Some(1));
     let both = two_records_are_read_back(rt.alloc(), &record, &record, options)?;
     let found = (both.messages.len(), both.end, both.refusal.is_none());
     expect(&rt, "both", found, (2, 28, true));
     Ok(())
 }
 
-fn is_unpacked(alloc: Global, words: &[u8]) -> Result<bool> {
-    Ok(words_are_unpacked(alloc, words)?.as_slice() == words)
+fn is_unpacked(alloc: Global, words: &[u8; 2080]) -> Result<bool> {
+    Ok(words_are_unpacked(alloc, words)?.as_slice() == words.as_slice())
 }
 
 // Words that are all zero, and that have no zero byte: past the 256 of one run.

@@ -5,6 +5,7 @@ use capnp::{Result, any_pointer};
 use capnp_rows::messages::has_segments;
 use capnp_rows::refusals::refusal;
 use capnp_uses::setting::{set_canonical, set_tree, set_tree_and_word};
+use std::alloc::Global;
 use std::process::Abort;
 
 // A struct of two data words, of which the last is zero, and a text, after a far pointer: with the
@@ -50,13 +51,16 @@ enum Way {
 
 const WAYS: [Way; 3] = [Way::AsItStands, Way::WithAWord, Way::Canonical];
 
-fn set(message: &mut Builder<HeapAllocator>, reader: &Message<'_>, way: Way) -> Result<()> {
+// A new message whose root is set.
+fn set(alloc: Global, reader: &Message<'_>, way: Way) -> Result<Builder<HeapAllocator>> {
     let root: Source<'_> = reader.get_root()?;
+    let mut message = Builder::new_default(alloc);
     match way {
-        Way::AsItStands => set_tree(message, root),
-        Way::WithAWord => set_tree_and_word(message, root, 9),
-        Way::Canonical => set_canonical(message, root),
+        Way::AsItStands => set_tree(&mut message, root)?,
+        Way::WithAWord => set_tree_and_word(&mut message, root, 9)?,
+        Way::Canonical => set_canonical(&mut message, root)?,
     }
+    Ok(message)
 }
 
 #[test]
@@ -74,8 +78,7 @@ fn expect_forms(
     forms: &[&[u8]; 3],
 ) -> Result<()> {
     for index in 0..3usize {
-        let mut message = Builder::new_default(rt.alloc());
-        set(&mut message, reader, WAYS[index])?;
+        let message = set(rt.alloc(), reader, WAYS[index])?;
         let stands = has_segments(&message, &[forms[index]]);
         expect(rt, (WAYS[index], forms[index]), stands, true);
     }
@@ -87,8 +90,9 @@ fn expect_forms(
 fn roots_after_a_landing_pad(rt: HostRuntime) -> Result<()> {
     for (segments, forms) in &FORMS[..2] {
         let reader = message_of(segments, ReaderOptions::new());
+        let root: Source<'_> = reader.get_root()?;
         let mut message = roomy_message(rt.alloc(), 1);
-        set(&mut message, &reader, Way::AsItStands)?;
+        set_tree(&mut message, root)?;
         let wanted = [b"\x02\0\0\0\x01\0\0\0".as_slice(), forms[0]];
         expect(&rt, *segments, has_segments(&message, &wanted), true);
     }
@@ -113,8 +117,7 @@ fn roots_past_a_limit(rt: HostRuntime) {
             .nesting_limit(*nesting);
         let reader = message_of(FAR, options);
         for way in &WAYS {
-            let mut message = Builder::new_default(rt.alloc());
-            let found = refusal(set(&mut message, &reader, *way));
+            let found = refusal(set(rt.alloc(), &reader, *way));
             expect(&rt, (*limit, *nesting, *way), found, *wanted);
         }
     }
