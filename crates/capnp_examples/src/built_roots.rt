@@ -154,35 +154,36 @@ fn roots_in_a_region(rt: HostRuntime) -> Result<()> {
         assert!(rt; *length <= 24);
         let region = &mut room[..*length];
         for index in 0..4usize {
-            let found = root_in_a_region(&rt, region, IN_A_REGION[index])?;
-            let wanted = if refusals[index] == 0 {
-                Ok(true)
-            } else {
-                Err(refusals[index])
-            };
-            expect(&rt, (*length, index), found, wanted);
+            let next = (index + 1) % 4;
+            let roots = [IN_A_REGION[index], IN_A_REGION[next]];
+            let found = two_in_a_region(&rt, region, roots)?;
+            let wanted = [told(refusals[index]), told(refusals[next])];
+            expect(&rt, (*length, index), found, (wanted, true));
             expect(&rt, *length, region.iter().all(|byte| *byte == 0), true);
         }
     }
     Ok(())
 }
 
-// Whether a root that is built over a region is read back, or the number of its refusal; then a null
-// root is, there and in the next message over the region.
-fn root_in_a_region(
+// Whether a root is read back, or the number of its refusal.
+type Told = std::result::Result<bool, u8>;
+
+fn told(refusal: u8) -> Told {
+    if refusal == 0 { Ok(true) } else { Err(refusal) }
+}
+
+// What is told of a root that is built over a region, and of one in the next message over it; and
+// whether a null root is read back there then.
+fn two_in_a_region(
     rt: &(impl Abort + AllocGlobal),
     region: &mut [u8],
-    root: Root,
-) -> Result<std::result::Result<bool, u8>> {
+    roots: [Root; 2],
+) -> Result<([Told; 2], bool)> {
     assert!(rt; region.len() <= 24);
     let alloc = rt.alloc();
     let mut message = Builder::new(alloc, SingleSegmentAllocator::new(region));
-    let found = numbered(is_read_back(rt, &mut message, root));
-    let is_null = null_is_read_back(&mut message)?;
+    let first = numbered(is_read_back(rt, &mut message, roots[0]));
     let mut next = Builder::new(alloc, message.into_allocator());
-    if is_null && null_is_read_back(&mut next)? {
-        Ok(found)
-    } else {
-        Ok(Ok(false))
-    }
+    let second = numbered(is_read_back(rt, &mut next, roots[1]));
+    Ok(([first, second], null_is_read_back(&mut next)?))
 }

@@ -52,8 +52,7 @@ enum Way {
 const WAYS: [Way; 3] = [Way::AsItStands, Way::WithAWord, Way::Canonical];
 
 // A new message whose root is set.
-fn set(alloc: Global, reader: &Message<'_>, way: Way) -> Result<Builder<HeapAllocator>> {
-    let root: Source<'_> = reader.get_root()?;
+fn set(alloc: Global, root: Source<'_>, way: Way) -> Result<Builder<HeapAllocator>> {
     let mut message = Builder::new_default(alloc);
     match way {
         Way::AsItStands => set_tree(&mut message, root)?,
@@ -78,7 +77,7 @@ fn expect_forms(
     forms: &[&[u8]; 3],
 ) -> Result<()> {
     for index in 0..3usize {
-        let message = set(rt.alloc(), reader, WAYS[index])?;
+        let message = set(rt.alloc(), reader.get_root()?, WAYS[index])?;
         let stands = has_segments(&message, &[forms[index]]);
         expect(rt, (WAYS[index], forms[index]), stands, true);
     }
@@ -108,8 +107,13 @@ const LIMITS: [(Option<usize>, i32, u8); 5] = [
     (None, 2, 0),
 ];
 
+fn set_refusal(alloc: Global, reader: &Message<'_>, way: Way) -> Result<u8> {
+    let root: Source<'_> = reader.get_root()?;
+    Ok(refusal(set(alloc, root, way)))
+}
+
 #[test]
-fn roots_past_a_limit(rt: HostRuntime) {
+fn roots_past_a_limit(rt: HostRuntime) -> Result<()> {
     for (limit, nesting, wanted) in &LIMITS {
         let mut options = ReaderOptions::new();
         options
@@ -117,8 +121,9 @@ fn roots_past_a_limit(rt: HostRuntime) {
             .nesting_limit(*nesting);
         let reader = message_of(FAR, options);
         for way in &WAYS {
-            let found = refusal(set(rt.alloc(), &reader, *way));
+            let found = set_refusal(rt.alloc(), &reader, *way)?;
             expect(&rt, (*limit, *nesting, *way), found, *wanted);
         }
     }
+    Ok(())
 }
