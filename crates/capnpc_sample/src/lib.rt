@@ -3,5 +3,3 @@
 
 pub mod addressbook_capnp;
 pub mod sample_capnp;
-#[cfg(test)]
-mod tests;

@@ -1,6 +1,6 @@
 //! Messages that are built by the types that are made of `sample.capnp`.
+use crate::read::{EMPTY, FILLED};
 use crate::sample_capnp::{Color, point, sample};
-use crate::tests::{EMPTY, FILLED};
 use capnp::message::{DEFAULT_READER_OPTIONS, Reader, SegmentArray};
 use capnp::serialize;
 use capnp_frame::serialize::OwnedSegments;

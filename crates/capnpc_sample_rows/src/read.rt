@@ -1,9 +1,4 @@
-//! Messages that the C++ tool wrote of `sample.capnp`, read by the types that are made of it, and messages
-//! that these make.
-mod address_book;
-mod builders;
-mod trees;
-
+//! Messages that the C++ tool wrote of `sample.capnp`, read by the types that are made of it.
 use crate::sample_capnp::{Color, LIMIT, get_corner, sample};
 use capnp_constant::OrDefault;
 use capnp_frame::message::{ReaderOptions, SegmentArray};

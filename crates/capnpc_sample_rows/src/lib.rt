@@ -1,0 +1,15 @@
+//! Messages that are read and built by the types that the compiler makes of two small schemas. It holds
+//! tests alone, by the rules of `capnp_rows`.
+#![tactic(auto)]
+
+#[cfg(test)]
+mod address_book;
+#[cfg(test)]
+mod builders;
+#[cfg(test)]
+mod read;
+#[cfg(test)]
+mod trees;
+
+#[cfg(test)]
+use capnpc_sample::{addressbook_capnp, sample_capnp};
