@@ -10,3 +10,4 @@ pub mod ValueLemmas
 pub mod SetterLemmas
 pub mod OneValueLemmas
 pub mod PartWordLemmas
+pub mod ListValueLemmas

@@ -9,4 +9,3 @@ pub mod PutLemmas
 pub mod UsedLemmas
 pub mod BytesLemmas
 pub mod WholeLemmas
-pub mod WordListLemmas

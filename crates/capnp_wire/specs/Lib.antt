@@ -23,5 +23,6 @@ pub mod Block
 pub mod Rows
 pub mod Copy
 pub mod Values
+pub mod ListValues
 pub mod Canonical
 pub mod Tested

@@ -150,13 +150,6 @@ IsTextTree bytes trees = IsBytes (bytes ++ 0 ∷ []) trees
 abbrev pub LongText : List ℕ → ErrorKind → Type 0
 LongText bytes kind = ManyBytes (bytes ++ 0 ∷ []) kind
 
--- a list of words, and how more of them than a list may have are refused
-abbrev pub IsWordList : List ℕ → Trees → Type 0
-IsWordList words trees = (length words < 2 ^ 29) × (trees ≡ tree (numbers 5 words) none none)
-
-abbrev pub ManyWords : List ℕ → ErrorKind → Type 0
-ManyWords words kind = (2 ^ 29 ≤ length words) × (kind ≡ AllocationTooLarge (min (length words) (2 ^ 32 - 1)))
-
 -- a pointer leads to one tree
 one_there : (m : List (List ℕ)) (place : Place) (trees : Trees) (traversed : ℕ) → At m (place ∷ []) trees traversed → count trees ≡ 1
 one_there m place trees traversed (at object inner nowhere) = refl

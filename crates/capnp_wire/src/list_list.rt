@@ -2,7 +2,10 @@
 //! theirs.
 mod reader;
 
-use crate::traits;
+use crate::any_pointer_list;
+use crate::layout::copy::Copied;
+use crate::traits::{self, SetterInput};
+use capnp_frame::Result;
 use capnp_frame::message::ReaderSegments;
 pub use reader::Reader;
 use std::marker::PhantomData;
@@ -14,4 +17,33 @@ pub struct Owned<T> {
 
 impl<'a, S: ReaderSegments + 'a, T: traits::Owned<'a, S>> traits::Owned<'a, S> for Owned<T> {
     type Reader = Reader<'a, S, T::Reader>;
+}
+
+// The list of its pointers with all below them, whatever the elements are.
+impl<'a, S: ReaderSegments + 'a, T: traits::Owned<'a, S>> SetterInput<Owned<T>>
+    for Reader<'a, S, T::Reader> {
+    ghost use Rattle.capnp_wire.specs.ListViews.{pointer_list_of};
+    ghost use Rattle.capnp_wire.specs.ListValues.{IsListTree, StopsInList};
+    ghost use Rattle.capnp_wire.specs.Tree.{count, pointers};
+    ghost use Rattle.std.proofs.Common.{ap};
+
+    ghost has_tree = { λ list trees.
+        IsListTree pointers (pointer_list_of S.segments list.pointers) trees };
+
+    ghost refuses = { λ list kind. StopsInList (pointer_list_of S.segments list.pointers) kind };
+
+    ghost one = { λ value trees is. ap count is.whole };
+
+    fn measure(&self, canonical: bool) -> Result<u32> {
+        SetterInput::<any_pointer_list::Owned>::measure(&self.pointers, canonical)
+    }
+
+    fn is_null(&self) -> bool {
+        false
+    }
+
+    fn write(&self, canonical: bool, block: &mut [u8], following: usize, next: usize) -> Copied {
+        let pointers = &self.pointers;
+        SetterInput::<any_pointer_list::Owned>::write(pointers, canonical, block, following, next)
+    }
 }

@@ -1,6 +1,4 @@
 //! Lists of numbers.
-ghost use Rattle.capnp_wire.specs.Pointer.{words_of};
-
 mod reader;
 
 use crate::layout::copy::Copied;
@@ -21,20 +19,21 @@ impl<'a, S: ReaderSegments, T: PrimitiveElement + 'a> traits::Owned<'a, S> for O
     type Reader = Reader<'a, T>;
 }
 
-// A list of elements of 8 bytes.
-impl<'a> SetterInput<Owned<u64>> for Reader<'a, u64> {
-    ghost use Rattle.capnp_wire.specs.Values.{IsWordList, ManyWords};
+// The list of its numbers.
+impl<'a, T: PrimitiveElement> SetterInput<Owned<T>> for Reader<'a, T> {
+    ghost use Rattle.capnp_wire.specs.NumberViews.{numbers_of};
+    ghost use Rattle.capnp_wire.specs.ListValues.{IsNumbersTree, TooManyNumbers};
     ghost use Rattle.capnp_wire.specs.Tree.{count};
     ghost use Rattle.std.proofs.Common.{ap};
 
-    ghost has_tree = { λ list trees. IsWordList (words_of list.bytes.now) trees };
+    ghost has_tree = { λ list trees. IsNumbersTree T.code (numbers_of T.code list) trees };
 
-    ghost refuses = { λ list kind. ManyWords (words_of list.bytes.now) kind };
+    ghost refuses = { λ list kind. TooManyNumbers T.code (numbers_of T.code list) kind };
 
     ghost one = { λ value trees is. ap count is.1 };
 
     fn measure(&self, _canonical: bool) -> Result<u32> {
-        value::measure_words(self.bytes)
+        value::measure_numbers(T::size(), self.count)
     }
 
     fn is_null(&self) -> bool {
@@ -42,6 +41,6 @@ impl<'a> SetterInput<Owned<u64>> for Reader<'a, u64> {
     }
 
     fn write(&self, _canonical: bool, block: &mut [u8], following: usize, next: usize) -> Copied {
-        value::write_words(self.bytes, block, following, next)
+        value::write_numbers(&self.as_value(), block, following, next)
     }
 }

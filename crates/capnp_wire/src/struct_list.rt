@@ -1,7 +1,11 @@
 //! Lists of structs.
 mod reader;
 
-use crate::traits;
+use crate::layout::copy::Copied;
+use crate::layout::struct_list_value;
+use crate::read_limiter::limit_in_words;
+use crate::traits::{self, SetterInput};
+use capnp_frame::Result;
 use capnp_frame::message::ReaderSegments;
 pub use reader::Reader;
 
@@ -10,4 +14,49 @@ pub struct Owned;
 
 impl<'a, S: ReaderSegments + 'a> traits::Owned<'a, S> for Owned {
     type Reader = Reader<'a, S>;
+}
+
+// The list of its structs with all below them, within the nesting depth left and the traversal limit.
+impl<'a, S: ReaderSegments> SetterInput<Owned> for Reader<'a, S> {
+    ghost use Rattle.capnp_wire.specs.ListViews.{struct_list_of};
+    ghost use Rattle.capnp_wire.specs.ListValues.{IsListTree, StopsInList, pointers_in, structs_of};
+    ghost use Rattle.capnp_wire.specs.Tree.{count};
+    ghost use Rattle.std.proofs.Common.{ap};
+
+    ghost has_tree = { λ list trees.
+        IsListTree (structs_of S.segments list) (pointers_in (struct_list_of S.segments list)) trees };
+
+    ghost refuses = { λ list kind. StopsInList (pointers_in (struct_list_of S.segments list)) kind };
+
+    ghost one = { λ value trees is. ap count is.whole };
+
+    fn measure(&self, canonical: bool) -> Result<u32> {
+        struct_list_value::measure(
+            self.segments,
+            self.segment,
+            self.first,
+            self.elements,
+            self.nesting,
+            limit_in_words(self.limiter),
+            canonical,
+        )
+    }
+
+    fn is_null(&self) -> bool {
+        false
+    }
+
+    fn write(&self, canonical: bool, block: &mut [u8], following: usize, next: usize) -> Copied {
+        struct_list_value::write(
+            self.segments,
+            self.segment,
+            self.first,
+            self.elements,
+            self.nesting,
+            canonical,
+            block,
+            following,
+            next,
+        )
+    }
 }

@@ -62,7 +62,7 @@ fewer_pointers (Structs from b) (Numbers size k) is = absurd is
 fewer_pointers (Structs from b) (Pointers k) is = absurd is
 
 -- as many places as slots
-kept_many : (segment start d p q n : ℕ) → length (kept_places segment start d p q n) ≡ n * q
+pub kept_many : (segment start d p q n : ℕ) → length (kept_places segment start d p q n) ≡ n * q
 kept_many segment start d p q zero = omega arith
 kept_many segment start d p q (suc n) =
     omega (arith, length-append (places segment (start + d) q) (kept_places segment (start + d + p) d p q n), length-places segment (start + d) q, kept_many segment (start + d + p) d p q n)

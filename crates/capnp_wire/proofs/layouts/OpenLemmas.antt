@@ -20,6 +20,8 @@ use Rattle.capnp_wire.specs.Copy.{CanCopy, put_own, list_length, element_count, 
 use Rattle.capnp_wire.specs.Rows.{row_size, kept_in, slots_of, kept_places, row_slots}
 use Rattle.capnp_wire.specs.declared.layout.place.Place.{Place}
 use Rattle.capnp_wire.specs.declared.layout.element.ElementSize.{ElementSize}
+use Rattle.capnp_wire.specs.declared.layout.pointer.Elements.{Elements}
+use Rattle.capnp_wire.specs.declared.layout.pointer.StructSize.{StructSize}
 use Rattle.capnp_wire.specs.declared.layout.object.Body.{Body}
 use Rattle.capnp_wire.specs.declared.layout.object.Body.TheVariants.{Struct, Numbers, Pointers, Structs}
 use Rattle.capnp_wire.proofs.layouts.BlockLemmas.{put_both, length-put, put_none}
@@ -175,50 +177,63 @@ numbers_open m words start n nesting size c next room trees held form_is all fit
       few_elements = omega arith;
     }
 
--- a list of structs
-pub structs_open : (m : List (List ℕ)) (words : List ℕ) (start : Place) (d p e q n following words_kept nesting : ℕ) (c : Bool) (next room : ℕ) (trees kept held : Trees) (traversed : ℕ)
-    → e ≤ d → start.word + 1 + n * (d + p) ≤ length words
-    → formed c trees ≡ tree (structs e q (rows_from words (start.word + 1) e (d + p - e) n)) held none → formed c kept ≡ held
-    → At m (kept_places start.segment (start.word + 1) d p q n) kept traversed
+-- what structs open to that stand one after the other from a word of a segment on: the pointers that are copied, in rows, and what
+-- is left to be put into the block, after a tag
+pub record OpenedRows (m : List (List ℕ)) (words : List ℕ) (segment begin : ℕ) (from size : StructSize) (n nesting : ℕ) (c : Bool) (next room : ℕ) (trees : Trees) : Type 0 where
+  pub kept : CanCopy m (kept_places segment begin from.data_words from.pointers size.pointers n) nesting c (next + (1 + n * (size.data_words + size.pointers))) room
+  pub fills : (block : List ℕ) → length block ≡ room
+      → fill (row_slots (next + 1) size.data_words size.pointers n) (next + (1 + n * (size.data_words + size.pointers))) (formed c kept.trees)
+      (put_rows (next + 1) size.pointers (rows_from words begin size.data_words (from.data_words + from.pointers - size.data_words) n)
+      (put next (struct_pointer n size.data_words size.pointers ∷ []) block))
+      ≡ put next (body (formed c trees)) block
+  pub totals : 1 + n * (size.data_words + size.pointers) + total_words (formed c kept.trees) ≡ total_words (formed c trees)
+  pub pointers_are : (offset : ℕ) → list_pointer offset 7 (n * (size.data_words + size.pointers)) ≡ pointer_to (formed c trees) offset
+  pub few : n * (size.data_words + size.pointers) < 2 ^ 29
+  pub few_elements : n < 2 ^ 30
+
+-- structs
+pub rows_open : (m : List (List ℕ)) (words : List ℕ) (segment begin d p e q n nesting : ℕ) (c : Bool) (next room : ℕ) (trees kept held : Trees) (traversed : ℕ)
+    → e ≤ d → begin + n * (d + p) ≤ length words
+    → formed c trees ≡ tree (structs e q (rows_from words begin e (d + p - e) n)) held none → formed c kept ≡ held
+    → At m (kept_places segment begin d p q n) kept traversed
     → depth kept ≤ nesting → AllHaveRoom kept → AllHaveRoom (formed c trees) → next + total_words (formed c trees) ≤ room
-    → Opened m words start (Structs (record { size = record { data_words = d; pointers = p }; count = n }) following)
-    (Structs (record { size = record { data_words = e; pointers = q }; count = n }) words_kept) nesting c next room trees
-structs_open m words start d p e q n following words_kept nesting c next room trees kept held traversed less there form_is kept_is stand shallow rooms all fits =
-    let rows : List (List ℕ) = rows_from words (start.word + 1) e (d + p - e) n in
-    let form : Form = structs e q (rows_from words (start.word + 1) e (d + p - e) n) in
+    → OpenedRows m words segment begin (record { data_words = d; pointers = p }) (record { data_words = e; pointers = q }) n nesting c next room trees
+rows_open m words segment begin d p e q n nesting c next room trees kept held traversed less there form_is kept_is stand shallow rooms all fits =
+    let rows : List (List ℕ) = rows_from words begin e (d + p - e) n in
+    let form : Form = structs e q (rows_from words begin e (d + p - e) n) in
     let rooms_there : AllHaveRoom (tree form held none) = subst AllHaveRoom form_is all in
-    let rows_long : length (rows_from words (start.word + 1) e (d + p - e) n) ≡ n = length-rows_from words (start.word + 1) e (d + p - e) n in
-    let many : count held ≡ length (rows_from words (start.word + 1) e (d + p - e) n) * q = rooms_there.0.4 in
+    let rows_long : length (rows_from words begin e (d + p - e) n) ≡ n = length-rows_from words begin e (d + p - e) n in
+    let many : count held ≡ length (rows_from words begin e (d + p - e) n) * q = rooms_there.0.4 in
     let size : own_words form (count held) ≡ 1 + n * (e + q) = ap (λ (k : ℕ). 1 + k * (e + q)) rows_long in
     let total_is : total_words (formed c trees) ≡ own_words form (count held) + total_words held = ap total_words form_is ∙ omega arith in
     let kept_total : total_words (formed c kept) ≡ total_words held = ap total_words kept_is in
-    let wide : AllOf e (rows_from words (start.word + 1) e (d + p - e) n) = rows_even e (rows_from words (start.word + 1) e (d + p - e) n) rooms_there.0.5 in
+    let wide : AllOf e (rows_from words begin e (d + p - e) n) = rows_even e (rows_from words begin e (d + p - e) n) rooms_there.0.5 in
     let tag_long : length (struct_pointer n e q ∷ []) ≡ 1 = refl in
-    let slots_are : moved next (row_run 1 e q (rows_from words (start.word + 1) e (d + p - e) n)) ≡ row_slots (next + 1) e q n = moved_rows next 1 e q (rows_from words (start.word + 1) e
+    let slots_are : moved next (row_run 1 e q (rows_from words begin e (d + p - e) n)) ≡ row_slots (next + 1) e q n = moved_rows next 1 e q (rows_from words begin e
     (d + p - e) n) ∙ ap (λ (k : ℕ). row_slots (next + 1) e q k) rows_long in
-    let few_words : length (rows_from words (start.word + 1) e (d + p - e) n) * (e + q) < 2 ^ 29 = rooms_there.0.3 in
-    let few_rows : length (rows_from words (start.word + 1) e (d + p - e) n) < 2 ^ 30 = rooms_there.0.2 in
+    let few_words : length (rows_from words begin e (d + p - e) n) * (e + q) < 2 ^ 29 = rooms_there.0.3 in
+    let few_rows : length (rows_from words begin e (d + p - e) n) < 2 ^ 30 = rooms_there.0.2 in
     record {
       kept = record { trees = kept; traversed = traversed; stand = stand; shallow = shallow; rooms = rooms; fits = omega arith };
       fills = λ block long.
           let tagged : List ℕ = put next (struct_pointer n e q ∷ []) block in
           let tagged_long : length (put next (struct_pointer n e q ∷ []) block) ≡ length block = length-put next (struct_pointer n e q ∷ []) block (omega arith) in
-          let rows_room : next + 1 + length (rows_from words (start.word + 1) e (d + p - e) n) * (e + q) ≤ length (put next (struct_pointer n e q ∷ []) block) = rw rows_long (omega arith) in
-          let w = put_rows_woven (next + 1) e q (rows_from words (start.word + 1) e (d + p - e) n) (put next (struct_pointer n e q ∷ []) block) wide rows_room in
-          let woven_size : length (woven q (rows_from words (start.word + 1) e (d + p - e) n) w.0) ≡ length (rows_from words (start.word + 1) e (d + p - e) n) * (e + q) = length-woven e q
-          (rows_from words (start.word + 1) e (d + p - e) n) w.0 wide w.1 in
-          let woven_room : next + 1 + length (woven q (rows_from words (start.word + 1) e (d + p - e) n) w.0) ≤ length block = rw woven_size (omega arith) in
+          let rows_room : next + 1 + length (rows_from words begin e (d + p - e) n) * (e + q) ≤ length (put next (struct_pointer n e q ∷ []) block) = rw rows_long (omega arith) in
+          let w = put_rows_woven (next + 1) e q (rows_from words begin e (d + p - e) n) (put next (struct_pointer n e q ∷ []) block) wide rows_room in
+          let woven_size : length (woven q (rows_from words begin e (d + p - e) n) w.0) ≡ length (rows_from words begin e (d + p - e) n) * (e + q) = length-woven e q
+          (rows_from words begin e (d + p - e) n) w.0 wide w.1 in
+          let woven_room : next + 1 + length (woven q (rows_from words begin e (d + p - e) n) w.0) ≤ length block = rw woven_size (omega arith) in
           let done = fill_is next form held w.0 block rooms_there.0 rooms_there.1 (w.1 ∙ sym many) (omega arith) in
-          let joined : put_rows (next + 1) q (rows_from words (start.word + 1) e (d + p - e) n) (put next (struct_pointer n e q ∷ []) block) ≡ put next (struct_pointer n e q ∷ woven q
-          (rows_from words (start.word + 1) e (d + p - e) n) w.0) block =
-          w.2 ∙ put_both next (struct_pointer n e q ∷ []) (woven q (rows_from words (start.word + 1) e (d + p - e) n) w.0) block woven_room in
-          let own_is : put next (struct_pointer n e q ∷ woven q (rows_from words (start.word + 1) e (d + p - e) n) w.0) block ≡ put next (own form w.0) block =
-          ap (λ (k : ℕ). put next (struct_pointer k e q ∷ woven q (rows_from words (start.word + 1) e (d + p - e) n) w.0) block) (sym rows_long) in
-          ap (λ (l : List ℕ). fill l (next + (1 + n * (e + q))) (formed c kept) (put_rows (next + 1) q (rows_from words (start.word + 1) e (d + p - e) n) (put next
+          let joined : put_rows (next + 1) q (rows_from words begin e (d + p - e) n) (put next (struct_pointer n e q ∷ []) block) ≡ put next (struct_pointer n e q ∷ woven q
+          (rows_from words begin e (d + p - e) n) w.0) block =
+          w.2 ∙ put_both next (struct_pointer n e q ∷ []) (woven q (rows_from words begin e (d + p - e) n) w.0) block woven_room in
+          let own_is : put next (struct_pointer n e q ∷ woven q (rows_from words begin e (d + p - e) n) w.0) block ≡ put next (own form w.0) block =
+          ap (λ (k : ℕ). put next (struct_pointer k e q ∷ woven q (rows_from words begin e (d + p - e) n) w.0) block) (sym rows_long) in
+          ap (λ (l : List ℕ). fill l (next + (1 + n * (e + q))) (formed c kept) (put_rows (next + 1) q (rows_from words begin e (d + p - e) n) (put next
           (struct_pointer n e q ∷ []) block))) (sym slots_are)
-          ∙ ap (λ (k : ℕ). fill (moved next (slots form (count held))) (next + k) (formed c kept) (put_rows (next + 1) q (rows_from words (start.word + 1) e (d + p - e) n) (put next
+          ∙ ap (λ (k : ℕ). fill (moved next (slots form (count held))) (next + k) (formed c kept) (put_rows (next + 1) q (rows_from words begin e (d + p - e) n) (put next
           (struct_pointer n e q ∷ []) block))) (sym size)
-          ∙ ap (λ (t : Trees). fill (moved next (slots form (count held))) (next + own_words form (count held)) t (put_rows (next + 1) q (rows_from words (start.word + 1) e (d + p - e) n)
+          ∙ ap (λ (t : Trees). fill (moved next (slots form (count held))) (next + own_words form (count held)) t (put_rows (next + 1) q (rows_from words begin e (d + p - e) n)
           (put next (struct_pointer n e q ∷ []) block))) kept_is
           ∙ ap (λ (l : List ℕ). fill (moved next (slots form (count held))) (next + own_words form (count held)) held l) (joined ∙ own_is)
           ∙ done ∙ ap (λ (t : Trees). put next (body t) block) (sym form_is);
@@ -227,3 +242,12 @@ structs_open m words start d p e q n following words_kept nesting c next room tr
       few = subst (λ (k : ℕ). k * (e + q) < 2 ^ 29) rows_long few_words;
       few_elements = subst (λ (k : ℕ). k < 2 ^ 30) rows_long few_rows;
     }
+
+-- as a list of structs does, after its tag
+pub structs_open : (m : List (List ℕ)) (words : List ℕ) (start : Place) (elements kept : Elements) (following words_kept nesting : ℕ) (c : Bool) (next room : ℕ) (trees : Trees)
+    → kept.count ≡ elements.count
+    → OpenedRows m words start.segment (start.word + 1) elements.size kept.size elements.count nesting c next room trees
+    → Opened m words start (Structs elements following) (Structs kept words_kept) nesting c next room trees
+structs_open m words start elements kept following words_kept nesting c next room trees same o =
+    subst (λ (k : ℕ). Opened m words start (Structs elements following) (Structs (record { size = kept.size; count = k }) words_kept) nesting c next room trees) (sym same)
+    (record { kept = o.kept; fills = o.fills; totals = o.totals; pointers_are = o.pointers_are; few = o.few; few_elements = o.few_elements })

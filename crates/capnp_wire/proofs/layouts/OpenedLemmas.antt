@@ -19,9 +19,9 @@ use Rattle.capnp_wire.proofs.trees.StandLemmas.{count_at}
 use Rattle.capnp_wire.proofs.trees.TrimLemmas.{count-trim}
 use Rattle.capnp_wire.proofs.words.UsedLemmas.{most_within}
 use Rattle.capnp_wire.proofs.trees.RoomLemmas.{length-rows_from}
-use Rattle.capnp_wire.proofs.layouts.OpenLemmas.{Opened, under, room_formed, struct_opens, pointers_open, numbers_open, structs_open}
+use Rattle.capnp_wire.proofs.layouts.OpenLemmas.{Opened, OpenedRows, under, room_formed, struct_opens, pointers_open, numbers_open, rows_open, structs_open}
 use Rattle.capnp_wire.proofs.pointers.PointerRowLemmas.{kept_all}
-use Rattle.capnp_wire.proofs.trees.KeptLemmas.{front_stands, kept_stand, long_places, used_where_some, least_data_is, rows_take, least_pointers_is, shallow_first, shallow_narrowed, rooms_first}
+use Rattle.capnp_wire.proofs.trees.KeptLemmas.{front_stands, kept_stand, long_places, used_where_some, least_data_is, rows_take, least_pointers_are, shallow_first, shallow_narrowed, rooms_first}
 use Rattle.capnp_wire.proofs.trees.KeptLemmas.{rooms_narrowed}
 use Rattle.capnp_wire.proofs.trees.FrontLemmas.{trim_first, trim_narrowed, first_cut, count_cut_trim, cut_words}
 
@@ -75,61 +75,60 @@ struct_trimmed m words start size nesting next room trees held inside here whole
     form_is kept_is s.1 (shallow_first nesting (least_size words start.word size 1).pointers held shallow) (rooms_first (least_size words start.word size 1).pointers held rooms) all
     (omega arith) cut_count fits
 
-structs_plain : (m : List (List ℕ)) (words : List ℕ) (start : Place) (elements : Elements) (following nesting next room : ℕ) (trees held : Trees) (inside : ℕ)
-    → trees ≡ tree (structs elements.size.data_words elements.size.pointers (rows_from words (start.word + 1) elements.size.data_words elements.size.pointers elements.count)) held none
-    → At m (row_places start.segment (start.word + 1) elements.size.data_words elements.size.pointers elements.count) held inside
-    → depth held ≤ nesting → AllHaveRoom held → AllHaveRoom trees → start.word + 1 + elements.count * (elements.size.data_words + elements.size.pointers) ≤ length words → next + total_words trees ≤ room
-    → Opened m words start (Structs elements following) (Structs elements following) nesting false next room trees
-structs_plain m words start elements following nesting next room trees held inside whole stand shallow rooms all there fits =
+pub rows_plain : (m : List (List ℕ)) (words : List ℕ) (segment begin : ℕ) (elements : Elements) (nesting next room : ℕ) (trees held : Trees) (inside : ℕ)
+    → trees ≡ tree (structs elements.size.data_words elements.size.pointers (rows_from words begin elements.size.data_words elements.size.pointers elements.count)) held none
+    → At m (row_places segment begin elements.size.data_words elements.size.pointers elements.count) held inside
+    → depth held ≤ nesting → AllHaveRoom held → AllHaveRoom trees → begin + elements.count * (elements.size.data_words + elements.size.pointers) ≤ length words → next + total_words trees ≤ room
+    → OpenedRows m words segment begin elements.size elements.size elements.count nesting false next room trees
+rows_plain m words segment begin elements nesting next room trees held inside whole stand shallow rooms all there fits =
     let d : ℕ = elements.size.data_words in
     let p : ℕ = elements.size.pointers in
     let skip : elements.size.pointers ≡ elements.size.data_words + elements.size.pointers - elements.size.data_words = omega arith in
-    let form_is : trees ≡ tree (structs elements.size.data_words elements.size.pointers (rows_from words (start.word + 1) elements.size.data_words
+    let form_is : trees ≡ tree (structs elements.size.data_words elements.size.pointers (rows_from words begin elements.size.data_words
     (elements.size.data_words + elements.size.pointers - elements.size.data_words) elements.count)) held none =
-    whole ∙ ap (λ (k : ℕ). tree (structs elements.size.data_words elements.size.pointers (rows_from words (start.word + 1) elements.size.data_words k elements.count)) held none) skip in
-    structs_open m words start elements.size.data_words elements.size.pointers elements.size.data_words elements.size.pointers elements.count following following nesting false next room trees held held inside
-    (omega arith) there form_is refl (subst (λ (l : List Place). At m l held inside) (kept_all start.segment
-    (start.word + 1) elements.size.data_words elements.size.pointers elements.count) stand) shallow rooms all fits
+    whole ∙ ap (λ (k : ℕ). tree (structs elements.size.data_words elements.size.pointers (rows_from words begin elements.size.data_words k elements.count)) held none) skip in
+    rows_open m words segment begin elements.size.data_words elements.size.pointers elements.size.data_words elements.size.pointers elements.count nesting false next room trees held held inside
+    (omega arith) there form_is refl (subst (λ (l : List Place). At m l held inside) (kept_all segment
+    begin elements.size.data_words elements.size.pointers elements.count) stand) shallow rooms all fits
 
-structs_trimmed : (m : List (List ℕ)) (words : List ℕ) (start : Place) (elements : Elements) (following nesting next room : ℕ) (trees held : Trees) (inside : ℕ)
-    → slice_get m start.segment ≡ Some words
-    → trees ≡ tree (structs elements.size.data_words elements.size.pointers (rows_from words (start.word + 1) elements.size.data_words elements.size.pointers elements.count)) held none
-    → At m (row_places start.segment (start.word + 1) elements.size.data_words elements.size.pointers elements.count) held inside
-    → depth held ≤ nesting → AllHaveRoom held → AllHaveRoom (trim trees) → start.word + 1 + elements.count * (elements.size.data_words + elements.size.pointers) ≤ length words
+pub rows_trimmed : (m : List (List ℕ)) (words : List ℕ) (segment begin : ℕ) (elements : Elements) (nesting next room : ℕ) (trees held : Trees) (inside : ℕ)
+    → (0 < elements.size.pointers → slice_get m segment ≡ Some words)
+    → trees ≡ tree (structs elements.size.data_words elements.size.pointers (rows_from words begin elements.size.data_words elements.size.pointers elements.count)) held none
+    → At m (row_places segment begin elements.size.data_words elements.size.pointers elements.count) held inside
+    → depth held ≤ nesting → AllHaveRoom held → AllHaveRoom (trim trees) → begin + elements.count * (elements.size.data_words + elements.size.pointers) ≤ length words
     → next + total_words (trim trees) ≤ room
-    → Opened m words start (Structs elements following) (Structs (record { size = least_size words (start.word + 1) elements.size elements.count; count = elements.count }) following)
-    nesting true next room trees
-structs_trimmed m words start elements following nesting next room trees held inside here whole stand shallow rooms all there fits =
+    → OpenedRows m words segment begin elements.size (least_size words begin elements.size elements.count) elements.count nesting true next room trees
+rows_trimmed m words segment begin elements nesting next room trees held inside here whole stand shallow rooms all there fits =
     let d : ℕ = elements.size.data_words in
     let p : ℕ = elements.size.pointers in
     let n : ℕ = elements.count in
-    let least : StructSize = least_size words (start.word + 1) elements.size elements.count in
-    let rows : List (List ℕ) = rows_from words (start.word + 1) elements.size.data_words elements.size.pointers elements.count in
-    let long : length (rows_from words (start.word + 1) elements.size.data_words elements.size.pointers elements.count) ≡ elements.count = length-rows_from words
-    (start.word + 1) elements.size.data_words elements.size.pointers elements.count in
-    let less : (least_size words (start.word + 1) elements.size elements.count).data_words ≤ elements.size.data_words = most_within_rows words (start.word + 1) elements.size.data_words
+    let least : StructSize = least_size words begin elements.size elements.count in
+    let rows : List (List ℕ) = rows_from words begin elements.size.data_words elements.size.pointers elements.count in
+    let long : length (rows_from words begin elements.size.data_words elements.size.pointers elements.count) ≡ elements.count = length-rows_from words
+    begin elements.size.data_words elements.size.pointers elements.count in
+    let less : (least_size words begin elements.size elements.count).data_words ≤ elements.size.data_words = most_within_rows words begin elements.size.data_words
     (elements.size.data_words + elements.size.pointers) elements.count in
-    let fewer : (least_size words (start.word + 1) elements.size elements.count).pointers ≤ elements.size.pointers = most_within_rows words
-    (start.word + 1 + elements.size.data_words) elements.size.pointers (elements.size.data_words + elements.size.pointers) elements.count in
-    let stand_long : At m (row_places start.segment (start.word + 1) d p (length rows)) held inside = subst (λ (k : ℕ). At m (row_places start.segment (start.word + 1) d p k) held inside)
+    let fewer : (least_size words begin elements.size elements.count).pointers ≤ elements.size.pointers = most_within_rows words
+    (begin + elements.size.data_words) elements.size.pointers (elements.size.data_words + elements.size.pointers) elements.count in
+    let stand_long : At m (row_places segment begin d p (length rows)) held inside = subst (λ (k : ℕ). At m (row_places segment begin d p k) held inside)
     (sym long) stand in
-    let data_is : least_data rows ≡ least.data_words = least_data_is words (start.word + 1) d p n in
+    let data_is : least_data rows ≡ least.data_words = least_data_is words begin d p n in
     let pointers_is : least_pointers p rows (trim held) ≡ least.pointers =
-    least_pointers_is m words start.segment (start.word + 1) d p rows held inside here stand_long ∙ ap (most_used words (start.word + 1 + d) p (d + p)) long in
-    let rows_are : map (take (least_data rows)) rows ≡ rows_from words (start.word + 1) least.data_words (d + p - least.data_words) n =
-    ap (λ (k : ℕ). map (take k) rows) data_is ∙ rows_take words (start.word + 1) d p least.data_words n less in
+    least_pointers_are m words segment begin d p rows held inside here stand_long ∙ ap (most_used words (begin + d) p (d + p)) long in
+    let rows_are : map (take (least_data rows)) rows ≡ rows_from words begin least.data_words (d + p - least.data_words) n =
+    ap (λ (k : ℕ). map (take k) rows) data_is ∙ rows_take words begin d p least.data_words n less in
     let kept_is : trim (narrowed least.pointers p rows held) ≡ narrowed (least_pointers p rows (trim held)) p rows (trim held) =
     trim_narrowed least.pointers p rows held ∙ ap (λ (k : ℕ). narrowed k p rows (trim held)) (sym pointers_is) in
-    let form_is : trim trees ≡ tree (structs least.data_words least.pointers (rows_from words (start.word + 1) least.data_words (d + p - least.data_words) n)) (narrowed (least_pointers p rows
+    let form_is : trim trees ≡ tree (structs least.data_words least.pointers (rows_from words begin least.data_words (d + p - least.data_words) n)) (narrowed (least_pointers p rows
     (trim held)) p rows (trim held)) none =
     ap trim whole
     ∙ ap (λ (k : ℕ). tree (structs k (least_pointers p rows (trim held)) (map (take (least_data rows)) rows)) (narrowed (least_pointers p rows (trim held)) p rows (trim held)) none) data_is
     ∙ ap (λ (k : ℕ). tree (structs least.data_words k (map (take (least_data rows)) rows)) (narrowed (least_pointers p rows (trim held)) p rows (trim held)) none) pointers_is
     ∙ ap (λ (l : List (List ℕ)). tree (structs least.data_words least.pointers l) (narrowed (least_pointers p rows (trim held)) p rows (trim held)) none) rows_are in
-    let s = kept_stand m start.segment (start.word + 1) d p least.pointers rows held inside fewer stand_long in
-    let s_there : At m (kept_places start.segment (start.word + 1) d p least.pointers n) (narrowed least.pointers p rows held) s.0 =
-    subst (λ (k : ℕ). At m (kept_places start.segment (start.word + 1) d p least.pointers k) (narrowed least.pointers p rows held) s.0) long s.1 in
-    structs_open m words start d p least.data_words least.pointers n following following nesting true next room trees (narrowed least.pointers p rows held)
+    let s = kept_stand m segment begin d p least.pointers rows held inside fewer stand_long in
+    let s_there : At m (kept_places segment begin d p least.pointers n) (narrowed least.pointers p rows held) s.0 =
+    subst (λ (k : ℕ). At m (kept_places segment begin d p least.pointers k) (narrowed least.pointers p rows held) s.0) long s.1 in
+    rows_open m words segment begin d p least.data_words least.pointers n nesting true next room trees (narrowed least.pointers p rows held)
     (narrowed (least_pointers p rows (trim held)) p rows (trim held)) s.0 less there form_is kept_is s_there
     (shallow_narrowed nesting least.pointers p rows held shallow) (rooms_narrowed least.pointers p rows held rooms) all fits
 
@@ -158,11 +157,13 @@ open_body m words start (Pointers n) nesting true next room trees held inside he
     (under_rooms _ held trees whole rooms) (room_formed true trees rooms)
     (count-trim held ∙ count_at m (places start.segment start.word n) held inside stand ∙ long_places start.segment start.word n) fits
 open_body m words start (Structs elements following) nesting false next room trees held inside here whole stand shallow rooms fits_there inner fits =
-    structs_plain m words start elements following (nesting - 1) next room trees held inside whole stand (under_depth nesting _ held trees whole refl shallow)
-    (under_rooms _ held trees whole rooms) rooms (omega arith) fits
+    structs_open m words start elements elements following following (nesting - 1) false next room trees refl
+    (rows_plain m words start.segment (start.word + 1) elements (nesting - 1) next room trees held inside whole stand (under_depth nesting _ held trees whole refl shallow)
+    (under_rooms _ held trees whole rooms) rooms (omega arith) fits)
 open_body m words start (Structs elements following) nesting true next room trees held inside here whole stand shallow rooms fits_there inner fits =
-    structs_trimmed m words start elements following (nesting - 1) next room trees held inside here whole stand (under_depth nesting _ held trees whole refl shallow)
-    (under_rooms _ held trees whole rooms) (room_formed true trees rooms) (omega arith) fits
+    structs_open m words start elements (record { size = least_size words (start.word + 1) elements.size elements.count; count = elements.count }) following following (nesting - 1) true next room trees refl
+    (rows_trimmed m words start.segment (start.word + 1) elements (nesting - 1) next room trees held inside (λ some. here) whole stand (under_depth nesting _ held trees whole refl shallow)
+    (under_rooms _ held trees whole rooms) (room_formed true trees rooms) (omega arith) fits)
 
 pub opened : (m : List (List ℕ)) (words : List ℕ) (place start : Place) (there : Body) (traversed nesting : ℕ) (c : Bool) (next room : ℕ) (can : CanCopy m (place ∷ []) nesting c next room)
     → slice_get m start.segment ≡ Some words → PointsTo m place (record (shape_of words start there) { traversed = traversed })

@@ -139,7 +139,7 @@ rows_take words start d p e (suc n) le =
     ap (λ (l : List ℕ). l ∷ map (take e) (rows_from words (start + d + p) d p n)) one
     ∙ ap (λ (l : List (List ℕ)). words_from words start e ∷ l) (rows_take words (start + d + p) d p e n le ∙ ap (λ (s : ℕ). rows_from words s e (d + p - e) n) on)
 
-pub least_pointers_is : (m : List (List ℕ)) (words : List ℕ) (segment start d p : ℕ) (rows : List (List ℕ)) (t : Trees) (traversed : ℕ) → slice_get m segment ≡ Some words
+least_pointers_is : (m : List (List ℕ)) (words : List ℕ) (segment start d p : ℕ) (rows : List (List ℕ)) (t : Trees) (traversed : ℕ) → slice_get m segment ≡ Some words
     → At m (row_places segment start d p (length rows)) t traversed → least_pointers p rows (trim t) ≡ most_used words (start + d) p (d + p) (length rows)
 least_pointers_is m words segment start d p [] t traversed there stand = refl
 least_pointers_is m words segment start d p (row ∷ rows) t traversed there stand =
@@ -150,6 +150,16 @@ least_pointers_is m words segment start d p (row ∷ rows) t traversed there sta
     ap (least_pointers p rows) (sym (trim_after p t)) ∙ least_pointers_is m words segment (start + d + p) d p rows (following p t) h.two there h.back in
     let on : start + d + p + d ≡ start + d + (d + p) = omega arith in
     rw (one, rest, on) refl
+
+no_pointers_used : (words : List ℕ) (start step : ℕ) (rows : List (List ℕ)) (t : Trees) → least_pointers 0 rows t ≡ most_used words start 0 step (length rows)
+no_pointers_used words start step [] t = refl
+no_pointers_used words start step (row ∷ rows) t = ap (λ (k : ℕ). max 0 k) (no_pointers_used words (start + step) step rows t)
+
+-- also where there are none, wherever they would stand
+pub least_pointers_are : (m : List (List ℕ)) (words : List ℕ) (segment start d p : ℕ) (rows : List (List ℕ)) (t : Trees) (traversed : ℕ) → (0 < p → slice_get m segment ≡ Some words)
+    → At m (row_places segment start d p (length rows)) t traversed → least_pointers p rows (trim t) ≡ most_used words (start + d) p (d + p) (length rows)
+least_pointers_are m words segment start d zero rows t traversed there stand = no_pointers_used words (start + d) (d + 0) rows (trim t)
+least_pointers_are m words segment start d (suc p) rows t traversed there stand = least_pointers_is m words segment start d (suc p) rows t traversed (there (omega arith)) stand
 
 -- depth and room of what is kept
 abbrev Shallow : ℕ → Form → Trees → Type 0

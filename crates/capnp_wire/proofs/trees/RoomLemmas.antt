@@ -46,7 +46,7 @@ digits_below base (suc n) x positive = All-cons (λ d. d < base) (x % base) (dig
 pub words_below : (words : List ℕ) (start n : ℕ) → All (λ w. w < 2 ^ 64) words → All (λ w. w < 2 ^ 64) (words_from words start n)
 words_below words start n all = All-take (λ w. w < 2 ^ 64) n (drop start words) (All-drop (λ w. w < 2 ^ 64) start words all)
 
-rows_below : (words : List ℕ) (start d p n : ℕ) → start + n * (d + p) ≤ length words → All (λ w. w < 2 ^ 64) words
+pub rows_below : (words : List ℕ) (start d p n : ℕ) → start + n * (d + p) ≤ length words → All (λ w. w < 2 ^ 64) words
     → All (λ row. (length row ≡ d) × All (λ w. w < 2 ^ 64) row) (rows_from words start d p n)
 rows_below words start d p zero room all = All-nil (λ row. (length row ≡ d) × All (λ w. w < 2 ^ 64) row)
 rows_below words start d p (suc n) room all =

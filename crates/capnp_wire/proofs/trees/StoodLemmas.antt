@@ -18,7 +18,7 @@ use Rattle.capnp_wire.specs.declared.layout.object.Object.{Object as ReadObject}
 use Rattle.capnp_wire.proofs.words.WordLemmas.{length-words_of}
 use Rattle.capnp_wire.proofs.trees.StandLemmas.{at_both, depth_both, one_deeper, count_at}
 use Rattle.capnp_wire.proofs.trees.ChunkLemmas.{cut-first, count-following, total-before, total-chunks}
-use Rattle.capnp_wire.proofs.trees.KeptLemmas.{rooms_first, rooms_after, used_where_some, least_data_is, least_pointers_is, long_places}
+use Rattle.capnp_wire.proofs.trees.KeptLemmas.{rooms_first, rooms_after, used_where_some, least_data_is, least_pointers_are, long_places}
 use Rattle.capnp_wire.proofs.trees.FrontLemmas.{trim_before, count_cut_trim}
 use Rattle.capnp_wire.proofs.trees.RoomLemmas.{length-rows_from, length-row_places}
 use Rattle.capnp_wire.proofs.trees.TrimLemmas.{count-trim, room_trim}
@@ -109,7 +109,7 @@ struct_total m words segment start d p held inside there stand rooms =
     let q_is : count (cut_nulls (trim held)) ≡ length (cut_zeros (words_from words (start + d) p)) = count_cut_trim held ∙ used_where_some m words segment (start + d) p held inside there stand in
     omega (arith, q_is, total_cut (trim held) rooms)
 
-structs_total : (m : List (List ℕ)) (words : List ℕ) (segment start d p n : ℕ) (held : Trees) (inside : ℕ) → slice_get m segment ≡ Some words → At m (row_places segment start d p n) held inside
+pub structs_total : (m : List (List ℕ)) (words : List ℕ) (segment start d p n : ℕ) (held : Trees) (inside : ℕ) → (0 < p → slice_get m segment ≡ Some words) → At m (row_places segment start d p n) held inside
     → AllHaveRoom (trim held)
     → 1 + n * (most_used words start d (d + p) n + most_used words (start + d) p (d + p) n) + total_words (trim held) ≡ total_words (trim (tree (structs d p (rows_from words start d p n)) held none))
 structs_total m words segment start d p n held inside there stand rooms =
@@ -118,7 +118,7 @@ structs_total m words segment start d p n held inside there stand rooms =
     let stand_long : At m (row_places segment start d p (length (rows_from words start d p n))) held inside = subst (λ (k : ℕ). At m (row_places segment start d p k) held inside) (sym long) stand in
     let data_is : least_data (rows_from words start d p n) ≡ most_used words start d (d + p) n = least_data_is words start d p n in
     let pointers_is : least_pointers p (rows_from words start d p n) (trim held) ≡ most_used words (start + d) p (d + p) n =
-    least_pointers_is m words segment start d p (rows_from words start d p n) held inside there stand_long ∙ ap (most_used words (start + d) p (d + p)) long in
+    least_pointers_are m words segment start d p (rows_from words start d p n) held inside there stand_long ∙ ap (most_used words (start + d) p (d + p)) long in
     let rows_long : length (map (take (least_data (rows_from words start d p n))) (rows_from words start d p n)) ≡ n = length-map (rows_from words start d p n) (take (least_data
     (rows_from words start d p n))) ∙ long in
     let many : count (trim held) ≡ length (rows_from words start d p n) * p =
@@ -145,7 +145,7 @@ body_total m words start (Pointers n) true held inside here room stand rooms =
     let many : count (trim held) ≡ n = count-trim held ∙ count_at m (places start.segment start.word n) held inside stand ∙ long_places start.segment start.word n in
     omega (arith, many)
 body_total m words start (Structs elements following) true held inside here room stand rooms =
-    structs_total m words start.segment (start.word + 1) elements.size.data_words elements.size.pointers elements.count held inside here stand rooms
+    structs_total m words start.segment (start.word + 1) elements.size.data_words elements.size.pointers elements.count held inside (λ some. here) stand rooms
 
 pub own_formed : (m : List (List ℕ)) (object : ReadObject) (place : Place) (c : Bool) → IsObject m place object
     → OwnOf m c (record (shape_of (words_of object.segment.now) object.start object.body) { traversed = object.traversed }) (words_in (formed_body c

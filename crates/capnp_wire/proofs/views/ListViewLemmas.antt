@@ -1,21 +1,27 @@
 -- What views show of lists of structs and of pointers, and when they are refused.
-use Rattle.std.proofs.Common.{◌≡◌, ℕ, ◌+◌, ◌*◌, ◌/◌, ◌≤◌, List, length, refl, sym, ap, subst, arith}
+use Rattle.std.proofs.Common.{◌≡◌, ℕ, ◌+◌, ◌*◌, ◌/◌, ◌^◌, ◌<◌, ◌≤◌, List, length, refl, sym, ap, subst, arith}
 use Rattle.capnp_frame.specs.declared.error.ErrorKind.{ErrorKind}
 use Rattle.capnp_frame.specs.declared.error.ErrorKind.TheVariants.{WrongPointerKind}
-use Rattle.capnp_wire.specs.Pointer.{words_of}
+use Rattle.capnp_wire.specs.Pointer.{number_of, words_of, words_from}
+use Rattle.capnp_wire.specs.Element.{code_of, width, words_for}
+use Rattle.capnp_wire.specs.Layout.{HasRoom}
 use Rattle.capnp_wire.specs.Tree.{Form, null, struct, numbers, pointers, structs}
 use Rattle.capnp_wire.specs.Object.{places, row_places, rows_from}
 use Rattle.capnp_wire.specs.Traversed.{Within}
-use Rattle.capnp_wire.specs.Landing.{shape_of, words_in}
+use Rattle.capnp_wire.specs.Landing.{shape_of, room_of, words_in}
 use Rattle.capnp_wire.specs.Views.{Pointer, at_place, Shows, Accepts, Reads, TakesNumbers}
 use Rattle.capnp_wire.specs.NumberViews.{IsNumbers}
 use Rattle.capnp_wire.specs.Readers.{IsEntered, form_of}
 use Rattle.capnp_wire.specs.ListViews.{StructList, PointerList, HasRows, IsStructList, IsPointerList, TakesStructs, TakesPointers, DeclinesStructs, DeclinesPointers, structs_in}
 use Rattle.capnp_wire.specs.declared.layout.place.Place.{Place}
+use Rattle.capnp_wire.specs.declared.layout.element.ElementSize.{ElementSize}
 use Rattle.capnp_wire.specs.declared.layout.object.Body.{Body}
 use Rattle.capnp_wire.specs.declared.layout.object.Body.TheVariants.{Struct, Numbers, Pointers, Structs}
 use Rattle.capnp_wire.specs.declared.layout.pointer.Elements.{Elements}
 use Rattle.capnp_wire.specs.declared.layout.object.Object.{Object as ReadObject}
+use Rattle.capnp_wire.proofs.words.DigitLemmas.{length-digits}
+use Rattle.capnp_wire.proofs.objects.FieldLemmas.{length-places}
+use Rattle.capnp_wire.proofs.trees.RoomLemmas.{length-rows_from}
 use Rattle.capnp_wire.proofs.views.ViewLemmas.{Decides, wrong_kind_once, wrong_kind_unlimited}
 
 pub structs_decide : Decides TakesStructs DeclinesStructs
@@ -123,3 +129,37 @@ numbers_taken (structs d p rows) code values t = t
 
 pub numbers_accepted : (p : Pointer) (code : ℕ) (values : List ℕ) → Reads p (λ form. IsNumbers code form values) → Accepts p (TakesNumbers code)
 numbers_accepted p code values read = (read.0, read.1, numbers_taken read.0.form code values read.2.0)
+
+-- a list that was entered has no more elements, and of structs no more words, than a pointer tells
+room_entered : (p : Pointer) (object : ReadObject) (body : Body) → IsEntered p object → object.body ≡ body
+    → let shape = shape_of (words_of object.segment.now) object.start body in HasRoom shape.form (length shape.held)
+room_entered p object body entered is =
+    subst (λ (b : Body). let shape = shape_of (words_of object.segment.now) object.start b in HasRoom shape.form (length shape.held)) is entered.object_is.has_room
+
+pub few_structs : (p : Pointer) (object : ReadObject) (elements : Elements) (following : ℕ) → IsEntered p object → object.body ≡ Structs elements following
+    → (elements.count < 2 ^ 30) × (elements.count * (elements.size.data_words + elements.size.pointers) < 2 ^ 29)
+few_structs p object elements following entered body =
+    let size = elements.size in
+    let room = room_entered p object (Structs elements following) entered body in
+    let long = length-rows_from (words_of object.segment.now) (object.start.word + 1) size.data_words size.pointers elements.count in (
+      subst (λ (k : ℕ). k < 2 ^ 30) long room.2,
+      subst (λ (k : ℕ). k * (size.data_words + size.pointers) < 2 ^ 29) long room.3,
+    )
+
+pub few_pointers : (p : Pointer) (object : ReadObject) (n : ℕ) → IsEntered p object → object.body ≡ Pointers n → n < 2 ^ 29
+few_pointers p object n entered body =
+    let room = room_entered p object (Pointers n) entered body in omega (arith, room, length-places object.start.segment object.start.word n)
+
+pub few_numbers : (p : Pointer) (object : ReadObject) (size : ElementSize) (n : ℕ) → IsEntered p object → object.body ≡ Numbers size n → n < 2 ^ 29
+few_numbers p object size n entered body =
+    let code = code_of size in
+    let room = room_entered p object (Numbers size n) entered body in
+    let long = length-digits (2 ^ width code) n (number_of (2 ^ 64) (words_from (words_of object.segment.now) object.start.word (words_for n (width code)))) in
+    subst (λ (k : ℕ). k < 2 ^ 29) long room.1
+
+-- and its pointers lie within its segment
+pub pointers_within : (p : Pointer) (object : ReadObject) (n : ℕ) → IsEntered p object → object.body ≡ Pointers n → length object.segment.now < 2 ^ 64 → object.start.word + n < 2 ^ 61
+pointers_within p object n entered body small =
+    let room = entered.object_is.room in
+    let all : room_of object.body ≡ n = ap room_of body in
+    omega (arith, room, all)

@@ -4,7 +4,7 @@ ghost use Rattle.std.specs.Prelude.{MatchResult};
 use crate::any_object::Numbers;
 use crate::any_struct::StructReader;
 use crate::entered::words_at;
-use crate::layout::object::{Body, Object};
+use crate::layout::object::{Body, Object, words_fit};
 use crate::traits::FromPointerReader;
 use crate::{any_pointer, any_pointer_list, struct_list};
 use capnp_frame::Result;
@@ -60,13 +60,16 @@ impl<'a, S: ReaderSegments> Reader<'a, S> {
             Body::Structs(elements, _) => {
                 Reader::Structs(struct_list::Reader::within(reader, object, 1, elements))
             }
-            Body::Pointers(count) => Reader::Pointers(any_pointer_list::Reader {
-                segments: reader.segments,
-                limiter: reader.limiter,
-                first: object.start,
-                count,
-                nesting,
-            }),
+            Body::Pointers(count) => {
+                words_fit(object.segment);
+                Reader::Pointers(any_pointer_list::Reader {
+                    segments: reader.segments,
+                    limiter: reader.limiter,
+                    first: object.start,
+                    count,
+                    nesting,
+                })
+            }
             Body::Numbers(size, count) => Reader::Numbers(Numbers {
                 bytes: words_at(object.segment, object.start.word, size, count),
                 size,

@@ -3,6 +3,7 @@ ghost use Rattle.std.specs.Prelude.{◌≡◌, ◌+◌, ◌^◌, ◌<◌, length
 
 use crate::any_pointer;
 use crate::entered::wrong_kind;
+use crate::layout::object::words_fit;
 use crate::layout::place::Place;
 use crate::read_limiter::ReadLimiter;
 use crate::traits::FromPointerReader;
@@ -18,7 +19,8 @@ pub struct Reader<'a, S> {
     pub(crate) first: Place,
     pub(crate) count: u32,
     pub(crate) nesting: u32,
-    ghost bound: { first.word + count < 2 ^ 64 },
+    ghost bound: { first.word + count < 2 ^ 61 },
+    ghost few: { count < 2 ^ 29 },
 }
 
 impl<'a, S: ReaderSegments> Reader<'a, S> {
@@ -75,6 +77,7 @@ impl<'a, S: ReaderSegments> Reader<'a, S> {
         let Some(count) = object.body.as_pointers() else {
             return Err(wrong_kind());
         };
+        words_fit(object.segment);
         Ok(Reader {
             segments,
             limiter,

@@ -72,11 +72,11 @@ pub(crate) fn copy_pointers<S: ReaderSegments, T: BlockItem>(
     )
 }
 
-// Copies what these pointers of a segment lead to, one after the other from the word `next` on, and
-// puts the pointers to these copies into their slots. Returns the first free word.
+/// Copies what these pointers of a segment lead to, one after the other from the word `next` on, and
+/// puts the pointers to these copies into their slots. Returns the first free word.
 #[inline(always)]
 #[cycle(copy)]
-fn copy_rows<S: ReaderSegments, T: BlockItem>(
+pub(crate) fn copy_rows<S: ReaderSegments, T: BlockItem>(
     segments: &S,
     segment: &[u8],
     mut rows: RowPair,

@@ -76,8 +76,8 @@ pub(crate) fn put_own_words<T: BlockItem>(
     }
 }
 
-// Puts the data of structs into a block, each before the room for its pointers.
-fn put_rows<T: BlockItem>(
+/// Puts the data of structs into a block, each before the room for its pointers.
+pub(crate) fn put_rows<T: BlockItem>(
     block: &mut [T],
     next: usize,
     elements: Elements,

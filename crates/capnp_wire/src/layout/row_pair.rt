@@ -1,13 +1,14 @@
 //! The pointers of an object beside those of its copy.
-ghost use Rattle.std.specs.Prelude.{◌≡◌, ◌≢◌, ◌↔◌, ◌+◌, ◌/◌, ◌^◌, ◌<◌, ◌≤◌, [], length, IsTrue};
+ghost use Rattle.std.specs.Prelude.{◌≡◌, ◌≢◌, ◌↔◌, ◌+◌, ◌*◌, ◌/◌, ◌^◌, ◌<◌, ◌≤◌, [], length, IsTrue};
 ghost use Rattle.capnp_wire.specs.Object.{places};
 ghost use Rattle.capnp_wire.specs.Landing.{room_of, words_in};
 ghost use Rattle.capnp_wire.specs.Layout.{run};
-ghost use Rattle.capnp_wire.specs.Rows.{row_size, kept_in, slots_of, places_in};
+ghost use Rattle.capnp_wire.specs.Rows.{row_size, kept_in, kept_places, row_slots, slots_of, places_in};
 ghost use Rattle.capnp_wire.specs.Copy.{IsNarrower, ArePaired, TakesPair};
 
 use crate::layout::object::{Body, Object, words_fit};
 use crate::layout::place::Place;
+use crate::layout::pointer::{Elements, StructSize};
 use crate::layout::rows::PointerRows;
 
 /// The pointers that are left to copy, and the slots of their copies.
@@ -55,6 +56,29 @@ impl RowPair {
         };
         let from = PointerRows::run(first, count);
         let to = PointerRows::run(begin, count);
+        RowPair { from, to }
+    }
+
+    /// The pointers that copies of structs keep: those of structs of a size that begin at a place, and
+    /// their slots in the copies, which begin at a word of a block.
+    #[inline(always)]
+    pub(crate) fn elements(first: Place, size: StructSize, kept: Elements, slots: usize) -> RowPair
+        requires pointers { kept.size.pointers ≤ size.pointers }
+        requires there { first.word + kept.count * (size.data_words + size.pointers) < 2 ^ 61 }
+        requires room { slots + kept.count * (kept.size.data_words + kept.size.pointers) < 2 ^ 61 }
+        ensures { let to = kept.size in
+            ArePaired result (kept_places first.segment first.word
+            size.data_words size.pointers to.pointers kept.count)
+            first.segment (row_slots slots to.data_words to.pointers kept.count)
+            (slots + kept.count * (to.data_words + to.pointers)) }
+    {
+        let begin = Place {
+            segment: 0,
+            word: slots,
+        };
+        let rows = kept.size.row_size();
+        let from = PointerRows::new(first, size.row_size(), rows.pointers, kept.count);
+        let to = PointerRows::new(begin, rows, rows.pointers, kept.count);
         RowPair { from, to }
     }
 

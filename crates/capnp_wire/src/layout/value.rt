@@ -1,15 +1,18 @@
-//! Trees of a message as values that are measured, and lists of bytes and of words, which are written too.
-ghost use Rattle.std.specs.Prelude.{◌≡◌, ◌<◌, ◌≤◌, ◌+◌, ◌-◌, ◌++◌, ◌*◌, ◌^◌, ℕ, All, [], ◌∷◌, length, min, MatchResult};
+//! Trees of a message as values that are measured, and lists of bytes and of numbers, which are written too.
+ghost use Rattle.std.specs.Prelude.{◌≡◌, ◌<◌, ◌≤◌, ◌+◌, ◌-◌, ◌++◌, ◌*◌, ◌/◌, ◌^◌, ℕ, All, [], ◌∷◌, length, min, MatchResult};
 ghost use Rattle.capnp_wire.specs.Pointer.{digits, number_of, words_of};
-ghost use Rattle.capnp_wire.specs.Element.{words_for};
+ghost use Rattle.capnp_wire.specs.Element.{code_of, width, words_for};
 ghost use Rattle.capnp_wire.specs.Tree.{numbers, none, tree};
-ghost use Rattle.capnp_wire.specs.Object.{message_of};
+ghost use Rattle.capnp_wire.specs.Object.{elements, message_of};
 ghost use Rattle.capnp_wire.specs.Traversed.{Counts};
 ghost use Rattle.capnp_wire.specs.Block.{put};
 ghost use Rattle.capnp_wire.specs.Copy.{IsCopied};
-ghost use Rattle.capnp_wire.specs.Values.{Measured, UnmeasuredTree, too_large, ManyBytes, ManyWords, IsFreeFrom};
+ghost use Rattle.capnp_wire.specs.Values.{Measured, UnmeasuredTree, too_large, ManyBytes, IsFreeFrom};
 
+use crate::layout::block::put_elements;
 use crate::layout::copy::Copied;
+use crate::layout::element::ElementSize;
+use crate::layout::number_list::NumberList;
 use crate::layout::place::Place;
 use crate::layout::walk::Walk;
 use crate::pointer_word::list_word;
@@ -140,37 +143,48 @@ pub(crate) fn write_text(bytes: &[u8], block: &mut [u8], following: usize, next:
     }
 }
 
-/// The words of a list of words.
-#[tactic(auto, using(crate::proofs::words::WordListLemmas::words_counted))]
-pub(crate) fn measure_words(bytes: &[u8]) -> Result<u32>
-    ensures words { MatchResult result
-        (λ words. (length (words_of bytes.now) < 2 ^ 29) × (words ≡ length (words_of bytes.now)))
-        (λ error. ManyWords (words_of bytes.now) error.kind) }
-    ensures words_fit { All (λ word. word < 2 ^ 64) (words_of bytes.now) }
+/// The words of a list of a given number of numbers.
+pub(crate) fn measure_numbers(size: ElementSize, count: u32) -> Result<u32>
+    ensures { MatchResult result
+        (λ words. (count < 2 ^ 29) × (words ≡ words_for count (width (code_of size))))
+        (λ error. (2 ^ 29 ≤ count) × (error.kind ≡ ErrorKind.AllocationTooLarge
+        (min (words_for count (width (code_of size))) (2 ^ 32 - 1)))) }
 {
-    let words = bytes.len() / 8;
-    if words < 1 << 29 {
+    let words = size.words_of_list(count);
+    if count < 1 << 29 {
         return Ok(words as u32);
     }
-    Err(too_many(words as u64))
+    Err(too_many(words))
 }
 
-/// Writes a list of words into a block, from the word `next` on.
-#[tactic(auto, using(crate::proofs::words::WordListLemmas::words_counted))]
-pub(crate) fn write_words(bytes: &[u8], block: &mut [u8], following: usize, next: usize) -> Copied
-    requires few { length (words_of bytes.now) < 2 ^ 29 }
-    requires room { next + length (words_of bytes.now) ≤ length (words_of block.old) }
-    requires free { IsFreeFrom next block.old }
+/// Writes a list of numbers into a block, from the word `next` on, with zero bits after the last one.
+pub(crate) fn write_numbers(
+    list: &NumberList<'_>,
+    block: &mut [u8],
+    following: usize,
+    next: usize,
+) -> Copied
+    requires few { list.now.count < 2 ^ 29 }
+    requires there { list.now.start.word + words_for list.now.count (width (code_of list.now.size))
+        ≤ length list.now.segment.now / 8 }
+    requires room { next + words_for list.now.count (width (code_of list.now.size))
+        ≤ length (words_of block.old) }
+    requires small { length (words_of block.old) < 2 ^ 29 }
     requires following { following ≤ next }
-    ensures written { IsCopied (tree (numbers 5 (words_of bytes.now)) none none)
-        (next - following) next (words_of block.old) (words_of block.new) result }
+    ensures written { let code = code_of list.now.size in
+        let start = list.now.start.word in
+        let values = elements (words_of list.now.segment.now) start code list.now.count in
+        IsCopied (tree (numbers code values) none none) (next - following) next
+        (words_of block.old) (words_of block.new) result }
     ensures len { length block.new ≡ length block.old }
 {
-    let words = bytes.len() / 8;
-    let begin = 8 * next;
-    block[begin..begin + 8 * words].copy_from_slice(&bytes[..8 * words]);
+    put_elements(block, next, list);
     Copied {
-        pointer: list_word((next - following) as u64, 5, words as u64),
-        next: next + words,
+        pointer: list_word(
+            (next - following) as u64,
+            list.size.code(),
+            list.count as u64,
+        ),
+        next: next + list.words() as usize,
     }
 }

@@ -1,12 +1,13 @@
 //! Lists of numbers that are read.
 ghost use Rattle.std.specs.Prelude.{◌≡◌, ◌+◌, ◌*◌, ◌/◌, ◌<◌, ◌≤◌, length, slice_index, MatchResult};
-ghost use Rattle.capnp_wire.specs.Element.{width, words_for};
+ghost use Rattle.capnp_wire.specs.Element.{code_of, width, words_for};
 ghost use Rattle.capnp_wire.specs.Landing.{room_of};
 
 use crate::any_pointer;
 use crate::entered::rebuilt;
+use crate::layout::number_list::NumberList;
 use crate::layout::object::{Object, words_fit};
-use crate::layout::place::word;
+use crate::layout::place::{Place, word};
 use crate::primitive_element::PrimitiveElement;
 use crate::traits::FromPointerReader;
 use capnp_frame::Result;
@@ -44,6 +45,26 @@ impl<'a, T: PrimitiveElement> Reader<'a, T> {
         let size = T::size();
         let word = word(self.bytes, size.word_of(index) as usize).unwrap_or(0);
         T::from_bits(size.in_word(word, index))
+    }
+
+    /// The list, as one that is copied.
+    pub(crate) fn as_value(&self) -> NumberList<'a>
+        ensures size { code_of result.size ≡ T.code }
+        ensures count { result.count ≡ self.now.count }
+        ensures start { result.start.word ≡ 0 }
+        ensures bytes { result.segment.now ≡ self.now.bytes.now }
+    {
+        let size = T::size();
+        NumberList {
+            segment: self.bytes,
+            start: Place {
+                segment: 0,
+                word: 0,
+            },
+            size,
+            count: self.count,
+            bits: size.bits_of_list(self.count),
+        }
     }
 
     // The list that a pointer leads to.

@@ -1,5 +1,5 @@
 //! Lists of structs that are read.
-ghost use Rattle.std.specs.Prelude.{◌≡◌, ◌+◌, ◌*◌, ◌/◌, ◌<◌, ◌≤◌, length, MatchResult};
+ghost use Rattle.std.specs.Prelude.{◌≡◌, ◌+◌, ◌*◌, ◌/◌, ◌^◌, ◌<◌, ◌≤◌, length, MatchResult};
 ghost use Rattle.capnp_wire.specs.Pointer.{words_of};
 ghost use Rattle.capnp_wire.specs.Object.{message_of};
 ghost use Rattle.capnp_wire.specs.Values.{HoldsPointers};
@@ -29,6 +29,9 @@ pub struct Reader<'a, S: ReaderSegments> {
         ≤ length segment.now / 8 },
     ghost content: { HoldsPointers (message_of (S.segments segments.now)) (words_of segment.now)
         first elements.size },
+    ghost few: { elements.count < 2 ^ 30 },
+    ghost few_words: { elements.count * (elements.size.data_words + elements.size.pointers)
+        < 2 ^ 29 },
 }
 
 impl<'a, S: ReaderSegments> Reader<'a, S> {
@@ -114,6 +117,9 @@ impl<'a, S: ReaderSegments> Reader<'a, S> {
         requires room { object.now.start.word + skipped
             + elements.count * (elements.size.data_words + elements.size.pointers)
             ≤ length object.now.segment.now / 8 }
+        requires few { elements.count < 2 ^ 30 }
+        requires few_words { elements.count * (elements.size.data_words + elements.size.pointers)
+            < 2 ^ 29 }
         ensures { struct_list_of S.segments result
             ≡ structs_in (pointer_of S.segments reader.now) object.now skipped elements }
     {

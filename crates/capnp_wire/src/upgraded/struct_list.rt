@@ -1,5 +1,5 @@
 //! Lists that are read as lists of structs.
-ghost use Rattle.std.specs.Prelude.{◌≡◌, ◌+◌, ◌*◌, ◌/◌, ◌<◌, ◌≤◌, length, MatchResult};
+ghost use Rattle.std.specs.Prelude.{◌≡◌, ◌+◌, ◌*◌, ◌/◌, ◌^◌, ◌<◌, ◌≤◌, length, MatchResult};
 ghost use Rattle.capnp_wire.specs.Element.{code_of, width, words_for};
 ghost use Rattle.capnp_wire.specs.declared.layout.object.Body.{Body};
 ghost use Rattle.capnp_wire.specs.UpgradedViews.{bare_elements as elements_of};
@@ -184,6 +184,9 @@ impl<'a, S: ReaderSegments> StructList<'a, S> {
         requires room { object.now.start.word + skipped
             + elements.count * (elements.size.data_words + elements.size.pointers)
             ≤ length object.now.segment.now / 8 }
+        requires few { elements.count < 2 ^ 30 }
+        requires few_words { elements.count * (elements.size.data_words + elements.size.pointers)
+            < 2 ^ 29 }
         ensures { upgraded_structs_of S.segments result
             ≡ structs_in (pointer_of S.segments reader.now) object.now skipped elements }
     {

@@ -8,7 +8,7 @@ use Rattle.capnp_wire.specs.Views.{Accepts}
 use Rattle.capnp_wire.specs.Readers.{pointer_of}
 use Rattle.capnp_wire.specs.ListViews.{StructList, IsStructList, structs_in}
 use Rattle.capnp_wire.proofs.views.FormLemmas.{struct_shows, entered_shows, entered_reads, numbers_form}
-use Rattle.capnp_wire.proofs.views.ListViewLemmas.{structs_entered, pointers_show}
+use Rattle.capnp_wire.proofs.views.ListViewLemmas.{structs_entered, pointers_show, pointers_within, few_structs, few_pointers}
 use Rattle.capnp_wire.proofs.views.ObjectViewLemmas.{entered_kind, entered_form}
 use Rattle.capnp_wire.proofs.any_object.reader.Reader.of.Goals as goal
 
@@ -57,4 +57,20 @@ returns-in-Numbers g c =
     let form_is = numbers_form object c.in-Numbers.size c.in-Numbers.count values c.in-Numbers.is c.words_at.ensures.elements in record {
       kind = entered_shows p object (λ form. form ≡ numbers code values) c.requires form_is;
       shown = entered_reads p object (λ form. form ≡ numbers code values) c.requires form_is;
+    }
+
+pub within-requires-clause-few : goal.within-requires-clause-few
+within-requires-clause-few g c =
+    let p = pointer_of g.S.ReaderSegments.segments c.args.reader.now in (few_structs p c.args.object.now c.in-Structs.elements c.in-Structs.field-1 c.requires c.in-Structs.is).0
+
+pub within-requires-clause-few_words : goal.within-requires-clause-few_words
+within-requires-clause-few_words g c =
+    let p = pointer_of g.S.ReaderSegments.segments c.args.reader.now in (few_structs p c.args.object.now c.in-Structs.elements c.in-Structs.field-1 c.requires c.in-Structs.is).1
+
+pub invariant_of-result-in-Pointers : goal.invariant_of-result-in-Pointers
+invariant_of-result-in-Pointers g c =
+    let p = pointer_of g.S.ReaderSegments.segments c.args.reader.now in
+    record {
+      bound = pointers_within p c.args.object.now c.in-Pointers.count c.requires c.in-Pointers.is c.words_fit.ensures.length;
+      few = few_pointers p c.args.object.now c.in-Pointers.count c.requires c.in-Pointers.is;
     }

@@ -9,6 +9,7 @@ use Rattle.capnp_wire.specs.UpgradedViews.{number_row}
 use Rattle.capnp_wire.specs.declared.layout.element.ElementSize.{ElementSize}
 use Rattle.capnp_wire.specs.declared.layout.object.Body.TheVariants.{Numbers}
 use Rattle.capnp_wire.proofs.views.UpgradedRowLemmas.{nothings_upgraded, numbers_upgraded, bits_declined, one_bit, no_bit, other_than_bits}
+use Rattle.capnp_wire.proofs.views.ListViewLemmas.{few_numbers}
 use Rattle.capnp_wire.proofs.upgraded.struct_list.StructList.of_numbers.Goals as goal
 
 pub returns-then-bits-eq1 : goal.returns-then-bits-eq1
@@ -36,3 +37,8 @@ returns g c =
       limit = p.limit;
     } in
     numbers_upgraded p c.args.object.now c.args.size c.args.count _ _ c.requires.entered c.requires.numbers other c.words_at.ensures.elements (ap list c.saturating_sub.ensures)
+
+pub in_place-requires-clause-few : goal.in_place-requires-clause-few
+in_place-requires-clause-few g c =
+    let p = pointer_of g.S.ReaderSegments.segments c.args.reader.now in
+    rw c.bare_elements-elements.ensures (omega (arith, few_numbers p c.args.object.now c.args.size c.args.count c.requires.entered c.requires.numbers))

@@ -1,0 +1,17 @@
+-- The words of a list of pointers that is read, with all below it, are those of its tree.
+use Rattle.capnp_wire.specs.Tree.{pointers}
+use Rattle.capnp_wire.specs.ListViews.{pointer_list_of}
+use Rattle.capnp_wire.specs.ListValues.{IsListTree, StopsInList}
+use Rattle.capnp_wire.proofs.views.OneValueLemmas.{measured_found, measured_exactly}
+use Rattle.capnp_wire.proofs.views.ListValueLemmas.{one_of_list}
+use Rattle.capnp_wire.proofs.any_pointer_list.ReaderSetterInputOwned.measure.Goals as goal
+
+pub returns : goal.returns
+returns g c =
+    let list = pointer_list_of g.S.ReaderSegments.segments c.args.self.now in
+    let returned = rw c.limit_in_words.ensures at c.measure.ensures in
+    record {
+      returned = returned;
+      found = measured_found (IsListTree pointers list) (StopsInList list) (one_of_list pointers list) c.args.canonical c.measure.result returned;
+      exact = measured_exactly (IsListTree pointers list) (StopsInList list) (one_of_list pointers list) c.args.canonical c.measure.result returned;
+    }

@@ -1,0 +1,16 @@
+-- What is written of a list of pointers is the body of its tree.
+use Rattle.capnp_wire.specs.Tree.{pointers}
+use Rattle.capnp_wire.specs.Readers.{limit_of}
+use Rattle.capnp_wire.specs.ListViews.{pointer_list_of}
+use Rattle.capnp_wire.specs.ListValues.{IsListTree}
+use Rattle.capnp_wire.proofs.layouts.FreeLemmas.{body_long}
+use Rattle.capnp_wire.proofs.views.ListValueLemmas.{one_of_list}
+use Rattle.capnp_wire.proofs.any_pointer_list.ReaderSetterInputOwned.write.Goals as goal
+
+pub returns-clause-written : goal.returns-clause-written
+returns-clause-written g c trees is = c.write.ensures.written (limit_of c.args.self.now.limiter) trees is
+
+pub returns-clause-long : goal.returns-clause-long
+returns-clause-long g c trees is =
+    let list = pointer_list_of g.S.ReaderSegments.segments c.args.self.now in
+    body_long (IsListTree pointers list) c.args.canonical c.args.next _ (one_of_list pointers list).same_tree c.requires.value trees is

@@ -1,0 +1,18 @@
+-- The walk over a list's pointers counts what is after these.
+use Rattle.std.proofs.Common.{◌+◌, refl, arith}
+use Rattle.capnp_wire.specs.Object.{message_of, places}
+use Rattle.capnp_wire.specs.Tree.{pointers}
+use Rattle.capnp_wire.specs.Traversed.{counted as counted_by}
+use Rattle.capnp_wire.proofs.views.ListValueLemmas.{own_pointers, list_measured}
+use Rattle.capnp_wire.proofs.layout.list_value.measure.Goals as goal
+
+pub returns : goal.returns
+returns g c =
+    let m = message_of (g.S.ReaderSegments.segments c.args.segments.now) in
+    let first = c.args.first in
+    let found = rw (c.count.ensures.left, c.new-walk.ensures.left) at c.in_ok-walk_list.ensures.found in
+    let own_counted = rw c.new-walk.ensures.words at c.count.ensures.words in
+    let counted = rw (← c.words.ensures) at found.counted (0 + c.args.count) (own_counted 0 refl) in
+    list_measured pointers m (places first.segment first.word c.args.count) c.args.nesting c.args.limit _ c.args.canonical (counted_by c.count.new.self) _ c.args.count
+    (own_pointers m first c.args.count c.args.canonical c.requires.few) found (0 + c.args.count + found.words) (omega arith) c.fitting.result
+    (c.fitting.ensures (0 + c.args.count + found.words) counted)

@@ -1,9 +1,0 @@
--- The words are one tree.
-use Rattle.std.proofs.Common.{sym, ◌∙◌}
-use Rattle.capnp_wire.specs.Pointer.{words_of}
-use Rattle.capnp_wire.specs.Values.{IsWordList}
-use Rattle.capnp_wire.proofs.layouts.FreeLemmas.{body_long}
-use Rattle.capnp_wire.proofs.primitive_list.ReaderU64SetterInputOwnedU64.write.Goals as goal
-
-pub returns-clause-long : goal.returns-clause-long
-returns-clause-long c trees is = body_long (IsWordList (words_of c.args.self.now.bytes.now)) c.args._canonical c.args.next _ (λ a b x y. x.1 ∙ sym y.1) c.requires.value trees is

@@ -1,0 +1,17 @@
+-- The words of a list of structs that is read, with all below it, are those of its tree.
+use Rattle.capnp_wire.specs.ListViews.{struct_list_of}
+use Rattle.capnp_wire.specs.ListValues.{IsListTree, StopsInList, pointers_in, structs_of}
+use Rattle.capnp_wire.proofs.views.OneValueLemmas.{measured_found, measured_exactly}
+use Rattle.capnp_wire.proofs.views.ListValueLemmas.{one_of_list}
+use Rattle.capnp_wire.proofs.struct_list.ReaderSetterInputOwned.measure.Goals as goal
+
+pub returns : goal.returns
+returns g c =
+    let form = structs_of g.S.ReaderSegments.segments c.args.self.now in
+    let list = pointers_in (struct_list_of g.S.ReaderSegments.segments c.args.self.now) in
+    let returned = rw c.limit_in_words.ensures at c.measure.ensures in
+    record {
+      returned = returned;
+      found = measured_found (IsListTree form list) (StopsInList list) (one_of_list form list) c.args.canonical c.measure.result returned;
+      exact = measured_exactly (IsListTree form list) (StopsInList list) (one_of_list form list) c.args.canonical c.measure.result returned;
+    }

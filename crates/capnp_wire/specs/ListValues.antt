@@ -1,0 +1,64 @@
+-- Lists that are read, as values (src/layout/list_value.rt, src/layout/struct_list_value.rt).
+use Rattle.std.specs.Prelude.{◌≡◌, ℕ, ◌-◌, ◌^◌, ◌<◌, ◌≤◌, min, List, length, Option}
+use Rattle.capnp_frame.specs.declared.error.ErrorKind.{ErrorKind}
+use Rattle.capnp_frame.specs.declared.error.ErrorKind.TheVariants.{AllocationTooLarge}
+use Rattle.capnp_frame.specs.declared.message.segments.ReaderSegments.{Ghosts}
+use Rattle.capnp_wire.specs.Element.{width, words_for}
+use Rattle.capnp_wire.specs.Tree.{Form, numbers, structs, Trees, none, tree, depth}
+use Rattle.capnp_wire.specs.Object.{places, row_places, rows_from}
+use Rattle.capnp_wire.specs.Reached.{At}
+use Rattle.capnp_wire.specs.Traversed.{Within}
+use Rattle.capnp_wire.specs.Faults.{StopsWalk}
+use Rattle.capnp_wire.specs.ListViews.{PointerList, StructList, struct_list_of}
+use Rattle.capnp_wire.specs.declared.layout.place.Place.{Place}
+use Rattle.capnp_wire.specs.declared.layout.pointer.Elements.{Elements}
+use Rattle.capnp_wire.specs.declared.struct_list.reader.Reader.{Reader as StructListReader}
+
+-- the tree of a list of a form whose pointers are read, within the nesting depth left and its limit
+pub record IsListTree (form : Form) (list : PointerList) (trees : Trees) : Type 0 where
+  pub held : Trees
+  pub traversed : ℕ
+  pub stand : At list.message list.held held traversed
+  pub shallow : depth held ≤ list.nesting
+  pub within : Within list.limit traversed
+  pub whole : trees ≡ tree form held none
+
+-- where a walk over its pointers stops
+abbrev pub StopsInList : PointerList → ErrorKind → Type 0
+StopsInList list kind = StopsWalk list.message list.held list.nesting list.limit kind
+
+-- pointers that stand one after the other from a place on
+abbrev pub pointers_along : List (List ℕ) → Place → ℕ → ℕ → Option ℕ → PointerList
+pointers_along m first n nesting limit =
+    record { message = m; held = places first.segment first.word n; nesting = nesting; limit = limit }
+
+-- structs that do so, and the pointers of them all
+abbrev pub structs_along : List ℕ → Place → Elements → Form
+structs_along words first elements =
+    let size = elements.size in structs size.data_words size.pointers (rows_from words first.word size.data_words size.pointers elements.count)
+
+abbrev pub pointers_of_structs : List (List ℕ) → Place → Elements → ℕ → Option ℕ → PointerList
+pointers_of_structs m first elements nesting limit =
+    let size = elements.size in record {
+      message = m;
+      held = row_places first.segment first.word size.data_words size.pointers elements.count;
+      nesting = nesting;
+      limit = limit;
+    }
+
+-- the pointers of a list of structs, in the order of the elements
+abbrev pub pointers_in : StructList → PointerList
+pointers_in list = record { message = list.message; held = list.held; nesting = list.nesting; limit = list.limit }
+
+-- the list of structs of a reader, also where it has no element to tell the words of data of each
+abbrev pub structs_of : {S : Type 0} {ghosts : Ghosts S} → (S → List (List ℕ)) → StructListReader S ghosts → Form
+structs_of segments reader =
+    let list = struct_list_of segments reader in structs reader.elements.size.data_words list.pointer_words list.rows
+
+-- a list of numbers of a code, and how more of them than a list may have are refused
+abbrev pub IsNumbersTree : ℕ → List ℕ → Trees → Type 0
+IsNumbersTree code values trees = (length values < 2 ^ 29) × (trees ≡ tree (numbers code values) none none)
+
+abbrev pub TooManyNumbers : ℕ → List ℕ → ErrorKind → Type 0
+TooManyNumbers code values kind =
+    (2 ^ 29 ≤ length values) × (kind ≡ AllocationTooLarge (min (words_for (length values) (width code)) (2 ^ 32 - 1)))

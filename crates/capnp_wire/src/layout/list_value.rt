@@ -1,0 +1,107 @@
+//! Lists of pointers that are read, as values: measured, and written into a block.
+ghost use Rattle.std.specs.Prelude.{◌≡◌, ◌+◌, ◌-◌, ◌^◌, ◌<◌, ◌≤◌, ℕ, Option, length, IfErr, MatchResult, OnOk};
+ghost use Rattle.capnp_wire.specs.Pointer.{words_of};
+ghost use Rattle.capnp_wire.specs.Tree.{pointers, Trees};
+ghost use Rattle.capnp_wire.specs.Object.{message_of, places};
+ghost use Rattle.capnp_wire.specs.Traversed.{counted, WalkedAll};
+ghost use Rattle.capnp_wire.specs.Faults.{StopsWalk};
+ghost use Rattle.capnp_wire.specs.Layout.{formed};
+ghost use Rattle.capnp_wire.specs.Copy.{IsCopied};
+ghost use Rattle.capnp_wire.specs.Values.{HasWords, LacksWords, HasRoomAt};
+ghost use Rattle.capnp_wire.specs.ListValues.{IsListTree, StopsInList, pointers_along};
+
+use crate::layout::copy::Copied;
+use crate::layout::copy_rows::copy_run;
+use crate::layout::place::{Place, segment};
+use crate::layout::rows::PointerRows;
+use crate::layout::value::fitting;
+use crate::layout::walk::Walk;
+use crate::pointer_word::list_word;
+use capnp_frame::Result;
+use capnp_frame::message::ReaderSegments;
+
+/// The words of a list of pointers with all below it, after its pointer, as it stands or in canonical
+/// form.
+pub(crate) fn measure<S: ReaderSegments>(
+    segments: &S,
+    first: Place,
+    count: u32,
+    nesting: u32,
+    limit: Option<usize>,
+    canonical: bool,
+) -> Result<u32>
+    requires few { count < 2 ^ 29 }
+    requires bound { first.word + count < 2 ^ 61 }
+    ensures { let list = pointers_along (message_of (S.segments segments.now))
+        first count nesting limit in
+        MatchResult result (λ words. HasWords (IsListTree pointers list) canonical words)
+        (λ error. LacksWords (IsListTree pointers list) (StopsInList list) canonical error.kind) }
+{
+    let mut walk = Walk::new(limit);
+    walk.count(count as u64);
+    walk_list(&mut walk, segments, first, count, nesting, canonical)?;
+    fitting(walk.words(), canonical)
+}
+
+// Walks over all objects that the pointers of a list lead to, whose segment is not in hand.
+fn walk_list<S: ReaderSegments>(
+    walk: &mut Walk,
+    segments: &S,
+    first: Place,
+    count: u32,
+    nesting: u32,
+    canonical: bool,
+) -> Result<()>
+    requires bound { first.word + count < 2 ^ 61 }
+    ensures found { let m = message_of (S.segments segments.now) in
+        OnOk result (WalkedAll m canonical (places first.segment first.word count) nesting
+        walk.old.left walk.new.left (counted walk.old) (counted walk.new)) }
+    ensures refused { let m = message_of (S.segments segments.now) in
+        IfErr result (λ error. StopsWalk m (places first.segment first.word count) nesting
+        walk.old.left error.kind) }
+{
+    if count == 0 {
+        return Ok(());
+    }
+    let segment = segment(segments, first.segment)?;
+    let pointers = PointerRows::run(first, count);
+    walk.walk_pointers(segments, segment, pointers, nesting, canonical)
+}
+
+/// Writes the words of a list of pointers with all below it into a block, from the word `next` on. The
+/// pointer to it stands just before the word `following`.
+pub(crate) fn write<S: ReaderSegments>(
+    segments: &S,
+    first: Place,
+    count: u32,
+    nesting: u32,
+    canonical: bool,
+    block: &mut [u8],
+    following: usize,
+    next: usize,
+) -> Copied
+    requires bound { first.word + count < 2 ^ 61 }
+    requires value { (limit : Option ℕ) × HasRoomAt (IsListTree pointers
+        (pointers_along (message_of (S.segments segments.now)) first count nesting limit))
+        canonical next (length (words_of block.old)) }
+    requires small { length (words_of block.old) < 2 ^ 29 }
+    requires following { following ≤ next }
+    ensures written { (limit : Option ℕ) (trees : Trees) → IsListTree pointers
+        (pointers_along (message_of (S.segments segments.now)) first count nesting limit) trees →
+        IsCopied (formed canonical trees) (next - following) next
+        (words_of block.old) (words_of block.new) result }
+    ensures len { length block.new ≡ length block.old }
+{
+    let pointer = list_word((next - following) as u64, 6, count as u64);
+    let end = next + count as usize;
+    match segments.get_segment(first.segment) {
+        Some(segment) => Copied {
+            pointer,
+            next: copy_run(
+                segments, segment, first, count, nesting, canonical, block, next, end,
+            ),
+        },
+        // A tree stands at each pointer, and so in a segment: the list has none.
+        None => Copied { pointer, next: end },
+    }
+}

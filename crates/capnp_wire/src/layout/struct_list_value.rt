@@ -1,0 +1,128 @@
+//! Lists of structs that are read, as values: measured, and written into a block.
+ghost use Rattle.std.specs.Prelude.{◌≡◌, if◌then◌else◌, ◌+◌, ◌-◌, ◌*◌, ◌/◌, ◌^◌, ◌<◌, ◌≤◌, ℕ, Option, length, MatchResult};
+ghost use Rattle.capnp_wire.specs.Pointer.{words_of};
+ghost use Rattle.capnp_wire.specs.Tree.{Trees};
+ghost use Rattle.capnp_wire.specs.Object.{message_of};
+ghost use Rattle.capnp_wire.specs.Layout.{formed};
+ghost use Rattle.capnp_wire.specs.Copy.{IsCopied, least_size};
+ghost use Rattle.capnp_wire.specs.Values.{HasWords, LacksWords, HasRoomAt, HoldsPointers};
+ghost use Rattle.capnp_wire.specs.ListValues.{IsListTree, StopsInList, pointers_of_structs, structs_along};
+
+use crate::layout::block::put_word;
+use crate::layout::copy::Copied;
+use crate::layout::copy_rows::copy_rows;
+use crate::layout::formed::formed_size;
+use crate::layout::object::words_fit;
+use crate::layout::own_words::put_rows;
+use crate::layout::place::Place;
+use crate::layout::pointer::Elements;
+use crate::layout::row_pair::RowPair;
+use crate::layout::rows::PointerRows;
+use crate::layout::value::fitting;
+use crate::layout::walk::Walk;
+use crate::pointer_word::{list_word, struct_word};
+use capnp_frame::Result;
+use capnp_frame::message::ReaderSegments;
+
+/// The words of a list of structs with all below it, after its pointer, as it stands or in canonical
+/// form. The elements begin at a place of a segment.
+pub(crate) fn measure<S: ReaderSegments>(
+    segments: &S,
+    segment: &[u8],
+    first: Place,
+    elements: Elements,
+    nesting: u32,
+    limit: Option<usize>,
+    canonical: bool,
+) -> Result<u32>
+    requires room { first.word + elements.count * (elements.size.data_words + elements.size.pointers)
+        ≤ length segment.now / 8 }
+    requires content { HoldsPointers (message_of (S.segments segments.now))
+        (words_of segment.now) first elements.size }
+    requires few { elements.count < 2 ^ 30 }
+    requires few_words { elements.count * (elements.size.data_words + elements.size.pointers)
+        < 2 ^ 29 }
+    ensures { let form = structs_along (words_of segment.now) first elements in
+        let list = pointers_of_structs (message_of (S.segments segments.now))
+        first elements nesting limit in
+        MatchResult result (λ words. HasWords (IsListTree form list) canonical words)
+        (λ error. LacksWords (IsListTree form list) (StopsInList list) canonical error.kind) }
+{
+    words_fit(segment);
+    let kept = kept_elements(segment, first, elements, canonical);
+    let mut walk = Walk::new(limit);
+    walk.count(1 + kept.words());
+    let size = elements.size.row_size();
+    let pointers = PointerRows::new(first, size, size.pointers, elements.count);
+    walk.walk_pointers(segments, segment, pointers, nesting, canonical)?;
+    fitting(walk.words(), canonical)
+}
+
+/// Writes the words of a list of structs with all below it into a block, from the word `next` on. The
+/// pointer to it stands just before the word `following`.
+pub(crate) fn write<S: ReaderSegments>(
+    segments: &S,
+    segment: &[u8],
+    first: Place,
+    elements: Elements,
+    nesting: u32,
+    canonical: bool,
+    block: &mut [u8],
+    following: usize,
+    next: usize,
+) -> Copied
+    requires room { first.word + elements.count * (elements.size.data_words + elements.size.pointers)
+        ≤ length segment.now / 8 }
+    requires content { HoldsPointers (message_of (S.segments segments.now))
+        (words_of segment.now) first elements.size }
+    requires value { (limit : Option ℕ) × HasRoomAt
+        (IsListTree (structs_along (words_of segment.now) first elements)
+        (pointers_of_structs (message_of (S.segments segments.now)) first elements nesting limit))
+        canonical next (length (words_of block.old)) }
+    requires small { length (words_of block.old) < 2 ^ 29 }
+    requires following { following ≤ next }
+    ensures written { (limit : Option ℕ) (trees : Trees) →
+        IsListTree (structs_along (words_of segment.now) first elements)
+        (pointers_of_structs (message_of (S.segments segments.now)) first elements nesting limit)
+        trees → IsCopied (formed canonical trees) (next - following) next
+        (words_of block.old) (words_of block.new) result }
+    ensures len { length block.new ≡ length block.old }
+{
+    words_fit(segment);
+    let kept = kept_elements(segment, first, elements, canonical);
+    let tag = struct_word(kept.count as u64, kept.size.data_words, kept.size.pointers);
+    put_word(block, next, tag);
+    let slots = next + 1;
+    let step = elements.size.words() as usize;
+    put_rows(block, slots, kept, segment, first.word, step);
+    let end = slots + kept.words() as usize;
+    let rows = RowPair::elements(first, elements.size, kept, slots);
+    Copied {
+        pointer: list_word((next - following) as u64, 7, kept.words()),
+        next: copy_rows(segments, segment, rows, nesting, canonical, block, end),
+    }
+}
+
+// The elements once they are copied: in canonical form without what stands at the ends of all for
+// nothing.
+fn kept_elements(segment: &[u8], first: Place, elements: Elements, canonical: bool) -> Elements
+    requires { first.word + elements.count * (elements.size.data_words + elements.size.pointers)
+        ≤ length segment.now / 8 }
+    ensures size { result.size ≡ (if canonical then
+        least_size (words_of segment.now) first.word elements.size elements.count
+        else elements.size) }
+    ensures count { result.count ≡ elements.count }
+    ensures data { result.size.data_words ≤ elements.size.data_words }
+    ensures pointers { result.size.pointers ≤ elements.size.pointers }
+{
+    Elements {
+        size: formed_size(
+            segment,
+            first.word,
+            elements.size,
+            elements.count,
+            canonical,
+        ),
+        count: elements.count,
+    }
+}
