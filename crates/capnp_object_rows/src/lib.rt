@@ -19,6 +19,8 @@ mod hostile_messages;
 #[cfg(test)]
 mod made_lists;
 #[cfg(test)]
+mod read_lists;
+#[cfg(test)]
 mod regions;
 #[cfg(test)]
 mod roots;

@@ -7,10 +7,10 @@ use capnp_wire::primitive_element::PrimitiveElement;
 use capnp_wire::{any_struct, list_list, primitive_list, struct_list, text};
 use std::process::Abort;
 
-// A tag for two structs of a data word and a pointer, the two, and their texts: the first pointer leads
-// over the struct after it, the second over the text before its own.
+/// A tag for two structs of a data word and a pointer, the two, and their texts: the first pointer leads
+/// over the struct after it, the second over the text before its own.
 #[rattlefmt::skip]
-const PHONES: &[u8] = b"\x01\0\0\0\x27\0\0\0\x08\0\0\0\x01\0\x01\0\
+pub(crate) const PHONES: &[u8] = b"\x01\0\0\0\x27\0\0\0\x08\0\0\0\x01\0\x01\0\
     \x01\0\0\0\0\0\0\0\x09\0\0\0\x22\0\0\0\x02\0\0\0\0\0\0\0\x05\0\0\0\x42\0\0\0\
     123\0\0\0\0\04567890\0";
 
@@ -21,29 +21,29 @@ const PERSON: &[u8] = b"\0\0\0\0\x01\0\x03\0\x09\0\0\0\0\0\0\0\
     Ann\0\0\0\0\0a@b\0\0\0\0\0\
     \x04\0\0\0\x01\0\x01\0\x01\0\0\0\0\0\0\0\x01\0\0\0\x22\0\0\0123\0\0\0\0\0";
 
-// Two structs of two data words and two pointers, where no second word or pointer is used.
+/// Two structs of two data words and two pointers, where no second word or pointer is used.
 #[rattlefmt::skip]
-const WIDE: &[u8] = b"\x01\0\0\0\x47\0\0\0\x08\0\0\0\x02\0\x02\0\
+pub(crate) const WIDE: &[u8] = b"\x01\0\0\0\x47\0\0\0\x08\0\0\0\x02\0\x02\0\
     \x07\0\0\0\0\0\0\0\0\0\0\0\0\0\0\0\x15\0\0\0\x22\0\0\0\0\0\0\0\0\0\0\0\
     \0\0\0\0\0\0\0\0\0\0\0\0\0\0\0\0\x09\0\0\0\x0a\0\0\0\0\0\0\0\0\0\0\0\
     Ann\0\0\0\0\0\0\0\0\0\0\0\0\0";
 
-// The same in canonical form, each of one word and one pointer.
+/// The same in canonical form, each of one word and one pointer.
 #[rattlefmt::skip]
-const NARROW: &[u8] = b"\x01\0\0\0\x27\0\0\0\x08\0\0\0\x01\0\x01\0\
+pub(crate) const NARROW: &[u8] = b"\x01\0\0\0\x27\0\0\0\x08\0\0\0\x01\0\x01\0\
     \x07\0\0\0\0\0\0\0\x09\0\0\0\x22\0\0\0\0\0\0\0\0\0\0\0\x05\0\0\0\x0a\0\0\0\
     Ann\0\0\0\0\0\0\0\0\0\0\0\0\0";
 
 // No structs of a word and a pointer, and in canonical form of no size; three structs of no size.
 const NO_PHONES: &[u8] = b"\x01\0\0\0\x07\0\0\0\0\0\0\0\x01\0\x01\0";
 
-const NO_STRUCTS: &[u8] = b"\x01\0\0\0\x07\0\0\0\0\0\0\0\0\0\0\0";
+pub(crate) const NO_STRUCTS: &[u8] = b"\x01\0\0\0\x07\0\0\0\0\0\0\0\0\0\0\0";
 
 const THREE_EMPTY: &[u8] = b"\x01\0\0\0\x07\0\0\0\x0c\0\0\0\0\0\0\0";
 
-// A list of two lists of numbers of two bytes.
+/// A list of two lists of numbers of two bytes.
 #[rattlefmt::skip]
-const LISTS: &[u8] = b"\x01\0\0\0\x16\0\0\0\x05\0\0\0\x13\0\0\0\x05\0\0\0\x0b\0\0\0\
+pub(crate) const LISTS: &[u8] = b"\x01\0\0\0\x16\0\0\0\x05\0\0\0\x13\0\0\0\x05\0\0\0\x0b\0\0\0\
     \x01\0\x02\0\0\0\0\0\x03\0\0\0\0\0\0\0";
 
 type Phone<'a> = StructValue<1, Field<text::Owned, &'a str, NoFields>>;

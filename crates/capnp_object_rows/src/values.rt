@@ -33,22 +33,22 @@ const LOOSE: &[u8] = b"\0\0\0\0\x02\0\x03\0\x07\0\0\0\0\0\0\0\0\0\0\0\0\0\0\0\
 const TIGHT: &[u8] = b"\0\0\0\0\x01\0\x02\0\x07\0\0\0\0\0\0\0\
     \xfc\xff\xff\xff\0\0\0\0\x01\0\0\0\x22\0\0\0Ann\0\0\0\0\0";
 
-// A list of three pointers, each over those after it and the texts before its own: of four bytes, of
-// the zero byte alone, and of three.
+/// A list of three pointers, each over those after it and the texts before its own: of four bytes, of
+/// the zero byte alone, and of three.
 #[rattlefmt::skip]
-const NAMES: &[u8] = b"\x01\0\0\0\x1e\0\0\0\
+pub(crate) const NAMES: &[u8] = b"\x01\0\0\0\x1e\0\0\0\
     \x09\0\0\0\x22\0\0\0\x09\0\0\0\x0a\0\0\0\x09\0\0\0\x1a\0\0\0\
     Ann\0\0\0\0\0\0\0\0\0\0\0\0\0Bo\0\0\0\0\0\0";
 
-// A struct of a number and of a list of two texts.
+/// A struct of a number and of a list of two texts.
 #[rattlefmt::skip]
-const GROUP: &[u8] = b"\0\0\0\0\x01\0\x01\0\x07\0\0\0\0\0\0\0\x01\0\0\0\x16\0\0\0\
+pub(crate) const GROUP: &[u8] = b"\0\0\0\0\x01\0\x01\0\x07\0\0\0\0\0\0\0\x01\0\0\0\x16\0\0\0\
     \x05\0\0\0\x22\0\0\0\x05\0\0\0\x1a\0\0\0Ann\0\0\0\0\0Bo\0\0\0\0\0\0";
 
 // A list of two null pointers, which canonical form keeps, and one of none.
 const NULLS: &[u8] = b"\x01\0\0\0\x16\0\0\0\0\0\0\0\0\0\0\0\0\0\0\0\0\0\0\0";
 
-const NO_POINTERS: &[u8] = b"\x01\0\0\0\x06\0\0\0";
+pub(crate) const NO_POINTERS: &[u8] = b"\x01\0\0\0\x06\0\0\0";
 
 const EMPTY: &[u8] = b"\xfc\xff\xff\xff\0\0\0\0";
 
@@ -202,8 +202,8 @@ fn canonical_forms_are_trimmed(rt: HostRuntime) -> Result<()> {
     )
 }
 
-// The words that are measured, or why there are none.
-fn measured<T, V: SetterInput<T>>(value: &V, canonical: bool) -> Walked<u32> {
+/// The words that are measured, or why there are none.
+pub(crate) fn measured<T, V: SetterInput<T>>(value: &V, canonical: bool) -> Walked<u32> {
     match value.measure(canonical) {
         Ok(words) => Ok(words),
         Err(error) => Err(error.kind),

@@ -3,5 +3,6 @@
 mod callers;
 mod drafts;
 mod examples;
+mod read_lists;
 mod rows;
 mod trees;
