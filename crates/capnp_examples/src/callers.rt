@@ -1,8 +1,12 @@
 //! Each caller once, on bytes of the encoding document and of the C++ tool.
 use crate::examples::HELLO;
 use crate::fixtures::expect;
+use crate::other_options::both;
 use capnp::Result;
-use capnp::message::{Builder, DEFAULT_READER_OPTIONS, ReaderSegments, SegmentArray};
+use capnp::message::{
+    Builder, DEFAULT_READER_OPTIONS, Reader, ReaderOptions, ReaderSegments, SegmentArray,
+};
+use capnp::serialize::OwnedSegments;
 use capnp::streams::Format;
 use capnp_uses::building::write_struct;
 use capnp_uses::canonical::canonical_words;
@@ -14,34 +18,36 @@ use capnp_uses::streaming::{StreamRead, every_message, next_message};
 use std::alloc::Global;
 
 // Segments [] and [1, 2, 3, 4, 5, 6, 7, 8], framed, and packed.
-const FRAMED: [u8; 24] = [
+pub const FRAMED: [u8; 24] = [
     1, 0, 0, 0, 0, 0, 0, 0, 1, 0, 0, 0, 0, 0, 0, 0, 1, 2, 3, 4, 5, 6, 7, 8,
 ];
 
-const PACKED: [u8; 14] = [1, 1, 1, 1, 255, 1, 2, 3, 4, 5, 6, 7, 8, 0];
+pub const PACKED: [u8; 14] = [1, 1, 1, 1, 255, 1, 2, 3, 4, 5, 6, 7, 8, 0];
 
-// How many segments the first message has, where there is one.
-fn segments_of_first(alloc: Global, bytes: &[u8]) -> Result<Option<usize>> {
-    match first_message(alloc, bytes)? {
-        Some(message) => Ok(Some(message.get_segments().len())),
-        None => Ok(None),
+// How many segments a message has, where there is one.
+fn segments_of(message: Option<Reader<OwnedSegments>>) -> Option<usize> {
+    match message {
+        Some(message) => Some(message.get_segments().len()),
+        None => None,
     }
+}
+
+fn segments_of_first(alloc: Global, bytes: &[u8]) -> Result<Option<usize>> {
+    Ok(segments_of(first_message(alloc, bytes)?))
+}
+
+// Whether this is the text at the root of a message in place.
+fn holds_text(bytes: &[u8], wanted: &[u8]) -> Result<bool> {
+    let message = borrowed_message(bytes)?;
+    Ok(root_text(&message)?.as_bytes() == wanted)
 }
 
 #[test]
 fn messages_at_hand(rt: HostRuntime) -> Result<()> {
     let none = segments_of_first(rt.alloc(), &[])?;
-    expect(&rt, "nothing", none, None);
     let found = segments_of_first(rt.alloc(), &HELLO)?;
-    expect(&rt, "hello", found, Some(1));
-    let message = borrowed_message(&HELLO)?;
-    let text = root_text(&message)?;
-    expect(
-        &rt,
-        "the text",
-        text.as_bytes(),
-        b"Hello, World!".as_slice(),
-    );
+    expect(&rt, "segments", (none, found), (None, Some(1)));
+    assert!(rt; holds_text(&HELLO, b"Hello, World!")?);
     Ok(())
 }
 
@@ -55,7 +61,7 @@ fn canonical_words_at_hand(rt: HostRuntime) -> Result<()> {
 }
 
 // How many messages are read, where the last ends, and the refusal's number, 0 for none.
-pub fn told(read: &StreamRead) -> (usize, usize, u8) {
+fn told(read: &StreamRead) -> (usize, usize, u8) {
     let number = match &read.refusal {
         Some(error) => error.kind.number(),
         None => 0,
@@ -63,34 +69,57 @@ pub fn told(read: &StreamRead) -> (usize, usize, u8) {
     (read.messages.len(), read.end, number)
 }
 
-// What is told of all messages of framed bytes.
-fn told_of_framed(alloc: Global, stream: &[u8]) -> (usize, usize, u8) {
-    let options = DEFAULT_READER_OPTIONS;
-    told(&every_message(alloc, Format::Framed, stream, options))
+/// What is told of all messages of a stream.
+pub fn told_of(
+    alloc: Global,
+    format: Format,
+    stream: &[u8],
+    options: ReaderOptions,
+) -> (usize, usize, u8) {
+    told(&every_message(alloc, format, stream, options))
+}
+
+/// What is told of all records of a log.
+pub fn told_of_log(alloc: Global, log: &[u8], options: ReaderOptions) -> (usize, usize, u8) {
+    told(&read_log(alloc, log, options))
+}
+
+/// What is told of two records of one word that are read back.
+pub fn told_of_two(alloc: Global, options: ReaderOptions) -> Result<(usize, usize, u8)> {
+    let slices = [[].as_slice(), &FRAMED[16..]];
+    let record = SegmentArray::new(&slices);
+    Ok(told(&two_records_are_read_back(alloc, &record, &record, options)?))
 }
 
 #[test]
 fn a_stream_up_to_a_cut(rt: HostRuntime) -> Result<()> {
-    let mut stream = FRAMED.to_vec(rt.alloc())?;
-    stream.extend_from_slice(&HELLO)?;
-    let whole = told_of_framed(rt.alloc(), &stream);
-    expect(&rt, "both", whole, (2, 56, 0));
+    let stream = both(rt.alloc(), Format::Framed)?;
     assert!(rt; stream.len() == 56);
-    let cut = told_of_framed(rt.alloc(), &stream[..55]);
-    expect(&rt, "cut", cut, (1, 24, 1));
+    let options = DEFAULT_READER_OPTIONS;
+    let whole = told_of(rt.alloc(), Format::Framed, &stream, options);
+    let cut = told_of(rt.alloc(), Format::Framed, &stream[..55], options);
+    expect(&rt, "whole, cut", (whole, cut), ((2, 56, 0), (1, 24, 1)));
     Ok(())
+}
+
+// How many segments the next packed message has, where there is one, and how many bytes are left.
+fn next_packed(alloc: Global, bytes: &[u8]) -> Result<(Option<usize>, usize)> {
+    let mut source = bytes;
+    let next = next_message(alloc, Format::Packed, &mut source, DEFAULT_READER_OPTIONS)?;
+    Ok((segments_of(next), source.len()))
 }
 
 #[test]
 fn the_next_message(rt: HostRuntime) -> Result<()> {
-    let mut source = PACKED.as_slice();
-    let options = DEFAULT_READER_OPTIONS;
-    match next_message(rt.alloc(), Format::Packed, &mut source, options)? {
-        Some(message) => expect(&rt, "segments", message.get_segments().len(), 2),
-        None => expect(&rt, "found", "nothing", "a message"),
-    }
-    assert!(rt; source.is_empty());
+    let found = next_packed(rt.alloc(), &PACKED)?;
+    expect(&rt, "the next", found, (Some(2), 0));
     Ok(())
+}
+
+fn unpacked(text: &[u8]) -> Result<[u8; 16]> {
+    let mut words = [0; 16];
+    unpack_words(text, &mut words)?;
+    Ok(words)
 }
 
 // The example of the encoding document, "Packing".
@@ -100,9 +129,7 @@ fn words_of_the_document(rt: HostRuntime) -> Result<()> {
     let text = pack_words(rt.alloc(), &words)?;
     let wanted = [0x51, 8, 3, 2, 0x31, 0x19, 0xaa, 1];
     expect(&rt, "packed", text.as_slice(), wanted.as_slice());
-    let mut unpacked = [0; 16];
-    unpack_words(&text, &mut unpacked)?;
-    expect(&rt, "unpacked", unpacked.as_slice(), words.as_slice());
+    assert!(rt; unpacked(&text)? == words);
     let back = words_are_unpacked(rt.alloc(), &words)?;
     expect(&rt, "both ways", back.as_slice(), words.as_slice());
     Ok(())
@@ -125,8 +152,8 @@ fn a_log_that_is_cut(rt: HostRuntime) -> Result<()> {
     expect(&rt, "first", &log[..14], PACKED.as_slice());
     expect(&rt, "second", &log[14..], PACKED.as_slice());
     for end in 14..28usize {
-        let read = read_log(rt.alloc(), &log[..end], DEFAULT_READER_OPTIONS);
-        let (messages, last, number) = told(&read);
+        let options = DEFAULT_READER_OPTIONS;
+        let (messages, last, number) = told_of_log(rt.alloc(), &log[..end], options);
         expect(&rt, end, (messages, last, number == 0), (1, 14, end == 14));
     }
     Ok(())
@@ -134,12 +161,8 @@ fn a_log_that_is_cut(rt: HostRuntime) -> Result<()> {
 
 #[test]
 fn two_records(rt: HostRuntime) -> Result<()> {
-    let slices = [[].as_slice(), &FRAMED[16..]];
-    let record = SegmentArray::new(&slices);
-    let options = DEFAULT_READER_OPTIONS;
-    let both = two_records_are_read_back(rt.alloc(), &record, &record, options)?;
-    let found = (both.messages.len(), both.end);
-    expect(&rt, "both", found, (2, 28));
+    let found = told_of_two(rt.alloc(), DEFAULT_READER_OPTIONS)?;
+    expect(&rt, "both", found, (2, 28, 0));
     Ok(())
 }
 

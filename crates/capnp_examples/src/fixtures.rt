@@ -1,11 +1,18 @@
 //! What these tests share: messages over worked segments, and what is expected at a row.
-use capnp::message::{Builder, HeapAllocator, Reader, ReaderOptions, SegmentArray};
+use capnp::message::{
+    Builder, DEFAULT_READER_OPTIONS, HeapAllocator, Reader, ReaderOptions, SegmentArray,
+};
+use capnp::serialize::write_canonical_message;
+use capnp::{Result, Way, any_pointer, transcode};
 use std::alloc::Global;
 use std::fmt::Debug;
 use std::process::Abort;
 
 /// A message that is read.
 pub type Message<'a> = Reader<SegmentArray<'a>>;
+
+/// What the root of such a message leads to.
+pub type Source<'a> = any_pointer::Reader<'a, SegmentArray<'a>>;
 
 /// What is found at a row is what is wanted there.
 pub fn expect<R: Debug + Drop, T: PartialEq + Debug + Drop>(
@@ -27,6 +34,31 @@ pub fn limited(limit: Option<usize>) -> ReaderOptions {
 /// A message of these segments.
 pub fn message_of<'a>(segments: &'a [&'a [u8]], options: ReaderOptions) -> Message<'a> {
     Reader::new(SegmentArray::new(segments), options)
+}
+
+/// Sets a root to that of another message.
+pub fn set_root(message: &mut Builder<HeapAllocator>, root: Source<'_>) -> Result<()> {
+    message.set_root::<any_pointer::Owned, Source<'_>>(root)
+}
+
+/// Sets a root to the canonical form of that of another message.
+pub fn set_root_canonical(message: &mut Builder<HeapAllocator>, root: Source<'_>) -> Result<()> {
+    message.set_root_canonical::<any_pointer::Owned, Source<'_>>(root)
+}
+
+/// What a stream is transcoded to, and how many bytes of it are left.
+pub fn transcoded(alloc: Global, way: Way, stream: &[u8]) -> Result<(Vec<u8>, usize)> {
+    let mut source = stream;
+    let mut text = Vec::new(alloc);
+    transcode(alloc, way, &mut source, &mut text, DEFAULT_READER_OPTIONS)?;
+    Ok((text, source.len()))
+}
+
+/// The canonical form of a message, framed.
+pub fn canonical_text(alloc: Global, reader: &Message<'_>) -> Result<Vec<u8>> {
+    let mut sink: Vec<u8> = Vec::new(alloc);
+    write_canonical_message(alloc, &mut sink, reader)?;
+    Ok(sink)
 }
 
 /// A message whose first segment has room for a given number of words.

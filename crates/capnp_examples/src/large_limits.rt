@@ -1,5 +1,5 @@
 //! Traversal limits of many words: what views and sizes count of them.
-use crate::fixtures::{Message, expect, limited, message_of};
+use crate::fixtures::{Message, Source, expect, limited, message_of, set_root};
 use capnp::message::Builder;
 use capnp_frame::Result;
 use capnp_frame::message::{DEFAULT_READER_OPTIONS, SegmentArray};
@@ -8,9 +8,8 @@ use capnp_rows::messages::has_segments;
 use capnp_rows::refusals::{numbered, refusal};
 use capnp_wire::any_struct::StructReader;
 use capnp_wire::canonical::canonical_size;
-use capnp_wire::{any_pointer, data, text};
-
-type Source<'a> = any_pointer::Reader<'a, SegmentArray<'a>>;
+use capnp_wire::{data, text};
+use std::alloc::Global;
 
 // What is viewed as a text, though it is none.
 fn as_text(reader: &Message<'_>) -> u8 {
@@ -124,14 +123,20 @@ fn set_data(message: &mut Builder<HeapAllocator>, bytes: &[u8]) -> Result<()> {
     message.set_root::<data::Owned, &[u8]>(bytes)
 }
 
+// Whether data that is set stands as this segment, and whether it is viewed as it was set.
+fn stands_and_is_viewed(alloc: Global, segment: &[u8], bytes: &[u8]) -> Result<(bool, bool)> {
+    let mut message = Builder::new_default(alloc);
+    set_data(&mut message, bytes)?;
+    let stands = has_segments(&message, &[segment]);
+    let view = message.get_root::<capnp_build::data::Owned>()?;
+    Ok((stands, view.as_bytes() == bytes))
+}
+
 #[test]
 fn data_that_is_set(rt: HostRuntime) -> Result<()> {
     for (segment, bytes) in &UNTERMINATED {
-        let mut message = Builder::new_default(rt.alloc());
-        set_data(&mut message, bytes)?;
-        expect(&rt, *segment, has_segments(&message, &[*segment]), true);
-        let view = message.get_root::<capnp_build::data::Owned>()?;
-        expect(&rt, *segment, view.as_bytes(), *bytes);
+        let found = stands_and_is_viewed(rt.alloc(), segment, bytes)?;
+        expect(&rt, *segment, found, (true, true));
     }
     Ok(())
 }
@@ -172,9 +177,9 @@ fn doublings_are_not_set(rt: HostRuntime) -> Result<()> {
     let segments = [bytes.as_slice()];
     let reader = message_of(&segments, DEFAULT_READER_OPTIONS);
     let mut message = Builder::new_default(rt.alloc());
-    let set = message.set_root::<any_pointer::Owned, Source<'_>>(reader.get_root()?);
-    expect(&rt, "doublings", refusal(set), 20);
-    expect(&rt, "words", message.size_in_words(), 1);
+    let refused = refusal(set_root(&mut message, reader.get_root()?));
+    let found = (refused, message.size_in_words());
+    expect(&rt, "doublings", found, (20, 1));
     Ok(())
 }
 

@@ -1,17 +1,14 @@
 //! Messages of many words through each call that reads, writes and canonicalizes.
-use crate::fixtures::{Message, expect, message_of};
-use capnp::message::{
-    Builder, DEFAULT_READER_OPTIONS, HeapAllocator, Reader, ReaderSegments, SegmentArray,
+use crate::fixtures::{
+    Message, canonical_text, expect, message_of, set_root, set_root_canonical, transcoded,
 };
-use capnp::serialize::{self, write_canonical_message};
-use capnp::{Result, Way, any_pointer, data, serialize_packed, transcode};
+use capnp::message::{Builder, DEFAULT_READER_OPTIONS, HeapAllocator, Reader, ReaderSegments};
+use capnp::{Result, Way, data, serialize, serialize_packed};
 use std::alloc::Global;
 use std::process::Abort;
 
 // Words of a message of one segment: the root's, and those of its data.
 const SIZES: [u32; 3] = [513, 1025, 4097];
-
-type Source<'a> = any_pointer::Reader<'a, SegmentArray<'a>>;
 
 // The segment of a given number of words whose root is data of sevens.
 fn segment_of(rt: &(impl Abort + AllocGlobal), words: u32) -> Result<Vec<u8>> {
@@ -141,16 +138,8 @@ fn framed_text(alloc: Global, segment: &[u8]) -> Result<Vec<u8>> {
 }
 
 fn pack(rt: &(impl Abort + AllocGlobal), framed: &[u8]) -> Result<Vec<u8>> {
-    let mut source = framed;
-    let mut packed: Vec<u8> = Vec::new(rt.alloc());
-    transcode(
-        rt.alloc(),
-        Way::Pack,
-        &mut source,
-        &mut packed,
-        DEFAULT_READER_OPTIONS,
-    )?;
-    assert!(rt; source.is_empty());
+    let (packed, left) = transcoded(rt.alloc(), Way::Pack, framed)?;
+    assert!(rt; left == 0);
     Ok(packed)
 }
 
@@ -160,6 +149,12 @@ fn holds<S: ReaderSegments>(reader: &Reader<S>, segment: &[u8]) -> bool {
         .get_segment(0)
         .is_some_and(|first| first == segment)
         && segments.get_segment(1).is_none()
+}
+
+// Whether the root is data, all bytes of the segment after the root's word.
+fn has_data<S: ReaderSegments>(reader: &Reader<S>, segment: &[u8]) -> Result<bool> {
+    let bytes: data::Reader<'_> = reader.get_root()?;
+    Ok(segment.ends_with(bytes) && bytes.len().saturating_add(8) == segment.len())
 }
 
 fn read_framed(rt: &(impl Abort + AllocGlobal), framed: &[u8], segment: &[u8]) -> Result<()> {
@@ -185,10 +180,7 @@ fn read_slice(rt: &(impl Abort + AllocGlobal), framed: &[u8], segment: &[u8]) ->
     let mut slice = framed;
     let options = DEFAULT_READER_OPTIONS;
     let read = serialize::read_message_from_flat_slice(rt.alloc(), &mut slice, options)?;
-    assert!(rt; holds(&read, segment));
-    let bytes: data::Reader<'_> = read.get_root()?;
-    assert!(rt; segment.ends_with(bytes));
-    expect(rt, "the root", bytes.len().saturating_add(8), segment.len());
+    assert!(rt; holds(&read, segment) && has_data(&read, segment)?);
     Ok(())
 }
 
@@ -214,15 +206,7 @@ fn read_packed_in_room(
 }
 
 fn unpack(rt: &(impl Abort + AllocGlobal), packed: &[u8], framed: &[u8]) -> Result<()> {
-    let mut source = packed;
-    let mut back: Vec<u8> = Vec::new(rt.alloc());
-    transcode(
-        rt.alloc(),
-        Way::Unpack,
-        &mut source,
-        &mut back,
-        DEFAULT_READER_OPTIONS,
-    )?;
+    let (back, _) = transcoded(rt.alloc(), Way::Unpack, packed)?;
     assert!(rt; back.as_slice() == framed);
     Ok(())
 }
@@ -240,12 +224,6 @@ fn canonicalize(rt: &(impl Abort + AllocGlobal), segment: &[u8]) -> Result<()> {
     set_from(rt, &reader, segment)
 }
 
-fn canonical_text(alloc: Global, reader: &Message<'_>) -> Result<Vec<u8>> {
-    let mut sink: Vec<u8> = Vec::new(alloc);
-    write_canonical_message(alloc, &mut sink, reader)?;
-    Ok(sink)
-}
-
 // Whether the first segment is this one.
 fn stands(message: &Builder<HeapAllocator>, segment: &[u8]) -> bool {
     match message.get_segment(0) {
@@ -257,10 +235,10 @@ fn stands(message: &Builder<HeapAllocator>, segment: &[u8]) -> bool {
 // A root that is set to that of the message, as it stands and in canonical form.
 fn set_from(rt: &(impl Abort + AllocGlobal), reader: &Message<'_>, segment: &[u8]) -> Result<()> {
     let mut message = large_message(rt.alloc());
-    message.set_root::<any_pointer::Owned, Source<'_>>(reader.get_root()?)?;
+    set_root(&mut message, reader.get_root()?)?;
     assert!(rt; stands(&message, segment));
     let mut message = large_message(rt.alloc());
-    message.set_root_canonical::<any_pointer::Owned, Source<'_>>(reader.get_root()?)?;
+    set_root_canonical(&mut message, reader.get_root()?)?;
     assert!(rt; stands(&message, segment));
     let reader = message.into_reader();
     assert!(rt; reader.is_canonical()?);

@@ -1,13 +1,11 @@
 //! Chunks of many bytes, and streams of many messages.
-use crate::callers::told;
-use crate::fixtures::expect;
+use crate::callers::{told_of, told_of_log};
+use crate::fixtures::{expect, transcoded};
 use capnp::io::{Read, Write};
 use capnp::message::DEFAULT_READER_OPTIONS;
 use capnp::streams::Format;
-use capnp::{Result, Way, transcode};
+use capnp::{Result, Way};
 use capnp_pack::{PackedRead, PackedWrite};
-use capnp_uses::record_log::read_log;
-use capnp_uses::streaming::every_message;
 use std::alloc::{AllocError, Global};
 
 fn filled(alloc: Global, byte: u8, length: usize) -> std::result::Result<Vec<u8>, AllocError> {
@@ -92,13 +90,6 @@ fn repeated(alloc: Global, text: &[u8], times: usize) -> std::result::Result<Vec
     Ok(stream)
 }
 
-fn transcoded(alloc: Global, way: Way, stream: &[u8]) -> Result<Vec<u8>> {
-    let mut source = stream;
-    let mut text = Vec::new(alloc);
-    transcode(alloc, way, &mut source, &mut text, DEFAULT_READER_OPTIONS)?;
-    Ok(text)
-}
-
 // A message of a null root, framed and packed.
 const FRAMED: [u8; 16] = [0, 0, 0, 0, 1, 0, 0, 0, 0, 0, 0, 0, 0, 0, 0, 0];
 
@@ -108,11 +99,12 @@ const PACKED: [u8; 4] = [0x10, 1, 0, 0];
 #[test]
 fn a_thousand_messages_and_one(rt: HostRuntime) -> Result<()> {
     let framed = repeated(rt.alloc(), &FRAMED, 1001)?;
-    let read = every_message(rt.alloc(), Format::Framed, &framed, DEFAULT_READER_OPTIONS);
-    expect(&rt, "framed", told(&read), (1001, 16016, 0));
     let packed = repeated(rt.alloc(), &PACKED, 1001)?;
-    let read = read_log(rt.alloc(), &packed, DEFAULT_READER_OPTIONS);
-    expect(&rt, "packed", told(&read), (1001, 4004, 0));
+    let options = DEFAULT_READER_OPTIONS;
+    let found = told_of(rt.alloc(), Format::Framed, &framed, options);
+    expect(&rt, "framed", found, (1001, 16016, 0));
+    let found = told_of_log(rt.alloc(), &packed, options);
+    expect(&rt, "packed", found, (1001, 4004, 0));
     Ok(())
 }
 
@@ -120,7 +112,9 @@ fn a_thousand_messages_and_one(rt: HostRuntime) -> Result<()> {
 fn a_thousand_messages_are_transcoded(rt: HostRuntime) -> Result<()> {
     let framed = repeated(rt.alloc(), &FRAMED, 1001)?;
     let packed = repeated(rt.alloc(), &PACKED, 1001)?;
-    assert!(rt; transcoded(rt.alloc(), Way::Pack, &framed)? == packed);
-    assert!(rt; transcoded(rt.alloc(), Way::Unpack, &packed)? == framed);
+    let (text, _) = transcoded(rt.alloc(), Way::Pack, &framed)?;
+    assert!(rt; text == packed);
+    let (text, _) = transcoded(rt.alloc(), Way::Unpack, &packed)?;
+    assert!(rt; text == framed);
     Ok(())
 }

@@ -1,30 +1,21 @@
 //! The callers over other limits than the default ones, and over what is refused.
-use crate::callers::told;
+use crate::callers::{FRAMED, PACKED, told_of, told_of_log, told_of_two};
 use crate::examples::{HELLO, PACKED as PACKED_HELLO};
 use crate::fixtures::{expect, limited};
 use capnp::Result;
-use capnp::message::{DEFAULT_READER_OPTIONS, ReaderOptions, SegmentArray};
+use capnp::message::{DEFAULT_READER_OPTIONS, ReaderOptions};
 use capnp::streams::Format;
 use capnp_rows::refusals::{numbered, refusal};
 use capnp_uses::canonical::canonical_words;
 use capnp_uses::packed_struct::read_packed_words;
 use capnp_uses::packing::{pack_words, unpack_words, words_are_unpacked};
 use capnp_uses::reading::{borrowed_message, first_message, root_text};
-use capnp_uses::record_log::{read_log, two_records_are_read_back};
-use capnp_uses::streaming::{every_message, next_message, skip_message};
+use capnp_uses::streaming::{next_message, skip_message};
 use std::alloc::{AllocError, Global};
 use std::process::Abort;
 
-// Segments [] and [1, 2, 3, 4, 5, 6, 7, 8], framed, and packed: a message of one word, where HELLO has
-// three.
-const FRAMED: [u8; 24] = [
-    1, 0, 0, 0, 0, 0, 0, 0, 1, 0, 0, 0, 0, 0, 0, 0, 1, 2, 3, 4, 5, 6, 7, 8,
-];
-
-const PACKED: [u8; 14] = [1, 1, 1, 1, 255, 1, 2, 3, 4, 5, 6, 7, 8, 0];
-
-// Both messages, in a format.
-fn both(alloc: Global, format: Format) -> std::result::Result<Vec<u8>, AllocError> {
+/// A message of one word and HELLO, which has three, in a format.
+pub fn both(alloc: Global, format: Format) -> std::result::Result<Vec<u8>, AllocError> {
     let (first, second): (&[u8], &[u8]) = match format {
         Format::Framed => (&FRAMED, &HELLO),
         Format::Packed => (&PACKED, &PACKED_HELLO),
@@ -58,21 +49,12 @@ fn streams_within_a_limit(rt: HostRuntime) -> std::result::Result<(), AllocError
         expect(&rt, *limit, found, (*messages, framed_end, *number));
         let found = told_of(rt.alloc(), Format::Packed, &packed, options);
         expect(&rt, *limit, found, (*messages, packed_end, *number));
-        let log = told(&read_log(rt.alloc(), &packed, options));
+        let log = told_of_log(rt.alloc(), &packed, options);
         expect(&rt, *limit, log, (*messages, packed_end, *number));
         let next = next_refusal(rt.alloc(), &framed, options);
         expect(&rt, *limit, next, if *messages == 0 { 8 } else { 0 });
     }
     Ok(())
-}
-
-fn told_of(
-    alloc: Global,
-    format: Format,
-    stream: &[u8],
-    options: ReaderOptions,
-) -> (usize, usize, u8) {
-    told(&every_message(alloc, format, stream, options))
 }
 
 // The refusal of the next framed message.
@@ -216,13 +198,8 @@ fn packed_texts_that_are_refused(rt: HostRuntime) {
 // Records of one word within a limit of one.
 #[test]
 fn records_within_a_limit(rt: HostRuntime) -> Result<()> {
-    let slices = [[].as_slice(), &FRAMED[16..]];
-    let record = SegmentArray::new(&slices);
-    let mut options = ReaderOptions::new();
-    options.traversal_limit_in_words(Some(1));
-    let both = two_records_are_read_back(rt.alloc(), &record, &record, options)?;
-    let found = (both.messages.len(), both.end, both.refusal.is_none());
-    expect(&rt, "both", found, (2, 28, true));
+    let found = told_of_two(rt.alloc(), limited(Some(1)))?;
+    expect(&rt, "both", found, (2, 28, 0));
     Ok(())
 }
 

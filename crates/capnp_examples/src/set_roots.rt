@@ -1,7 +1,7 @@
 //! The callers that set a root to what another message holds, by the words that stand then.
-use crate::fixtures::{Message, expect, message_of, roomy_message};
-use capnp::message::{Builder, HeapAllocator, ReaderOptions, SegmentArray};
-use capnp::{Result, any_pointer};
+use crate::fixtures::{Message, Source, expect, message_of, roomy_message};
+use capnp::Result;
+use capnp::message::{Builder, HeapAllocator, ReaderOptions};
 use capnp_rows::messages::has_segments;
 use capnp_rows::refusals::refusal;
 use capnp_uses::setting::{set_canonical, set_tree, set_tree_and_word};
@@ -38,8 +38,6 @@ const FORMS: [(&[&[u8]], [&[u8]; 3]); 3] = [
     ]),
     (NULL, [&[0; 8], &[0; 8], &[0; 8]]),
 ];
-
-type Source<'a> = any_pointer::Reader<'a, SegmentArray<'a>>;
 
 // How a root is set to that of another message.
 #[derive(Clone, Copy, Debug)]

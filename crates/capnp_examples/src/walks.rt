@@ -1,8 +1,9 @@
 //! What the traversal limit counts while a message is walked over: views alone, from where they were.
-use crate::fixtures::{Message, expect, limited, message_of};
-use capnp::message::{Builder, SegmentArray};
-use capnp::serialize::write_canonical_message;
-use capnp::{Result, any_pointer, text};
+use crate::fixtures::{
+    Message, Source, canonical_text, expect, limited, message_of, set_root, set_root_canonical,
+};
+use capnp::message::Builder;
+use capnp::{Result, text};
 use capnp_rows::refusals::refusal;
 use std::alloc::Global;
 
@@ -27,8 +28,6 @@ const WALKS: [Walk; 7] = [
     Walk::SetRootCanonical,
 ];
 
-type Source<'a> = any_pointer::Reader<'a, SegmentArray<'a>>;
-
 // Walks over the words of the root's tree, and returns how many.
 fn walk_over(alloc: Global, reader: &Message<'_>, kind: Walk) -> Result<usize> {
     match kind {
@@ -48,20 +47,18 @@ fn target_words(reader: &Message<'_>) -> Result<usize> {
 }
 
 fn written_words(alloc: Global, reader: &Message<'_>) -> Result<usize> {
-    let mut sink: Vec<u8> = Vec::new(alloc);
-    write_canonical_message(alloc, &mut sink, reader)?;
-    Ok((sink.len() / 8).saturating_sub(1))
+    Ok((canonical_text(alloc, reader)?.len() / 8).saturating_sub(1))
 }
 
 fn set_words(alloc: Global, reader: &Message<'_>) -> Result<usize> {
     let mut message = Builder::new_default(alloc);
-    message.set_root::<any_pointer::Owned, Source<'_>>(reader.get_root()?)?;
+    set_root(&mut message, reader.get_root()?)?;
     Ok(message.size_in_words())
 }
 
 fn set_canonical_words(alloc: Global, reader: &Message<'_>) -> Result<usize> {
     let mut message = Builder::new_default(alloc);
-    message.set_root_canonical::<any_pointer::Owned, Source<'_>>(reader.get_root()?)?;
+    set_root_canonical(&mut message, reader.get_root()?)?;
     Ok(message.size_in_words())
 }
 
