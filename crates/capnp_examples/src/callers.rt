@@ -1,7 +1,6 @@
 //! Each caller once, on bytes of the encoding document and of the C++ tool.
-use crate::examples::HELLO;
+use crate::examples::{HELLO, PACKED as PACKED_HELLO};
 use crate::fixtures::expect;
-use crate::other_options::both;
 use capnp::Result;
 use capnp::message::{
     Builder, DEFAULT_READER_OPTIONS, Reader, ReaderOptions, ReaderSegments, SegmentArray,
@@ -15,14 +14,25 @@ use capnp_uses::packing::{pack_words, unpack_words, words_are_unpacked};
 use capnp_uses::reading::{borrowed_message, first_message, root_text};
 use capnp_uses::record_log::{append, read_log, two_records_are_read_back};
 use capnp_uses::streaming::{StreamRead, every_message, next_message};
-use std::alloc::Global;
+use std::alloc::{AllocError, Global};
 
 // Segments [] and [1, 2, 3, 4, 5, 6, 7, 8], framed, and packed.
 pub const FRAMED: [u8; 24] = [
     1, 0, 0, 0, 0, 0, 0, 0, 1, 0, 0, 0, 0, 0, 0, 0, 1, 2, 3, 4, 5, 6, 7, 8,
 ];
 
-pub const PACKED: [u8; 14] = [1, 1, 1, 1, 255, 1, 2, 3, 4, 5, 6, 7, 8, 0];
+const PACKED: [u8; 14] = [1, 1, 1, 1, 255, 1, 2, 3, 4, 5, 6, 7, 8, 0];
+
+/// A message of one word and HELLO, which has three, in a format.
+pub fn both(alloc: Global, format: Format) -> std::result::Result<Vec<u8>, AllocError> {
+    let (first, second): (&[u8], &[u8]) = match format {
+        Format::Framed => (&FRAMED, &HELLO),
+        Format::Packed => (&PACKED, &PACKED_HELLO),
+    };
+    let mut stream = first.to_vec(alloc)?;
+    stream.extend_from_slice(second)?;
+    Ok(stream)
+}
 
 // How many segments a message has, where there is one.
 fn segments_of(message: Option<Reader<OwnedSegments>>) -> Option<usize> {
@@ -84,21 +94,15 @@ pub fn told_of_log(alloc: Global, log: &[u8], options: ReaderOptions) -> (usize,
     told(&read_log(alloc, log, options))
 }
 
-/// What is told of two records of one word that are read back.
-pub fn told_of_two(alloc: Global, options: ReaderOptions) -> Result<(usize, usize, u8)> {
-    let slices = [[].as_slice(), &FRAMED[16..]];
-    let record = SegmentArray::new(&slices);
-    Ok(told(&two_records_are_read_back(alloc, &record, &record, options)?))
-}
-
 #[test]
 fn a_stream_up_to_a_cut(rt: HostRuntime) -> Result<()> {
     let stream = both(rt.alloc(), Format::Framed)?;
-    assert!(rt; stream.len() == 56);
     let options = DEFAULT_READER_OPTIONS;
     let whole = told_of(rt.alloc(), Format::Framed, &stream, options);
-    let cut = told_of(rt.alloc(), Format::Framed, &stream[..55], options);
-    expect(&rt, "whole, cut", (whole, cut), ((2, 56, 0), (1, 24, 1)));
+    expect(&rt, "both", whole, (2, 56, 0));
+    let shorter = stream.get(..55).unwrap_or(&[]);
+    let cut = told_of(rt.alloc(), Format::Framed, shorter, options);
+    expect(&rt, "cut", cut, (1, 24, 1));
     Ok(())
 }
 
@@ -161,8 +165,12 @@ fn a_log_that_is_cut(rt: HostRuntime) -> Result<()> {
 
 #[test]
 fn two_records(rt: HostRuntime) -> Result<()> {
-    let found = told_of_two(rt.alloc(), DEFAULT_READER_OPTIONS)?;
-    expect(&rt, "both", found, (2, 28, 0));
+    let slices = [[].as_slice(), &FRAMED[16..]];
+    let record = SegmentArray::new(&slices);
+    let options = DEFAULT_READER_OPTIONS;
+    let both = two_records_are_read_back(rt.alloc(), &record, &record, options)?;
+    let found = (both.messages.len(), both.end);
+    expect(&rt, "both", found, (2, 28));
     Ok(())
 }
 

@@ -1,29 +1,19 @@
 //! The callers over other limits than the default ones, and over what is refused.
-use crate::callers::{FRAMED, PACKED, told_of, told_of_log, told_of_two};
-use crate::examples::{HELLO, PACKED as PACKED_HELLO};
+use crate::callers::{FRAMED, both, told_of, told_of_log};
+use crate::examples::PACKED as PACKED_HELLO;
 use crate::fixtures::{expect, limited};
 use capnp::Result;
-use capnp::message::{DEFAULT_READER_OPTIONS, ReaderOptions};
+use capnp::message::{DEFAULT_READER_OPTIONS, ReaderOptions, SegmentArray};
 use capnp::streams::Format;
 use capnp_rows::refusals::{numbered, refusal};
 use capnp_uses::canonical::canonical_words;
 use capnp_uses::packed_struct::read_packed_words;
 use capnp_uses::packing::{pack_words, unpack_words, words_are_unpacked};
 use capnp_uses::reading::{borrowed_message, first_message, root_text};
+use capnp_uses::record_log::two_records_are_read_back;
 use capnp_uses::streaming::{next_message, skip_message};
 use std::alloc::{AllocError, Global};
 use std::process::Abort;
-
-/// A message of one word and HELLO, which has three, in a format.
-pub fn both(alloc: Global, format: Format) -> std::result::Result<Vec<u8>, AllocError> {
-    let (first, second): (&[u8], &[u8]) = match format {
-        Format::Framed => (&FRAMED, &HELLO),
-        Format::Packed => (&PACKED, &PACKED_HELLO),
-    };
-    let mut stream = first.to_vec(alloc)?;
-    stream.extend_from_slice(second)?;
-    Ok(stream)
-}
 
 // A limit, how many of both messages are read, and the refusal of the next.
 const LIMITS: [(Option<usize>, usize, u8); 5] = [
@@ -198,8 +188,13 @@ fn packed_texts_that_are_refused(rt: HostRuntime) {
 // Records of one word within a limit of one.
 #[test]
 fn records_within_a_limit(rt: HostRuntime) -> Result<()> {
-    let found = told_of_two(rt.alloc(), limited(Some(1)))?;
-    expect(&rt, "both", found, (2, 28, 0));
+    let slices = [[].as_slice(), &FRAMED[16..]];
+    let record = SegmentArray::new(&slices);
+    let mut options = ReaderOptions::new();
+    options.traversal_limit_in_words(Some(1));
+    let both = two_records_are_read_back(rt.alloc(), &record, &record, options)?;
+    let found = (both.messages.len(), both.end, both.refusal.is_none());
+    expect(&rt, "both", found, (2, 28, true));
     Ok(())
 }
 
