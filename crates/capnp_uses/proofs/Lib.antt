@@ -1,4 +1,5 @@
 -- The lemmas.
+pub mod AccountListLemmas
 pub mod AnyNumberLemmas
 pub mod BackLemmas
 pub mod ContactLemmas

@@ -1,4 +1,5 @@
 -- What callers say.
+pub mod AccountLists
 pub mod Regions
 pub mod Roots
 pub mod Streaming

@@ -5,6 +5,7 @@
 #![tactic(auto)]
 
 pub mod account;
+pub mod account_list;
 pub mod any_numbers;
 pub mod building;
 pub mod canonical;

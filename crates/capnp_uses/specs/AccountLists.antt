@@ -1,0 +1,45 @@
+-- Lists of accounts that are built one by one (src/account_list.rt).
+use Rattle.std.specs.Prelude.{◌≡◌, ◌⊎◌, ℕ, ◌+◌, ◌*◌, ◌/◌, ◌^◌, ◌<◌, ◌≤◌, List, [], ◌∷◌, map, sum_by, length, replicate, Any, Option, None, IsSomeAnd}
+use Rattle.capnp_frame.specs.declared.error.ErrorKind.{ErrorKind}
+use Rattle.capnp_frame.specs.declared.error.ErrorKind.TheVariants.{OutOfMemory, AllocationTooLarge, MessageTooLarge}
+use Rattle.capnp_wire.specs.Tree.{structs, Trees, none, tree}
+use Rattle.capnp_wire.specs.Values.{IsTextTree, LongText}
+use Rattle.capnp_orphans.specs.Held.{AreTrees}
+use Rattle.capnp_orphans.specs.Segments.{Segment, ExceedsMost}
+use Rattle.capnp_uses.specs.declared.account_list.NewAccount.{NewAccount}
+
+-- the text of a name
+abbrev pub IsName : NewAccount → Trees → Type 0
+IsName account trees = IsTextTree account.name.now trees
+
+-- The tree of a list of accounts: a struct for each, of its number, which leads to its name.
+abbrev pub IsAccountList : List NewAccount → Trees → Type 0
+IsAccountList accounts trees = (names : Trees) × AreTrees IsName accounts names
+    × (trees ≡ tree (structs 1 1 (map (λ account. account.id ∷ []) accounts)) names none)
+
+-- the words of a name: its bytes, and a zero byte
+abbrev pub name_words : NewAccount → ℕ
+name_words account = length account.name.now / 8 + 1
+
+-- the words of a list: of its names, its tag, and two for each account
+abbrev pub list_words : List NewAccount → ℕ
+list_words accounts = sum_by name_words accounts + 1 + 2 * length accounts
+
+-- a segment has no room for a given number of words more
+abbrev pub IsFullFor : ℕ → Segment → Type 0
+IsFullFor words segment = (2 ^ 29 ≤ length segment.bytes / 8 + words) ⊎ ExceedsMost words segment
+
+-- that of a message that is begun on the heap: the word of its root, which is null
+abbrev pub new_segment : Segment
+new_segment = record { bytes = replicate 8 0; most = None; capacity = 0 }
+
+-- No list of these accounts is added: memory is refused, a name is too long for a text, or with the words of the list the segment
+-- would have 2 ^ 29, or a region more than it has room for.
+abbrev pub RefusesAccounts : List NewAccount → Segment → ErrorKind → Type 0
+RefusesAccounts accounts segment kind = (kind ≡ OutOfMemory)
+    ⊎ Any (λ account. LongText account.name.now kind) accounts
+    ⊎ (IsFullFor (list_words accounts) segment × ((words : ℕ) × (kind ≡ AllocationTooLarge words)))
+
+-- The message of such a list has more words than the limit, and the failure tells how many.
+abbrev pub ExceedsLimit : List NewAccount → Option ℕ → ErrorKind → Type 0
+ExceedsLimit accounts limit kind = IsSomeAnd limit (λ most. most < 1 + list_words accounts) × (kind ≡ MessageTooLarge (1 + list_words accounts))
