@@ -3,6 +3,8 @@
 #![tactic(auto)]
 
 #[cfg(test)]
+mod account_lists;
+#[cfg(test)]
 mod accounts;
 #[cfg(test)]
 mod any_numbers;
