@@ -1,6 +1,7 @@
 //! Records of three numbers, a text, and in some of them a list of numbers: a message each, in the memory
 //! of the one before.
-use crate::digest::Digest;
+use crate::job::Job;
+use crate::output::Output;
 use crate::random::Random;
 use capnp_frame::Result;
 use capnp_orphans::{Orphanage, StructDraft};
@@ -11,16 +12,19 @@ const NAMES: [&str; 4] = ["Ada", "Grace", "Barbara", "Margaret"];
 
 const SAMPLES: [u32; 12] = [3, 1, 4, 1, 5, 9, 2, 6, 5, 3, 5, 8];
 
-pub fn digest_of(alloc: Global, seed: u32, count: u32) -> Result<u64> {
-    let mut random = Random::new(seed);
-    let mut digest = Digest::new();
+pub fn build(alloc: Global, job: Job, output: &mut Output) -> Result<()> {
     let mut objects = Orphanage::new(alloc)?;
-    for id in 0..count {
-        objects.clear();
-        record(&mut objects, &mut random, id)?;
-        digest.add_bytes(objects.bytes());
+    for time in 0..job.times {
+        let mut random = Random::new(job.seed);
+        for id in 0..job.count {
+            objects.clear();
+            record(&mut objects, &mut random, id)?;
+            if time + 1 == job.times {
+                output.add(objects.bytes())?;
+            }
+        }
     }
-    Ok(digest.value())
+    Ok(())
 }
 
 // A quarter of the records have a list, of at most eleven numbers.

@@ -1,5 +1,6 @@
 //! A table: one message, a list of structs of a number, a flag and a text, which rows share.
-use crate::digest::Digest;
+use crate::job::Job;
+use crate::output::Output;
 use crate::random::Random;
 use capnp_frame::Result;
 use capnp_orphans::{Orphanage, StructDraft};
@@ -8,12 +9,21 @@ use std::alloc::Global;
 
 type Row = StructDraft<any_struct::Owned, 2, 1>;
 
-pub fn digest_of(alloc: Global, seed: u32, count: u32) -> Result<u64> {
-    let mut random = Random::new(seed);
+pub fn build(alloc: Global, job: Job, output: &mut Output) -> Result<()> {
     let mut objects = Orphanage::new(alloc)?;
-    let shared = objects.text("a text that rows share")?;
     let mut rows: Vec<Row> = Vec::new(alloc);
-    for id in 0..count {
+    for _ in 0..job.times {
+        objects.clear();
+        rows.clear();
+        table(&mut objects, &mut rows, job)?;
+    }
+    output.add(objects.bytes())
+}
+
+fn table(objects: &mut Orphanage, rows: &mut Vec<Row>, job: Job) -> Result<()> {
+    let mut random = Random::new(job.seed);
+    let shared = objects.text("a text that rows share")?;
+    for id in 0..job.count {
         let mut row = Row::new();
         row.set_data_field(0, random.next());
         row.set_data_field(64, id % 3 == 0);
@@ -25,9 +35,7 @@ pub fn digest_of(alloc: Global, seed: u32, count: u32) -> Result<u64> {
         }
         rows.push(row)?;
     }
-    let list = objects.struct_list(&rows)?;
+    let list = objects.struct_list(rows)?;
     objects.set_root(list);
-    let mut digest = Digest::new();
-    digest.add_bytes(objects.bytes());
-    Ok(digest.value())
+    Ok(())
 }

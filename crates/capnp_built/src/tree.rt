@@ -1,20 +1,22 @@
 //! A binary tree of as many nodes as are asked for, up to a full row of leaves.
-use crate::digest::Digest;
+use crate::job::Job;
+use crate::output::Output;
 use crate::random::Random;
 use capnp_frame::Result;
 use capnp_orphans::{Orphan, Orphanage, StructDraft};
 use capnp_wire::any_struct;
 use std::alloc::Global;
 
-pub fn digest_of(alloc: Global, seed: u32, count: u32) -> Result<u64> {
-    let mut random = Random::new(seed);
+pub fn build(alloc: Global, job: Job, output: &mut Output) -> Result<()> {
     let mut objects = Orphanage::new(alloc)?;
-    let depth = count.checked_ilog2().unwrap_or(0);
-    let root = tree(&mut objects, &mut random, depth)?;
-    objects.set_root(root);
-    let mut digest = Digest::new();
-    digest.add_bytes(objects.bytes());
-    Ok(digest.value())
+    let depth = job.count.checked_ilog2().unwrap_or(0);
+    for _ in 0..job.times {
+        objects.clear();
+        let mut random = Random::new(job.seed);
+        let root = tree(&mut objects, &mut random, depth)?;
+        objects.set_root(root);
+    }
+    output.add(objects.bytes())
 }
 
 // A tree of a depth: its left part is written first, then its right part, then the node.
