@@ -1,0 +1,121 @@
+"""Compares and times programs that do the jobs of crates/capnp_built: NAME=PROGRAM .., ours first."""
+import hashlib, os, re, shutil, struct, subprocess, sys
+
+JOBS = ["records", "table", "tree", "texts"]
+# A time is the difference of two runs, of so many times, so that neither what a program does once nor the
+# first message's growth counts.
+COUNT, FEW, MANY, ROUNDS = 100000, 1, 21, 5
+# The same under valgrind.
+COUNTED, COUNTED_FEW, COUNTED_MANY = 2000, 2, 12
+
+
+def content(words, at, into):
+    """Adds what the pointer at a word leads to, whatever the places of objects."""
+    pointer = words[at]
+    target = at + 1 + (pointer >> 2 & 0x1fffffff) - (pointer & 1 << 31 and 1 << 29)
+    if pointer == 0:
+        into.update(b"null")
+    elif pointer & 3 == 0:
+        contents_of(words, target, pointer >> 32 & 0xffff, pointer >> 48, into)
+    elif pointer & 3 == 1:
+        code, size = pointer >> 32 & 7, pointer >> 35
+        into.update(b"list %d" % code)
+        if code == 7:
+            tag = words[target]
+            data, pointers = tag >> 32 & 0xffff, tag >> 48
+            for index in range(tag >> 2 & 0x3fffffff):
+                contents_of(words, target + 1 + index * (data + pointers), data, pointers, into)
+        elif code == 6:
+            into.update(b"%d" % size)
+            for index in range(size):
+                content(words, target + index, into)
+        else:
+            bits = size * [0, 1, 8, 16, 32, 64][code]
+            packed = struct.pack("<%dQ" % ((bits + 63) // 64), *words[target:target + (bits + 63) // 64])
+            into.update(b"%d" % size + packed[:(bits + 7) // 8])
+    else:
+        sys.exit("time-building: a pointer that no job makes")
+
+
+def contents_of(words, at, data, pointers, into):
+    into.update(b"struct %d %d" % (data, pointers))
+    into.update(struct.pack("<%dQ" % data, *words[at:at + data]))
+    for index in range(pointers):
+        content(words, at + data + index, into)
+
+
+def digest(stream):
+    """The digest of what framed messages of one segment hold."""
+    into, at = hashlib.sha256(), 0
+    while at < len(stream):
+        segments, size = struct.unpack_from("<II", stream, at)
+        assert segments == 0
+        content(struct.unpack_from("<%dQ" % size, stream, at + 8), 0, into)
+        at += 8 + 8 * size
+    return into.hexdigest()[:16]
+
+
+def run(program, job, times, processor):
+    child = subprocess.Popen([program, job, "1", str(COUNT), str(times)], stdout=subprocess.DEVNULL,
+                             preexec_fn=lambda: os.sched_setaffinity(0, {processor}))
+    _, status, used = os.wait4(child.pid, 0)
+    if status:
+        sys.exit("time-building: %s: %s: status %d" % (program, job, status))
+    return used.ru_utime + used.ru_stime
+
+
+def milliseconds(programs, job, processors):
+    """The least of all rounds on each processor, for one time."""
+    least = {}
+    for processor in processors * ROUNDS:
+        for program in programs:
+            for times in (FEW, MANY):
+                took = run(program, job, times, processor)
+                least[program, times] = min(took, least.get((program, times), took))
+    return [(least[program, MANY] - least[program, FEW]) * 1e3 / (MANY - FEW) for program in programs]
+
+
+def told(tool, program, job, times, pattern):
+    said = subprocess.run(["valgrind"] + tool + [program, job, "1", str(COUNTED), str(times)],
+                          stdout=subprocess.DEVNULL, stderr=subprocess.PIPE).stderr.decode()
+    return int(re.search(pattern, said).group(1).replace(",", ""))
+
+
+def by_times(tool, program, job, pattern):
+    few, many = [told(tool, program, job, times, pattern) for times in (COUNTED_FEW, COUNTED_MANY)]
+    return (many - few) / (COUNTED_MANY - COUNTED_FEW)
+
+
+def instructions(program, job):
+    callgrind = ["--tool=callgrind", "--callgrind-out-file=/dev/null"]
+    return by_times(callgrind, program, job, r"Collected : (\d+)") / COUNTED
+
+
+def row(job, what, values, form):
+    ratio = "%.2f" % (min(values[1:]) / values[0]) if values[1:] else "-"
+    print("| %s, %s | %s | %s |" % (job, what, " | ".join(form % value for value in values), ratio), flush=True)
+
+
+def main():
+    names, programs = zip(*[named.split("=", 1) for named in sys.argv[1:]])
+    processors = sorted(os.sched_getaffinity(0))[:4]
+    for job in JOBS:
+        for seed, count in (("1", "1000"), ("7", "40"), ("4711", "3000")):
+            digests = {digest(subprocess.run([program, job, seed, count, "2", "write"], stdout=subprocess.PIPE,
+                                             check=True).stdout) for program in programs}
+            if len(digests) != 1:
+                sys.exit("time-building: %s %s %s: not the same content" % (job, seed, count))
+            print("time-building: %s %s %s: content %s" % (job, seed, count, digests.pop()))
+    print("\n| | %s | the better over ours |" % " | ".join(names))
+    print("|---|" + "---|" * (len(names) + 1))
+    for job in JOBS:
+        row(job, "ms", milliseconds(programs, job, processors), "%.2f")
+        if shutil.which("valgrind"):
+            row(job, "instructions", [instructions(program, job) for program in programs], "%.0f")
+            asked = [by_times([], program, job, r"heap usage: ([\d,]+) allocs") for program in programs]
+            print("| %s, requests for memory | %s | |" % (job, " | ".join("%g" % value for value in asked)), flush=True)
+            if asked[0] != 0:
+                sys.exit("time-building: %s: memory is asked for after the first time" % job)
+
+
+main()
