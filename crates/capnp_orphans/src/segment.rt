@@ -50,9 +50,11 @@ impl GrowingSegment for Vec<u8> {
     }
 
     fn append<O: Object>(&mut self, object: &O, words: u32) -> Result<u64> {
-        let from = self.len();
         let added = 8 * words as usize;
         self.reserve(added)?;
+        // The length is asked for here, after the call: so the compiler sees that just the words of the
+        // object are made zero, and makes those of a struct zero without a call.
+        let from = self.len();
         self.resize(from + added, 0)?;
         Ok(write_after(self, from, object))
     }
