@@ -4,3 +4,4 @@ pub mod OrphanLemmas
 pub mod StructListLemmas
 pub mod WrittenLemmas
 pub mod AddingLemmas
+pub mod CopyLemmas

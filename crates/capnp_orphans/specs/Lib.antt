@@ -3,4 +3,5 @@ pub mod Orphans
 pub mod Segments
 pub mod Held
 pub mod Adding
+pub mod Copied
 pub mod OrphanLaws

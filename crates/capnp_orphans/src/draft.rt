@@ -126,6 +126,16 @@ impl<T, const D: usize, const P: usize> StructDraft<T, D, P> {
     {
         self.pointers[index] = orphan.word;
     }
+
+    /// Makes the pointer at an index null.
+    #[inline(always)]
+    pub fn clear_pointer(&mut self, index: usize)
+        requires { index < P }
+        ensures words { self.new.words ≡ self.old.words }
+        ensures pointers { self.new.pointers ≡ slice_set self.old.pointers index 0 }
+    {
+        self.pointers[index] = 0;
+    }
 }
 
 // The bits of a field; zero where the words end before it.

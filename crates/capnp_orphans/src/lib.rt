@@ -11,6 +11,7 @@
 //! [encoding document]: https://capnproto.org/encoding.html
 #![tactic(auto)]
 
+mod copied;
 mod draft;
 mod draft_source;
 mod drafts;

@@ -1,0 +1,71 @@
+-- What drafts take of structs that are read (src/copied.rt).
+use Rattle.std.specs.Prelude.{◌≡◌, ◌⊎◌, ℕ, zero, suc, ◌+◌, ◌-◌, ◌/◌, ◌^◌, ◌<◌, ◌≤◌, min, false, List, [], ◌∷◌, ◌++◌, length, take, replicate, slice_index_or, Result, IfOk, IfErr, IsOk, OnOk}
+use Rattle.std.specs.Result.{IsErrAnd}
+use Rattle.capnp_frame.specs.declared.error.Error.{Error}
+use Rattle.capnp_frame.specs.declared.error.ErrorKind.{ErrorKind}
+use Rattle.capnp_frame.specs.declared.error.ErrorKind.TheVariants.{AllocationTooLarge}
+use Rattle.capnp_wire.specs.Object.{nothing}
+use Rattle.capnp_wire.specs.Tree.{Trees, total_words}
+use Rattle.capnp_wire.specs.Values.{HasWords, LacksWords, LeadsToTree, StopsWalkFrom}
+use Rattle.capnp_wire.specs.Views.{Struct, Pointer, Denotes, pointer_in}
+use Rattle.capnp_orphans.specs.Segments.{Segment, body_of, Appends, ExceedsMost}
+use Rattle.capnp_orphans.specs.Held.{AreValues}
+use Rattle.capnp_orphans.specs.Adding.{Keeps, LacksRoom, HasRoom}
+
+-- the data words of a struct, cut to a given number or filled up with zeros
+abbrev pub words_in : Struct → ℕ → List ℕ
+words_in fields count = take count (fields.words ++ replicate count 0)
+
+-- its first pointers, null past the last one
+abbrev pub pointers_in : Struct → ℕ → List Pointer
+pointers_in fields zero = []
+pointers_in fields (suc count) = pointers_in fields count ++ pointer_in fields count ∷ []
+
+-- the words of a copy of what a pointer leads to, and why it has none
+abbrev pub TakesCopy : Pointer → ℕ → Type 0
+TakesCopy pointer words = HasWords (LeadsToTree pointer) false words
+
+abbrev pub RefusesCopy : Pointer → ErrorKind → Type 0
+RefusesCopy pointer kind = LacksWords (LeadsToTree pointer) (StopsWalkFrom pointer) false kind
+
+-- the words of copies of what its first pointers lead to
+abbrev pub TakesCopies : Struct → ℕ → ℕ → Type 0
+TakesCopies fields zero words = words ≡ 0
+TakesCopies fields (suc count) words =
+    (before last : ℕ) × TakesCopies fields count before × TakesCopy (pointer_in fields count) last × (words ≡ before + last)
+
+-- Where copying fails: the pointers before this one are copied, and it is refused, or there is no room for its words.
+pub record StopsAt (fields : Struct) (count : ℕ) (old new : Segment) (kind : ErrorKind) : Type 0 where
+  pub index : ℕ
+  pub before : ℕ
+  pub within : index < count
+  pub taken : TakesCopies fields index before
+  pub appended : Appends before old new
+  pub cause : RefusesCopy (pointer_in fields index) kind ⊎ ((words : ℕ) × TakesCopy (pointer_in fields index) words × LacksRoom words new kind)
+
+-- What copying the first pointers of a struct keeps. `old` and `new` are the segment before and after it.
+pub record Copies {T : Type 0} (fields : Struct) (count : ℕ) (old new : Segment) (pointers : T → List ℕ) (result : Result T Error) : Type 0 where
+  -- each orphan holds the tree that the pointer leads to, and null stays null
+  pub copies : IfOk result (λ made. AreValues LeadsToTree (body_of new) (pointers_in fields count) (pointers made))
+  pub nulls : (index : ℕ) → index < count → Denotes (pointer_in fields index) nothing → IfOk result (λ made. slice_index_or (pointers made) index 0 ≡ 0)
+  -- all orphans hold what they held, also after a failure
+  pub keeps : Keeps old new
+  -- just the copies are appended
+  pub appended : OnOk result ((words : ℕ) × TakesCopies fields count words × Appends words old new)
+  -- it fails at the first pointer that is refused, or whose copy there is no room for
+  pub kind : IfErr result (λ error. StopsAt fields count old new error.kind)
+  -- it succeeds where there is room for the copies in the memory that is there
+  pub fits : (words : ℕ) → TakesCopies fields count words → HasRoom words old → IsOk result
+  -- a pointer that can't be read, or leads to 2 ^ 29 words and more, is not copied, where there is room for the copies before it
+  pub exact : (index before : ℕ) (kind : ErrorKind) → index < count → TakesCopies fields index before → HasRoom before old
+      → StopsWalkFrom (pointer_in fields index) kind → IsErrAnd result (λ error. error.kind ≡ kind)
+  pub large : (index before : ℕ) (trees : Trees) → index < count → TakesCopies fields index before → HasRoom before old → LeadsToTree (pointer_in fields index) trees
+      → 2 ^ 29 ≤ total_words trees → IsErrAnd result (λ error. error.kind ≡ AllocationTooLarge (min (total_words trees) (2 ^ 32 - 1)))
+  -- nor is one by which a segment would have 2 ^ 29 words, or a region more than it has room for
+  pub long : (index before words : ℕ) → index < count → TakesCopies fields index before → HasRoom before old → TakesCopy (pointer_in fields index) words
+      → 2 ^ 29 ≤ length old.bytes / 8 + before + words → IsErrAnd result (λ error. error.kind ≡ AllocationTooLarge words)
+  pub full : (index before words : ℕ) → index < count → TakesCopies fields index before → HasRoom before old → TakesCopy (pointer_in fields index) words
+      → ExceedsMost (before + words) old → IsErrAnd result (λ error. error.kind ≡ AllocationTooLarge words)
+  pub most : new.most ≡ old.most
+  -- the memory that is there stays
+  pub memory : old.capacity ≤ new.capacity
