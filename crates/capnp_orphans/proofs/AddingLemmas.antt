@@ -79,20 +79,18 @@ appended holds words old new block word is bytes_are len most room memory held h
 }
 
 -- to the bytes of a vector, which has grown
-pub vector_appended : (holds : List ℕ → List ℕ → ℕ → Type 0) (words from n m size cap more : ℕ) (old grown seen new : List ℕ) (word : ℕ) → IsSegment (record { bytes = old; most = None; capacity = cap })
-    → cap ≤ more → n ≤ more → from ≡ length old → n ≡ from + 8 * words → m ≡ n - length old → grown ≡ take n old ++ replicate m 0 → seen ≡ grown → size ≡ length seen → IsWrittenAfter from holds word seen new
+pub vector_appended : (holds : List ℕ → List ℕ → ℕ → Type 0) (words from size cap more : ℕ) (old grown seen new : List ℕ) (word : ℕ) → IsSegment (record { bytes = old; most = None; capacity = cap })
+    → cap ≤ more → length grown ≤ more → from ≡ length old → grown ≡ old ++ replicate (8 * words) 0 → seen ≡ grown → size ≡ length seen → IsWrittenAfter from holds word seen new
     → AppendsObject holds words (record { bytes = old; most = None; capacity = cap }) (record { bytes = take size (new ++ drop (length new) grown); most = None; capacity = more }) (Ok word)
-vector_appended holds words from n m size cap more old grown seen new word is grows room from_is n_is m_is grown_is seen_is size_is written =
-    let all : take n old ≡ old = take_all n old (omega (arith, n_is, from_is)) in
-    let grown_is_2 : grown ≡ old ++ replicate m 0 = grown_is ∙ ap (λ (l : List ℕ). l ++ replicate m 0) all in
-    let grown_long : length grown ≡ n = ap (λ (l : List ℕ). length l) grown_is_2 ∙ omega (arith, length-append old (replicate m 0), length-replicate {A = ℕ} m 0, m_is, n_is, from_is) in
-    let seen_long : length seen ≡ n = ap (λ (l : List ℕ). length l) seen_is ∙ grown_long in
+vector_appended holds words from size cap more old grown seen new word is grows room from_is grown_is seen_is size_is written =
+    let seen_long : length seen ≡ length grown = ap (λ (l : List ℕ). length l) seen_is in
+    let grown_long : length grown ≡ length old + 8 * words = ap (λ (l : List ℕ). length l) grown_is ∙ omega (arith, length-append old (replicate (8 * words) 0), length-replicate {A = ℕ} (8 * words) 0) in
     let new_long : length new ≡ size = written.len ∙ sym size_is in
     let front : take from seen ≡ old =
-    ap (λ (l : List ℕ). take from l) (seen_is ∙ grown_is_2) ∙ ap (λ (k : ℕ). take k (old ++ replicate m 0)) from_is ∙ take-append_seam old (replicate m 0) in
+    ap (λ (l : List ℕ). take from l) (seen_is ∙ grown_is) ∙ ap (λ (k : ℕ). take k (old ++ replicate (8 * words) 0)) from_is ∙ take-append_seam old (replicate (8 * words) 0) in
     let whole : new ≡ old ++ written.block = written.bytes_are ∙ ap (λ (l : List ℕ). l ++ written.block) front in
     let kept : take size (new ++ drop (length new) grown) ≡ new = ap (λ (k : ℕ). take k (new ++ drop (length new) grown)) (sym new_long) ∙ take-append_seam new (drop (length new) grown) in
-    let len : length written.block ≡ 8 * words = omega (arith, ap (λ (l : List ℕ). length l) whole, length-append old written.block, written.len, seen_long, n_is, from_is) in
+    let len : length written.block ≡ 8 * words = omega (arith, ap (λ (l : List ℕ). length l) whole, length-append old written.block, written.len, seen_long, grown_long) in
     appended holds words (record { bytes = old; most = None; capacity = cap }) (record { bytes = take size (new ++ drop (length new) grown); most = None; capacity = more }) written.block word is (kept ∙ whole) len refl
     (λ no. no) grows (omega (arith, ap (λ (l : List ℕ). length l) kept, new_long, size_is, seen_long, room))
     (λ body start. written.holds_is body (ap (λ (k : ℕ). k / 8) from_is ∙ start))

@@ -1,5 +1,6 @@
 //! Segments that grow at their end.
-ghost use Rattle.std.specs.Prelude.{◌≡◌, ◌+◌, ◌-◌, ◌*◌, ◌/◌, ◌%◌, ◌^◌, ◌<◌, ◌≤◌, None, length, drop, replicate, ◌∷◌};
+ghost use Rattle.std.specs.Prelude.{◌≡◌, ◌+◌, ◌-◌, ◌*◌, ◌/◌, ◌%◌, ◌^◌, ◌<◌, ◌≤◌, ◌++◌, if◌then◌else◌, is_ok, None, length, drop, replicate, ◌∷◌, OnOk, OnErr, IfErr};
+ghost use Rattle.capnp_frame.specs.declared.error.ErrorKind.TheVariants.{OutOfMemory};
 ghost use Rattle.capnp_wire.specs.Pointer.{words_of};
 ghost use Rattle.capnp_orphans.specs.Segments.{Segment, IsSegment, AppendsObject, PutsRoot, IsWrittenAfter, with_root_alone};
 
@@ -50,12 +51,8 @@ impl GrowingSegment for Vec<u8> {
     }
 
     fn append<O: Object>(&mut self, object: &O, words: u32) -> Result<u64> {
-        let added = 8 * words as usize;
-        self.reserve(added)?;
-        // The length is asked for here, after the call: so the compiler sees that just the words of the
-        // object are made zero, and makes those of a struct zero without a call.
         let from = self.len();
-        self.resize(from + added, 0)?;
+        add_zeros(self, 8 * words as usize)?;
         Ok(write_after(self, from, object))
     }
 
@@ -67,6 +64,33 @@ impl GrowingSegment for Vec<u8> {
         self.truncate(8);
         self.fill(0);
     }
+}
+
+// Adds zeros to a vector. It fails with `OutOfMemory` where it has no room for them, and more is
+// refused; it changes nothing then.
+//
+// Up to 64 are made by stores of a constant size, so that no call whose branches depend on the size
+// is needed for a short text.
+#[inline(always)]
+fn add_zeros(bytes: &mut Vec<u8>, added: usize) -> Result<()>
+    ensures items { bytes.new.items ≡ (if is_ok result
+        then bytes.old.items ++ replicate added 0 else bytes.old.items) }
+    ensures capacity { bytes.old.cap ≤ bytes.new.cap }
+    ensures room { OnOk result (length bytes.new.items ≤ bytes.new.cap) }
+    ensures full { OnErr result (bytes.old.cap < length bytes.old.items + added) }
+    ensures kept { OnErr result (bytes.new.cap ≡ bytes.old.cap) }
+    ensures kind { IfErr result (λ error. error.kind ≡ OutOfMemory) }
+{
+    let from = bytes.len();
+    if added <= 64 && bytes.capacity() - from >= 64 {
+        bytes.resize(from + 64, 0)?;
+        bytes.truncate(from + added);
+        return Ok(());
+    }
+    bytes.reserve(added)?;
+    let from = bytes.len();
+    bytes.resize(from + added, 0)?;
+    Ok(())
 }
 
 /// Writes an object over the last bytes, which are zero and just its words. Returns its word as an
