@@ -56,23 +56,23 @@ def digest(stream):
 
 
 def run(program, job, times, processor):
-    child = subprocess.Popen([program, job, "1", str(COUNT), str(times)], stdout=subprocess.DEVNULL,
+    child = subprocess.Popen([program[0], job, "1", str(COUNT), str(times)] + program[1:], stdout=subprocess.DEVNULL,
                              preexec_fn=lambda: os.sched_setaffinity(0, {processor}))
     _, status, used = os.wait4(child.pid, 0)
     if status:
-        sys.exit("time-building: %s: %s: status %d" % (program, job, status))
+        sys.exit("time-building: %s: %s: status %d" % (program[0], job, status))
     return used.ru_utime + used.ru_stime
 
 
 def milliseconds(programs, job, processors):
-    """The least of all rounds on each processor, for one time."""
+    """The least of all rounds on each processor, for one time of each program, a list of words."""
     least = {}
     for processor in processors * ROUNDS:
-        for program in programs:
+        for index, program in enumerate(programs):
             for times in (FEW, MANY):
                 took = run(program, job, times, processor)
-                least[program, times] = min(took, least.get((program, times), took))
-    return [(least[program, MANY] - least[program, FEW]) * 1e3 / (MANY - FEW) for program in programs]
+                least[index, times] = min(took, least.get((index, times), took))
+    return [(least[index, MANY] - least[index, FEW]) * 1e3 / (MANY - FEW) for index in range(len(programs))]
 
 
 def told(tool, program, job, times, pattern):
@@ -109,7 +109,12 @@ def main():
     print("\n| | %s | the better over ours |" % " | ".join(names))
     print("|---|" + "---|" * (len(names) + 1))
     for job in JOBS:
-        row(job, "ms", milliseconds(programs, job, processors), "%.2f")
+        alone = [[path, "alone"] for name, path in zip(names, programs) if name == "C++"]
+        took = milliseconds([[path] for path in programs] + alone, job, processors)
+        row(job, "ms", took[:len(programs)], "%.2f")
+        if alone:
+            cells = ["%.2f" % took[-1] if name == "C++" else "" for name in names]
+            print("| %s, numbers and copies alone, ms | %s | |" % (job, " | ".join(cells)), flush=True)
         if shutil.which("valgrind"):
             row(job, "instructions", [instructions(program, job) for program in programs], "%.0f")
             asked = [by_times([], program, job, r"heap usage: ([\d,]+) allocs") for program in programs]
