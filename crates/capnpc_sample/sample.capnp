@@ -51,3 +51,17 @@ struct Sample {
   target @16 :Point = (x = 3, y = 4);
   anything @17 :AnyPointer;
 }
+
+struct Shape {
+  # A circle or a rectangle.
+  union {
+    radius @0 :Float64;
+    rectangle :group {
+      # Its sides, and what stands in it.
+      width @1 :UInt32;
+      height @2 :UInt32;
+      isFilled @3 :Bool;
+      label @4 :Text;
+    }
+  }
+}

@@ -27,6 +27,38 @@ impl Builder {
         }
     }
 
+    /// One of what a reader shows, to be changed and written again. What its pointers lead to is
+    /// copied, each object as an orphan, and null stays null. What a writer of another version of
+    /// the type left out is zero and null, and what it had beyond this one is left out.
+    ///
+    /// It fails as `Orphanage::set` of the first pointer does that can't be copied.
+    pub fn from_reader<R: ReaderSegments, S: GrowingSegment>(
+        read: &Reader<'_, R>,
+        objects: &mut Orphanage<S>,
+    ) -> Result<Builder>
+        ensures words { IfOk result (λ made. made.draft.words
+            ≡ words_in (struct_of R.segments read.now.fields) @words@) }
+        ensures copies { Copies (struct_of R.segments read.now.fields) @pointers@
+            objects.old objects.new (λ made. made.draft.pointers) result }
+    {
+        match StructDraft::from_reader(&read.fields, objects) {
+            Ok(draft) => Ok(Builder { draft }),
+            Err(error) => Err(error),
+        }
+    }
+
+    /// One of the numbers, bools and enums that a reader shows, as `from_reader` has them. Its
+    /// pointers are null.
+    pub fn from_data_section<R: ReaderSegments>(read: &Reader<'_, R>) -> Builder
+        ensures words { result.draft.words
+            ≡ words_in (struct_of R.segments read.now.fields) @words@ }
+        ensures pointers { result.draft.pointers ≡ replicate @pointers@ 0 }
+    {
+        Builder {
+            draft: StructDraft::from_data_section(&read.fields),
+        }
+    }
+
     /// Writes it, as an object that a pointer can lead to.
     pub fn add<S: GrowingSegment>(&self, objects: &mut Orphanage<S>) -> Result<Orphan<Owned>>
         ensures adds { Adds (HoldsStruct (body_of objects.old) self.now.draft.words
@@ -95,8 +127,24 @@ pub const VOID_SETTER: &str = "pub fn set_@name@(&mut self)
 }
 ";
 
+/// The setter of a group that is a member of a union.
+pub const GROUP_INIT: &str =
+    "/// Selects the group `@group@`, and clears what is in it: each field has its default, and each
+/// pointer is null.
+pub fn init_@name@(&mut self)
+    ensures words { @words@ }
+    ensures pointers { self.new.draft.pointers
+        ≡ @pointers@ }
+{
+    @code@
+}
+";
+
 /// The words before a setter, as a clause names them.
 pub const OLD_WORDS: &str = "self.old.draft.words";
+
+/// The words of the orphans before a setter, as a clause names them.
+pub const OLD_POINTERS: &str = "self.old.draft.pointers";
 
 /// What a clause says of the words where they stay.
 pub const WORDS_STAY: &str = "self.new.draft.words ≡ self.old.draft.words";

@@ -1,6 +1,7 @@
 //! Builders: structs before they are written.
 use crate::builder_getters::push_set_getter;
 use crate::builder_templates::{ACCESSORS, BUILDER};
+use crate::cleared::push_init;
 use crate::code::{Code, Holes};
 use crate::owners::{Owner, owner_of};
 use crate::pointer_setters::push_pointer_setter;
@@ -38,6 +39,7 @@ fn push_accessors(
     owner: &Owner<'_>,
 ) -> Result<(), AllocError> {
     let mut accessors = Code::new(alloc, code.depth.saturating_add(1));
+    push_init(alloc, &mut accessors, site, owner)?;
     let mut index: usize = 0;
     for field in body.fields.as_slice() {
         let comment = match site.node.member_comments.get(index) {

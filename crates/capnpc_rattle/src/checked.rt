@@ -1,7 +1,8 @@
 //! What is asked of a schema before code is written of it: the nodes that its types name are there, and no
 //! two names of one scope become one.
+use crate::cleared::{group_name, group_of};
 use crate::names::{constant, default_name, enum_type, module, snake, variant};
-use crate::owners::owner_of;
+use crate::owners::{is_member, owner_of};
 use crate::schema::{Base, Body, Node, Place, Request, Slot, Struct};
 use crate::setters::{field_name, has_setter};
 use crate::shown::Site;
@@ -178,6 +179,11 @@ fn add_setters(alloc: Global, setters: &mut Names, site: Site<'_>, body: &Struct
     let Some(owner) = owner_of(alloc, site)? else {
         return Ok(());
     };
+    if is_member(site) {
+        let mut name = String::from_str(alloc, "init_")?;
+        name.push_str(group_name(alloc, &owner)?.as_str())?;
+        setters.add(alloc, name, group_of(&owner))?;
+    }
     for field in body.fields.as_slice() {
         if has_setter(&owner, site, field) {
             let mut of = String::from_str(alloc, owner.groups.as_str())?;

@@ -14,6 +14,7 @@ const DEFINITIONS: &[(&str, &[&str])] = &[
             "◌↔◌",
             "◌≢◌",
             "if◌then◌else◌",
+            "IfOk",
             "IsTrue",
             "bit_xor",
             "from_bits",
@@ -38,6 +39,7 @@ const DEFINITIONS: &[(&str, &[&str])] = &[
         "capnp_orphans.specs.Adding",
         &["Adds", "AddsRoot", "Fails", "Writes"],
     ),
+    ("capnp_orphans.specs.Copied", &["words_in", "Copies"]),
     (
         "capnp_orphans.specs.Held",
         &[

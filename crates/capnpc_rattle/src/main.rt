@@ -11,6 +11,7 @@ mod builder_getters;
 mod builder_templates;
 mod builders;
 mod checked;
+mod cleared;
 mod code;
 mod constants;
 mod defaults;

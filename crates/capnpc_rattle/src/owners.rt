@@ -50,6 +50,14 @@ pub fn owner_of<'r>(alloc: Global, site: Site<'r>) -> Result<Option<Owner<'r>>, 
     Ok(None)
 }
 
+/// Whether a group is a member of a union.
+pub fn is_member(site: Site<'_>) -> bool {
+    match parent_of(site, site.node) {
+        Some((_, field, Some(_))) => field.member.is_some(),
+        _ => false,
+    }
+}
+
 // A struct, by the names of the groups down to a site, the outermost first, and the numbers of unions.
 fn owner_by<'r>(
     alloc: Global,

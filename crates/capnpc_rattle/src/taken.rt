@@ -101,6 +101,7 @@ const ENUMS: &[&str] = &[
     "OwnedList",
     "PartialEq",
     "PrimitiveElement",
+    "R",
     "Reader",
     "ReaderSegments",
     "Result",
@@ -136,5 +137,5 @@ pub fn is_taken_variant(name: &str) -> bool {
 
 /// Whether a constant can't have this name, in capital letters.
 pub fn is_taken_constant(name: &str) -> bool {
-    name == "S"
+    name == "R" || name == "S"
 }

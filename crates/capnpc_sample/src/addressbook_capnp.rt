@@ -1,6 +1,7 @@
 //! Types of `addressbook.capnp`, made by `capnpc-rattle`: change that file, and make them again.
-ghost use Rattle.std.specs.Prelude.{◌≡◌, ◌≤◌, ◌<◌, ◌↔◌, ◌≢◌, IsTrue, length, map, replicate, slice_index_or, slice_set};
+ghost use Rattle.std.specs.Prelude.{◌≡◌, ◌≤◌, ◌<◌, ◌↔◌, ◌≢◌, IfOk, IsTrue, length, map, replicate, slice_index_or, slice_set};
 ghost use Rattle.capnp_orphans.specs.Adding.{Adds, AddsRoot, Fails, Writes};
+ghost use Rattle.capnp_orphans.specs.Copied.{words_in, Copies};
 ghost use Rattle.capnp_orphans.specs.Held.{word_of, HoldsStruct, HoldsStructs, TakesStruct as StructWords, TakesStructs, ExceedsPointer, ManyStructs};
 ghost use Rattle.capnp_orphans.specs.Segments.{body_of};
 ghost use Rattle.capnp_values.specs.DataSections.{with_field};
@@ -208,6 +209,38 @@ pub mod person {
         {
             Builder {
                 draft: StructDraft::new(),
+            }
+        }
+
+        /// One of what a reader shows, to be changed and written again. What its pointers lead to is
+        /// copied, each object as an orphan, and null stays null. What a writer of another version of
+        /// the type left out is zero and null, and what it had beyond this one is left out.
+        ///
+        /// It fails as `Orphanage::set` of the first pointer does that can't be copied.
+        pub fn from_reader<R: ReaderSegments, S: GrowingSegment>(
+            read: &Reader<'_, R>,
+            objects: &mut Orphanage<S>,
+        ) -> Result<Builder>
+            ensures words { IfOk result (λ made. made.draft.words
+                ≡ words_in (struct_of R.segments read.now.fields) 1) }
+            ensures copies { Copies (struct_of R.segments read.now.fields) 4
+                objects.old objects.new (λ made. made.draft.pointers) result }
+        {
+            match StructDraft::from_reader(&read.fields, objects) {
+                Ok(draft) => Ok(Builder { draft }),
+                Err(error) => Err(error),
+            }
+        }
+
+        /// One of the numbers, bools and enums that a reader shows, as `from_reader` has them. Its
+        /// pointers are null.
+        pub fn from_data_section<R: ReaderSegments>(read: &Reader<'_, R>) -> Builder
+            ensures words { result.draft.words
+                ≡ words_in (struct_of R.segments read.now.fields) 1 }
+            ensures pointers { result.draft.pointers ≡ replicate 4 0 }
+        {
+            Builder {
+                draft: StructDraft::from_data_section(&read.fields),
             }
         }
 
@@ -640,6 +673,38 @@ pub mod person {
                 }
             }
 
+            /// One of what a reader shows, to be changed and written again. What its pointers lead to is
+            /// copied, each object as an orphan, and null stays null. What a writer of another version of
+            /// the type left out is zero and null, and what it had beyond this one is left out.
+            ///
+            /// It fails as `Orphanage::set` of the first pointer does that can't be copied.
+            pub fn from_reader<R: ReaderSegments, S: GrowingSegment>(
+                read: &Reader<'_, R>,
+                objects: &mut Orphanage<S>,
+            ) -> Result<Builder>
+                ensures words { IfOk result (λ made. made.draft.words
+                    ≡ words_in (struct_of R.segments read.now.fields) 1) }
+                ensures copies { Copies (struct_of R.segments read.now.fields) 1
+                    objects.old objects.new (λ made. made.draft.pointers) result }
+            {
+                match StructDraft::from_reader(&read.fields, objects) {
+                    Ok(draft) => Ok(Builder { draft }),
+                    Err(error) => Err(error),
+                }
+            }
+
+            /// One of the numbers, bools and enums that a reader shows, as `from_reader` has them. Its
+            /// pointers are null.
+            pub fn from_data_section<R: ReaderSegments>(read: &Reader<'_, R>) -> Builder
+                ensures words { result.draft.words
+                    ≡ words_in (struct_of R.segments read.now.fields) 1 }
+                ensures pointers { result.draft.pointers ≡ replicate 1 0 }
+            {
+                Builder {
+                    draft: StructDraft::from_data_section(&read.fields),
+                }
+            }
+
             /// Writes it, as an object that a pointer can lead to.
             pub fn add<S: GrowingSegment>(
                 &self,
@@ -920,6 +985,38 @@ pub mod address_book {
         {
             Builder {
                 draft: StructDraft::new(),
+            }
+        }
+
+        /// One of what a reader shows, to be changed and written again. What its pointers lead to is
+        /// copied, each object as an orphan, and null stays null. What a writer of another version of
+        /// the type left out is zero and null, and what it had beyond this one is left out.
+        ///
+        /// It fails as `Orphanage::set` of the first pointer does that can't be copied.
+        pub fn from_reader<R: ReaderSegments, S: GrowingSegment>(
+            read: &Reader<'_, R>,
+            objects: &mut Orphanage<S>,
+        ) -> Result<Builder>
+            ensures words { IfOk result (λ made. made.draft.words
+                ≡ words_in (struct_of R.segments read.now.fields) 0) }
+            ensures copies { Copies (struct_of R.segments read.now.fields) 1
+                objects.old objects.new (λ made. made.draft.pointers) result }
+        {
+            match StructDraft::from_reader(&read.fields, objects) {
+                Ok(draft) => Ok(Builder { draft }),
+                Err(error) => Err(error),
+            }
+        }
+
+        /// One of the numbers, bools and enums that a reader shows, as `from_reader` has them. Its
+        /// pointers are null.
+        pub fn from_data_section<R: ReaderSegments>(read: &Reader<'_, R>) -> Builder
+            ensures words { result.draft.words
+                ≡ words_in (struct_of R.segments read.now.fields) 0 }
+            ensures pointers { result.draft.pointers ≡ replicate 1 0 }
+        {
+            Builder {
+                draft: StructDraft::from_data_section(&read.fields),
             }
         }
 

@@ -1,9 +1,10 @@
 //! Types of `sample.capnp`, made by `capnpc-rattle`: change that file, and make them again.
-ghost use Rattle.std.specs.Prelude.{◌≡◌, ◌≤◌, ◌<◌, ◌==◌, ◌↔◌, ◌≢◌, if◌then◌else◌, IsTrue, bit_xor, from_bits, to_bits, length, map, replicate, slice_index_or, slice_set};
+ghost use Rattle.std.specs.Prelude.{◌≡◌, ◌≤◌, ◌<◌, ◌==◌, ◌↔◌, ◌≢◌, if◌then◌else◌, IfOk, IsTrue, bit_xor, from_bits, to_bits, length, map, replicate, slice_index_or, slice_set};
 ghost use Rattle.std.specs.Float.{binary64};
 ghost use Rattle.std.specs.Int.{w32, w64, cast_signed, cast_unsigned};
 ghost use Rattle.capnp_constant.specs.Constants.{segments_of, root_of};
 ghost use Rattle.capnp_orphans.specs.Adding.{Adds, AddsRoot, Fails, Writes};
+ghost use Rattle.capnp_orphans.specs.Copied.{words_in, Copies};
 ghost use Rattle.capnp_orphans.specs.Held.{word_of, HoldsStruct, HoldsStructs, TakesStruct as StructWords, TakesStructs, ExceedsPointer, ManyStructs};
 ghost use Rattle.capnp_orphans.specs.Segments.{body_of};
 ghost use Rattle.capnp_values.specs.DataSections.{with_field};
@@ -172,6 +173,38 @@ pub mod point {
         {
             Builder {
                 draft: StructDraft::new(),
+            }
+        }
+
+        /// One of what a reader shows, to be changed and written again. What its pointers lead to is
+        /// copied, each object as an orphan, and null stays null. What a writer of another version of
+        /// the type left out is zero and null, and what it had beyond this one is left out.
+        ///
+        /// It fails as `Orphanage::set` of the first pointer does that can't be copied.
+        pub fn from_reader<R: ReaderSegments, S: GrowingSegment>(
+            read: &Reader<'_, R>,
+            objects: &mut Orphanage<S>,
+        ) -> Result<Builder>
+            ensures words { IfOk result (λ made. made.draft.words
+                ≡ words_in (struct_of R.segments read.now.fields) 1) }
+            ensures copies { Copies (struct_of R.segments read.now.fields) 0
+                objects.old objects.new (λ made. made.draft.pointers) result }
+        {
+            match StructDraft::from_reader(&read.fields, objects) {
+                Ok(draft) => Ok(Builder { draft }),
+                Err(error) => Err(error),
+            }
+        }
+
+        /// One of the numbers, bools and enums that a reader shows, as `from_reader` has them. Its
+        /// pointers are null.
+        pub fn from_data_section<R: ReaderSegments>(read: &Reader<'_, R>) -> Builder
+            ensures words { result.draft.words
+                ≡ words_in (struct_of R.segments read.now.fields) 1 }
+            ensures pointers { result.draft.pointers ≡ replicate 0 0 }
+        {
+            Builder {
+                draft: StructDraft::from_data_section(&read.fields),
             }
         }
 
@@ -423,6 +456,38 @@ pub mod tree {
         {
             Builder {
                 draft: StructDraft::new(),
+            }
+        }
+
+        /// One of what a reader shows, to be changed and written again. What its pointers lead to is
+        /// copied, each object as an orphan, and null stays null. What a writer of another version of
+        /// the type left out is zero and null, and what it had beyond this one is left out.
+        ///
+        /// It fails as `Orphanage::set` of the first pointer does that can't be copied.
+        pub fn from_reader<R: ReaderSegments, S: GrowingSegment>(
+            read: &Reader<'_, R>,
+            objects: &mut Orphanage<S>,
+        ) -> Result<Builder>
+            ensures words { IfOk result (λ made. made.draft.words
+                ≡ words_in (struct_of R.segments read.now.fields) 1) }
+            ensures copies { Copies (struct_of R.segments read.now.fields) 2
+                objects.old objects.new (λ made. made.draft.pointers) result }
+        {
+            match StructDraft::from_reader(&read.fields, objects) {
+                Ok(draft) => Ok(Builder { draft }),
+                Err(error) => Err(error),
+            }
+        }
+
+        /// One of the numbers, bools and enums that a reader shows, as `from_reader` has them. Its
+        /// pointers are null.
+        pub fn from_data_section<R: ReaderSegments>(read: &Reader<'_, R>) -> Builder
+            ensures words { result.draft.words
+                ≡ words_in (struct_of R.segments read.now.fields) 1 }
+            ensures pointers { result.draft.pointers ≡ replicate 2 0 }
+        {
+            Builder {
+                draft: StructDraft::from_data_section(&read.fields),
             }
         }
 
@@ -999,6 +1064,38 @@ pub mod sample {
             }
         }
 
+        /// One of what a reader shows, to be changed and written again. What its pointers lead to is
+        /// copied, each object as an orphan, and null stays null. What a writer of another version of
+        /// the type left out is zero and null, and what it had beyond this one is left out.
+        ///
+        /// It fails as `Orphanage::set` of the first pointer does that can't be copied.
+        pub fn from_reader<R: ReaderSegments, S: GrowingSegment>(
+            read: &Reader<'_, R>,
+            objects: &mut Orphanage<S>,
+        ) -> Result<Builder>
+            ensures words { IfOk result (λ made. made.draft.words
+                ≡ words_in (struct_of R.segments read.now.fields) 4) }
+            ensures copies { Copies (struct_of R.segments read.now.fields) 9
+                objects.old objects.new (λ made. made.draft.pointers) result }
+        {
+            match StructDraft::from_reader(&read.fields, objects) {
+                Ok(draft) => Ok(Builder { draft }),
+                Err(error) => Err(error),
+            }
+        }
+
+        /// One of the numbers, bools and enums that a reader shows, as `from_reader` has them. Its
+        /// pointers are null.
+        pub fn from_data_section<R: ReaderSegments>(read: &Reader<'_, R>) -> Builder
+            ensures words { result.draft.words
+                ≡ words_in (struct_of R.segments read.now.fields) 4 }
+            ensures pointers { result.draft.pointers ≡ replicate 9 0 }
+        {
+            Builder {
+                draft: StructDraft::from_data_section(&read.fields),
+            }
+        }
+
         /// Writes it, as an object that a pointer can lead to.
         pub fn add<S: GrowingSegment>(&self, objects: &mut Orphanage<S>) -> Result<Orphan<Owned>>
             ensures adds { Adds (HoldsStruct (body_of objects.old) self.now.draft.words
@@ -1415,6 +1512,423 @@ pub mod sample {
                     result ≡ field fields.words 16 6 }
             {
                 self.draft.get_data_field(6)
+            }
+        }
+    }
+}
+
+/// A circle or a rectangle.
+pub mod shape {
+    use capnp_frame::Result;
+    use capnp_frame::message::ReaderSegments;
+    use capnp_orphans::{Draft, Drafts, GrowingSegment, Orphan, Orphanage, StructDraft};
+    use capnp_wire::any_struct::StructReader;
+    use capnp_wire::traits::{self, FromPointerReader};
+    use capnp_wire::{any_pointer, upgraded};
+
+    /// The type of the schema.
+    pub struct Owned;
+
+    impl<'a, S: ReaderSegments + 'a> traits::Owned<'a, S> for Owned {
+        type Reader = Reader<'a, S>;
+    }
+
+    /// A struct of this type in a message. What its writer left out reads as the default.
+    #[derive(Drop)]
+    pub struct Reader<'a, S: ReaderSegments> {
+        /// The struct whose fields these are.
+        pub fields: StructReader<'a, S>,
+    }
+
+    impl<'a, S: ReaderSegments> Reader<'a, S> {
+        /// The field `radius`.
+        pub fn get_radius(&self) -> f64
+            ensures { let fields = struct_of S.segments self.now.fields in
+                result ≡ from_bits binary64 (field fields.words 64 0) }
+        {
+            self.fields.get_data_field(0)
+        }
+
+        /// Its sides, and what stands in it.
+        pub fn get_rectangle(&self) -> rectangle::Reader<'_, 'a, S>
+            ensures { let fields = struct_of S.segments self.now.fields in
+                struct_of S.segments result.fields.now ≡ fields }
+        {
+            rectangle::Reader {
+                fields: &self.fields,
+            }
+        }
+
+        /// Which member of the union is there, and its value.
+        pub fn which(&self) -> Which<'_, 'a, S>
+            ensures { let fields = struct_of S.segments self.now.fields in
+                let number = field fields.words 16 4 in
+                elim result [
+                  | Which.Radius value ↦ (number ≡ 0) × (value ≡ from_bits binary64 (field fields.words 64 0))
+                  | Which.Rectangle value ↦ (number ≡ 1) × (struct_of S.segments value.fields.now ≡ fields)
+                  | Which.NotInSchema unknown ↦ (unknown ≡ number) × (2 ≤ number)
+                ] }
+        {
+            match self.fields.get_data_field::<u16>(4) {
+                0 => Which::Radius(self.get_radius()),
+                1 => Which::Rectangle(self.get_rectangle()),
+                unknown => Which::NotInSchema(unknown),
+            }
+        }
+    }
+
+    /// The members of the union.
+    #[derive(Drop)]
+    pub enum Which<'b, 'a, S: ReaderSegments> {
+        Radius(f64),
+        Rectangle(rectangle::Reader<'b, 'a, S>),
+        /// A number that the schema doesn't name.
+        NotInSchema(u16),
+    }
+
+    impl<'a, S: ReaderSegments> FromPointerReader<'a, S> for Reader<'a, S> {
+        ghost shows = { λ pointer view. IsStruct pointer (struct_of S.segments view.fields) };
+
+        ghost accepts = { λ pointer. Accepts pointer TakesStruct };
+
+        ghost refuses = { λ pointer kind. Refuses pointer DeclinesStruct kind };
+
+        ghost declines = { λ pointer kind. Declines pointer DeclinesStruct kind };
+
+        fn get_from_pointer(reader: any_pointer::Reader<'a, S>) -> Result<Self>
+            ensures { let pointer = pointer_of S.segments reader.entry in IsViewOf pointer
+                (λ view. IsStruct pointer (struct_of S.segments view.fields))
+                (Accepts pointer TakesStruct) (Refuses pointer DeclinesStruct)
+                (Declines pointer DeclinesStruct) result }
+        {
+            match StructReader::get_from_pointer(reader) {
+                Ok(fields) => Ok(Reader { fields }),
+                Err(error) => Err(error),
+            }
+        }
+    }
+
+    /// A list of such structs in a message; their first fields alone, where an older writer had these.
+    #[derive(Drop)]
+    pub struct ListReader<'a, S: ReaderSegments> {
+        /// The list whose elements these are.
+        pub elements: upgraded::StructList<'a, S>,
+    }
+
+    impl<'a, S: ReaderSegments> ListReader<'a, S> {
+        /// The number of elements.
+        pub fn len(&self) -> u32
+            ensures { result ≡ length (upgraded_structs_of S.segments self.now.elements).rows }
+        {
+            self.elements.len()
+        }
+
+        /// The element of this index.
+        pub fn get(&self, index: u32) -> Reader<'a, S>
+            requires { index < length (upgraded_structs_of S.segments self.now.elements).rows }
+            ensures { struct_of S.segments result.fields
+                ≡ element_of (upgraded_structs_of S.segments self.now.elements) index }
+        {
+            Reader {
+                fields: self.elements.get(index),
+            }
+        }
+    }
+
+    impl<'a, S: ReaderSegments> FromPointerReader<'a, S> for ListReader<'a, S> {
+        ghost shows = { λ pointer view.
+            IsUpgradedStructs pointer (upgraded_structs_of S.segments view.elements) };
+
+        ghost accepts = { λ pointer. Accepts pointer TakesRows };
+
+        ghost refuses = { λ pointer kind. Refuses pointer DeclinesRows kind };
+
+        ghost declines = { λ pointer kind. Declines pointer DeclinesRows kind };
+
+        fn get_from_pointer(reader: any_pointer::Reader<'a, S>) -> Result<Self>
+            ensures { let pointer = pointer_of S.segments reader.entry in IsViewOf pointer
+                (λ view. IsUpgradedStructs pointer (upgraded_structs_of S.segments view.elements))
+                (Accepts pointer TakesRows) (Refuses pointer DeclinesRows)
+                (Declines pointer DeclinesRows) result }
+        {
+            match upgraded::StructList::get_from_pointer(reader) {
+                Ok(elements) => Ok(ListReader { elements }),
+                Err(error) => Err(error),
+            }
+        }
+    }
+
+    /// A list of such structs, as a type of the schema.
+    pub struct OwnedList;
+
+    impl<'a, S: ReaderSegments + 'a> traits::Owned<'a, S> for OwnedList {
+        type Reader = ListReader<'a, S>;
+    }
+
+    /// A struct of this type before it is written. What is not set has its default.
+    #[derive(Clone, Copy)]
+    pub struct Builder {
+        /// Its data words, and what its pointers lead to.
+        pub draft: StructDraft<Owned, 2, 1>,
+    }
+
+    impl Builder {
+        /// One in which nothing is set, so that each field has its default.
+        pub fn new() -> Builder
+            ensures words { result.draft.words ≡ replicate 2 0 }
+            ensures pointers { result.draft.pointers ≡ replicate 1 0 }
+        {
+            Builder {
+                draft: StructDraft::new(),
+            }
+        }
+
+        /// One of what a reader shows, to be changed and written again. What its pointers lead to is
+        /// copied, each object as an orphan, and null stays null. What a writer of another version of
+        /// the type left out is zero and null, and what it had beyond this one is left out.
+        ///
+        /// It fails as `Orphanage::set` of the first pointer does that can't be copied.
+        pub fn from_reader<R: ReaderSegments, S: GrowingSegment>(
+            read: &Reader<'_, R>,
+            objects: &mut Orphanage<S>,
+        ) -> Result<Builder>
+            ensures words { IfOk result (λ made. made.draft.words
+                ≡ words_in (struct_of R.segments read.now.fields) 2) }
+            ensures copies { Copies (struct_of R.segments read.now.fields) 1
+                objects.old objects.new (λ made. made.draft.pointers) result }
+        {
+            match StructDraft::from_reader(&read.fields, objects) {
+                Ok(draft) => Ok(Builder { draft }),
+                Err(error) => Err(error),
+            }
+        }
+
+        /// One of the numbers, bools and enums that a reader shows, as `from_reader` has them. Its
+        /// pointers are null.
+        pub fn from_data_section<R: ReaderSegments>(read: &Reader<'_, R>) -> Builder
+            ensures words { result.draft.words
+                ≡ words_in (struct_of R.segments read.now.fields) 2 }
+            ensures pointers { result.draft.pointers ≡ replicate 1 0 }
+        {
+            Builder {
+                draft: StructDraft::from_data_section(&read.fields),
+            }
+        }
+
+        /// Writes it, as an object that a pointer can lead to.
+        pub fn add<S: GrowingSegment>(&self, objects: &mut Orphanage<S>) -> Result<Orphan<Owned>>
+            ensures adds { Adds (HoldsStruct (body_of objects.old) self.now.draft.words
+                self.now.draft.pointers) objects.old objects.new word_of result }
+            ensures writes { Writes (StructWords 2 1) (ExceedsPointer 2 1)
+                objects.old objects.new result }
+        {
+            objects.add(&self.draft)
+        }
+
+        /// Writes it as the root of the message.
+        pub fn add_root<S: GrowingSegment>(&self, objects: &mut Orphanage<S>) -> Result<()>
+            ensures adds { AddsRoot (StructWords 2 1) (HoldsStruct (body_of objects.old)
+                self.now.draft.words self.now.draft.pointers) objects.old objects.new result }
+            ensures fails { Fails (StructWords 2 1) (ExceedsPointer 2 1)
+                objects.old result }
+        {
+            objects.add_root(&self.draft)
+        }
+
+        /// Writes a list of such structs.
+        pub fn add_list<S: GrowingSegment>(
+            elements: &[Builder],
+            objects: &mut Orphanage<S>,
+        ) -> Result<Orphan<OwnedList>>
+            ensures adds { Adds (HoldsStructs (body_of objects.old)
+                (map (λ element. element.draft) elements.now)) objects.old objects.new word_of result }
+            ensures writes { let count = length elements.now in
+                Writes (TakesStructs 2 1 count) (ManyStructs 2 1 count)
+                objects.old objects.new result }
+        {
+            let list = objects.made_struct_list(&Drafts::new(elements))?;
+            Ok(list.of_type())
+        }
+    }
+
+    impl Draft<Owned, 2, 1> for Builder {
+        ghost draft = { λ builder. builder.draft };
+
+        fn draft(&self) -> StructDraft<Owned, 2, 1> {
+            self.draft
+        }
+    }
+
+    impl Builder {
+        /// Sets the field `radius`.
+        pub fn set_radius(&mut self, value: f64)
+            ensures words { self.new.draft.words
+                ≡ with_field (with_field self.old.draft.words 16 4 0) 64 0 (to_bits binary64 value) }
+            ensures pointers { self.new.draft.pointers ≡ self.old.draft.pointers }
+        {
+            self.draft.set_data_field::<u16>(4, 0);
+            self.draft.set_data_field(0, value);
+        }
+
+        /// The field `radius`, as it is set.
+        pub fn get_radius(&self) -> f64
+            ensures { let fields = self.now.draft in
+                result ≡ from_bits binary64 (field fields.words 64 0) }
+        {
+            self.draft.get_data_field(0)
+        }
+    }
+
+    /// Its sides, and what stands in it.
+    pub mod rectangle {
+        use capnp_frame::Result;
+        use capnp_frame::message::ReaderSegments;
+        use capnp_orphans::Orphan;
+        use capnp_wire::any_struct::StructReader;
+        use capnp_wire::text;
+        use capnp_wire::traits::FromPointerReader;
+
+        /// The group, in a struct in a message.
+        #[derive(Drop)]
+        pub struct Reader<'b, 'a, S: ReaderSegments> {
+            /// The struct whose fields these are.
+            pub fields: &'b StructReader<'a, S>,
+        }
+
+        impl<'b, 'a, S: ReaderSegments> Reader<'b, 'a, S> {
+            /// The field `width`.
+            pub fn get_width(&self) -> u32
+                ensures { let fields = struct_of S.segments self.now.fields.now in
+                    result ≡ field fields.words 32 0 }
+            {
+                self.fields.get_data_field(0)
+            }
+
+            /// The field `height`.
+            pub fn get_height(&self) -> u32
+                ensures { let fields = struct_of S.segments self.now.fields.now in
+                    result ≡ field fields.words 32 1 }
+            {
+                self.fields.get_data_field(1)
+            }
+
+            /// The field `isFilled`.
+            pub fn get_is_filled(&self) -> bool
+                ensures { let fields = struct_of S.segments self.now.fields.now in
+                    result ≡ (field fields.words 1 80 == 1) }
+            {
+                self.fields.get_data_field(80)
+            }
+
+            /// The field `label`.
+            pub fn get_label(&self) -> Result<text::Reader<'a>>
+                ensures { let fields = struct_of S.segments self.now.fields.now in
+                    let pointer = pointer_in fields 0 in
+                    IsViewOf pointer
+                    (λ view. Reads pointer (λ form. IsText form view.bytes.now))
+                    (Accepts pointer TakesText) (Refuses pointer DeclinesText)
+                    (Declines pointer DeclinesText) result }
+            {
+                FromPointerReader::get_from_pointer(self.fields.get_pointer(0))
+            }
+
+            /// Whether `label` is there, and is not null.
+            pub fn has_label(&self) -> bool
+                ensures { let fields = struct_of S.segments self.now.fields.now in
+                    IsTrue result ↔ (Denotes (pointer_in fields 0) nothing → ⊥) }
+            {
+                self.fields.has_pointer(0)
+            }
+        }
+
+        impl super::Builder {
+            /// Selects the group `rectangle`, and clears what is in it: each field has its default, or is null.
+            pub fn init_rectangle(&mut self)
+                ensures words { self.new.draft.words
+                    ≡ (with_field (with_field (with_field (with_field self.old.draft.words 16 4 1)
+                    32 0 0)
+                    32 1 0)
+                    1 80 0) }
+                ensures pointers { self.new.draft.pointers
+                    ≡ (slice_set self.old.draft.pointers 0 0) }
+            {
+                self.draft.set_data_field::<u16>(4, 1);
+                self.draft.set_data_field::<u32>(0, 0);
+                self.draft.set_data_field::<u32>(1, 0);
+                self.draft.set_data_field(80, false);
+                self.draft.clear_pointer(0);
+            }
+
+            /// Sets the field `width`.
+            pub fn set_rectangle_width(&mut self, value: u32)
+                ensures words { self.new.draft.words
+                    ≡ with_field (with_field self.old.draft.words 16 4 1) 32 0 value }
+                ensures pointers { self.new.draft.pointers ≡ self.old.draft.pointers }
+            {
+                self.draft.set_data_field::<u16>(4, 1);
+                self.draft.set_data_field(0, value);
+            }
+
+            /// The field `width`, as it is set.
+            pub fn get_rectangle_width(&self) -> u32
+                ensures { let fields = self.now.draft in
+                    result ≡ field fields.words 32 0 }
+            {
+                self.draft.get_data_field(0)
+            }
+
+            /// Sets the field `height`.
+            pub fn set_rectangle_height(&mut self, value: u32)
+                ensures words { self.new.draft.words
+                    ≡ with_field (with_field self.old.draft.words 16 4 1) 32 1 value }
+                ensures pointers { self.new.draft.pointers ≡ self.old.draft.pointers }
+            {
+                self.draft.set_data_field::<u16>(4, 1);
+                self.draft.set_data_field(1, value);
+            }
+
+            /// The field `height`, as it is set.
+            pub fn get_rectangle_height(&self) -> u32
+                ensures { let fields = self.now.draft in
+                    result ≡ field fields.words 32 1 }
+            {
+                self.draft.get_data_field(1)
+            }
+
+            /// Sets the field `isFilled`.
+            pub fn set_rectangle_is_filled(&mut self, value: bool)
+                ensures words { self.new.draft.words
+                    ≡ with_field (with_field self.old.draft.words 16 4 1) 1 80 (if value then 1 else 0) }
+                ensures pointers { self.new.draft.pointers ≡ self.old.draft.pointers }
+            {
+                self.draft.set_data_field::<u16>(4, 1);
+                self.draft.set_data_field(80, value);
+            }
+
+            /// The field `isFilled`, as it is set.
+            pub fn get_rectangle_is_filled(&self) -> bool
+                ensures { let fields = self.now.draft in
+                    result ≡ (field fields.words 1 80 == 1) }
+            {
+                self.draft.get_data_field(80)
+            }
+
+            /// Sets the field `label`.
+            pub fn set_rectangle_label(&mut self, value: Orphan<text::Owned>)
+                ensures words { self.new.draft.words
+                    ≡ (with_field self.old.draft.words 16 4 1) }
+                ensures pointers { self.new.draft.pointers
+                    ≡ slice_set self.old.draft.pointers 0 value.word }
+            {
+                self.draft.set_data_field::<u16>(4, 1);
+                self.draft.adopt(0, value);
+            }
+
+            /// Whether `label` is set, and not to null.
+            pub fn has_rectangle_label(&self) -> bool
+                ensures { IsTrue result ↔ (slice_index_or self.now.draft.pointers 0 0 ≢ 0) }
+            {
+                self.draft.has_pointer(0)
             }
         }
     }

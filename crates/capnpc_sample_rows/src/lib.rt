@@ -7,6 +7,8 @@ mod address_book;
 #[cfg(test)]
 mod builders;
 #[cfg(test)]
+mod changed;
+#[cfg(test)]
 mod read;
 #[cfg(test)]
 mod trees;

@@ -1,0 +1,175 @@
+//! The setters that select a group which is a member of a union, and clear what is in it.
+use crate::builder_templates::{GROUP_INIT, OLD_POINTERS};
+use crate::code::{Code, Holes};
+use crate::numbers::number_of;
+use crate::owners::{Owner, is_member};
+use crate::schema::{Base, Body, Place, Slot, Struct};
+use crate::set_words::{words_clause, words_with};
+use crate::setters::code_of;
+use crate::shown::Site;
+use std::alloc::{AllocError, Global};
+use std::fmt::Write;
+
+/// What a group has of its struct, each once.
+#[derive(Drop)]
+struct Cleared {
+    /// Fields of the data section: how many bits each has, and where it stands in units of these.
+    fields: Vec<(u32, u32)>,
+    /// Pointers, by their indices.
+    pointers: Vec<u32>,
+}
+
+impl Cleared {
+    // Adds what a group has, and to what is left the groups in it.
+    fn add_group(&mut self, body: &Struct, left: &mut Vec<u64>) -> Result<(), AllocError> {
+        if let Some(offset) = body.discriminant {
+            self.add_field(16, offset)?;
+        }
+        for field in body.fields.as_slice() {
+            match &field.slot {
+                Slot::At(place) => self.add_place(place)?,
+                Slot::Group(group) => left.push(*group)?,
+                Slot::Unknown => {}
+            }
+        }
+        Ok(())
+    }
+
+    // Adds a field.
+    fn add_place(&mut self, place: &Place) -> Result<(), AllocError> {
+        if place.of.lists > 0 {
+            return self.add_pointer(place.offset);
+        }
+        match number_of(place.of.base) {
+            Some(number) => self.add_field(number.width, place.offset),
+            None if place.of.base == Base::Void => Ok(()),
+            None => self.add_pointer(place.offset),
+        }
+    }
+
+    // Adds a field of the data section.
+    fn add_field(&mut self, width: u32, offset: u32) -> Result<(), AllocError> {
+        for (other, at) in self.fields.as_slice() {
+            if *other == width && *at == offset {
+                return Ok(());
+            }
+        }
+        self.fields.push((width, offset))?;
+        Ok(())
+    }
+
+    // Adds a pointer.
+    fn add_pointer(&mut self, index: u32) -> Result<(), AllocError> {
+        for other in self.pointers.as_slice() {
+            if *other == index {
+                return Ok(());
+            }
+        }
+        self.pointers.push(index)?;
+        Ok(())
+    }
+
+    // The words in which the fields are zero, of these words, as a clause names them.
+    fn words(&self, alloc: Global, mut words: String) -> Result<String, AllocError> {
+        for (width, offset) in self.fields.as_slice() {
+            let before = words.as_str();
+            words = format!(in alloc; "(with_field {before}\n    {width} {offset} 0)")?;
+        }
+        Ok(words)
+    }
+
+    // The words of the orphans in which the pointers are null, as a clause names them.
+    fn orphans(&self, alloc: Global) -> Result<String, AllocError> {
+        let mut words = String::from_str(alloc, OLD_POINTERS)?;
+        for index in self.pointers.as_slice() {
+            let before = words.as_str();
+            words = format!(in alloc; "(slice_set {before} {index} 0)")?;
+        }
+        Ok(words)
+    }
+
+    // The code that clears all, a line for each.
+    fn code(&self, alloc: Global) -> Result<String, AllocError> {
+        let mut text = String::new(alloc);
+        for (width, offset) in self.fields.as_slice() {
+            push_line(&mut text)?;
+            if *width == 1 {
+                write!(text, "self.draft.set_data_field({offset}, false);")?;
+            } else {
+                write!(text, "self.draft.set_data_field::<u{width}>({offset}, 0);")?;
+            }
+        }
+        for index in self.pointers.as_slice() {
+            push_line(&mut text)?;
+            write!(text, "self.draft.clear_pointer({index});")?;
+        }
+        Ok(text)
+    }
+}
+
+// Ends a line, where one stands there.
+fn push_line(text: &mut String) -> Result<(), AllocError> {
+    if text.is_empty() {
+        return Ok(());
+    }
+    text.push('\n')
+}
+
+// What the group of a site has, with the groups in it.
+fn cleared_by(alloc: Global, site: Site<'_>) -> Result<Cleared, AllocError> {
+    let mut cleared = Cleared {
+        fields: Vec::new(alloc),
+        pointers: Vec::new(alloc),
+    };
+    let mut left: Vec<u64> = Vec::new(alloc);
+    left.push(site.node.id)?;
+    for _ in 0..u64::MAX {
+        let Some(id) = left.pop() else {
+            break;
+        };
+        if let Some(node) = site.request.find(id)
+            && let Body::Struct(body) = &node.body
+        {
+            cleared.add_group(body, &mut left)?;
+        }
+    }
+    Ok(cleared)
+}
+
+/// The name of a group in that of its setter: with the names of the groups around it in front.
+pub fn group_name(alloc: Global, owner: &Owner<'_>) -> Result<String, AllocError> {
+    let prefix = owner.prefix.as_str();
+    String::from_str(alloc, prefix.strip_suffix('_').unwrap_or(prefix))
+}
+
+/// The same as the schema has it.
+pub fn group_of<'a>(owner: &'a Owner<'_>) -> &'a str {
+    let groups = owner.groups.as_str();
+    groups.strip_suffix('.').unwrap_or(groups)
+}
+
+/// Adds the setter of a group that is a member of a union.
+pub fn push_init(
+    alloc: Global,
+    code: &mut Code,
+    site: Site<'_>,
+    owner: &Owner<'_>,
+) -> Result<(), AllocError> {
+    if !is_member(site) {
+        return Ok(());
+    }
+    let cleared = cleared_by(alloc, site)?;
+    let words = words_with(alloc, owner.tags.as_slice())?;
+    let words = cleared.words(alloc, words)?;
+    let clearing = cleared.code(alloc)?;
+    let holes = Holes::new(alloc)
+        .with("group", group_of(owner))?
+        .holding("name", group_name(alloc, owner)?)?
+        .holding("words", words_clause(alloc, words.as_str())?)?
+        .holding("pointers", cleared.orphans(alloc)?)?
+        .holding(
+            "code",
+            code_of(alloc, owner.tags.as_slice(), clearing.as_str())?,
+        )?;
+    code.add(GROUP_INIT, &holes)
+}
