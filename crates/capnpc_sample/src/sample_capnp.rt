@@ -1842,7 +1842,8 @@ pub mod shape {
         }
 
         impl super::Builder {
-            /// Selects the group `rectangle`, and clears what is in it: each field has its default, or is null.
+            /// Selects the group `rectangle`, and clears what is in it: each field has its default, and each
+            /// pointer is null.
             pub fn init_rectangle(&mut self)
                 ensures words { self.new.draft.words
                     ≡ (with_field (with_field (with_field (with_field self.old.draft.words 16 4 1)
