@@ -11,3 +11,4 @@ pub mod SetterLemmas
 pub mod OneValueLemmas
 pub mod PartWordLemmas
 pub mod ListValueLemmas
+pub mod NumberValueLemmas

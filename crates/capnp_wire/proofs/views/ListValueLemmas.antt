@@ -1,13 +1,11 @@
--- Lists that are read, as values.
-use Rattle.std.proofs.Common.{◌≡◌, ◌≢◌, ℕ, zero, suc, ◌+◌, ◌-◌, ◌*◌, ◌<◌, ◌≤◌, ◌^◌, Bool, true, false, if◌then◌else◌, min, List, [], ◌∷◌, length, Option, Some, None, slice_get, Result, Ok, Err, MatchResult}
+-- Lists that are read, of structs and of pointers, as values.
+use Rattle.std.proofs.Common.{◌≡◌, ◌≢◌, ℕ, zero, suc, ◌+◌, ◌-◌, ◌*◌, ◌<◌, ◌≤◌, ◌^◌, Bool, true, false, if◌then◌else◌, List, [], ◌∷◌, length, Option, Some, None, slice_get, Result, Ok, Err, MatchResult}
 use Rattle.std.proofs.Common.{inl, inr, refl, sym, ◌∙◌, ap, subst, arith}
 use Rattle.std.specs.Prelude.{All}
 use Rattle.capnp_frame.specs.declared.error.Error.{Error}
-use Rattle.capnp_frame.specs.declared.error.ErrorKind.TheVariants.{InvalidSegmentId, AllocationTooLarge}
-use Rattle.capnp_wire.specs.Pointer.{number_of, words_from}
-use Rattle.capnp_wire.specs.Element.{code_of, width, words_for}
-use Rattle.capnp_wire.specs.Tree.{Form, numbers, pointers, Trees, none, tree, count, total_words}
-use Rattle.capnp_wire.specs.Object.{places, row_places, rows_from, elements as numerals}
+use Rattle.capnp_frame.specs.declared.error.ErrorKind.TheVariants.{InvalidSegmentId}
+use Rattle.capnp_wire.specs.Tree.{Form, pointers, Trees, none, tree, count, total_words}
+use Rattle.capnp_wire.specs.Object.{places, row_places, rows_from}
 use Rattle.capnp_wire.specs.Reached.{At}
 use Rattle.capnp_wire.specs.Faults.{StopsWalk, no_word, no_segment, at_pointer}
 use Rattle.capnp_wire.specs.Traversed.{WalkedAll}
@@ -17,18 +15,14 @@ use Rattle.capnp_wire.specs.Copy.{CanCopy, CopiesAll, IsCopied, least_size}
 use Rattle.capnp_wire.specs.Rows.{kept_places, row_slots}
 use Rattle.capnp_wire.specs.Values.{HasWords, LacksWords, HasRoomAt, HoldsPointers, too_large}
 use Rattle.capnp_wire.specs.ListViews.{PointerList}
-use Rattle.capnp_wire.specs.ListValues.{IsListTree, StopsInList, IsNumbersTree, TooManyNumbers, pointers_along, pointers_of_structs, structs_along}
+use Rattle.capnp_wire.specs.ListValues.{IsListTree, StopsInList, pointers_along, pointers_of_structs, structs_along}
 use Rattle.capnp_wire.specs.declared.layout.copy.Copied.{Copied}
 use Rattle.capnp_wire.specs.declared.layout.place.Place.{Place}
 use Rattle.capnp_wire.specs.declared.layout.pointer.Elements.{Elements}
 use Rattle.capnp_wire.specs.declared.layout.pointer.StructSize.{StructSize}
-use Rattle.capnp_wire.specs.declared.layout.element.ElementSize.{ElementSize}
-use Rattle.capnp_wire.specs.declared.layout.element.ElementSize.TheVariants.{Void, Bit, Byte, TwoBytes, FourBytes, EightBytes}
 use Rattle.capnp_wire.specs.declared.layout.object.Body.TheVariants.{Pointers}
 use Rattle.capnp_wire.proofs.objects.ObjectLemmas.{one_tree}
-use Rattle.std.proofs.lemmas.Nat.{pow_pos}
-use Rattle.capnp_wire.proofs.words.DigitLemmas.{length-digits}
-use Rattle.capnp_wire.proofs.trees.RoomLemmas.{length-rows_from, length-row_places, digits_below, rows_below}
+use Rattle.capnp_wire.proofs.trees.RoomLemmas.{length-rows_from, length-row_places, rows_below}
 use Rattle.capnp_wire.proofs.trees.StandLemmas.{count_at}
 use Rattle.capnp_wire.proofs.trees.KeptLemmas.{long_places}
 use Rattle.capnp_wire.proofs.trees.TrimLemmas.{count-trim, room_trim}
@@ -38,7 +32,6 @@ use Rattle.capnp_wire.proofs.walks.ProgressLemmas.{progress_begins, progress_don
 use Rattle.capnp_wire.proofs.pointers.PointerRowLemmas.{kept_nothing}
 use Rattle.capnp_wire.proofs.layouts.CopyLemmas.{split_first}
 use Rattle.capnp_wire.proofs.layouts.CopiedLemmas.{fault_no_tree, in_run}
-use Rattle.capnp_wire.proofs.layouts.FreeLemmas.{numbers_total}
 use Rattle.capnp_wire.proofs.layouts.OpenLemmas.{Opened, OpenedRows, pointers_open, room_formed}
 use Rattle.capnp_wire.proofs.layouts.OpenedLemmas.{rows_plain, rows_trimmed}
 use Rattle.capnp_wire.proofs.views.OneValueLemmas.{IsOne}
@@ -50,13 +43,6 @@ one_of_list form list = record {
       x.whole ∙ ap (λ (t : Trees). tree form t none) (one_tree list.message list.held x.held y.held x.traversed y.traversed x.stand y.stand).0 ∙ sym y.whole;
   same_refusal = one_stop list.message list.held list.nesting list.limit;
   apart = λ kind trees stops t. stops_has_no_trees list.message list.held list.nesting t.traversed list.limit kind t.held stops t.stand t.shallow t.within;
-}
-
-pub one_of_numbers : (code : ℕ) (values : List ℕ) → IsOne (IsNumbersTree code values) (TooManyNumbers code values)
-one_of_numbers code values = record {
-  same_tree = λ a b x y. x.1 ∙ sym y.1;
-  same_refusal = λ a b x y. x.1 ∙ sym y.1;
-  apart = λ kind trees x t. omega (arith, x.0, t.0);
 }
 
 -- and the same whatever the limit
@@ -238,60 +224,6 @@ rows_written {m} {words} {segment} {begin} {from} {size} {n} {nesting} {c} {gap}
       pointer_is = pointer_is ∙ o.pointers_are gap;
       next_is = omega (arith, all.next_is k.trees k.traversed k.stand, o.totals, end_is);
     }
-
--- a list of numbers
-few_words : (size : ElementSize) (n : ℕ) → n < 2 ^ 29 → words_for n (width (code_of size)) < 2 ^ 29
-few_words Void n few = omega arith
-few_words Bit n few = omega arith
-few_words Byte n few = omega arith
-few_words TwoBytes n few = omega arith
-few_words FourBytes n few = omega arith
-few_words EightBytes n few = omega arith
-
-code_known : (size : ElementSize) → code_of size < 6
-code_known Void = omega arith
-code_known Bit = omega arith
-code_known Byte = omega arith
-code_known TwoBytes = omega arith
-code_known FourBytes = omega arith
-code_known EightBytes = omega arith
-
-pub numbers_long : (words : List ℕ) (start code n : ℕ) → length (numerals words start code n) ≡ n
-numbers_long words start code n = length-digits (2 ^ width code) n (number_of (2 ^ 64) (words_from words start (words_for n (width code))))
-
--- what is measured of it
-pub numbers_measured : (size : ElementSize) (words : List ℕ) (n : ℕ) (c : Bool) (r : Result ℕ Error)
-    → MatchResult r (λ number. (n < 2 ^ 29) × (number ≡ words_for n (width (code_of size))))
-    (λ error. (2 ^ 29 ≤ n) × (error.kind ≡ AllocationTooLarge (min (words_for n (width (code_of size))) (2 ^ 32 - 1))))
-    → let values = numerals words 0 (code_of size) n in
-    MatchResult r (λ number. HasWords (IsNumbersTree (code_of size) values) c number)
-    (λ error. LacksWords (IsNumbersTree (code_of size) values) (TooManyNumbers (code_of size) values) c error.kind)
-numbers_measured size words n c (Ok number) m =
-    let code : ℕ = code_of size in
-    let values : List ℕ = numerals words 0 (code_of size) n in
-    let long : length values ≡ n = numbers_long words 0 code n in
-    let few : length values < 2 ^ 29 = omega (arith, m.0, long) in
-    let total : total_words (formed c (tree (numbers code values) none none)) ≡ words_for (length values) (width code) = numbers_total c code values (tree (numbers code values) none none) refl in
-    record {
-      trees = tree (numbers code values) none none;
-      tree_is = (few, refl);
-      rooms = (
-        (
-          code_known size,
-          few,
-          refl,
-          digits_below (2 ^ width code) n (number_of (2 ^ 64) (words_from words 0 (words_for n (width code)))) (pow_pos (width code)),
-        ),
-        tt,
-        tt,
-      );
-      words_are = m.1 ∙ ap (λ (k : ℕ). words_for k (width code)) (sym long) ∙ sym total;
-      few = omega (arith, m.1, few_words size n m.0);
-    }
-numbers_measured size words n c (Err error) m =
-    let code : ℕ = code_of size in
-    let long = numbers_long words 0 (code_of size) n in
-    inl (omega (arith, m.0, long), m.1 ∙ ap (λ (k : ℕ). AllocationTooLarge (min (words_for k (width code)) (2 ^ 32 - 1))) (sym long))
 
 -- structs that have pointers to keep stand in a segment of the message
 pub rows_held : (m : List (List ℕ)) (words : List ℕ) (first : Place) (size : StructSize) (q n : ℕ) → HoldsPointers m words first size → q ≤ size.pointers

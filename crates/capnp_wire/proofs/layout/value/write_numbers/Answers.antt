@@ -5,7 +5,7 @@ use Rattle.capnp_wire.specs.Element.{code_of, width, words_for}
 use Rattle.capnp_wire.specs.Object.{elements}
 use Rattle.capnp_wire.specs.Layout.{list_pointer}
 use Rattle.capnp_wire.proofs.layouts.FreeLemmas.{numbers_copied}
-use Rattle.capnp_wire.proofs.views.ListValueLemmas.{numbers_long}
+use Rattle.capnp_wire.proofs.views.NumberValueLemmas.{numbers_long}
 use Rattle.capnp_wire.proofs.layout.value.write_numbers.Goals as goal
 
 pub returns-clause-written : goal.returns-clause-written

@@ -6,7 +6,7 @@ use Rattle.capnp_wire.specs.Object.{elements}
 use Rattle.capnp_wire.specs.Values.{HasWords, LacksWords}
 use Rattle.capnp_wire.specs.ListValues.{IsNumbersTree, TooManyNumbers}
 use Rattle.capnp_wire.proofs.views.OneValueLemmas.{measured_found, measured_exactly}
-use Rattle.capnp_wire.proofs.views.ListValueLemmas.{one_of_numbers, numbers_measured}
+use Rattle.capnp_wire.proofs.views.NumberValueLemmas.{one_of_numbers, numbers_measured}
 use Rattle.capnp_wire.proofs.primitive_list.ReaderSetterInputOwned.measure.Goals as goal
 
 pub returns : goal.returns

@@ -5,7 +5,7 @@ use Rattle.capnp_wire.specs.Element.{width, words_for}
 use Rattle.capnp_wire.specs.NumberViews.{numbers_of}
 use Rattle.capnp_wire.specs.ListValues.{IsNumbersTree}
 use Rattle.capnp_wire.proofs.layouts.FreeLemmas.{body_long, numbers_total}
-use Rattle.capnp_wire.proofs.views.ListValueLemmas.{one_of_numbers, numbers_long}
+use Rattle.capnp_wire.proofs.views.NumberValueLemmas.{one_of_numbers, numbers_long}
 use Rattle.capnp_wire.proofs.primitive_list.ReaderSetterInputOwned.write.Goals as goal
 
 pub write_numbers-requires-clause-few : goal.write_numbers-requires-clause-few
