@@ -8,6 +8,7 @@ use capnp_uses::building::{
     a_struct_is_read_back, data_is_read_back, null_is_read_back, numbers_are_read_back,
     text_is_read_back, write_data, write_null, write_numbers, write_struct, write_text,
 };
+use std::alloc::Global;
 use std::process::Abort;
 
 // A root that a caller builds.
@@ -20,26 +21,44 @@ enum Root {
     Null,
 }
 
+fn text_is_read<A: Allocator>(
+    rt: &(impl Abort + AllocGlobal),
+    message: &mut Builder<A>,
+    bytes: &[u8],
+) -> Result<bool> {
+    assert!(rt; bytes.len() < 1 << 29);
+    Ok(text_is_read_back(rt.alloc(), message, bytes)?.as_slice() == bytes)
+}
+
+fn data_is_read<A: Allocator>(
+    rt: &(impl Abort + AllocGlobal),
+    message: &mut Builder<A>,
+    bytes: &[u8],
+) -> Result<bool> {
+    assert!(rt; bytes.len() < 1 << 29);
+    Ok(data_is_read_back(rt.alloc(), message, bytes)?.as_slice() == bytes)
+}
+
+fn numbers_are_read<A: Allocator>(
+    alloc: Global,
+    message: &mut Builder<A>,
+    first: u64,
+    second: u64,
+) -> Result<bool> {
+    let numbers = numbers_are_read_back(alloc, message, first, second)?;
+    Ok(numbers.as_slice() == [first, second].as_slice())
+}
+
 // Whether what is built is read back.
 fn is_read_back<A: Allocator>(
     rt: &(impl Abort + AllocGlobal),
     message: &mut Builder<A>,
     root: Root,
 ) -> Result<bool> {
-    let alloc = rt.alloc();
     match root {
-        Root::Text(bytes) => {
-            assert!(rt; bytes.len() < 1 << 29);
-            Ok(text_is_read_back(alloc, message, bytes)?.as_slice() == bytes)
-        }
-        Root::Data(bytes) => {
-            assert!(rt; bytes.len() < 1 << 29);
-            Ok(data_is_read_back(alloc, message, bytes)?.as_slice() == bytes)
-        }
-        Root::Numbers(first, second) => {
-            let numbers = numbers_are_read_back(alloc, message, first, second)?;
-            Ok(numbers.as_slice() == [first, second].as_slice())
-        }
+        Root::Text(bytes) => text_is_read(rt, message, bytes),
+        Root::Data(bytes) => data_is_read(rt, message, bytes),
+        Root::Numbers(first, second) => numbers_are_read(rt.alloc(), message, first, second),
         Root::Struct(first, second) => {
             Ok(a_struct_is_read_back(message, first, second)? == (first, second))
         }
