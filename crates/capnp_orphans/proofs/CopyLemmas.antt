@@ -1,9 +1,9 @@
--- Copies of what a reader shows (src/copied.rt).
-use Rattle.std.proofs.Common.{◌≡◌, ℕ, zero, suc, ◌+◌, ◌*◌, ◌/◌, ◌^◌, ◌<◌, ◌≤◌, ◌⊎◌, inl, inr, length, take, List, [], ◌∷◌, ◌++◌, Option, Some, MatchOption, Result, Ok, Err, refl, sym, ◌∙◌, ap, subst, arith, append_assoc, length-append}
-use Rattle.std.specs.Prelude.{slice_set, slice_index, get_or, replicate, true, false, min, ◌-◌, ◌%◌, ◌==◌, if◌then◌else◌, ◌≢◌, IsTrue, ◌↔◌}
+-- Copies of what a reader shows (src/copied.rt): their words, and a pointer that is copied or refused.
+use Rattle.std.proofs.Common.{◌≡◌, ℕ, zero, suc, ◌+◌, ◌*◌, ◌/◌, ◌^◌, ◌<◌, ◌≤◌, ◌⊎◌, inl, inr, length, take, List, [], ◌∷◌, ◌++◌, Option, Some, MatchOption, Result, refl, sym, ◌∙◌, ap, subst, arith, append_assoc, length-append}
+use Rattle.std.specs.Prelude.{slice_set, slice_index, replicate, true, false, ◌-◌, ◌%◌, ◌==◌, if◌then◌else◌}
 use Rattle.std.specs.Result.{IsErrAnd}
 use Rattle.std.proofs.lemmas.Bool.{cases_lt}
-use Rattle.std.proofs.lemmas.List.{append-nil, take_all, take_more, take_more_set, length-replicate, get_or-set_same, get_or-set_other}
+use Rattle.std.proofs.lemmas.List.{append-nil, take_more, take_more_set, length-replicate}
 use Rattle.capnp_frame.specs.declared.error.Error.{Error}
 use Rattle.capnp_frame.specs.declared.error.ErrorKind.{ErrorKind}
 use Rattle.capnp_frame.specs.declared.error.ErrorKind.TheVariants.{AllocationTooLarge}
@@ -13,7 +13,7 @@ use Rattle.capnp_wire.specs.Object.{Shape, PointsTo, word_at, is_object, is_null
 use Rattle.capnp_wire.specs.declared.layout.place.Place.{Place}
 use Rattle.capnp_wire.specs.Reached.{At, at}
 use Rattle.capnp_wire.specs.Layout.{formed}
-use Rattle.capnp_wire.specs.Values.{LeadsToTree, StopsWalkFrom, starts_with_null, too_large}
+use Rattle.capnp_wire.specs.Values.{LeadsToTree, starts_with_null}
 use Rattle.capnp_wire.specs.Views.{Struct, Pointer, Denotes, pointer_in}
 use Rattle.capnp_wire.proofs.pointers.FaultLemmas.{not_null}
 use Rattle.capnp_wire.proofs.layouts.LayoutLemmas.{if_positive}
@@ -22,10 +22,9 @@ use Rattle.capnp_wire.proofs.views.PartWordLemmas.{null_told}
 use Rattle.capnp_wire.proofs.words.PutLemmas.{words_split}
 use Rattle.capnp_orphans.specs.Orphans.{link, IsOrphan}
 use Rattle.capnp_orphans.specs.Segments.{Segment, body_of, Appends, ExceedsMost}
-use Rattle.capnp_orphans.specs.Held.{AreValues, HoldsValue}
-use Rattle.capnp_orphans.specs.Adding.{Keeps, Adds, Fails, Writes, HasRoom, LacksRoom}
-use Rattle.capnp_orphans.specs.Copied.{pointers_in, TakesCopy, RefusesCopy, TakesCopies, StopsAt, Copies}
-use Rattle.capnp_orphans.specs.OrphanLaws.{one_value_more, keeps_on}
+use Rattle.capnp_orphans.specs.Held.{HoldsValue}
+use Rattle.capnp_orphans.specs.Adding.{Fails}
+use Rattle.capnp_orphans.specs.Copied.{TakesCopy, RefusesCopy, TakesCopies}
 
 -- a word of what is filled up with zeros
 zero_word : (count i : ℕ) → slice_index (replicate count 0) i ≡ 0
@@ -48,11 +47,11 @@ next_word shown words count i v within few is same =
     ∙ sym (take_more (shown ++ replicate count 0) i 0 there)
 
 -- the words of a copy are of one number, and so are those of copies
-one_copy : (pointer : Pointer) (a b : ℕ) → TakesCopy pointer a → TakesCopy pointer b → a ≡ b
+pub one_copy : (pointer : Pointer) (a b : ℕ) → TakesCopy pointer a → TakesCopy pointer b → a ≡ b
 one_copy pointer a b x y =
     x.words_are ∙ ap (λ (t : Trees). total_words t) (ap (λ (t : Trees). formed false t) ((one_of_pointer pointer).same_tree x.trees y.trees x.tree_is y.tree_is)) ∙ sym y.words_are
 
-same_copies : (fields : Struct) (count a b : ℕ) → TakesCopies fields count a → TakesCopies fields count b → a ≡ b
+pub same_copies : (fields : Struct) (count a b : ℕ) → TakesCopies fields count a → TakesCopies fields count b → a ≡ b
 same_copies fields zero a b x y = x ∙ sym y
 same_copies fields (suc count) a b x y =
     let front : x.0 ≡ y.0 = same_copies fields count x.0 y.0 x.2 y.2 in
@@ -60,14 +59,14 @@ same_copies fields (suc count) a b x y =
     omega (arith, front, last, x.4, y.4)
 
 -- one of some copies
-record IsCopyAt (fields : Struct) (index words : ℕ) : Type 0 where
-  before : ℕ
-  last : ℕ
-  taken : TakesCopies fields index before
-  one : TakesCopy (pointer_in fields index) last
-  fits : before + last ≤ words
+pub record IsCopyAt (fields : Struct) (index words : ℕ) : Type 0 where
+  pub before : ℕ
+  pub last : ℕ
+  pub taken : TakesCopies fields index before
+  pub one : TakesCopy (pointer_in fields index) last
+  pub fits : before + last ≤ words
 
-copy_at : (fields : Struct) (count index words : ℕ) → index < count → TakesCopies fields count words → IsCopyAt fields index words
+pub copy_at : (fields : Struct) (count index words : ℕ) → index < count → TakesCopies fields count words → IsCopyAt fields index words
 copy_at fields zero index words within takes = absurd (omega (arith, within))
 copy_at fields (suc count) index words within takes = elim (cases_lt index count) [
   | inl less ↦ (let c = copy_at fields count index takes.0 less takes.2 in
@@ -85,7 +84,7 @@ copy_at fields (suc count) index words within takes = elim (cases_lt index count
 pub appends_none : (segment : Segment) → Appends 0 segment segment
 appends_none segment = record { block = []; len = refl; bytes_are = sym (append-nil segment.bytes); body_is = sym (append-nil (body_of segment)) }
 
-appends_both : (a b : ℕ) (old between new : Segment) → Appends a old between → Appends b between new → Appends (a + b) old new
+pub appends_both : (a b : ℕ) (old between new : Segment) → Appends a old between → Appends b between new → Appends (a + b) old new
 appends_both a b old between new x y = record {
   block = x.block ++ y.block;
   len = omega (arith, length-append x.block y.block, x.len, y.len);
@@ -94,18 +93,18 @@ appends_both a b old between new x y = record {
       ∙ sym (ap (λ (l : List ℕ). body_of old ++ l) (words_split a x.block y.block x.len));
 }
 
-length-appended : (words : ℕ) (old new : Segment) → Appends words old new → length new.bytes ≡ length old.bytes + 8 * words
+pub length-appended : (words : ℕ) (old new : Segment) → Appends words old new → length new.bytes ≡ length old.bytes + 8 * words
 length-appended words old new appends =
     ap (λ (l : List ℕ). length l) appends.bytes_are ∙ length-append old.bytes appends.block ∙ ap (λ (n : ℕ). length old.bytes + n) appends.len
 
 -- a pointer that can't be copied after some words
-abbrev Stops : Pointer → ℕ → Segment → ErrorKind → Type 0
+abbrev pub Stops : Pointer → ℕ → Segment → ErrorKind → Type 0
 Stops pointer before segment kind = RefusesCopy pointer kind
     ⊎ ((words : ℕ) × TakesCopy pointer words × (kind ≡ AllocationTooLarge words)
     × ((2 ^ 29 ≤ length segment.bytes / 8 + before + words) ⊎ ExceedsMost (before + words) segment))
 
 -- it is refused
-stopped : {T : Type 0} (pointer : Pointer) (before : ℕ) (kind : ErrorKind) (old between : Segment) (result : Result T Error) → Appends before old between → between.most ≡ old.most
+pub stopped : {T : Type 0} (pointer : Pointer) (before : ℕ) (kind : ErrorKind) (old between : Segment) (result : Result T Error) → Appends before old between → between.most ≡ old.most
     → Fails (TakesCopy pointer) (RefusesCopy pointer) between result → Stops pointer before old kind → IsErrAnd result (λ error. error.kind ≡ kind)
 stopped pointer before kind old between result appends most fails (inl refused) = fails.exact kind refused
 stopped pointer before kind old between result appends most fails (inr (words, takes, is, inl long)) =
@@ -143,200 +142,6 @@ null_word body word form held is null_is =
     let there = is.leads (link word 0) [] 0 (omega arith) refl in
     no_link word (some_zero (link word 0) (zero_stands ((link word 0 ∷ (body ++ [])) ∷ []) (record { segment = 0; word = 0 }) (tree form held none) there.0 there.1 null_is))
 
-null_copied : (pointer : Pointer) (body : List ℕ) (word : ℕ) → Denotes pointer nothing → HoldsValue (LeadsToTree pointer) body word → word ≡ 0
+pub null_copied : (pointer : Pointer) (body : List ℕ) (word : ℕ) → Denotes pointer nothing → HoldsValue (LeadsToTree pointer) body word → word ≡ 0
 null_copied pointer body word null_is holds =
     null_word body word holds.0 holds.1 holds.3 (sym (null_told pointer (tree holds.0 holds.1 none) true ((λ yes. null_is), (λ there. refl)) holds.2))
-
--- The first pointers are copied.
-pub record IsCopied (fields : Struct) (count : ℕ) (old new : Segment) (pointers : List ℕ) : Type 0 where
-  pub words : ℕ
-  pub taken : TakesCopies fields count words
-  pub appended : Appends words old new
-  pub keeps : Keeps old new
-  pub copies : AreValues LeadsToTree (body_of new) (pointers_in fields count) (take count pointers)
-  pub nulls : (index : ℕ) → index < count → Denotes (pointer_in fields index) nothing → get_or pointers index 0 ≡ 0
-  pub unstopped : (index before : ℕ) (kind : ErrorKind) → index < count → TakesCopies fields index before → Stops (pointer_in fields index) before old kind → ⊥
-  pub most : new.most ≡ old.most
-  pub memory : old.capacity ≤ new.capacity
-
--- none is
-pub none_copied : (fields : Struct) (old : Segment) (pointers : List ℕ) → IsCopied fields 0 old old pointers
-none_copied fields old pointers = record {
-  words = 0;
-  taken = refl;
-  appended = appends_none old;
-  keeps = λ word form held h. h;
-  copies = tt;
-  nulls = λ index low null_is. absurd (omega (arith, low));
-  unstopped = λ index before kind low taken stops. absurd (omega (arith, low));
-  most = refl;
-  memory = omega arith;
-}
-
--- one more is
-pub one_copied : {T : Type 0} (fields : Struct) (count : ℕ) (old between new : Segment) (pointers : List ℕ) (pointer : Pointer) (word : T → ℕ) (object : T) → pointer ≡ pointer_in fields count
-    → count < length pointers → IsCopied fields count old between pointers → Adds (HoldsValue (LeadsToTree pointer)) between new word (Ok object)
-    → Writes (TakesCopy pointer) (RefusesCopy pointer) between new (Ok object) → IsCopied fields (count + 1) old new (slice_set pointers count (word object))
-one_copied {T} fields count old between new pointers pointer word object same within so adds writes =
-    let next : suc count ≡ count + 1 = omega arith in
-    let takes : TakesCopy (pointer_in fields count) writes.appended.0 = subst (λ (p : Pointer). TakesCopy p writes.appended.0) same writes.appended.1 in
-    let holds : HoldsValue (LeadsToTree (pointer_in fields count)) (body_of new) (word object) = subst (λ (p : Pointer). HoldsValue (LeadsToTree p) (body_of new) (word object)) same adds.orphan in
-    let added : Result T Error = Ok object in
-    let fails : Fails (TakesCopy (pointer_in fields count)) (RefusesCopy (pointer_in fields count)) between added =
-    subst (λ (p : Pointer). Fails (TakesCopy p) (RefusesCopy p) between added) same writes.fails in
-    record {
-      words = so.words + writes.appended.0;
-      taken = subst (λ (n : ℕ). TakesCopies fields n (so.words + writes.appended.0)) next (so.words, writes.appended.0, so.taken, takes, refl);
-      appended = appends_both so.words writes.appended.0 old between new so.appended writes.appended.2;
-      keeps = keeps_on old between new so.keeps adds.keeps;
-      copies = subst (λ (n : ℕ). AreValues LeadsToTree (body_of new) (pointers_in fields n) (take (count + 1) (slice_set pointers count (word object)))) next
-          (subst (λ (l : List ℕ). AreValues LeadsToTree (body_of new) (pointers_in fields count ++ pointer_in fields count ∷ []) l) (sym (take_more_set pointers count (word object) within))
-          (one_value_more LeadsToTree between new (pointers_in fields count) (take count pointers) (pointer_in fields count) (word object) adds.keeps so.copies holds));
-      nulls = λ index low null_is. elim (cases_lt index count) [
-        | inl less ↦ get_or-set_other pointers count index (word object) 0 (λ at. omega (arith, less, at)) ∙ so.nulls index less null_is
-        | inr more ↦ (let here : index ≡ count = omega (arith, low, more) in
-            ap (λ (n : ℕ). get_or (slice_set pointers count (word object)) n 0) here ∙ get_or-set_same pointers count (word object) 0 within
-            ∙ null_copied (pointer_in fields count) (body_of new) (word object) (subst (λ (n : ℕ). Denotes (pointer_in fields n) nothing) here null_is) holds)
-      ];
-      unstopped = λ index before kind low taken stops. elim (cases_lt index count) [
-        | inl less ↦ so.unstopped index before kind less taken stops
-        | inr more ↦ (let here : index ≡ count = omega (arith, low, more) in
-            let words_are : so.words ≡ before = same_copies fields count so.words before so.taken (subst (λ (n : ℕ). TakesCopies fields n before) here taken) in
-            stopped (pointer_in fields count) before kind old between added (subst (λ (n : ℕ). Appends n old between) words_are so.appended) so.most fails
-            (subst (λ (n : ℕ). Stops (pointer_in fields n) before old kind) here stops))
-      ];
-      most = writes.most ∙ so.most;
-      memory = omega (arith, so.memory, writes.memory);
-    }
-
--- a copy of too many words
-abbrev IsLargeCopy : Pointer → ErrorKind → Type 0
-IsLargeCopy pointer kind = (trees : Trees) × LeadsToTree pointer trees × (2 ^ 29 ≤ total_words (formed false trees)) × (kind ≡ too_large false (total_words (formed false trees)))
-
-large_copy : (pointer : Pointer) (trees : Trees) → LeadsToTree pointer trees → 2 ^ 29 ≤ total_words trees → IsLargeCopy pointer (AllocationTooLarge (min (total_words trees) (2 ^ 32 - 1)))
-large_copy pointer trees leads many = (trees, leads, many, refl)
-
--- all are
-pub all_copied : {T : Type 0} (fields : Struct) (count : ℕ) (old new : Segment) (pointers : List ℕ) (made : T → List ℕ) (object : T) → length pointers ≡ count → made object ≡ pointers
-    → IsCopied fields count old new pointers → Copies fields count old new made (Ok object)
-all_copied fields count old new pointers made object long same so = record {
-  copies = subst (λ (l : List ℕ). AreValues LeadsToTree (body_of new) (pointers_in fields count) l) (take_all count pointers (omega (arith, long)) ∙ sym same) so.copies;
-  nulls = λ index low null_is. ap (λ (l : List ℕ). get_or l index 0) same ∙ so.nulls index low null_is;
-  keeps = so.keeps;
-  appended = (so.words, so.taken, so.appended);
-  kind = tt;
-  fits = λ words takes room. refl;
-  exact = λ index before kind low taken room refused. so.unstopped index before kind low taken (inl (inl refused));
-  large = λ index before trees low taken room leads many. so.unstopped index before (AllocationTooLarge (min (total_words trees) (2 ^ 32 - 1))) low taken (inl (inr (large_copy (pointer_in fields index) trees leads many)));
-  long = λ index before words low taken room takes many. so.unstopped index before (AllocationTooLarge words) low taken (inr (words, takes, refl, inl many));
-  full = λ index before words low taken room takes many. so.unstopped index before (AllocationTooLarge words) low taken (inr (words, takes, refl, inr many));
-  most = so.most;
-  memory = so.memory;
-}
-
--- room for copies is room for each
-room_at : (words before last : ℕ) (old between : Segment) → HasRoom words old → Appends before old between → old.capacity ≤ between.capacity → before + last ≤ words → HasRoom last between
-room_at words before last old between room appends memory fits =
-    (omega (arith, room.0, length-appended before old between appends, fits), omega (arith, room.1, length-appended before old between appends, fits, memory))
-
--- it fails before a pointer that can't be copied only where that is the one
-stops_there : {T : Type 0} (fields : Struct) (at_index : ℕ) (old between : Segment) (pointers : List ℕ) (error : Error) (index before : ℕ) (kind : ErrorKind)
-    → IsCopied fields at_index old between pointers → Fails {T = T} (TakesCopy (pointer_in fields at_index)) (RefusesCopy (pointer_in fields at_index)) between (Err error)
-    → TakesCopies fields index before → HasRoom before old → Stops (pointer_in fields index) before old kind → error.kind ≡ kind
-stops_there {T} fields at_index old between pointers error index before kind so fails taken room stops =
-    let failed : Result T Error = Err error in
-    elim (cases_lt index at_index) [
-      | inl less ↦ absurd (so.unstopped index before kind less taken stops)
-      | inr more ↦ elim (cases_lt at_index index) [
-        | inl less ↦ (let c = copy_at fields index at_index before less taken in
-            let words_are : c.before ≡ so.words = same_copies fields at_index c.before so.words c.taken so.taken in
-            let fits = fails.fits c.last c.one (room_at before so.words c.last old between room so.appended so.memory (omega (arith, c.fits, words_are))) in
-            absurd (cc))
-        | inr most ↦ (let here : index ≡ at_index = omega (arith, more, most) in
-            let words_are : so.words ≡ before = same_copies fields at_index so.words before so.taken (subst (λ (n : ℕ). TakesCopies fields n before) here taken) in
-            stopped (pointer_in fields at_index) before kind old between failed (subst (λ (n : ℕ). Appends n old between) words_are so.appended) so.most fails
-            (subst (λ (n : ℕ). Stops (pointer_in fields n) before old kind) here stops))
-      ]
-    ]
-
--- one of them is not
-pub copy_failed : {T U : Type 0} (fields : Struct) (count index : ℕ) (old between new : Segment) (pointers : List ℕ) (pointer : Pointer) (made : U → List ℕ) (error : Error)
-    (result : Result U Error) → result ≡ Err error → pointer ≡ pointer_in fields index → index < count → IsCopied fields index old between pointers → Keeps between new
-    → Writes {T = T} (TakesCopy pointer) (RefusesCopy pointer) between new (Err error) → Copies {T = U} fields count old new made result
-copy_failed {T} {U} fields count index old between new pointers pointer made error result failed same within so keeps writes =
-    let fails : Fails {T = T} (TakesCopy (pointer_in fields index)) (RefusesCopy (pointer_in fields index)) between (Err error) =
-    subst (λ (p : Pointer). Fails {T = T} (TakesCopy p) (RefusesCopy p) between (Err error)) same writes.fails in
-    let stays : between ≡ new = sym writes.unchanged in
-    subst (λ (r : Result U Error). Copies fields count old new made r) (sym failed) (record {
-      copies = tt;
-      nulls = λ at low null_is. tt;
-      keeps = keeps_on old between new so.keeps keeps;
-      appended = tt;
-      kind = record {
-        index = index;
-        before = so.words;
-        within = within;
-        taken = so.taken;
-        appended = subst (λ (s : Segment). Appends so.words old s) stays so.appended;
-        cause = subst (λ (s : Segment). RefusesCopy (pointer_in fields index) error.kind ⊎ ((words : ℕ) × TakesCopy (pointer_in fields index) words × LacksRoom words s error.kind)) stays fails.kind;
-      };
-      fits = λ words takes room.
-          (let c = copy_at fields count index words within takes in
-          let words_are : c.before ≡ so.words = same_copies fields index c.before so.words c.taken so.taken in
-          fails.fits c.last c.one (room_at words so.words c.last old between room so.appended so.memory (omega (arith, c.fits, words_are))));
-      exact = λ at before kind low taken room refused. stops_there fields index old between pointers error at before kind so fails taken room (inl (inl refused));
-      large = λ at before trees low taken room leads many.
-          stops_there fields index old between pointers error at before (AllocationTooLarge (min (total_words trees) (2 ^ 32 - 1))) so fails taken room
-          (inl (inr (large_copy (pointer_in fields at) trees leads many)));
-      long = λ at before words low taken room takes many.
-          stops_there fields index old between pointers error at before (AllocationTooLarge words) so fails taken room (inr (words, takes, refl, inl many));
-      full = λ at before words low taken room takes many.
-          stops_there fields index old between pointers error at before (AllocationTooLarge words) so fails taken room (inr (words, takes, refl, inr many));
-      most = writes.most ∙ so.most;
-      memory = omega (arith, so.memory, writes.memory);
-    })
-
--- what is said of the pointers is said of what has them
-pub copies_of : {T U : Type 0} (fields : Struct) (count : ℕ) (old new : Segment) (pointers : List ℕ) (made : U → List ℕ) (object : T) (other : U) → made other ≡ pointers
-    → Copies fields count old new (λ (o : T). pointers) (Ok object) → Copies fields count old new made (Ok other)
-copies_of {T} {U} fields count old new pointers made object other same so = record {
-  copies = subst (λ (l : List ℕ). AreValues LeadsToTree (body_of new) (pointers_in fields count) l) (sym same) so.copies;
-  nulls = λ index low null_is. ap (λ (l : List ℕ). get_or l index 0) same ∙ so.nulls index low null_is;
-  keeps = so.keeps;
-  appended = so.appended;
-  kind = tt;
-  fits = so.fits;
-  exact = so.exact;
-  large = so.large;
-  long = so.long;
-  full = so.full;
-  most = so.most;
-  memory = so.memory;
-}
-
-pub copies_not : {T U : Type 0} (fields : Struct) (count : ℕ) (old new : Segment) (pointers : T → List ℕ) (made : U → List ℕ) (error : Error) (result : Result U Error) → result ≡ Err error
-    → Copies {T = T} fields count old new pointers (Err error) → Copies {T = U} fields count old new made result
-copies_not {T} {U} fields count old new pointers made error result failed so = subst (λ (r : Result U Error). Copies fields count old new made r) (sym failed) (record {
-  copies = tt;
-  nulls = λ index low null_is. tt;
-  keeps = so.keeps;
-  appended = tt;
-  kind = so.kind;
-  fits = so.fits;
-  exact = so.exact;
-  large = so.large;
-  long = so.long;
-  full = so.full;
-  most = so.most;
-  memory = so.memory;
-})
-
--- what `?` returns
-pub same_failure : {T : Type 0} (error : Error) (result : Result T Error) → IsErrAnd result (λ other. other ≡ error) → result ≡ Err error
-same_failure error (Ok object) is = absurd is
-same_failure error (Err other) is = ap (λ (e : Error). Err e) is
-
--- as many pointers
-pub counted : {T : Type 0} (fields : Struct) (count same : ℕ) (old new : Segment) (made : T → List ℕ) (result : Result T Error) → count ≡ same → Copies fields count old new made result
-    → Copies fields same old new made result
-counted fields count same old new made result is so = subst (λ (n : ℕ). Copies fields n old new made result) is so

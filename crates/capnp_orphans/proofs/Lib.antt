@@ -5,3 +5,5 @@ pub mod StructListLemmas
 pub mod WrittenLemmas
 pub mod AddingLemmas
 pub mod CopyLemmas
+pub mod CopyingLemmas
+pub mod CutLemmas

@@ -1,11 +1,14 @@
 //! Facts about orphans. `specs/OrphanLaws.antt` has those about the trees of any kind of value, for
 //! proofs.
-ghost use Rattle.std.specs.Prelude.{ℕ, List, [], ◌∷◌, ◌++◌};
+ghost use Rattle.std.specs.Prelude.{◌≡◌, ◌+◌, ◌*◌, ◌≤◌, ℕ, List, [], ◌∷◌, ◌++◌};
 ghost use Rattle.capnp_wire.specs.Tree.{Form, Trees, null, none};
 ghost use Rattle.capnp_orphans.specs.Orphans.{AreOrphans, IsOrphan};
 ghost use Rattle.capnp_orphans.specs.Segments.{Segment, body_of};
 ghost use Rattle.capnp_orphans.specs.Held.{AreTrees, AreValues, HoldsValue};
 ghost use Rattle.capnp_orphans.specs.Adding.{Keeps};
+ghost use Rattle.capnp_orphans.specs.Copied.{words_in};
+ghost use Rattle.capnp_wire.specs.Fields.{field};
+ghost use Rattle.capnp_wire.specs.Views.{Struct};
 
 use capnp_wire::traits::SetterInput;
 
@@ -52,4 +55,11 @@ pub fn values_are_trees<T, V: SetterInput<T>>()
     ensures { (body : List ℕ) (values : List V) (words : List ℕ) →
         AreValues V.has_tree body values words →
         (held : Trees) × AreOrphans body words held × AreTrees V.has_tree values held }
+{}
+
+/// A field of the data words of a struct is what it was, once they are cut behind it or filled up
+/// with zeros.
+pub fn fields_stay()
+    ensures { (fields : Struct) (count width offset : ℕ) → width * (offset + 1) ≤ 64 * count →
+        field (words_in fields count) width offset ≡ field fields.words width offset }
 {}

@@ -1,7 +1,7 @@
 -- The pointers are those of the draft.
 use Rattle.std.proofs.Common.{ℕ}
 use Rattle.std.proofs.lemmas.List.{length-replicate}
-use Rattle.capnp_orphans.proofs.CopyLemmas.{copies_of, copies_not, counted, same_failure}
+use Rattle.capnp_orphans.proofs.CopyingLemmas.{copies_of, copies_not, counted, same_failure}
 use Rattle.capnp_orphans.proofs.draft.StructDraft.from_reader.Goals as goal
 
 pub returns-in_err-copy_pointers-clause-copies : goal.returns-in_err-copy_pointers-clause-copies
