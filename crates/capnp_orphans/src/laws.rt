@@ -57,7 +57,7 @@ pub fn values_are_trees<T, V: SetterInput<T>>()
         (held : Trees) × AreOrphans body words held × AreTrees V.has_tree values held }
 {}
 
-/// A field of the data words of a struct is what it was, once they are cut behind it or filled up
+/// A field of the data words of a struct is what it was, once they are cut after it or filled up
 /// with zeros.
 pub fn fields_stay()
     ensures { (fields : Struct) (count width offset : ℕ) → width * (offset + 1) ≤ 64 * count →
