@@ -1,14 +1,14 @@
-//! Why a call is refused.
+//! Why a call fails.
 ghost use Rattle.std.specs.Prelude.{◌≡◌};
 ghost use Rattle.capnp_frame.specs.declared.error.ErrorKind.TheVariants.{OutOfMemory};
 ghost use Rattle.capnp_frame.specs.Numbers.{kind_number};
 
 use std::alloc::{AllocError, AllocFailed};
 
-/// What a call returns that may be refused.
+/// The result of a call that can fail.
 pub type Result<T> = std::result::Result<T, Error>;
 
-/// What a refusal is, and where it has numbers, these.
+/// The kind of an error, with the numbers it carries.
 ///
 /// Its text is its name, with its numbers after it in parentheses.
 #[derive(Clone, Copy, Debug, PartialEq, Eq, thiserror::Error)]
@@ -19,17 +19,17 @@ pub enum ErrorKind {
     /// A caller-provided buffer has too few bytes for what was to be put there.
     #[error("BufferNotLargeEnough")]
     BufferNotLargeEnough,
-    /// A buffer that was to hold a message has no bytes.
+    /// A buffer in which a message is looked for has no bytes.
     #[error("EmptyBuffer")]
     EmptyBuffer,
-    /// A slice that was to begin with a message has no bytes.
+    /// A slice in which a message is looked for has no bytes.
     #[error("EmptySlice")]
     EmptySlice,
     /// A segment table has, or is to have, this number of segments, which is not from 1 to 511.
     #[error("InvalidNumberOfSegments({0})")]
     InvalidNumberOfSegments(usize),
-    /// The segments have this many words, and the input only a given number after the table. Where the
-    /// table itself is cut, a field of four bytes is wanted and a given number of its bytes are there.
+    /// The segments have this many words, and after the table the input has only this many. Where
+    /// the table itself is cut: a field of four bytes, of which the input has only this many.
     #[error("MessageEndsPrematurely({0}, {1})")]
     MessageEndsPrematurely(usize, usize),
     /// A number of words or bytes does not fit `usize`.
@@ -47,7 +47,7 @@ pub enum ErrorKind {
     /// A run of packed words goes past the end of its chunk.
     #[error("PackedInputDidNotEndCleanlyOnASegmentBoundary")]
     PackedInputDidNotEndCleanlyOnASegmentBoundary,
-    /// A growth was refused.
+    /// Memory could not be allocated.
     #[error("OutOfMemory")]
     OutOfMemory,
     /// The device of a source or a sink failed.
@@ -56,7 +56,7 @@ pub enum ErrorKind {
     /// A chunk to be packed or unpacked is not of whole words.
     #[error("NotWholeWords")]
     NotWholeWords,
-    /// An object or a segment of this many words can't be had.
+    /// An object or a segment of this many words is too large, or has no room.
     #[error("AllocationTooLarge({0})")]
     AllocationTooLarge(u32),
     /// The allocator's one segment is handed out already.
@@ -71,7 +71,7 @@ pub enum ErrorKind {
     /// Objects are nested deeper than the reader's limit.
     #[error("NestingLimitExceeded")]
     NestingLimitExceeded,
-    /// More words are visited than the reader's limit allows.
+    /// A reader visited more words than its limit allows.
     #[error("ReadLimitExceeded")]
     ReadLimitExceeded,
     /// A message has a pointer to a capability.
@@ -86,7 +86,7 @@ pub enum ErrorKind {
     /// A canonical form has more words than a segment may.
     #[error("CanonicalTooLarge")]
     CanonicalTooLarge,
-    /// What was to be canonical does not stand in one segment.
+    /// What was to be canonical is not a message of one segment.
     #[error("NotOneSegment")]
     NotOneSegment,
     /// A segment table's padding is not zero.
@@ -130,7 +130,7 @@ impl ErrorKind {
     }
 }
 
-/// A refusal.
+/// An error: what a call returns that failed.
 #[derive(Clone, Debug, Drop, thiserror::Error)]
 #[error("{kind}")]
 pub struct Error {
@@ -138,7 +138,7 @@ pub struct Error {
 }
 
 impl Error {
-    /// The refusal of this kind.
+    /// An error of this kind.
     pub fn from_kind(kind: ErrorKind) -> Error
         ensures { result.kind ≡ kind }
     {

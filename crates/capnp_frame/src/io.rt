@@ -1,8 +1,8 @@
 //! Sources and sinks of bytes, as far as messages need them.
 //!
-//! Contracts see of a source the bytes that are unread, how often its device failed, and what a
-//! request takes; of a sink what was written, and what a chunk adds. How many bytes one `read`
-//! returns is free: what is proved over a `Read` holds however its bytes are cut.
+//! Contracts see the unread bytes of a source, how often its device failed, and what a request
+//! takes; of a sink they see what was written, and what a chunk adds. How many bytes one `read`
+//! returns is left open: what is proved over a `Read` holds however its bytes are cut.
 ghost use Rattle.std.specs.Prelude.{◌≡◌, ℕ, ◌+◌, ◌<◌, ◌≤◌, List, [], ◌⊎◌, length, take, drop, Option, Some, IfSome, IfOk, OnOk, IfErr, OnErr, IsOk, ◌↔◌};
 ghost use Rattle.std.specs.Borrow.{sem};
 ghost use Rattle.std.specs.Io.BufRead.{Rests};
@@ -18,8 +18,8 @@ use crate::error::{Error, ErrorKind, Result};
 
 /// A source of bytes.
 ///
-/// For implementers: `gives` says which bytes a request of n bytes takes, and `refuses` by which kind
-/// it is refused where no bytes are given. A `read` returns some of the bytes that are given, and
+/// For implementers: `gives` says which bytes a request of n bytes takes, and `refuses` with which
+/// kind it fails where no bytes are given. A `read` returns some of the bytes that are given, and
 /// what it leaves is given to the requests after it.
 pub trait Read {
     /// The bytes that no read has taken yet, where they are known.
@@ -31,14 +31,17 @@ pub trait Read {
     /// Which bytes a request takes, and what it leaves.
     ghost gives: { Giving };
 
-    /// By which kind a request is refused.
+    /// With which kind a request fails.
     ghost refuses: { Refusing };
 
     /// What each call keeps, as the reference that a source stands on.
     ghost same: { Self → Self → Type 0 };
 
-    /// Fills some front of `buffer`, and returns how many bytes: none only where nothing is unread
-    /// or `buffer` is empty.
+    /// Reads some bytes into the front of `buffer`, and returns how many: 0 only where nothing is
+    /// unread or `buffer` is empty.
+    ///
+    /// Fails with `DeviceFailed` only where the device failed in the call, and else with a kind
+    /// that `refuses` names for a request of this length.
     fn read(&mut self, buffer: &mut [u8]) -> Result<usize>
         ensures within { IfOk result (λ count. count ≤ length buffer.new) }
         ensures taken { IfOk result (λ count. IfKnown (unread self.old) (unread self.new)
@@ -50,7 +53,7 @@ pub trait Read {
             IsRefused refuses (length buffer.new) (unread self.old)
             ErrorKind.FailedToFillTheWholeBuffer) }
 
-        // A refusal.
+        // An error.
         ensures failed { IfErr result (λ error. error.kind ≡ ErrorKind.DeviceFailed →
             Fails (failures self.old) (failures self.new)) }
         ensures refused { IfErr result (λ error. (error.kind ≡ ErrorKind.DeviceFailed)
@@ -61,8 +64,8 @@ pub trait Read {
 
         ensures advances { Advances unread failures same self.old self.new };
 
-    /// Fills `buffer`. It fails with `FailedToFillTheWholeBuffer` where `read` returns no byte
-    /// before that.
+    /// Fills `buffer`. Fails with `FailedToFillTheWholeBuffer` where `read` returns 0 before it is
+    /// full, and else as `read` does.
     fn read_exact(&mut self, buffer: &mut [u8]) -> Result<()>
         ensures given { OnOk result (IfKnown (unread self.old) (unread self.new)
             (λ raw rest. gives raw (length buffer.new) buffer.new rest)) }
@@ -91,12 +94,14 @@ pub trait Read {
     ghost keeps: { IsPreorder same };
 }
 
-/// A plain source that shows what it will give.
+/// A plain source, which shows the bytes that it gives next.
 pub trait BufRead: Read {
     /// The bytes that `fill_buf` showed and `consume` may take.
     ghost shown: { Self → List ℕ };
 
-    /// Shows some front of what is unread, and no byte only at the end. It consumes nothing.
+    /// Shows the first of the unread bytes, and no byte only at the end. It consumes nothing.
+    ///
+    /// Fails with `DeviceFailed` alone.
     fn fill_buf(&mut self) -> Result<&[u8]>
         ensures front { IfOk result (λ bytes. IfSome (Self.unread self.old) (IsFront bytes.now)) }
         ensures end { IfOk result (λ bytes. bytes.now ≡ [] →
@@ -119,7 +124,7 @@ pub trait BufRead: Read {
     ghost plain_refusals: { (raw : List ℕ) (n : ℕ) (kind : ErrorKind) → RunsShort raw n kind ↔ Self.refuses raw n kind };
 }
 
-/// A sink: it takes whole chunks, or refuses them.
+/// A sink of bytes: it takes whole chunks, or fails.
 pub trait Write {
     /// The bytes taken so far, where the sink keeps them.
     ghost written: { Self → Option (List ℕ) };
@@ -133,17 +138,19 @@ pub trait Write {
     /// Which part of a chunk a call that fails may leave, after the bytes taken so far.
     ghost leaves: { Leaving };
 
-    /// By which kinds a chunk may be refused, beside the device's.
+    /// With which kinds a chunk may fail, beside the device's.
     ghost refuses: { Declining };
 
-    /// What a sink takes for sure: a given number of further bytes, in any chunks.
+    /// How many further bytes the sink is sure to take, in any chunks.
     ghost grants: { Self → ℕ → Type 0 };
 
     /// What each call keeps, as the reference that a sink stands on.
     ghost same: { Self → Self → Type 0 };
 
-    /// Takes all of `chunk`. A call that fails adds no more than a part of it to what was written
-    /// before.
+    /// Writes all of `chunk`. A call that fails adds at most a part of it, which `leaves` tells.
+    ///
+    /// Fails with `DeviceFailed` only where the device failed in the call, and else with a kind
+    /// that `refuses` names for this chunk. A chunk within what the sink `grants` never fails.
     fn write_all(&mut self, chunk: &[u8]) -> Result<()>
         ensures added { OnOk result (IfKnown (written self.old) (written self.new)
             (Adds (appends chunk.now))) }

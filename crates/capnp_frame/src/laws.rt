@@ -30,9 +30,9 @@ pub fn zero_padding_leaves_one_frame()
         IsFrame Padding.Zero text segments → text ≡ frame_text segments }
 {}
 
-/// What has zero padding has some: a table, and a message by its requests of any source, stands by the
-/// rule of zero padding exactly where it stands with any padding, and its table is the one that is
-/// written, whose padding is zero.
+/// Zero padding is some padding: a table, and a message by its requests of any source, is one by
+/// the rule of zero padding exactly where it is one by the rule of any padding and its table is the
+/// one that is written, whose padding is zero.
 pub fn zero_padding_is_some_padding<R: Read>()
     ensures table { (text ns : List ℕ) → IsTable Padding.Zero text ns
         ↔ (IsTable Padding.Any text ns × (text ≡ zero_padded_table ns)) }
@@ -42,8 +42,8 @@ pub fn zero_padding_is_some_padding<R: Read>()
         × (any.table.first ++ any.table.others ≡ zero_padded_table (lengths m))) }
 {}
 
-/// No framed text begins a different one, also of another rule of padding, and each is the text of
-/// one message alone. So texts that are joined part in one way.
+/// No framed text begins a different one, by either rule of padding, and each is the text of one
+/// message alone. So joined texts can be taken apart in one way only.
 pub fn frames_part_in_one_way()
     ensures { (rule also : Padding) (text other rest left : List ℕ)
         (segments others : List (List ℕ)) →
@@ -58,7 +58,8 @@ pub fn plain_requests_take_a_frame()
         ↔ ((text : List ℕ) × IsFrame rule text segments × (raw ≡ text ++ rest)) }
 {}
 
-/// A message of more words than the limit fails with `MessageTooLarge`, which tells how many it has.
+/// A message of more words than the limit fails with `MessageTooLarge`, which tells how many it
+/// has.
 pub fn message_past_the_limit_is_refused<R: Read>()
     ensures { (rule : Padding) (limit : Option ℕ) (m : List (List ℕ)) (raw rest : List ℕ) →
         MessageStands rule R.gives m raw rest → length m < 512 → IsTooLarge (lengths m) limit →
@@ -80,8 +81,8 @@ pub fn chunks_are_the_frame()
         length (concat (chunks segments)) ≡ 8 * serialized_words segments }
 {}
 
-/// A plain sink that is left with a front of a chunk at most, where a call fails, is left with a
-/// front of the framed text.
+/// A plain sink that keeps at most a front of a chunk where a call fails, keeps a front of the
+/// framed text.
 pub fn what_is_left_of_a_message_is_a_front<W: Write>()
     ensures { ((chunk text : List ℕ) → W.leaves chunk text → LeavesFront chunk text) →
         (segments : List (List ℕ)) (text : List ℕ) →
@@ -90,7 +91,7 @@ pub fn what_is_left_of_a_message_is_a_front<W: Write>()
 {}
 
 /// The readers of slices and buffers accept the same bytes with the same segments: what one form
-/// refuses the other refuses, and one message alone stands at a front.
+/// refuses the other refuses, and only one message can be at a front.
 pub fn flat_readers_agree()
     ensures refused { (form other : FlatForm) (rule : Padding) (limit : Option ℕ) (kind : ErrorKind)
         (bytes : List ℕ) → AllByRecursion (λ byte. byte < 256) bytes →
@@ -108,14 +109,14 @@ pub fn indexes_are_below_the_length()
         IsSome (slice_get segments index) ↔ (index < length segments) }
 {}
 
-/// What never counts a failure is never blamed for one. So it is with a slice as a source, and with
-/// a vector or a caller-provided buffer as a sink: no call over them fails with `DeviceFailed`.
+/// What never counts a failure is never blamed for one: no call over a slice as a source, or over a
+/// vector or a caller-provided buffer as a sink, fails with `DeviceFailed`.
 pub fn slices_never_fail()
     ensures { (kind : ErrorKind) → (kind ≡ ErrorKind.DeviceFailed → Fails 0 0) →
         kind ≢ ErrorKind.DeviceFailed }
 {}
 
-/// A vector as a sink refuses a message for want of memory alone, but for too many segments.
+/// Writing a message to a vector fails for want of memory alone, or for too many segments.
 pub fn vectors_lack_memory_alone()
     ensures { (kind : ErrorKind) (segments : List (List ℕ)) →
         (kind ≡ ErrorKind.DeviceFailed → Fails 0 0) →

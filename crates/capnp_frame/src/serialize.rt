@@ -3,6 +3,30 @@
 //! In front of its segments a message has a segment table, which says how many there are and how
 //! long each is.
 //!
+//! # Errors of readers
+//!
+//! The first of these that holds decides with which error a reader fails:
+//!
+//! - the first word of the table is cut;
+//! - the number of segments isn't from 1 to 511: `InvalidNumberOfSegments`, of how many;
+//! - the rest of the table is cut;
+//! - the segments have more words than the limit: `MessageTooLarge`, of how many;
+//! - the padding isn't zero: `NonZeroPadding`, which a `_lenient` form never returns;
+//! - the segments are cut.
+//!
+//! Where something is cut, a reader of a stream fails as its source does, over plain bytes with
+//! `FailedToFillTheWholeBuffer`. A reader of a slice or a buffer fails with `EmptySlice` or
+//! `EmptyBuffer` for no bytes, with `FailedToFillTheWholeBuffer` for a table, and with
+//! `MessageEndsPrematurely` for segments. `NoAllocBufferSegments` takes the table field by field,
+//! so each test comes as soon as its fields are there, and fails with `MessageEndsPrematurely` for
+//! whatever is cut.
+//!
+//! `DeviceFailed` comes only where a source's device failed in the call. A reader that takes memory
+//! fails with `OutOfMemory` where there is none, after the number of segments is accepted. One into
+//! a caller-provided buffer fails with `BufferNotLargeEnough` instead: before all else where the
+//! buffer is shorter than 8 bytes, after the number is accepted where it is shorter than the table,
+//! and after the padding is where it is shorter than table and segments.
+//!
 //! [standard stream framing]: https://capnproto.org/encoding.html#serialization-over-a-stream
 mod buffer_segments;
 mod no_alloc_buffer_segments;

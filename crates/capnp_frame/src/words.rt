@@ -22,7 +22,10 @@ impl Word {
         Word { bytes }
     }
 
-    /// A given number of zero words.
+    /// This many zero words.
+    ///
+    /// Fails with `MessageSizeOverflow` exactly where their bytes pass `usize`, and else with
+    /// `OutOfMemory` alone.
     pub fn allocate_zeroed_vec(alloc: Global, length: usize) -> Result<Vec<Word>>
         ensures zero { IfOk result (λ words.
             map bytes_of words.items ≡ replicate length (replicate 8 0)) }
@@ -34,7 +37,7 @@ impl Word {
         Ok(vec![in alloc; Word::from_bytes([0; 8]); length]?)
     }
 
-    /// Its bytes, the first in memory first.
+    /// The bytes, in the order of memory.
     pub fn bytes(&self) -> [u8; 8]
         ensures { result ≡ bytes_of self.now }
     {

@@ -8,7 +8,8 @@ ghost use Rattle.capnp_frame.specs.SplittingLaws.{splitting, always};
 use crate::error::{Error, ErrorKind, Result};
 use crate::io::{BufRead, Read, Write};
 
-/// The slice moves past what was read. No call is refused, but `read_exact` where it is too short.
+/// The slice moves past what was read. `read` never fails, and `read_exact` fails with
+/// `FailedToFillTheWholeBuffer` alone, where the slice is too short.
 impl Read for &[u8] {
     ghost unread = { λ bytes. Some bytes.now };
 
@@ -50,7 +51,7 @@ impl BufRead for &[u8] {
     ghost plain_refusals = { λ _ _ _. (λ p. p, λ p. p) };
 }
 
-/// A chunk goes to the end. Where memory is refused the vector is unchanged.
+/// Appends chunks. Fails with `OutOfMemory` alone, and then the vector is unchanged.
 impl Write for Vec<u8> {
     ghost written = { λ sink. Some sink.items };
 
@@ -78,8 +79,8 @@ impl Write for Vec<u8> {
     ghost keeps = { always };
 }
 
-/// The slice moves past what was written, so what is left of it doesn't show that. A chunk that
-/// does not fit fails with `BufferNotLargeEnough`, and nothing of it is written.
+/// The slice moves past what was written, so it shows only the room that is left. A chunk that does
+/// not fit fails with `BufferNotLargeEnough`, and nothing of it is written.
 impl Write for &mut [u8] {
     ghost written = { λ _. None };
 

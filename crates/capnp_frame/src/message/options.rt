@@ -6,9 +6,9 @@ ghost use Rattle.capnp_frame.specs.declared.message.options.TheConstants.{DEFAUL
 /// Limits against messages that would cost a reader too much.
 #[derive(Clone, Copy, Debug)]
 pub struct ReaderOptions {
-    /// A message of more words than this is refused, and so is a reader that visits more words than
-    /// this. A message may lead a reader to the same words again and again, so a size alone is no
-    /// limit. `None` sets none.
+    /// A message of more words than this is refused, and a reader may visit no more words. Pointers
+    /// may lead to the same words again and again, so a limit of the size would not do. `None` sets
+    /// no limit.
     pub traversal_limit_in_words: Option<usize>,
 
     /// How deep objects may be nested. The limit keeps a message from using up the machine's stack.

@@ -15,7 +15,7 @@ pub trait ReaderSegments {
     fn get_segment(&self, id: u32) -> Option<&[u8]>
         ensures { option_copied result ≡ slice_get (segments self.now) id };
 
-    /// How many segments there are.
+    /// The number of segments.
     fn len(&self) -> usize
         requires { length (segments self.now) < 2 ^ 32 }
         ensures { result ≡ length (segments self.now) }
@@ -27,7 +27,7 @@ pub trait ReaderSegments {
         count as usize
     }
 
-    /// Whether there is no segment.
+    /// Whether there are no segments.
     fn is_empty(&self) -> bool
         ensures { IsTrue result ↔ (segments self.now ≡ []) }
     {
@@ -51,7 +51,7 @@ impl<S: ReaderSegments> ReaderSegments for &S {
     }
 }
 
-/// Segments that lie anywhere, each a slice.
+/// Segments in any places, each a slice.
 #[derive(Drop)]
 pub struct SegmentArray<'a> {
     segments: &'a [&'a [u8]],
@@ -87,12 +87,12 @@ impl ReaderSegments for SegmentArray<'_> {
     }
 }
 
-/// What shows bytes.
+/// A type that shows bytes.
 pub trait AsBytes {
     /// The bytes that are shown.
     ghost bytes: { Self → List ℕ };
 
-    /// The bytes, which stay the same.
+    /// The bytes, which are always the same.
     fn as_bytes(&self) -> &[u8]
         ensures { result.now ≡ bytes self.now };
 }

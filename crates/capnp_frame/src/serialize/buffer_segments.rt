@@ -1,4 +1,4 @@
-//! Segments that stay in the buffer in which their message stands.
+//! Segments that stay in the buffer that holds their message.
 ghost use Rattle.std.specs.Prelude.{◌≡◌, ◌+◌, ◌*◌, ◌≤◌, length, map, drop, sum, ◌⊎◌, IfOk, IfErr, Some, None};
 ghost use Rattle.capnp_frame.specs.SegmentLengths.{ranges, range_len, cut};
 ghost use Rattle.capnp_frame.specs.Limits.{AreWithin};
@@ -76,10 +76,10 @@ impl<T: AsBytes> BufferSegments<T> {
 }
 
 impl<T: AsBytes + Drop> BufferSegments<T> {
-    /// Finds the message at the front of a buffer. After it anything may stand.
+    /// Finds the message at the front of a buffer. Any bytes may follow it.
     ///
-    /// Memory is taken for the lengths of the segments alone, once their number is accepted. A
-    /// padding that isn't zero fails with `NonZeroPadding`, once the limit of words is tested.
+    /// Memory is taken for the lengths of the segments alone. Fails as the module `serialize`
+    /// lists: with `EmptyBuffer` for no bytes, with `NonZeroPadding` where the padding isn't zero.
     pub fn new(alloc: Global, buffer: T, options: ReaderOptions) -> Result<BufferSegments<T>>
         ensures buffer { IfOk result (λ found. found.buffer ≡ buffer) }
         ensures reads { ReadsFlat (buffer_rules Padding.Zero options.traversal_limit_in_words)
@@ -151,12 +151,11 @@ impl<T: AsBytes> ReaderSegments for BufferSegments<T> {
     }
 }
 
-/// Finds the message at the front of a slice, and moves the slice after it. A slice that is refused
-/// stays as it was.
+/// Finds the message at the front of a slice, and moves the slice after it.
 ///
-/// No segment is copied. Memory is taken for the lengths of the segments, once their number is
-/// accepted. A padding that isn't zero fails with `NonZeroPadding`, once the limit of words is
-/// tested.
+/// No segment is copied, and memory is taken for the lengths of the segments alone. Fails as the
+/// module `serialize` lists: with `EmptySlice` for no bytes, with `NonZeroPadding` where the
+/// padding isn't zero. The slice is then as it was.
 pub fn take_segments<'a>(
     alloc: Global,
     slice: &mut &'a [u8],

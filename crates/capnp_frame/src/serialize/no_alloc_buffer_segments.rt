@@ -10,14 +10,13 @@ use crate::serialize::segment_table::{Padding, field_at, table_len};
 use crate::serialize::segment_table_info::{NoAllocSegmentTableInfo, read_table_info};
 use std::marker::Model;
 
-// The ends of a given number of segments are kept.
+// How many segments' ends are kept.
 const KEPT_ENDS: usize = 8;
 
 /// A message's segments in a buffer that holds its table and after it the segments.
 ///
-/// No segment is copied and no memory is taken. Where the first eight segments end is kept, and of
-/// those after them the table is read anew, from the ninth length on, each time that one is asked
-/// for.
+/// No segment is copied and no memory is taken. Where the first eight segments end is kept. For a
+/// later one the table is read anew, from the ninth length on, each time.
 #[derive(Drop)]
 pub struct NoAllocBufferSegments<T: AsBytes> {
     buffer: T,
@@ -77,8 +76,10 @@ impl<T: AsBytes> NoAllocBufferSegments<T> {
 }
 
 impl<T: AsBytes + Drop> NoAllocBufferSegments<T> {
-    /// Finds the message at the front of a buffer. After it anything may stand. A padding that
-    /// isn't zero fails with `NonZeroPadding`, once the table is whole.
+    /// Finds the message at the front of a buffer. Any bytes may follow it.
+    ///
+    /// Fails as the module `serialize` lists: with `MessageEndsPrematurely` where the table or the
+    /// segments are cut, with `NonZeroPadding` where the padding isn't zero.
     pub fn from_buffer(buffer: T, options: ReaderOptions) -> Result<NoAllocBufferSegments<T>>
         ensures buffer { IfOk result (λ found. found.buffer ≡ buffer) }
         ensures reads { ReadsFlat (no_alloc_rules Padding.Zero options.traversal_limit_in_words)
@@ -111,9 +112,9 @@ impl<T: AsBytes + Drop> NoAllocBufferSegments<T> {
 }
 
 impl<'b> NoAllocBufferSegments<&'b [u8]> {
-    /// Finds the message at the front of a slice, and moves the slice after it. A slice that is
-    /// refused stays as it was. A padding that isn't zero fails with `NonZeroPadding`, once the
-    /// table is whole.
+    /// Finds the message at the front of a slice, and moves the slice after it.
+    ///
+    /// Fails as `from_buffer` does, and the slice is then as it was.
     pub fn from_slice(
         slice: &mut &'b [u8],
         options: ReaderOptions,
@@ -173,7 +174,8 @@ impl<T: AsBytes> ReaderSegments for NoAllocBufferSegments<T> {
     }
 }
 
-// Where the first segments end, in words after the table, of a message of a given number of segments.
+// Where the first segments end, in words after the table, of a message of a given number of
+// segments.
 fn first_ends(bytes: &[u8], count: usize) -> [usize; KEPT_ENDS]
     requires { HoldsMessage bytes.now count }
     ensures { KeepsEnds result count bytes.now }
@@ -204,8 +206,8 @@ fn place(bytes: &[u8], ends: &[usize; KEPT_ENDS], index: usize) -> (usize, usize
 
 // Where a segment from the ninth on starts, by where the eighth one ends.
 //
-// Of fewer than 2^35 bytes each sum fits four bytes, as a length does. Then a vector holds as many sums
-// as lengths, and no length has to be made longer first.
+// Speed: below 2^35 bytes each sum fits a `u32`, as the lengths do, so the loop adds a whole SIMD
+// register of them without widening (workload `far`).
 #[inline(always)]
 fn later_start(bytes: &[u8], end: usize, index: usize) -> usize
     requires held { (count : ℕ) × HoldsMessage bytes.now count × (index < count) }

@@ -22,14 +22,15 @@ use crate::serialize::segment_table::{
 use crate::serialize::segment_table_info::NoAllocSegmentTableInfo;
 use crate::serialize::stream::{complete_table, read_chunk, read_first};
 
-/// Reads the next message of a source into a caller-provided buffer, or returns `None` where nothing
-/// is unread.
+/// Reads the next message of a source into a caller-provided buffer, or returns `None` where
+/// nothing is unread.
 ///
-/// The message is the same three chunks as to `try_read_segments`, and just these are consumed. The
-/// buffer is tested before each: a buffer of fewer than 8 bytes, one that is shorter than the table,
-/// and one that is shorter than table and segments fails with `BufferNotLargeEnough`. Before the
-/// last test a padding that isn't zero fails with `NonZeroPadding`, with the table consumed. No
-/// memory is taken.
+/// The message is three chunks to the source, as for `try_read_segments`, and just these are
+/// consumed. No memory is taken.
+///
+/// Fails as the module `serialize` lists: with `BufferNotLargeEnough` where the buffer is shorter
+/// than 8 bytes, than the table, or than table and segments, which is tested before each chunk;
+/// with `NonZeroPadding`, the table consumed, where the padding isn't zero.
 pub fn try_read_segments_into<'b, R: Read>(
     source: &mut R,
     buffer: &'b mut [u8],
@@ -139,8 +140,8 @@ fn read_table_into<R: Read>(
     Ok(Some((count, total)))
 }
 
-// Completes a table whose first word this is, tests the limit and the padding, and returns the sum of
-// its lengths.
+// Completes a table whose first word this is, tests the limit and the padding, and returns the sum
+// of its lengths.
 fn read_total<R: Read>(
     source: &mut R,
     first: &[u8; 8],

@@ -26,7 +26,7 @@ impl Model for SegmentLengthsBuilder {
 }
 
 impl SegmentLengthsBuilder {
-    /// No lengths yet, with room for `capacity` of them.
+    /// No lengths yet, with room for `capacity` of them. Fails with `OutOfMemory` alone.
     pub fn with_capacity(alloc: Global, capacity: usize) -> Result<SegmentLengthsBuilder>
         ensures ok { IfOk result (λ builder. builder ≡ []) }
         ensures memory { IfErr result (λ error. error.kind ≡ ErrorKind.OutOfMemory) }
@@ -60,6 +60,9 @@ impl SegmentLengthsBuilder {
     }
 
     /// Adds the length of the next segment, in words.
+    ///
+    /// Fails with `MessageSizeOverflow` exactly where the sum of the lengths passes `usize`, and
+    /// else with `OutOfMemory` alone. The lengths are then as they were.
     pub fn try_push_segment(&mut self, length_in_words: usize) -> Result<()>
         ensures ok { OnOk result (self.new ≡ self.old ++ length_in_words ∷ []) }
         ensures err { OnErr result (self.new ≡ self.old) }
@@ -102,6 +105,9 @@ impl SegmentLengthsBuilder {
     }
 
     /// Segments of these lengths, of zeros.
+    ///
+    /// Fails with `MessageSizeOverflow` exactly where the number of their bytes passes `usize`, and
+    /// else with `OutOfMemory` alone.
     pub fn into_owned_segments(self) -> Result<OwnedSegments>
         ensures ok { IfOk result (λ segments. segments ≡ cut self (replicate (8 * sum self) 0)) }
         ensures sized { MayOverflow (2 ^ 64 ≤ 8 * sum self) result }
@@ -132,7 +138,8 @@ fn length_at(parts: &[(usize, usize)], id: u32) -> Option<usize>
     Some(end - start)
 }
 
-/// The part of `bytes` between the indices of this number, which are in words; `None` past the last.
+/// The part of `bytes` between the indices of this number, which are in words; `None` past the
+/// last.
 pub(crate) fn part<'a>(bytes: &'a [u8], indices: &[(usize, usize)], id: u32) -> Option<&'a [u8]>
     requires running { indices.now ≡ ranges (map range_len indices.now) }
     requires room { 8 * sum (map range_len indices.now) ≤ length bytes.now }

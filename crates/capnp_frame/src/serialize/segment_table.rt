@@ -25,7 +25,7 @@ pub enum Padding {
     Zero,
 }
 
-/// The bytes of a table of a given number of segments.
+/// The number of bytes of a table of this many segments.
 pub(crate) fn table_len(count: usize) -> usize
     requires { count < 2 ^ 32 }
     ensures { result ≡ table_size count }
@@ -41,8 +41,8 @@ pub(crate) fn field_at(table: &[u8], at: usize) -> u32
     u32::from_le_bytes([table[at], table[at + 1], table[at + 2], table[at + 3]])
 }
 
-/// The number of segments that the first word of a table tells. One that no reader accepts fails
-/// with `InvalidNumberOfSegments`; its field holds one less, so `ff ff ff ff` tells 0.
+/// The number of segments that the first word of a table tells, which is one more than its field
+/// holds: `ff ff ff ff` tells 0. Fails with `InvalidNumberOfSegments` where it isn't from 1 to 511.
 pub(crate) fn accepted_count(first: &[u8; 8]) -> Result<usize>
     ensures accepted { IfOk result (TellsAccepted first.now) }
     ensures refused { IfErr result (λ error. (count : ℕ) × Tells first.now count
@@ -55,7 +55,7 @@ pub(crate) fn accepted_count(first: &[u8; 8]) -> Result<usize>
     Ok(count)
 }
 
-/// Refuses more words than the limit by `MessageTooLarge`.
+/// Fails with `MessageTooLarge` where there are more words than the limit.
 pub(crate) fn keep_limit(total: usize, limit: Option<usize>) -> Result<()>
     ensures kept { OnOk result (IfSome limit (λ most. total ≤ most)) }
     ensures refused { IfErr result (λ error. IsSomeAnd limit (λ most. most < total)
@@ -69,8 +69,8 @@ pub(crate) fn keep_limit(total: usize, limit: Option<usize>) -> Result<()>
     Ok(())
 }
 
-/// Fails with `NonZeroPadding` where the padding of a table of a given number of segments isn't one
-/// that the rule accepts.
+/// Fails with `NonZeroPadding` where the rule doesn't accept the padding of a table of this many
+/// segments.
 pub(crate) fn keep_padding(table: &[u8], count: usize, rule: Padding) -> Result<()>
     requires few { count < SEGMENTS_COUNT_LIMIT }
     requires room { table_size count ≤ length table.now }
@@ -118,8 +118,8 @@ pub(crate) fn lengths_total(table: &[u8], count: usize) -> usize
     total
 }
 
-/// Fills in where each segment begins and ends, in words, by the lengths in a table of
-/// a given number of segments, and returns the sum of the lengths.
+/// Fills in where each segment begins and ends, in words, by the lengths in a table of as many
+/// segments, and returns the sum of the lengths.
 pub(crate) fn fill_indices(indices: &mut [(usize, usize)], table: &[u8]) -> usize
     requires few { length indices.old < SEGMENTS_COUNT_LIMIT }
     requires room { 4 * (length indices.old + 1) ≤ length table.now }

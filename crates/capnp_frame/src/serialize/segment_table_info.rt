@@ -24,8 +24,8 @@ pub struct NoAllocSegmentTableInfo {
     pub total_segments_length_bytes: usize,
 }
 
-/// Whether a buffer begins with a message of 1 to 511 segments whose table has these numbers, and any
-/// padding.
+/// Whether a buffer begins with a message of 1 to 511 segments whose table has these numbers, and
+/// any padding.
 pub fn describes<T: AsBytes>(buffer: &T, info: &NoAllocSegmentTableInfo) -> bool
     ensures { IsTrue result ↔ IsDescribed (T.bytes buffer.now) info.now }
 {
@@ -44,7 +44,7 @@ fn has_same_numbers(found: &NoAllocSegmentTableInfo, info: &NoAllocSegmentTableI
         && found.total_segments_length_bytes == info.total_segments_length_bytes
 }
 
-/// Reads the table at the front of these bytes field by field, and looks that the segments are there.
+/// Reads the table at the front of these bytes field by field, and tests that the segments follow.
 pub(crate) fn read_table_info(
     bytes: &[u8],
     limit: Option<usize>,
@@ -90,7 +90,7 @@ pub(crate) fn read_table_info(
     })
 }
 
-// The refusal where the bytes end before or within a field.
+// The error where the bytes end before or within a field.
 fn cut_field(bytes: &[u8]) -> Error
     ensures { result.kind ≡ cut_kind by_fields (length bytes.now) }
 {

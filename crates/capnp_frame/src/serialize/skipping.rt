@@ -1,4 +1,4 @@
-//! Skipping messages of a source, of which only the lengths of the segments are told.
+//! Skipping messages of a source, of which only the lengths of the segments are returned.
 ghost use Rattle.std.specs.Prelude.{◌≡◌, ◌-◌, ◌*◌, ◌<◌, ◌≤◌, List, ℕ, [], length, drop, OnOk, IfOk, IfErr, IfSome};
 ghost use Rattle.capnp_frame.specs.Limits.{AreWithin};
 ghost use Rattle.capnp_frame.specs.Source.{IfKnown, IsRefused};
@@ -16,14 +16,14 @@ use crate::serialize::segment_lengths::SegmentLengthsBuilder;
 use crate::serialize::segment_table::Padding;
 use crate::serialize::stream::read_table;
 
-// From this many bytes on segments are read in parts of as many, past a source's buffer.
+// From this many bytes on segments are read in chunks of this length, past a source's own buffer.
 const LONG: usize = 32768;
 
-/// Skips the next message of a source, and returns the lengths of its segments, or `None` where nothing
-/// is unread.
+/// Skips the next message of a source, and returns the lengths of its segments, or `None` where
+/// nothing is unread.
 ///
-/// It returns and consumes what `try_read_segments` does, and fails as that does, but no memory is taken
-/// for the segments. The lengths stand in the memory of `spare`, which grows where it is too small.
+/// It returns, consumes and fails as `try_read_segments` does, but takes no memory for the
+/// segments. The lengths are put into the memory of `spare`, which grows where it is too small.
 pub fn try_skip_segments<R: BufRead>(
     source: &mut R,
     options: ReaderOptions,
@@ -103,7 +103,7 @@ fn skip_bytes<R: BufRead>(source: &mut R, count: usize) -> Result<()>
     skip_parts(source, count, &mut part)
 }
 
-// The same in parts that fill a buffer, past the source's own, and the rest as it is shown.
+// Skips bytes in parts that fill a buffer of its own, and the rest by what the source shows.
 fn skip_parts<R: BufRead>(source: &mut R, count: usize, part: &mut [u8]) -> Result<()>
     requires { 0 < length part.old }
     ensures dropped { OnOk result (IfKnown (R.unread source.old) (R.unread source.new) (Drops count)) }
@@ -119,7 +119,7 @@ fn skip_parts<R: BufRead>(source: &mut R, count: usize, part: &mut [u8]) -> Resu
     skip_shown(source, left)
 }
 
-// The same as the bytes are shown.
+// Skips bytes by what the source shows, part after part.
 fn skip_shown<R: BufRead>(source: &mut R, count: usize) -> Result<()>
     ensures dropped { OnOk result (IfKnown (R.unread source.old) (R.unread source.new) (Drops count)) }
     ensures refused { FailsOr result (IsRefused R.refuses count (R.unread source.old)) }

@@ -31,10 +31,11 @@ const SHORT_TABLE: usize = 256;
 /// Reads the next message of a source, or returns `None` where nothing is unread.
 ///
 /// The message is three chunks to the source: the first word of its table, the table's other words,
-/// and all segments together; a chunk of no bytes is not asked for. Just these bytes are consumed,
-/// so the next message stands unread after them. Memory is taken for the lengths once the number
-/// of segments is accepted, and for the segments once the limit of words and the padding are tested:
-/// a padding that isn't zero fails with `NonZeroPadding`, with the table consumed.
+/// and all segments together; a chunk of no bytes is not asked for. Just these are consumed. Memory
+/// is taken for the lengths, and for the segments once the limit and the padding are tested.
+///
+/// Fails as the module `serialize` lists: with `NonZeroPadding`, the table consumed, where the
+/// padding isn't zero.
 pub fn try_read_segments<R: Read>(
     alloc: Global,
     source: &mut R,
@@ -70,7 +71,7 @@ pub fn try_read_segments_lenient<R: Read>(
     )
 }
 
-/// Reads the next message as `try_read_segments` does, into the memory of a message before, which
+/// Reads the next message as `try_read_segments` does, into the memory of an earlier message, which
 /// grows where it is too small.
 pub fn try_read_segments_reusing<R: Read>(
     source: &mut R,
@@ -171,10 +172,11 @@ pub(crate) fn read_table<R: Read>(
     Ok(Some(SegmentLengthsBuilder::from_indices(indices, total)))
 }
 
-// Reads the table's other words, tests the limit and the padding, fills in where each segment begins
-// and ends, and returns the sum of the lengths. One segment, as most messages have, has its length in
-// the first word, so no table is put together. Only a longer table takes a longer buffer, since each
-// buffer is filled with zeros first.
+// Reads the table's other words, tests the limit and the padding, fills in where each segment
+// begins and ends, and returns the sum of the lengths.
+//
+// Speed: most messages have one segment, whose length is in the first word. A buffer is filled with
+// zeros first, so only a longer table takes a longer one (`capnp_ls list` of small records).
 fn read_lengths<R: Read>(
     source: &mut R,
     first: &[u8; 8],
@@ -201,7 +203,7 @@ fn read_lengths<R: Read>(
     read_lengths_by(source, first, indices, &mut table[..size], limit, rule)
 }
 
-// The same by a buffer of the table's size.
+// Reads the table's other words into a buffer of the table's size, and goes on as `read_lengths`.
 fn read_lengths_by<R: Read>(
     source: &mut R,
     first: &[u8; 8],
@@ -281,7 +283,7 @@ pub(crate) fn read_first<R: Read>(source: &mut R) -> Result<Option<[u8; 8]>>
     Ok(Some(word))
 }
 
-// Fills a chunk by one request. A chunk of no bytes asks for nothing.
+// Fills a chunk by one request, or by none where the chunk has no bytes.
 pub(crate) fn read_chunk<R: Read>(source: &mut R, chunk: &mut [u8]) -> Result<()>
     ensures given { OnOk result (IfKnown (R.unread source.old) (R.unread source.new)
         (λ raw rest. R.gives raw (length chunk.new) chunk.new rest)) }

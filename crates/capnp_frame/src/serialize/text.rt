@@ -10,10 +10,11 @@ use crate::serialize::provided_stream::read_into;
 use crate::serialize::segment_table::{Padding, table_len};
 use crate::serialize::segment_table_info::NoAllocSegmentTableInfo;
 
-/// Reads the next message of a source into a caller-provided buffer, which then begins with its framed
-/// text, and tells what its table says, or returns `None` where nothing is unread.
+/// Reads the next message of a source into a caller-provided buffer, which then begins with its
+/// framed text, and returns what its table says, or `None` where nothing is unread.
 ///
-/// The source is asked, and the buffer tested, as by `try_read_segments_into`. No memory is taken.
+/// The source is asked, and the buffer tested, as by `try_read_segments_into`, and it fails as that
+/// does. No memory is taken.
 pub fn try_read_text_into<R: Read>(
     source: &mut R,
     buffer: &mut [u8],
@@ -36,7 +37,7 @@ pub fn try_read_text_into<R: Read>(
     };
     let segments_count = info.segments_count;
     let segment_table_length_bytes = table_len(segments_count);
-    // The padding that was accepted.
+    // Any padding is accepted here, and zeros take its place.
     buffer[4 * (segments_count + 1)..segment_table_length_bytes].fill(0);
     Ok(Some(NoAllocSegmentTableInfo {
         segments_count,

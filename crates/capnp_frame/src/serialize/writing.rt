@@ -16,8 +16,9 @@ use std::alloc::Global;
 /// Writes a message: the first word of its table, with two segments or more the table's other words
 /// as one chunk, and then each segment as a chunk ("Serialization Over a Stream").
 ///
-/// More than 511 segments, which no reader accepts, fail with `InvalidNumberOfSegments` before all
-/// else. Memory is taken for a table of four segments or more, before anything is written.
+/// Fails with `InvalidNumberOfSegments`, of how many there are, for more than 511 segments, before
+/// all else; with `OutOfMemory`, from four segments on and before anything is written, where there
+/// is no memory for the table; and else as the sink does.
 pub fn write_segments<W: Write, S: ReaderSegments>(
     alloc: Global,
     sink: &mut W,
@@ -33,8 +34,8 @@ pub fn write_segments<W: Write, S: ReaderSegments>(
 
 /// The framed text of a message, in bytes.
 ///
-/// More than 511 segments, which no reader accepts, fail with `InvalidNumberOfSegments` before memory
-/// is taken. The number of bytes of fewer always fits `usize`.
+/// Fails with `InvalidNumberOfSegments`, of how many there are, for more than 511 segments, before
+/// memory is taken, and else with `OutOfMemory` alone.
 pub fn segments_to_words<S: ReaderSegments>(alloc: Global, segments: &S) -> Result<Vec<u8>>
     requires { IsWritable (S.segments segments.now) }
     ensures { ReturnsText (S.segments segments.now) (λ text. text.items) result }
@@ -46,7 +47,9 @@ pub fn segments_to_words<S: ReaderSegments>(alloc: Global, segments: &S) -> Resu
     Ok(text)
 }
 
-/// How many words a message takes with its table. The table of no segments is one word.
+/// How many words a message takes with its table, which for no segments is one word.
+///
+/// Fails exactly where this number passes `usize`, with `MessageSizeOverflow`.
 pub fn serialized_size_in_words<S: ReaderSegments>(segments: &S) -> Result<usize>
     requires few { length (S.segments segments.now) < 2 ^ 32 }
     requires whole { AllByRecursion IsWholeWords (S.segments segments.now) }
@@ -64,7 +67,7 @@ pub fn serialized_size_in_words<S: ReaderSegments>(segments: &S) -> Result<usize
     Ok(words)
 }
 
-// Refuses more segments than a reader accepts.
+// Fails with `InvalidNumberOfSegments` for more segments than a reader accepts.
 fn keep_count<S: ReaderSegments>(segments: &S) -> Result<()>
     requires { length (S.segments segments.now) < 2 ^ 32 }
     ensures count { KeepsCount (S.segments segments.now) result }
@@ -125,7 +128,7 @@ fn write_each<W: Write, S: ReaderSegments>(sink: &mut W, segments: &S) -> Result
     Ok(())
 }
 
-// The segment at an index, as a walk over all segments asks for it: none stands after the last.
+// The segment at this index; `None` after the last.
 fn segment_at<S: ReaderSegments>(segments: &S, index: u32) -> Option<&[u8]>
     ensures here { IfSome result (λ segment.
         slice_get (S.segments segments.now) index ≡ Some segment.now) }
