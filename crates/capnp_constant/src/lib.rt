@@ -1,7 +1,7 @@
-//! Constants of a schema that are structs or lists, and defaults of pointers: messages that stand in a
-//! program.
+//! Constants of a schema that are structs or lists, and defaults of pointers: messages that are
+//! part of a program.
 //!
-//! Code that `capnpc-rattle` writes stands on this crate where its schema has them.
+//! Code that `capnpc-rattle` writes uses this crate where its schema has them.
 #![tactic(auto)]
 
 ghost use Rattle.std.specs.Prelude.{◌≡◌, ◌∷◌, []};
@@ -13,10 +13,10 @@ use capnp_frame::message::ReaderSegments;
 use capnp_wire::any_pointer;
 use capnp_wire::traits::FromPointerReader;
 
-/// The words of a message of one segment, which stand in a `static`.
+/// The words of a message of one segment, for a `static`.
 #[derive(Clone, Copy)]
 pub struct Words<const N: usize> {
-    /// Each word by its bytes.
+    /// The bytes of each word, one after the other.
     pub bytes: [u8; N],
 }
 
@@ -31,7 +31,7 @@ impl<const N: usize> ReaderSegments for Words<N> {
     }
 }
 
-/// A message that stands in a program.
+/// A message that is part of a program.
 pub trait Constant: ReaderSegments {
     /// Its root pointer.
     ghost root: { Self → Pointer };
@@ -41,7 +41,8 @@ pub trait Constant: ReaderSegments {
         ensures { pointer_of Self.segments result ≡ root self.now };
 }
 
-/// A view of what the root pointer of a constant leads to.
+/// A view of what the root pointer of a constant leads to. It fails as
+/// `any_pointer::Reader::get_as` does of that pointer.
 pub fn view_of<'a, C: Constant, T: FromPointerReader<'a, C>>(constant: &'a C) -> Result<T>
     ensures { let pointer = C.root constant.now in
         IsViewOf pointer (T.shows pointer) (T.accepts pointer) (T.refuses pointer)
@@ -63,8 +64,8 @@ impl<const N: usize> Constant for Words<N> {
 impl<const N: usize> Words<N> {
     ghost use Rattle.capnp_constant.specs.Constants.{segments_of, root_of};
 
-    /// The root pointer, which is read without limits: what stands in a program is as large and as deep as it
-    /// was written.
+    /// The root pointer, which is read without limits: a part of the program is only as large and
+    /// as deep as it was written.
     #[tactic(auto, unfolding(crate::specs::Constants::root_of))]
     pub fn get_root(&self) -> any_pointer::Reader<'_, Words<N>>
         ensures { pointer_of segments_of result ≡ root_of self.now }
@@ -73,8 +74,8 @@ impl<const N: usize> Words<N> {
     }
 }
 
-/// What the getter of a pointer with a default returns, where a view is bound to the segments that it
-/// reads: the view of what the message holds, or of the default where its pointer is null.
+/// What the getter of a pointer with a default returns where a view is bound to the segments that
+/// it reads: the view of what the message holds, or of the default where its pointer is null.
 #[derive(Drop)]
 pub enum OrDefault<M, D> {
     Stored(Result<M>),

@@ -1,7 +1,7 @@
 //! Packed bytes on their way to a sink.
 //!
-//! They are collected in 64 bytes, of which a given number of are used. A group adds at most 10 of
-//! them: a tag, a word and a count.
+//! They are collected in 64 bytes, the first of which are used. A group adds at most 10 of them: a
+//! tag, a word and a count.
 ghost use Rattle.std.specs.Prelude.{◌≡◌, ℕ, ◌+◌, ◌<◌, ◌≤◌, [], ◌∷◌, ◌++◌, IsOk, length, take, count_ones};
 ghost use Rattle.capnp_frame.specs.Source.{IfKnown};
 ghost use Rattle.capnp_pack.specs.Calls.{HandsOn};
@@ -12,7 +12,7 @@ use capnp_frame::Result;
 use capnp_frame::io::Write;
 use std::simd::prelude::*;
 
-// Hands on what is used.
+// Hands on the used bytes.
 #[inline(always)]
 pub(crate) fn flush<W: Write>(sink: &mut W, bytes: &[u8; 64], used: usize) -> Result<()>
     requires { used ≤ 64 }
@@ -39,8 +39,9 @@ pub(crate) fn push(bytes: &mut [u8; 64], used: usize, byte: u8) -> usize
     used + 1
 }
 
-// Adds a tag, and the bytes of a word that aren't zero: eight are stored at once, however many they
-// are. So after the tag of a zero word stands a zero, the count of a run that is one word long.
+// Adds a tag, and the bytes of a word that aren't zero, and returns how many bytes are then used.
+// Eight bytes are stored at once, however many these are, so a zero follows the tag of a zero word:
+// the count of a run of one word.
 #[inline(always)]
 pub(crate) fn push_word(bytes: &mut [u8; 64], used: usize, tag: u8, word: &[u8; 8]) -> usize
     requires room { used ≤ 54 }

@@ -1,10 +1,10 @@
-//! Copies and zeros, of a few words or bytes, with no call and no loop.
+//! Copies of a few words or bytes, without a call and without a loop.
 ghost use Rattle.std.specs.Prelude.{◌≡◌, ◌≤◌, ◌*◌, length, take, replicate};
 
 use std::simd::prelude::*;
 
-// Copies words: up to eight of them by two moves of one size, which may overlap, and more of them
-// by one copy.
+// Copies words: up to eight by two moves of one size, which may overlap, and more by one copy.
+// Speed: a call of `memcpy` costs more than a short run (`capnp_ls unpack` of short runs).
 #[inline(always)]
 pub(crate) fn copy_run(count: usize, text: &[u8], buffer: &mut [u8])
     requires text { count ≤ length text.now }
@@ -60,8 +60,8 @@ fn copy_ends<const N: usize>(count: usize, text: &[u8], buffer: &mut [u8])
     move_front::<N>(&text[cut..], &mut buffer[cut..]);
 }
 
-// Moves the first bytes as one vector. A copy from slice to slice would ask first whether they
-// overlap.
+// Moves the first bytes as one vector.
+// Speed: a copy from slice to slice would first test whether they overlap.
 #[inline(always)]
 pub(crate) fn move_front<const N: usize>(text: &[u8], buffer: &mut [u8])
     requires text { N ≤ length text.now }
@@ -71,7 +71,8 @@ pub(crate) fn move_front<const N: usize>(text: &[u8], buffer: &mut [u8])
     Simd::<u8, N>::from_slice(text).copy_to_slice(buffer);
 }
 
-// Copies any number of bytes. It stands apart, so that the loops that call it keep their registers.
+// Copies any number of bytes.
+// Speed: it is a call, so the loops around it keep their registers.
 #[inline(never)]
 pub(crate) fn copy_front(count: usize, text: &[u8], buffer: &mut [u8])
     requires text { count ≤ length text.now }

@@ -1,7 +1,7 @@
 //! Reading a chunk group by group.
 //!
-//! What is shown whole is unpacked from there. A group that the source cuts is read a byte at a
-//! time, so just what it has is consumed, wherever the cut is.
+//! What is shown whole is unpacked from there. A group that the source cuts is read byte by byte,
+//! so no more than its own bytes are consumed, wherever the cut is.
 ghost use Rattle.std.specs.Prelude.{◌≡◌, ◌<◌, ◌≤◌, ◌%◌, [], ◌∷◌, ◌++◌, length, take, Option, Some, IfOk, IfErr, IfSome, ◌⊎◌, ◌↔◌};
 ghost use Rattle.capnp_frame.specs.declared.error.ErrorKind.{ErrorKind};
 ghost use Rattle.capnp_frame.specs.Message.{IsWholeWords};
@@ -47,8 +47,8 @@ pub(crate) fn read_chunk<R: BufRead>(source: &mut R, buffer: &mut [u8]) -> Resul
     Ok(filled)
 }
 
-// Unpacks the groups that the source shows into the front of the buffer, or where it shows none
-// whole the next one, and returns how many bytes they have, or none at the end.
+// Unpacks the groups that the source shows whole into the front of the buffer, or the next group
+// where none is, and returns how many bytes they have; `None` at the end.
 fn read_groups<R: BufRead>(source: &mut R, buffer: &mut [u8]) -> Result<Option<usize>>
     requires { 8 ≤ length buffer.old }
     ensures takes { TakesNext R.Read source.old source.new
@@ -65,8 +65,8 @@ fn read_groups<R: BufRead>(source: &mut R, buffer: &mut [u8]) -> Result<Option<u
     Ok(Some(taken.filled))
 }
 
-// Unpacks the next group into the front of the buffer, and returns how many bytes it has, or none
-// at the end. One byte is looked at at a time.
+// Unpacks the next group into the front of the buffer, looking at one byte at a time, and returns
+// how many bytes it has; `None` at the end.
 fn read_group<R: BufRead>(source: &mut R, buffer: &mut [u8]) -> Result<Option<usize>>
     requires { 8 ≤ length buffer.old }
     ensures takes { TakesNext R.Read source.old source.new
@@ -85,7 +85,7 @@ fn read_group<R: BufRead>(source: &mut R, buffer: &mut [u8]) -> Result<Option<us
     Ok(Some(count))
 }
 
-// Unpacks zero words after their tag.
+// Unpacks a group of zero words, whose tag is taken.
 fn read_zeros<R: BufRead>(source: &mut R, buffer: &mut [u8]) -> Result<usize>
     requires room { 8 ≤ length buffer.old }
     ensures within { IfOk result (λ count. (0 < count) × (count ≤ length buffer.new)
@@ -107,7 +107,7 @@ fn read_zeros<R: BufRead>(source: &mut R, buffer: &mut [u8]) -> Result<usize>
     Ok(count)
 }
 
-// Unpacks the words of another group after its tag.
+// Unpacks another group, whose tag is taken.
 fn read_words<R: BufRead>(source: &mut R, tag: u8, buffer: &mut [u8]) -> Result<usize>
     requires tag { 0 < tag }
     requires room { 8 ≤ length buffer.old }
@@ -127,7 +127,7 @@ fn read_words<R: BufRead>(source: &mut R, tag: u8, buffer: &mut [u8]) -> Result<
     Ok(8 + count)
 }
 
-// Fills a word by the bytes that a tag marks, at once where they are shown.
+// Fills a word with the bytes that a tag marks, at once where they are shown.
 fn read_word<R: BufRead>(source: &mut R, tag: u8, word: &mut [u8]) -> Result<()>
     requires { length word.old ≡ 8 }
     ensures { TakesFrom R.Read source.old source.new (λ _.
@@ -143,7 +143,7 @@ fn read_word<R: BufRead>(source: &mut R, tag: u8, word: &mut [u8]) -> Result<()>
     Ok(())
 }
 
-// The same byte by byte, with a look at the source for each.
+// Fills a word with the bytes that a tag marks, looking at the source for each of them.
 fn read_marked<R: BufRead>(source: &mut R, tag: u8, word: &mut [u8]) -> Result<()>
     ensures { TakesFrom R.Read source.old source.new (λ _.
         IfKnown (R.unread source.old) (R.unread source.new) (MarkedAt tag word.new))
@@ -169,7 +169,7 @@ fn read_byte<R: BufRead>(source: &mut R, bits: u8) -> Result<u8>
     required_byte(source)
 }
 
-// Reads the words after the first of a literal group, and returns how many bytes they have.
+// Reads the words after the first one of a literal group, and returns how many bytes they have.
 fn read_run<R: BufRead>(source: &mut R, buffer: &mut [u8]) -> Result<usize>
     ensures within { IfOk result (λ count. (count ≤ length buffer.new) × (count % 8 ≡ 0)) }
     ensures takes { TakesFrom R.Read source.old source.new (λ count.
@@ -187,7 +187,7 @@ fn read_run<R: BufRead>(source: &mut R, buffer: &mut [u8]) -> Result<usize>
     Ok(count)
 }
 
-// Fills the buffer by the bytes as they stand: what is shown is copied, and the rest is read by one
+// Fills the buffer with unpacked bytes: what is shown is copied, and the rest is read by one
 // request.
 fn read_stored<R: BufRead>(source: &mut R, buffer: &mut [u8]) -> Result<()>
     ensures { TakesFrom R.Read source.old source.new (λ _.

@@ -1,4 +1,4 @@
-//! The bytes that a tag marks, each moved to its place in a word at once.
+//! The bytes that a tag marks, moved to their places in a word all at once.
 ghost use Rattle.std.specs.Prelude.{◌≡◌, ◌≤◌, length};
 ghost use Rattle.std.specs.Int.RustNames.{count_ones};
 ghost use Rattle.capnp_pack.specs.Steps.{TakesMarked};
@@ -7,8 +7,8 @@ use crate::copies::copy_bytes;
 use crate::places::PLACES;
 use std::simd::prelude::*;
 
-// Fills a word by the bytes that a tag marks, where eight bytes are shown, and returns how many
-// they are.
+// Fills a word with the bytes that a tag marks, where eight bytes are shown, and returns how many
+// it marks.
 #[inline(always)]
 pub(crate) fn unpack_word(tag: u8, text: &[u8], word: &mut [u8]) -> usize
     requires long { 8 ≤ length text.now }
@@ -28,7 +28,7 @@ pub(crate) fn unpack_word(tag: u8, text: &[u8], word: &mut [u8]) -> usize
     tag.count_ones() as usize
 }
 
-// The same where fewer may be shown, and all that the tag marks.
+// Fills a word so where fewer bytes may be shown, but all that the tag marks.
 #[inline(always)]
 pub(crate) fn unpack_short_word(tag: u8, text: &[u8], word: &mut [u8]) -> usize
     requires long { count_ones tag ≤ length text.now }

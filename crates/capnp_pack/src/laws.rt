@@ -28,8 +28,8 @@ pub fn packed_requests_take_a_packed_frame()
         MessageStands rule Unpacks segments raw rest ↔ PackedStands rule segments raw rest }
 {}
 
-/// No packed text of a message begins a different one, also of another rule of padding, and each is
-/// the text of one message alone. So texts that are joined part in one way.
+/// No packed text of a message begins a different one, by either rule of padding, and each is the
+/// text of one message alone. So joined texts can be taken apart in one way only.
 pub fn packed_frames_part_in_one_way()
     ensures { (rule also : Padding) (text other rest left : List ℕ)
         (segments others : List (List ℕ)) →
@@ -51,7 +51,7 @@ pub fn zero_padding_leaves_one_table()
         frame.first ++ frame.others ≡ zero_padded_table (lengths segments) }
 {}
 
-/// And there is such a text of each message.
+/// Each message of whole words has the packed text that is written.
 pub fn message_has_a_packed_text()
     ensures { (segments : List (List ℕ)) → AllByRecursion IsWholeWords segments →
         (text : List ℕ) × IsPackedText text segments }
@@ -62,7 +62,7 @@ pub fn words_have_a_packed_text()
     ensures { (bytes : List ℕ) → IsWholeWords bytes → (text : List ℕ) × Packs bytes text }
 {}
 
-/// And they have one alone.
+/// Whole words have only one packed text.
 pub fn packed_text_is_one()
     ensures { (bytes text other : List ℕ) → Packs bytes text → Packs bytes other → text ≡ other }
 {}
@@ -87,16 +87,16 @@ pub fn plain_sink_gets_the_packed_text()
     ensures { (chunk text : List ℕ) → AppendsPacked AppendsSame chunk text ↔ Packs chunk text }
 {}
 
-/// Where a call fails, a plain sink that is left with a front of a chunk at most is left with a
-/// front of the packed text of what was to be written.
+/// A plain sink that keeps at most a front of a chunk where a call fails, keeps a front of the
+/// packed text of what was to be written.
 pub fn what_is_left_of_packed_words_is_a_front<W: Write>()
     ensures { ((chunk text : List ℕ) → W.leaves chunk text → LeavesFront chunk text) →
         (chunk text packed : List ℕ) → LeavesPacked AppendsSame W.leaves chunk text →
         Packs chunk packed → IsFront text packed }
 {}
 
-/// And of a message whose chunks are handed to it one after another, as `write_segments` does, it
-/// gets the packed text.
+/// A plain sink gets the packed text of a message whose chunks are handed to it one after another,
+/// as `write_segments` does.
 pub fn plain_sink_gets_the_packed_message()
     ensures { (segments : List (List ℕ)) (text : List ℕ) →
         AppendsAll (AppendsPacked AppendsSame) (chunks segments) text ↔ IsPackedText text segments }

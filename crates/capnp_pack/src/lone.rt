@@ -1,7 +1,8 @@
 //! Unpacking groups of one word, one after another.
 //!
-//! Where a group's longest text of one word is shown and a word of the buffer is left, no other
+//! Where the longest text of one such group is shown, and a word of the buffer is left, no other
 //! test of room is needed, and one look-up by the tag says where the next group begins.
+//! Speed: words of every kind may alternate, as in small records (`capnp_ls unpack`).
 ghost use Rattle.std.specs.Prelude.{◌≡◌, ◌<◌, ◌≤◌, length, IfSome};
 ghost use Rattle.capnp_pack.specs.Steps.{Unpacked};
 
@@ -9,13 +10,13 @@ use crate::lanes::unpack_word;
 use crate::sizes::group_bytes;
 use crate::unpack::Taken;
 
-// How many bytes a tag, a word and a count have.
+// The longest text of a group of one word: a tag, a word and a count.
 pub(crate) const REACH: usize = 10;
 
-// Fills the front of a buffer by the groups of one word at the front of what is shown.
+// Fills the front of a buffer with the groups of one word at the front of what is shown.
 //
-// It ends at a run, and where a group or its word might not fit; none of its groups takes a branch
-// of its own, so that words of every kind may alternate.
+// It ends at a run, and where a group or its word might not fit. None of its groups takes a branch
+// of its own.
 #[inline(always)]
 pub(crate) fn unpack_lone_groups(shown: &[u8], buffer: &mut [u8]) -> Taken
     ensures { Unpacked shown.now buffer.new result.used result.filled }
@@ -37,8 +38,8 @@ pub(crate) fn unpack_lone_groups(shown: &[u8], buffer: &mut [u8]) -> Taken
     Taken { used, filled }
 }
 
-// Fills the first word by the first group, where that has one word, and returns how many bytes the
-// group has.
+// Fills the first word with the first group, where that has one word, and returns how many bytes
+// the group has.
 #[inline(always)]
 fn unpack_lone(shown: &[u8], buffer: &mut [u8]) -> Option<usize>
     requires long { 10 ≤ length shown.now }
@@ -54,9 +55,8 @@ fn unpack_lone(shown: &[u8], buffer: &mut [u8]) -> Option<usize>
     Some(used)
 }
 
-// 0 where the last byte of such a group counts further words, as it does after tags 0 and 255.
-//
-// A sum, so that none of these groups takes a branch of its own.
+// 0 where the group counts further words: its tag is 0 or 255, and its last byte isn't zero.
+// Speed: a sum, so that none of these groups takes a branch of its own.
 #[inline(always)]
 fn lone_mark(tag: u8, last: u8) -> usize
     ensures zero { tag ≡ 0 → 0 < result → last ≡ 0 }

@@ -1,5 +1,5 @@
 //! Which bytes of a word a tag marks.
-// Row t has the places of the bytes that the tag t marks, and then 128.
+// Row t lists the places of the bytes that the tag t marks, and is then filled up with 128.
 #[rattlefmt::skip]
 pub(crate) static MARKS: [[u8; 16]; 256] = [
     [128, 128, 128, 128, 128, 128, 128, 128, 128, 128, 128, 128, 128, 128, 128, 128],

@@ -1,6 +1,6 @@
 //! Where the bytes of a word stand after its tag.
 // Row t has for each byte of a word its place among those that the tag t marks, or 128 where it
-// isn't marked, and 128 for eight bytes more.
+// isn't marked; eight further entries are 128, too.
 #[rattlefmt::skip]
 pub(crate) static PLACES: [[u8; 16]; 256] = [
     [128, 128, 128, 128, 128, 128, 128, 128, 128, 128, 128, 128, 128, 128, 128, 128],

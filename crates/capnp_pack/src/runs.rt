@@ -1,4 +1,4 @@
-//! What a packer sees in words: their tags, and how far runs go.
+//! What a packer looks for in words: their tags, and how long runs are.
 ghost use Rattle.std.specs.Prelude.{◌≡◌, ◌<◌, ◌≤◌, length, take};
 ghost use Rattle.std.specs.List.{concat, AllByRecursion};
 ghost use Rattle.capnp_pack.specs.Group.{zero_bytes};
@@ -46,7 +46,8 @@ pub(crate) fn literal_run(words: &[[u8; 8]]) -> usize
     let most = words.len().min(255);
     let mut count = 0;
     while count < most && zeros(&words[count]) <= 1 {
-        // Eights are looked for where two words go as they stand, and then once in eight words.
+        // Speed: eights are looked for where two words go as they stand, and then once in eight
+        // words (`capnp_ls pack` of short runs without a zero byte).
         if count % 8 == 1 {
             count += full_eights(&words[count..most]).max(1);
         } else {
@@ -56,7 +57,7 @@ pub(crate) fn literal_run(words: &[[u8; 8]]) -> usize
     count
 }
 
-// How many words with no zero byte stand at the front, in eights.
+// How many words with no zero byte are at the front, in eights.
 #[inline(always)]
 fn full_eights(words: &[[u8; 8]]) -> usize
     ensures within { result ≤ length words.now }

@@ -19,8 +19,9 @@ pub use text::try_read_packed_text_into;
 
 /// Reads the next packed message of a source, or returns `None` where nothing is unread.
 ///
-/// Just the message's text is consumed, however the source cuts its bytes. Memory is taken, and a
-/// padding that isn't zero refused, as by `try_read_segments`.
+/// Just the message's packed bytes are consumed, however the source cuts them. It takes memory as
+/// `try_read_segments` does, and fails as that does over the packed source, whose errors are those
+/// of `PackedRead`.
 pub fn try_read_packed_segments<R: BufRead>(
     alloc: Global,
     source: &mut R,
@@ -33,7 +34,7 @@ pub fn try_read_packed_segments<R: BufRead>(
     try_read_segments(alloc, &mut packed, options)
 }
 
-/// As the strict form, of any padding.
+/// Reads the next packed message as `try_read_packed_segments` does, of any padding.
 pub fn try_read_packed_segments_lenient<R: BufRead>(
     alloc: Global,
     source: &mut R,
@@ -46,8 +47,8 @@ pub fn try_read_packed_segments_lenient<R: BufRead>(
     try_read_segments_lenient(alloc, &mut packed, options)
 }
 
-/// Reads the next packed message as `try_read_packed_segments` does, into the memory of a message
-/// before, as `try_read_segments_reusing` does it.
+/// Reads the next packed message as `try_read_packed_segments` does, into the memory of an earlier
+/// message, which grows where it is too small.
 pub fn try_read_packed_segments_reusing<R: BufRead>(
     source: &mut R,
     options: ReaderOptions,

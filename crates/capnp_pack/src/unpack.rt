@@ -1,7 +1,7 @@
 //! Unpacking what a source shows, with no further look at the source.
 //!
-//! Just whole groups are taken that fit the buffer. One that isn't shown whole, or does not fit, is
-//! left to `group.rt`, which reads it through the source.
+//! Only whole groups that fit the buffer are taken. Any other is left to `group.rt`, which reads it
+//! through the source.
 ghost use Rattle.std.specs.Prelude.{◌≡◌, ◌<◌, ◌≤◌, ◌+◌, ◌*◌, length, take, replicate, IfSome};
 ghost use Rattle.capnp_pack.specs.Steps.{GroupFollowing, Unpacked};
 
@@ -17,10 +17,9 @@ pub(crate) struct Taken {
     pub filled: usize,
 }
 
-// Fills the front of a buffer by the groups at the front of what is shown.
-//
-// A source that shows few bytes at a time takes a way of its own, with nothing to set up. What it
-// shows is seldom a whole group, so that is asked first.
+// Fills the front of a buffer with the groups at the front of what is shown.
+// Speed: where a source shows few bytes at a time, these are seldom a whole group, so that is
+// tested before all else (workload `trickle`).
 #[inline(always)]
 pub(crate) fn unpack_shown(shown: &[u8], buffer: &mut [u8]) -> Taken
     ensures { Unpacked shown.now buffer.new result.used result.filled }
@@ -43,7 +42,8 @@ fn shows_a_group(shown: &[u8]) -> bool {
     }
 }
 
-// Where many bytes are shown: groups of one word, runs between them, and at last short groups.
+// Unpacks groups where many bytes are shown: groups of one word, runs between them, and at last
+// short groups.
 fn unpack_groups(shown: &[u8], buffer: &mut [u8]) -> Taken
     ensures { Unpacked shown.now buffer.new result.used result.filled }
 {
@@ -69,7 +69,7 @@ fn unpack_groups(shown: &[u8], buffer: &mut [u8]) -> Taken
     Taken { used, filled }
 }
 
-// Zeros and marked groups at the end of what is shown, each by itself.
+// Unpacks groups of zeros and marked groups at the end of what is shown, one by one.
 #[inline(never)]
 fn unpack_short_groups(shown: &[u8], buffer: &mut [u8]) -> Taken
     ensures { Unpacked shown.now buffer.new result.used result.filled }
@@ -86,7 +86,7 @@ fn unpack_short_groups(shown: &[u8], buffer: &mut [u8]) -> Taken
     Taken { used, filled }
 }
 
-// Fills the front of a buffer by the first group, where that isn't a literal one, which is never
+// Fills the front of a buffer with the first group, where that isn't a literal one, which is never
 // short.
 #[inline(always)]
 fn unpack_short_group(shown: &[u8], buffer: &mut [u8]) -> Option<Taken>
@@ -119,7 +119,7 @@ fn unpack_short_after(tag: u8, following: &[u8], buffer: &mut [u8]) -> Option<Ta
     Some(Taken { used, filled: 8 })
 }
 
-// Fills the front of a buffer by the first group, where that is a run.
+// Fills the front of a buffer with the first group, where that is a run.
 #[inline(always)]
 fn unpack_run(shown: &[u8], buffer: &mut [u8]) -> Option<Taken>
     requires { 8 ≤ length buffer.old }
@@ -148,8 +148,9 @@ fn unpack_run_after(tag: u8, following: &[u8], buffer: &mut [u8]) -> Option<Take
     }
 }
 
-// Fills one zero word by one store and two to four by two stores, which may overlap, with no call
-// and no loop, and more of them by one fill.
+// Fills a run of zero words.
+// Speed: one word by one store and two to four by two, which may overlap, without a call and
+// without a loop; only more of them by one fill (`capnp_ls unpack` of short zero runs).
 #[inline(always)]
 fn unpack_zeros(following: &[u8], buffer: &mut [u8]) -> Option<Taken>
     ensures { IfSome result (λ taken.

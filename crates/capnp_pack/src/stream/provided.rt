@@ -14,8 +14,9 @@ use capnp_frame::serialize::{
 /// Reads the next packed message of a source into a caller-provided buffer, or returns `None` where
 /// nothing is unread.
 ///
-/// The buffer needs room for the table and the segments, and is tested as by
-/// `try_read_segments_into`. No memory is taken.
+/// No memory is taken. Fails as `try_read_segments_into` does over the packed source, whose errors
+/// are those of `PackedRead`: with `BufferNotLargeEnough` where table and segments don't fit the
+/// buffer.
 pub fn try_read_packed_segments_into<'b, R: BufRead>(
     source: &mut R,
     buffer: &'b mut [u8],
@@ -29,7 +30,7 @@ pub fn try_read_packed_segments_into<'b, R: BufRead>(
     try_read_segments_into(&mut packed, buffer, options)
 }
 
-/// As the strict form, of any padding.
+/// Reads the next packed message as `try_read_packed_segments_into` does, of any padding.
 pub fn try_read_packed_segments_into_lenient<'b, R: BufRead>(
     source: &mut R,
     buffer: &'b mut [u8],

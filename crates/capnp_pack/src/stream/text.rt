@@ -10,10 +10,10 @@ use capnp_frame::io::BufRead;
 use capnp_frame::message::ReaderOptions;
 use capnp_frame::serialize::{NoAllocSegmentTableInfo, Padding, try_read_text_into};
 
-/// Reads the next packed message of a source into a caller-provided buffer, which then begins with its
-/// framed text, and tells what its table says, or returns `None` where nothing is unread.
+/// Reads the next packed message of a source into a caller-provided buffer, which then begins with
+/// its framed text, and returns what its table says, or `None` where nothing is unread.
 ///
-/// The buffer is tested as by `try_read_segments_into`. No memory is taken.
+/// No memory is taken. It fails as `try_read_packed_segments_into` does.
 pub fn try_read_packed_text_into<R: BufRead>(
     source: &mut R,
     buffer: &mut [u8],
