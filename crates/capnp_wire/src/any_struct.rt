@@ -19,13 +19,13 @@ impl<'a, S: ReaderSegments + 'a> traits::Owned<'a, S> for Owned {
     type Reader = StructReader<'a, S>;
 }
 
-// Where a data word stands that is copied out of its list.
+// The place of a data word that is copied out of its list.
 const ALONE: Place = Place {
     segment: 0,
     word: 0,
 };
 
-// The tree of the struct, within the nesting depth left and the traversal limit.
+// The value is the tree of the struct, within the nesting depth and the traversal limit.
 impl<'a, S: ReaderSegments> SetterInput<Owned> for StructReader<'a, S> {
     ghost use Rattle.capnp_wire.specs.Readers.{struct_of};
     ghost use Rattle.capnp_wire.specs.Values.{IsTreeOf, StopsInside};

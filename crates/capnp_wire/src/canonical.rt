@@ -1,4 +1,5 @@
-//! The canonical form of what a pointer leads to: one segment, in which equal trees have equal words.
+//! The canonical form of what a pointer leads to: one segment, in which equal trees have equal
+//! words.
 ghost use Rattle.std.specs.Prelude.{◌≡◌, ◌⊎◌, ◌+◌, ◌*◌, ℕ, true, length, replicate, Ok, IfOk, IfErr, MatchResult};
 ghost use Rattle.std.specs.Result.{IsErrAnd};
 ghost use Rattle.capnp_frame.specs.Message.{IsWholeWords};
@@ -18,7 +19,9 @@ use std::alloc::Global;
 
 /// The words of the canonical form of what a pointer leads to, with the root pointer.
 ///
-/// It is refused where a walk over the tree stops, and by `CanonicalTooLarge` above 2^29 words.
+/// Fails where a walk over the tree stops: as a view of one of its objects does, or with
+/// `ReadLimitExceeded` where they have more words than the traversal limit. Above 2^29 words it
+/// fails with `CanonicalTooLarge`.
 #[inline(always)]
 pub fn canonical_size<S: ReaderSegments>(reader: &any_pointer::Reader<'_, S>) -> Result<u32>
     ensures returned { let pointer = pointer_of S.segments reader.now in MatchResult result
@@ -36,6 +39,8 @@ pub fn canonical_size<S: ReaderSegments>(reader: &any_pointer::Reader<'_, S>) ->
 }
 
 /// The canonical form of what a pointer leads to, as bytes.
+///
+/// Fails as `canonical_size` does, or with `OutOfMemory`.
 pub fn canonical_bytes<S: ReaderSegments>(
     alloc: Global,
     reader: &any_pointer::Reader<'_, S>,
@@ -58,7 +63,7 @@ pub fn canonical_bytes<S: ReaderSegments>(
     Ok(bytes)
 }
 
-/// Writes the canonical form of what a pointer leads to into zeros of just its words, those that
+/// Writes the canonical form of what a pointer leads to into zeros of just its words, as many as
 /// `canonical_size` returns.
 pub fn write_form<S: ReaderSegments>(reader: &any_pointer::Reader<'_, S>, bytes: &mut [u8])
     requires words { (following : ℕ)
@@ -73,6 +78,8 @@ pub fn write_form<S: ReaderSegments>(reader: &any_pointer::Reader<'_, S>, bytes:
 }
 
 /// The canonical form of what a pointer leads to, as words.
+///
+/// Fails as `canonical_bytes` does.
 pub fn canonical_words<S: ReaderSegments>(
     alloc: Global,
     reader: &any_pointer::Reader<'_, S>,

@@ -20,8 +20,9 @@ pub(crate) fn wrong_kind() -> Error
     Error::from_kind(ErrorKind::WrongPointerKind)
 }
 
-/// The same result. A call of `enter` returns its result by memory, and what short ways return stands
-/// in registers where this does not: put together anew, both do.
+/// Returns its argument.
+/// Speed: a value that is put together anew keeps the fast path's result in registers, where the
+/// one that `enter` returns by memory would not (`tools/time-reading`).
 #[inline(always)]
 pub(crate) fn rebuilt<T>(entered: Result<T>) -> Result<T>
     ensures { result ≡ entered }
@@ -71,7 +72,7 @@ pub(crate) struct EnteredNumbers<'a> {
     pub count: u32,
 }
 
-// A given number of bytes from a word of a segment on.
+// This many bytes, from a word of a segment on.
 fn bytes_at(segment: &[u8], start: usize, count: u32) -> &[u8]
     requires { start + words_for count 8 ≤ length segment.now / 8 }
     ensures { result.now ≡ elements (words_of segment.now) start 2 count }

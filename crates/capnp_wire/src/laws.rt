@@ -13,38 +13,38 @@ ghost use Rattle.capnp_wire.specs.Views.{Pointer};
 ghost use Rattle.capnp_wire.specs.Values.{IsCanonicalForm};
 ghost use Rattle.capnp_wire.specs.declared.layout.place.Place.{Place};
 
-/// At most one tree stands at each of some places, and the words counted there are the same.
+/// At most one tree is at each of some places, and the words that are counted there are the same.
 pub fn one_tree_at_a_place()
     ensures { (m : List (List ℕ)) (places : List Place) (some others : Trees) (x y : ℕ) →
         At m places some x → At m places others y → (some ≡ others) × (x ≡ y) }
 {}
 
-/// At most one object stands at a place.
+/// At most one object is at a place.
 pub fn one_object_at_a_place()
     ensures { (m : List (List ℕ)) (place : Place) (some other : Shape) →
         PointsTo m place some → PointsTo m place other → some ≡ other }
 {}
 
-/// Where an object leads back to itself, no tree stands.
+/// Where an object leads back to itself there is no tree.
 pub fn cycle_has_no_tree()
     ensures { (m : List (List ℕ)) (place : Place) (form : Form) (held : Trees) (traversed : ℕ) →
         Below m place place → At m (place ∷ []) (tree form held none) traversed → ⊥ }
 {}
 
-/// Where a pointer is refused, no object stands within the nesting depth left.
+/// Where a pointer is refused there is no object within the nesting depth.
 pub fn refused_has_no_object()
     ensures { (m : List (List ℕ)) (place : Place) (nesting : ℕ) (kind : ErrorKind) (shape : Shape) →
         Fault m place nesting kind → PointsTo m place shape →
         (is_null shape.form ≡ false → 0 < nesting) → ⊥ }
 {}
 
-/// At most one refusal stands at a place, at the nesting depth left.
+/// At most one error is at a place, by its nesting depth.
 pub fn one_refusal_at_a_place()
     ensures { (m : List (List ℕ)) (place : Place) (nesting : ℕ) (kind other : ErrorKind) →
         Fault m place nesting kind → Fault m place nesting other → kind ≡ other }
 {}
 
-/// Where a walk stops, no trees stand within the nesting depth left and its limit.
+/// Where a walk stops there are no trees within its nesting depth and its limit.
 pub fn stopped_walk_has_no_trees()
     ensures { (m : List (List ℕ)) (places : List Place) (nesting traversed : ℕ) (limit : Option ℕ)
         (kind : ErrorKind) (trees : Trees) →
@@ -52,7 +52,7 @@ pub fn stopped_walk_has_no_trees()
         Within limit traversed → ⊥ }
 {}
 
-/// At most one refusal stops a walk.
+/// At most one error stops a walk.
 pub fn one_refusal_stops_a_walk()
     ensures { (m : List (List ℕ)) (places : List Place) (nesting : ℕ) (limit : Option ℕ)
         (kind other : ErrorKind) →
@@ -68,7 +68,7 @@ pub fn root_of_a_layout()
         × At (layout (tree form held none) ∷ []) (root ∷ []) (tree form held none) traversed }
 {}
 
-/// Where a body stands a given number of words after its pointer, in any segment, its tree stands.
+/// Where a body is this many words after its pointer, in any segment, there is its tree.
 pub fn tree_after_its_pointer()
     ensures { (m : List (List ℕ)) (segment word offset : ℕ) (words : List ℕ)
         (form : Form) (held : Trees) →
@@ -80,7 +80,7 @@ pub fn tree_after_its_pointer()
         × At m (record { segment = segment; word = word } ∷ []) (tree form held none) traversed }
 {}
 
-/// Where a body follows its landing pad, a far pointer to the landing pad stands for its tree.
+/// Where a body follows its landing pad, a far pointer to the landing pad leads to its tree.
 pub fn tree_after_its_landing_pad()
     ensures { (m : List (List ℕ)) (place : Place) (segment landing_pad : ℕ) (words : List ℕ)
         (form : Form) (held : Trees) →
@@ -109,7 +109,7 @@ pub fn canonical_forms_differ()
         trim (tree f h none) ≡ trim (tree g k none) }
 {}
 
-/// The trees that stand in a message have room for their fields.
+/// The trees in a message have room for their fields.
 pub fn trees_have_room()
     ensures { (m : List (List ℕ)) (places : List Place) (trees : Trees) (traversed : ℕ) →
         AllWords m → At m places trees traversed → AllHaveRoom trees }

@@ -19,7 +19,7 @@ impl<'a, S: ReaderSegments + 'a, T: traits::Owned<'a, S>> traits::Owned<'a, S> f
     type Reader = Reader<'a, S, T::Reader>;
 }
 
-// The list of its pointers with all below them, whatever the elements are.
+// The value is the list of its pointers, with all below them, whatever the elements are.
 impl<'a, S: ReaderSegments + 'a, T: traits::Owned<'a, S>> SetterInput<Owned<T>>
     for Reader<'a, S, T::Reader> {
     ghost use Rattle.capnp_wire.specs.ListViews.{pointer_list_of};

@@ -5,6 +5,6 @@
 pub struct MessageSize {
     /// The number of words.
     pub word_count: u64,
-    /// The number of capabilities, which is 0: a message with one is refused.
+    /// The number of capabilities, which is 0: a message with one fails with `CapabilityRefused`.
     pub cap_count: u32,
 }

@@ -1,5 +1,5 @@
-//! Pointer words, made from what they say, read and moved (encoding document, "Structs", "Lists" and
-//! "Inter-Segment Pointers").
+//! Pointer words, made from what they say, read and moved (encoding document, "Structs", "Lists"
+//! and "Inter-Segment Pointers").
 ghost use Rattle.std.specs.Prelude.{◌≡◌, ◌<◌, ◌^◌, ℕ, [], ◌∷◌, length, MatchOption};
 ghost use Rattle.capnp_frame.specs.Words.{bytes_of};
 ghost use Rattle.capnp_wire.specs.Pointer.{number_of, pointer_kind, words_of};
@@ -13,8 +13,8 @@ use crate::layout::pointer::PointerWord;
 pub use crate::layout::pointer::{NearShape, StructSize};
 use capnp_frame::{Word, word};
 
-/// The pointer to a struct that begins a given number of words after it, or the tag of a list of that
-/// many structs. 2^30 - 1 is the offset -1, of a struct of no words.
+/// The pointer to a struct that begins this many words after it, or the tag of a list of that many
+/// structs. An offset of 2^30 - 1 is read as -1, that of a struct of no words.
 #[inline(always)]
 pub fn struct_word(offset: u64, data_words: u16, pointers: u16) -> u64
     requires { offset < 2 ^ 30 }
@@ -23,8 +23,8 @@ pub fn struct_word(offset: u64, data_words: u16, pointers: u16) -> u64
     4 * offset + (1 << 32) * data_words as u64 + (1 << 48) * pointers as u64
 }
 
-/// The pointer to a list that begins a given number of words after it, by the code of its elements;
-/// of a list of structs the count is that of their words.
+/// The pointer to a list that begins this many words after it, by the code of its elements and how
+/// many they are; for a list of structs the count is that of their words.
 #[inline(always)]
 pub fn list_word(offset: u64, code: u64, count: u64) -> u64
     requires offset { offset < 2 ^ 30 }
@@ -35,8 +35,7 @@ pub fn list_word(offset: u64, code: u64, count: u64) -> u64
     1 + 4 * offset + (1 << 32) * code + (1 << 35) * count
 }
 
-/// The far pointer to a landing pad of one word, which stands after a given number of words of a
-/// segment.
+/// The far pointer to a landing pad of one word, which comes after this many words of a segment.
 pub fn far_word(segment: u32, position: u32) -> u64
     requires { position < 2 ^ 29 }
     ensures { result ≡ far_pointer segment position }
@@ -44,8 +43,8 @@ pub fn far_word(segment: u32, position: u32) -> u64
     2 + 8 * position as u64 + segment as u64 * (1 << 32)
 }
 
-/// What a struct or list pointer leads to; `None` for a far pointer and a capability. Null reads as a
-/// struct of no words.
+/// What a struct or list pointer leads to; `None` for a far pointer and a capability. Null reads as
+/// a struct of no words.
 pub fn near_shape(word: u64) -> Option<NearShape>
     ensures { MatchOption result (1 < pointer_kind word) (λ shape. IsNearShape word shape) }
 {
@@ -55,8 +54,8 @@ pub fn near_shape(word: u64) -> Option<NearShape>
     }
 }
 
-/// The pointer that says as a tag does, to what begins a given number of words further. Null and the
-/// pointer to a struct of no words, whose offset is -1, stay as they are.
+/// The pointer that says as a tag does, to an object this many words further. Null and the pointer
+/// to a struct of no words, whose offset is -1, stay as they are.
 pub fn moved(tag: u64, offset: u32) -> u64
     requires near { offset < 2 ^ 29 }
     requires pointer { (form : Form) × (n : ℕ) × HasRoom form n × (tag ≡ pointer form n 0) }
@@ -79,7 +78,7 @@ pub fn put_word(block: &mut [u8], at: usize, word: u64)
     block::put_word(block, at, word);
 }
 
-/// A number as the word that it is.
+/// The word of a number.
 pub fn word_of(number: u64) -> Word
     ensures { number_of 256 (bytes_of result) ≡ number }
 {

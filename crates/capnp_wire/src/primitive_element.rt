@@ -11,13 +11,13 @@ use std::num::{
     f32_from_bits_with_nan, f32_to_bits_with_nan, f64_from_bits_with_nan, f64_to_bits_with_nan,
 };
 
-/// A number or a bool, by its size and by what its bits say. Other crates have no types of their own
-/// for it: an enum is read as `u16`.
+/// A number or a bool, by its size and by what its bits say. Other crates have no types of their
+/// own for it: an enum is read as `u16`.
 pub trait PrimitiveElement: Sized {
     /// The code of lists of them.
     ghost code: { ℕ };
 
-    /// What bits say, which are as many as the code says.
+    /// What this many bits say, as many as the code says.
     ghost value_of: { ℕ → Self };
 
     /// The bits of a value, as a number.
@@ -27,7 +27,7 @@ pub trait PrimitiveElement: Sized {
     fn size() -> ElementSize
         ensures { code_of result ≡ code };
 
-    /// What some bits say, the lowest first.
+    /// The value of some bits, the lowest first.
     fn from_bits(bits: u64) -> Self
         requires { bits < 2 ^ width code }
         ensures { result ≡ value_of bits };

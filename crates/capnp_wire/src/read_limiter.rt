@@ -7,7 +7,7 @@ ghost use Rattle.capnp_wire.specs.Readers.{limit_of};
 use capnp_frame::{Error, ErrorKind, Result};
 use std::cell::Cell;
 
-/// The words that views have read of a message, and the most that they may.
+/// How many words of a message views have read, and the most that they may.
 #[derive(Drop)]
 pub struct ReadLimiter {
     pub(crate) limit: Option<usize>,
@@ -15,7 +15,7 @@ pub struct ReadLimiter {
 }
 
 impl ReadLimiter {
-    /// Nothing has been read.
+    /// A limiter of which nothing has been read.
     pub(crate) fn new(limit: Option<usize>) -> ReadLimiter
         ensures { result.limit ≡ limit }
     {
@@ -36,8 +36,8 @@ pub(crate) fn limit_in_words(limiter: Option<&ReadLimiter>) -> Option<usize>
     }
 }
 
-/// Counts words that are read. A count that would pass the limit is refused, and counts nothing; one of
-/// no words never is.
+/// Counts words that are read. Fails with `ReadLimitExceeded`, and counts nothing, where the count
+/// would pass the limit; for no words it never fails.
 pub(crate) fn traversed(limiter: Option<&ReadLimiter>, words: u64) -> Result<()>
     ensures kind { IfErr result (λ error. error.kind ≡ ErrorKind.ReadLimitExceeded) }
     ensures limited { OnErr result (limit_of limiter.entry ≢ None) }

@@ -15,7 +15,7 @@ impl<'a, S: ReaderSegments> traits::Owned<'a, S> for Owned {
     type Reader = Reader<'a>;
 }
 
-// A list of bytes with a zero byte at its end.
+// The value is a list of bytes with a zero byte at its end.
 impl<'a> SetterInput<Owned> for Reader<'a> {
     ghost use Rattle.capnp_wire.specs.Values.{IsTextTree, LongText};
     ghost use Rattle.capnp_wire.specs.Tree.{count};

@@ -24,13 +24,13 @@ pub trait FromPointerReader<'a, S: ReaderSegments>: Sized {
     /// There is a view of what the pointer leads to.
     ghost accepts: { Pointer → Type 0 };
 
-    /// There is none, or it may not be read, and this says why.
+    /// There is no view, or it may not be read, and this is the error.
     ghost refuses: { Pointer → ErrorKind → Type 0 };
 
-    /// An object stands there that is no such view, and this says how it is refused.
+    /// An object is there that is no such view, and this is the error.
     ghost declines: { Pointer → ErrorKind → Type 0 };
 
-    /// The view of what a pointer leads to.
+    /// The view of what a pointer leads to. Fails with a kind that `refuses` names.
     fn get_from_pointer(reader: any_pointer::Reader<'a, S>) -> Result<Self>
         ensures { let pointer = pointer_of S.segments reader.entry in
             IsViewOf pointer (shows pointer) (accepts pointer) (refuses pointer) (declines pointer)
@@ -46,25 +46,25 @@ pub trait Owned<'a, S: ReaderSegments> {
 /// The words of a value that is a part of another one, after its pointer.
 #[derive(Clone, Copy)]
 pub struct PartWords {
-    /// As the value stands.
+    /// Of the value as it stands.
     pub standing: u32,
 
-    /// In the form that is made.
+    /// Of the value in the form that is made.
     pub formed: u32,
 }
 
 /// A value that a pointer can be set to, of a type of a schema.
 pub trait SetterInput<T> {
-    /// The value is this tree.
+    /// The tree that the value is.
     ghost has_tree: { Self → Trees → Type 0 };
 
-    /// The value has no tree, or it may not be read, and this says why.
+    /// The value has no tree, or may not be read, and this is the error.
     ghost refuses: { Self → ErrorKind → Type 0 };
 
     /// The words of the value after its pointer, as it stands or in canonical form.
     ///
-    /// 2^29 words and more fail with `AllocationTooLarge`, in canonical form by
-    /// `CanonicalTooLarge`.
+    /// Fails with a kind that `refuses` names, and for 2^29 words and more with
+    /// `AllocationTooLarge`, or in canonical form with `CanonicalTooLarge`.
     fn measure(&self, canonical: bool) -> Result<u32>
         ensures returned { MatchResult result (λ words. HasWords (has_tree self.now) canonical words)
             (λ error. LacksWords (has_tree self.now) (refuses self.now) canonical error.kind) }
@@ -76,7 +76,8 @@ pub trait SetterInput<T> {
 
     /// The words of the value as a part of another one.
     ///
-    /// It is refused with its words as it stands, also where the canonical form is made.
+    /// Fails as `measure` does for the value as it stands, even where its canonical form is
+    /// smaller.
     fn measure_part(&self, canonical: bool) -> Result<PartWords>
         ensures returned { MatchResult result (λ words. HasPart (has_tree self.now) canonical words)
             (λ error. LacksWords (has_tree self.now) (refuses self.now) false error.kind) }
@@ -101,9 +102,8 @@ pub trait SetterInput<T> {
     fn is_null(&self) -> bool
         ensures { (trees : Trees) → has_tree self.now trees → result ≡ starts_with_null trees };
 
-    /// Writes the value into a block, from the word `next` on, after which it is zero. The pointer to
-    /// it stands just before the word `following`. Returns that pointer, and the first word after the
-    /// value.
+    /// Writes the value into a block that is zero from the word `next` on. The pointer to it is the
+    /// word before `following`. Returns that pointer, and the first word after the value.
     fn write(&self, canonical: bool, block: &mut [u8], following: usize, next: usize) -> Copied
         requires value { HasRoomAt (has_tree self.now) canonical next (length (words_of block.old)) }
         requires free { IsFreeFrom next block.old }
@@ -115,6 +115,6 @@ pub trait SetterInput<T> {
             length (body (formed canonical trees)) ≡ total_words (formed canonical trees) }
         ensures len { length block.new ≡ length block.old };
 
-    /// What a value is, is one tree.
+    /// A value is one tree.
     ghost one: { (value : Self) (trees : Trees) → has_tree value trees → count trees ≡ 1 };
 }

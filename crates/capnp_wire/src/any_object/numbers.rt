@@ -6,7 +6,7 @@ use crate::layout::element::ElementSize;
 use crate::layout::object::words_fit;
 use crate::layout::place::word;
 
-/// A list of numbers in a message, of bits or of nothing, whatever the size of its elements.
+/// A list of numbers, of bits or of nothing in a message, whatever the size of its elements.
 #[derive(Drop)]
 pub struct Numbers<'a> {
     /// The words of the list.
@@ -34,7 +34,7 @@ impl<'a> Numbers<'a> {
         self.size.bits() as u32
     }
 
-    /// The bits of the element of this index, as a number.
+    /// The bits of the element of this index, in the low bits of a number.
     pub fn get(&self, index: u32) -> u64
         requires { index < length (sized_numbers_of self.now) }
         ensures { result ≡ slice_index (sized_numbers_of self.now) index }
@@ -44,7 +44,7 @@ impl<'a> Numbers<'a> {
         self.size.in_word(word, index)
     }
 
-    /// The bytes of the words that the elements stand in, the first element in the lowest bits.
+    /// The bytes of the words that hold the elements, the first element in the lowest bits.
     pub fn as_bytes(&self) -> &'a [u8]
         ensures { result.now ≡ self.now.bytes.now }
     {

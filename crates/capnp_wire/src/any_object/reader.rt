@@ -10,8 +10,9 @@ use crate::{any_pointer, any_pointer_list, struct_list};
 use capnp_frame::Result;
 use capnp_frame::message::ReaderSegments;
 
-/// What a pointer leads to, counted once against the traversal limit: null, or the view of the kind of
-/// object that stands there. What the pointers of the object lead to is counted when they are followed.
+/// What a pointer leads to, counted once against the traversal limit: null, or a view of the kind
+/// of object that is there. What the object's own pointers lead to is counted when they are
+/// followed.
 #[derive(Drop)]
 pub enum Reader<'a, S: ReaderSegments> {
     Null,
@@ -79,7 +80,7 @@ impl<'a, S: ReaderSegments> Reader<'a, S> {
     }
 }
 
-// Null, and every object, is taken.
+// Null, and an object of any kind, is accepted.
 impl<'a, S: ReaderSegments> FromPointerReader<'a, S> for Reader<'a, S> {
     ghost use Rattle.std.specs.Prelude.{⊤};
     ghost use Rattle.capnp_wire.specs.Readers.{pointer_of};

@@ -15,12 +15,14 @@ use crate::layout::place::word;
 use crate::read_limiter::traversed;
 use capnp_frame::message::ReaderSegments;
 
-// A view of numbers or of a struct asks here first. `None` says nothing of what stands there: `enter`
-// does. The kind of what is returned is known where it is inlined, so it stands in registers.
+// A view of numbers or of a struct asks here first. `None` doesn't tell what is there: `enter`
+// does.
+// Speed: the kind of what is returned is known where it is inlined, so the result stays in
+// registers (`tools/time-reading`).
 
 impl<'a, S: ReaderSegments> Reader<'a, S> {
-    /// The list of numbers that the pointer leads to without a landing pad, once it is counted against
-    /// the traversal limit.
+    /// The list of numbers that the pointer leads to without a landing pad, once it is counted
+    /// against the traversal limit.
     #[inline(always)]
     pub(crate) fn enter_near_numbers(&self, size: ElementSize) -> Option<Object<'a>>
         ensures { let pointer = pointer_of S.segments self.now in
@@ -39,7 +41,8 @@ impl<'a, S: ReaderSegments> Reader<'a, S> {
         }
     }
 
-    /// The struct that the pointer leads to without a landing pad, once it is counted so.
+    /// The struct that the pointer leads to without a landing pad, once it is counted against the
+    /// traversal limit.
     #[inline(always)]
     pub(crate) fn enter_near_struct(&self) -> Option<Object<'a>>
         ensures { let pointer = pointer_of S.segments self.now in

@@ -16,7 +16,7 @@ use crate::traits::FromPointerReader;
 use capnp_frame::message::ReaderSegments;
 use capnp_frame::{Error, ErrorKind, Result};
 
-/// A pointer of a message. One that a struct does not have, past its pointers, is null.
+/// A pointer of a message. Past the last pointer of a struct it is null.
 #[derive(Drop)]
 pub struct Reader<'a, S> {
     pub(crate) segments: &'a S,
@@ -26,8 +26,8 @@ pub struct Reader<'a, S> {
 }
 
 impl<'a, S: ReaderSegments> Reader<'a, S> {
-    /// The root pointer of segments that are read without a traversal limit, with objects nested up to
-    /// 2^31 - 1 deep, as those of a message that is built. Without a first segment it is null.
+    /// The root pointer of segments, read without a traversal limit and with objects nested up to
+    /// 2^31 - 1 deep: for a message that is being built. Without a first segment it is null.
     pub fn root_of(segments: &'a S) -> Reader<'a, S>
         ensures { pointer_of S.segments result ≡ unlimited_root (S.segments segments.now) }
     {
@@ -46,7 +46,7 @@ impl<'a, S: ReaderSegments> Reader<'a, S> {
         }
     }
 
-    /// Whether the pointer is null, and so leads to no object. Nothing is read beside its own word.
+    /// Whether the pointer is null, and so leads to no object. Only its own word is read.
     pub fn is_null(&self) -> bool
         ensures { IsTrue result ↔ Denotes (pointer_of S.segments self.now) nothing }
     {
@@ -59,13 +59,13 @@ impl<'a, S: ReaderSegments> Reader<'a, S> {
         }
     }
 
-    /// The size of the object after the pointer with all below it, without the landing pads of far
-    /// pointers.
+    /// The size of the object that the pointer leads to, with all below it, without the landing
+    /// pads of far pointers.
     ///
-    /// It is refused where the walk over these objects stops: as a view of one of them is, or by
-    /// `ReadLimitExceeded` where they come to more words than the traversal limit. The walk counts
-    /// from 0, and what is read of the message by views stays as it was. A size past 64 bits
-    /// fails with `AllocationTooLarge(4294967295)`.
+    /// Fails where the walk over these objects stops: as a view of one of them does, or with
+    /// `ReadLimitExceeded` where they have more words than the traversal limit. A size past 64 bits
+    /// fails with `AllocationTooLarge(4294967295)`. The walk counts from 0, and leaves what views
+    /// have counted.
     pub fn target_size(&self) -> Result<MessageSize>
         ensures returned { let pointer = pointer_of S.segments self.now in MatchResult result
             (λ size. Measures pointer size.word_count × (size.cap_count ≡ 0))
@@ -102,12 +102,13 @@ impl<'a, S: ReaderSegments> Reader<'a, S> {
         }
     }
 
-    /// The object after the pointer as a view, which borrows it from the segments.
+    /// The object that the pointer leads to as a view, which borrows it from the segments.
     ///
-    /// A view fails with `InvalidSegmentId`, `PointerOutOfBounds` or `CapabilityRefused` where the
-    /// pointer leads to no object, by `NestingLimitExceeded` where the object lies deeper than the
-    /// nesting limit, by `ReadLimitExceeded` where it would bring what is read past the traversal
-    /// limit, and else by `WrongPointerKind` or `TextNotTerminated` as the type of the view says.
+    /// Fails with `InvalidSegmentId`, `PointerOutOfBounds`, `CapabilityRefused` or
+    /// `WrongPointerKind` where no object is there; with `NestingLimitExceeded` where the object is
+    /// deeper than the nesting limit; with `ReadLimitExceeded` where it would bring what is read
+    /// past the traversal limit; and else with `WrongPointerKind` or `TextNotTerminated`, as the
+    /// type of the view says.
     #[inline(always)]
     pub fn get_as<T: FromPointerReader<'a, S>>(&self) -> Result<T>
         ensures returned { let pointer = pointer_of S.segments self.now in MatchResult result
@@ -120,7 +121,7 @@ impl<'a, S: ReaderSegments> Reader<'a, S> {
         ensures exact { let pointer = pointer_of S.segments self.now in
             (kind : ErrorKind) → IsInvalidPointer pointer kind → (T.accepts pointer → ⊥) →
             IsErrAnd result (λ error. error.kind ≡ kind) }
-        // Where an object stands that is no such view.
+        // Where an object is there that is no such view.
         ensures declined { let pointer = pointer_of S.segments self.now in
             (kind : ErrorKind) → T.declines pointer kind →
             IsErrAnd result (λ error. (error.kind ≡ kind) ⊎ MeetsLimit pointer error.kind) }
@@ -128,8 +129,9 @@ impl<'a, S: ReaderSegments> Reader<'a, S> {
         T::get_from_pointer(self.again())
     }
 
-    /// The same pointer once more. What decides where a short way gives up is handed this one, so that
-    /// the reader that was asked first need not stand in memory.
+    /// A copy of this reader, for the slow path.
+    /// Speed: the address of the original never escapes, so it stays in registers
+    /// (`tools/time-reading`).
     #[inline(always)]
     pub(crate) fn again(&self) -> Reader<'a, S>
         ensures { result ≡ self.now }
@@ -142,8 +144,8 @@ impl<'a, S: ReaderSegments> Reader<'a, S> {
         }
     }
 
-    /// The object that the pointer leads to, once it is counted against the traversal limit; `None`
-    /// for null.
+    /// Counts the object that the pointer leads to against the traversal limit, and returns it;
+    /// `None` for null.
     pub(crate) fn enter(&self) -> Result<Option<Object<'a>>>
         ensures found { let pointer = pointer_of S.segments self.now in
             IfOk result (λ found. MatchOption found (Denotes pointer nothing)
@@ -162,7 +164,7 @@ impl<'a, S: ReaderSegments> Reader<'a, S> {
     }
 }
 
-// As itself a pointer is not followed, and never refused.
+// A view of the pointer itself doesn't follow it, and never fails.
 impl<'a, S: ReaderSegments> FromPointerReader<'a, S> for Reader<'a, S> {
     ghost shows = { λ pointer view. pointer_of S.segments view ≡ pointer };
 

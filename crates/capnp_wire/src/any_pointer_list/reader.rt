@@ -15,7 +15,7 @@ use capnp_frame::message::ReaderSegments;
 pub struct Reader<'a, S> {
     pub(crate) segments: &'a S,
     pub(crate) limiter: Option<&'a ReadLimiter>,
-    /// Where the first pointer stands.
+    /// The place of the first pointer.
     pub(crate) first: Place,
     pub(crate) count: u32,
     pub(crate) nesting: u32,
@@ -35,8 +35,8 @@ impl<'a, S: ReaderSegments> Reader<'a, S> {
         self.count
     }
 
-    /// The pointer of this index. What it leads to is counted against the traversal limit when it is
-    /// followed.
+    /// The pointer of this index. What it leads to is counted against the traversal limit when it
+    /// is followed.
     pub fn get(&self, index: u32) -> any_pointer::Reader<'a, S>
         requires { index < length (pointer_list_of S.segments self.now).held }
         ensures { pointer_of S.segments result

@@ -15,8 +15,8 @@ use capnp_frame::Result;
 use capnp_frame::message::ReaderSegments;
 
 impl<'a, S: ReaderSegments> StructReader<'a, S> {
-    /// A field of the data section, at an offset in units of its own width. Its bits are zero where the
-    /// section ends before it.
+    /// A field of the data section, at an offset in units of its own width. Its bits are zero where
+    /// the section ends before it.
     pub fn get_data_field<T: PrimitiveElement>(&self, offset: u32) -> T
         ensures { result ≡ T.value_of
             (field (struct_of S.segments self.now).words (width T.code) offset) }
@@ -24,9 +24,9 @@ impl<'a, S: ReaderSegments> StructReader<'a, S> {
         T::from_bits(self.field_bits(T::size(), offset))
     }
 
-    /// A field that has a default, at an offset in units of its own width. In the data section stand the
-    /// bits in which the value differs from the default, which is returned where the section ends before
-    /// the field.
+    /// A field that has a default, at an offset in units of its own width. The data section has the
+    /// bits in which the value differs from the default. Where it ends before the field, the
+    /// default is returned.
     pub fn get_data_field_mask<T: PrimitiveElement>(&self, offset: u32, default: T) -> T
         ensures { result ≡ T.value_of (bit_xor
             (field (struct_of S.segments self.now).words (width T.code) offset)
@@ -36,7 +36,7 @@ impl<'a, S: ReaderSegments> StructReader<'a, S> {
         T::from_bits(self.field_bits(T::size(), offset) ^ default_bits)
     }
 
-    /// Whether a pointer is there that is not null.
+    /// Whether the struct has a pointer of this index that isn't null.
     pub fn has_pointer(&self, index: u16) -> bool
         ensures { IsTrue result
             ↔ (Denotes (pointer_in (struct_of S.segments self.now) index) nothing → ⊥) }
@@ -45,6 +45,8 @@ impl<'a, S: ReaderSegments> StructReader<'a, S> {
     }
 
     /// The view of what a pointer leads to, or the default where the pointer is null.
+    ///
+    /// Fails as `any_pointer::Reader::get_as` does of a pointer that isn't null.
     pub fn get_pointer_or<T: FromPointerReader<'a, S> + Drop>(
         &self,
         index: u16,

@@ -1,19 +1,19 @@
-//! Numbers of lists as structs: the part of a data word that is such a struct's own (encoding document,
-//! "Lists").
+//! Numbers of lists as structs: the part of a data word that is such a struct's own (encoding
+//! document, "Lists").
 ghost use Rattle.std.specs.Prelude.{◌≡◌};
 ghost use Rattle.capnp_wire.specs.Parts.{own_part};
 
 use crate::layout::element::ElementSize;
 
-/// Where a number of a list stands in its word.
+/// The place of a list's number in its word.
 #[derive(Clone, Copy)]
 pub(crate) struct WordPart {
     pub size: ElementSize,
-    /// The number of elements before it.
+    /// How many elements are before it in the word.
     pub index: u32,
 }
 
-/// A data word of a struct, by the word in which it stands: all of it, or its own part in the low bits.
+/// A data word of a struct, by the word that holds it: all of it, or its own part in the low bits.
 pub(crate) fn own_bits(part: Option<WordPart>, word: u64) -> u64
     ensures { result ≡ own_part part word }
 {

@@ -24,7 +24,7 @@ pub struct StructReader<'a, S: ReaderSegments> {
     pub(crate) start: Place,
     pub(crate) size: StructSize,
     pub(crate) nesting: u32,
-    /// Which part of its one data word is its own, where it is a number of a list.
+    /// Where the struct is a number of a list: which part of its one data word is its own.
     pub(crate) part: Option<WordPart>,
     ghost room: { start.word + (size.data_words + size.pointers) ≤ length segment.now / 8 },
     ghost content: { HoldsPointers (message_of (S.segments segments.now)) (words_of segment.now)
@@ -97,7 +97,7 @@ impl<'a, S: ReaderSegments> StructReader<'a, S> {
         }
     }
 
-    // The struct that a pointer leads to, which may stand anywhere.
+    // The struct that a pointer leads to, by any path.
     #[inline(never)]
     fn enter(reader: &any_pointer::Reader<'a, S>) -> Result<StructReader<'a, S>>
         ensures { let pointer = pointer_of S.segments reader.now in MatchResult result
@@ -124,7 +124,7 @@ impl<'a, S: ReaderSegments> StructReader<'a, S> {
         StructReader::in_object(reader, &object)
     }
 
-    // The struct that an object is.
+    // The object as a struct.
     #[inline(always)]
     fn in_object(
         reader: &any_pointer::Reader<'a, S>,

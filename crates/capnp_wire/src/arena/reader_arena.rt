@@ -42,6 +42,9 @@ impl<S: ReaderSegments> ReaderArena<S> {
     }
 
     /// The root pointer, which is the first word of the first segment.
+    ///
+    /// Fails with `InvalidSegmentId(0)` without a segment, and with `PointerOutOfBounds` where the
+    /// first segment has no word.
     pub fn get_root(&self) -> Result<any_pointer::Reader<'_, S>>
         ensures returned { let m = message_of (S.segments self.now.segments) in
             MatchResult result
@@ -68,14 +71,15 @@ impl<S: ReaderSegments> ReaderArena<S> {
         })
     }
 
-    /// Whether the message is in canonical form: one segment, whose words are the canonical form of its
-    /// root tree.
+    /// Whether the message is in canonical form: one segment, whose words are the canonical form of
+    /// its root tree.
     ///
-    /// A message of more than one segment is not canonical, nor is one with a far pointer. It
-    /// fails with `InvalidSegmentId(0)` without a segment, and else where the walk over its
-    /// objects is, before it meets what is not canonical: as a view of one of them, or by
-    /// `ReadLimitExceeded` where they come to more words than the traversal limit. The walk counts
-    /// from 0, takes no memory, and what is read of the message by views stays as it was.
+    /// A message of more than one segment is not canonical, nor is one with a far pointer.
+    ///
+    /// Fails with `InvalidSegmentId(0)` without a segment, and else where the walk over the objects
+    /// stops before it meets what is not canonical: as a view of one of them does, or with
+    /// `ReadLimitExceeded` where they have more words than the traversal limit. The walk counts
+    /// from 0, takes no memory, and leaves what views have counted.
     pub fn is_canonical(&self) -> Result<bool>
         ensures returned { let m = message_of (S.segments self.now.segments) in
             let nesting = nesting_of self.now.nesting_limit in
@@ -135,8 +139,8 @@ impl<S: ReaderSegments> ReaderArena<S> {
         self.nesting_limit
     }
 
-    /// The words of all segments, at most `usize::MAX`. Bytes after the last whole word of a segment
-    /// count for nothing.
+    /// The words of all segments, at most `usize::MAX`. Bytes after the last whole word of a
+    /// segment are not counted.
     pub fn size_in_words(&self) -> usize
         requires { length (S.segments self.now.segments) < 2 ^ 32 }
         ensures { result ≡ min (size_in_words (S.segments self.now.segments)) (2 ^ 64 - 1) }

@@ -12,7 +12,7 @@ use crate::traits::FromPointerReader;
 use capnp_frame::Result;
 use capnp_frame::message::ReaderSegments;
 
-/// The bytes themselves.
+/// Bytes in a message.
 pub type Reader<'a> = &'a [u8];
 
 // Empty from null, else the bytes of a list of bytes; any other object fails with
@@ -50,7 +50,7 @@ fn read_bytes<'a, S: ReaderSegments>(reader: &any_pointer::Reader<'a, S>) -> Res
     }
 }
 
-// The bytes of a list of bytes that may stand anywhere.
+// The bytes of a list of bytes, by any path.
 #[inline(never)]
 fn enter_bytes<'a, S: ReaderSegments>(reader: &any_pointer::Reader<'a, S>) -> Result<&'a [u8]>
     ensures { let pointer = pointer_of S.segments reader.now in MatchResult result

@@ -1,4 +1,5 @@
-//! Copies that are begun: an object's own words stand in the block, and its pointers are left.
+//! Copies that are begun: the words of an object are in the block, but what its pointers lead to
+//! isn't.
 ghost use Rattle.std.specs.Prelude.{◌≡◌, ◌+◌, ◌-◌, ◌^◌, ◌<◌, ◌≤◌, ◌/◌, Bool, ℕ, List, [], ◌∷◌, length, slice_get, Some, MatchOption};
 ghost use Rattle.capnp_wire.specs.Pointer.{words_of};
 ghost use Rattle.capnp_wire.specs.Object.{message_of};
@@ -20,7 +21,7 @@ use crate::layout::pointer_run::PointerRun;
 use crate::pointer_word::list_word;
 use capnp_frame::message::ReaderSegments;
 
-/// An object whose copy is begun, what it is once it is copied, and the pointer to it.
+/// An object whose copy is begun, the body of the copy, and the pointer to it.
 #[derive(Drop)]
 pub(crate) struct BegunCopy<'a> {
     pub object: Object<'a>,
@@ -28,15 +29,15 @@ pub(crate) struct BegunCopy<'a> {
     pub pointer: u64,
 }
 
-/// The copy of a struct.
+/// The copy of a struct: whole, or begun.
 #[derive(Clone, Copy)]
 pub(crate) enum StructCopy {
     Whole(Copied),
     Begun(LeftRun),
 }
 
-/// The pointer to a copy, and what is left of that: a given number of pointers, whose copies stand
-/// one after the other. What they lead to goes from the word `next` on.
+/// The pointer to a copy, and what is left to copy: this many pointers, one after the other, as
+/// their slots are. What they lead to goes from the word `next` on.
 #[derive(Clone, Copy)]
 pub(crate) struct LeftRun {
     pub pointer: u64,
@@ -46,8 +47,8 @@ pub(crate) struct LeftRun {
     pub next: usize,
 }
 
-/// Begins the copy of the object that the pointer at a place of this segment leads to, at the word `next`
-/// of a block; `None` for null. The pointer to the copy stands just before the word `following`.
+/// Begins the copy of the object that the pointer at a place of this segment leads to, at the word
+/// `next` of a block; `None` for null. The pointer to the copy is the word before `following`.
 #[inline(always)]
 pub(crate) fn begin<'a, S: ReaderSegments, T: BlockItem>(
     segments: &'a S,
@@ -87,7 +88,7 @@ pub(crate) fn begin<'a, S: ReaderSegments, T: BlockItem>(
     })
 }
 
-/// Begins the copy of a struct in the same way, which is whole where the pointers that it keeps are
+/// Begins the copy of a struct in the same way. It is whole where all pointers that it keeps are
 /// null.
 #[inline(always)]
 pub(crate) fn begin_struct<T: BlockItem>(

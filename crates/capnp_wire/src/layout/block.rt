@@ -1,4 +1,4 @@
-//! Words of a block, and of what is written into it.
+//! Words of a block, and what is written into it.
 ghost use Rattle.std.specs.Prelude.{◌≡◌, ℕ, List, ◌+◌, ◌-◌, ◌*◌, ◌^◌, ◌/◌, ◌%◌, ◌<◌, ◌≤◌, ◌∷◌, [], length, max, slice_get, Some};
 ghost use Rattle.capnp_frame.specs.Words.{bytes_of};
 ghost use Rattle.capnp_wire.specs.Pointer.{words_of, words_from};
@@ -13,7 +13,7 @@ use crate::layout::number_list::NumberList;
 use crate::layout::object::words_fit;
 use capnp_frame::Word;
 
-/// A word of a segment that is there.
+/// A word that a segment has.
 #[inline(always)]
 pub(crate) fn word_at(segment: &[u8], index: usize) -> u64
     requires { index < length segment.now / 8 }
@@ -46,7 +46,8 @@ impl BlockItem for u8 {
     }
 }
 
-// Copies bytes. A copy of a few words, whose number is known here, needs no call.
+// Copies bytes.
+// Speed: up to three words, whose number is known here, need no call (`tools/time-building`).
 #[inline(always)]
 fn copy_bytes(to: &mut [u8], bytes: &[u8])
     requires { length to.old ≡ length bytes.now }
@@ -66,7 +67,8 @@ fn copy_bytes(to: &mut [u8], bytes: &[u8])
     }
 }
 
-// The same in a call, which leaves registers to the loops that copy.
+// Copies more bytes.
+// Speed: it is a call, which leaves registers to the loops that copy (`tools/time-building`).
 #[inline(never)]
 fn copy_long(to: &mut [u8], bytes: &[u8])
     requires { length to.old ≡ length bytes.now }
@@ -106,7 +108,7 @@ pub(crate) fn put_word<T: BlockItem>(block: &mut [T], at: usize, word: u64)
     T::put_bytes(block, at, &word.to_le_bytes());
 }
 
-/// Puts a given number of words of a segment into a block.
+/// Puts this many words of a segment into a block.
 #[inline(always)]
 pub(crate) fn put_words<T: BlockItem>(
     block: &mut [T],
@@ -151,7 +153,7 @@ pub(crate) fn put_elements<T: BlockItem>(block: &mut [T], at: usize, list: &Numb
     }
 }
 
-/// How many of some words there are up to the last one that isn't zero.
+/// How many of these words there are up to the last one that isn't zero.
 #[inline(always)]
 pub(crate) fn used(segment: &[u8], start: usize, count: usize) -> usize
     requires { start + count ≤ length segment.now / 8 }
@@ -167,7 +169,7 @@ pub(crate) fn used(segment: &[u8], start: usize, count: usize) -> usize
     0
 }
 
-/// How many words are used in the one of some stretches of words that has most.
+/// The most words that one of some rows uses, up to its last word that isn't zero.
 pub(crate) fn most_used(segment: &[u8], start: usize, count: usize, step: usize, rows: u32) -> usize
     requires there { start + rows * step ≤ length segment.now / 8 + (step - count) }
     requires inside { count ≤ step }
@@ -181,7 +183,7 @@ pub(crate) fn most_used(segment: &[u8], start: usize, count: usize, step: usize,
     let mut most = 0;
     let mut row = start;
     'rows: for _row in 0..rows {
-        // None can need more, so the others need no look.
+        // Speed: no row can need more words, so the others aren't read (`tools/time-building`).
         if most == count {
             return count;
         }

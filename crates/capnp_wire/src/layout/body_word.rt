@@ -7,7 +7,7 @@ use crate::layout::object::Body;
 use crate::layout::pointer::StructSize;
 use crate::pointer_word::{list_word, struct_word};
 
-// The pointer word to a copy that begins a given number of words after it.
+// The pointer word to a copy that begins this many words after it.
 #[inline(always)]
 pub(crate) fn pointer_word(copied: Body, offset: u64) -> u64
     requires offset { offset < 2 ^ 29 }
@@ -22,7 +22,7 @@ pub(crate) fn pointer_word(copied: Body, offset: u64) -> u64
     }
 }
 
-// The pointer word to a struct: one without words seems to begin at its own pointer.
+// The pointer word to a struct. One of no words is said to begin at its own pointer.
 #[inline(always)]
 pub(crate) fn struct_pointer_word(size: StructSize, offset: u64) -> u64
     requires { offset < 2 ^ 29 }

@@ -1,4 +1,4 @@
-//! Walks that test whether objects stand as the canonical form has them.
+//! Walks that test whether objects are as the canonical form has them.
 ghost use Rattle.std.specs.Prelude.{◌≡◌, ◌≢◌, ◌↔◌, ◌+◌, ◌/◌, ◌^◌, ◌<◌, ◌≤◌, ℕ, [], ◌∷◌, length, slice_get, Option, Some, IfOk, IfErr, IsTrue, true, false};
 ghost use Rattle.capnp_wire.specs.Pointer.{words_of, pointer_kind};
 ghost use Rattle.capnp_wire.specs.Object.{message_of};
@@ -20,16 +20,16 @@ use crate::layout::walk::Walk;
 use capnp_frame::Result;
 use capnp_frame::message::ReaderSegments;
 
-/// A walk over the objects of a message of one segment, and the first word after those that it
-/// met.
+/// A walk over the objects of a message of one segment, and the first word after those that it has
+/// tested.
 #[derive(Drop)]
 pub(crate) struct CanonicalWalk {
     walk: Walk,
     next: usize,
 }
 
-/// What a pointer leads to: null, an object that doesn't stand as the canonical form has it, or one
-/// that does, by itself, with the pointers that are still to be tested.
+/// What a pointer leads to: null, an object that isn't as the canonical form has it, or one that is
+/// by itself, with the pointers that are still to be tested.
 #[derive(Drop)]
 pub(crate) enum Met {
     Null,
@@ -38,7 +38,7 @@ pub(crate) enum Met {
 }
 
 impl CanonicalWalk {
-    /// A walk that has met nothing: only the root pointer stands before the next free word.
+    /// A walk that begins: only the root pointer is before the next free word.
     pub(crate) fn new(limit: Option<usize>) -> CanonicalWalk
         ensures left { result.walk.left ≡ limit }
         ensures next { result.next ≡ 1 }
@@ -49,16 +49,16 @@ impl CanonicalWalk {
         }
     }
 
-    /// The first word after all objects that it has met.
+    /// The first word after all objects that were tested.
     pub(crate) fn next(&self) -> usize
         ensures { result ≡ self.now.next }
     {
         self.next
     }
 
-    /// Whether the object that the pointer at a word leads to, and all below it, stand as the
+    /// Whether the object that the pointer at a word leads to, and all below it, are as the
     /// canonical form has them, from the next free word on. It goes in preorder, and stops at the
-    /// first that doesn't, or at the first refusal.
+    /// first that isn't, or at the first error.
     #[inline(always)]
     #[cycle(testing)]
     pub(crate) fn test<S: ReaderSegments>(
@@ -86,7 +86,8 @@ impl CanonicalWalk {
             Met::Null => Ok(true),
             Met::NotCanonical => Ok(false),
             Met::Pointers(pointers) => {
-                // Most objects hold no pointers: only what holds some takes a call.
+                // Speed: most objects hold no pointers, and only what holds some takes a call
+                // (workload `canon`).
                 if pointers.is_empty() {
                     return Ok(true);
                 }
@@ -127,8 +128,8 @@ impl CanonicalWalk {
         Ok(true)
     }
 
-    // Enters the object that the pointer at a word leads to, and tests it by itself. What most pointers
-    // lead to is found in the segment in hand.
+    // Enters the object that the pointer at a word leads to, and tests it by itself.
+    // Speed: what most pointers lead to is found in the segment in hand (workload `canon`).
     #[inline(always)]
     fn meet<S: ReaderSegments>(
         &mut self,
@@ -160,7 +161,7 @@ impl CanonicalWalk {
         self.meet_object(segments, segment, pointer, word, nesting)
     }
 
-    // Goes to what a pointer leads to that isn't far, whatever it is.
+    // Goes to what a pointer leads to that isn't far, of any kind.
     #[inline(never)]
     fn meet_object<S: ReaderSegments>(
         &mut self,
@@ -185,7 +186,7 @@ impl CanonicalWalk {
         self.enter(segment, pointer, word, &object)
     }
 
-    // Enters an object, which the pointer at a word leads to, and tests it by itself.
+    // Enters an object that the pointer at a word leads to, and tests it by itself.
     #[inline(always)]
     fn enter(
         &mut self,
@@ -214,8 +215,9 @@ impl CanonicalWalk {
     }
 }
 
-/// Whether the one segment of a message is the canonical form of its root tree. It is a call, so that
-/// what has more segments is told from it by a few instructions.
+/// Whether the one segment of a message is the canonical form of its root tree.
+/// Speed: it is a call, so a few instructions tell that a message has more segments (workload
+/// `roots`).
 #[inline(never)]
 pub(crate) fn is_canonical<S: ReaderSegments>(
     segments: &S,
@@ -241,7 +243,7 @@ pub(crate) fn is_canonical<S: ReaderSegments>(
     Ok(passes && walk.next() == segment.len() / 8)
 }
 
-// Whether an object stands as the canonical form has it, by itself.
+// Whether an object by itself is as the canonical form has it.
 #[inline(always)]
 fn is_laid_out(segment: &[u8], pointer: u64, word: usize, next: usize, object: &Object<'_>) -> bool
     requires before { word < next }

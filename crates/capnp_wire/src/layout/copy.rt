@@ -22,7 +22,7 @@ pub struct Copied {
 }
 
 /// Copies the object that the pointer at a place leads to, with all below it, into a block from the
-/// word `next` on. The pointer to the copy stands just before the word `following`.
+/// word `next` on. The pointer to the copy is the word before `following`.
 #[inline(always)]
 pub(crate) fn copy<S: ReaderSegments, T: BlockItem>(
     segments: &S,
@@ -54,13 +54,14 @@ pub(crate) fn copy<S: ReaderSegments, T: BlockItem>(
                 segments, found, place, nesting, canonical, block, following, next,
             )
         }
-        // A tree stands at the place, and so in a segment.
+        // There is a tree at the place, so this can't be.
         None => Copied { pointer: 0, next },
     }
 }
 
-// The same from a segment in hand. What most pointers lead to needs no call. It stands in its callers,
-// since what it recurses by, `copy_object` and `copy_run`, are calls.
+// Copies from a segment in hand.
+// Speed: always inlined, so what most pointers lead to needs no call (workload `canon`); the
+// recursion goes through `copy_object` and `copy_run`, which are not.
 #[inline(always)]
 #[cycle(copy)]
 pub(crate) fn copy_target<S: ReaderSegments, T: BlockItem>(
@@ -133,7 +134,7 @@ pub(crate) fn copy_target<S: ReaderSegments, T: BlockItem>(
     }
 }
 
-// The same whatever the pointer leads to.
+// Copies what the pointer leads to, whatever it is.
 #[inline(never)]
 #[cycle(copy)]
 fn copy_object<S: ReaderSegments, T: BlockItem>(

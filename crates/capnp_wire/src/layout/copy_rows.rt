@@ -14,9 +14,9 @@ use crate::layout::place::Place;
 use crate::layout::row_pair::RowPair;
 use capnp_frame::message::ReaderSegments;
 
-/// Copies what the pointers of an object lead to, one after the other after its own copy, which
-/// begins at the word `next`, and puts the pointers to these copies into that. Returns the first
-/// free word.
+/// Copies what the pointers of an object lead to, one after the other after the object's own copy,
+/// which begins at the word `next`, and puts the pointers to these copies into that. Returns the
+/// first free word.
 #[inline(always)]
 #[cycle(copy)]
 pub(crate) fn copy_pointers<S: ReaderSegments, T: BlockItem>(
@@ -72,8 +72,8 @@ pub(crate) fn copy_pointers<S: ReaderSegments, T: BlockItem>(
     )
 }
 
-/// Copies what these pointers of a segment lead to, one after the other from the word `next` on, and
-/// puts the pointers to these copies into their slots. Returns the first free word.
+/// Copies what these pointers of a segment lead to, one after the other from the word `next` on,
+/// and puts the pointers to these copies into their slots. Returns the first free word.
 #[inline(always)]
 #[cycle(copy)]
 pub(crate) fn copy_rows<S: ReaderSegments, T: BlockItem>(
@@ -111,8 +111,8 @@ pub(crate) fn copy_rows<S: ReaderSegments, T: BlockItem>(
     free
 }
 
-// As `copy_rows`, of a given number of pointers that stand one after the other, as their copies do.
-// All that it is told fits registers.
+// Copies what this many pointers lead to that are one after the other, as their slots are.
+// Speed: the arguments fit in registers (`tools/time-building`).
 #[inline(never)]
 #[cycle(copy)]
 pub(crate) fn copy_run<S: ReaderSegments, T: BlockItem>(

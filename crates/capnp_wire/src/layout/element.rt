@@ -2,7 +2,7 @@
 ghost use Rattle.std.specs.Prelude.{◌≡◌, ◌*◌, ◌/◌, ◌%◌, ◌^◌, ◌<◌};
 ghost use Rattle.capnp_wire.specs.Element.{code_of, width, words_for};
 
-/// How many bits an element of a list of numbers has.
+/// The size of the elements of a list of numbers, in bits.
 #[derive(Clone, Copy, Debug, PartialEq, Eq)]
 pub enum ElementSize {
     Void,
@@ -44,7 +44,7 @@ impl ElementSize {
         }
     }
 
-    /// The bits of a given number of elements.
+    /// The bits of this many elements.
     pub(crate) fn bits_of_list(self, count: u32) -> u64
         ensures bits { result ≡ count * width (code_of self) }
         ensures bound { result < 2 ^ 39 }
@@ -52,21 +52,21 @@ impl ElementSize {
         count as u64 * self.bits()
     }
 
-    /// The words of a list of a given number of elements.
+    /// The words of a list of this many elements.
     pub fn words_of_list(self, count: u32) -> u64
         ensures { result ≡ words_for count (width (code_of self)) }
     {
         self.bits_of_list(count).div_ceil(64)
     }
 
-    /// The word in which an element of a list stands, counted from the first one.
+    /// The word of the list that holds an element, counted from 0.
     pub(crate) fn word_of(self, index: u32) -> u64
         ensures { result ≡ width (code_of self) * index / 64 }
     {
         self.bits() * index as u64 / 64
     }
 
-    /// The bits of an element of a list, from the word in which it stands.
+    /// The bits of an element, from the word that holds it.
     pub(crate) fn in_word(self, word: u64, index: u32) -> u64
         ensures { result ≡ word / 2 ^ (width (code_of self) * index % 64) % 2 ^ width (code_of self) }
     {

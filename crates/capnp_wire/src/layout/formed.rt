@@ -1,4 +1,4 @@
-//! Objects as they stand, or without what stands at their ends for nothing.
+//! Object sizes as stored, or truncated for the canonical form (trailing zero words dropped).
 ghost use Rattle.std.specs.Prelude.{◌≡◌, if◌then◌else◌, ◌+◌, ◌*◌, ◌/◌, ◌≤◌, length};
 ghost use Rattle.capnp_wire.specs.Pointer.{words_of};
 ghost use Rattle.capnp_wire.specs.Landing.{room_of, words_in};
@@ -8,8 +8,7 @@ use crate::layout::block::most_used;
 use crate::layout::object::{Body, Object};
 use crate::layout::pointer::{Elements, StructSize};
 
-// What an object is once it is copied: in canonical form without what stands at the ends for
-// nothing.
+// The body of an object once it is copied: in canonical form without its trailing zero words.
 #[inline(always)]
 pub(crate) fn formed_as(object: &Object<'_>, canonical: bool) -> Body
     requires room { object.now.start.word + room_of object.now.body
@@ -39,7 +38,8 @@ pub(crate) fn formed_as(object: &Object<'_>, canonical: bool) -> Body
     }
 }
 
-/// The words that some structs need which stand from a word on: in canonical form, or all.
+/// The size that some structs need, which follow one another from a word on: in canonical form, or
+/// all.
 #[inline(always)]
 pub(crate) fn formed_size(
     segment: &[u8],

@@ -14,8 +14,7 @@ use crate::layout::pointer::{FarPointer, NearPointer, NearShape, PointerWord};
 use capnp_frame::message::ReaderSegments;
 use capnp_frame::{Error, ErrorKind, Result};
 
-/// Where an object begins, if its pointer doesn't lead to before the segment, and what its tag
-/// says.
+/// Where an object begins, unless its pointer leads to before the segment, and what its tag says.
 #[derive(Drop)]
 pub(crate) struct Landing<'a> {
     pub segment: &'a [u8],
@@ -51,7 +50,7 @@ pub(crate) fn land<'a, S: ReaderSegments>(
     }
 }
 
-/// Where a struct or list pointer leads that stands at a place of this segment.
+/// Where a struct or list pointer at a place of this segment leads.
 #[inline(always)]
 pub(crate) fn land_near(
     segment: &[u8],
@@ -117,7 +116,7 @@ fn land_wide<S: ReaderSegments>(segments: &S, first: u64, tag: u64) -> Result<La
     })
 }
 
-// What the first word of a landing pad of two words says: where the content is.
+// Where the content is, by the first word of a landing pad of two words.
 fn content_pointer(first: u64) -> Result<Place>
     ensures { let is_far = λ (far : FarPointer). IsFarPointer first far × (far.is_wide ≡ false) in
         MatchResult result (λ place. (far : FarPointer) × is_far far × (place ≡ far.landing_pad))
@@ -130,7 +129,7 @@ fn content_pointer(first: u64) -> Result<Place>
     }
 }
 
-// A struct or list pointer.
+// A word that is a struct or list pointer.
 fn near_pointer(word: u64) -> Result<NearPointer>
     ensures found { IfOk result (λ near. IsNear word near) }
     ensures refused { IfErr result (λ error. NotNear word error.kind) }

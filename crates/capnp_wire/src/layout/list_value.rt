@@ -20,8 +20,8 @@ use crate::pointer_word::list_word;
 use capnp_frame::Result;
 use capnp_frame::message::ReaderSegments;
 
-/// The words of a list of pointers with all below it, after its pointer, as it stands or in canonical
-/// form.
+/// The words of a list of pointers with all below it, after its pointer, as it stands or in
+/// canonical form.
 pub(crate) fn measure<S: ReaderSegments>(
     segments: &S,
     first: Place,
@@ -68,8 +68,8 @@ fn walk_list<S: ReaderSegments>(
     walk.walk_pointers(segments, segment, pointers, nesting, canonical)
 }
 
-/// Writes the words of a list of pointers with all below it into a block, from the word `next` on. The
-/// pointer to it stands just before the word `following`.
+/// Writes the words of a list of pointers with all below it into a block, from the word `next` on.
+/// The pointer to it is the word before `following`.
 pub(crate) fn write<S: ReaderSegments>(
     segments: &S,
     first: Place,
@@ -101,7 +101,7 @@ pub(crate) fn write<S: ReaderSegments>(
                 segments, segment, first, count, nesting, canonical, block, next, end,
             ),
         },
-        // A tree stands at each pointer, and so in a segment: the list has none.
+        // There is a tree at each pointer, and so a segment: the list has no pointers.
         None => Copied { pointer, next: end },
     }
 }

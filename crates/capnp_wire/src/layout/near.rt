@@ -1,4 +1,4 @@
-//! The short ways: to null, to a struct and to a list of numbers or pointers in the segment of their
+//! Fast paths: to null, to a struct, and to a list of numbers or pointers in the segment of their
 //! pointer.
 ghost use Rattle.std.specs.Prelude.{◌≡◌, ◌⊎◌, ◌↔◌, ℕ, List, ◌+◌, ◌/◌, ◌^◌, ◌<◌, ◌≤◌, length, Some, slice_get, IfSome, IsTrue};
 ghost use Rattle.capnp_wire.specs.Pointer.{words_of, pointer_kind, code};
@@ -19,18 +19,19 @@ use crate::layout::pointer::{NearShape, PointerWord, StructSize};
 use crate::layout::pointer_run::PointerRun;
 use crate::layout::rows::PointerRows;
 
-// Most pointers of most messages are null, or lead to structs, to lists of numbers, which hold no
-// pointers, or to lists of pointers. So what goes over many of them asks here first, of the segment
-// that it has in hand: it then needs no call for a pointer, and what it meets holds at most one run of
-// pointers. Copies always ask for lists of pointers, walks at the root alone, since in their loops one
-// more short way is dearer than the calls that it saves, and tests for canonical form never.
+// Speed: most pointers of most messages are null, or lead to structs, to lists of numbers, or to
+// lists of pointers. What goes over many of them asks here first, of the segment in hand: then a
+// pointer needs no call, and what it leads to holds at most one run of pointers (workload `canon`,
+// `tools/time-building`). Copies always ask for lists of pointers, walks only at the root, since
+// one more fast path in their loops costs more than the calls that it saves, and tests for
+// canonical form never.
 
-// The pointer to a struct of no words, with the offset -1: the struct begins where its pointer does.
+// The pointer to a struct of no words, with the offset -1: the struct begins at its pointer.
 const EMPTY_STRUCT: u64 = 0xffff_fffc;
 
 /// The pointer at a word of a segment, where it is null, or `EMPTY_STRUCT` and that struct may be
-/// entered at this nesting depth left. Other words may lead to structs of no words, too:
-/// `near_struct` finds them.
+/// entered at this nesting depth. Other words may lead to structs of no words, too: `near_struct`
+/// finds these.
 #[inline(always)]
 pub(crate) fn bare_pointer(segment: &[u8], index: usize, nesting: u32) -> Option<u64>
     ensures { IfSome result (λ pointer. (slice_get (words_of segment.now) index ≡ Some pointer)
@@ -43,7 +44,7 @@ pub(crate) fn bare_pointer(segment: &[u8], index: usize, nesting: u32) -> Option
     None
 }
 
-/// Whether a pointer is null, or of a kind to which there is a short way.
+/// Whether a pointer is null, or of a kind for which there is a fast path.
 #[inline(always)]
 pub(crate) fn has_short_way(pointer: u64) -> bool
     ensures { IsTrue result ↔ ((pointer_kind pointer ≡ 0) ⊎ ((pointer_kind pointer ≡ 1)
@@ -53,8 +54,8 @@ pub(crate) fn has_short_way(pointer: u64) -> bool
 }
 
 /// The list of numbers that the pointer at a place of this segment leads to without a landing pad,
-/// where it may be entered at this nesting depth left. `None` says nothing of what stands there:
-/// `object_in` does.
+/// where it may be entered at this nesting depth. `None` doesn't tell what is there: `object_in`
+/// does.
 #[inline(always)]
 pub(crate) fn near_list(segment: &[u8], place: Place, nesting: u32) -> Option<NumberList<'_>>
     ensures { (m : List (List ℕ)) → slice_get m place.segment ≡ Some (words_of segment.now) →
@@ -169,7 +170,7 @@ impl<'a> NearStruct<'a> {
         }
     }
 
-    /// The words of it once it is copied.
+    /// The size of its copy.
     #[inline(always)]
     pub(crate) fn formed(&self, canonical: bool) -> StructSize
         requires room { self.now.start.word + (self.now.size.data_words + self.now.size.pointers)
@@ -181,7 +182,7 @@ impl<'a> NearStruct<'a> {
         formed_size(self.segment, self.start.word, self.size, 1, canonical)
     }
 
-    /// Where the first of its pointers stands, if it has one.
+    /// The place of its first pointer, if it has one.
     #[inline(always)]
     pub(crate) fn first_pointer(&self) -> Place
         requires room { self.now.start.word + (self.now.size.data_words + self.now.size.pointers)
@@ -214,7 +215,7 @@ impl<'a> NearStruct<'a> {
         }
     }
 
-    /// Whether its first pointers are null, a given number of them.
+    /// Whether its first `count` pointers are null.
     #[inline(always)]
     pub(crate) fn holds_nulls(&self, count: u16) -> bool
         requires room { self.now.start.word + (self.now.size.data_words + self.now.size.pointers)
@@ -244,7 +245,7 @@ impl<'a> NumberList<'a> {
 }
 
 impl<'a> PointerRun<'a> {
-    /// These pointers, which a walk has yet to meet.
+    /// These pointers, for a walk.
     #[inline(always)]
     pub(crate) fn rows(&self) -> PointerRows
         ensures places { places_in result

@@ -14,13 +14,13 @@ pub(crate) struct NumberList<'a> {
     pub start: Place,
     pub size: ElementSize,
     pub count: u32,
-    /// The bits of all elements. What follows from them need not tell the sizes apart again.
+    /// The bits of all elements, so that their size need not be looked at again.
     pub bits: u64,
     ghost bits_are: { bits ≡ count * width (code_of size) },
 }
 
 impl NumberList<'_> {
-    /// The words of it.
+    /// Its words.
     #[inline(always)]
     pub(crate) fn words(&self) -> u64
         ensures { result ≡ words_for self.now.count (width (code_of self.now.size)) }

@@ -1,4 +1,4 @@
-//! From a place to the object its pointer leads to: nesting depth left, bounds, and a list's tag.
+//! From a place to the object that its pointer leads to: nesting depth, bounds, and list tags.
 ghost use Rattle.std.specs.Prelude.{◌≡◌, ◌↔◌, ◌+◌, ◌/◌, ◌^◌, ◌<◌, ◌≤◌, ℕ, [], ◌∷◌, All, length, slice_get, Some, None, IfOk, IfErr, MatchOption, MatchResult, IsTrue};
 ghost use Rattle.capnp_frame.specs.declared.error.ErrorKind.{ErrorKind};
 ghost use Rattle.capnp_wire.specs.Pointer.{words_of};
@@ -21,14 +21,14 @@ use crate::layout::rows::PointerRows;
 use capnp_frame::message::ReaderSegments;
 use capnp_frame::{Error, ErrorKind, Result};
 
-/// What stands at the end of a pointer.
+/// What a pointer leads to.
 #[derive(Drop)]
 pub(crate) struct Object<'a> {
     pub segment: &'a [u8],
     pub start: Place,
     pub body: Body,
-    /// The words that a reader counts against the traversal limit for it, those of landing pads
-    /// among them.
+    /// The words that a reader counts against the traversal limit for it, with those of landing
+    /// pads.
     pub traversed: u64,
 }
 
@@ -38,12 +38,12 @@ pub(crate) enum Body {
     Struct(StructSize),
     Numbers(ElementSize, u32),
     Pointers(u32),
-    /// The elements, and the words after their tag.
+    /// The elements, and how many words follow their tag.
     Structs(Elements, u32),
 }
 
-/// The object that the pointer at a place leads to, where it may be entered at this nesting depth
-/// left; `None` for null.
+/// The object that the pointer at a place leads to, where it may be entered at this nesting depth;
+/// `None` for null.
 #[inline(always)]
 pub(crate) fn object_at<S: ReaderSegments>(
     segments: &S,
@@ -60,7 +60,7 @@ pub(crate) fn object_at<S: ReaderSegments>(
     object_in(segments, segment, place, nesting)
 }
 
-/// The same where the segment of the pointer is in hand.
+/// The same from the segment of the pointer, which is in hand.
 #[inline(always)]
 pub(crate) fn object_in<'a, S: ReaderSegments>(
     segments: &'a S,
@@ -98,8 +98,8 @@ pub(crate) fn object_in<'a, S: ReaderSegments>(
     }))
 }
 
-/// The object that the pointer at a place of this segment leads to, where a tree stands there; `None`
-/// for null.
+/// The object that the pointer at a place of this segment leads to, where a tree stands there;
+/// `None` for null.
 #[inline(always)]
 pub(crate) fn object_there<'a, S: ReaderSegments>(
     segments: &'a S,
@@ -122,13 +122,13 @@ pub(crate) fn object_there<'a, S: ReaderSegments>(
     }
 }
 
-/// The words of a segment are words, and as few as memory has.
+/// The words of a segment are words, and no more than memory has.
 pub(crate) fn words_fit(segment: &[u8])
     ensures words { All (λ w. w < 2 ^ 64) (words_of segment.now) }
     ensures length { length segment.now < 2 ^ 64 }
 {}
 
-// What stands at a word of a segment, as its pointer says.
+// What is at a word of a segment, by its pointer.
 #[inline(always)]
 fn body_at(segment: &[u8], start: usize, shape: NearShape) -> Result<Body>
     ensures found { let words = words_of segment.now in
@@ -157,7 +157,7 @@ fn body_at(segment: &[u8], start: usize, shape: NearShape) -> Result<Body>
     }
 }
 
-// A list of structs at a word of a segment, with a given number of words after its tag.
+// A list of structs at a word of a segment, with this many words after its tag.
 fn structs(segment: &[u8], start: usize, words: u32) -> Result<Body>
     ensures found { let words_there = words_of segment.now in
         IfOk result (λ body. (tag number : ℕ) → IsNearShape tag (NearShape.Structs words) →
@@ -179,7 +179,7 @@ fn structs(segment: &[u8], start: usize, words: u32) -> Result<Body>
     Ok(Body::Structs(elements, words))
 }
 
-// Refuses words from a start on that do not lie within a segment.
+// Fails with `PointerOutOfBounds` where words from a start on don't lie within a segment.
 #[inline(always)]
 fn expect_room(segment: &[u8], start: usize, words: u64) -> Result<()>
     ensures { let there = length segment.now / 8 in
@@ -192,7 +192,7 @@ fn expect_room(segment: &[u8], start: usize, words: u64) -> Result<()>
     Ok(())
 }
 
-/// Whether some words from a start on lie within a segment.
+/// Whether words from a start on lie within a segment.
 #[inline(always)]
 pub(crate) fn fits(segment: &[u8], start: usize, words: u64) -> bool
     ensures { IsTrue result ↔ (start + words ≤ length segment.now / 8) }
@@ -240,7 +240,7 @@ impl Body {
         }
     }
 
-    /// The words of it, of a list of structs its tag and its elements.
+    /// Its words, for a list of structs the tag and the elements.
     #[inline(always)]
     pub(crate) fn words(self) -> u64
         ensures { result ≡ words_in self }

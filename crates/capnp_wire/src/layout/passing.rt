@@ -1,4 +1,4 @@
-//! What a walk meets at one pointer, and does not go below.
+//! What a walk does at one pointer, without going below.
 ghost use Rattle.std.specs.Prelude.{◌≡◌, ◌+◌, ◌/◌, ◌<◌, ◌≤◌, Bool, ℕ, List, [], ◌∷◌, length, slice_get, Some, IfErr, IfOk, OnOk, MatchOption, IsTrue};
 ghost use Rattle.capnp_wire.specs.Pointer.{words_of};
 ghost use Rattle.capnp_wire.specs.Object.{message_of};
@@ -17,8 +17,8 @@ use capnp_frame::Result;
 use capnp_frame::message::ReaderSegments;
 
 impl Walk {
-    /// Enters the object that the pointer at a place of this segment leads to, and nothing below it;
-    /// `None` for null.
+    /// Enters the object that the pointer at a place of this segment leads to, and nothing below
+    /// it; `None` for null.
     #[inline(always)]
     pub(crate) fn meet<'a, S: ReaderSegments>(
         &mut self,
@@ -46,7 +46,7 @@ impl Walk {
         Ok(Some(object))
     }
 
-    /// Enters a struct, and returns whether it holds no others.
+    /// Enters a struct, and returns whether all its pointers are null.
     #[inline(always)]
     pub(crate) fn pass_struct(&mut self, found: &NearStruct<'_>, canonical: bool) -> Result<bool>
         requires room { found.now.start.word + (found.now.size.data_words + found.now.size.pointers)
@@ -66,7 +66,7 @@ impl Walk {
         Ok(found.holds_nulls(found.size.pointers))
     }
 
-    /// Goes over a list of numbers, which holds none.
+    /// Enters a list of numbers, which holds no pointers.
     #[inline(always)]
     pub(crate) fn pass_list(&mut self, list: &NumberList<'_>) -> Result<()>
         ensures found { (m : List (List ℕ)) (canonical : Bool) (place : Place) (nesting : ℕ) →

@@ -1,4 +1,4 @@
-//! Places of words in a message, and what stands there.
+//! Places of words in a message, and what is there.
 ghost use Rattle.std.specs.Prelude.{◌≡◌, ◌/◌, ◌^◌, ◌<◌, length, slice_get, Some, None, OnSome, MatchResult};
 ghost use Rattle.capnp_frame.specs.declared.error.ErrorKind.{ErrorKind};
 ghost use Rattle.capnp_wire.specs.Pointer.{words_of};
@@ -8,12 +8,12 @@ ghost use Rattle.capnp_wire.specs.Faults.{NoWord};
 use capnp_frame::message::ReaderSegments;
 use capnp_frame::{Error, ErrorKind, Result};
 
-/// Where a word of a message stands.
+/// The place of a word in a message.
 #[derive(Clone, Copy, Debug, PartialEq, Eq)]
 pub struct Place {
-    /// The number of the segment, from 0 on.
+    /// The number of the segment, from 0.
     pub segment: u32,
-    /// How many words of the segment stand before it.
+    /// How many words of the segment are before it.
     pub word: usize,
 }
 
@@ -28,7 +28,7 @@ pub(crate) fn pointer_at<S: ReaderSegments>(segments: &S, place: Place) -> Resul
     Ok(word)
 }
 
-/// A segment of a message.
+/// A segment of a message. Fails with `InvalidSegmentId` where there is none.
 #[inline(always)]
 pub(crate) fn segment<S: ReaderSegments>(segments: &S, number: u32) -> Result<&[u8]>
     ensures { let found = slice_get (S.segments segments.now) number in
@@ -41,7 +41,7 @@ pub(crate) fn segment<S: ReaderSegments>(segments: &S, number: u32) -> Result<&[
     }
 }
 
-/// A word that a segment has to have.
+/// A word of a segment. Fails with `PointerOutOfBounds` where there is none.
 #[inline(always)]
 pub(crate) fn existing_word(segment: &[u8], index: usize) -> Result<u64>
     ensures { let found = slice_get (words_of segment.now) index in
@@ -54,7 +54,7 @@ pub(crate) fn existing_word(segment: &[u8], index: usize) -> Result<u64>
     }
 }
 
-/// A word of a segment.
+/// A word of a segment; `None` past its last.
 #[inline(always)]
 pub(crate) fn word(segment: &[u8], index: usize) -> Option<u64>
     ensures value { result ≡ slice_get (words_of segment.now) index }

@@ -6,12 +6,12 @@ ghost use Rattle.capnp_wire.specs.PointerWord.{IsPointerWord, IsNearShape, IsEle
 use crate::layout::element::ElementSize;
 use crate::layout::place::Place;
 
-/// What a word says that isn't null.
+/// What a word says that isn't a null pointer.
 #[derive(Clone, Copy)]
 pub(crate) enum PointerWord {
     Near(NearPointer),
     Far(FarPointer),
-    /// A capability, or what else there may be one day.
+    /// A capability, or a kind that isn't defined yet.
     Other,
 }
 
@@ -22,7 +22,7 @@ pub(crate) struct NearPointer {
     pub shape: NearShape,
 }
 
-/// A number of words with a sign, in 30 bits.
+/// A signed number of words, in 30 bits.
 #[derive(Clone, Copy)]
 pub(crate) struct Offset(pub u32);
 
@@ -30,21 +30,21 @@ pub(crate) struct Offset(pub u32);
 #[derive(Clone, Copy)]
 pub enum NearShape {
     Struct(StructSize),
-    /// A list of numbers, by their size and how many they are.
+    /// A list of numbers: their size, and how many they are.
     Numbers(ElementSize, u32),
-    /// A list of pointers, by how many they are.
+    /// A list of pointers: how many they are.
     Pointers(u32),
-    /// A list of structs, by the words of its elements.
+    /// A list of structs: how many words its elements have.
     Structs(u32),
 }
 
-/// The words of a struct.
+/// The size of a struct, in words.
 #[derive(Clone, Copy)]
 pub struct StructSize {
-    /// Those of its data section.
+    /// The words of its data section.
     pub data_words: u16,
 
-    /// Those of its pointer section.
+    /// The words of its pointer section.
     pub pointers: u16,
 }
 
@@ -62,8 +62,9 @@ pub(crate) struct FarPointer {
     pub is_wide: bool,
 }
 
-// All of these stand where they are called. Most have a few instructions; `PointerWord::read` and
-// `list_shape` would return by memory, stored in parts and loaded in others, for which a processor waits.
+// Speed: all of these are inlined. Most have a few instructions; `PointerWord::read` and
+// `list_shape` would return by memory, stored in parts and loaded in others, for which a processor
+// waits (workloads `log`, `far`).
 
 impl PointerWord {
     #[inline(always)]
@@ -99,7 +100,8 @@ impl Offset {
         Offset((word / 4 % (1 << 30)) as u32)
     }
 
-    /// The word at which the target of a pointer begins that stands at a word of the same segment.
+    /// The word at which the target of a pointer begins, where the pointer is at a word of the same
+    /// segment.
     #[inline(always)]
     pub(crate) fn target(self, word: usize) -> Option<usize>
         requires bits { self.0 < 2 ^ 30 }
@@ -138,7 +140,7 @@ impl StructSize {
 }
 
 impl Elements {
-    /// What the tag in front of the elements says; `None` where it isn't shaped like a struct
+    /// What the tag before the elements says; `None` where it isn't of the shape of a struct
     /// pointer.
     #[inline(always)]
     pub(crate) fn read(tag: u64) -> Option<Elements>
@@ -164,7 +166,7 @@ impl Elements {
     }
 }
 
-// What a list pointer leads to.
+// What a word says that is a list pointer.
 #[inline(always)]
 fn list_shape(word: u64) -> NearShape
     requires { pointer_kind word ≡ 1 }

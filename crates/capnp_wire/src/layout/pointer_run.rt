@@ -1,10 +1,9 @@
-//! Pointers that stand one after the other.
+//! Pointers that follow one another.
 ghost use Rattle.std.specs.Prelude.{◌+◌, ◌^◌, ◌<◌};
 
 use crate::layout::place::Place;
 
-/// A given number of pointers that stand one after the other in a segment: those of a struct, or a
-/// list of pointers.
+/// Some pointers that follow one another in a segment: those of a struct, or a list of pointers.
 #[derive(Drop)]
 pub(crate) struct PointerRun<'a> {
     pub segment: &'a [u8],

@@ -42,7 +42,7 @@ impl RowPair {
         RowPair { from, to }
     }
 
-    /// A given number of pointers, one after the other, as their slots are.
+    /// Some pointers that follow one another, as their slots do.
     #[inline(always)]
     pub(crate) fn run(first: Place, count: u32, slot: usize) -> RowPair
         requires there { first.word + count < 2 ^ 61 }
@@ -59,7 +59,7 @@ impl RowPair {
         RowPair { from, to }
     }
 
-    /// The pointers that copies of structs keep: those of structs of a size that begin at a place, and
+    /// The pointers that copies of structs keep, by the first of these structs and their size, and
     /// their slots in the copies, which begin at a word of a block.
     #[inline(always)]
     pub(crate) fn elements(first: Place, size: StructSize, kept: Elements, slots: usize) -> RowPair
@@ -90,7 +90,7 @@ impl RowPair {
         self.from.is_empty()
     }
 
-    /// Where the next pointer stands, and its slot, which are not left then.
+    /// Takes the next pointer: its place, and its slot.
     #[inline(always)]
     pub(crate) fn take(&mut self) -> (Place, usize)
         requires some { places_in self.old.from ≢ [] }

@@ -1,4 +1,4 @@
-//! The pointers of an object, in rows: a given number in each, after the data of the row.
+//! The pointers of an object, in rows: as many in each, after the data of the row.
 ghost use Rattle.std.specs.Prelude.{◌≡◌, ◌≢◌, ◌↔◌, ◌+◌, ◌*◌, ◌^◌, ◌<◌, ◌≤◌, [], IsTrue};
 
 use crate::layout::object::Body;
@@ -12,11 +12,11 @@ pub(crate) struct RowSize {
     pub pointers: u32,
 }
 
-/// The pointers that a walk over an object has yet to meet. Where the rows have none, nothing is
-/// left, however many rows there are.
+/// The pointers that a walk over an object has not come to yet. Where the rows have none, nothing
+/// is left, however many rows there are.
 #[derive(Drop)]
 pub(crate) struct PointerRows {
-    /// Where the next pointer stands.
+    /// The place of the next pointer.
     next: Place,
     /// How many pointers are left in its row.
     here: u32,
@@ -68,7 +68,7 @@ impl Body {
         }
     }
 
-    // How many rows it has.
+    // The number of its rows.
     #[inline(always)]
     fn row_count(self) -> u32
         ensures { result ≡ row_count self }
@@ -81,7 +81,7 @@ impl Body {
         }
     }
 
-    // The word of its first row, where it begins at a word.
+    // The word of its first row, where the object begins at a word.
     #[inline(always)]
     fn first_row(self, start: usize) -> usize
         requires { start < 2 ^ 62 }
@@ -154,7 +154,7 @@ impl PointerRows {
         }
     }
 
-    /// A given number of pointers, one after the other.
+    /// Some pointers that follow one another.
     #[inline(always)]
     pub(crate) fn run(first: Place, count: u32) -> PointerRows
         requires bound { first.word + count < 2 ^ 61 }
@@ -180,7 +180,7 @@ impl PointerRows {
         self.here == 0 && self.more == 0
     }
 
-    /// Where the next pointer stands, which is not left then.
+    /// Takes the next pointer: its place.
     #[inline(always)]
     pub(crate) fn take(&mut self) -> Place
         requires { places_in self.old ≢ [] }

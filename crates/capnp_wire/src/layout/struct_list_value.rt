@@ -24,8 +24,8 @@ use crate::pointer_word::{list_word, struct_word};
 use capnp_frame::Result;
 use capnp_frame::message::ReaderSegments;
 
-/// The words of a list of structs with all below it, after its pointer, as it stands or in canonical
-/// form. The elements begin at a place of a segment.
+/// The words of a list of structs with all below it, after its pointer, as it stands or in
+/// canonical form. The elements begin at a place of a segment.
 pub(crate) fn measure<S: ReaderSegments>(
     segments: &S,
     segment: &[u8],
@@ -58,8 +58,8 @@ pub(crate) fn measure<S: ReaderSegments>(
     fitting(walk.words(), canonical)
 }
 
-/// Writes the words of a list of structs with all below it into a block, from the word `next` on. The
-/// pointer to it stands just before the word `following`.
+/// Writes the words of a list of structs with all below it into a block, from the word `next` on.
+/// The pointer to it is the word before `following`.
 pub(crate) fn write<S: ReaderSegments>(
     segments: &S,
     segment: &[u8],
@@ -103,8 +103,8 @@ pub(crate) fn write<S: ReaderSegments>(
     }
 }
 
-// The elements once they are copied: in canonical form without what stands at the ends of all for
-// nothing.
+// The elements once they are copied: in canonical form without trailing words that are zero in all
+// of them.
 fn kept_elements(segment: &[u8], first: Place, elements: Elements, canonical: bool) -> Elements
     requires { first.word + elements.count * (elements.size.data_words + elements.size.pointers)
         ≤ length segment.now / 8 }

@@ -51,8 +51,8 @@ pub(crate) fn measure<S: ReaderSegments>(
     fitting(walk.words(), canonical)
 }
 
-/// Writes the words of a struct with all below it into a block, from the word `next` on. The pointer
-/// to it stands just before the word `following`.
+/// Writes the words of a struct with all below it into a block, from the word `next` on. The
+/// pointer to it is the word before `following`.
 pub(crate) fn write<S: ReaderSegments>(
     segments: &S,
     segment: &[u8],

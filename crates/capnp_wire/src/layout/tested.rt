@@ -56,7 +56,7 @@ fn ends_full(segment: &[u8], start: usize, count: usize) -> bool
     count == 0 || is_set(segment, start + count - 1)
 }
 
-// Whether one of some words that stand so far apart is not zero.
+// Whether one of some words, this far from one another, is not zero.
 fn some_is_set(segment: &[u8], first: usize, apart: usize, count: u32) -> bool
     requires within { (i : ℕ) → i < count → first + i * apart < length segment.now / 8 }
     requires apart { apart < 2 ^ 32 }
@@ -73,7 +73,7 @@ fn some_is_set(segment: &[u8], first: usize, apart: usize, count: u32) -> bool
     false
 }
 
-// Whether the elements of a list of structs, from a word on, need all their words of data.
+// Whether the elements of a list of structs, from a word on, need all their data words.
 fn need_data(segment: &[u8], first: usize, elements: Elements) -> bool
     requires { first + elements.count * (elements.size.data_words + elements.size.pointers)
         ≤ length segment.now / 8 }
@@ -86,7 +86,7 @@ fn need_data(segment: &[u8], first: usize, elements: Elements) -> bool
     data_words == 0 || some_is_set(segment, first + data_words - 1, apart, elements.count)
 }
 
-// Whether they need all their pointers.
+// Whether these elements need all their pointers.
 fn need_pointers(segment: &[u8], first: usize, elements: Elements) -> bool
     requires { first + elements.count * (elements.size.data_words + elements.size.pointers)
         ≤ length segment.now / 8 }
@@ -100,7 +100,7 @@ fn need_pointers(segment: &[u8], first: usize, elements: Elements) -> bool
     pointers == 0 || some_is_set(segment, first + apart - 1, apart, elements.count)
 }
 
-/// Whether the sizes of an object are those that its words need.
+/// Whether an object has no trailing words that the canonical form leaves out.
 #[inline(always)]
 pub(crate) fn is_tight(object: &Object<'_>) -> bool
     requires room { object.now.start.word + room_of object.now.body
@@ -126,7 +126,7 @@ pub(crate) fn is_tight(object: &Object<'_>) -> bool
     }
 }
 
-// Whether the bits after the elements of a list of numbers are zero, in its last word.
+// Whether the bits after the elements of a list of numbers, in its last word, are zero.
 #[inline(always)]
 fn is_padded(segment: &[u8], start: usize, size: ElementSize, count: u32) -> bool
     requires { start < 2 ^ 62 }
@@ -145,7 +145,7 @@ fn is_padded(segment: &[u8], start: usize, size: ElementSize, count: u32) -> boo
     }
 }
 
-/// Whether an object that starts at a word is padded by zeros.
+/// Whether an object that begins at a word is padded with zeros.
 #[inline(always)]
 pub(crate) fn body_is_padded(segment: &[u8], start: usize, body: Body) -> bool
     requires { start < 2 ^ 62 }

@@ -1,4 +1,5 @@
-//! Trees of a message as values that are measured, and lists of bytes and of numbers, which are written too.
+//! Trees of a message as values that are measured, and lists of bytes and of numbers, which are
+//! written too.
 ghost use Rattle.std.specs.Prelude.{◌≡◌, ◌<◌, ◌≤◌, ◌+◌, ◌-◌, ◌++◌, ◌*◌, ◌/◌, ◌^◌, ℕ, All, [], ◌∷◌, length, min, MatchResult};
 ghost use Rattle.capnp_wire.specs.Pointer.{digits, number_of, words_of};
 ghost use Rattle.capnp_wire.specs.Element.{code_of, width, words_for};
@@ -37,7 +38,8 @@ pub(crate) fn measure<S: ReaderSegments>(
     fitting(walk.words(), canonical)
 }
 
-/// A number of words that a block may have.
+/// Words that a block may have. Fails for 2^29 and more with `AllocationTooLarge`, in canonical
+/// form with `CanonicalTooLarge`.
 pub(crate) fn fitting(words: Option<u64>, canonical: bool) -> Result<u32>
     ensures { (counted : ℕ) → Counts words counted → MatchResult result
         (λ number. (number ≡ counted) × (number < 2 ^ 29))
@@ -53,7 +55,7 @@ pub(crate) fn fitting(words: Option<u64>, canonical: bool) -> Result<u32>
     Err(too_many(words))
 }
 
-// The refusal of a block of too many words, which it tells as far as 32 bits hold them.
+// The error for a block of too many words, which it tells as far as 32 bits hold them.
 fn too_many(words: u64) -> Error
     ensures { result.kind ≡ ErrorKind.AllocationTooLarge (min words (2 ^ 32 - 1)) }
 {
@@ -96,7 +98,7 @@ pub(crate) fn write_bytes(bytes: &[u8], block: &mut [u8], following: usize, next
     }
 }
 
-// Puts bytes into a block that is zero from the word `next` on, so that zeros follow.
+// Puts bytes into a block that is zero from the word `next` on, so zeros follow them.
 #[inline(always)]
 fn put_padded(bytes: &[u8], block: &mut [u8], next: usize)
     requires room { 8 * next + length bytes.now ≤ length block.old }
@@ -143,7 +145,7 @@ pub(crate) fn write_text(bytes: &[u8], block: &mut [u8], following: usize, next:
     }
 }
 
-/// The words of a list of a given number of numbers.
+/// The words of a list of this many numbers.
 pub(crate) fn measure_numbers(size: ElementSize, count: u32) -> Result<u32>
     ensures { MatchResult result
         (λ words. (count < 2 ^ 29) × (words ≡ words_for count (width (code_of size))))
@@ -157,7 +159,8 @@ pub(crate) fn measure_numbers(size: ElementSize, count: u32) -> Result<u32>
     Err(too_many(words))
 }
 
-/// Writes a list of numbers into a block, from the word `next` on, with zero bits after the last one.
+/// Writes a list of numbers into a block, from the word `next` on, with zero bits after the last
+/// one.
 pub(crate) fn write_numbers(
     list: &NumberList<'_>,
     block: &mut [u8],

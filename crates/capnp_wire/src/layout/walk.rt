@@ -18,17 +18,17 @@ use crate::layout::rows::PointerRows;
 use capnp_frame::message::ReaderSegments;
 use capnp_frame::{Error, ErrorKind, Result};
 
-/// What a walk may still count against the traversal limit, and the words of what it has met.
+/// What a walk may still count against the traversal limit, and how many words it has counted.
 #[derive(Drop)]
 pub(crate) struct Walk {
     pub(crate) left: Option<usize>,
     words: u64,
-    /// Whether the words that it has met don't fit `words`.
+    /// Whether the words that were counted don't fit `words`.
     overflowed: bool,
 }
 
 impl Walk {
-    /// A walk that has met nothing.
+    /// A walk that has counted nothing.
     pub(crate) fn new(limit: Option<usize>) -> Walk
         ensures left { result.left ≡ limit }
         ensures words { counted result ≡ Some 0 }
@@ -40,8 +40,8 @@ impl Walk {
         }
     }
 
-    /// The words of all objects that it has met, without landing pads, as they stand or in canonical
-    /// form; `None` where they don't fit.
+    /// The words of all objects that it has entered, without landing pads, as they stand or in
+    /// canonical form; `None` where they don't fit.
     pub(crate) fn words(&self) -> Option<u64>
         ensures { result ≡ counted self.now }
     {
@@ -101,7 +101,7 @@ impl Walk {
     }
 
     /// Enters the object that the pointer at a place leads to, where it may be entered at this
-    /// nesting depth, and all below it, in preorder. It stops at the first refusal.
+    /// nesting depth, and all below it, in preorder. It stops at the first error.
     #[inline(always)]
     pub(crate) fn walk<S: ReaderSegments>(
         &mut self,
@@ -142,7 +142,7 @@ impl Walk {
         self.walk_run(segments, segment, place, 1, nesting, canonical)
     }
 
-    // The same from a segment in hand, whatever the pointer leads to.
+    // Walks over what the pointer leads to, whatever it is, from a segment in hand.
     #[inline(never)]
     #[cycle(walk)]
     fn walk_object<S: ReaderSegments>(
@@ -173,8 +173,9 @@ impl Walk {
         )
     }
 
-    /// Walks over all objects that these pointers lead to, which stand in this segment. It stands in
-    /// its callers, since what it recurses by, `walk_object` and `walk_run`, are calls.
+    /// Walks over all objects that these pointers of a segment lead to.
+    /// Speed: always inlined (workload `canon`): the recursion goes through `walk_object` and
+    /// `walk_run`, which are not.
     #[inline(always)]
     #[cycle(walk)]
     pub(crate) fn walk_pointers<S: ReaderSegments>(
@@ -195,7 +196,7 @@ impl Walk {
             IfErr result (λ error.
             StopsWalk m (places_in pointers) nesting self.old.left error.kind) }
     {
-        // Only what a parent's children hold takes a call.
+        // Speed: only what a parent's children hold takes a call (`tools/time-building`).
         'parents: while let Some(parent) = self.next_parent(
             segments,
             segment,
@@ -225,7 +226,7 @@ impl Walk {
         Ok(())
     }
 
-    // The same up to a struct that holds others: that is entered alone, and its pointers are returned.
+    // Walks up to the first struct that holds others: enters it alone, and returns its pointers.
     #[inline(always)]
     #[cycle(walk)]
     fn next_parent<'a, S: ReaderSegments>(
@@ -252,7 +253,7 @@ impl Walk {
     {
         'pointers: while !pointers.is_empty() {
             let place = pointers.take();
-            // What most pointers lead to needs no call.
+            // Speed: what most pointers lead to needs no call (`tools/time-building`).
             if let Some(_) = bare_pointer(segment, place.word, nesting) {
                 continue 'pointers;
             }
@@ -270,8 +271,8 @@ impl Walk {
         Ok(None)
     }
 
-    // As `walk_pointers`, of a given number of pointers that stand one after the other. All that it
-    // is told fits registers.
+    // Walks over what this many pointers lead to that follow one another.
+    // Speed: the arguments fit in registers (`tools/time-building`).
     #[inline(never)]
     #[cycle(walk)]
     fn walk_run<S: ReaderSegments>(

@@ -25,8 +25,9 @@ impl<'a, S: ReaderSegments, T: FromPointerReader<'a, S>> Reader<'a, S, T> {
         self.pointers.len()
     }
 
-    /// The element of this index, or why it is none. It is counted against the traversal limit each
-    /// time.
+    /// The view of the element of this index, counted against the traversal limit each time.
+    ///
+    /// Fails as `any_pointer::Reader::get_as` does of the element's pointer.
     #[inline(always)]
     pub fn get(&self, index: u32) -> Result<T>
         requires { index < length (pointer_list_of S.segments self.now.pointers).held }

@@ -47,7 +47,7 @@ impl<'a, T: PrimitiveElement> Reader<'a, T> {
         T::from_bits(size.in_word(word, index))
     }
 
-    /// The list, as one that is copied.
+    /// The list as what is copied.
     pub(crate) fn as_value(&self) -> NumberList<'a>
         ensures size { code_of result.size ≡ T.code }
         ensures count { result.count ≡ self.now.count }
@@ -80,7 +80,7 @@ impl<'a, T: PrimitiveElement> Reader<'a, T> {
         }
     }
 
-    // The list that a pointer leads to, which may stand anywhere.
+    // The list that a pointer leads to, by any path.
     #[inline(never)]
     fn enter<S: ReaderSegments>(reader: &any_pointer::Reader<'a, S>) -> Result<Reader<'a, T>>
         ensures { let pointer = pointer_of S.segments reader.now in MatchResult result
@@ -97,7 +97,7 @@ impl<'a, T: PrimitiveElement> Reader<'a, T> {
         Reader::in_object(&object)
     }
 
-    // The list that an object is.
+    // The object as a list.
     #[inline(always)]
     fn in_object(object: &Object<'a>) -> Result<Reader<'a, T>>
         requires { object.now.start.word + room_of object.now.body

@@ -46,8 +46,8 @@ impl<'a, S: ReaderSegments> Reader<'a, S> {
         self.elements.count
     }
 
-    /// The element of this index, whose pointers have as much nesting depth left as those of the list.
-    /// Its words were counted against the traversal limit with the list's.
+    /// The element of this index, whose pointers have the nesting depth of the list's. Its words
+    /// were counted against the traversal limit with the list's.
     pub fn get(&self, index: u32) -> StructReader<'a, S>
         requires { index < length (struct_list_of S.segments self.now).rows }
         ensures { struct_of S.segments result
@@ -106,7 +106,7 @@ impl<'a, S: ReaderSegments> Reader<'a, S> {
         }
     }
 
-    /// The structs that stand in an object, after some words of it.
+    /// The structs in an object, after this many of its words.
     pub(crate) fn within(
         reader: &any_pointer::Reader<'a, S>,
         object: &Object<'a>,

@@ -34,8 +34,8 @@ impl<'a> Reader<'a> {
     }
 }
 
-// Empty from null, else the bytes of a list of bytes before the zero byte at its end, without which it
-// fails with `TextNotTerminated`. Any other object fails with `WrongPointerKind`.
+// Empty from null, else the bytes of a list of bytes before the zero byte at its end, without which
+// it fails with `TextNotTerminated`. Any other object fails with `WrongPointerKind`.
 impl<'a, S: ReaderSegments> FromPointerReader<'a, S> for Reader<'a> {
     ghost shows = { λ pointer view. Reads pointer (λ form. IsText form view.bytes.now) };
 
@@ -69,7 +69,7 @@ fn read_text<'a, S: ReaderSegments>(reader: &any_pointer::Reader<'a, S>) -> Resu
     }
 }
 
-// The text of a list of bytes that may stand anywhere.
+// The text of a list of bytes, by any path.
 #[inline(never)]
 fn enter_text<'a, S: ReaderSegments>(reader: &any_pointer::Reader<'a, S>) -> Result<Reader<'a>>
     ensures { let pointer = pointer_of S.segments reader.now in MatchResult result

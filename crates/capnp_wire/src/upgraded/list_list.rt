@@ -8,8 +8,8 @@ use capnp_frame::Result;
 use capnp_frame::message::ReaderSegments;
 use std::marker::PhantomData;
 
-/// A list of pointers in a message, or of structs whose first pointers they are, each of which is read
-/// as a view of one type, as text, data or a list.
+/// A list of pointers in a message, or of structs of which each has such a pointer first, read as
+/// views of one type: of text, data or a list.
 #[derive(Drop)]
 pub struct ListList<'a, S, T> {
     pub(crate) pointers: PointerList<'a, S>,
@@ -28,8 +28,9 @@ impl<'a, S: ReaderSegments, T: FromPointerReader<'a, S>> ListList<'a, S, T> {
         self.pointers.len()
     }
 
-    /// The element of this index, or why it is none. It is counted against the traversal limit each
-    /// time.
+    /// The view of the element of this index, counted against the traversal limit each time.
+    ///
+    /// Fails as `any_pointer::Reader::get_as` does of the element's pointer.
     pub fn get(&self, index: u32) -> Result<T>
         requires { index < length (upgraded_pointers_of S.segments self.now.pointers).held }
         ensures { let pointer = pointer_at (upgraded_pointers_of S.segments self.now.pointers) index in

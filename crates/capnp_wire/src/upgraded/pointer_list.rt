@@ -10,12 +10,12 @@ use crate::traits::FromPointerReader;
 use capnp_frame::Result;
 use capnp_frame::message::ReaderSegments;
 
-/// A list of pointers in a message, or of structs whose first pointers they are.
+/// A list of pointers in a message, or of structs of which each has such a pointer first.
 #[derive(Drop)]
 pub struct PointerList<'a, S> {
     pub(crate) segments: &'a S,
     pub(crate) limiter: Option<&'a ReadLimiter>,
-    /// Where the first pointer stands.
+    /// The place of the first pointer.
     pub(crate) first: Place,
     /// The words from one pointer to the next.
     pub(crate) step: usize,
@@ -38,8 +38,8 @@ impl<'a, S: ReaderSegments> PointerList<'a, S> {
         self.count
     }
 
-    /// The pointer of this index. What it leads to is counted against the traversal limit when it is
-    /// followed.
+    /// The pointer of this index. What it leads to is counted against the traversal limit when it
+    /// is followed.
     pub fn get(&self, index: u32) -> any_pointer::Reader<'a, S>
         requires { index < length (upgraded_pointers_of S.segments self.now).held }
         ensures { pointer_of S.segments result
@@ -98,7 +98,7 @@ impl<'a, S: ReaderSegments> PointerList<'a, S> {
         Ok(PointerList::new(reader, first, step, elements.count))
     }
 
-    // Pointers that stand a step after one another.
+    // Pointers that are this far from one another.
     fn new(
         reader: &any_pointer::Reader<'a, S>,
         first: Place,

@@ -17,8 +17,8 @@ use crate::{any_pointer, struct_list};
 use capnp_frame::Result;
 use capnp_frame::message::ReaderSegments;
 
-/// A list of structs, of numbers or of pointers in a message, read as a list of structs: a number is the
-/// low bits of the one data word of its struct, a pointer is the one pointer of its own.
+/// A list of structs, of numbers or of pointers in a message, read as a list of structs: a number
+/// is the low bits of its struct's one data word, a pointer is its struct's one pointer.
 #[derive(Drop)]
 pub struct StructList<'a, S: ReaderSegments> {
     pub(crate) rows: Rows<'a, S>,
@@ -27,7 +27,7 @@ pub struct StructList<'a, S: ReaderSegments> {
 /// The elements.
 #[derive(Drop)]
 pub(crate) enum Rows<'a, S: ReaderSegments> {
-    /// Structs, and what stands as structs do: pointers, and elements of no bytes.
+    /// Structs, and what is laid out as structs are: pointers, and elements of no bytes.
     InPlace(struct_list::Reader<'a, S>),
     Numbers(NumberRows<'a, S>),
 }
@@ -96,8 +96,8 @@ impl<'a, S: ReaderSegments> StructList<'a, S> {
         }
     }
 
-    /// The element of this index, whose pointers have as much nesting depth left as those of the list.
-    /// Its words were counted against the traversal limit with the list's.
+    /// The element of this index, whose pointers have the nesting depth of the list's. Its words
+    /// were counted against the traversal limit with the list's.
     pub fn get(&self, index: u32) -> StructReader<'a, S>
         requires { index < length (upgraded_structs_of S.segments self.now).rows }
         ensures { struct_of S.segments result
@@ -123,7 +123,7 @@ impl<'a, S: ReaderSegments> StructList<'a, S> {
         StructList::of(reader, &object)
     }
 
-    // The list that an object is.
+    // The object as a list.
     fn of(reader: &any_pointer::Reader<'a, S>, object: &Object<'a>) -> Result<StructList<'a, S>>
         requires { IsEntered (pointer_of S.segments reader.now) object.now }
         ensures { let pointer = pointer_of S.segments reader.now in MatchResult result
@@ -140,7 +140,7 @@ impl<'a, S: ReaderSegments> StructList<'a, S> {
         }
     }
 
-    // The list that an object is that is a list of numbers.
+    // A list of numbers as a list of structs.
     fn of_numbers(
         reader: &any_pointer::Reader<'a, S>,
         object: &Object<'a>,
@@ -173,7 +173,7 @@ impl<'a, S: ReaderSegments> StructList<'a, S> {
         })
     }
 
-    // The structs that stand in an object as those of a list of structs do.
+    // The structs in an object that is laid out as a list of structs is.
     fn in_place(
         reader: &any_pointer::Reader<'a, S>,
         object: &Object<'a>,
@@ -196,7 +196,7 @@ impl<'a, S: ReaderSegments> StructList<'a, S> {
     }
 }
 
-// Structs of no data words, each with some pointers.
+// Structs of no data words, each with as many pointers.
 fn bare_elements(pointers: u16, count: u32) -> Elements
     ensures { result ≡ elements_of pointers count }
 {
