@@ -6,7 +6,7 @@ mod row;
 use capnp_frame::Result;
 use capnp_wire::traits::{Copied, PartWords, SetterInput};
 
-/// A value that is borrowed, so that it can be set more than once, or stand in more than one place.
+/// A value that is borrowed, so it can be set more than once, or be a part of more than one value.
 #[derive(Clone, Copy)]
 pub struct Borrowed<'a, V> {
     /// The value.

@@ -22,8 +22,9 @@ impl<const D: usize, F> StructValue<D, F> {
         StructValue { words, fields }
     }
 
-    /// The struct with another number in a field that has a default, at an offset in units of the field's
-    /// own width. In the data section stand the bits in which the number differs from the default.
+    /// The struct with another number in a field that has a default, at an offset in units of the
+    /// field's own width. The data section gets the bits in which the number differs from the
+    /// default.
     #[tactic(auto, using(std::proofs::lemmas::Nat::xor_lt))]
     #[inline(always)]
     pub fn with_data_field_mask<T: PrimitiveElement>(
@@ -44,8 +45,8 @@ impl<const D: usize, F> StructValue<D, F> {
     }
 }
 
-/// Puts bits into a field of a width, which lies within one word. At an offset that is known this is a
-/// few instructions, once it is inlined.
+/// Puts bits into a field of a width, which lies within one word.
+/// Speed: inlined, it is a few instructions where the offset is known.
 #[inline(always)]
 pub fn put_field(words: &mut [u64], width: u64, offset: u32, bits: u64)
     requires within { width * (offset + 1) ≤ 64 * length words.old }
@@ -61,7 +62,7 @@ pub fn put_field(words: &mut [u64], width: u64, offset: u32, bits: u64)
     }
 }
 
-// A word with other bits from one of its bits on.
+// A word with other bits, from one of its bits on.
 #[inline(always)]
 fn put_bits(word: u64, start: u64, width: u64, bits: u64) -> u64
     requires some { 0 < width }

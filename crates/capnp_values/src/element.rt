@@ -1,7 +1,8 @@
 //! Structs as elements of lists.
 ghost use Rattle.std.specs.Prelude.{◌≡◌, ℕ, ◌^◌, ◌<◌, List, All, length};
 
-/// A struct that can be an element of a list: its data words, beside its row of [`Fields`](crate::fields::Fields).
+/// A struct that can be an element of a list: its data words, beside its row of
+/// [`Fields`](crate::fields::Fields).
 pub trait Element {
     /// How many data words it has.
     ghost data_words: { ℕ };

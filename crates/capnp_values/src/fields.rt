@@ -14,7 +14,7 @@ use capnp_frame::Result;
 pub use field::Field;
 pub use no_fields::NoFields;
 
-/// How far a row reaches: its pointers, and the words that they lead to.
+/// The extent of a row: its pointers, and the words that they lead to.
 #[derive(Clone, Copy)]
 pub struct Extent {
     /// How many pointers it keeps.
@@ -23,7 +23,7 @@ pub struct Extent {
     /// The words of all that these lead to.
     pub words: u64,
 
-    /// The words of all that its pointers lead to as they stand.
+    /// The words of all that these lead to, with each value as it stands.
     pub standing: u64,
 }
 
@@ -38,11 +38,13 @@ pub trait Fields {
     /// One of the values has no tree, or a tree of 2^29 words or more.
     ghost refuses: { Self → ErrorKind → Type 0 };
 
-    /// How many there are, where a struct may have that many.
+    /// How many fields there are, where a struct may have that many.
     fn count() -> u32
         ensures { result ≡ min size (2 ^ 16) };
 
-    /// How far the row reaches, as it stands or in canonical form.
+    /// The extent of the row, as it stands or in canonical form.
+    ///
+    /// Fails with a kind that `refuses` names.
     fn measure(&self, canonical: bool) -> Result<Extent>
         requires { size < 2 ^ 16 }
         ensures returned { MatchResult result
@@ -54,6 +56,8 @@ pub trait Fields {
             IsErrAnd result (λ error. error.kind ≡ kind) };
 
     /// The words of all that the row's pointers lead to, as they stand.
+    ///
+    /// Fails with a kind that `refuses` names.
     fn standing(&self) -> Result<u64>
         requires { size < 2 ^ 16 }
         ensures returned { MatchResult result (λ words. HasTotal (has_trees self.now) words)
@@ -74,8 +78,8 @@ pub trait Fields {
             result ≡ count (kept_row canonical trees) }
         ensures bound { result ≤ size };
 
-    /// Writes the first pointers of the row into the slots of a block from one on, and what they lead
-    /// to into its words from `next` on, which are zero. Returns the first word after that.
+    /// Writes the first pointers of the row into a block, from a slot on, and what they lead to
+    /// into its words from `next` on, which are zero. Returns the first word after that.
     fn write(
         &self,
         canonical: bool,

@@ -1,4 +1,4 @@
-//! Values of one type, one after the other: what their trees take, and what is written of them.
+//! Values of one type, one after the other: their words, and how they are written.
 ghost use Rattle.std.specs.Prelude.{◌≡◌, ◌+◌, ◌<◌, ◌≤◌, ◌^◌, false, length};
 ghost use Rattle.capnp_wire.specs.Pointer.{words_of};
 ghost use Rattle.capnp_wire.specs.Values.{IsFreeFrom};
@@ -11,9 +11,9 @@ use capnp_frame::Result;
 use capnp_wire::pointer_word::put_word;
 use capnp_wire::traits::SetterInput;
 
-/// The words of all that some values are, as they stand, and in that form or in canonical form.
+/// The words of all these values as they stand, and the same or those of the canonical form.
 ///
-/// The first of them that is refused as it stands is refused.
+/// Fails as the first of them that fails as it stands.
 pub(crate) fn measure_items<T, S: ValueSource<T>>(items: &S, canonical: bool) -> Result<TreeWords>
     requires { length (S.items items.now) < 2 ^ 29 }
     ensures { Measures (AreItems (S.has_tree items.now) (S.items items.now))
@@ -37,7 +37,8 @@ pub(crate) fn measure_items<T, S: ValueSource<T>>(items: &S, canonical: bool) ->
     Ok(words)
 }
 
-// The words of all that they are as they stand, which are those of the form that is made, too: one sum.
+// The words of all these values, of which no canonical form is made.
+// Speed: one sum serves for both numbers, and stays in a register (`tools/time-building`).
 fn standing_items<T, S: ValueSource<T>>(items: &S) -> Result<TreeWords>
     requires { length (S.items items.now) < 2 ^ 29 }
     ensures { Measures (AreItems (S.has_tree items.now) (S.items items.now))
@@ -56,8 +57,8 @@ fn standing_items<T, S: ValueSource<T>>(items: &S) -> Result<TreeWords>
     })
 }
 
-/// Writes the pointers to some values into a block, from a word of it on, and the values after the last of
-/// these pointers, where it is zero. Returns the first word after them.
+/// Writes the pointers to some values into a block, from a word of it on, and after these pointers,
+/// where the block is zero, the values. Returns the first word after them.
 pub(crate) fn write_items<T, S: ValueSource<T>>(
     items: &S,
     canonical: bool,

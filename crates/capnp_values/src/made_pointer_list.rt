@@ -11,8 +11,8 @@ use capnp_wire::pointer_word::list_word;
 use capnp_wire::traits::{Copied, PartWords, SetterInput};
 use std::marker::PhantomData;
 
-/// A list whose elements are pointers, each set to a value that is made when it is asked for (encoding
-/// document, "Lists"): no two of the values have to stand in memory at a time.
+/// A list whose elements are pointers, each set to a value that is made when it is asked for
+/// (encoding document, "Lists"), so that no two of the values need be in memory at a time.
 #[derive(Drop)]
 pub struct MadePointerList<T, S> {
     /// What makes the values.
@@ -34,8 +34,8 @@ impl<T, S> MadePointerList<T, S> {
     }
 }
 
-// The trees that the source tells of its values, in order. It is refused as a list of these values
-// in memory is.
+// The trees that the source tells of its values, in order. It fails as a list of these values in
+// memory does.
 impl<T, S: ValueSource<T>> SetterInput<Owned<T>> for MadePointerList<T, S> {
     ghost use Rattle.capnp_wire.specs.Tree.{count};
     ghost use Rattle.capnp_values.specs.Lists.{IsPointerList, RefusesPointerList};

@@ -10,8 +10,8 @@ use capnp_frame::Result;
 use capnp_wire::struct_list::Owned;
 use capnp_wire::traits::{Copied, PartWords, SetterInput};
 
-/// A list whose elements are structs of one size, each made when it is asked for (encoding document,
-/// "Lists"): no two of them have to stand in memory at a time.
+/// A list whose elements are structs of one size, each made when it is asked for (encoding
+/// document, "Lists"), so that no two of them need be in memory at a time.
 #[derive(Drop)]
 pub struct MadeStructList<S> {
     /// What makes the structs.
@@ -28,7 +28,7 @@ impl<S> MadeStructList<S> {
 }
 
 // The data words that the source tells of each struct, with the trees of its fields, row by row. It
-// is refused as a list of these structs in memory is.
+// fails as a list of these structs in memory does.
 impl<S: StructSource> SetterInput<Owned> for MadeStructList<S> {
     ghost use Rattle.capnp_wire.specs.Tree.{count};
     ghost use Rattle.capnp_values.specs.StructLists.{IsStructList, RefusesStructList};

@@ -1,4 +1,4 @@
-//! Words that are counted of trees, and how many a value may have.
+//! Sums of words, and how many words a value may have.
 ghost use Rattle.std.specs.Prelude.{◌≡◌, ◌-◌, ◌≤◌, ◌<◌, ◌^◌, min, false, MatchResult};
 ghost use Rattle.capnp_frame.specs.declared.error.ErrorKind.TheVariants.{AllocationTooLarge};
 ghost use Rattle.capnp_wire.specs.Values.{too_large};
@@ -6,7 +6,7 @@ ghost use Rattle.capnp_wire.specs.Values.{too_large};
 use capnp_frame::{Error, ErrorKind, Result};
 use capnp_wire::traits::PartWords;
 
-/// The words of some trees.
+/// The words of some trees, as they stand and in the form that is made.
 #[derive(Clone, Copy)]
 pub struct TreeWords {
     /// As they stand.
@@ -16,7 +16,8 @@ pub struct TreeWords {
     pub formed: u64,
 }
 
-/// A number of words that a block may have.
+/// Words that a block may have. Fails for 2^29 and more with `AllocationTooLarge`, in canonical
+/// form with `CanonicalTooLarge`.
 pub(crate) fn fitting(words: u64, canonical: bool) -> Result<u32>
     ensures { MatchResult result (λ number. (number ≡ words) × (number < 2 ^ 29))
         (λ error. (2 ^ 29 ≤ words) × (error.kind ≡ too_large canonical words)) }
@@ -30,7 +31,8 @@ pub(crate) fn fitting(words: u64, canonical: bool) -> Result<u32>
     Err(too_many(words))
 }
 
-/// The words that a part of a value may have: as it stands fewer than 2^29.
+/// The words that a part of a value may have. Fails with `AllocationTooLarge` where there are 2^29
+/// and more as it stands.
 pub(crate) fn fitting_part(words: TreeWords) -> Result<PartWords>
     requires { words.formed ≤ words.standing }
     ensures { MatchResult result
@@ -45,7 +47,8 @@ pub(crate) fn fitting_part(words: TreeWords) -> Result<PartWords>
     })
 }
 
-/// A given number of words or of elements are too many for a pointer.
+/// The error for too many words or elements for a pointer, which it tells as far as 32 bits hold
+/// them.
 pub(crate) fn too_many(number: u64) -> Error
     ensures { result.kind ≡ AllocationTooLarge (min number (2 ^ 32 - 1)) }
 {

@@ -2,11 +2,11 @@
 use capnp_frame::Result;
 use capnp_wire::traits::{Copied, SetterInput};
 
-/// A null pointer, as a value of each type of a schema.
+/// A null pointer, as a value of any type of a schema.
 #[derive(Clone, Copy)]
 pub struct Null;
 
-// It leads to no words, and is zero.
+// It has no words, and its pointer is zero.
 impl<T> SetterInput<T> for Null {
     ghost use Rattle.std.specs.Prelude.{◌≡◌};
     ghost use Rattle.capnp_wire.specs.Tree.{null, none, tree, count};

@@ -43,6 +43,7 @@ impl<'a, N: PrimitiveElement + Copy> SetterInput<Owned<N>> for NumberList<'a, N>
         if count >= 1 << 29 {
             return Err(too_many(count as u64));
         }
+        // For the prover: each number fits its type.
         numbers_fit(self.items);
         Ok(words_of_list::<N>(count as u32))
     }
@@ -62,7 +63,7 @@ impl<'a, N: PrimitiveElement + Copy> SetterInput<Owned<N>> for NumberList<'a, N>
     }
 }
 
-// The words of a given number of elements.
+// The words of this many elements.
 fn words_of_list<N: PrimitiveElement>(count: u32) -> u32
     requires few { count < 2 ^ 29 }
     ensures words { result ≡ words_for count (width N.code) }
@@ -72,13 +73,14 @@ fn words_of_list<N: PrimitiveElement>(count: u32) -> u32
     size.words_of_list(count) as u32
 }
 
-// Each number has no more bits than its type tells.
+// Each number has no more bits than its type has.
 fn numbers_fit<N: PrimitiveElement + Copy>(items: &[N])
     ensures { All (λ bits. bits < 2 ^ width N.code) (map N.bits_of items.now) }
 {
     let mut left = items.len();
     'items: while left > 0 {
         left -= 1;
+        // For the prover: the bits of this number fit its type.
         let _bits = items[left].to_bits();
     }
 }
@@ -108,7 +110,7 @@ fn put_numbers<N: PrimitiveElement + Copy>(items: &[N], block: &mut [u8])
     }
 }
 
-// The word of some numbers, the first in its lowest bits.
+// The word of some numbers, the first one in its lowest bits.
 fn word_of_numbers<N: PrimitiveElement + Copy>(items: &[N]) -> u64
     requires { length items.now * width N.code ≤ 64 }
     ensures { result ≡ number_of (2 ^ width N.code) (map N.bits_of items.now) }

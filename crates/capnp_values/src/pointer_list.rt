@@ -12,7 +12,8 @@ use capnp_wire::pointer_word::list_word;
 use capnp_wire::traits::{Copied, PartWords, SetterInput};
 use std::marker::PhantomData;
 
-/// A list whose elements are pointers, each set to a value (encoding document, "Lists"): of texts, say.
+/// A list whose elements are pointers, each set to a value (encoding document, "Lists"): of texts,
+/// say.
 #[derive(Drop)]
 pub struct PointerList<'a, T, V> {
     /// What they are set to.
@@ -35,7 +36,7 @@ impl<'a, T, V> PointerList<'a, T, V> {
 }
 
 // The values' trees, in order. 2^29 of them and more fail with `AllocationTooLarge`, and a value
-// is refused as it stands.
+// fails as it stands.
 impl<'a, T, V: SetterInput<T>> SetterInput<Owned<T>> for PointerList<'a, T, V> {
     ghost use Rattle.capnp_wire.specs.Tree.{count};
     ghost use Rattle.capnp_values.specs.Lists.{IsPointerList, RefusesPointerList};

@@ -14,7 +14,7 @@ use crate::sections::{kept_data, used, write_sections};
 use crate::sources::StructSource;
 use capnp_frame::Result;
 
-/// How far the elements of a list reach: the data words and the pointers that each keeps, and the
+/// The extent of the elements of a list: the data words and the pointers that each keeps, and the
 /// words of all that they lead to.
 #[derive(Clone, Copy)]
 pub struct Reach {
@@ -31,7 +31,7 @@ pub struct Reach {
     pub standing: u64,
 }
 
-/// What each element of a list keeps: as they stand all, and in canonical form what the largest of
+/// What each element of a list keeps: all that it has, or in canonical form what the largest of
 /// them needs.
 #[derive(Clone, Copy)]
 pub struct KeptWords {
@@ -42,9 +42,9 @@ pub struct KeptWords {
     pub pointers: u32,
 }
 
-/// How far some structs reach, as they stand or in canonical form.
+/// The extent of some structs, as they stand or in canonical form.
 ///
-/// The first of them that is refused as it stands is refused.
+/// Fails as the first of them that fails as it stands.
 pub(crate) fn measure_rows<S: StructSource>(items: &S, canonical: bool) -> Result<Reach>
     requires words { S.Value.data_words < 2 ^ 16 }
     requires pointers { S.Value.size < 2 ^ 16 }
@@ -66,7 +66,8 @@ pub(crate) fn measure_rows<S: StructSource>(items: &S, canonical: bool) -> Resul
     Ok(reach)
 }
 
-// How far some structs reach as they stand, where each keeps all: one sum.
+// The extent of some structs as they stand, of which each keeps all that it has.
+// Speed: one sum serves for both numbers, and stays in a register (`tools/time-building`).
 fn standing_rows<S: StructSource>(items: &S) -> Result<Reach>
     requires words { S.Value.data_words < 2 ^ 16 }
     requires pointers { S.Value.size < 2 ^ 16 }
@@ -79,6 +80,7 @@ fn standing_rows<S: StructSource>(items: &S) -> Result<Reach>
     for index in 0..count {
         let item = items.get(index);
         let own = item.standing()?;
+        // For the prover: this item has as many data words as its type says.
         let _data_words = item.words();
         words += own;
     }
@@ -90,7 +92,7 @@ fn standing_rows<S: StructSource>(items: &S) -> Result<Reach>
     })
 }
 
-// What the elements of a list keep in any case: as they stand all, and in canonical form nothing.
+// What the elements keep in any case: all that they have, or in canonical form nothing.
 fn least_reach(data_words: usize, pointers: u32, canonical: bool) -> Reach
     ensures { result ≡ reach_of canonical data_words pointers [] none }
 {
@@ -110,7 +112,7 @@ fn least_reach(data_words: usize, pointers: u32, canonical: bool) -> Reach
     }
 }
 
-// How far they reach with one more, of which a given number of data words are kept.
+// The extent with one more struct, of which this many data words are kept.
 fn with_row(reach: Reach, data_words: usize, extent: Extent) -> Reach
     requires words { reach.words + extent.words < 2 ^ 64 }
     requires standing { reach.standing + extent.standing < 2 ^ 64 }
@@ -155,9 +157,9 @@ pub(crate) fn kept_by_each<S: StructSource>(items: &S, canonical: bool) -> KeptW
     kept
 }
 
-/// Writes some structs into a block from the word `first` on: the data words and the pointers that each
-/// keeps, one struct after the other, and after the last of them what they lead to, where the block is
-/// zero. Returns the first word after that.
+/// Writes some structs into a block from the word `first` on: the data words and the pointers that
+/// each keeps, one struct after the other. After the last of them, where the block is zero, it
+/// writes what they lead to. Returns the first word after that.
 pub(crate) fn write_rows<S: StructSource>(
     items: &S,
     canonical: bool,
@@ -188,8 +190,8 @@ pub(crate) fn write_rows<S: StructSource>(
     next
 }
 
-// Writes what a struct keeps into a block from the word `at` on, and what its pointers lead to into the
-// words from `next` on, which are zero. Returns the first word after that.
+// Writes what a struct keeps into a block from the word `at` on, and what its pointers lead to into
+// the words from `next` on, which are zero. Returns the first word after that.
 fn write_element<E: Fields + Element>(
     item: &E,
     canonical: bool,

@@ -11,19 +11,19 @@ ghost use Rattle.capnp_values.specs.Structs.{kept_words};
 use crate::fields::Fields;
 use capnp_wire::pointer_word;
 
-/// A pointer can tell a given number of data words, and a given number of pointers.
+/// Whether a pointer can tell this many data words, and this many pointers.
 pub(crate) fn fits(words: &[u64], fields: u32) -> bool
     ensures { IsTrue result ↔ ((length words.now < 2 ^ 16) × (fields < 2 ^ 16)) }
 {
     words.len() < 1 << 16 && fields < 1 << 16
 }
 
-/// A number of eight bytes is below 2^64.
+/// Each word is below 2^64.
 pub fn words_fit(words: &[u64])
     ensures { All (λ word. word < 2 ^ 64) words.now }
 {}
 
-/// How many of some words there are up to the last one that isn't zero.
+/// How many of these words there are up to the last one that isn't zero.
 pub(crate) fn used(words: &[u64]) -> usize
     ensures { result ≡ length (cut_zeros words.now) }
 {
@@ -37,7 +37,7 @@ pub(crate) fn used(words: &[u64]) -> usize
     0
 }
 
-/// How many data words are kept.
+/// How many of these data words are kept.
 pub(crate) fn kept_data(words: &[u64], canonical: bool) -> usize
     ensures value { result ≡ length (kept_words canonical words.now) }
     ensures bound { result ≤ length words.now }
@@ -56,7 +56,7 @@ pub fn put_words(words: &[u64], block: &mut [u8])
     }
 }
 
-/// The word of the pointer to a struct that begins a given number of words after it.
+/// The word of the pointer to a struct that begins this many words after it.
 pub(crate) fn struct_word(words: usize, pointers: u32, gap: usize) -> u64
     requires words { words < 2 ^ 16 }
     requires pointers { pointers < 2 ^ 16 }
@@ -71,8 +71,8 @@ pub(crate) fn struct_word(words: usize, pointers: u32, gap: usize) -> u64
     pointer_word::struct_word(offset, words as u16, pointers as u16)
 }
 
-/// Writes data words into a block from the word `at` on, after them the first pointers of a row, and what
-/// these lead to into the words from `next` on, which are zero. Returns the first word after that.
+/// Writes data words into a block from the word `at` on, then the first pointers of a row, and what
+/// they lead to into the words from `next` on, which are zero. Returns the first word after that.
 pub(crate) fn write_sections<F: Fields>(
     words: &[u64],
     fields: &F,

@@ -10,22 +10,22 @@ use crate::element::Element;
 use crate::fields::Fields;
 use capnp_wire::traits::SetterInput;
 
-/// Values in order, each made when it is asked for: it is asked for once where it is measured, and
-/// once more where it is written.
+/// Values in order, each made when it is asked for: once to be measured, and once more to be
+/// written.
 pub trait ValueSource<T> {
-    /// What tells a value from the others: its index, or what it is made of.
+    /// Identifies a value: its index, or what it is made of.
     type Item;
 
     /// The type of the values.
     type Value: SetterInput<T> + Drop;
 
-    /// What tells each of the values, in order.
+    /// What identifies each of the values, in order.
     ghost items: { Self → List Self.Item };
 
     /// The value of an item is this tree.
     ghost has_tree: { Self → Self.Item → Trees → Type 0 };
 
-    /// The value of an item is refused, and this says why.
+    /// The value of an item has no tree, and this is the error.
     ghost refuses: { Self → Self.Item → ErrorKind → Type 0 };
 
     /// How many values there are.
@@ -40,16 +40,16 @@ pub trait ValueSource<T> {
             (Self.Value.refuses result) (refuses self.now item) };
 }
 
-/// Structs of one size in order, each made when it is asked for: it is asked for once where it is
-/// measured, and once more where it is written.
+/// Structs of one size in order, each made when it is asked for: once to be measured, and once more
+/// to be written.
 pub trait StructSource {
-    /// What tells a struct from the others: its index, or what it is made of.
+    /// Identifies a struct: its index, or what it is made of.
     type Item;
 
     /// The type of the structs.
     type Value: Fields + Element + Drop;
 
-    /// What tells each of the structs, in order.
+    /// What identifies each of the structs, in order.
     ghost items: { Self → List Self.Item };
 
     /// The words of the data section of an item's struct.
@@ -58,7 +58,7 @@ pub trait StructSource {
     /// The fields of an item's struct are these trees, in order.
     ghost has_trees: { Self → Self.Item → Trees → Type 0 };
 
-    /// A field of an item's struct is refused, and this says why.
+    /// A field of an item's struct has no tree, and this is the error.
     ghost refuses: { Self → Self.Item → ErrorKind → Type 0 };
 
     /// How many structs there are.
@@ -78,7 +78,7 @@ pub trait StructSource {
         has_trees source item trees → IsSettled Self.Value.size trees };
 }
 
-// The values of a slice tell themselves.
+// The values of a slice are their own items.
 impl<'a, T, V: SetterInput<T>> ValueSource<T> for &'a [V] {
     type Item = V;
 
@@ -100,7 +100,7 @@ impl<'a, T, V: SetterInput<T>> ValueSource<T> for &'a [V] {
     }
 }
 
-// The structs of a slice tell themselves.
+// The structs of a slice are their own items.
 impl<'a, E: Fields + Element> StructSource for &'a [E] {
     type Item = E;
 

@@ -9,8 +9,8 @@ use capnp_frame::Result;
 use capnp_wire::struct_list::Owned;
 use capnp_wire::traits::{Copied, PartWords, SetterInput};
 
-/// A list whose elements are structs of one size, which stand in it one after the other (encoding
-/// document, "Lists").
+/// A list whose elements are structs of one size, which follow one another (encoding document,
+/// "Lists").
 #[derive(Drop)]
 pub struct StructList<'a, E> {
     /// The elements.
@@ -27,8 +27,8 @@ impl<'a, E> StructList<'a, E> {
 }
 
 // The data words of each element, with the trees of their fields, row by row. 2^16 data words or
-// fields and more, 2^29 elements and more and 2^29 words of elements and more fail with
-// `AllocationTooLarge`, and a field is refused as it stands.
+// fields and more, and 2^29 elements or words of elements and more, fail with `AllocationTooLarge`;
+// a field fails as it stands.
 impl<'a, E: Fields + Element> SetterInput<Owned> for StructList<'a, E> {
     ghost use Rattle.capnp_wire.specs.Tree.{count};
     ghost use Rattle.capnp_values.specs.StructLists.{IsStructList, RefusesStructList};

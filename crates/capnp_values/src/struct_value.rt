@@ -32,7 +32,7 @@ impl<const D: usize, F> StructValue<D, F> {
 }
 
 // The data words, with the trees of the fields. 2^16 data words or fields and more fail with
-// `AllocationTooLarge`, and a field is refused as it stands.
+// `AllocationTooLarge`; a field fails as it stands.
 impl<const D: usize, F: Fields> SetterInput<Owned> for StructValue<D, F> {
     ghost use Rattle.std.specs.Prelude.{length};
     ghost use Rattle.capnp_wire.specs.Tree.{count};
@@ -83,6 +83,7 @@ fn measure_struct<F: Fields>(words: &[u64], fields: &F, canonical: bool) -> Resu
     if !fits(words, F::count()) {
         return Err(Error::from_kind(ErrorKind::AllocationTooLarge(1 << 16)));
     }
+    // For the prover: each data word is below 2^64.
     words_fit(words);
     let extent = fields.measure(canonical)?;
     let data = kept_data(words, canonical) as u64;
@@ -139,6 +140,7 @@ impl<const D: usize, F: Fields> Element for StructValue<D, F> {
     }
 
     fn words(&self) -> &[u64] {
+        // For the prover: each data word is below 2^64.
         words_fit(&self.words);
         &self.words
     }

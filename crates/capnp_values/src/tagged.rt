@@ -1,4 +1,4 @@
-//! Lists of the structs of any source, with the tag in front of them (encoding document, "Lists").
+//! Lists of the structs of any source, with the tag before them (encoding document, "Lists").
 ghost use Rattle.std.specs.Prelude.{◌≡◌, ◌+◌, ◌-◌, ◌*◌, ◌^◌, ◌<◌, ◌≤◌, ◌∷◌, [], length, MatchResult};
 ghost use Rattle.capnp_wire.specs.Pointer.{words_of};
 ghost use Rattle.capnp_wire.specs.Tree.{Trees, total_words};
@@ -34,7 +34,8 @@ pub(crate) fn measure_list<S: StructSource>(items: &S, canonical: bool) -> Resul
     Ok(with_tag(count, data_words, pointers, reach))
 }
 
-// A pointer and a tag can tell as many structs of this size.
+// Fails with `AllocationTooLarge` where a pointer and a tag can't tell this many structs of this
+// size.
 fn elements_fit(count: usize, data_words: usize, pointers: u32) -> Result<()>
     ensures { MatchResult result
         (λ _. (data_words < 2 ^ 16) × (pointers < 2 ^ 16) × (count < 2 ^ 29)
