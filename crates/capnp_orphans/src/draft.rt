@@ -14,7 +14,7 @@ use std::marker::PhantomData;
 /// A struct of a type of a schema, of this many data words and pointers, that is not written yet
 /// (encoding document, "Structs").
 ///
-/// It may be written more than once; what it has adopted is then held by each of the structs.
+/// It may be written more than once. What it has adopted is then held by each of these structs.
 ///
 /// ```
 /// let mut phone = StructDraft::<any_struct::Owned, 1, 1>::new();
@@ -72,8 +72,8 @@ impl<T, const D: usize, const P: usize> StructDraft<T, D, P> {
         put_field(&mut self.words, N::size().bits(), offset, value.to_bits());
     }
 
-    /// Sets a field that has a default, at an offset in units of its own width. In the data section
-    /// stand the bits in which the number differs from the default (encoding document, "Default
+    /// Sets a field that has a default, at an offset in units of its own width. The data section
+    /// gets the bits in which the number differs from the default (encoding document, "Default
     /// Values").
     #[tactic(auto, using(std::proofs::lemmas::Nat::xor_lt))]
     #[inline(always)]
@@ -146,6 +146,7 @@ fn field_bits(words: &[u64], width: u64, offset: u32) -> u64
     ensures bits { result ≡ field words.now width offset }
     ensures below { result < 2 ^ width }
 {
+    // For the prover: each word is below 2^64.
     words_fit(words);
     let start = width * offset as u64;
     in_word(word_at(words, start / 64), width, start % 64)

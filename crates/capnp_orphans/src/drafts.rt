@@ -5,7 +5,7 @@ ghost use Rattle.capnp_orphans.specs.declared.draft.StructDraft.{StructDraft};
 use crate::draft::StructDraft;
 use crate::draft_source::DraftSource;
 
-/// What is written as a draft: the builders that the schema compiler writes.
+/// A type that is written as a draft: a builder that the schema compiler writes.
 pub trait Draft<T, const D: usize, const P: usize> {
     /// The draft.
     ghost draft: { Self → StructDraft T D P };
@@ -15,14 +15,14 @@ pub trait Draft<T, const D: usize, const P: usize> {
         ensures { result ≡ draft self.now };
 }
 
-/// A source of the structs that are in a slice.
+/// A source of the structs in a slice.
 #[derive(Drop)]
 pub struct Drafts<'a, B> {
     builders: &'a [B],
 }
 
 impl<'a, B> Drafts<'a, B> {
-    /// The source of these.
+    /// The source of these structs.
     pub fn new(builders: &'a [B]) -> Drafts<'a, B>
         ensures { result.builders.now ≡ builders.now }
     {

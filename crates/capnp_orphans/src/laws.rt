@@ -12,7 +12,7 @@ ghost use Rattle.capnp_wire.specs.Views.{Struct};
 
 use capnp_wire::traits::SetterInput;
 
-/// What a segment holds, it holds after words are appended, too.
+/// What a segment holds, it holds after words are appended to it, too.
 pub fn orphans_stay()
     ensures { (body more : List ℕ) (word : ℕ) (form : Form) (held : Trees) →
         IsOrphan body word form held → IsOrphan (body ++ more) word form held }
@@ -23,7 +23,7 @@ pub fn null_is_an_orphan()
     ensures { (body : List ℕ) → IsOrphan body 0 null none }
 {}
 
-/// What stays through two steps.
+/// What two steps keep each, they keep together.
 pub fn steps_keep_orphans()
     ensures { (first second third : Segment) → Keeps first second → Keeps second third →
         Keeps first third }
@@ -35,14 +35,14 @@ pub fn orphans_in_order_stay()
         AreOrphans (body_of old) words trees → AreOrphans (body_of new) words trees }
 {}
 
-/// What orphans in order are of values, stays where each orphan stays.
+/// Orphans in order that hold values hold them still, where each orphan stays.
 pub fn values_stay<T, V: SetterInput<T>>()
     ensures { (old new : Segment) (values : List V) (words : List ℕ) → Keeps old new →
         AreValues V.has_tree (body_of old) values words →
         AreValues V.has_tree (body_of new) values words }
 {}
 
-/// One value more, of which the orphan is added: of a loop over values the step.
+/// Orphans of values, and the orphan of one value more: the step of a loop over values.
 pub fn next_value<T, V: SetterInput<T>>()
     ensures { (old new : Segment) (values : List V) (words : List ℕ) (value : V) (word : ℕ) →
         Keeps old new → AreValues V.has_tree (body_of old) values words →
@@ -50,15 +50,15 @@ pub fn next_value<T, V: SetterInput<T>>()
         AreValues V.has_tree (body_of new) (values ++ value ∷ []) (words ++ word ∷ []) }
 {}
 
-/// Orphans that are values are the trees of these.
+/// The trees of orphans that hold values are those of the values.
 pub fn values_are_trees<T, V: SetterInput<T>>()
     ensures { (body : List ℕ) (values : List V) (words : List ℕ) →
         AreValues V.has_tree body values words →
         (held : Trees) × AreOrphans body words held × AreTrees V.has_tree values held }
 {}
 
-/// A field of the data words of a struct is what it was, once they are cut after it or filled up
-/// with zeros.
+/// A field of the data words of a struct is the same where these words are cut after it, or filled
+/// up with zeros.
 pub fn fields_stay()
     ensures { (fields : Struct) (count width offset : ℕ) → width * (offset + 1) ≤ 64 * count →
         field (words_in fields count) width offset ≡ field fields.words width offset }

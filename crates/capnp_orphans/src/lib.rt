@@ -6,7 +6,7 @@
 //! an offset may be negative), and no word is changed once it is written, but for the root's.
 //!
 //! Whether a pointer is null, which member of a union is set, how long a list and how deep a tree
-//! is, may all be known at run time only; types stay as they are.
+//! is, may be known at run time only. Types are known before.
 //!
 //! [encoding document]: https://capnproto.org/encoding.html
 #![tactic(auto)]

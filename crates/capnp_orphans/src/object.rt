@@ -7,19 +7,19 @@ ghost use Rattle.capnp_wire.specs.Pointer.{words_of};
 
 use capnp_frame::{Error, ErrorKind, Result};
 
-/// An object that is written after what stands in a segment.
+/// An object that is written after what a segment holds.
 pub trait Object {
-    /// What holds of it once it is written, by the words after the root's before and after it, and
-    /// by its word as an orphan.
+    /// What holds of the object once it is written, by the words after the root's before and after
+    /// it, and by its word as an orphan.
     ghost holds: { Self → List ℕ → List ℕ → ℕ → Type 0 };
 
     /// It has this many words.
     ghost takes: { Self → ℕ → Type 0 };
 
-    /// It can't be written, and this says why.
+    /// It can't be written, and this is the error.
     ghost refuses: { Self → ErrorKind → Type 0 };
 
-    /// How many words it has.
+    /// How many words it has. Fails with a kind that `refuses` names.
     fn measure(&self) -> Result<u32>
         ensures returned { MatchResult result (takes self.now)
             (λ error. refuses self.now error.kind) }
@@ -38,8 +38,7 @@ pub trait Object {
             holds self.now body (body ++ words_of block.new) result };
 }
 
-/// The refusal of an object of too many elements or words, which it tells as far as 32 bits hold
-/// them.
+/// The error for too many elements or words, which it tells as far as 32 bits hold them.
 pub(crate) fn too_many(number: usize) -> Error
     ensures { result.kind ≡ AllocationTooLarge (min number (2 ^ 32 - 1)) }
 {

@@ -7,9 +7,9 @@ use std::marker::PhantomData;
 /// An object of an orphanage, of a type of a schema; or null.
 ///
 /// It may be adopted more than once, and become the root, too: then several pointers lead to it,
-/// and a reader meets it, and counts its words, once for each of them. One of another orphanage, or
-/// of before the last `clear`, does no harm: its pointer leads to whatever stands there, or to
-/// nothing, and a reader shows that, or refuses it.
+/// and a reader counts its words once for each of them. An orphan of another orphanage, or of
+/// before the last `clear`, does no harm: its pointer leads to whatever is there, or to nothing,
+/// and a reader shows that or fails.
 #[derive_where(Clone, Copy)]
 pub struct Orphan<T> {
     /// The pointer to it, with the word of the segment where it begins in place of the offset.
@@ -28,8 +28,8 @@ impl<T> Orphan<T> {
         Orphan::of_word(0)
     }
 
-    /// The same object as one of another type of a schema. A view tests what it is got from, so a
-    /// wrong type is refused where the object is read.
+    /// The same object as one of another type of a schema. A view tests the object that it shows,
+    /// so a wrong type fails where the object is read.
     #[inline(always)]
     pub fn of_type<U>(self) -> Orphan<U>
         ensures { result.word ≡ self.word }
@@ -37,7 +37,7 @@ impl<T> Orphan<T> {
         Orphan::of_word(self.word)
     }
 
-    /// The orphan of a word.
+    /// The orphan that has this word.
     #[inline(always)]
     pub(crate) fn of_word(word: u64) -> Orphan<T>
         ensures { result.word ≡ word }
@@ -49,7 +49,7 @@ impl<T> Orphan<T> {
     }
 }
 
-/// What has the word of an orphan.
+/// A type that has the word of an orphan.
 pub(crate) trait OrphanWord {
     /// The word.
     ghost word: { Self → ℕ };
@@ -77,7 +77,7 @@ impl OrphanWord for u64 {
     }
 }
 
-/// The pointer to an orphan that stands at a word of the segment.
+/// The pointer to an orphan, for a word of the segment.
 #[inline(always)]
 pub(crate) fn link(word: u64, place: u32) -> u64
     requires { place < 2 ^ 29 }

@@ -27,18 +27,17 @@ use std::marker::Model;
 
 /// A message of one segment, whose objects are written one after the other, each once. Its first
 /// word is the root's, which is null until it is set.
-///
 /// A call that writes an object returns its orphan, or fails and changes nothing. All orphans hold
 /// what they held, whatever is written later.
 ///
 /// A segment has fewer than 2^29 words, so no far pointer is needed, and in a region no more than
-/// that has. An object with whose words it would have more fails with `AllocationTooLarge` of its
-/// words. On the heap a call fails with `OutOfMemory` where the memory that is there has no room for
-/// them, and more is refused.
+/// fit. A call whose object does not fit fails with `AllocationTooLarge` of the object's words. On
+/// the heap it fails with `OutOfMemory` where the memory that is there has no room, and no more is
+/// to be had.
 ///
 /// The message is read in place, and written framed or packed by `write_message_segments`, which
-/// takes the orphanage as it is. Once it is cleared it serves for the next message: as far as the
-/// memory that is there has room, no call is refused.
+/// takes the orphanage as it is. Once it is cleared it serves for the next message, and no call
+/// fails for want of memory as far as the memory that is there has room.
 ///
 /// ```
 /// let mut objects = Orphanage::new(alloc)?;
@@ -67,8 +66,8 @@ impl<S: GrowingSegment> Model for Orphanage<S> {
 }
 
 impl Orphanage<Vec<u8>> {
-    /// One that takes memory as it grows. The root is null. Where memory is refused, here or later,
-    /// a call fails with `OutOfMemory`.
+    /// An orphanage that takes memory as it grows. The root is null. Fails with `OutOfMemory`
+    /// alone.
     pub fn new(alloc: Global) -> Result<Orphanage<Vec<u8>>>
         ensures { MatchResult result
             (λ objects. (objects.bytes ≡ replicate 8 0) × (objects.most ≡ None))
@@ -81,9 +80,8 @@ impl Orphanage<Vec<u8>> {
 }
 
 impl<'a> Orphanage<Region<'a>> {
-    /// One in a region that its caller lends, which takes no memory. The root is null. A region of
-    /// fewer than 8 bytes fails with `AllocationTooLarge`, and so does whatever there is no room
-    /// for later.
+    /// An orphanage in a caller-provided region, which takes no memory. The root is null. Fails
+    /// with `AllocationTooLarge(1)` exactly where the region has fewer than 8 bytes.
     ///
     /// ```
     /// let mut region = [0; 64];
@@ -104,8 +102,8 @@ impl<'a> Orphanage<Region<'a>> {
 }
 
 impl<S: GrowingSegment> Orphanage<S> {
-    /// Lets all objects go, and keeps the memory. The root is null, and an orphan of before is one
-    /// of another orphanage from now on.
+    /// Lets all objects go, and keeps the memory. The root is null, and from now on an earlier
+    /// orphan is one of another orphanage.
     pub fn clear(&mut self)
         ensures { self.new ≡ with_root_alone self.old }
     {
@@ -140,8 +138,9 @@ impl<S: GrowingSegment> Orphanage<S> {
     /// a view of another message shows. What a pointer leads to there, a list too, is copied as the
     /// view `any_pointer::Reader` of it.
     ///
-    /// A value of 2^29 words and more fails with `AllocationTooLarge` of its words, at most
-    /// 2^32 - 1; one that can't be read, as its view is refused.
+    /// A value of 2^29 words and more fails with `AllocationTooLarge` of its words, at most 2^32 -
+    /// 1; one that can't be read, as its view does; and one for which there is no room, as
+    /// `Orphanage` says.
     pub fn set<T, V: SetterInput<T>>(&mut self, value: &V) -> Result<Orphan<T>>
         ensures adds { Adds (HoldsValue (V.has_tree value.now)) self.old self.new word_of result }
         ensures writes { Writes (HasWords (V.has_tree value.now) false)
@@ -153,7 +152,8 @@ impl<S: GrowingSegment> Orphanage<S> {
 
     /// Writes a text, with a zero byte at its end ("Blobs").
     ///
-    /// One of 2^29 - 1 bytes and more fails with `AllocationTooLarge` of its words, at most 2^32 - 1.
+    /// Fails for 2^29 - 1 bytes and more with `AllocationTooLarge` of the text's words, at most
+    /// 2^32 - 1, and for want of room as `Orphanage` says.
     pub fn text(&mut self, text: &str) -> Result<Orphan<text::Owned>>
         ensures adds { Adds (HoldsValue (IsTextTree text.now)) self.old self.new word_of result }
         ensures writes { Writes (HasWords (IsTextTree text.now) false)
@@ -162,8 +162,10 @@ impl<S: GrowingSegment> Orphanage<S> {
         self.set::<text::Owned, &str>(&text)
     }
 
-    /// Writes data: some bytes ("Blobs"). 2^29 bytes and more fail with `AllocationTooLarge` of
-    /// their words, at most 2^32 - 1.
+    /// Writes data: some bytes ("Blobs").
+    ///
+    /// Fails for 2^29 bytes and more with `AllocationTooLarge` of their words, at most 2^32 - 1,
+    /// and for want of room as `Orphanage` says.
     pub fn data(&mut self, bytes: &[u8]) -> Result<Orphan<data::Owned>>
         ensures adds { Adds (HoldsValue (IsBytes bytes.now)) self.old self.new word_of result }
         ensures writes { Writes (HasWords (IsBytes bytes.now) false)
@@ -172,8 +174,10 @@ impl<S: GrowingSegment> Orphanage<S> {
         self.set::<data::Owned, &[u8]>(&bytes)
     }
 
-    /// Writes a list of numbers of any width, or of bools ("Lists"). 2^29 numbers and more fail with
-    /// `AllocationTooLarge` of how many they are, at most 2^32 - 1.
+    /// Writes a list of numbers of any width, or of bools ("Lists").
+    ///
+    /// Fails for 2^29 numbers and more with `AllocationTooLarge` of how many they are, at most 2^32
+    /// - 1, and for want of room as `Orphanage` says.
     pub fn numbers<N: PrimitiveElement + Copy>(
         &mut self,
         items: &[N],
@@ -188,11 +192,11 @@ impl<S: GrowingSegment> Orphanage<S> {
         self.set::<primitive_list::Owned<N>, NumberList<'_, N>>(&list)
     }
 
-    /// Writes a struct ("Structs"). 2^16 data words or pointers and more fail with
-    /// `AllocationTooLarge(65536)`.
+    /// Writes a struct ("Structs"). An orphan of another orphanage is adopted like one of this: its
+    /// pointer is written, and leads to whatever is there.
     ///
-    /// An orphan of another orphanage is adopted like one of this: its pointer is written, and leads
-    /// to whatever stands there.
+    /// Fails for 2^16 data words or pointers and more with `AllocationTooLarge(65536)`, and for
+    /// want of room as `Orphanage` says.
     pub fn add<T, const D: usize, const P: usize>(
         &mut self,
         draft: &StructDraft<T, D, P>,
@@ -205,8 +209,10 @@ impl<S: GrowingSegment> Orphanage<S> {
     }
 
     /// Writes a list of the pointers to some orphans ("Lists"): of texts, of data, of lists, or of
-    /// structs that stand each for itself. 2^29 orphans and more fail with `AllocationTooLarge` of
-    /// how many they are, at most 2^32 - 1.
+    /// structs that are written each for itself.
+    ///
+    /// Fails for 2^29 orphans and more with `AllocationTooLarge` of how many they are, at most 2^32
+    /// - 1, and for want of room as `Orphanage` says.
     pub fn pointer_list<T>(&mut self, items: &[Orphan<T>]) -> Result<Orphan<list_list::Owned<T>>>
         ensures adds { Adds (HoldsPointers (body_of self.old) (map word_of items.now))
             self.old self.new word_of result }
@@ -218,9 +224,9 @@ impl<S: GrowingSegment> Orphanage<S> {
 
     /// Writes a list of structs, one after the other ("Lists").
     ///
-    /// It fails with `AllocationTooLarge`: of 65536 where `add` refuses the structs, of how many
-    /// they are where these are 2^29 and more, and of the words of the list, its tag among them,
-    /// where these are; at most of 2^32 - 1.
+    /// Fails with `AllocationTooLarge`: of 65536 as `add` does, of how many structs there are for
+    /// 2^29 and more, and of the words of the list, its tag among them, for 2^29 and more; at most
+    /// of 2^32 - 1. For want of room it fails as `Orphanage` says.
     pub fn struct_list<T, const D: usize, const P: usize>(
         &mut self,
         items: &[StructDraft<T, D, P>],
@@ -233,7 +239,7 @@ impl<S: GrowingSegment> Orphanage<S> {
         self.made_struct_list::<T, D, P, &[StructDraft<T, D, P>]>(&items)
     }
 
-    /// Writes a list of structs that a source makes, one by one. It is refused as `struct_list` is.
+    /// Writes a list of structs that a source makes, one by one. It fails as `struct_list` does.
     pub fn made_struct_list<T, const D: usize, const P: usize, M: DraftSource<T, D, P>>(
         &mut self,
         source: &M,
@@ -253,7 +259,7 @@ impl<S: GrowingSegment> Orphanage<S> {
         self.segment.set_root_word(link(root.word, 0));
     }
 
-    /// Writes a struct and makes it the root. It fails as `add` does, and then the root is as it
+    /// Writes a struct and makes it the root. It fails as `add` does, and the root is then as it
     /// was.
     pub fn add_root<T, const D: usize, const P: usize>(
         &mut self,

@@ -1,4 +1,4 @@
-//! A region of the caller's, as a segment that grows.
+//! A caller-provided region, as a segment that grows.
 ghost use Rattle.std.specs.Prelude.{◌≡◌, ◌<◌, ◌≤◌, take, length, replicate, Some, MatchResult};
 ghost use Rattle.capnp_frame.specs.declared.error.ErrorKind.TheVariants.{AllocationTooLarge};
 
@@ -7,7 +7,7 @@ use crate::segment::{GrowingSegment, put_root, write_after};
 use capnp_frame::{Error, ErrorKind, Result};
 use std::marker::Model;
 
-/// A region that its caller lends, of which the first bytes are used. It takes no memory. What the
+/// A caller-provided region, of which the first bytes are used. It takes no memory, and what the
 /// region held before does not matter.
 #[derive(Drop)]
 pub struct Region<'a> {

@@ -8,17 +8,19 @@ use crate::object::Object;
 use capnp_frame::Result;
 use capnp_wire::pointer_word::put_word;
 
-/// The bytes of a segment, of which none is changed but the root's word, and to which objects are
-/// appended.
+/// The bytes of a segment, to which objects are appended. None of its words but the root's changes.
 pub trait GrowingSegment: Drop {
-    /// What clauses see of it.
+    /// What contracts see of it.
     ghost state: { Self → Segment };
 
     /// The bytes.
     fn bytes(&self) -> &[u8]
         ensures { result.now ≡ (state self.now).bytes };
 
-    /// Writes an object of a given number of words after the bytes. Returns its word as an orphan.
+    /// Writes an object of this many words after the bytes, and returns its word as an orphan.
+    ///
+    /// Fails where the memory that is there has no room: on the heap with `OutOfMemory`, in a
+    /// region with `AllocationTooLarge` of these words. Nothing is changed then.
     fn append<O: Object>(&mut self, object: &O, words: u32) -> Result<u64>
         requires segment { IsSegment (state self.old) }
         requires takes { O.takes object.now words }
@@ -31,7 +33,7 @@ pub trait GrowingSegment: Drop {
         requires { IsSegment (state self.old) }
         ensures { PutsRoot word (state self.old) (state self.new) };
 
-    /// Lets all go but the root's word, which is made zero.
+    /// Lets all words go but the root's, which is made zero.
     fn clear(&mut self)
         requires { IsSegment (state self.old) }
         ensures { state self.new ≡ with_root_alone (state self.old) };
@@ -66,11 +68,10 @@ impl GrowingSegment for Vec<u8> {
     }
 }
 
-// Adds zeros to a vector. It fails with `OutOfMemory` where it has no room for them, and more is
-// refused; it changes nothing then.
-//
-// Up to 64 are made by stores of a constant size, so that no call whose branches depend on the size
-// is needed for a short text.
+// Adds zeros to a vector. Fails with `OutOfMemory`, and changes nothing, where it has no room for
+// them and no more memory is to be had.
+// Speed: up to 64 are made by stores of a constant size, so a short object needs no call whose
+// branches depend on the size (`tools/time-building built`).
 #[inline(always)]
 fn add_zeros(bytes: &mut Vec<u8>, added: usize) -> Result<()>
     ensures items { bytes.new.items ≡ (if is_ok result

@@ -31,8 +31,8 @@ impl<'a, T, const D: usize, const P: usize, S: DraftSource<T, D, P>> StructList<
     }
 }
 
-// 2^29 structs or words and more fail with `AllocationTooLarge` of their number, and structs that no
-// pointer can tell with `AllocationTooLarge(65536)`.
+// 2^29 structs or words and more fail with `AllocationTooLarge` of their number, and structs too
+// large for a pointer with `AllocationTooLarge(65536)`.
 impl<'a, T, const D: usize, const P: usize, S: DraftSource<T, D, P>> Object
     for StructList<'a, T, D, P, S> {
     ghost use Rattle.std.specs.Prelude.{length};
@@ -87,6 +87,7 @@ fn put_elements<T, const D: usize, const P: usize, S: DraftSource<T, D, P>>(
     let mut at = 0;
     for index in 0..source.len() {
         let draft = source.get(index);
+        // For the prover: the draft has as many data words and pointers as its type says.
         draft_fits(&draft);
         let part = &mut block[8 * at..8 * (at + size)];
         put_struct(&draft.words, &draft.pointers, place + at as u32, part);

@@ -29,23 +29,25 @@ impl<T, const D: usize, const P: usize> Object for StructDraft<T, D, P> {
 
     #[inline(always)]
     fn write(&self, start: u32, block: &mut [u8]) -> u64 {
+        // For the prover: the draft has as many data words and pointers as its type says.
         draft_fits(self);
         put_struct(&self.words, &self.pointers, start, block);
         struct_orphan(start, D, P)
     }
 }
 
-/// The arrays of a draft are of its type.
+/// The data words and pointers of a draft are as many as its type says.
 #[inline(always)]
 pub(crate) fn draft_fits<T, const D: usize, const P: usize>(draft: &StructDraft<T, D, P>)
     ensures words { length draft.now.words ≡ D }
     ensures pointers { length draft.now.pointers ≡ P }
     ensures few { All (λ word. word < 2 ^ 64) draft.now.words }
 {
+    // For the prover: each data word is below 2^64.
     words_fit(&draft.words);
 }
 
-// The word of a struct that begins there, as an orphan.
+// The word of a struct that begins at this word, as an orphan.
 #[inline(always)]
 fn struct_orphan(start: u32, words: usize, pointers: usize) -> u64
     requires start { start < 2 ^ 29 }
