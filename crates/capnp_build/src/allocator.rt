@@ -8,39 +8,41 @@ ghost use Rattle.capnp_build.specs.Allocating.{HandsOut, TakesBack};
 use crate::segment_space::SegmentSpace;
 use capnp_frame::Result;
 
-/// What hands out segments and takes them back.
+/// Hands out segments, and takes them back.
 ///
 /// For implementers: `out` says which segments may be out, each by its length in bytes and whether
-/// it is caller-provided; `same` what each call keeps, as the region that an allocator lends;
-/// `grants` which requests have to be granted, where an allocator can say that: memory is never sure
-/// to be there; `returns` what a return does, by the segment and its used words. Where nothing
-/// depends on these it says nothing, and code over any allocator still shows it by returns of just
-/// these words alone.
+/// it is caller-provided. `same` is what each call keeps, as the caller-provided region of an
+/// allocator. `grants` says which requests have to be granted, where an allocator can promise that:
+/// memory is never sure to be there. `returns` says what a return does, by the segment and its used
+/// words; an allocator for which nothing depends on these leaves it open, and code over any
+/// allocator still shows that it returns just these words.
 pub trait Allocator: Drop {
-    /// The bytes of what it hands out.
+    /// The bytes of a segment.
     type Segment: SegmentSpace;
 
-    /// The allocator may have these segments out.
+    /// These segments may be out of the allocator.
     ghost out: { Self → List Out → Type 0 };
 
     /// What each call keeps.
     ghost same: { Self → Self → Type 0 };
 
-    /// A request of a given number of words has to be granted, by a segment of a given number of words.
+    /// A request of a given number of words has to be granted, by a segment of a given number of
+    /// words.
     ghost grants: { Self → ℕ → ℕ → Type 0 };
 
-    /// A return of a segment, of which a given number of words were used, leads from the one to the
-    /// other.
+    /// A return of a segment, of which this many words were used, leads from the one allocator to
+    /// the other.
     ghost returns: { Self → Out → ℕ → Self → Type 0 };
 
-    /// Hands out a segment of at least a given number of words and fewer than 2^32, all zero. It
-    /// fails with `OutOfMemory`, `AllocationTooLarge` with the words asked, or `SegmentTaken` alone,
-    /// by the last only while a segment is out that is large enough.
+    /// Hands out a segment of at least this many words and fewer than 2^32, all zero.
+    ///
+    /// Fails with `OutOfMemory`, with `AllocationTooLarge` of the words asked, or with
+    /// `SegmentTaken`, alone; with the last only while a segment is out that is large enough.
     fn allocate_segment(&mut self, minimum_size: u32) -> Result<Self::Segment>
         ensures { HandsOut out same grants Self.Segment.content Self.Segment.is_provided
             minimum_size self.old self.new result };
 
-    /// Takes a segment back, of which the first words were used. What lies past these is zero.
+    /// Takes a segment back, of which the first words were used. The rest of it is zero.
     fn deallocate_segment(&mut self, segment: Self::Segment, words_used: u32)
         requires is_out { IsOut (out self.old) (record { length = length (Self.Segment.content segment); is_provided = Self.Segment.is_provided segment }) }
         requires used { 8 * words_used ≤ length (Self.Segment.content segment) }
@@ -49,14 +51,14 @@ pub trait Allocator: Drop {
             (record { length = length (Self.Segment.content segment); is_provided = Self.Segment.is_provided segment })
             words_used self.old self.new };
 
-    /// What each call keeps, the calls together keep.
+    /// What each call keeps, several calls keep together.
     ghost keeps: { IsPreorder same };
 
-    /// Some segments are out, if only none.
+    /// Some segments may be out, or none.
     ghost accounts: { (allocator : Self) → (list : List Out) × out allocator list };
 }
 
-/// The same allocator, which its owner keeps.
+/// A reference to an allocator, which its owner keeps.
 impl<A: Allocator> Allocator for &mut A {
     type Segment = A::Segment;
 

@@ -40,7 +40,7 @@ impl<'a, M: Building> View<'a, M, Owned> {
     /// Whether the root is null.
     pub fn is_null(&self) -> bool
         ensures root { ForRoot (M.built self.now.message.now).spaces (λ form. IsTrue result ↔ (form ≡ null)) }
-        // So is the root of a message of no segments.
+        // This holds for a message of no segments, too.
         ensures none { (M.built self.now.message.now).spaces ≡ [] → IsTrue result }
     {
         match self.message.root_kind() {
@@ -49,15 +49,17 @@ impl<'a, M: Building> View<'a, M, Owned> {
         }
     }
 
-    /// The size of the root's object with all below it, without landing pads. The walk has no
-    /// traversal limit, and is refused where a reading pointer to the root refuses it.
+    /// The size of the root's object with all below it, without landing pads.
+    ///
+    /// Fails as `any_pointer::Reader::target_size` of `capnp_wire` does of the root, read without a
+    /// traversal limit.
     pub fn target_size(&self) -> Result<MessageSize>
         ensures { SizesRoot (M.built self.now.message.now).spaces result }
     {
         self.message.target_size()
     }
 
-    /// The root's object as a type shows it, without a look at what it is.
+    /// The root's object as a view of a type, without a test of its kind.
     pub fn into_view<K>(self) -> View<'a, M, K>
         ensures same { result.message.ghost_name ≡ self.entry.message.ghost_name }
         ensures value { result.message.now ≡ self.entry.message.now }
@@ -66,7 +68,9 @@ impl<'a, M: Building> View<'a, M, Owned> {
         View::new(message)
     }
 
-    /// Makes the root a new object of some length, all zero. Where it is refused, the root is null.
+    /// Makes the root a new object of length `n`, all zero.
+    ///
+    /// Fails as `Builder::initn_root` of `capnp_message` does, and the root is then null.
     pub fn set_new<K: OwnedBuilder>(&mut self, n: u32) -> Result<()>
         ensures same { self.new.message.ghost_name ≡ self.old.message.ghost_name }
         ensures inits { InitsRoot M.Allocator.Allocator K.OwnedBuilder n
@@ -75,8 +79,10 @@ impl<'a, M: Building> View<'a, M, Owned> {
         self.message.init_object::<K>(n)
     }
 
-    /// The root as a view of a type, where it takes what stands there. Nothing changes, also where
-    /// it is refused.
+    /// The root as a view of a type. Nothing changes.
+    ///
+    /// Fails with `WrongPointerKind` or `TextNotTerminated`, as the reading view of that type does,
+    /// where the type doesn't take the object.
     pub fn get_as<K: OwnedBuilder>(self) -> Result<View<'a, M, K>>
         ensures same { IfOk result (λ view. view.message.ghost_name ≡ self.entry.message.ghost_name) }
         ensures looked { IfOk result (λ view. view.message.now ≡ self.entry.message.now) }
@@ -88,8 +94,8 @@ impl<'a, M: Building> View<'a, M, Owned> {
         Ok(View::new(message))
     }
 
-    /// Makes the root a new object of some length, all zero, and returns a view that writes it.
-    /// Where it is refused, the root is null.
+    /// Makes the root a new object of length `n`, all zero, and returns a view that writes it.
+    /// Fails as `set_new` does.
     pub fn initn_as<K: OwnedBuilder>(self, n: u32) -> Result<View<'a, M, K>>
         ensures { InitsView M.Allocator.Allocator K.OwnedBuilder n M.built
             (λ view. view.message) self.entry.message result }
@@ -99,7 +105,8 @@ impl<'a, M: Building> View<'a, M, Owned> {
         Ok(View::new(message))
     }
 
-    /// The same, of length 0.
+    /// Makes the root a new object of length 0, and returns a view that writes it. Fails as
+    /// `set_new` does.
     pub fn init_as<K: OwnedBuilder>(self) -> Result<View<'a, M, K>>
         ensures { InitsView M.Allocator.Allocator K.OwnedBuilder 0 M.built
             (λ view. view.message) self.entry.message result }
@@ -107,7 +114,8 @@ impl<'a, M: Building> View<'a, M, Owned> {
         self.initn_as::<K>(0)
     }
 
-    /// Sets the root to a value. Where it is refused, the root is null.
+    /// Sets the root to a value. Fails as `Builder::set_root` of `capnp_message` does, and the root
+    /// is then null.
     pub fn set_as<T, V: SetterInput<T> + Drop>(&mut self, value: V) -> Result<()>
         ensures same { self.new.message.ghost_name ≡ self.old.message.ghost_name }
         ensures sets { SetsRoot M.Allocator.Allocator (V.has_tree value) (V.refuses value)

@@ -51,7 +51,7 @@ impl<'a, M: Building> View<'a, M, Owned> {
         self.message.set_word(index, word);
     }
 
-    /// A data word; 0 past the end.
+    /// A data word; 0 past the last one.
     pub fn get_word(&self, index: u16) -> u64
         ensures root { ForRoot (M.built self.now.message.now).spaces (λ form. (words : List ℕ) → HasData form words → result ≡ slice_index_or words index 0) }
         ensures none { (M.built self.now.message.now).spaces ≡ [] → result ≡ 0 }
@@ -62,7 +62,7 @@ impl<'a, M: Building> View<'a, M, Owned> {
         word_at(self.message.root_bytes(), index as u32)
     }
 
-    /// How many data words there are.
+    /// The number of data words.
     pub fn data_words(&self) -> u16
         ensures count { ForRoot (M.built self.now.message.now).spaces (λ form. (words : List ℕ) → HasData form words → result ≡ length words) }
         ensures each { (index : ℕ) → index < result → HasField (M.built self.now.message.now).spaces index }

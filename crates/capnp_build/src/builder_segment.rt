@@ -58,7 +58,7 @@ impl<S: SegmentSpace> BuilderSegment<S> {
         self.words
     }
 
-    /// The words that are free, of the first 2^29 alone.
+    /// The free words, counted as far as the segment has 2^29.
     pub fn room(&self) -> u32
         ensures { result ≡ min (self.now.size / 8) (2 ^ 29) - length self.now.used / 8 }
     {
@@ -67,21 +67,23 @@ impl<S: SegmentSpace> BuilderSegment<S> {
         most - self.words
     }
 
-    /// Uses a given number of words more.
+    /// Uses this many words more.
     pub fn grow(&mut self, words: u32)
         requires { words ≤ min (self.old.size / 8) (2 ^ 29) - length self.old.used / 8 }
         ensures { self.new ≡ with_block self.old (8 * words) }
     {
+        // For the prover: the length of the segment fits `usize`.
         let size = self.segment.bytes().len();
         self.words = self.words + words;
     }
 
-    /// A value written after the used words, in a given number of words.
+    /// Writes a value after the used words, in this many words, and returns the pointer to it.
     pub fn append<T, V: SetterInput<T>>(&mut self, canonical: bool, value: &V, words: u32) -> Word
         requires room { words ≤ min (self.old.size / 8) (2 ^ 29) - length self.old.used / 8 }
         requires words { HasWords (V.has_tree value.now) canonical words }
         ensures { IsAppended (V.has_tree value.now) canonical result words self.old self.new }
     {
+        // For the prover: the length of the segment fits `usize`.
         let size = self.segment.bytes().len();
         let from = 8 * self.words as usize;
         let to = from + 8 * words as usize;

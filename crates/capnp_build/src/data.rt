@@ -52,7 +52,7 @@ impl<'a, M: Building> View<'a, M, Owned> {
         self.message.write_bytes(index, &[byte]);
     }
 
-    /// Writes bytes over those from an index on.
+    /// Writes bytes over the present ones, from an index on.
     pub fn write(&mut self, index: u32, bytes: &[u8])
         requires { HasBytes (M.built self.old.message.now).spaces index (length bytes.now) }
         ensures { WritesView M.built (λ old new. IsBytesSet old new index bytes.now)
@@ -72,7 +72,7 @@ impl<'a, M: Building> View<'a, M, Owned> {
         }
     }
 
-    /// How many bytes there are.
+    /// The number of bytes.
     pub fn len(&self) -> u32
         ensures count { ForRoot (M.built self.now.message.now).spaces (λ form. (bytes : List ℕ) → IsData form bytes → result ≡ length bytes) }
         ensures each { (index count : ℕ) → 0 < count → index + count ≤ result → HasBytes (M.built self.now.message.now).spaces index count }
@@ -84,7 +84,7 @@ impl<'a, M: Building> View<'a, M, Owned> {
     }
 }
 
-// The first of some bytes.
+// The first `count` bytes.
 fn first_of(bytes: &[u8], count: u32) -> &[u8]
     ensures { result.now ≡ take (min count (length bytes.now)) bytes.now }
 {

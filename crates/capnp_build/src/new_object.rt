@@ -38,7 +38,7 @@ impl NewObject {
         NewObject { body }
     }
 
-    /// Its words as it stands.
+    /// The words of the object.
     pub fn words(&self) -> u32
         ensures { HasWords (λ trees. trees ≡ tree (zero_form self.now) none none) false result }
     {
@@ -75,7 +75,7 @@ impl SetterInput<Owned> for NewObject {
         false
     }
 
-    // The block is zero there.
+    // The block is zero already.
     fn write(&self, canonical: bool, _block: &mut [u8], following: usize, next: usize) -> Copied {
         let body = self.formed(canonical);
         Copied {

@@ -11,7 +11,7 @@ pub enum Body {
     Bytes(u32),
     /// A list of words.
     Words(u32),
-    /// A struct of data words.
+    /// A struct of data words, without pointers.
     Struct(u32),
 }
 
@@ -28,7 +28,7 @@ impl Body {
         }
     }
 
-    /// The pointer to it, a given number of words before it.
+    /// The pointer to it, from this many words before it.
     pub fn tag(self, offset: u32) -> u64
         requires fits { Fits self }
         requires near { offset < 2 ^ 29 }

@@ -1,4 +1,4 @@
-//! Types of schemas, as far as they are built.
+//! Types of schemas that can be built.
 ghost use Rattle.std.specs.Prelude.{◌≡◌, ℕ, List, IfOk, IfErr, OnOk};
 ghost use Rattle.capnp_frame.specs.declared.error.ErrorKind.{ErrorKind};
 ghost use Rattle.capnp_wire.specs.Tree.{Form};
@@ -9,27 +9,29 @@ use crate::object::Body;
 use crate::root_kind::RootKind;
 use capnp_frame::Result;
 
-/// A type of a schema, as far as it is built.
+/// A type of a schema that can be built.
 pub trait OwnedBuilder {
-    /// What an init of some length gives.
+    /// The object that an init of this length makes.
     ghost inits: { ℕ → Form → Type 0 };
 
-    /// An init of some length is refused so.
+    /// An init of this length fails with this kind.
     ghost refuses: { ℕ → ErrorKind → Type 0 };
 
-    /// The object of some length; `None` for null.
+    /// The object that an init of length `n` makes; `None` for null. Fails with a kind that
+    /// `refuses` names.
     fn object(n: u32) -> Result<Option<Body>>
         ensures inits { IfOk result (λ body. inits n (new_form body)) }
         ensures fits { IfOk result OptionFits }
         ensures refused { IfErr result (λ error. refuses n error.kind) };
 
-    /// There is a view of such an object.
+    /// There is a view of this object.
     ghost takes: { Form → Type 0 };
 
-    /// There is none, and this says why.
+    /// There is none, and this is the error.
     ghost declines: { Form → ErrorKind → Type 0 };
 
-    /// Whether there is a view of the object of which this is shown, and whose bytes are these.
+    /// Checks that an object of this kind, with these bytes, can be viewed as this type. Fails with
+    /// a kind that `declines` names.
     fn accept(shown: RootKind, bytes: &[u8]) -> Result<()>
         ensures taken { OnOk result ((form : Form) → ShowsRoot shown form → HoldsForm bytes.now form → takes form) }
         ensures declined { IfErr result (λ error. (form : Form) → ShowsRoot shown form → HoldsForm bytes.now form → declines form error.kind) };

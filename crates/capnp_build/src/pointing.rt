@@ -13,7 +13,7 @@ use capnp_wire::pointer_word::{far_word, moved};
 use capnp_wire::traits::SetterInput;
 
 impl<A: Allocator> Segments<A> {
-    /// Makes the root's word zero, and the block that it leads to.
+    /// Makes the root's word zero, and the object that it leads to.
     pub fn wipe(&mut self, location: Option<RootLocation>)
         requires there { 0 < length self.old.spaces }
         requires built { IsBuilt self.old.spaces location }
@@ -29,7 +29,7 @@ impl<A: Allocator> Segments<A> {
         self.zero(0, 0, 8);
     }
 
-    /// Fills a block after the used words of a segment with a value, and returns where it stands.
+    /// Writes a value into a block after the used words of a segment, and returns where it is.
     pub fn fill<T, V: SetterInput<T>>(
         &mut self,
         segment: u32,

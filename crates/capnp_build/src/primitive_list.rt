@@ -51,7 +51,7 @@ impl<'a, M: Building> View<'a, M, Owned<u64>> {
         self.message.set_number(index, number);
     }
 
-    /// A number; 0 past the end.
+    /// A number; 0 past the last one.
     pub fn get(&self, index: u32) -> u64
         ensures root { ForRoot (M.built self.now.message.now).spaces (λ form. (words : List ℕ) → IsWords form words → result ≡ slice_index_or words index 0) }
         ensures none { (M.built self.now.message.now).spaces ≡ [] → result ≡ 0 }
@@ -62,7 +62,7 @@ impl<'a, M: Building> View<'a, M, Owned<u64>> {
         word_at(self.message.root_bytes(), index)
     }
 
-    /// How many numbers there are.
+    /// The number of elements.
     pub fn len(&self) -> u32
         ensures count { ForRoot (M.built self.now.message.now).spaces (λ form. (words : List ℕ) → IsWords form words → result ≡ length words) }
         ensures each { (index : ℕ) → index < result → HasNumber (M.built self.now.message.now).spaces index }

@@ -1,4 +1,4 @@
-//! What the object at the root is, by its pointer word.
+//! The kind of the object at the root, by its pointer word.
 ghost use Rattle.std.specs.Prelude.{◌≡◌, ℕ, slice_index_or};
 ghost use Rattle.capnp_wire.specs.Pointer.{words_of};
 ghost use Rattle.capnp_wire.specs.Tree.{Form};
@@ -38,7 +38,7 @@ pub(crate) fn read_tag(tag: u64) -> RootKind
     }
 }
 
-/// A word of some bytes; 0 past the last whole one.
+/// A word of these bytes; 0 past the last whole one.
 pub(crate) fn word_at(bytes: &[u8], index: u32) -> u64
     ensures { result ≡ slice_index_or (words_of bytes.now) index 0 }
 {

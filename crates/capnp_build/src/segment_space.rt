@@ -8,7 +8,7 @@ use capnp_frame::Word;
 use capnp_wire::pointer_word::word_of;
 use capnp_wire::traits::SetterInput;
 
-/// The bytes of a segment. How many there are, and whether they are caller-provided, stays as it is.
+/// The bytes of a segment. Their number, and whether they are caller-provided, never change.
 pub trait SegmentSpace: Drop {
     /// The bytes.
     ghost content: { Self → List ℕ };
@@ -105,7 +105,7 @@ impl<'a> SegmentSpace for &'a mut [u8] {
     }
 }
 
-// Writes a value into a part of some bytes, which is zero and just its words.
+// Writes a value into a part of these bytes, which is zero and just its words.
 fn write_into<T, V: SetterInput<T>>(
     bytes: &mut [u8],
     from: usize,

@@ -19,10 +19,9 @@ use capnp_wire::traits::SetterInput;
 use std::alloc::Global;
 use std::marker::Model;
 
-// Where a segment of a message stands.
+// Where a segment of a message is kept: in place, or in the vector of the others.
 #[derive(Clone, Copy)]
 enum SegmentPlace {
-    // In place.
     First,
     // In the vector of the others, after this many of them.
     Further(usize),
@@ -100,7 +99,7 @@ impl<A: Allocator> Segments<A> {
         }
     }
 
-    /// The words that are free in a segment.
+    /// The free words of a segment.
     pub fn room(&self, index: u32) -> u32
         requires { index < length self.now.spaces }
         ensures { result ≡ free_words_of (space_at self.now.spaces index) }
@@ -114,7 +113,7 @@ impl<A: Allocator> Segments<A> {
         }
     }
 
-    /// The words that are used of a segment.
+    /// The used words of a segment.
     pub fn words(&self, index: u32) -> u32
         requires { index < length self.now.spaces }
         ensures { CountsUsedWords result (space_at self.now.spaces index).used }
@@ -128,14 +127,15 @@ impl<A: Allocator> Segments<A> {
         }
     }
 
-    /// What is used can be written, once there is a segment.
+    /// The used words can be written, once there is a segment.
     pub fn are_writable(&self)
         ensures { CanBeWritten self.now.spaces }
     {
+        // For the prover: a look at a field brings in the invariant, which says this.
         let first = &self.first;
     }
 
-    /// The words that are used of all segments.
+    /// The used words of all segments.
     pub fn size_in_words(&self) -> usize
         ensures { result ≡ size_in_words self.now.spaces }
     {
@@ -146,7 +146,7 @@ impl<A: Allocator> Segments<A> {
         words
     }
 
-    /// Uses a given number of words more of a segment.
+    /// Uses this many words more of a segment.
     pub fn grow(&mut self, index: u32, words: u32)
         requires within { index < length self.old.spaces }
         requires room { words ≤ free_words_of (space_at self.old.spaces index) }
@@ -165,7 +165,7 @@ impl<A: Allocator> Segments<A> {
         }
     }
 
-    /// Writes bytes into those of a segment that are used.
+    /// Writes bytes over used ones of a segment.
     pub fn write_at(&mut self, index: u32, at: usize, bytes: &[u8])
         requires within { index < length self.old.spaces }
         requires room { at + length bytes.now ≤ length (space_at self.old.spaces index).used }
@@ -204,7 +204,7 @@ impl<A: Allocator> Segments<A> {
         }
     }
 
-    /// A value written after the used words of a segment, in a given number of words.
+    /// Writes a value after the used words of a segment, in this many words.
     pub fn append<T, V: SetterInput<T>>(
         &mut self,
         index: u32,
@@ -231,7 +231,7 @@ impl<A: Allocator> Segments<A> {
         }
     }
 
-    /// A further segment, of at least a given number of words, of which nothing is used.
+    /// Adds an unused segment of this many words or more. Fails as the allocator does.
     pub fn add(&mut self, words: u32) -> Result<()>
         ensures added { OnOk result ((space : Space) × (self.new.spaces ≡ self.old.spaces ++ space ∷ []) × (space.used ≡ []) × (words ≤ space.size / 8)) }
         ensures refused { OnErr result (self.new.spaces ≡ self.old.spaces) }
@@ -260,7 +260,7 @@ impl<A: Allocator> Segments<A> {
         Ok(())
     }
 
-    /// The allocator, once each segment has gone back to it.
+    /// The allocator, after each segment went back to it.
     pub fn into_allocator(self) -> A
         ensures { GivesBack A.Allocator self result }
     {
@@ -280,7 +280,7 @@ impl<A: Allocator> Segments<A> {
     }
 }
 
-// Returns a segment with the words that are used of it.
+// Returns a segment to its allocator, with the words that are used of it.
 fn give_back<A: Allocator>(allocator: &mut A, part: BuilderSegment<A::Segment>)
     requires { IsOut (A.out allocator.old) (pair part) }
     ensures { TakesBack A.out A.same A.returns (pair part) (length part.used / 8) allocator.old allocator.new }

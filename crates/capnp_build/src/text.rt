@@ -78,7 +78,7 @@ impl<'a, M: Building> View<'a, M, Owned> {
         }
     }
 
-    /// How many bytes there are before the last zero byte.
+    /// The number of bytes before the last zero byte.
     pub fn len(&self) -> u32
         ensures count { ForRoot (M.built self.now.message.now).spaces (λ form. (bytes : List ℕ) → IsText form bytes → result ≡ length bytes) }
         ensures each { (index count : ℕ) → 0 < count → index + count ≤ result → HasBytes (M.built self.now.message.now).spaces index (count + 1) }
@@ -90,7 +90,7 @@ impl<'a, M: Building> View<'a, M, Owned> {
     }
 }
 
-// Whether a text stands there, before a zero byte.
+// Whether these bytes are a text: whether the last of them is zero.
 fn ends_with_zero(bytes: &[u8]) -> bool
     ensures yes { result ≡ true → ((text : List ℕ) × (bytes.now ≡ text ++ 0 ∷ [])) }
     ensures no { result ≡ false → (text : List ℕ) → bytes.now ≡ text ++ 0 ∷ [] → ⊥ }
@@ -105,7 +105,7 @@ fn ends_with_zero(bytes: &[u8]) -> bool
     true
 }
 
-// The first bytes but the last of these.
+// The first `count` bytes but the last of them.
 fn before_the_last(bytes: &[u8], count: u32) -> &[u8]
     ensures { result.now ≡ take (min (count - 1) (length bytes.now)) bytes.now }
 {

@@ -17,19 +17,19 @@ use capnp_wire::MessageSize;
 use capnp_wire::traits::SetterInput;
 use std::marker::PhantomData;
 
-/// What holds a message that is built: an arena, or what has one inside.
+/// What holds a message that is built: an arena, or a type that has one inside.
 pub trait Building: Drop {
     type Allocator: Allocator;
 
     /// The message.
     ghost built: { Self → Built Self.Allocator };
 
-    /// What the object at the root is.
+    /// The kind of the object at the root.
     fn root_kind(&self) -> RootKind
         ensures form { ForRoot (built self.now).spaces (ShowsRoot result) }
         ensures stands { IsRootKind result (built self.now).spaces };
 
-    /// The words of the tree at the root, after its pointer; none where it is null.
+    /// The words of the tree at the root, after its pointer; none where the root is null.
     fn root_bytes(&self) -> &[u8]
         ensures form { ForRoot (built self.now).spaces (HoldsForm result.now) }
         ensures tree { HoldsTree (built self.now).spaces result.now };
@@ -52,16 +52,18 @@ pub trait Building: Drop {
         ensures { WritesRoot (λ old new. IsBytesSet old new index bytes.now)
             (built self.old) (built self.new) };
 
-    /// The size of the tree at the root, as a reading pointer to it returns.
+    /// The size of the tree at the root. Fails as `any_pointer::Reader::target_size` does of a
+    /// reading pointer to it.
     fn target_size(&self) -> Result<MessageSize>
         ensures { SizesRoot (built self.now).spaces result };
 
-    /// A new object of some length at the root; null for none.
+    /// Makes the root a new object of length `n`, or null where the type has none of this length.
+    /// Fails as `BuilderArena::init_object` does.
     fn init_object<K: OwnedBuilder>(&mut self, n: u32) -> Result<()>
         ensures { InitsRoot Self.Allocator.Allocator K.OwnedBuilder n
             (built self.old) (built self.new) result };
 
-    /// Sets the root to a value.
+    /// Sets the root to a value. Fails as `BuilderArena::set_root` does.
     fn set_root<T, V: SetterInput<T>>(&mut self, value: &V) -> Result<()>
         ensures { SetsRoot Self.Allocator.Allocator (V.has_tree value.now) (V.refuses value.now)
             (built self.old) (built self.new) result };
@@ -113,7 +115,7 @@ pub struct View<'a, M: Building, K> {
 }
 
 impl<'a, M: Building, K> View<'a, M, K> {
-    /// The root's object as such a type shows it.
+    /// The root's object as a view of this type.
     pub fn new(message: &'a mut M) -> View<'a, M, K>
         ensures same { result.message.ghost_name ≡ message.entry.ghost_name }
         ensures value { result.message.now ≡ message.old }
@@ -125,11 +127,12 @@ impl<'a, M: Building, K> View<'a, M, K> {
     }
 }
 
-/// A new object of some length at the root. Where it is refused, the root is null.
+/// Makes the root a new object of length `n`. Fails as `BuilderArena::init_object` does, and the
+/// root is then null.
 pub fn init<M: Building, K: OwnedBuilder>(message: &mut M, n: u32) -> Result<()>
     ensures inits { InitsRoot M.Allocator.Allocator K.OwnedBuilder n
         (M.built message.old) (M.built message.new) result }
-    // The refusal by what the message was before the call.
+    // The error by what the message was before the call.
     ensures no_room { IfErr result (λ error. K.refuses n error.kind
         ⊎ LacksFirst (M.built message.old).spaces error.kind
         ⊎ FoundNoRoom M.Allocator.Allocator (InitWords K.inits n) (M.built message.old) error.kind) }
@@ -137,7 +140,7 @@ pub fn init<M: Building, K: OwnedBuilder>(message: &mut M, n: u32) -> Result<()>
     message.init_object::<K>(n)
 }
 
-// Whether there is a view of the object at the root.
+// Tests that the object at the root can be viewed as this type.
 pub(crate) fn accept<M: Building, K: OwnedBuilder>(message: &M) -> Result<()>
     ensures taken { OnOk result (ForRoot (M.built message.now).spaces K.takes) }
     ensures kind { IfErr result (λ error. DeclinesRoot K.declines (M.built message.now).spaces error.kind) }

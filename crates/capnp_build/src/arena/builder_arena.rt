@@ -24,7 +24,7 @@ use capnp_wire::any_pointer;
 use std::alloc::Global;
 use std::marker::Model;
 
-/// The segments of a message, and where the tree at its root stands.
+/// The segments of a message, and where the tree at its root is.
 #[derive(Drop)]
 pub struct BuilderArena<A: Allocator> {
     pub(crate) segments: Segments<A>,
@@ -52,14 +52,16 @@ impl<A: Allocator> BuilderArena<A> {
         }
     }
 
-    /// Makes the root null, and the old body zero.
+    /// Makes the root null, and its old object zero.
+    ///
+    /// Fails as `ensure_root` does.
     pub fn clear_root(&mut self) -> Result<()>
         ensures { ClearsRoot A.Allocator self.old self.new result }
     {
         self.zero_root()
     }
 
-    // The root's word and its body become zero.
+    // Makes the root's word and its object zero.
     fn zero_root(&mut self) -> Result<()>
         ensures leaves { LeavesNull A.Allocator self.old self.new }
         ensures null_word { HasNullRoot self.new.spaces }
@@ -86,7 +88,10 @@ impl<A: Allocator> BuilderArena<A> {
         Ok(())
     }
 
-    /// There is a root; where there was no segment, a null one in a new segment.
+    /// Makes a null root in a new segment, where there is no segment yet.
+    ///
+    /// Fails as the allocator does to hand out the first segment: with `OutOfMemory`,
+    /// `AllocationTooLarge(1)` or `SegmentTaken`.
     pub fn ensure_root(&mut self) -> Result<()>
         ensures { EnsuresRoot A.Allocator self.old self.new result }
     {
@@ -96,7 +101,7 @@ impl<A: Allocator> BuilderArena<A> {
         Ok(())
     }
 
-    /// The allocator, once each segment has gone back to it with its used words.
+    /// The allocator, after each segment went back to it with its used words.
     pub fn into_allocator(self) -> A
         ensures { GivesBack A.Allocator (held_of self) result }
     {
@@ -107,7 +112,7 @@ impl<A: Allocator> BuilderArena<A> {
         segments.into_allocator()
     }
 
-    /// What the object at the root is.
+    /// The kind of the object at the root.
     pub fn root_kind(&self) -> RootKind
         ensures form { ForRoot self.now.spaces (ShowsRoot result) }
         ensures stands { IsRootKind result self.now.spaces }
@@ -118,7 +123,7 @@ impl<A: Allocator> BuilderArena<A> {
         }
     }
 
-    /// The words of the tree at the root, after its pointer; none where it is null.
+    /// The words of the tree at the root, after its pointer; none where the root is null.
     pub fn root_bytes(&self) -> &[u8]
         ensures form { ForRoot self.now.spaces (HoldsForm result.now) }
         ensures tree { HoldsTree self.now.spaces result.now }
@@ -137,7 +142,8 @@ impl<A: Allocator> BuilderArena<A> {
         )
     }
 
-    /// The root, to be read from the segments as they are; null where there are none.
+    /// The root as a reading pointer, which borrows the segments as they are; null where there are
+    /// none.
     pub fn get_root_as_reader(&self) -> any_pointer::Reader<'_, BuilderArena<A>>
         ensures { let segments = λ (arena : Built A). map used_of arena.spaces in
             pointer_of segments result ≡ unlimited_root (map used_of self.now.spaces) }
@@ -145,24 +151,25 @@ impl<A: Allocator> BuilderArena<A> {
         any_pointer::Reader::root_of(self)
     }
 
-    /// The words that are used.
+    /// The used words of all segments.
     pub fn size_in_words(&self) -> usize
         ensures { result ≡ size_in_words self.now.spaces }
     {
         self.segments.size_in_words()
     }
 
-    /// What is used can be written, once there is a segment.
+    /// The used words can be written, once there is a segment.
     pub fn are_writable(&self)
         ensures { CanBeWritten self.now.spaces }
     {
         self.segments.are_writable();
     }
 
-    /// The tree at the root.
+    /// There is a tree at the root.
     pub fn root_stands(&self)
         ensures { 0 < length self.now.spaces → (form : Form) × (held : Trees) × (traversed : ℕ) × At (message self.now.spaces) (root ∷ []) (tree form held none) traversed }
     {
+        // For the prover: a look at a field brings in the invariant, which says this.
         let location = self.location;
     }
 }
@@ -175,7 +182,7 @@ impl<A: Allocator> ReaderSegments for BuilderArena<A> {
     }
 }
 
-// A given number of bytes from an index on.
+// This many bytes, from an index on.
 fn stretch(bytes: &[u8], from: usize, count: usize) -> &[u8]
     requires { from + count ≤ length bytes.now }
     ensures { result.now ≡ take count (drop from bytes.now) }
@@ -184,7 +191,7 @@ fn stretch(bytes: &[u8], from: usize, count: usize) -> &[u8]
     &rest[..count]
 }
 
-// Bytes are numbers below 256.
+// Each byte is a number below 256.
 pub(crate) fn each_is_a_byte(bytes: &[u8])
     ensures { (i : ℕ) → slice_index_or bytes.now i 0 < 256 }
 {}

@@ -1,5 +1,5 @@
-//! Where the tree at the root of a message stands.
-/// Where a tree stands: its body's words, and the pointer for a body that follows it.
+//! Where the tree at the root of a message is.
+/// Where a tree is: the words of its body, and the pointer for a body that follows it at once.
 #[derive(Clone, Copy)]
 pub struct RootLocation {
     pub segment: u32,

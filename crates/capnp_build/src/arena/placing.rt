@@ -1,4 +1,4 @@
-//! Where the block of a value is placed, and the pointer to it.
+//! Where the block of a value goes, and the pointer to it.
 ghost use Rattle.std.specs.Prelude.{◌≡◌, ℕ, ◌+◌, ◌-◌, ◌*◌, ◌/◌, ◌^◌, ◌<◌, ◌≤◌, List, length, Some, None, IfOk, IfErr, OnErr};
 ghost use Rattle.capnp_frame.specs.declared.error.ErrorKind.TheVariants.{SegmentTaken};
 ghost use Rattle.capnp_build.specs.Out.{Out, HasLarge, MayRefuse};
@@ -17,7 +17,7 @@ use capnp_frame::Result;
 use capnp_wire::traits::SetterInput;
 
 impl<A: Allocator> BuilderArena<A> {
-    // A segment with room for a given number of words, after the first.
+    // A segment with room for this many words, after the first one: an old one, or a new one.
     pub(crate) fn find_room(&mut self, words: u32) -> Result<u32>
         requires there { 0 < length self.old.spaces }
         requires null { self.old.location ≡ None }

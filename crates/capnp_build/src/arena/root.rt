@@ -15,7 +15,9 @@ use capnp_frame::Result;
 impl<A: Allocator> BuilderArena<A> {
     ghost use Rattle.capnp_build.specs.contracts.arena.builder_arena.BuilderArena.{the_row};
 
-    /// A new object of some length at the root, as a view that writes it.
+    /// Makes the root a new object of length `n`, and returns a view that writes it.
+    ///
+    /// Fails as `BuilderArena::init_object` does, and the root is then null.
     pub fn initn_root<'a, K: OwnedBuilder>(
         &'a mut self,
         n: u32,
@@ -29,7 +31,8 @@ impl<A: Allocator> BuilderArena<A> {
         Ok(View::new(self))
     }
 
-    /// The same, of length 0.
+    /// Makes the root a new object of length 0, and returns a view that writes it. Fails as
+    /// `initn_root` does.
     pub fn init_root<'a, K: OwnedBuilder>(&'a mut self) -> Result<View<'a, BuilderArena<A>, K>>
         ensures* rests { sem 𝓛 (RestsIfErr (the_row A.row A.Segment.row A.Allocator A.Segment.SegmentSpace) self.entry (λ view. view.message.ghost_name) result
             (λ last. IsCleared A.Allocator self.old last)) }
@@ -39,7 +42,10 @@ impl<A: Allocator> BuilderArena<A> {
         self.initn_root::<K>(0)
     }
 
-    /// Whether there is a view of the object at the root, which stays.
+    /// Tests that the object at the root can be viewed as this type. The root stays.
+    ///
+    /// Fails as the allocator does to hand out the first segment, where there is none, and with a
+    /// kind that `declines` of the type names, where it doesn't take the object.
     pub fn accept_root<K: OwnedBuilder>(&mut self) -> Result<()>
         ensures { LooksAtRoot A.Allocator K.OwnedBuilder self.old self.new result }
     {
@@ -47,7 +53,8 @@ impl<A: Allocator> BuilderArena<A> {
         K::accept(self.root_kind(), self.root_bytes())
     }
 
-    /// The object at the root, as a view that writes it. Where it is refused, the root stays.
+    /// The object at the root, as a view that writes it. Fails as `accept_root` does, and the root
+    /// stays.
     pub fn get_root<'a, K: OwnedBuilder>(&'a mut self) -> Result<View<'a, BuilderArena<A>, K>>
         ensures* rests { sem 𝓛 (RestsIfErr (the_row A.row A.Segment.row A.Allocator A.Segment.SegmentSpace) self.entry (λ view. view.message.ghost_name) result
             (λ last. IsLookedAt A.Allocator self.old last)) }

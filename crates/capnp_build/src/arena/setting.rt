@@ -18,6 +18,10 @@ use capnp_wire::traits::SetterInput;
 
 impl<A: Allocator> BuilderArena<A> {
     /// Sets the root to a value.
+    ///
+    /// Fails as the allocator does to hand out the first segment, as `measure` of the value does,
+    /// and as the allocator does to hand out a further segment, where none has room. The root is
+    /// then null.
     pub fn set_root<T, V: SetterInput<T>>(&mut self, value: &V) -> Result<()>
         ensures { SetsRoot A.Allocator (V.has_tree value.now) (V.refuses value.now)
             self.old self.new result }
@@ -27,7 +31,11 @@ impl<A: Allocator> BuilderArena<A> {
         self.put(false, value, words)
     }
 
-    /// A new object of some length at the root; null for none.
+    /// Makes the root a new object of length `n`, or null where the type has none of this length.
+    ///
+    /// Fails as the allocator does to hand out the first segment, with a kind that `refuses` of the
+    /// type names for `n`, and as the allocator does to hand out a further segment, where none has
+    /// room. The root is then null.
     pub fn init_object<K: OwnedBuilder>(&mut self, n: u32) -> Result<()>
         ensures { InitsRoot A.Allocator K.OwnedBuilder n self.old self.new result }
     {
@@ -38,7 +46,7 @@ impl<A: Allocator> BuilderArena<A> {
         }
     }
 
-    // A new object at the null root.
+    // Puts a new object at the null root.
     fn put_new(&mut self, body: Body) -> Result<()>
         requires there { 0 < length self.old.spaces }
         requires null { self.old.location ≡ None }
@@ -52,6 +60,10 @@ impl<A: Allocator> BuilderArena<A> {
     }
 
     /// Sets the root to a value in canonical form, in the first segment.
+    ///
+    /// Fails with the first of these: as the allocator does to hand out the first segment, with
+    /// `NotOneSegment` where there are more segments, as `measure` of the value does, and with
+    /// `NotOneSegment` where the segment has no room. The root is then null.
     pub fn set_root_canonical<T, V: SetterInput<T>>(&mut self, value: &V) -> Result<()>
         ensures { SetsRootCanonical A.Allocator (V.has_tree value.now) (V.refuses value.now)
             self.old self.new result }
