@@ -23,8 +23,8 @@ use capnp_wire::traits::{FromPointerReader, SetterInput};
 use std::alloc::Global;
 use std::marker::Model;
 
-/// A message that is built, in segments that an allocator hands out. Once it is dropped, each segment
-/// goes back.
+/// A message that is built, in segments that an allocator hands out. When it is dropped, each
+/// segment goes back.
 ///
 /// ```
 /// let mut message = Builder::new_default(alloc);
@@ -47,8 +47,8 @@ impl<A: Allocator> Model for Builder<A> {
 }
 
 impl<A: Allocator> Builder<A> {
-    /// A message of no segments, whose root is null. `alloc` serves the list of its segments from the
-    /// second on.
+    /// A message of no segments, whose root is null. `alloc` serves the list of its segments from
+    /// the second on.
     pub fn new(alloc: Global, allocator: A) -> Builder<A>
         ensures { IsNewMessage (λ own. own ≡ allocator) result }
     {
@@ -60,9 +60,11 @@ impl<A: Allocator> Builder<A> {
     /// Sets the root to a value.
     ///
     /// The value is one block: after the used words of the first segment where these leave room for
-    /// it, else with its landing pad in another segment that has room, else in a new one. It is
-    /// refused as the allocator refuses the first segment, then as the value's `measure` is, and as
-    /// the allocator refuses a further segment; then the root is null.
+    /// it, else with its landing pad in another segment that has room, else in a new one.
+    ///
+    /// Fails with the first of these: as the allocator does to hand out the first segment
+    /// (`OutOfMemory`, `AllocationTooLarge` or `SegmentTaken`), as `measure` of the value does, and
+    /// as the allocator does to hand out a further segment. The root is then null.
     pub fn set_root<T, V: SetterInput<T> + Drop>(&mut self, value: V) -> Result<()>
         ensures { SetsRoot A.Allocator (V.has_tree value) (V.refuses value)
             self.old self.new result }
@@ -73,9 +75,9 @@ impl<A: Allocator> Builder<A> {
     /// Sets the root to a value in canonical form, in the first segment. As the first action on the
     /// message it makes the one segment the canonical form.
     ///
-    /// It fails with the first of these: as the allocator refuses the first segment, by
-    /// `NotOneSegment` where there are more segments, as the value's `measure` is, and by
-    /// `NotOneSegment` where the segment has no room; then the root is null.
+    /// Fails with the first of these: as the allocator does to hand out the first segment, with
+    /// `NotOneSegment` where there are more segments, as `measure` of the value does, and with
+    /// `NotOneSegment` where the segment has no room. The root is then null.
     pub fn set_root_canonical<T, V: SetterInput<T> + Drop>(&mut self, value: V) -> Result<()>
         ensures { SetsRootCanonical A.Allocator (V.has_tree value) (V.refuses value)
             self.old self.new result }
@@ -83,8 +85,10 @@ impl<A: Allocator> Builder<A> {
         self.arena.set_root_canonical::<T, V>(&value)
     }
 
-    /// The root as a reading view, which borrows it from the segments: null without a segment. It has
-    /// no traversal limit, and takes no segment.
+    /// The root as a reading view, which borrows it from the segments: null without a segment. It
+    /// has no traversal limit, and takes no segment.
+    ///
+    /// Fails as `any_pointer::Reader::get_as` of `capnp_wire` does of the root.
     pub fn get_root_as_reader<'a, T: FromPointerReader<'a, BuilderArena<A>>>(&'a self) -> Result<T>
         ensures { let pointer = unlimited_root (map used_of self.now.spaces) in
             IsViewOf pointer (T.shows pointer) (T.accepts pointer) (T.refuses pointer)
@@ -108,7 +112,8 @@ impl<A: Allocator> Builder<A> {
         self.arena.size_in_words()
     }
 
-    /// The message as one that is read, without a traversal limit and with objects nested up to 2^31
+    /// The message as one that is read, without a traversal limit and with objects nested up to
+    /// 2^31
     /// - 1 deep.
     pub fn into_reader(self) -> Reader<Builder<A>>
         ensures { IsReadUnlimited self result }
@@ -129,7 +134,7 @@ impl<A: Allocator> Builder<A> {
         TypedBuilder::new(self)
     }
 
-    /// The allocator, once each segment has gone back to it with its used words.
+    /// The allocator, after each segment went back to it with its used words.
     pub fn into_allocator(self) -> A
         ensures { GivesBack A.Allocator (held_of self) result }
     {

@@ -12,19 +12,20 @@ use std::alloc::Global;
 /// How large the segments of a heap are, one after the other.
 #[derive(Clone, Copy, Debug)]
 pub enum AllocationStrategy {
-    /// Each has as many words as the first, or as many as are asked.
+    /// Each has as many words as the first, or as many as are asked for.
     FixedSize,
     /// Each has as many words as all before it, up to the maximum.
     GrowHeuristically,
 }
 
-/// Words of the first segment.
+/// The words of the first segment.
 pub const SUGGESTED_FIRST_SEGMENT_WORDS: u32 = 1024;
 
 /// How segments grow.
 pub const SUGGESTED_ALLOCATION_STRATEGY: AllocationStrategy = AllocationStrategy::GrowHeuristically;
 
-/// Segments from the heap. Each has as many words as are asked, or the next size where that is more.
+/// Segments from the heap. Each has as many words as are asked for, or the next size where that is
+/// more.
 #[derive(Drop)]
 pub struct HeapAllocator {
     alloc: Global,
@@ -37,7 +38,7 @@ pub struct HeapAllocator {
 impl HeapAllocator {
     ghost use Rattle.capnp_message.specs.Heaps.{IsHeapOf};
 
-    /// A first segment of 1,024 words, growing up to 2^29.
+    /// A first segment of 1,024 words, and segments that grow up to 2^29.
     pub fn new(alloc: Global) -> HeapAllocator
         ensures { IsHeapOf 1024 GrowHeuristically (2 ^ 29) result }
     {
@@ -49,7 +50,7 @@ impl HeapAllocator {
         }
     }
 
-    /// With a given number of words in the first segment, at most the maximum.
+    /// Sets how many words the first segment has, at most the maximum.
     pub fn first_segment_words(self, words: u32) -> HeapAllocator
         requires { words ≤ self.max_segment_words }
         ensures { IsHeapOf words self.allocation_strategy self.max_segment_words result }
@@ -62,8 +63,8 @@ impl HeapAllocator {
         }
     }
 
-    /// With a given number of words at most in a segment, where no more are asked; at least the next
-    /// size.
+    /// Sets the maximum segment size in words, at least the next size. Larger requests still get
+    /// what they ask for.
     pub fn max_segment_words(self, words: u32) -> HeapAllocator
         requires { self.next_size ≤ words }
         ensures { IsHeapOf self.next_size self.allocation_strategy words result }
@@ -76,7 +77,7 @@ impl HeapAllocator {
         }
     }
 
-    /// With segments that grow so.
+    /// Sets how segments grow.
     pub fn allocation_strategy(self, strategy: AllocationStrategy) -> HeapAllocator
         ensures { IsHeapOf self.next_size strategy self.max_segment_words result }
     {
@@ -88,7 +89,7 @@ impl HeapAllocator {
         }
     }
 
-    // Counts a segment of a given number of words.
+    // Counts a segment of this many words.
     fn grow(&mut self, size: u32)
         ensures { IsHeapOf
             (next_after self.old.allocation_strategy
@@ -126,7 +127,7 @@ impl Allocator for HeapAllocator {
     // The next size is the suggested first one again, or the maximum.
     ghost returns = { λ old segment words new. StartsAnew old new };
 
-    // Beside what any allocator ensures: how many words there are, and what is next.
+    // Beside what any allocator ensures: how many words there are, and what the next size is.
     fn allocate_segment(&mut self, minimum_size: u32) -> Result<Vec<u8>>
         ensures hands_out { HandsOut (λ allocator list. ⊤) (λ old new. ⊤) (λ allocator asked words. ⊥)
             (λ s. s.items) (λ s. false)

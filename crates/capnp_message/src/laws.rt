@@ -1,4 +1,4 @@
-//! Facts about the canonical forms of messages, and about regions that come home.
+//! Facts about the canonical forms of messages, and about regions that are given back.
 ghost use Rattle.std.specs.Prelude.{◌≡◌, ◌≤◌, ◌⊎◌, ℕ, List, [], ◌∷◌, Some, None, true, IfOk, IfErr};
 ghost use Rattle.capnp_frame.specs.declared.error.ErrorKind.TheVariants.{OutOfMemory};
 ghost use Rattle.capnp_wire.specs.Pointer.{words_of};
@@ -26,8 +26,8 @@ pub fn a_canonical_form_is_its_own()
         pointer.nesting ≤ other.nesting → IsCanonicalForm other words }
 {}
 
-/// The canonical words of a message, whether they are canonical as the one segment of a message, and
-/// the canonical words of that message.
+/// The canonical words of a message, whether they are canonical as the one segment of a message,
+/// and the canonical words of that message.
 #[derive(Drop)]
 pub struct Canonicalized {
     pub words: Vec<Word>,
@@ -35,8 +35,10 @@ pub struct Canonicalized {
     pub again: Vec<Word>,
 }
 
-/// Canonicalizes a message, and what that returns once more: it is canonical, and its own canonical
-/// form.
+/// Canonicalizes a message, and its canonical form once more: this is canonical, and its own
+/// canonical form.
+///
+/// Fails as `Reader::canonicalize` does.
 pub fn canonicalize_twice<S: ReaderSegments + Drop>(
     alloc: Global,
     segments: S,

@@ -1,8 +1,9 @@
 //! Messages that are read, and what messages are built from.
 //!
-//! A [`Reader`](reader::Reader) holds the segments of a message and returns its root as a view, or says
-//! what is wrong there by the [encoding document]. A [`TypedReader`](typed_reader::TypedReader) is one
-//! whose root has a type. Allocators hand out the segments of messages that are built.
+//! A [`Reader`](reader::Reader) holds the segments of a message and returns its root as a view, or
+//! an error that says what is wrong there by the [encoding document]. A
+//! [`TypedReader`](typed_reader::TypedReader) is one whose root has a type. Allocators hand out the
+//! segments of messages that are built.
 //!
 //! [encoding document]: https://capnproto.org/encoding.html
 #![tactic(auto)]

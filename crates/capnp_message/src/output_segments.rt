@@ -1,4 +1,4 @@
-//! What of a message that is built is written.
+//! What is written of a message that is built.
 ghost use Rattle.std.specs.Prelude.{◌≡◌, ℕ, ◌<◌, List, length, map};
 ghost use Rattle.capnp_frame.specs.Writing.{IsWritable};
 ghost use Rattle.capnp_build.specs.Held.{used_of};
@@ -8,7 +8,7 @@ use capnp_build::arena::builder_arena::BuilderArena;
 use capnp_frame::message::ReaderSegments;
 use std::marker::Model;
 
-/// The segments of a message that is built, each as far as it is used.
+/// The segments of a message that is built, each up to its last used word.
 #[derive(Drop)]
 pub struct OutputSegments<'a, A: Allocator> {
     arena: &'a BuilderArena<A>,
@@ -22,7 +22,7 @@ impl<'a, A: Allocator> Model for OutputSegments<'a, A> {
 }
 
 impl<'a, A: Allocator> OutputSegments<'a, A> {
-    /// Those of an arena.
+    /// The segments of an arena.
     pub(crate) fn new(arena: &'a BuilderArena<A>) -> OutputSegments<'a, A>
         ensures segments { result ≡ map used_of arena.now.spaces }
         ensures writable { 0 < length arena.now.spaces → IsWritable result }

@@ -57,8 +57,9 @@ impl<S: ReaderSegments> Reader<S> {
 
     /// The root as a view, which borrows it from the segments.
     ///
-    /// It fails with `InvalidSegmentId(0)` without a segment, with `PointerOutOfBounds` where the first
-    /// segment has no word, and else as `get_as` refuses the root pointer.
+    /// Fails with `InvalidSegmentId(0)` without a segment, with `PointerOutOfBounds` where the
+    /// first segment has no word, and else as `any_pointer::Reader::get_as` of `capnp_wire` does of
+    /// the root pointer.
     pub fn get_root<'a, T: FromPointerReader<'a, S>>(&'a self) -> Result<T>
         ensures { let pointer = root_of S.segments self.now in
             ReadsRoot pointer (T.shows pointer) (T.accepts pointer) (T.refuses pointer)
@@ -70,11 +71,12 @@ impl<S: ReaderSegments> Reader<S> {
     /// Whether the message is in canonical form: one segment that is the canonical form of its root
     /// tree.
     ///
-    /// A message of more than one segment is not canonical, nor is one with a far pointer. It
-    /// fails with `InvalidSegmentId(0)` without a segment, and else where the walk over its
-    /// objects is, before it meets what is not canonical: as a view of one of them, or by
-    /// `ReadLimitExceeded` where they come to more words than the traversal limit. The walk counts
-    /// from 0, takes no memory, and what is read of the message by views stays as it was.
+    /// A message of more than one segment is not canonical, nor is one with a far pointer.
+    ///
+    /// Fails with `InvalidSegmentId(0)` without a segment, and else where the walk over the objects
+    /// stops before it meets what is not canonical: as a view of one of them does, or with
+    /// `ReadLimitExceeded` where they have more words than the traversal limit. The walk counts
+    /// from 0, takes no memory, and leaves what views have counted.
     pub fn is_canonical(&self) -> Result<bool>
         ensures returned { let pointer = root_of S.segments self.now in
             MatchResult result (λ is. IsTrue is ↔ IsCanonical pointer.message)
@@ -91,11 +93,11 @@ impl<S: ReaderSegments> Reader<S> {
 
     /// The canonical form of the message, as the bytes of its one segment.
     ///
-    /// It is refused where a walk over the root tree is: as a view of one of its objects, or by
-    /// `ReadLimitExceeded` where they come to more words than the traversal limit. Above 2^29 words,
-    /// the root pointer among them, it fails with `CanonicalTooLarge`. The walk counts from 0, and
-    /// what is read of the message by views stays as it was. Memory is asked for once the form is
-    /// measured.
+    /// Fails where there is no first word, as `get_root` does, and where a walk over the root tree
+    /// stops: as a view of one of its objects does, or with `ReadLimitExceeded` where they have
+    /// more words than the traversal limit. Above 2^29 words, the root pointer among them, it fails
+    /// with `CanonicalTooLarge`, and once the form is measured with `OutOfMemory`. The walk counts
+    /// from 0, and leaves what views have counted.
     pub fn canonical_segment(&self, alloc: Global) -> Result<Vec<u8>>
         ensures returned { let pointer = root_of S.segments self.now in MatchResult result
             (λ bytes. IsCanonicalForm pointer (words_of bytes.items))
@@ -110,10 +112,10 @@ impl<S: ReaderSegments> Reader<S> {
         canonical_bytes(alloc, &root)
     }
 
-    /// The canonical form of the message, word by word: equal for two messages exactly where their root
-    /// trees are equal, trimmed.
+    /// The canonical form of the message, word by word: equal for two messages exactly where their
+    /// root trees are equal, trimmed.
     ///
-    /// It is refused as `canonical_segment`.
+    /// Fails as `canonical_segment` does.
     ///
     /// ```
     /// let options = DEFAULT_READER_OPTIONS;
@@ -143,8 +145,8 @@ impl<S: ReaderSegments> Reader<S> {
         arena.into_segments()
     }
 
-    /// The words of all segments, at most `usize::MAX`. Bytes after the last whole word of a segment
-    /// count for nothing.
+    /// The words of all segments, at most `usize::MAX`. Bytes after the last whole word of a
+    /// segment are not counted.
     pub fn size_in_words(&self) -> usize
         requires { length (S.segments self.now.segments) < 2 ^ 32 }
         ensures { result ≡ min (size_in_words (S.segments self.now.segments)) (2 ^ 64 - 1) }

@@ -55,8 +55,11 @@ impl<A: Allocator> Building for Builder<A> {
 impl<A: Allocator> Builder<A> {
     ghost use Rattle.capnp_message.specs.contracts.builder.Builder.{the_row};
 
-    /// Makes the root a new object of some length, all zero, and returns a view that writes it.
-    /// Where it is refused, the root is null.
+    /// Makes the root a new object of length `n`, all zero, and returns a view that writes it.
+    ///
+    /// Fails as the allocator does to hand out the first segment, with `AllocationTooLarge` where
+    /// the type has no object of this length, and as the allocator does to hand out a further
+    /// segment. The root is then null.
     ///
     /// ```
     /// let mut numbers = message.initn_root::<primitive_list::Owned<u64>>(3)?;
@@ -75,7 +78,8 @@ impl<A: Allocator> Builder<A> {
         Ok(View::new(self))
     }
 
-    /// The same, of length 0.
+    /// Makes the root a new object of length 0, and returns a view that writes it. Fails as
+    /// `initn_root` does.
     pub fn init_root<'a, K: OwnedBuilder>(&'a mut self) -> Result<View<'a, Builder<A>, K>>
         ensures* rests { sem 𝓛 (RestsIfErr
             (the_row A.row A.Segment.row A.Allocator A.Segment.SegmentSpace)
@@ -87,8 +91,11 @@ impl<A: Allocator> Builder<A> {
         self.initn_root::<K>(0)
     }
 
-    /// The object at the root, as a view that writes it. It is refused where it is of another kind, and
-    /// as the allocator refuses the first segment; then the root stays.
+    /// The object at the root, as a view that writes it.
+    ///
+    /// Fails with `WrongPointerKind` or `TextNotTerminated`, as the reading view of the type does,
+    /// where the object is none for it, and as the allocator does to hand out the first segment.
+    /// The root stays.
     pub fn get_root<'a, K: OwnedBuilder>(&'a mut self) -> Result<View<'a, Builder<A>, K>>
         ensures* rests { sem 𝓛 (RestsIfErr
             (the_row A.row A.Segment.row A.Allocator A.Segment.SegmentSpace)

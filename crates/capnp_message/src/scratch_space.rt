@@ -20,7 +20,7 @@ use std::alloc::Global;
 pub enum ScratchSegment<'a> {
     /// The region.
     Lent(&'a mut [u8]),
-    /// One from the heap.
+    /// A segment from the heap.
     Owned(Vec<u8>),
 }
 
@@ -66,8 +66,8 @@ impl<'a> SegmentSpace for ScratchSegment<'a> {
     }
 }
 
-/// One region that its caller lends, where it is at home and large enough, else segments from the heap.
-/// At home the region is all zero.
+/// One caller-provided region, where it is not handed out and large enough, else segments from the
+/// heap. While it is not handed out, the region is all zero.
 #[derive(Drop)]
 pub struct ScratchSpaceHeapAllocator<'a> {
     region: Option<&'a mut [u8]>,
@@ -82,8 +82,8 @@ pub struct ScratchSpaceHeapAllocator<'a> {
 impl<'a> ScratchSpaceHeapAllocator<'a> {
     ghost use Rattle.capnp_message.specs.Heaps.{WithHeap};
 
-    /// The region, which is made zero, and a heap after it. Bytes after the region's last whole word
-    /// are not used.
+    /// The region, which is made zero, and a heap after it. Bytes after the region's last whole
+    /// word are not used.
     pub fn new(alloc: Global, region: &'a mut [u8]) -> ScratchSpaceHeapAllocator<'a>
         requires { length region.old / 8 < 2 ^ 32 }
         ensures holds { HoldsRegion result.region result.size region.entry }
@@ -99,7 +99,7 @@ impl<'a> ScratchSpaceHeapAllocator<'a> {
         }
     }
 
-    /// With a given number of words in the heap's first segment, at most 2^29.
+    /// Sets how many words the heap's first segment has, at most 2^29.
     pub fn second_segment_words(self, words: u32) -> ScratchSpaceHeapAllocator<'a>
         requires { words ≤ 2 ^ 29 }
         ensures { WithHeap self.entry words self.entry.heap.allocation_strategy result }
@@ -112,7 +112,7 @@ impl<'a> ScratchSpaceHeapAllocator<'a> {
         }
     }
 
-    /// With segments of the heap that grow so.
+    /// Sets how segments of the heap grow.
     pub fn allocation_strategy(self, strategy: AllocationStrategy) -> ScratchSpaceHeapAllocator<'a>
         ensures { WithHeap self.entry self.entry.heap.next_size strategy result }
     {
@@ -139,7 +139,7 @@ impl<'a> Allocator for ScratchSpaceHeapAllocator<'a> {
 
     ghost grants = { λ allocator. GrantsRegion allocator.region allocator.size };
 
-    // The region is at home, or the heap is after a return to it.
+    // The region is back, or the heap is as after a return to it.
     ghost returns = { λ old segment words new. ReturnsTo segment.is_provided old new };
 
     // Beside what any allocator ensures: where the region is caller-provided, and what the heap
@@ -171,8 +171,8 @@ impl<'a> Allocator for ScratchSpaceHeapAllocator<'a> {
         Ok(ScratchSegment::Owned(segment))
     }
 
-    // What was used of the region is made zero, so that at home it is all zero. One from the heap goes
-    // back to it, as to a heap alone.
+    // What was used of the region is made zero, so all of it is zero while it is not handed out. A
+    // segment from the heap goes back to the heap, as to a heap alone.
     fn deallocate_segment(&mut self, segment: ScratchSegment<'a>, words_used: u32) {
         match segment {
             ScratchSegment::Lent(region) => {

@@ -11,7 +11,8 @@ ghost use Rattle.capnp_build.specs.Allocating.{HandsOut};
 use capnp_build::allocator::Allocator;
 use capnp_frame::{Error, ErrorKind, Result};
 
-/// One region that its caller lends, as the only segment. It takes no memory. At home it is all zero.
+/// One caller-provided region, as the only segment. It takes no memory. While it is not handed out,
+/// it is all zero.
 ///
 /// ```
 /// let mut region = [0; 24];
@@ -57,7 +58,7 @@ impl<'a> Allocator for SingleSegmentAllocator<'a> {
 
     ghost returns = { λ old segment words new. IsHome new.region old.size };
 
-    // Beside what any allocator ensures: where it is refused, and by what.
+    // Beside what any allocator ensures: when it fails, and with which kind.
     fn allocate_segment(&mut self, minimum_size: u32) -> Result<&'a mut [u8]>
         ensures hands_out { HandsOut (λ allocator. IsOutAlone allocator.region allocator.size)
             (λ old new. new.size ≡ old.size)
@@ -79,7 +80,7 @@ impl<'a> Allocator for SingleSegmentAllocator<'a> {
         }
     }
 
-    // What was used is made zero, so that at home the region is all zero.
+    // What was used is made zero, so all of the region is zero while it is not handed out.
     fn deallocate_segment(&mut self, segment: &'a mut [u8], words_used: u32) {
         segment[..8 * words_used as usize].fill(0);
         self.region = Some(segment);

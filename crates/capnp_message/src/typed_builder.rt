@@ -83,7 +83,8 @@ impl<T, A: Allocator> TypedBuilder<T, A> {
         &mut self.message
     }
 
-    /// The message as one that is read, without a traversal limit and with objects nested up to 2^31
+    /// The message as one that is read, without a traversal limit and with objects nested up to
+    /// 2^31
     /// - 1 deep.
     pub fn into_reader(self) -> TypedReader<Builder<A>, T>
         ensures { IsReadUnlimited self result }
@@ -91,7 +92,7 @@ impl<T, A: Allocator> TypedBuilder<T, A> {
         TypedReader::new(self.into_inner().into_reader())
     }
 
-    /// Sets the root to a value, as `set_root` of the message.
+    /// Sets the root to a value. It fails as `set_root` of the message does.
     pub fn set_root<V: SetterInput<T> + Drop>(&mut self, value: V) -> Result<()>
         ensures { SetsRoot A.Allocator (V.has_tree value) (V.refuses value)
             self.old self.new result }
@@ -99,7 +100,8 @@ impl<T, A: Allocator> TypedBuilder<T, A> {
         self.message.set_root::<T, V>(value)
     }
 
-    /// The root as a reading view of its type, as `get_root_as_reader` of the message.
+    /// The root as a reading view of its type. It fails as `get_root_as_reader` of the message
+    /// does.
     pub fn get_root_as_reader<'a>(&'a self) -> Result<T::Reader>
     where
         T: Owned<'a, BuilderArena<A>>,
@@ -169,7 +171,7 @@ impl<T, A: Allocator> Building for TypedBuilder<T, A> {
 impl<T: OwnedBuilder, A: Allocator> TypedBuilder<T, A> {
     ghost use Rattle.capnp_message.specs.contracts.typed_builder.TypedBuilder.{the_row as typed_row};
 
-    /// Makes the root a new object of some length, as `initn_root` of the message.
+    /// Makes the root a new object of length `n`. It fails as `initn_root` of the message does.
     pub fn initn_root<'a>(&'a mut self, n: u32) -> Result<View<'a, TypedBuilder<T, A>, T>>
         ensures* rests { sem 𝓛 (RestsIfErr
             (typed_row T.row A.row A.Segment.row A.Allocator A.Segment.SegmentSpace)
@@ -182,7 +184,7 @@ impl<T: OwnedBuilder, A: Allocator> TypedBuilder<T, A> {
         Ok(View::new(self))
     }
 
-    /// The same, of length 0.
+    /// Makes the root a new object of length 0. It fails as `initn_root` does.
     pub fn init_root<'a>(&'a mut self) -> Result<View<'a, TypedBuilder<T, A>, T>>
         ensures* rests { sem 𝓛 (RestsIfErr
             (typed_row T.row A.row A.Segment.row A.Allocator A.Segment.SegmentSpace)
@@ -194,7 +196,8 @@ impl<T: OwnedBuilder, A: Allocator> TypedBuilder<T, A> {
         self.initn_root(0)
     }
 
-    /// The object at the root, as `get_root` of the message.
+    /// The object at the root, as a view that writes it. It fails as `get_root` of the message
+    /// does.
     pub fn get_root<'a>(&'a mut self) -> Result<View<'a, TypedBuilder<T, A>, T>>
         ensures* rests { sem 𝓛 (RestsIfErr
             (typed_row T.row A.row A.Segment.row A.Allocator A.Segment.SegmentSpace)

@@ -40,7 +40,7 @@ impl<S: ReaderSegments, T> TypedReader<S, T> {
         }
     }
 
-    /// The root as a view of its type, refused as `get_root` of the message.
+    /// The root as a view of its type. It fails as `get_root` of the message does.
     pub fn get<'a>(&'a self) -> Result<T::Reader>
     where
         T: Owned<'a, S>,
