@@ -18,6 +18,7 @@ use capnp_wire::arena::ReaderArena;
 use capnp_wire::canonical::{canonical_size, write_form};
 
 /// How many words the canonical form of the message at the front of these bytes has, with its root.
+/// Returns 0, or the number of the error of the reader or of the walk over the tree.
 #[unsafe(no_mangle)]
 pub extern "C" fn linsjoar_canonical_size(bytes: &[u8], words: &mut usize) -> u8
     ensures size { (segments : List (List ℕ)) (rest : List ℕ) →
@@ -35,8 +36,9 @@ pub extern "C" fn linsjoar_canonical_size(bytes: &[u8], words: &mut usize) -> u8
     }
 }
 
-/// Writes that form to the front of a block, and tells how many words it has. A block without room
-/// for it fails with 2.
+/// Writes the canonical form of the message at the front of these bytes to the front of a block,
+/// and tells how many words it has. Returns 2 where the block has no room for it, and else what
+/// `linsjoar_canonical_size` returns.
 #[unsafe(no_mangle)]
 pub extern "C" fn linsjoar_canonical(bytes: &[u8], block: &mut [u8], words: &mut usize) -> u8
     ensures form { (segments : List (List ℕ)) (rest : List ℕ) →
@@ -58,7 +60,7 @@ pub extern "C" fn linsjoar_canonical(bytes: &[u8], block: &mut [u8], words: &mut
     }
 }
 
-// The message at the front.
+// The message at the front of these bytes.
 fn opened<'a>(bytes: &'a [u8]) -> Result<ReaderArena<NoAllocSliceSegments<'a>>>
     ensures front { (segments : List (List ℕ)) (rest : List ℕ) →
         IsAtFront bytes.now segments rest →
@@ -74,7 +76,7 @@ fn opened<'a>(bytes: &'a [u8]) -> Result<ReaderArena<NoAllocSliceSegments<'a>>>
     Ok(ReaderArena::new(segments, DEFAULT_READER_OPTIONS))
 }
 
-// The root, and how many words its form has.
+// The root, and how many words its canonical form has.
 fn measured_root<'a, S: ReaderSegments>(
     arena: &'a ReaderArena<S>,
 ) -> Result<(any_pointer::Reader<'a, S>, usize)>

@@ -25,7 +25,8 @@ pub struct LinsjoarMessage {
     pub end: usize,
 }
 
-/// Finds the framed message at the front of these bytes.
+/// Finds the framed message at the front of these bytes. Returns 0, or the number of the reader's
+/// error.
 #[unsafe(no_mangle)]
 pub extern "C" fn linsjoar_message(bytes: &[u8], message: &mut LinsjoarMessage) -> u8
     ensures found { result ≡ 0 → (segments : List (List ℕ)) × (rest : List ℕ)
@@ -58,9 +59,10 @@ pub extern "C" fn linsjoar_message(bytes: &[u8], message: &mut LinsjoarMessage) 
     }
 }
 
-/// How many words a segment of that message has. The segments stand one after another.
+/// How many words a segment of that message has. The segments follow one another.
 ///
-/// A message without a segment of this number fails with 18.
+/// Returns 18 where the message has no segment of this number, and else what `linsjoar_message`
+/// returns.
 #[unsafe(no_mangle)]
 pub extern "C" fn linsjoar_segment(bytes: &[u8], id: u32, words: &mut usize) -> u8
     ensures words { (segments : List (List ℕ)) (rest : List ℕ) →
@@ -88,7 +90,8 @@ pub extern "C" fn linsjoar_segment(bytes: &[u8], id: u32, words: &mut usize) -> 
 }
 
 /// How many bytes the framed message at the front of these bytes takes, so that a caller steps from
-/// one message to the next. Where there are no bytes it takes none.
+/// one message to the next. Returns what `linsjoar_message` returns, but 0 for no bytes, which take
+/// none.
 #[unsafe(no_mangle)]
 pub extern "C" fn linsjoar_next_message(bytes: &[u8], message_len: &mut usize) -> u8
     ensures found { result ≡ 0 → (bytes.now ≡ []) ⊎ ((segments : List (List ℕ)) × (rest : List ℕ)

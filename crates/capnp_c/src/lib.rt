@@ -1,7 +1,8 @@
-//! The library for C: words packed and unpacked, framed messages checked and listed, canonical words.
+//! The library for C: words packed and unpacked, framed messages checked and listed, canonical
+//! words.
 //!
-//! Each export works over buffers that its caller lends, and takes no memory. It returns 0, or the
-//! number of a refusal (docs/REFUSALS.md). `capnp_c.h` declares them.
+//! Each export works over caller-provided buffers, and takes no memory. It returns 0, or the number
+//! of an error (docs/REFUSALS.md). `capnp_c.h` declares them.
 #![tactic(auto)]
 
 mod canonical;

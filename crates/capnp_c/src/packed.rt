@@ -17,8 +17,8 @@ use capnp_pack::{PackedRead, PackedWrite, laws};
 
 /// Packs whole words into `text`, and tells how many bytes that took.
 ///
-/// It returns 0 exactly where the words are whole ones and `text` has room for what they are packed
-/// to, 14 where a word is a part of one, and 2 where there is no room.
+/// Returns 0 exactly where the words are whole ones and `text` has room for what they are packed
+/// to, 14 for a part of a word, and 2 where there is no room.
 #[unsafe(no_mangle)]
 pub extern "C" fn linsjoar_pack(words: &[u8], text: &mut [u8], written: &mut usize) -> u8
     ensures packed { result ≡ 0 → Packs words.now (take written.new text.new) }
@@ -62,7 +62,7 @@ pub(crate) fn pack_into<W: Write>(sink: &mut W, words: &[u8]) -> Result<()>
 }
 
 /// Fills `words` with what is packed at the front of a text, and tells how many bytes of it that
-/// took.
+/// took. Returns 0, or the number of the error of the packed source.
 #[unsafe(no_mangle)]
 pub extern "C" fn linsjoar_unpack(text: &[u8], words: &mut [u8], read: &mut usize) -> u8
     ensures filled { result ≡ 0 → (rest : List ℕ)

@@ -25,7 +25,8 @@ use capnp_pack::stream::try_read_packed_text_into;
 /// Packs a framed message, and tells how many bytes that took: the first word of its table, the
 /// table's other words, and each segment are packed one by one.
 ///
-/// The bytes are one message and no more: what is cut, and what follows the message, fail with 6.
+/// The bytes are one message and no more. Returns 6 where it is cut, or where bytes follow it; 2
+/// where its packed text has no room; and else what `linsjoar_message` returns.
 #[unsafe(no_mangle)]
 pub extern "C" fn linsjoar_pack_message(
     framed: &[u8],
@@ -63,8 +64,10 @@ pub extern "C" fn linsjoar_pack_message(
 
 /// Unpacks the packed message at the front of these bytes into its framed text, and tells how many
 /// bytes that has, and how many packed ones it took, so that a caller steps from one message to the
-/// next. Where there are no packed bytes it returns 9, and before all else 2 where there is no room
-/// for 8.
+/// next.
+///
+/// Returns 2 before all else where there is no room for 8 bytes, 9 where there are no packed bytes,
+/// and else 0 or the number of the reader's error.
 #[unsafe(no_mangle)]
 pub extern "C" fn linsjoar_unpack_message(
     packed: &[u8],
@@ -100,7 +103,7 @@ pub extern "C" fn linsjoar_unpack_message(
     }
 }
 
-// The message that these bytes are. Bytes after it fail with the kind of a message that is cut.
+// The message that these bytes are. Fails as for one that is cut where bytes follow it.
 fn whole_message<'a>(framed: &'a [u8]) -> Result<NoAllocSliceSegments<'a>>
     ensures whole { IfOk result (λ held. IsMessage framed.now held.segments) }
     ensures few { IfOk result (λ held. length held.segments < 512) }
@@ -155,7 +158,7 @@ fn pack_each<W: Write, S: ReaderSegments>(sink: &mut W, segments: &S) -> Result<
     Ok(())
 }
 
-// The segment at an index.
+// The segment at this index; `None` after the last.
 fn segment_at<S: ReaderSegments>(segments: &S, index: u32) -> Option<&[u8]>
     ensures here { IfSome result (λ segment.
         slice_get (S.segments segments.now) index ≡ Some segment.now) }

@@ -16,7 +16,7 @@ pub struct ProvidedText<'a> {
 }
 
 impl<'a> ProvidedText<'a> {
-    /// No byte of this block is used.
+    /// A text over this block, of which no byte is used.
     pub fn new(block: &'a mut [u8]) -> ProvidedText<'a>
         ensures same_reference { result.block.ghost_name ≡ block.entry.ghost_name }
         ensures block { result.block.now ≡ block.old }
@@ -25,7 +25,7 @@ impl<'a> ProvidedText<'a> {
         ProvidedText { block, used: 0 }
     }
 
-    /// How many bytes the text has.
+    /// The number of bytes of the text.
     pub fn len(&self) -> usize
         ensures { result ≡ self.now.used }
     {
