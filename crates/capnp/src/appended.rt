@@ -23,7 +23,7 @@ use capnp_frame::serialize::{OwnedSegments, Padding};
 use capnp_message::Reader;
 use std::alloc::Global;
 
-/// What was written of messages, and what was read of it.
+/// What was written of messages, and what was read of that.
 #[derive(Drop)]
 pub struct ReadBack {
     /// The texts of the messages, one after the other, in bytes.
@@ -34,8 +34,11 @@ pub struct ReadBack {
     pub end: Option<Reader<OwnedSegments>>,
 }
 
-/// Writes messages to a vector, one after the other, and reads them back of it: as many as were
-/// written, and what stands after them.
+/// Writes messages to a vector, one after the other, and reads them from there: as many as were
+/// written, and what follows them.
+///
+/// Fails with `InvalidNumberOfSegments` for a message of more than 511 segments, and else with
+/// `OutOfMemory` alone.
 pub fn write_and_read_back<S: ReaderSegments>(
     alloc: Global,
     format: Format,
@@ -57,8 +60,10 @@ pub fn write_and_read_back<S: ReaderSegments>(
     Ok(ReadBack { text, readers, end })
 }
 
-/// Writes messages one after the other. What is written before a failure stays. One of more than 511
-/// segments fails with `InvalidNumberOfSegments`.
+/// Writes messages one after the other. What is written before a failure stays.
+///
+/// Fails with `InvalidNumberOfSegments` for a message of more than 511 segments, as the sink does,
+/// and with `OutOfMemory`.
 pub fn write_messages<W: Write, S: ReaderSegments>(
     alloc: Global,
     format: Format,
@@ -83,6 +88,8 @@ pub fn write_messages<W: Write, S: ReaderSegments>(
 }
 
 /// Reads `count` messages, one after the other.
+///
+/// Fails as `read_message` of the format does where a message isn't there, and with `OutOfMemory`.
 pub fn read_messages<R: BufRead>(
     alloc: Global,
     format: Format,
@@ -146,7 +153,7 @@ pub(crate) fn read_message<R: BufRead>(
     }
 }
 
-// The same, or none where nothing is unread.
+// Reads the next message in this format, or none where nothing is unread.
 fn try_read_message<R: BufRead>(
     alloc: Global,
     format: Format,

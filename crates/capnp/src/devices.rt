@@ -1,7 +1,7 @@
-//! What std reads and writes, as files, standard input and standard output, as a source and a sink of
-//! messages.
+//! What std reads and writes, as files, standard input and standard output, as a source and a sink
+//! of messages.
 //!
-//! Both are buffered, and both try an interrupted call again. Any other fault of the device is
+//! Both are buffered, and both try an interrupted call again. Any other failure of the device is
 //! `DeviceFailed`.
 ghost use Rattle.std.specs.Prelude.{◌≡◌, ◌+◌, ◌-◌, ◌^◌, ◌≤◌, min};
 ghost use Rattle.capnp.specs.Passed.{ErrorKind};
@@ -27,14 +27,14 @@ pub struct Failures {
 }
 
 impl Failures {
-    /// The count of a device that has not failed.
+    /// The count for a device that has not failed.
     fn none() -> Failures
         ensures { result.count ≡ 0 }
     {
         Failures { count: 0 }
     }
 
-    /// Counts a failure, and returns the error that it fails with.
+    /// Counts a failure, and returns its error: `DeviceFailed`.
     fn add(&mut self) -> Error
         ensures kind { result.kind ≡ ErrorKind.DeviceFailed }
         ensures counted { self.new.count ≡ min (self.old.count + 1) (2 ^ 64 - 1) }

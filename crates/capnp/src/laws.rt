@@ -17,15 +17,15 @@ ghost use Rattle.capnp.specs.Written.{IsTextOf, AppendsEach};
 
 use capnp_frame::serialize::Padding;
 
-/// A stream begins with one message at most, and where it does one rest is left. So all readers of a
-/// format return the same message.
+/// A stream begins with at most one message, which leaves one rest. So all readers of a format
+/// return the same message.
 pub fn one_message_begins_a_stream()
     ensures { (rule : Padding) (format : Format) (limit : Option ℕ) (message other : List (List ℕ))
         (raw rest left : List ℕ) → StandsNext rule format limit message raw rest →
         StandsNext rule format limit other raw left → (message ≡ other) × (rest ≡ left) }
 {}
 
-/// Where a stream ends, or its reader refuses, no message begins it.
+/// Where a stream ends, or its reader fails, no message begins it.
 pub fn no_message_begins_an_end()
     ensures { (rule : Padding) (format : Format) (limit : Option ℕ) (ending : Option ErrorKind)
         (message : List (List ℕ)) (raw rest : List ℕ) → EndsBy rule format limit ending raw →
@@ -40,8 +40,8 @@ pub fn a_stream_is_one_list()
         (messages ≡ others) × (ending ≡ other) }
 {}
 
-/// What is written of messages one after the other, none of more segments than a writer takes, is a
-/// stream of just these, within any limit of words that they keep.
+/// Messages that are written one after the other, each of no more than 511 segments, are a stream
+/// of just these messages, within any limit of words that they keep.
 pub fn what_is_written_is_a_stream()
     ensures { (rule : Padding) (format : Format) (limit : Option ℕ) (messages : List (List (List ℕ)))
         (text : List ℕ) → AllByRecursion IsWritable messages → AllByRecursion HasFew messages →
@@ -49,9 +49,9 @@ pub fn what_is_written_is_a_stream()
         AppendsEach (IsTextOf format) messages text → IsStream rule format limit messages None text }
 {}
 
-/// A tree that stands at the root of a message that is built is the root tree of what is read of its
-/// text, in both formats, for no more segments than a writer takes, within the limit of words. What
-/// follows the text is left.
+/// The tree at the root of a message that is built is the root tree of what is read of its text, in
+/// both formats, for no more than 511 segments within the limit of words. What follows the text is
+/// left.
 pub fn a_root_is_read_back()
     ensures { (rule : Padding) (format : Format) (limit : Option ℕ) (spaces : List Space) (trees : Trees)
         (text rest left : List ℕ) (read : List (List ℕ)) → HasRootTree (map used_of spaces) trees →

@@ -20,11 +20,11 @@ use capnp_message::{Builder, Reader};
 use capnp_wire::traits::SetterInput;
 use std::alloc::Global;
 
-/// Sets the root of a message to a value, writes the message to a vector and reads it from there: the
-/// root of what is read is the value's tree.
+/// Sets the root of a message to a value, writes the message to a vector and reads it from there:
+/// the root of what is read is the value's tree.
 ///
-/// It fails as `set_root` does, with `InvalidNumberOfSegments` for more than 511 segments, with
-/// `MessageTooLarge` past the limit of words, or for want of memory.
+/// Fails as `Builder::set_root` does, with `InvalidNumberOfSegments` for more than 511 segments,
+/// with `MessageTooLarge` past the limit of words, and with `OutOfMemory`.
 pub fn set_and_read_back<T, V: SetterInput<T> + Drop, A: Allocator>(
     alloc: Global,
     format: Format,
@@ -48,11 +48,11 @@ pub fn set_and_read_back<T, V: SetterInput<T> + Drop, A: Allocator>(
     write_and_read_back(alloc, format, message, options)
 }
 
-/// Writes a message that is built to a vector and reads it from there: the segments are those that were
-/// written.
+/// Writes a message that is built to a vector and reads it from there: the segments are those that
+/// were written.
 ///
-/// It fails with `InvalidNumberOfSegments` for more than 511 segments, with `MessageTooLarge` past the
-/// limit of words, or for want of memory.
+/// Fails with `InvalidNumberOfSegments` for more than 511 segments, with `MessageTooLarge` past the
+/// limit of words, and else with `OutOfMemory` alone.
 pub fn write_and_read_back<A: Allocator>(
     alloc: Global,
     format: Format,

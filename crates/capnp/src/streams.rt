@@ -23,7 +23,7 @@ use capnp_pack::stream::{
 };
 use std::alloc::Global;
 
-/// How messages stand in a stream.
+/// The formats of a stream.
 #[derive(Clone, Copy, Debug, PartialEq, Eq)]
 pub enum Format {
     Framed,
@@ -41,16 +41,20 @@ pub struct StoppedAt {
 
 /// What is written of each message of a stream.
 pub trait MessageWriter {
-    /// What a sink that appends so adds for a message, by its index.
+    /// What is added for a message, by its index, to a sink that appends so.
     ghost writes: { Self → Appending → Writing };
 
-    /// By which kinds it is not written: for what the message lacks, and by a sink that declines so.
+    /// With which kinds a message isn't written: for what it lacks, and as a sink that declines so
+    /// fails.
     ghost declines: { Self → Declining → DecliningWriting };
 
     /// Writes what there is to write of a message of this index.
     ///
     /// The message has 1 to 511 segments, each of whole words and fewer than 2^32 of them. `memory`
-    /// is caller-provided: what it holds is open, before and after.
+    /// is caller-provided scratch space, whose content doesn't matter, before and after.
+    ///
+    /// Fails with a kind that `declines` names, with `OutOfMemory`, or with `DeviceFailed`, only
+    /// where the sink's device failed.
     fn write_message<W: Write>(
         &self,
         alloc: Global,
@@ -77,6 +81,9 @@ pub trait MessageWriter {
 ///
 /// It takes at most 2^64 - 1 messages, and leaves the rest unread. The memory of a message serves
 /// the next one too.
+///
+/// Fails, after how many messages `StoppedAt` tells, where the reader of the next message fails, or
+/// `writer` at this message.
 pub fn write_each_message<R: BufRead, W: Write, M: MessageWriter>(
     alloc: Global,
     format: Format,
@@ -93,7 +100,7 @@ pub fn write_each_message<R: BufRead, W: Write, M: MessageWriter>(
     write_all(alloc, format, padding, options, writer, source, sink)
 }
 
-// Message by message.
+// Does so, message by message.
 fn write_all<R: BufRead, W: Write, M: MessageWriter>(
     alloc: Global,
     format: Format,
@@ -130,8 +137,8 @@ fn write_all<R: BufRead, W: Write, M: MessageWriter>(
     Ok(())
 }
 
-// Reads the next message of a stream of this format, its padding by the rule, into the memory of the
-// one before.
+// Reads the next message of a stream of this format, its padding by the rule, into the memory of
+// the one before.
 fn read_next<R: BufRead>(
     format: Format,
     padding: Padding,
@@ -164,7 +171,7 @@ fn read_framed<R: BufRead>(
     }
 }
 
-// The next packed one.
+// The next packed message.
 fn read_packed<R: BufRead>(
     padding: Padding,
     options: ReaderOptions,

@@ -55,8 +55,11 @@ impl MessageWriter for Way {
 
 /// Writes each message of a source in the other format, until none is left.
 ///
-/// It takes at most 2^64 - 1 messages, and leaves the rest unread. After a reader's failure the texts
-/// of the messages before it are written. Padding that isn't zero fails with `NonZeroPadding`.
+/// It takes at most 2^64 - 1 messages, and leaves the rest unread.
+///
+/// Fails as the reader of the next message does, with `NonZeroPadding` for a padding that isn't
+/// zero, or as the sink does, or with `OutOfMemory`. The texts of the messages before are then
+/// written.
 ///
 /// ```
 /// let mut packed = Vec::new(alloc);
@@ -76,7 +79,7 @@ pub fn transcode<R: BufRead, W: Write>(
     transcode_by(alloc, Padding::Zero, way, source, sink, options)
 }
 
-/// As `transcode`, of messages whose padding may be anything, as older writers left it. What is
+/// Writes each message as `transcode` does, of any padding, as older writers left it. What is
 /// written has zero padding.
 pub fn transcode_lenient<R: BufRead, W: Write>(
     alloc: Global,
@@ -91,7 +94,7 @@ pub fn transcode_lenient<R: BufRead, W: Write>(
     transcode_by(alloc, Padding::Any, way, source, sink, options)
 }
 
-// By a rule of padding.
+// Writes each message in the other format, its padding by a rule.
 fn transcode_by<R: BufRead, W: Write>(
     alloc: Global,
     padding: Padding,

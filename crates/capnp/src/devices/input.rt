@@ -17,8 +17,8 @@ use std::io::BufReader;
 
 /// A device as a source, with a buffer before it.
 ///
-/// What the device gives isn't known to contracts in general. Where it is, each call returns just
-/// those bytes, and a refused one takes none.
+/// Contracts don't know in general what a device gives. Where they do, each call returns just those
+/// bytes, and one that fails takes none.
 #[derive(Drop)]
 pub struct Input<R> {
     buffered: BufReader<Retried<R>>,
@@ -26,7 +26,7 @@ pub struct Input<R> {
 }
 
 impl<R: io::Read + Drop> Input<R> {
-    /// The device, with nothing read. The only refusal is `OutOfMemory`, for the buffer.
+    /// The device, with nothing read. Fails with `OutOfMemory` alone, for the buffer.
     pub fn new(alloc: Global, device: R) -> Result<Input<R>>
         ensures coming { IfOk result (λ input. Keeps (R.remaining device) (coming R.remaining input)) }
         ensures read_ahead { IfOk result (λ input. read_ahead input ≡ []) }
@@ -73,7 +73,7 @@ impl<R: io::Read> Read for Input<R> {
         ensures spent { IfOk result (λ count. count ≡ 0 → 0 < length buffer.new →
             IsRefused RunsShort (length buffer.new) None ErrorKind.FailedToFillTheWholeBuffer) }
 
-        // A refusal.
+        // An error.
         ensures device { IfErr result (λ error. error.kind ≡ ErrorKind.DeviceFailed) }
         ensures failed { OnErr result (Fails self.old.failures.count self.new.failures.count) }
         ensures kept { OnErr result (Keeps (coming R.remaining self.old) (coming R.remaining self.new)) }

@@ -24,7 +24,7 @@ impl<W: io::Write + Drop> Output<W> {
     /// The device, with nothing written, and a buffer of `capacity` bytes. With no capacity each
     /// chunk goes straight to the device, and no memory is taken.
     ///
-    /// The only refusal is `OutOfMemory`, for the buffer.
+    /// Fails with `OutOfMemory` alone, for the buffer.
     pub fn new(alloc: Global, capacity: usize, device: W) -> Result<Output<W>>
         ensures taken { IfOk result (λ output.
             Keeps (W.contents device) (taken_so_far W.contents output)) }
@@ -50,7 +50,7 @@ impl<W: io::Write + Drop> Output<W> {
         self.failures.count
     }
 
-    /// Hands what is pending to the device. The only refusal is `DeviceFailed`.
+    /// Hands what is pending to the device. Fails with `DeviceFailed` alone.
     pub fn flush(&mut self) -> Result<()>
         ensures flushed { OnOk result (pending self.new ≡ []) }
         ensures kept { Keeps (taken_so_far W.contents self.old) (taken_so_far W.contents self.new) }
@@ -81,7 +81,7 @@ impl<W: io::Write + Drop> Write for Output<W> {
 
     ghost same = { λ _ _. ⊤ };
 
-    // `write_all` of std says nothing of what a refused call leaves.
+    // `write_all` of std says nothing of what a call leaves that fails.
     fn write_all(&mut self, chunk: &[u8]) -> Result<()> {
         let mut done = 0;
         while done < chunk.len() {

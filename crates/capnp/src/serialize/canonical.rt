@@ -11,7 +11,7 @@ use std::alloc::Global;
 
 /// Writes the canonical form of a message, as a message of one segment.
 ///
-/// It is refused as the reader's `canonicalize` is, with nothing written.
+/// Fails as `Reader::canonicalize` does, with nothing written, and as the sink does.
 pub fn write_canonical_message<W: Write, S: ReaderSegments>(
     alloc: Global,
     sink: &mut W,

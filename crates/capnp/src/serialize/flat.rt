@@ -11,11 +11,10 @@ use capnp_frame::serialize::{
 use capnp_message::Reader;
 use std::alloc::Global;
 
-/// Reads the message at the front of a slice, and moves the slice after it. A slice that is refused
-/// stays as it was.
+/// Reads the message at the front of a slice, and moves the slice after it.
 ///
-/// No segment is copied. Memory is taken for the lengths of the segments, once their number is
-/// accepted.
+/// No segment is copied, and memory is taken for the lengths of the segments alone. Fails as
+/// `take_segments` of `capnp_frame` does, and the slice is then as it was.
 pub fn read_message_from_flat_slice<'a>(
     alloc: Global,
     slice: &mut &'a [u8],
@@ -28,7 +27,8 @@ pub fn read_message_from_flat_slice<'a>(
     take_message(alloc, slice, Padding::Zero, options)
 }
 
-/// Reads the message at the front of a slice as `read_message_from_flat_slice` does, of any padding.
+/// Reads the message at the front of a slice as `read_message_from_flat_slice` does, of any
+/// padding.
 pub fn read_message_from_flat_slice_lenient<'a>(
     alloc: Global,
     slice: &mut &'a [u8],
@@ -56,8 +56,10 @@ fn take_message<'a>(
     Ok(Reader::new(segments, options))
 }
 
-/// Reads the message at the front of a slice, and moves the slice after it. A slice that is refused
-/// stays as it was. No memory is taken.
+/// Reads the message at the front of a slice, and moves the slice after it. No memory is taken.
+///
+/// Fails as `NoAllocBufferSegments::from_slice` of `capnp_frame` does, and the slice is then as it
+/// was.
 ///
 /// ```
 /// let mut rest = bytes;
@@ -77,8 +79,8 @@ pub fn read_message_from_flat_slice_no_alloc<'a>(
     take_message_no_alloc(slice, Padding::Zero, options)
 }
 
-/// Reads the message at the front of a slice as `read_message_from_flat_slice_no_alloc` does, of any
-/// padding.
+/// Reads the message at the front of a slice as `read_message_from_flat_slice_no_alloc` does, of
+/// any padding.
 pub fn read_message_from_flat_slice_no_alloc_lenient<'a>(
     slice: &mut &'a [u8],
     options: ReaderOptions,
@@ -120,7 +122,7 @@ fn take_front<'a>(
     }
 }
 
-// The same, found without memory.
+// The segments at the front of a slice, found without memory.
 fn take_front_no_alloc<'a>(
     slice: &mut &'a [u8],
     padding: Padding,

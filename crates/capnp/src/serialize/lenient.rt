@@ -19,7 +19,7 @@ pub fn try_read_message_lenient<R: Read>(
     source: &mut R,
     options: ReaderOptions,
 ) -> Result<Option<Reader<OwnedSegments>>>
-    // Over a source of plain bytes: the framed text of the message stands there.
+    // Over a source of plain bytes: the unread bytes begin with the framed text of the message.
     ensures texts { IsPlainSource R.gives R.refuses → ReturnsTexts (IsFrame Padding.Any)
         options.traversal_limit_in_words (R.unread source.old) (R.unread source.new)
         (next_in (λ reader. reader.segments) result) }
@@ -37,7 +37,7 @@ pub fn read_message_lenient<R: Read>(
     source: &mut R,
     options: ReaderOptions,
 ) -> Result<Reader<OwnedSegments>>
-    // Over a source of plain bytes: the framed text of the message stands there.
+    // Over a source of plain bytes: the unread bytes begin with the framed text of the message.
     ensures texts { IsPlainSource R.gives R.refuses → ReturnsTexts (IsFrame Padding.Any)
         options.traversal_limit_in_words (R.unread source.old) (R.unread source.new)
         (message_in (λ reader. reader.segments) result) }
@@ -55,7 +55,7 @@ pub fn try_read_message_no_alloc_lenient<'b, R: Read>(
     buffer: &'b mut [u8],
     options: ReaderOptions,
 ) -> Result<Option<Reader<NoAllocBufferSegments<&'b [u8]>>>>
-    // Over a source of plain bytes: the framed text of the message stands there.
+    // Over a source of plain bytes: the unread bytes begin with the framed text of the message.
     ensures texts { IsPlainSource R.gives R.refuses → ReturnsTextsInto (IsFrame Padding.Any)
         options.traversal_limit_in_words (length buffer.old) (R.unread source.old) (R.unread source.new)
         (next_in (λ reader. reader.segments.segments) result) }
@@ -73,7 +73,7 @@ pub fn read_message_no_alloc_lenient<'b, R: Read>(
     buffer: &'b mut [u8],
     options: ReaderOptions,
 ) -> Result<Reader<NoAllocBufferSegments<&'b [u8]>>>
-    // Over a source of plain bytes: the framed text of the message stands there.
+    // Over a source of plain bytes: the unread bytes begin with the framed text of the message.
     ensures texts { IsPlainSource R.gives R.refuses → ReturnsTextsInto (IsFrame Padding.Any)
         options.traversal_limit_in_words (length buffer.old) (R.unread source.old) (R.unread source.new)
         (message_in (λ reader. reader.segments.segments) result) }

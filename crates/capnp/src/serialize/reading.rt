@@ -22,7 +22,7 @@ pub(crate) fn try_read_message<R: Read>(
     padding: Padding,
     options: ReaderOptions,
 ) -> Result<Option<Reader<OwnedSegments>>>
-    // Over a source of plain bytes: the framed text of the message stands there.
+    // Over a source of plain bytes: the unread bytes begin with the framed text of the message.
     ensures texts { IsPlainSource R.gives R.refuses → ReturnsTexts (IsFrame padding)
         options.traversal_limit_in_words (R.unread source.old) (R.unread source.new)
         (next_in (λ reader. reader.segments) result) }
@@ -37,14 +37,14 @@ pub(crate) fn try_read_message<R: Read>(
     }
 }
 
-// The same, or a failure where nothing is unread.
+// Reads the next message of a source, its padding by the rule, and fails where nothing is unread.
 pub(crate) fn read_message<R: Read>(
     alloc: Global,
     source: &mut R,
     padding: Padding,
     options: ReaderOptions,
 ) -> Result<Reader<OwnedSegments>>
-    // Over a source of plain bytes: the framed text of the message stands there.
+    // Over a source of plain bytes: the unread bytes begin with the framed text of the message.
     ensures texts { IsPlainSource R.gives R.refuses → ReturnsTexts (IsFrame padding)
         options.traversal_limit_in_words (R.unread source.old) (R.unread source.new)
         (message_in (λ reader. reader.segments) result) }
@@ -59,14 +59,15 @@ pub(crate) fn read_message<R: Read>(
     }
 }
 
-// Reads the next message of a source into a caller-provided buffer, or none where nothing is unread.
+// Reads the next message of a source into a caller-provided buffer, or none where nothing is
+// unread.
 pub(crate) fn try_read_message_no_alloc<'b, R: Read>(
     source: &mut R,
     buffer: &'b mut [u8],
     padding: Padding,
     options: ReaderOptions,
 ) -> Result<Option<Reader<NoAllocBufferSegments<&'b [u8]>>>>
-    // Over a source of plain bytes: the framed text of the message stands there.
+    // Over a source of plain bytes: the unread bytes begin with the framed text of the message.
     ensures texts { IsPlainSource R.gives R.refuses → ReturnsTextsInto (IsFrame padding)
         options.traversal_limit_in_words (length buffer.old) (R.unread source.old) (R.unread source.new)
         (next_in (λ reader. reader.segments.segments) result) }
@@ -81,14 +82,14 @@ pub(crate) fn try_read_message_no_alloc<'b, R: Read>(
     }
 }
 
-// The same, or a failure where nothing is unread.
+// Reads the next message into a caller-provided buffer, and fails where nothing is unread.
 pub(crate) fn read_message_no_alloc<'b, R: Read>(
     source: &mut R,
     buffer: &'b mut [u8],
     padding: Padding,
     options: ReaderOptions,
 ) -> Result<Reader<NoAllocBufferSegments<&'b [u8]>>>
-    // Over a source of plain bytes: the framed text of the message stands there.
+    // Over a source of plain bytes: the unread bytes begin with the framed text of the message.
     ensures texts { IsPlainSource R.gives R.refuses → ReturnsTextsInto (IsFrame padding)
         options.traversal_limit_in_words (length buffer.old) (R.unread source.old) (R.unread source.new)
         (message_in (λ reader. reader.segments.segments) result) }
@@ -119,7 +120,7 @@ fn next_segments<R: Read>(
     }
 }
 
-// The same in a caller-provided buffer.
+// The segments of the next message, in a caller-provided buffer.
 fn next_segments_into<'b, R: Read>(
     source: &mut R,
     buffer: &'b mut [u8],

@@ -1,4 +1,4 @@
-//! Skipping messages of a stream, of which only the lengths of the segments are told.
+//! Skipping messages of a stream, of which only the lengths of the segments are returned.
 ghost use Rattle.capnp_frame.specs.Skipping.{SkipsMessage};
 ghost use Rattle.capnp_frame.specs.Streams.{ReadsStream};
 ghost use Rattle.capnp.specs.Streams.{rules_of};
@@ -11,11 +11,11 @@ use capnp_frame::serialize::{
     Padding, SegmentLengthsBuilder, try_skip_segments, try_skip_segments_lenient,
 };
 
-/// Skips the next message of a stream, and returns the lengths of its segments in words, or `None` where
-/// nothing is unread.
+/// Skips the next message of a stream, and returns the lengths of its segments in words, or `None`
+/// where nothing is unread.
 ///
 /// It consumes what `try_read_message` does, and fails as that does, but takes no memory for the
-/// segments. The lengths stand in the memory of `spare`, which grows where it is too small.
+/// segments. The lengths are put into the memory of `spare`, which grows where it is too small.
 pub fn try_skip_message<R: BufRead>(
     source: &mut R,
     options: ReaderOptions,
@@ -27,7 +27,7 @@ pub fn try_skip_message<R: BufRead>(
     try_skip_segments(source, options, spare)
 }
 
-/// As `try_skip_message`, of a message whose padding may be anything.
+/// Skips the next message as `try_skip_message` does, of any padding.
 pub fn try_skip_message_lenient<R: BufRead>(
     source: &mut R,
     options: ReaderOptions,

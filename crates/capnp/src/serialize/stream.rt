@@ -16,8 +16,12 @@ use std::alloc::Global;
 /// Reads the next message of a source, or returns `None` where nothing is unread.
 ///
 /// The message is returned exactly where the unread bytes begin with a framed text of it, and just
-/// that text is consumed. Memory is taken for the lengths of the segments once their number is
-/// accepted, and for the segments once the limit of words is tested.
+/// that text is consumed. Memory is taken for the lengths of the segments, and for the segments
+/// once the limit of words is tested.
+///
+/// Fails as `try_read_segments` of `capnp_frame` does: with `InvalidNumberOfSegments`,
+/// `MessageTooLarge` or `NonZeroPadding` for the table, as the source does where bytes are missing,
+/// with `OutOfMemory`, and with `DeviceFailed`.
 ///
 /// ```
 /// let options = DEFAULT_READER_OPTIONS;
@@ -31,7 +35,7 @@ pub fn try_read_message<R: Read>(
     source: &mut R,
     options: ReaderOptions,
 ) -> Result<Option<Reader<OwnedSegments>>>
-    // Over a source of plain bytes: the framed text of the message stands there.
+    // Over a source of plain bytes: the unread bytes begin with the framed text of the message.
     ensures texts { IsPlainSource R.gives R.refuses → ReturnsTexts (IsFrame Padding.Zero)
         options.traversal_limit_in_words (R.unread source.old) (R.unread source.new)
         (next_in (λ reader. reader.segments) result) }
@@ -43,14 +47,14 @@ pub fn try_read_message<R: Read>(
     reading::try_read_message(alloc, source, Padding::Zero, options)
 }
 
-/// Reads the next message of a source. Where nothing is unread it fails with
-/// `PrematureEndOfFile`.
+/// Reads the next message of a source. Fails with `PrematureEndOfFile` where nothing is unread, and
+/// else as `try_read_message` does.
 pub fn read_message<R: Read>(
     alloc: Global,
     source: &mut R,
     options: ReaderOptions,
 ) -> Result<Reader<OwnedSegments>>
-    // Over a source of plain bytes: the framed text of the message stands there.
+    // Over a source of plain bytes: the unread bytes begin with the framed text of the message.
     ensures texts { IsPlainSource R.gives R.refuses → ReturnsTexts (IsFrame Padding.Zero)
         options.traversal_limit_in_words (R.unread source.old) (R.unread source.new)
         (message_in (λ reader. reader.segments) result) }
@@ -62,17 +66,19 @@ pub fn read_message<R: Read>(
     reading::read_message(alloc, source, Padding::Zero, options)
 }
 
-/// Reads the next message of a source into a caller-provided buffer, or returns `None` where nothing is
-/// unread.
+/// Reads the next message of a source into a caller-provided buffer, or returns `None` where
+/// nothing is unread.
 ///
-/// The buffer holds the table and the segments: one that is shorter than 8 bytes, than the table or
-/// than both fails with `BufferNotLargeEnough`. No memory is taken.
+/// The buffer holds the table and the segments. No memory is taken.
+///
+/// Fails with `BufferNotLargeEnough` where the buffer is shorter than 8 bytes, than the table, or
+/// than both, and else as `try_read_message` does, but for `OutOfMemory`.
 pub fn try_read_message_no_alloc<'b, R: Read>(
     source: &mut R,
     buffer: &'b mut [u8],
     options: ReaderOptions,
 ) -> Result<Option<Reader<NoAllocBufferSegments<&'b [u8]>>>>
-    // Over a source of plain bytes: the framed text of the message stands there.
+    // Over a source of plain bytes: the unread bytes begin with the framed text of the message.
     ensures texts { IsPlainSource R.gives R.refuses → ReturnsTextsInto (IsFrame Padding.Zero)
         options.traversal_limit_in_words (length buffer.old) (R.unread source.old) (R.unread source.new)
         (next_in (λ reader. reader.segments.segments) result) }
@@ -84,14 +90,14 @@ pub fn try_read_message_no_alloc<'b, R: Read>(
     reading::try_read_message_no_alloc(source, buffer, Padding::Zero, options)
 }
 
-/// Reads the next message of a source into a caller-provided buffer. Where nothing is unread it
-/// fails with `PrematureEndOfFile`.
+/// Reads the next message of a source into a caller-provided buffer. Fails with
+/// `PrematureEndOfFile` where nothing is unread, and else as `try_read_message_no_alloc` does.
 pub fn read_message_no_alloc<'b, R: Read>(
     source: &mut R,
     buffer: &'b mut [u8],
     options: ReaderOptions,
 ) -> Result<Reader<NoAllocBufferSegments<&'b [u8]>>>
-    // Over a source of plain bytes: the framed text of the message stands there.
+    // Over a source of plain bytes: the unread bytes begin with the framed text of the message.
     ensures texts { IsPlainSource R.gives R.refuses → ReturnsTextsInto (IsFrame Padding.Zero)
         options.traversal_limit_in_words (length buffer.old) (R.unread source.old) (R.unread source.new)
         (message_in (λ reader. reader.segments.segments) result) }

@@ -13,11 +13,12 @@ use capnp_frame::serialize::{segments_to_words, serialized_size_in_words, write_
 use capnp_message::Builder;
 use std::alloc::Global;
 
-/// Writes a message that is built, each segment as far as it is used. It must have a segment, which
-/// `is_empty` tells.
+/// Writes a message that is built, each segment up to its last used word. It must have a segment,
+/// which `is_empty` tells.
 ///
-/// More than 511 segments, which no reader accepts, fail with `InvalidNumberOfSegments`. Memory is
-/// taken for a table of four segments or more, before anything is written.
+/// Fails with `InvalidNumberOfSegments` for more than 511 segments, which no reader accepts; with
+/// `OutOfMemory`, from four segments on, for the table; both before anything is written; and as the
+/// sink does.
 pub fn write_message<W: Write, A: Allocator>(
     alloc: Global,
     sink: &mut W,
@@ -32,8 +33,7 @@ pub fn write_message<W: Write, A: Allocator>(
 /// Writes a message ("Serialization Over a Stream"). It needs 1 to 2^32 - 1 segments, each of whole
 /// words and fewer than 2^32 of them.
 ///
-/// More than 511 segments, which no reader accepts, fail with `InvalidNumberOfSegments`. Memory is
-/// taken for a table of four segments or more, before anything is written.
+/// Fails as `write_message` does.
 ///
 /// ```
 /// let segments = [[0; 8].as_slice()];
@@ -54,8 +54,10 @@ pub fn write_message_segments<W: Write, S: ReaderSegments>(
     write_segments(alloc, sink, segments)
 }
 
-/// The framed text of a message, in bytes. It fails with `InvalidNumberOfSegments` exactly where there
-/// are more than 511 segments, before memory is taken.
+/// The framed text of a message, in bytes.
+///
+/// Fails with `InvalidNumberOfSegments` exactly where there are more than 511 segments, before
+/// memory is taken, and else with `OutOfMemory` alone.
 pub fn write_message_segments_to_words<S: ReaderSegments>(
     alloc: Global,
     segments: &S,
@@ -66,8 +68,9 @@ pub fn write_message_segments_to_words<S: ReaderSegments>(
     segments_to_words(alloc, segments)
 }
 
-/// The framed text of a message that is built, in bytes; the message has one segment at least. It fails
-/// with `InvalidNumberOfSegments` exactly where there are more than 511, before memory is taken.
+/// The framed text of a message that is built, in bytes; the message has one segment at least.
+///
+/// Fails as `write_message_segments_to_words` does.
 pub fn write_message_to_words<A: Allocator>(alloc: Global, message: &Builder<A>) -> Result<Vec<u8>>
     requires { 0 < length message.now.spaces }
     ensures { ReturnsText (output_of message.now) (λ text. text.items) result }
@@ -75,9 +78,10 @@ pub fn write_message_to_words<A: Allocator>(alloc: Global, message: &Builder<A>)
     write_message_segments_to_words(alloc, &message.get_segments_for_output())
 }
 
-/// How many words the framed text of a message that is built takes, with its table: an eighth of the
-/// bytes that `write_message` adds to a plain sink. It is refused only where their number does not fit
-/// `usize`.
+/// How many words the framed text of a message that is built takes, with its table: an eighth of
+/// the bytes that `write_message` adds to a plain sink.
+///
+/// Fails with `MessageSizeOverflow` exactly where this number passes `usize`.
 pub fn compute_serialized_size_in_words<A: Allocator>(message: &Builder<A>) -> Result<usize>
     requires { 0 < length message.now.spaces }
     ensures bytes { IfOk result (λ words. (text : List ℕ) →

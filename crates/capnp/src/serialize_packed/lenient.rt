@@ -19,7 +19,7 @@ pub fn try_read_message_lenient<R: BufRead>(
     source: &mut R,
     options: ReaderOptions,
 ) -> Result<Option<Reader<OwnedSegments>>>
-    // The packed text of the message stands there.
+    // The unread bytes begin with a packed text of the message.
     ensures texts { ReturnsTexts (IsPackedFrame Padding.Any)
         options.traversal_limit_in_words (R.unread source.old) (R.unread source.new)
         (next_in (λ reader. reader.segments) result) }
@@ -37,7 +37,7 @@ pub fn read_message_lenient<R: BufRead>(
     source: &mut R,
     options: ReaderOptions,
 ) -> Result<Reader<OwnedSegments>>
-    // The packed text of the message stands there.
+    // The unread bytes begin with a packed text of the message.
     ensures texts { ReturnsTexts (IsPackedFrame Padding.Any)
         options.traversal_limit_in_words (R.unread source.old) (R.unread source.new)
         (message_in (λ reader. reader.segments) result) }
@@ -55,7 +55,7 @@ pub fn try_read_message_no_alloc_lenient<'b, R: BufRead>(
     buffer: &'b mut [u8],
     options: ReaderOptions,
 ) -> Result<Option<Reader<NoAllocBufferSegments<&'b [u8]>>>>
-    // The packed text of the message stands there.
+    // The unread bytes begin with a packed text of the message.
     ensures texts { ReturnsTextsInto (IsPackedFrame Padding.Any)
         options.traversal_limit_in_words (length buffer.old) (R.unread source.old) (R.unread source.new)
         (next_in (λ reader. reader.segments.segments) result) }
@@ -73,7 +73,7 @@ pub fn read_message_no_alloc_lenient<'b, R: BufRead>(
     buffer: &'b mut [u8],
     options: ReaderOptions,
 ) -> Result<Reader<NoAllocBufferSegments<&'b [u8]>>>
-    // The packed text of the message stands there.
+    // The unread bytes begin with a packed text of the message.
     ensures texts { ReturnsTextsInto (IsPackedFrame Padding.Any)
         options.traversal_limit_in_words (length buffer.old) (R.unread source.old) (R.unread source.new)
         (message_in (λ reader. reader.segments.segments) result) }

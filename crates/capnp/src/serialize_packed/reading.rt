@@ -16,14 +16,15 @@ use capnp_pack::stream::{
 };
 use std::alloc::Global;
 
-// Reads the next packed message of a source, its padding by the rule, or none where nothing is unread.
+// Reads the next packed message of a source, its padding by the rule, or none where nothing is
+// unread.
 pub(crate) fn try_read_message<R: BufRead>(
     alloc: Global,
     source: &mut R,
     padding: Padding,
     options: ReaderOptions,
 ) -> Result<Option<Reader<OwnedSegments>>>
-    // The packed text of the message stands there.
+    // The unread bytes begin with a packed text of the message.
     ensures texts { ReturnsTexts (IsPackedFrame padding)
         options.traversal_limit_in_words (R.unread source.old) (R.unread source.new)
         (next_in (λ reader. reader.segments) result) }
@@ -38,14 +39,14 @@ pub(crate) fn try_read_message<R: BufRead>(
     }
 }
 
-// The same, or a failure where nothing is unread.
+// Reads the next packed message, its padding by the rule, and fails where nothing is unread.
 pub(crate) fn read_message<R: BufRead>(
     alloc: Global,
     source: &mut R,
     padding: Padding,
     options: ReaderOptions,
 ) -> Result<Reader<OwnedSegments>>
-    // The packed text of the message stands there.
+    // The unread bytes begin with a packed text of the message.
     ensures texts { ReturnsTexts (IsPackedFrame padding)
         options.traversal_limit_in_words (R.unread source.old) (R.unread source.new)
         (message_in (λ reader. reader.segments) result) }
@@ -68,7 +69,7 @@ pub(crate) fn try_read_message_no_alloc<'b, R: BufRead>(
     padding: Padding,
     options: ReaderOptions,
 ) -> Result<Option<Reader<NoAllocBufferSegments<&'b [u8]>>>>
-    // The packed text of the message stands there.
+    // The unread bytes begin with a packed text of the message.
     ensures texts { ReturnsTextsInto (IsPackedFrame padding)
         options.traversal_limit_in_words (length buffer.old) (R.unread source.old) (R.unread source.new)
         (next_in (λ reader. reader.segments.segments) result) }
@@ -83,14 +84,14 @@ pub(crate) fn try_read_message_no_alloc<'b, R: BufRead>(
     }
 }
 
-// The same, or a failure where nothing is unread.
+// Reads the next packed message into a caller-provided buffer, and fails where nothing is unread.
 pub(crate) fn read_message_no_alloc<'b, R: BufRead>(
     source: &mut R,
     buffer: &'b mut [u8],
     padding: Padding,
     options: ReaderOptions,
 ) -> Result<Reader<NoAllocBufferSegments<&'b [u8]>>>
-    // The packed text of the message stands there.
+    // The unread bytes begin with a packed text of the message.
     ensures texts { ReturnsTextsInto (IsPackedFrame padding)
         options.traversal_limit_in_words (length buffer.old) (R.unread source.old) (R.unread source.new)
         (message_in (λ reader. reader.segments.segments) result) }
@@ -121,7 +122,7 @@ fn next_segments<R: BufRead>(
     }
 }
 
-// The same in a caller-provided buffer.
+// The segments of the next message, in a caller-provided buffer.
 fn next_segments_into<'b, R: BufRead>(
     source: &mut R,
     buffer: &'b mut [u8],

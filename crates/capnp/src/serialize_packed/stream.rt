@@ -16,8 +16,13 @@ use std::alloc::Global;
 /// Reads the next packed message of a source, or returns `None` where nothing is unread.
 ///
 /// The message is returned exactly where the unread bytes begin with a packed text of it, and just
-/// that text is consumed. Memory is taken for the lengths of the segments once their number is
-/// accepted, and for the segments once the limit of words is tested.
+/// that text is consumed. Memory is taken for the lengths of the segments, and for the segments
+/// once the limit of words is tested.
+///
+/// Fails as `try_read_packed_segments` of `capnp_pack` does: with `InvalidNumberOfSegments`,
+/// `MessageTooLarge` or `NonZeroPadding` for the table, with `PrematureEndOfPackedInput`,
+/// `FailedToFillTheWholeBuffer` or `PackedInputDidNotEndCleanlyOnASegmentBoundary` for what is
+/// packed, with `OutOfMemory`, and with `DeviceFailed`.
 ///
 /// ```
 /// let options = DEFAULT_READER_OPTIONS;
@@ -31,7 +36,7 @@ pub fn try_read_message<R: BufRead>(
     source: &mut R,
     options: ReaderOptions,
 ) -> Result<Option<Reader<OwnedSegments>>>
-    // The packed text of the message stands there.
+    // The unread bytes begin with a packed text of the message.
     ensures texts { ReturnsTexts (IsPackedFrame Padding.Zero)
         options.traversal_limit_in_words (R.unread source.old) (R.unread source.new)
         (next_in (λ reader. reader.segments) result) }
@@ -43,14 +48,14 @@ pub fn try_read_message<R: BufRead>(
     reading::try_read_message(alloc, source, Padding::Zero, options)
 }
 
-/// Reads the next packed message of a source. Where nothing is unread it fails
-/// with `PrematureEndOfFile`.
+/// Reads the next packed message of a source. Fails with `PrematureEndOfFile` where nothing is
+/// unread, and else as `try_read_message` does.
 pub fn read_message<R: BufRead>(
     alloc: Global,
     source: &mut R,
     options: ReaderOptions,
 ) -> Result<Reader<OwnedSegments>>
-    // The packed text of the message stands there.
+    // The unread bytes begin with a packed text of the message.
     ensures texts { ReturnsTexts (IsPackedFrame Padding.Zero)
         options.traversal_limit_in_words (R.unread source.old) (R.unread source.new)
         (message_in (λ reader. reader.segments) result) }
@@ -65,14 +70,16 @@ pub fn read_message<R: BufRead>(
 /// Reads the next packed message of a source into a caller-provided buffer, or returns `None` where
 /// nothing is unread.
 ///
-/// The buffer holds the table and the segments: one that is shorter than 8 bytes, than the table or
-/// than both fails with `BufferNotLargeEnough`. No memory is taken.
+/// The buffer holds the table and the segments. No memory is taken.
+///
+/// Fails with `BufferNotLargeEnough` where the buffer is shorter than 8 bytes, than the table, or
+/// than both, and else as `try_read_message` does, but for `OutOfMemory`.
 pub fn try_read_message_no_alloc<'b, R: BufRead>(
     source: &mut R,
     buffer: &'b mut [u8],
     options: ReaderOptions,
 ) -> Result<Option<Reader<NoAllocBufferSegments<&'b [u8]>>>>
-    // The packed text of the message stands there.
+    // The unread bytes begin with a packed text of the message.
     ensures texts { ReturnsTextsInto (IsPackedFrame Padding.Zero)
         options.traversal_limit_in_words (length buffer.old) (R.unread source.old) (R.unread source.new)
         (next_in (λ reader. reader.segments.segments) result) }
@@ -84,14 +91,14 @@ pub fn try_read_message_no_alloc<'b, R: BufRead>(
     reading::try_read_message_no_alloc(source, buffer, Padding::Zero, options)
 }
 
-/// Reads the next packed message of a source into a caller-provided buffer. Where nothing is unread it
-/// fails with `PrematureEndOfFile`.
+/// Reads the next packed message of a source into a caller-provided buffer. Fails with
+/// `PrematureEndOfFile` where nothing is unread, and else as `try_read_message_no_alloc` does.
 pub fn read_message_no_alloc<'b, R: BufRead>(
     source: &mut R,
     buffer: &'b mut [u8],
     options: ReaderOptions,
 ) -> Result<Reader<NoAllocBufferSegments<&'b [u8]>>>
-    // The packed text of the message stands there.
+    // The unread bytes begin with a packed text of the message.
     ensures texts { ReturnsTextsInto (IsPackedFrame Padding.Zero)
         options.traversal_limit_in_words (length buffer.old) (R.unread source.old) (R.unread source.new)
         (message_in (λ reader. reader.segments.segments) result) }

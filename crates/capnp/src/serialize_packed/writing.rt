@@ -13,8 +13,10 @@ use capnp_message::Builder;
 use capnp_pack::PackedWrite;
 use std::alloc::Global;
 
-/// Writes a message that is built, packed, each segment as far as it is used. It must have a segment,
-/// which `is_empty` tells. More than 511 segments fail with `InvalidNumberOfSegments`.
+/// Writes a message that is built, packed, each segment up to its last used word. It must have a
+/// segment, which `is_empty` tells.
+///
+/// Fails as `write_message_segments` does.
 pub fn write_message<W: Write, A: Allocator>(
     alloc: Global,
     sink: &mut W,
@@ -27,8 +29,11 @@ pub fn write_message<W: Write, A: Allocator>(
 }
 
 /// Writes a message, packed: the first word of its table, the table's other words, and each segment
-/// are packed one by one ("Packing"). What it needs of the segments, and that more than 511 of them
-/// fail with `InvalidNumberOfSegments`, is as for the framed writer.
+/// are packed one by one ("Packing"). It needs the segments that the framed writer needs.
+///
+/// Fails with `InvalidNumberOfSegments` for more than 511 segments, which no reader accepts; with
+/// `OutOfMemory`, from four segments on, for the table; both before anything is written; and as the
+/// sink does.
 ///
 /// ```
 /// let segments = [[0; 8].as_slice()];
