@@ -79,8 +79,8 @@ pub fn transcode<R: BufRead, W: Write>(
     transcode_by(alloc, Padding::Zero, way, source, sink, options)
 }
 
-/// Writes each message as `transcode` does, of any padding, as older writers left it. What is
-/// written has zero padding.
+/// Writes each message as `transcode` does, but accepts any padding, as older writers left it. What
+/// is written has zero padding.
 pub fn transcode_lenient<R: BufRead, W: Write>(
     alloc: Global,
     way: Way,

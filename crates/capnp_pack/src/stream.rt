@@ -34,7 +34,7 @@ pub fn try_read_packed_segments<R: BufRead>(
     try_read_segments(alloc, &mut packed, options)
 }
 
-/// Reads the next packed message as `try_read_packed_segments` does, of any padding.
+/// Reads the next packed message as `try_read_packed_segments` does, but accepts any padding.
 pub fn try_read_packed_segments_lenient<R: BufRead>(
     alloc: Global,
     source: &mut R,
@@ -61,7 +61,8 @@ pub fn try_read_packed_segments_reusing<R: BufRead>(
     try_read_segments_reusing(&mut packed, options, spare)
 }
 
-/// Reads the next packed message as `try_read_packed_segments_reusing` does, of any padding.
+/// Reads the next packed message as `try_read_packed_segments_reusing` does, but accepts any
+/// padding.
 pub fn try_read_packed_segments_reusing_lenient<R: BufRead>(
     source: &mut R,
     options: ReaderOptions,

@@ -27,8 +27,8 @@ pub fn read_message_from_flat_slice<'a>(
     take_message(alloc, slice, Padding::Zero, options)
 }
 
-/// Reads the message at the front of a slice as `read_message_from_flat_slice` does, of any
-/// padding.
+/// Reads the message at the front of a slice as `read_message_from_flat_slice` does, but accepts
+/// any padding.
 pub fn read_message_from_flat_slice_lenient<'a>(
     alloc: Global,
     slice: &mut &'a [u8],
@@ -79,8 +79,8 @@ pub fn read_message_from_flat_slice_no_alloc<'a>(
     take_message_no_alloc(slice, Padding::Zero, options)
 }
 
-/// Reads the message at the front of a slice as `read_message_from_flat_slice_no_alloc` does, of
-/// any padding.
+/// Reads the message at the front of a slice as `read_message_from_flat_slice_no_alloc` does, but
+/// accepts any padding.
 pub fn read_message_from_flat_slice_no_alloc_lenient<'a>(
     slice: &mut &'a [u8],
     options: ReaderOptions,

@@ -27,7 +27,7 @@ pub fn try_skip_message<R: BufRead>(
     try_skip_segments(source, options, spare)
 }
 
-/// Skips the next message as `try_skip_message` does, of any padding.
+/// Skips the next message as `try_skip_message` does, but accepts any padding.
 pub fn try_skip_message_lenient<R: BufRead>(
     source: &mut R,
     options: ReaderOptions,

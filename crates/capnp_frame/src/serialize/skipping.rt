@@ -40,7 +40,7 @@ pub fn try_skip_segments<R: BufRead>(
     )
 }
 
-/// Skips the next message as `try_skip_segments` does, of any padding.
+/// Skips the next message as `try_skip_segments` does, but accepts any padding.
 pub fn try_skip_segments_lenient<R: BufRead>(
     source: &mut R,
     options: ReaderOptions,
