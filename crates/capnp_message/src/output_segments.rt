@@ -27,6 +27,7 @@ impl<'a, A: Allocator> OutputSegments<'a, A> {
         ensures segments { result ≡ map used_of arena.now.spaces }
         ensures writable { 0 < length arena.now.spaces → IsWritable result }
     {
+        // For the prover: the used words can be written, once there is a segment.
         arena.are_writable();
         OutputSegments { arena }
     }

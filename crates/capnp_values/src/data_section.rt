@@ -54,6 +54,7 @@ pub fn put_field(words: &mut [u64], width: u64, offset: u32, bits: u64)
     requires few { bits < 2 ^ width }
     ensures { words.new ≡ with_field words.old width offset bits }
 {
+    // For the prover: each data word is below 2^64.
     words_fit(words);
     if width > 0 {
         let start = width * offset as u64;

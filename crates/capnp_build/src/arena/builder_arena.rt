@@ -134,6 +134,7 @@ impl<A: Allocator> BuilderArena<A> {
         let Some(used) = self.segments.get(location.segment) else {
             return &[];
         };
+        // For the prover: each of these is below 256.
         each_is_a_byte(used);
         stretch(
             used,
@@ -162,6 +163,7 @@ impl<A: Allocator> BuilderArena<A> {
     pub fn are_writable(&self)
         ensures { CanBeWritten self.now.spaces }
     {
+        // For the prover: the used words can be written, once there is a segment.
         self.segments.are_writable();
     }
 

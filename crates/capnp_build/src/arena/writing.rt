@@ -43,6 +43,7 @@ impl<A: Allocator> BuilderArena<A> {
         let Some(used) = self.segments.get(location.segment) else {
             return;
         };
+        // For the prover: each of these is below 256.
         each_is_a_byte(used);
         each_is_a_byte(bytes);
         let at = 8 * location.start as usize + index as usize;

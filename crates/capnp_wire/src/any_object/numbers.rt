@@ -39,6 +39,7 @@ impl<'a> Numbers<'a> {
         requires { index < length (sized_numbers_of self.now) }
         ensures { result ≡ slice_index (sized_numbers_of self.now) index }
     {
+        // For the prover: each word is below 2^64, and so is the number of bytes.
         words_fit(self.bytes);
         let word = word(self.bytes, self.size.word_of(index) as usize).unwrap_or(0);
         self.size.in_word(word, index)

@@ -62,6 +62,7 @@ impl<'a, S: ReaderSegments> Reader<'a, S> {
                 Reader::Structs(struct_list::Reader::within(reader, object, 1, elements))
             }
             Body::Pointers(count) => {
+                // For the prover: each word is below 2^64, and so is the number of bytes.
                 words_fit(object.segment);
                 Reader::Pointers(any_pointer_list::Reader {
                     segments: reader.segments,

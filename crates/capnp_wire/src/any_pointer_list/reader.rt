@@ -77,6 +77,7 @@ impl<'a, S: ReaderSegments> Reader<'a, S> {
         let Some(count) = object.body.as_pointers() else {
             return Err(wrong_kind());
         };
+        // For the prover: each word is below 2^64, and so is the number of bytes.
         words_fit(object.segment);
         Ok(Reader {
             segments,

@@ -70,6 +70,7 @@ impl<'a, S: ReaderSegments> StructReader<'a, S> {
             ≡ field (struct_of S.segments self.now).words (width (code_of size)) offset }
         ensures few { result < 2 ^ width (code_of size) }
     {
+        // For the prover: each word is below 2^64, and so is the number of bytes.
         words_fit(self.segment);
         size.in_word(self.data_word(size.word_of(offset)), offset)
     }

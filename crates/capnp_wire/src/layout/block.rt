@@ -142,6 +142,7 @@ pub(crate) fn put_elements<T: BlockItem>(block: &mut [T], at: usize, list: &Numb
     ensures len { length (T.as_words block.new) ≡ length (T.as_words block.old) }
 {
     let segment = list.segment;
+    // For the prover: each word is below 2^64, and so is the number of bytes.
     words_fit(segment);
     let start = list.start.word;
     let words = list.words() as usize;

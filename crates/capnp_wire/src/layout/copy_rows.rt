@@ -46,6 +46,7 @@ pub(crate) fn copy_pointers<S: ReaderSegments, T: BlockItem>(
     ensures len { length (T.as_words block.new) ≡ length (T.as_words block.old) }
 {
     if let Body::Pointers(count) = object.body {
+        // For the prover: each word is below 2^64, and so is the number of bytes.
         words_fit(object.segment);
         return copy_run(
             segments,

@@ -74,6 +74,7 @@ pub(crate) fn near_list(segment: &[u8], place: Place, nesting: u32) -> Option<Nu
     if nesting == 0 || !fits(segment, start, bits.div_ceil(64)) {
         return None;
     }
+    // For the prover: each word is below 2^64, and so is the number of bytes.
     words_fit(segment);
     Some(NumberList {
         segment,
@@ -108,6 +109,7 @@ pub(crate) fn near_struct(segment: &[u8], place: Place, nesting: u32) -> Option<
     if nesting == 0 || !fits(segment, start, size.words()) {
         return None;
     }
+    // For the prover: each word is below 2^64, and so is the number of bytes.
     words_fit(segment);
     Some(NearStruct {
         segment,
@@ -137,6 +139,7 @@ pub(crate) fn near_pointers(segment: &[u8], place: Place, nesting: u32) -> Optio
     if nesting == 0 || !fits(segment, start, count as u64) {
         return None;
     }
+    // For the prover: each word is below 2^64, and so is the number of bytes.
     words_fit(segment);
     Some(PointerRun {
         segment,
@@ -191,6 +194,7 @@ impl<'a> NearStruct<'a> {
         ensures segment { result.segment ≡ self.now.start.segment }
         ensures bound { result.word + self.now.size.pointers < 2 ^ 61 }
     {
+        // For the prover: each word is below 2^64, and so is the number of bytes.
         words_fit(self.segment);
         Place {
             segment: self.start.segment,

@@ -85,6 +85,7 @@ pub(crate) fn object_in<'a, S: ReaderSegments>(
     let Some(start) = landing.start else {
         return Err(Error::from_kind(ErrorKind::PointerOutOfBounds));
     };
+    // For the prover: each word is below 2^64, and so is the number of bytes.
     words_fit(landing.segment);
     let body = body_at(landing.segment, start, landing.shape)?;
     Ok(Some(Object {
@@ -98,8 +99,7 @@ pub(crate) fn object_in<'a, S: ReaderSegments>(
     }))
 }
 
-/// The object that the pointer at a place of this segment leads to, where a tree stands there;
-/// `None` for null.
+/// The object of the pointer at a place of this segment, if a tree is there; `None` for null.
 #[inline(always)]
 pub(crate) fn object_there<'a, S: ReaderSegments>(
     segments: &'a S,

@@ -31,6 +31,7 @@ impl RowPair {
             ArePaired result (kept_in object.now.start object.now.body q)
             object.now.start.segment (slots_of next copied) (next + words_in copied) }
     {
+        // For the prover: each word is below 2^64, and so is the number of bytes.
         words_fit(object.segment);
         let kept = copied.row_size().pointers;
         let begin = Place {

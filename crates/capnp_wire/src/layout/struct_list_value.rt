@@ -48,6 +48,7 @@ pub(crate) fn measure<S: ReaderSegments>(
         MatchResult result (λ words. HasWords (IsListTree form list) canonical words)
         (λ error. LacksWords (IsListTree form list) (StopsInList list) canonical error.kind) }
 {
+    // For the prover: each word is below 2^64, and so is the number of bytes.
     words_fit(segment);
     let kept = kept_elements(segment, first, elements, canonical);
     let mut walk = Walk::new(limit);
@@ -88,6 +89,7 @@ pub(crate) fn write<S: ReaderSegments>(
         (words_of block.old) (words_of block.new) result }
     ensures len { length block.new ≡ length block.old }
 {
+    // For the prover: each word is below 2^64, and so is the number of bytes.
     words_fit(segment);
     let kept = kept_elements(segment, first, elements, canonical);
     let tag = struct_word(kept.count as u64, kept.size.data_words, kept.size.pointers);

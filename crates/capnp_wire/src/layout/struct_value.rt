@@ -38,6 +38,7 @@ pub(crate) fn measure<S: ReaderSegments>(
         MatchResult result (λ words. HasWords (IsTreeOf fields) canonical words)
         (λ error. LacksWords (IsTreeOf fields) (StopsInside fields) canonical error.kind) }
 {
+    // For the prover: each word is below 2^64, and so is the number of bytes.
     words_fit(segment);
     let object = Object {
         segment,

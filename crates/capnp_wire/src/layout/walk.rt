@@ -138,6 +138,7 @@ impl Walk {
                 canonical,
             );
         }
+        // For the prover: each word is below 2^64, and so is the number of bytes.
         words_fit(segment);
         self.walk_run(segments, segment, place, 1, nesting, canonical)
     }
@@ -174,8 +175,7 @@ impl Walk {
     }
 
     /// Walks over all objects that these pointers of a segment lead to.
-    /// Speed: always inlined (workload `canon`): the recursion goes through `walk_object` and
-    /// `walk_run`, which are not.
+    /// Speed: always inlined; `walk_object` and `walk_run` recurse (workload `canon`).
     #[inline(always)]
     #[cycle(walk)]
     pub(crate) fn walk_pointers<S: ReaderSegments>(

@@ -41,6 +41,7 @@ impl<'a, T: PrimitiveElement> Reader<'a, T> {
         requires { index < length (numbers_of T.code self.now) }
         ensures { result ≡ T.value_of (slice_index (numbers_of T.code self.now) index) }
     {
+        // For the prover: each word is below 2^64, and so is the number of bytes.
         words_fit(self.bytes);
         let size = T::size();
         let word = word(self.bytes, size.word_of(index) as usize).unwrap_or(0);

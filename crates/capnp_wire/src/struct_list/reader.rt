@@ -123,6 +123,7 @@ impl<'a, S: ReaderSegments> Reader<'a, S> {
         ensures { struct_list_of S.segments result
             ≡ structs_in (pointer_of S.segments reader.now) object.now skipped elements }
     {
+        // For the prover: each word is below 2^64, and so is the number of bytes.
         words_fit(object.segment);
         Reader {
             segments: reader.segments,

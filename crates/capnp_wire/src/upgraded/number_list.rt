@@ -50,6 +50,7 @@ impl<'a, T: PrimitiveElement> FirstFields<'a, T> {
         requires { index < length (fields_of T.code self.now) }
         ensures { result ≡ T.value_of (slice_index (fields_of T.code self.now) index) }
     {
+        // For the prover: each word is below 2^64, and so is the number of bytes.
         words_fit(self.segment);
         let size = T::size();
         let words_before = index as usize * self.size.words() as usize;
@@ -127,6 +128,7 @@ impl<'a, T: PrimitiveElement> NumberList<'a, T> {
         if !is_first_field(T::size(), elements.size.data_words) {
             return Err(wrong_kind());
         }
+        // For the prover: each word is below 2^64, and so is the number of bytes.
         words_fit(object.segment);
         Ok(NumberList {
             numbers: Numbers::OfStructs(FirstFields {

@@ -80,6 +80,7 @@ impl<'a, S: ReaderSegments> PointerList<'a, S> {
             (λ view. IsUpgradedPointers pointer (upgraded_pointers_of S.segments view))
             (λ error. Refuses pointer DeclinesFirstPointers error.kind) }
     {
+        // For the prover: each word is below 2^64, and so is the number of bytes.
         words_fit(object.segment);
         if let Some(count) = object.body.as_pointers() {
             return Ok(PointerList::new(reader, object.start, 1, count));

@@ -57,6 +57,7 @@ impl<'a, S: ReaderSegments> NumberRows<'a, S> {
         ensures { struct_of S.segments result
             ≡ element_of (number_rows_of S.segments self.now) index }
     {
+        // For the prover: each word is below 2^64, and so is the number of bytes.
         words_fit(self.bytes);
         StructReader {
             segments: self.segments,
