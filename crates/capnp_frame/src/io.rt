@@ -34,7 +34,7 @@ pub trait Read {
     /// With which kind a request fails.
     ghost refuses: { Refusing };
 
-    /// What each call keeps, as the reference that a source stands on.
+    /// What each call keeps, for example the reference that a source reads from.
     ghost same: { Self → Self → Type 0 };
 
     /// Reads some bytes into the front of `buffer`, and returns how many: 0 only where nothing is
@@ -144,7 +144,7 @@ pub trait Write {
     /// How many further bytes the sink is sure to take, in any chunks.
     ghost grants: { Self → ℕ → Type 0 };
 
-    /// What each call keeps, as the reference that a sink stands on.
+    /// What each call keeps, for example the reference that a sink writes to.
     ghost same: { Self → Self → Type 0 };
 
     /// Writes all of `chunk`. A call that fails adds at most a part of it, which `leaves` tells.

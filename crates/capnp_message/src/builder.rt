@@ -37,7 +37,7 @@ pub struct Builder<A: Allocator> {
     pub(crate) arena: BuilderArena<A>,
 }
 
-// Clauses see the segments, where the root's tree stands, and the allocator.
+// Clauses see the segments, the place of the root's tree, and the allocator.
 impl<A: Allocator> Model for Builder<A> {
     ghost use Rattle.capnp_build.specs.Built.{Built};
 
@@ -162,7 +162,7 @@ impl<A: Allocator> ReaderSegments for Builder<A> {
 
     fn is_empty(&self) -> bool
         ensures empty { IsTrue result ↔ (map used_of self.now.spaces ≡ []) }
-        // So a test of it tells whether the message can be written.
+        // So a test of this shows that the message can be written.
         ensures some { result ≡ false → 0 < length self.now.spaces }
     {
         self.arena.is_empty()

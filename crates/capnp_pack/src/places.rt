@@ -1,4 +1,4 @@
-//! Where the bytes of a word stand after its tag.
+//! Where the bytes of a word are after its tag.
 // Row t has for each byte of a word its place among those that the tag t marks, or 128 where it
 // isn't marked; eight further entries are 128, too.
 #[rattlefmt::skip]

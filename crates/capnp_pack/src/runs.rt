@@ -7,7 +7,7 @@ ghost use Rattle.capnp_pack.specs.Steps.{IsRun, IsZero, HasFewZeros, tag_of};
 
 use std::simd::prelude::*;
 
-// How many zero words stand at the front, at most 255.
+// How many zero words are at the front, at most 255.
 #[inline(always)]
 pub(crate) fn zero_run(words: &[[u8; 8]]) -> usize
     ensures { IsRun IsZero words.now result }
@@ -38,7 +38,7 @@ fn marks_of_eight(words: &[[u8; 8]]) -> u64
         .to_bitmask()
 }
 
-// How many words of at most one zero byte stand at the front, at most 255.
+// How many words of at most one zero byte are at the front, at most 255.
 #[inline(always)]
 pub(crate) fn literal_run(words: &[[u8; 8]]) -> usize
     ensures { IsRun HasFewZeros words.now result }

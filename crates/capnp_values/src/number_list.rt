@@ -99,6 +99,8 @@ fn put_numbers<N: PrimitiveElement + Copy>(items: &[N], block: &mut [u8])
     }
     let each = 64 / size.bits() as usize;
     let full = items.len() / each;
+    // Speed: full words have a loop of their own, of as many numbers each, which the compiler
+    // unrolls (lists of ten numbers).
     for index in 0..full {
         let first = index * each;
         let word = word_of_numbers(&items[first..first + each]);

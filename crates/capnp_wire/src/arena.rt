@@ -1,4 +1,4 @@
-//! Where messages stand while they are read.
+//! Where messages are while they are read.
 mod reader_arena;
 
 pub use reader_arena::ReaderArena;

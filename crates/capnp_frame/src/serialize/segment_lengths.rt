@@ -1,4 +1,4 @@
-//! The lengths of segments that stand after one another.
+//! The lengths of segments that follow one another.
 ghost use Rattle.std.specs.Prelude.{◌≡◌, ℕ, ◌+◌, ◌*◌, ◌<◌, ◌≤◌, ◌^◌, ◌↔◌, List, [], ◌∷◌, ◌++◌, length, map, drop, sum, replicate, IfOk, OnOk, OnErr, IfErr, ◌⊎◌, vec_len, slice_get, option_copied};
 ghost use Rattle.capnp_frame.specs.SegmentLengths.{ranges, range_len, cut, AreRanges};
 ghost use Rattle.capnp_frame.specs.Errors.{MayOverflow};

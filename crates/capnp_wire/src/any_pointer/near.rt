@@ -1,4 +1,4 @@
-//! The short ways to what most pointers lead to.
+//! Fast paths to what most pointers lead to.
 ghost use Rattle.std.specs.Prelude.{◌≡◌, ◌<◌, IfSome, Some};
 ghost use Rattle.capnp_wire.specs.Object.{message_of};
 ghost use Rattle.capnp_wire.specs.Landing.{IsObject};
@@ -17,8 +17,9 @@ use capnp_frame::message::ReaderSegments;
 
 // A view of numbers or of a struct asks here first. `None` doesn't tell what is there: `enter`
 // does.
-// Speed: the kind of what is returned is known where it is inlined, so the result stays in
-// registers (`tools/time-reading`).
+// Speed: from `get_as`, `get_pointer`, `get_data_field` and the `get` of lists down to the
+// pointer's word all is inlined, since a reader or a result of more than two words would be passed
+// by memory, and of what is inlined the kind is known (`tools/time-reading`).
 
 impl<'a, S: ReaderSegments> Reader<'a, S> {
     /// The list of numbers that the pointer leads to without a landing pad, once it is counted
@@ -62,6 +63,8 @@ impl<'a, S: ReaderSegments> Reader<'a, S> {
     }
 
     // The list of numbers that the pointer leads to.
+    // Speed: the size is looked at first, so the compiler knows it from there on
+    // (`tools/time-reading`).
     #[inline(always)]
     fn near_numbers(&self, size: ElementSize) -> Option<NumberList<'a>>
         ensures { IfSome result (λ list. (place : Place) × (self.now.place ≡ Some place)

@@ -117,7 +117,7 @@ impl<'a, S: ReaderSegments> Reader<'a, S> {
             pointer.limit ≡ None → T.accepts pointer → IsOk result }
         ensures unlimited { let pointer = pointer_of S.segments self.now in
             pointer.limit ≡ None → IfErr result (λ error. error.kind ≢ ReadLimitExceeded) }
-        // Where no object stands, and the pointer itself is no view, whatever was read before.
+        // Where no object is there, and the pointer itself is no view, whatever was read before.
         ensures exact { let pointer = pointer_of S.segments self.now in
             (kind : ErrorKind) → IsInvalidPointer pointer kind → (T.accepts pointer → ⊥) →
             IsErrAnd result (λ error. error.kind ≡ kind) }

@@ -98,6 +98,7 @@ impl<'a, S: ReaderSegments> StructReader<'a, S> {
     }
 
     // The struct that a pointer leads to, by any path.
+    // Speed: apart from `read`, so the kind of each one's object is known (`tools/time-reading`).
     #[inline(never)]
     fn enter(reader: &any_pointer::Reader<'a, S>) -> Result<StructReader<'a, S>>
         ensures { let pointer = pointer_of S.segments reader.now in MatchResult result

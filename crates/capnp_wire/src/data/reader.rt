@@ -51,6 +51,7 @@ fn read_bytes<'a, S: ReaderSegments>(reader: &any_pointer::Reader<'a, S>) -> Res
 }
 
 // The bytes of a list of bytes, by any path.
+// Speed: apart from `read_bytes`, so the kind of each one's object is known (`tools/time-reading`).
 #[inline(never)]
 fn enter_bytes<'a, S: ReaderSegments>(reader: &any_pointer::Reader<'a, S>) -> Result<&'a [u8]>
     ensures { let pointer = pointer_of S.segments reader.now in MatchResult result

@@ -97,6 +97,7 @@ impl CanonicalWalk {
     }
 
     // Tests all objects that these pointers lead to.
+    // Speed: the recursion goes through this call, and all else is inlined (workload `canon`).
     #[inline(never)]
     #[cycle(testing)]
     fn test_pointers<S: ReaderSegments>(

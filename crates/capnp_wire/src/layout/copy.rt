@@ -59,7 +59,7 @@ pub(crate) fn copy<S: ReaderSegments, T: BlockItem>(
     }
 }
 
-// Copies from a segment in hand.
+// Copies from the segment of the pointer.
 // Speed: always inlined, so what most pointers lead to needs no call (workload `canon`); the
 // recursion goes through `copy_object` and `copy_run`, which are not.
 #[inline(always)]

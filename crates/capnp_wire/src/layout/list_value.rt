@@ -43,7 +43,7 @@ pub(crate) fn measure<S: ReaderSegments>(
     fitting(walk.words(), canonical)
 }
 
-// Walks over all objects that the pointers of a list lead to, whose segment is not in hand.
+// Walks over all objects that the pointers of a list lead to, whose segment is still to be found.
 fn walk_list<S: ReaderSegments>(
     walk: &mut Walk,
     segments: &S,

@@ -60,7 +60,7 @@ pub(crate) fn object_at<S: ReaderSegments>(
     object_in(segments, segment, place, nesting)
 }
 
-/// The same from the segment of the pointer, which is in hand.
+/// The same, where the segment of the pointer is known.
 #[inline(always)]
 pub(crate) fn object_in<'a, S: ReaderSegments>(
     segments: &'a S,

@@ -1,4 +1,4 @@
-//! What the canonical form asks of an object by itself: where it stands, its padding and its sizes.
+//! What the canonical form asks of an object by itself: its place, its padding and its sizes.
 ghost use Rattle.std.specs.Prelude.{◌≢◌, ◌↔◌, ◌+◌, ◌*◌, ◌-◌, ◌/◌, ◌^◌, ◌<◌, ◌≤◌, ℕ, length, slice_index_or, IsTrue};
 ghost use Rattle.capnp_wire.specs.Pointer.{words_of, words_from};
 ghost use Rattle.capnp_wire.specs.Element.{code_of, width, words_for};

@@ -143,7 +143,7 @@ impl Walk {
         self.walk_run(segments, segment, place, 1, nesting, canonical)
     }
 
-    // Walks over what the pointer leads to, whatever it is, from a segment in hand.
+    // Walks over what a pointer of this segment leads to, whatever it is.
     #[inline(never)]
     #[cycle(walk)]
     fn walk_object<S: ReaderSegments>(

@@ -82,6 +82,7 @@ impl<'a, T: PrimitiveElement> Reader<'a, T> {
     }
 
     // The list that a pointer leads to, by any path.
+    // Speed: apart from `read`, so the kind of each one's object is known (`tools/time-reading`).
     #[inline(never)]
     fn enter<S: ReaderSegments>(reader: &any_pointer::Reader<'a, S>) -> Result<Reader<'a, T>>
         ensures { let pointer = pointer_of S.segments reader.now in MatchResult result

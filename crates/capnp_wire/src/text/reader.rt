@@ -70,6 +70,7 @@ fn read_text<'a, S: ReaderSegments>(reader: &any_pointer::Reader<'a, S>) -> Resu
 }
 
 // The text of a list of bytes, by any path.
+// Speed: apart from `read_text`, so the kind of each one's object is known (`tools/time-reading`).
 #[inline(never)]
 fn enter_text<'a, S: ReaderSegments>(reader: &any_pointer::Reader<'a, S>) -> Result<Reader<'a>>
     ensures { let pointer = pointer_of S.segments reader.now in MatchResult result
