@@ -70,7 +70,7 @@ impl<'a, M: Building> View<'a, M, Owned> {
 
     /// Makes the root a new object of length `n`, all zero.
     ///
-    /// Fails as `Builder::initn_root` of `capnp_message` does, and the root is then null.
+    /// Fails as `BuilderArena::init_object` does, and the root is then null.
     pub fn set_new<K: OwnedBuilder>(&mut self, n: u32) -> Result<()>
         ensures same { self.new.message.ghost_name ≡ self.old.message.ghost_name }
         ensures inits { InitsRoot M.Allocator.Allocator K.OwnedBuilder n

@@ -22,7 +22,7 @@ impl Word {
         Word { bytes }
     }
 
-    /// This many zero words.
+    /// `length` zero words.
     ///
     /// Fails with `MessageSizeOverflow` exactly where their bytes pass `usize`, and else with
     /// `OutOfMemory` alone.
