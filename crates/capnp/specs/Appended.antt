@@ -25,7 +25,7 @@ pub record StopsWithin {S : Type 0} (source : Ghosts S) (old new : S) (rule : Pa
   pub messages : List (List (List ℕ))
   pub fewer : length messages < count
   pub texts : IfKnown (source.unread old) (source.unread between) (AreTexts (grammar_of rule format) limit messages)
-  -- and what the reader of one message keeps where it fails
+  -- what the reader of the next message keeps where it fails
   pub next : OrFailsAtEnd (ReadsStream source between new (rules_of rule format) limit) (Err error)
 
 -- What a call returns that reads `count` messages of zero padding. `segments` and `options_of` are what is seen of a reader, and
@@ -60,7 +60,7 @@ pub record ReadsBack {V X : Type 0} (format : Format) (options : ReaderOptions) 
   -- they are those that were written
   pub back : IfOk result (λ done. map segments (readers done) ≡ messages)
   pub options_are : IfOk result (λ done. AllByRecursion (λ reader. options_of reader ≡ options) (readers done))
-  -- and after them is none
+  -- after them there is no message
   pub ends : IfOk result (λ done. end done ≡ None)
   -- one with more segments than a reader accepts is not written
   pub few : OnOk result (AllByRecursion HasFew messages)

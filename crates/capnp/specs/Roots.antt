@@ -30,7 +30,7 @@ pub record ReadsWritten {X : Type 0} (message : List (List ℕ)) (options : Read
     (options_of : X → ReaderOptions) (result : Result X Error) : Type 0 where
   -- the segments are those that were written
   pub back : IfOk result (λ reader. segments reader ≡ message)
-  -- which are within the limit of words, and no more than a reader accepts
+  -- the segments are within the limit of words, and no more than a reader accepts
   pub size : OnOk result (KeepsLimit (lengths message) options.traversal_limit_in_words)
   pub few : OnOk result (HasFew message)
   pub options_are : IfOk result (λ reader. options_of reader ≡ options)

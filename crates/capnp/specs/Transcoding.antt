@@ -24,7 +24,7 @@ abbrev pub Transcodes : Way → Appending → Writing
 Transcodes Pack appends index message text = AppendsAll (AppendsPacked appends) (chunks message) text
 Transcodes Unpack appends index message text = AppendsAll appends (chunks message) text
 
--- and by which kinds it refuses this message
+-- with which kinds a sink that refuses so fails at a message
 abbrev pub DeclinesTranscoded : Way → Declining → DecliningWriting
 DeclinesTranscoded Pack refuses = record { lacks = λ index message kind. ⊥; breaks = λ index message. DeclinesSome (DeclinesPacked refuses) (chunks message) }
 DeclinesTranscoded Unpack refuses = record { lacks = λ index message kind. ⊥; breaks = λ index message. DeclinesSome refuses (chunks message) }
@@ -42,6 +42,6 @@ pub record TranscodesEach {S T : Type 0} (source : Ghosts S) (old new : S) (sink
   -- a plain sink gets the texts in the other format
   pub texts : IsPlainSink sink.appends → WithoutCount (WritesEach source old new sink before after rule (input_of way) limit
       (IsOtherText way) (DeclinesTranscoded way sink.refuses)) result
-  -- and every sink what the chunks of the messages add
+  -- every sink gets what the chunks of the messages add
   pub runs : WithoutCount (WritesEach source old new sink before after rule (input_of way) limit
       (Transcodes way sink.appends) (DeclinesTranscoded way sink.refuses)) result

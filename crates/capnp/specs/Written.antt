@@ -59,7 +59,7 @@ pub record WritesMessage {S X : Type 0} (format : Format) (sink : Ghosts S) (old
   pub unwritten : HasMany message → new ≡ old
   -- to a plain sink the text of the message is added
   pub text : IsPlainSink sink.appends → OnOk result (IfKnown (sink.written old) (sink.written new) (Adds (IsTextOf format message)))
-  -- and to every sink what its chunks add, one after the other
+  -- to every sink is added what the message's chunks add, one after the other
   pub written : OnOk result (IfKnown (sink.written old) (sink.written new)
       (Adds (AppendsAll (AppendsAs format sink.appends) (chunks message))))
   pub refused : IfErr result (λ error. RefusesWriter (DeclinesAs format sink.refuses) message error.kind)

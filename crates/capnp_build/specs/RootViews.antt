@@ -60,7 +60,7 @@ pub record WritesRoot {A : Type 0} (writes : List Space → List Space → Type 
   pub set : writes old.spaces new.spaces
   pub written : IsWritten old new
 
--- The same through a view.
+-- What writing into the root's object through a view keeps.
 pub record WritesView {A M : Type 0} (built : M → Built A) (writes : List Space → List Space → Type 0) (old new : MutBor M) : Type 0 where
   -- it is still a view of the message that was borrowed
   pub same : new.ghost_name ≡ old.ghost_name

@@ -114,8 +114,7 @@ impl<'a, M: Building> View<'a, M, Owned> {
         self.initn_as::<K>(0)
     }
 
-    /// Sets the root to a value. Fails as `Builder::set_root` of `capnp_message` does, and the root
-    /// is then null.
+    /// Sets the root to a value. Fails as `BuilderArena::set_root` does, and the root is then null.
     pub fn set_as<T, V: SetterInput<T> + Drop>(&mut self, value: V) -> Result<()>
         ensures same { self.new.message.ghost_name ≡ self.old.message.ghost_name }
         ensures sets { SetsRoot M.Allocator.Allocator (V.has_tree value) (V.refuses value)

@@ -34,8 +34,8 @@ pub record ReturnsFrontForm (bytes : List ℕ) (has_room : ℕ → Type 0) (resu
   -- 0 where there is a message that has a form, and room for it
   pub accepted : (segments : List (List ℕ)) (rest : List ℕ) (size : ℕ) → IsAtFront bytes segments rest → FrontHasForm segments size
       → has_room size → result ≡ 0
-  -- where the message has no form the number of the reason
+  -- where the message has no form, the number of the reason is returned
   pub refused : (segments : List (List ℕ)) (rest : List ℕ) (kind : ErrorKind) → IsAtFront bytes segments rest → FrontLacksForm segments kind
       → result ≡ kind_number kind
-  -- and where no message stands there, that of the first line of the table of refusals that holds
+  -- where no message stands there, the number of the first line of the table of refusals that holds is returned
   pub unreadable : (kind : ErrorKind) → RefusesFlat by_fields Zero default_limit kind bytes → result ≡ kind_number kind

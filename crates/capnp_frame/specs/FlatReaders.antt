@@ -22,7 +22,7 @@ slice_rules rule limit = record { form = by_words EmptySlice; padding = rule; li
 abbrev pub buffer_rules : Padding → Option ℕ → FlatRules
 buffer_rules rule limit = record { form = by_words EmptyBuffer; padding = rule; limit = limit }
 
--- and of those that take none, from either
+-- the rules of readers that take no memory, from a slice or a buffer
 abbrev pub no_alloc_rules : Padding → Option ℕ → FlatRules
 no_alloc_rules rule limit = record { form = by_fields; padding = rule; limit = limit }
 
@@ -44,7 +44,7 @@ abbrev pub OrLacksMemory : FlatForm → Type 0 → Type 0 → Type 0
 OrLacksMemory (by_words empty) lacks other = lacks ⊎ other
 OrLacksMemory by_fields lacks other = other
 
--- and it alone may fail where a message stands
+-- where a message stands, only a reader that takes memory may fail, for want of it
 abbrev pub AcceptsFlat : {X : Type 0} → FlatForm → Result X Error → Type 0
 AcceptsFlat (by_words empty) result = IfErr result (λ error. error.kind ≡ OutOfMemory)
 AcceptsFlat by_fields result = IsOk result
@@ -62,6 +62,6 @@ pub record ReadsFlat {X : Type 0} (rules : FlatRules) (bytes : List ℕ) (left :
   -- a reader fails for want of memory once the number of segments is accepted, or with a line of the table
   pub refused : IfErr result (λ error. OrLacksMemory rules.form
       ((error.kind ≡ OutOfMemory) × AcceptsCount rules.form bytes) (RefusesBy rules error.kind bytes))
-  -- and it fails with the line that is the first to hold, but where memory is lacking
+  -- where a line is the first to hold, it fails with that line's kind, but where memory is lacking
   pub exact : (kind : ErrorKind) → RefusesBy rules kind bytes
       → IsErrAnd result (λ error. OrLacksMemory rules.form (error.kind ≡ OutOfMemory) (error.kind ≡ kind))

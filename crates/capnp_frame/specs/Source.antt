@@ -17,7 +17,7 @@ Refusing = List ℕ → ℕ → ErrorKind → Type 0
 abbrev pub Splits : Giving
 Splits raw n bytes rest = (raw ≡ bytes ++ rest) × (length bytes ≡ n)
 
--- and is refused where fewer are unread
+-- a plain request fails where fewer than n bytes are unread
 abbrev pub RunsShort : Refusing
 RunsShort raw n kind = (length raw < n) × (kind ≡ FailedToFillTheWholeBuffer)
 
@@ -29,7 +29,7 @@ IsPlain gives = (raw : List ℕ) (n : ℕ) (bytes rest : List ℕ) → Splits ra
 pub record IsSource (gives : Giving) (refuses : Refusing) : Type 0 where
   -- a request of no bytes takes nothing
   pub takes_nothing : (raw : List ℕ) → gives raw 0 [] raw
-  -- and where nothing is unread no other is given
+  -- where nothing is unread no other request is given
   pub none_from_nothing : (n : ℕ) (bytes rest : List ℕ) → gives [] n bytes rest → n ≡ 0
   pub gives_all : (raw : List ℕ) (n : ℕ) (bytes rest : List ℕ) → gives raw n bytes rest → length bytes ≡ n
   -- there is one result at most

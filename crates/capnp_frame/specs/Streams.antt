@@ -38,7 +38,7 @@ pub record StreamRules : Type 1 where
   pub refuses : Option ℕ → Option ℕ → ErrorKind → List ℕ → List ℕ → Type 0
   -- the kinds that a reader that grows fails with, also where the unread bytes aren't known
   pub kinds : ErrorKind → Type 0
-  -- and those of a reader into a caller-provided buffer
+  -- the kinds that a reader into a caller-provided buffer may return
   pub provided_kinds : ErrorKind → Type 0
 
 -- Framed messages, their padding by the rule, over a source whose requests take and fail so.

@@ -72,7 +72,7 @@ pub record ReturnsText {X : Type 0} (segments : List (List ℕ)) (bytes : X → 
   pub text : IfOk result (λ text. bytes text ≡ frame_text segments)
   -- the call fails by the number of segments exactly where there are more than a reader accepts
   pub count : KeepsCount segments result
-  -- and else for want of memory alone
+  -- with fewer it fails for want of memory alone
   pub kinds : IfErr result (λ error. RefusesMany segments error.kind ⊎ (error.kind ≡ OutOfMemory))
 
 -- What each function that counts the words of a framed text keeps.

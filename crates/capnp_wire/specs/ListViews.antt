@@ -80,7 +80,7 @@ pub record IsPointerList (pointer : Pointer) (list : PointerList) : Type 0 where
 abbrev pub pointer_at : PointerList → ℕ → Pointer
 pointer_at list index = record { message = list.message; place = slice_get list.held index; nesting = list.nesting; limit = list.limit }
 
--- and how other forms are refused
+-- the error for a form that isn't a list of structs
 abbrev pub DeclinesStructs : Form → ErrorKind → Type 0
 DeclinesStructs form kind = (TakesStructs form → ⊥) × (kind ≡ WrongPointerKind)
 

@@ -19,7 +19,7 @@ object_of list = record {
   traversed = traversed_of (Numbers list.size list.count);
 }
 
--- and a struct as an object
+-- a struct as an object
 abbrev pub near_struct_of : NearStruct → Object
 near_struct_of found = record {
   segment = found.segment;
@@ -28,7 +28,7 @@ near_struct_of found = record {
   traversed = found.size.data_words + found.size.pointers;
 }
 
--- and a list of pointers
+-- a list of pointers as an object
 abbrev pub pointers_of : PointerRun → Object
 pointers_of list = record {
   segment = list.segment;

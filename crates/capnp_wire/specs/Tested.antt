@@ -159,7 +159,7 @@ abbrev pub MeetsAt : List ℕ → ℕ → ℕ → CanonicalWalk → CanonicalWal
 MeetsAt segment word nesting old new result = let place : Place = record { segment = 0; word = word } in
     IfOk result (λ met. IsMet segment place nesting old.walk.left new.walk.left old.next new.next met)
 
--- and with which kind it fails
+-- with which kind a test of the object that the pointer at a word leads to fails
 abbrev pub FailsAt : List ℕ → ℕ → ℕ → CanonicalWalk → Result Met Error → Type 0
 FailsAt segment word nesting old result = let place : Place = record { segment = 0; word = word } in
     IfErr result (λ error. Ends segment (place ∷ []) nesting old.walk.left old.next (refused error.kind))

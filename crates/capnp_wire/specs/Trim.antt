@@ -1,4 +1,4 @@
--- Trees without what stands at the end for nothing: trees are compared trimmed.
+-- Trees without the trailing zero words of their objects: trees are compared trimmed.
 use Rattle.std.specs.Prelude.{ℕ, zero, suc, max, List, [], ◌∷◌, length, map, take}
 use Rattle.capnp_wire.specs.Tree.{Form, null, struct, structs, Trees, none, tree, count}
 

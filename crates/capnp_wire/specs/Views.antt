@@ -129,7 +129,7 @@ TakesStruct null = ⊤
 TakesStruct (struct words) = ⊤
 TakesStruct _ = ⊥
 
--- and how the others are refused
+-- the error for a form that isn't a list of such numbers
 abbrev pub DeclinesNumbers : ℕ → Form → ErrorKind → Type 0
 DeclinesNumbers wanted form kind = (TakesNumbers wanted form → ⊥) × (kind ≡ WrongPointerKind)
 
