@@ -99,7 +99,7 @@ pub trait BufRead: Read {
     /// The bytes that `fill_buf` showed and `consume` may take.
     ghost shown: { Self → List ℕ };
 
-    /// Shows the first of the unread bytes, and no byte only at the end. It consumes nothing.
+    /// Shows bytes from the front of what is unread, and none only at the end. It consumes nothing.
     ///
     /// Fails with `DeviceFailed` alone.
     fn fill_buf(&mut self) -> Result<&[u8]>

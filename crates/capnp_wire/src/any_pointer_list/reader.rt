@@ -89,7 +89,7 @@ impl<'a, S: ReaderSegments> Reader<'a, S> {
     }
 }
 
-// No elements from null; any object but a list of pointers fails with `WrongPointerKind`.
+// Null has no elements; any object but a list of pointers fails with `WrongPointerKind`.
 impl<'a, S: ReaderSegments> FromPointerReader<'a, S> for Reader<'a, S> {
     ghost use Rattle.capnp_wire.specs.Readers.{pointer_of};
     ghost use Rattle.capnp_wire.specs.Views.{IsViewOf, Accepts, Refuses, Declines};

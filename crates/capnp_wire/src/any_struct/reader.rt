@@ -152,7 +152,7 @@ impl<'a, S: ReaderSegments> StructReader<'a, S> {
     }
 }
 
-// No data and no pointers from null; any object but a struct fails with `WrongPointerKind`.
+// Null has no data and no pointers; any object but a struct fails with `WrongPointerKind`.
 impl<'a, S: ReaderSegments> FromPointerReader<'a, S> for StructReader<'a, S> {
     ghost use Rattle.capnp_wire.specs.Readers.{struct_of, pointer_of};
     ghost use Rattle.capnp_wire.specs.Views.{IsViewOf, Accepts, Refuses, Declines, IsStruct, TakesStruct, DeclinesStruct};

@@ -15,7 +15,7 @@ use capnp_frame::message::ReaderSegments;
 /// Bytes in a message.
 pub type Reader<'a> = &'a [u8];
 
-// Empty from null, else the bytes of a list of bytes; any other object fails with
+// Null is empty; else it shows the bytes of a list of bytes; any other object fails with
 // `WrongPointerKind`.
 impl<'a, S: ReaderSegments> FromPointerReader<'a, S> for &'a [u8] {
     ghost shows = { λ pointer view. Reads pointer (λ form. IsData form view.now) };

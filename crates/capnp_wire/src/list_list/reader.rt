@@ -39,7 +39,7 @@ impl<'a, S: ReaderSegments, T: FromPointerReader<'a, S>> Reader<'a, S, T> {
     }
 }
 
-// No elements from null; any object but a list of pointers fails with `WrongPointerKind`.
+// Null has no elements; any object but a list of pointers fails with `WrongPointerKind`.
 impl<'a, S: ReaderSegments, T> FromPointerReader<'a, S> for Reader<'a, S, T> {
     ghost use Rattle.capnp_wire.specs.Readers.{pointer_of};
     ghost use Rattle.capnp_wire.specs.Views.{IsViewOf, Accepts, Refuses, Declines};

@@ -117,7 +117,7 @@ impl<'a, T: PrimitiveElement> Reader<'a, T> {
     }
 }
 
-// Empty from null, else the numbers of a list of this size; any other object fails with
+// Null is empty; else it shows the numbers of a list of this size; any other object fails with
 // `WrongPointerKind`.
 impl<'a, S: ReaderSegments, T: PrimitiveElement> FromPointerReader<'a, S> for Reader<'a, T> {
     ghost use Rattle.capnp_wire.specs.NumberViews.{numbers_of, IsNumbers};

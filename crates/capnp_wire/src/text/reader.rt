@@ -34,8 +34,8 @@ impl<'a> Reader<'a> {
     }
 }
 
-// Empty from null, else the bytes of a list of bytes before the zero byte at its end, without which
-// it fails with `TextNotTerminated`. Any other object fails with `WrongPointerKind`.
+// Null is empty; else it shows the bytes of a list of bytes before the zero byte at its end,
+// without which it fails with `TextNotTerminated`. Any other object fails with `WrongPointerKind`.
 impl<'a, S: ReaderSegments> FromPointerReader<'a, S> for Reader<'a> {
     ghost shows = { λ pointer view. Reads pointer (λ form. IsText form view.bytes.now) };
 

@@ -41,7 +41,7 @@ impl<'a, S: ReaderSegments, T: FromPointerReader<'a, S>> ListList<'a, S, T> {
     }
 }
 
-// No elements from null; any object but a list of pointers, or of structs that have one, fails with
+// Null has no elements; any object but a list of pointers, or of structs that have one, fails with
 // `WrongPointerKind`.
 impl<'a, S: ReaderSegments, T> FromPointerReader<'a, S> for ListList<'a, S, T> {
     ghost use Rattle.capnp_wire.specs.Readers.{pointer_of};

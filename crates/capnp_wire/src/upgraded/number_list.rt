@@ -149,9 +149,9 @@ fn is_first_field(size: ElementSize, data_words: u16) -> bool
     size != ElementSize::Bit && size.bits() <= 64 * data_words as u64
 }
 
-// Empty from null, else the numbers of a list of this size, or the first fields of structs that
-// have a data word; any other object fails with `WrongPointerKind`, and so does any but a list of
-// bits where these are asked for.
+// Null is empty; else it shows the numbers of a list of this size, or the first fields of structs
+// that have a data word; any other object fails with `WrongPointerKind`, and so does any but a list
+// of bits where these are asked for.
 impl<'a, S: ReaderSegments, T: PrimitiveElement> FromPointerReader<'a, S> for NumberList<'a, T> {
     ghost use Rattle.capnp_wire.specs.Readers.{pointer_of};
     ghost use Rattle.capnp_wire.specs.Views.{IsViewOf, Accepts, Reads, Refuses, Declines};

@@ -121,7 +121,7 @@ impl<'a, S: ReaderSegments> PointerList<'a, S> {
     }
 }
 
-// No elements from null; any object but a list of pointers, or of structs that have one, fails with
+// Null has no elements; any object but a list of pointers, or of structs that have one, fails with
 // `WrongPointerKind`.
 impl<'a, S: ReaderSegments> FromPointerReader<'a, S> for PointerList<'a, S> {
     ghost use Rattle.capnp_wire.specs.Readers.{pointer_of};

@@ -210,7 +210,7 @@ fn bare_elements(pointers: u16, count: u32) -> Elements
     }
 }
 
-// No elements from null; a struct, and a list of bits, fail with `WrongPointerKind`.
+// Null has no elements; a struct, and a list of bits, fail with `WrongPointerKind`.
 impl<'a, S: ReaderSegments> FromPointerReader<'a, S> for StructList<'a, S> {
     ghost use Rattle.capnp_wire.specs.Readers.{pointer_of};
     ghost use Rattle.capnp_wire.specs.Views.{IsViewOf, Accepts, Refuses, Declines};
