@@ -99,7 +99,7 @@ pub(crate) fn object_in<'a, S: ReaderSegments>(
     }))
 }
 
-/// The object of the pointer at a place of this segment, if a tree is there; `None` for null.
+/// The object of the pointer at a place of this segment that has a tree; `None` for null.
 #[inline(always)]
 pub(crate) fn object_there<'a, S: ReaderSegments>(
     segments: &'a S,
@@ -122,7 +122,7 @@ pub(crate) fn object_there<'a, S: ReaderSegments>(
     }
 }
 
-/// The words of a segment are words, and no more than memory has.
+/// Each word of a segment is below 2^64, and so is the number of its bytes.
 pub(crate) fn words_fit(segment: &[u8])
     ensures words { All (λ w. w < 2 ^ 64) (words_of segment.now) }
     ensures length { length segment.now < 2 ^ 64 }
